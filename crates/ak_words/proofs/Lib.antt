@@ -1,0 +1,10 @@
+pub mod Residues
+pub mod Types
+pub mod Wraps
+pub mod Numbers
+pub mod Values
+pub mod Results
+pub mod Shifts
+pub mod Comparisons
+pub mod Bitwise
+pub mod Replacements
