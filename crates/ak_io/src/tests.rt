@@ -1,0 +1,151 @@
+//! Callers whose contracts show what those of the shelf and the sink give, and worked rows for both in memory.
+ghost use Rattle.std.specs.Prelude.{◌≡◌, ◌≢◌, ◌+◌, ◌<◌, ◌≤◌, ◌↔◌, [], ◌++◌, length, IsSome, IfSome, OnOk, OnErr};
+ghost use Rattle.ak_io.specs.Faults.{Rose};
+ghost use Rattle.ak_io.specs.Bytes.{grown, GrewByPrefix};
+ghost use Rattle.ak_io.specs.ReadEnd.{IsReadOf};
+ghost use Rattle.ak_io.specs.MemShelf.{bytes_of};
+
+use super::*;
+use std::alloc::{AllocError, Global};
+use std::process::Abort;
+use std::test::Fail;
+
+/// Two writes in a row, at any sink: what holds of one holds of both.
+#[tactic(auto, using(crate::proofs::Grown::longer_prefix))]
+fn write_both<S: Sink>(sink: &mut S, first: &[u8], second: &[u8]) -> Result<(), WriteFault>
+    ensures ok { OnOk result (S.contents sink.new ≡ grown (S.contents sink.old) (first.now ++ second.now)) }
+    ensures err { OnErr result
+        (GrewByPrefix (S.contents sink.old) (S.contents sink.new) (first.now ++ second.now)) }
+    ensures cause { OnErr result (Rose (S.faults sink.old) (S.faults sink.new)) }
+    ensures steady { OnOk result (S.faults sink.new ≡ S.faults sink.old) }
+    ensures count { S.faults sink.old ≤ S.faults sink.new }
+{
+    sink.write_all(first)?;
+    sink.write_all(second)
+}
+
+/// How a copy ended.
+#[derive(Clone, Copy, Debug, PartialEq, Eq)]
+enum Copied {
+    Whole,
+    TooLong,
+    ReadFault,
+    WriteFault,
+}
+
+/// Copies a file that fits the buffer, from any shelf to any sink.
+fn copy<F: Shelf, S: Sink>(shelf: &mut F, name: &str, buffer: &mut [u8], sink: &mut S) -> Copied
+    ensures whole { IfSome (F.contents shelf.old name.now) (λ bytes. result ≡ Copied.Whole →
+        S.contents sink.new ≡ grown (S.contents sink.old) bytes) }
+    ensures too_long { IfSome (F.contents shelf.old name.now) (λ bytes. result ≢ Copied.ReadFault →
+        ((result ≡ Copied.TooLong) ↔ (length buffer.new < length bytes))) }
+    ensures read_fault { result ≡ Copied.ReadFault →
+        Rose (F.faults shelf.old name.now) (F.faults shelf.new name.now) }
+    ensures write_fault { result ≡ Copied.WriteFault → Rose (S.faults sink.old) (S.faults sink.new) }
+{
+    match shelf.read(name, buffer) {
+        Ok(ReadEnd::Whole(count)) => match sink.write_all(&buffer[..count]) {
+            Ok(()) => Copied::Whole,
+            Err(WriteFault) => Copied::WriteFault,
+        },
+        Ok(ReadEnd::TooLong) => Copied::TooLong,
+        Err(ReadFault) => Copied::ReadFault,
+    }
+}
+
+/// With no listed call and enough room a write never fails.
+fn write_surely(sink: &mut MemSink, bytes: &[u8])
+    requires listed { sink.old.calls.failing ≡ [] }
+    requires room { length sink.old.bytes + length bytes.now ≤ sink.old.room }
+    ensures { sink.new.bytes ≡ sink.old.bytes ++ bytes.now }
+{
+    sink.write_all(bytes).unwrap();
+}
+
+/// With no listed call a read of a name that is held never fails.
+fn read_surely(shelf: &mut MemShelf, name: &str, into: &mut [u8]) -> ReadEnd
+    requires listed { shelf.old.calls.failing ≡ [] }
+    requires held { IsSome (bytes_of shelf.old name.now) }
+    ensures { IfSome (bytes_of shelf.old name.now) (λ bytes. IsReadOf bytes into.new result) }
+{
+    shelf.read(name, into).unwrap()
+}
+
+/// What a read of that name into so many bytes answers, and leaves in a buffer of four dashes.
+pub(crate) type ReadRow<'a> = (&'a str, usize, Result<ReadEnd, ReadFault>, &'a str);
+
+/// Reads each row in order.
+pub(crate) fn check_reads<S: Shelf>(rt: &impl Abort, shelf: &mut S, rows: &[ReadRow<'_>]) {
+    for (name, room, end, left) in rows {
+        let mut buffer = [b'-'; 4];
+        assert!(rt; *room <= 4);
+        assert_eq!(rt; shelf.read(name, &mut buffer[..*room]), *end, "{name}");
+        assert_eq!(rt; buffer.as_slice(), left.as_bytes(), "{name}");
+    }
+}
+
+/// The bytes of these files, in memory.
+fn files(alloc: Global) -> Result<Vec<(String, Vec<u8>)>, AllocError> {
+    let mut files = Vec::new(alloc);
+    for (name, bytes) in [("a.c", "abc"), ("b.c", ""), ("a.c", "second")] {
+        files.push((
+            String::from_str(alloc, name)?,
+            bytes.as_bytes().to_vec(alloc)?,
+        ))?;
+    }
+    Ok(files)
+}
+
+#[test]
+fn memory_reads(rt: HostRuntime) -> Result<(), Fail> {
+    let alloc = rt.alloc();
+    let mut shelf = MemShelf::new(alloc, files(alloc)?, vec![in alloc; 2]?)?;
+    let rows = [
+        ("a.c", 4, Ok(ReadEnd::Whole(3)), "abc-"),
+        ("a.c", 4, Err(ReadFault), "----"),
+        ("a.c", 3, Ok(ReadEnd::Whole(3)), "abc-"),
+        ("a.c", 2, Ok(ReadEnd::TooLong), "ab--"),
+        ("a.c", 0, Ok(ReadEnd::TooLong), "----"),
+        ("b.c", 0, Ok(ReadEnd::Whole(0)), "----"),
+        ("c.c", 4, Err(ReadFault), "----"),
+    ];
+    check_reads(&rt, &mut shelf, &rows);
+    Ok(())
+}
+
+#[test]
+fn memory_writes(rt: HostRuntime) -> Result<(), Fail> {
+    let alloc = rt.alloc();
+    let mut sink = MemSink::new(alloc, 5, vec![in alloc; 2]?)?;
+    let rows = [
+        ("abc", Ok(()), "abc"),
+        ("d", Err(WriteFault), "abc"),
+        ("def", Err(WriteFault), "abc"),
+        ("de", Ok(()), "abcde"),
+        ("f", Err(WriteFault), "abcde"),
+    ];
+    for (piece, answer, held) in rows {
+        assert_eq!(rt; sink.write_all(piece.as_bytes()), answer, "{piece}");
+        assert_eq!(rt; sink.bytes(), held.as_bytes(), "{piece}");
+    }
+    Ok(())
+}
+
+#[test]
+fn callers(rt: HostRuntime) -> Result<(), Fail> {
+    let alloc = rt.alloc();
+    let mut shelf = MemShelf::new(alloc, files(alloc)?, Vec::new(alloc))?;
+    let mut sink = MemSink::new(alloc, 7, Vec::new(alloc))?;
+    write_surely(&mut sink, b"1");
+    assert_eq!(rt; write_both(&mut sink, b"2", b"34"), Ok(()));
+    assert_eq!(rt;
+        copy(&mut shelf, "a.c", &mut [0u8; 3], &mut sink),
+        Copied::Whole
+    );
+    assert_eq!(rt;
+        copy(&mut shelf, "a.c", &mut [0u8; 3], &mut sink),
+        Copied::WriteFault
+    );
+    assert_eq!(rt; sink.bytes(), b"1234abc".as_slice());
+    Ok(())
+}
