@@ -1,0 +1,10 @@
+pub mod Runs
+pub mod Words
+pub mod Numbers
+pub mod Sorts
+pub mod Digits
+pub mod Forms
+pub mod Readings
+pub mod Halts
+pub mod Parts
+pub mod Orders

@@ -1,0 +1,5 @@
+pub mod Bytes
+pub mod Tokens
+pub mod Refusals
+pub mod Laws
+pub mod Fronts
