@@ -1,0 +1,89 @@
+-- The laws of single signs.
+use Rattle.std.proofs.Common.{◌≡◌, Some, Bool, true, false, refl, ap}
+use denote.Enum.Bare.{sameb, same_true, true_same}
+use Rattle.c_lex.specs.declared.token.Word.{Word}
+use Rattle.c_lex.specs.declared.token.Mark.{Mark}
+use Rattle.c_lex.specs.contracts.token.Word.{the_type as word_type}
+use Rattle.c_lex.specs.contracts.token.Mark.{the_type as mark_type}
+use Rattle.c_parse.specs.declared.syntax.Name.{Name}
+use Rattle.c_parse.specs.Trees.{name_at, word_at, word, mark, format}
+use Rattle.c_parse.specs.Readers.{one}
+use Rattle.c_parse.specs.Reading.{if_so, name_of, mark_of, word_of, placed_of, format_of}
+use Rattle.c_parse.proofs.Spellings.{Class, sign_class}
+use Rattle.c_parse.proofs.Soundness.{Spells}
+use Rattle.c_parse.proofs.Completeness.{Anything}
+use Rattle.c_parse.proofs.Lawful.{Lawful, token}
+
+-- a class that is given where a test holds
+pub if_so_is : {A : Type 0} (a b : A) (t : Bool) → if_so a t ≡ Some b → (t ≡ true) × (a ≡ b)
+if_so_is a b true e = (refl, cc)
+if_so_is a b false e = absurd cc
+
+-- ---- names
+
+abbrev pub no_name : Name
+no_name = record { from = 0; to = 0 }
+
+-- a name
+abbrev pub names : Class
+names = sign_class name_at (λ n. tt) no_name
+
+name_back : Spells name_at name_of
+name_back (name_at n) a e = cc
+name_back _ a e = absurd cc
+
+pub name_lawful : Lawful names Anything (one name_of)
+name_lawful = token name_at (λ n. tt) no_name name_of name_back (λ n. refl)
+
+-- ---- marks
+
+-- a mark
+abbrev pub marked : Mark → Class
+marked m = sign_class {A = Unit {0}} (λ _. mark m) (λ _. tt) tt
+
+mark_back : (m : Mark) → Spells (λ _. mark m) (mark_of m)
+mark_back m (mark k) a e = ap mark (same_true mark_type tt k m (if_so_is tt a (sameb mark_type k m) e).0)
+mark_back m _ a e = absurd cc
+
+pub mark_lawful : (m : Mark) → Lawful (marked m) Anything (one (mark_of m))
+mark_lawful m = token (λ _. mark m) (λ _. tt) tt (mark_of m) (mark_back m) (λ u. rw (true_same mark_type m m refl) refl)
+
+-- ---- words
+
+-- a word whose place the tree doesn't keep
+abbrev pub worded : Word → Class
+worded w = sign_class {A = Unit {0}} (λ _. word w) (λ _. tt) tt
+
+word_back : (w : Word) → Spells (λ _. word w) (word_of w)
+word_back w (word k) a e = ap word (same_true word_type tt k w (if_so_is tt a (sameb word_type k w) e).0)
+word_back w _ a e = absurd cc
+
+pub word_lawful : (w : Word) → Lawful (worded w) Anything (one (word_of w))
+word_lawful w = token (λ _. word w) (λ _. tt) tt (word_of w) (word_back w) (λ u. rw (true_same word_type w w refl) refl)
+
+-- a word whose place the tree keeps
+abbrev pub placed : Word → Class
+placed w = sign_class (λ place. word_at place w) (λ _. tt) 0
+
+placed_back : (w : Word) → Spells (λ place. word_at place w) (placed_of w)
+placed_back w (word_at place k) a e =
+    let is = if_so_is place a (sameb word_type k w) e in
+    let same : k ≡ w = same_true word_type tt k w is.0 in
+    rw (is.1, same) refl
+placed_back w _ a e = absurd cc
+
+pub placed_lawful : (w : Word) → Lawful (placed w) Anything (one (placed_of w))
+placed_lawful w = token (λ place. word_at place w) (λ _. tt) 0 (placed_of w) (placed_back w) (λ place. rw (true_same word_type w w refl) refl)
+
+-- ---- the format
+
+-- the format
+abbrev pub formats : Class
+formats = sign_class {A = Unit {0}} (λ _. format) (λ _. tt) tt
+
+format_back : Spells (λ _. format) format_of
+format_back format a e = refl
+format_back _ a e = absurd cc
+
+pub format_lawful : Lawful formats Anything (one format_of)
+format_lawful = token (λ _. format) (λ _. tt) tt format_of format_back (λ u. refl)

@@ -1,0 +1,13 @@
+use Rattle.std.proofs.Common.{◌∙◌, sym}
+use Rattle.ak_words.specs.declared.operation.Op.TheVariants.{Mul}
+use Rattle.c_parse.specs.Views.{atom_view, times}
+use Rattle.c_parse.specs.Reading.{ladder}
+use Rattle.c_parse.proofs.ExpressionLaws.{operation_goes, times_push}
+use Rattle.c_parse.proofs.parser.Parser.term.Goals as goal
+
+pub factors-preserved : goal.factors-preserved
+unfolding ladder
+factors-preserved c =
+    let star = rw c.in-Some.is at c.in_ok-place.ensures in
+    let goes = operation_goes 0 (times (atom_view c.in_ok-first.first) c.factors.rest.items) (atom_view c.in_ok-atom.atom) (c.in-Some.place, Mul) _ _ _ star c.in_ok-atom.ensures in
+    rw (c.in_ok-push.ensures.items, times_push) (sym goes ∙ c.factors.invariant)

@@ -1,0 +1,10 @@
+pub mod Trees
+pub mod Views
+pub mod Names
+pub mod Occurrences
+pub mod Scope
+pub mod Language
+pub mod Readers
+pub mod Reading
+pub mod Laws
+pub mod NameLaws

@@ -1,0 +1,127 @@
+-- The grammar: trees, their one spelling, and which trees are in it (C11 6.5, 6.7, 6.8).
+use Rattle.std.specs.Prelude.{ℕ, suc, ◌<◌, List, [], ◌∷◌, map}
+use Rattle.std.specs.List.{AllByRecursion}
+use Rattle.ak_words.specs.declared.number.Num.{Num}
+use Rattle.ak_words.specs.declared.operation.Op.{Op}
+use Rattle.ak_words.specs.declared.operation.Op.TheVariants as ops
+use Rattle.c_lex.specs.declared.token.Word.{Word}
+use Rattle.c_lex.specs.declared.token.Word.TheVariants as words
+use Rattle.c_lex.specs.declared.token.Mark.{Mark}
+use Rattle.c_lex.specs.declared.token.Mark.TheVariants as marks
+use Rattle.c_lex.specs.declared.token.TokenKind.{TokenKind}
+use Rattle.c_lex.specs.declared.token.TokenKind.TheVariants as kinds
+use Rattle.c_lex.specs.declared.token.Token.{Token}
+use Rattle.c_parse.specs.declared.syntax.Name.{Name}
+
+-- ---- trees, without where they lie in memory
+
+-- an expression; a place is that of its name, number or operator
+pub data Expr : Type 0 where
+  name : (n : Name) → Expr
+  number : (place : ℕ) (n : Num) → Expr
+  binary : (place : ℕ) (op : Op) (left right : Expr) → Expr
+
+-- a declaration, a print or a return; the place is that of its first word
+pub data Item : Type 0 where
+  declare : (place : ℕ) (n : Name) (value : Expr) → Item
+  print : (place : ℕ) (value : Expr) → Item
+  give : (place : ℕ) (value : Expr) → Item
+
+-- a file: main and the items of its body
+pub record File : Type 0 where
+  pub place : ℕ
+  pub items : List Item
+
+-- ---- the alphabet: tokens, of which those keep their places that a tree knows the place of
+
+-- what the grammar sees of a token
+pub data Sign : Type 0 where
+  name_at : (n : Name) → Sign
+  number_at : (place : ℕ) (n : Num) → Sign
+  operator_at : (place : ℕ) (op : Op) → Sign
+  word_at : (place : ℕ) (w : Word) → Sign
+  word : (w : Word) → Sign
+  mark : (m : Mark) → Sign
+  format : Sign
+  end : Sign
+
+-- a word; that of an item, and the first of the file, keep their places
+abbrev pub sign_of_word : ℕ → Word → Sign
+sign_of_word place words.Int = word_at place words.Int
+sign_of_word place words.Printf = word_at place words.Printf
+sign_of_word place words.Return = word_at place words.Return
+sign_of_word place w = word w
+
+-- a mark; an operator keeps its place
+abbrev pub sign_of_mark : ℕ → Mark → Sign
+sign_of_mark place marks.Plus = operator_at place ops.Add
+sign_of_mark place marks.Minus = operator_at place ops.Sub
+sign_of_mark place marks.Star = operator_at place ops.Mul
+sign_of_mark place m = mark m
+
+-- a token of a kind, from one place to another
+abbrev pub sign_of_kind : TokenKind → ℕ → ℕ → Sign
+sign_of_kind kinds.Name from to = name_at (record { from = from; to = to })
+sign_of_kind (kinds.Word w) from to = sign_of_word from w
+sign_of_kind (kinds.Int n) from to = number_at from n
+sign_of_kind kinds.Text from to = format
+sign_of_kind (kinds.Mark m) from to = sign_of_mark from m
+sign_of_kind kinds.End from to = end
+
+-- a token
+abbrev pub sign_of : Token → Sign
+sign_of t = sign_of_kind t.kind t.from t.to
+
+-- tokens, each as its sign
+abbrev pub signs : List Token → List Sign
+signs ts = map sign_of ts
+
+-- ---- spellings: of a tree, and then other tokens
+
+-- an expression, operands and operators from left to right
+abbrev pub on : Expr → List Sign → List Sign
+on (name n) z = name_at n ∷ z
+on (number place n) z = number_at place n ∷ z
+on (binary place op a b) z = on a (operator_at place op ∷ on b z)
+
+-- an item
+abbrev pub on_item : Item → List Sign → List Sign
+on_item (declare place n value) z = word_at place words.Int ∷ name_at n ∷ mark marks.Assign ∷ on value (mark marks.Semicolon ∷ z)
+on_item (print place value) z = word_at place words.Printf ∷ mark marks.OpenParen ∷ format ∷ mark marks.Comma
+    ∷ on value (mark marks.CloseParen ∷ mark marks.Semicolon ∷ z)
+on_item (give place value) z = word_at place words.Return ∷ on value (mark marks.Semicolon ∷ z)
+
+-- items, one after the other
+abbrev pub on_items : List Item → List Sign → List Sign
+on_items [] z = z
+on_items (i ∷ is) z = on_item i (on_items is z)
+
+-- all tokens of a file: int main ( void ) { items } and the end
+abbrev pub spelling : File → List Sign
+spelling f = word_at f.place words.Int ∷ word words.Main ∷ mark marks.OpenParen ∷ word words.Void ∷ mark marks.CloseParen
+    ∷ mark marks.OpenBrace ∷ on_items f.items (mark marks.CloseBrace ∷ end ∷ [])
+
+-- ---- which trees are in the grammar
+
+-- how many levels of operators bind tighter; from 2 on, the operator isn't in the language
+abbrev pub level : Op → ℕ
+level ops.Mul = 0
+level ops.Add = 1
+level ops.Sub = 1
+level _ = 2
+
+-- the tree may stand where the first h levels of operators may; each level groups to the left
+abbrev pub Fits : ℕ → Expr → Type 0
+Fits h (name n) = Unit {0}
+Fits h (number place n) = Unit {0}
+Fits h (binary place op a b) = (level op < h) × Fits (suc (level op)) a × Fits (level op) b
+
+-- the item's expression may stand where each operator of the language may
+abbrev pub IsItem : Item → Type 0
+IsItem (declare place n value) = Fits 2 value
+IsItem (print place value) = Fits 2 value
+IsItem (give place value) = Fits 2 value
+
+-- each item of the file is in the grammar
+abbrev pub IsFile : File → Type 0
+IsFile f = AllByRecursion IsItem f.items

@@ -1,0 +1,350 @@
+//! The grammar's reader: one function a production, each without recursion.
+
+ghost use Rattle.std.specs.Prelude.{◌≡◌, ◌++◌, [], ◌∷◌, List, IfOk};
+ghost use Rattle.c_parse.specs.declared.parser.Stop.TheVariants.{NoMemory};
+ghost use Rattle.c_parse.specs.Views.{view};
+ghost use Rattle.c_parse.specs.Language.{EndWithEnd, Parses, FirstBadToken};
+ghost use Rattle.c_parse.specs.Laws.{SpellOneFile, ParseOrRefuse, RefuseOnce};
+
+use crate::reading_tokens::ItemStart;
+use crate::syntax::{Addend, Atom, Expr, Factor, Item, ItemNode, Name, Program, Term};
+use c_lex::{CompileFault, Kind, Mark, Refusal, Token, TokenKind, Word};
+use std::alloc::{AllocError, AllocFailed, Global};
+
+/// Why a production isn't read.
+#[derive(Clone, Copy, Debug, PartialEq, Eq)]
+pub enum Stop {
+    /// A token that may not stand here: so many tokens are left, it among them.
+    Unexpected(usize),
+    /// Want of memory.
+    NoMemory,
+}
+
+impl From<AllocError> for Stop {
+    ghost from_gives = { λ _ stop. stop ≡ NoMemory };
+
+    fn from(_error: AllocError) -> Stop {
+        Stop::NoMemory
+    }
+}
+
+impl<T: Drop> From<AllocFailed<T>> for Stop {
+    ghost from_gives = { λ _ stop. stop ≡ NoMemory };
+
+    fn from(_error: AllocFailed<T>) -> Stop {
+        Stop::NoMemory
+    }
+}
+
+/// The tokens that aren't read yet.
+#[derive(Drop)]
+pub struct Parser<'a> {
+    pub rest: &'a [Token],
+    pub alloc: Global,
+}
+
+// One production each.
+impl Parser<'_> {
+    ghost use Rattle.std.specs.Prelude.{map};
+    ghost use Rattle.c_parse.specs.Views.{atom_view, term_view, expr_view, item_view, view};
+    ghost use Rattle.c_parse.specs.Reading.{Moves, Gives, ladder, declaration, print_statement, return_statement, item, items, main_function, file};
+
+    /// `NAME | DIGITS`
+    #[tactic(auto, unfolding(crate::specs::Reading::ladder))]
+    fn atom(&mut self) -> Result<Atom, Stop>
+        ensures { Moves atom_view (ladder 0) self.old self.new result }
+    {
+        let [token, rest @ ..] = self.rest else {
+            return Err(self.unexpected());
+        };
+        match token.kind {
+            TokenKind::Name => {
+                self.rest = rest;
+                Ok(Atom::Name(Name {
+                    from: token.from,
+                    to: token.to,
+                }))
+            }
+            TokenKind::Int(value) => {
+                self.rest = rest;
+                Ok(Atom::Number {
+                    place: token.from,
+                    value,
+                })
+            }
+            _ => Err(self.unexpected()),
+        }
+    }
+
+    /// `atom { "*" atom }`
+    #[tactic(auto, unfolding(crate::specs::Reading::ladder, crate::specs::Readers::turns))]
+    fn term(&mut self) -> Result<Term, Stop>
+        ensures { Moves term_view (ladder 1) self.old self.new result }
+    {
+        let first = self.atom()?;
+        let mut rest = Vec::new(self.alloc);
+        'factors: while let Some(place) = self.star()? {
+            let atom = self.atom()?;
+            rest.push(Factor { place, atom })?;
+        }
+        Ok(Term { first, rest })
+    }
+
+    /// `term { ( "+" | "-" ) term }`
+    #[tactic(auto, unfolding(crate::specs::Reading::ladder, crate::specs::Readers::turns))]
+    fn expr(&mut self) -> Result<Expr, Stop>
+        ensures { Moves expr_view (ladder 2) self.old self.new result }
+    {
+        let first = self.term()?;
+        let mut rest = Vec::new(self.alloc);
+        'addends: while let Some((place, op)) = self.add_op()? {
+            let term = self.term()?;
+            rest.push(Addend { place, op, term })?;
+        }
+        Ok(Expr { first, rest })
+    }
+
+    /// `"int" NAME "=" expr ";"`
+    #[tactic(auto, unfolding(crate::specs::Reading::declaration))]
+    fn declaration(&mut self) -> Result<Item, Stop>
+        ensures { Moves item_view declaration self.old self.new result }
+    {
+        let place = self.first_word(Word::Int)?;
+        let name = self.name()?;
+        self.expected(Mark::Assign)?;
+        let value = self.expr()?;
+        self.expected(Mark::Semicolon)?;
+        Ok(Item {
+            place,
+            node: ItemNode::Declare(name, value),
+        })
+    }
+
+    /// `"printf" "(" "\"%d\\n\"" "," expr ")" ";"`
+    #[tactic(auto, unfolding(crate::specs::Reading::print_statement))]
+    fn print_statement(&mut self) -> Result<Item, Stop>
+        ensures { Moves item_view print_statement self.old self.new result }
+    {
+        let place = self.first_word(Word::Printf)?;
+        self.expected(Mark::OpenParen)?;
+        self.format()?;
+        self.expected(Mark::Comma)?;
+        let value = self.expr()?;
+        self.expected(Mark::CloseParen)?;
+        self.expected(Mark::Semicolon)?;
+        Ok(Item {
+            place,
+            node: ItemNode::Print(value),
+        })
+    }
+
+    /// `"return" expr ";"`
+    #[tactic(auto, unfolding(crate::specs::Reading::return_statement))]
+    fn return_statement(&mut self) -> Result<Item, Stop>
+        ensures { Moves item_view return_statement self.old self.new result }
+    {
+        let place = self.first_word(Word::Return)?;
+        let value = self.expr()?;
+        self.expected(Mark::Semicolon)?;
+        Ok(Item {
+            place,
+            node: ItemNode::Return(value),
+        })
+    }
+
+    /// A declaration, a print or a return.
+    #[tactic(auto, unfolding(crate::specs::Reading::item))]
+    fn item(&mut self) -> Result<Item, Stop>
+        ensures { Moves item_view item self.old self.new result }
+    {
+        match self.item_start()? {
+            ItemStart::Declaration => self.declaration(),
+            ItemStart::Print => self.print_statement(),
+            ItemStart::Return => self.return_statement(),
+        }
+    }
+
+    /// `{ item }`, up to the closing brace.
+    #[tactic(auto, unfolding(crate::specs::Reading::items, crate::specs::Readers::turns))]
+    fn items(&mut self) -> Result<Vec<Item>, Stop>
+        ensures { Moves (λ all. map item_view all.items) items self.old self.new result }
+    {
+        let mut all = Vec::new(self.alloc);
+        'items: while !self.is_next(Mark::CloseBrace)? {
+            let item = self.item()?;
+            all.push(item)?;
+        }
+        Ok(all)
+    }
+
+    /// `"int" "main" "(" "void" ")" "{" { item } "}"`
+    #[tactic(auto, unfolding(crate::specs::Reading::main_function))]
+    fn main_function(&mut self) -> Result<Program, Stop>
+        ensures { Moves view main_function self.old self.new result }
+    {
+        let place = self.first_word(Word::Int)?;
+        self.expected_word(Word::Main)?;
+        self.expected(Mark::OpenParen)?;
+        self.expected_word(Word::Void)?;
+        self.expected(Mark::CloseParen)?;
+        self.expected(Mark::OpenBrace)?;
+        let items = self.items()?;
+        self.expected(Mark::CloseBrace)?;
+        Ok(Program { place, items })
+    }
+
+    /// Main, and then the end of the text.
+    #[tactic(auto, unfolding(crate::specs::Reading::file))]
+    fn file(&mut self) -> Result<Program, Stop>
+        ensures { Gives view file self.old result }
+    {
+        let program = self.main_function()?;
+        self.end()?;
+        Ok(program)
+    }
+}
+
+/// The file that the tokens spell.
+pub fn read_file(alloc: Global, tokens: &[Token]) -> Result<Program, CompileFault>
+    requires { EndWithEnd tokens.now }
+    // The tokens spell this file of the grammar, and no other.
+    ensures found { IfOk result (λ program. Parses tokens.now (view program)) }
+    // Some file begins with the tokens before the refused one, and none with it behind them.
+    ensures refused { (r : Refusal) → result ≡ Err (CompileFault.Refused r)
+        → (r.kind ≡ Kind.OutsideSubset 0) × FirstBadToken tokens.now r.place }
+{
+    let mut parser = Parser {
+        rest: tokens,
+        alloc,
+    };
+    match parser.file() {
+        Ok(program) => Ok(program),
+        Err(Stop::Unexpected(left)) => {
+            let place = tokens[tokens.len() - left].from;
+            Err(CompileFault::Refused(Refusal {
+                place,
+                kind: Kind::OutsideSubset(0),
+            }))
+        }
+        Err(Stop::NoMemory) => Err(CompileFault::NoMemory),
+    }
+}
+
+/// The grammar isn't ambiguous, and refuses each list of tokens that is no file at one token.
+pub fn grammar_is_exact()
+    ensures one_file { SpellOneFile }
+    ensures not_both { ParseOrRefuse }
+    ensures one_refusal { RefuseOnce }
+{}
+
+#[cfg(test)]
+mod tests {
+    use super::*;
+    use crate::syntax::AddOp;
+    use std::test::Fail;
+
+    const VOID_MAIN: [TokenKind; 6] = [
+        TokenKind::Word(Word::Int),
+        TokenKind::Word(Word::Main),
+        TokenKind::Mark(Mark::OpenParen),
+        TokenKind::Word(Word::Void),
+        TokenKind::Mark(Mark::CloseParen),
+        TokenKind::Mark(Mark::OpenBrace),
+    ];
+
+    /// What is read from main's head, these tokens and the end. A token's place is how many are before it.
+    fn read_main(alloc: Global, body: &[TokenKind]) -> Result<Program, CompileFault> {
+        let mut tokens = Vec::new(alloc);
+        for (kind, place) in VOID_MAIN.iter().chain(body).zip(0..100u16) {
+            let from = u32::from(place);
+            let to = from + 1;
+            tokens.push(Token {
+                kind: *kind,
+                from,
+                to,
+            })?;
+        }
+        let place = 6 + body.len().min(94) as u32;
+        tokens.push(Token {
+            kind: TokenKind::End,
+            from: place,
+            to: place,
+        })?;
+        read_file(alloc, &tokens)
+    }
+
+    #[test]
+    fn a_file_of_each_item(rt: HostRuntime) -> Result<(), Fail> {
+        // int a = b - c * d; printf("%d\n", a); return a; }
+        let body = [
+            TokenKind::Word(Word::Int),
+            TokenKind::Name,
+            TokenKind::Mark(Mark::Assign),
+            TokenKind::Name,
+            TokenKind::Mark(Mark::Minus),
+            TokenKind::Name,
+            TokenKind::Mark(Mark::Star),
+            TokenKind::Name,
+            TokenKind::Mark(Mark::Semicolon),
+            TokenKind::Word(Word::Printf),
+            TokenKind::Mark(Mark::OpenParen),
+            TokenKind::Text,
+            TokenKind::Mark(Mark::Comma),
+            TokenKind::Name,
+            TokenKind::Mark(Mark::CloseParen),
+            TokenKind::Mark(Mark::Semicolon),
+            TokenKind::Word(Word::Return),
+            TokenKind::Name,
+            TokenKind::Mark(Mark::Semicolon),
+            TokenKind::Mark(Mark::CloseBrace),
+        ];
+        let program = read_main(rt.alloc(), &body)?;
+        assert_eq!(rt; program.place, 0);
+        let [declared, printed, returned] = program.items.as_slice() else {
+            return Err("three items".into());
+        };
+        assert_eq!(rt; declared.place, 6);
+        assert_eq!(rt; printed.place, 15);
+        assert_eq!(rt; returned.place, 22);
+        let ItemNode::Declare(name, value) = &declared.node else {
+            return Err("a declaration".into());
+        };
+        assert_eq!(rt; *name, Name { from: 7, to: 8 });
+        let [addend] = value.rest.as_slice() else {
+            return Err("one addend".into());
+        };
+        assert_eq!(rt; addend.place, 10);
+        assert_eq!(rt; addend.op, AddOp::Minus);
+        let [factor] = addend.term.rest.as_slice() else {
+            return Err("one factor".into());
+        };
+        assert_eq!(rt; factor.place, 12);
+        Ok(())
+    }
+
+    #[test]
+    fn the_first_token_that_is_refused(rt: HostRuntime) -> Result<(), Fail> {
+        let cut_short = [TokenKind::Word(Word::Return), TokenKind::Name];
+        let no_operand = [
+            TokenKind::Word(Word::Return),
+            TokenKind::Name,
+            TokenKind::Mark(Mark::Plus),
+            TokenKind::Mark(Mark::Semicolon),
+            TokenKind::Mark(Mark::CloseBrace),
+        ];
+        let behind = [TokenKind::Mark(Mark::CloseBrace), TokenKind::Name];
+        for (body, place) in [
+            (cut_short.as_slice(), 8),
+            (no_operand.as_slice(), 9),
+            (behind.as_slice(), 7),
+        ] {
+            let refusal = Refusal {
+                place,
+                kind: Kind::OutsideSubset(0),
+            };
+            let fault = read_main(rt.alloc(), body).err();
+            assert_eq!(rt; fault, Some(CompileFault::Refused(refusal)));
+        }
+        Ok(())
+    }
+}

@@ -1,0 +1,190 @@
+//! The parser's readers of one token.
+
+ghost use Rattle.std.specs.Prelude.{◌≡◌};
+
+use crate::parser::{Parser, Stop};
+use crate::syntax::{AddOp, Name};
+use c_lex::{Mark, TokenKind, Word};
+
+/// The items, told apart by their first words.
+#[derive(Clone, Copy, Debug, PartialEq, Eq)]
+pub enum ItemStart {
+    Declaration,
+    Print,
+    Return,
+}
+
+// One token each.
+impl Parser<'_> {
+    ghost use Rattle.std.specs.Prelude.{length};
+    ghost use Rattle.c_parse.specs.Readers.{one, maybe, ahead, peek};
+    ghost use Rattle.c_parse.specs.Reading.{Moves, Gives, star_view, additive_view, name_of, operator_of, mark_of, word_of, placed_of, format_of, start_of, at_end, IsSeparator, IsFirstWord, IsInnerWord};
+
+    /// The refusal of the next token.
+    pub fn unexpected(&self) -> Stop
+        ensures { result ≡ Stop.Unexpected (length self.now.rest.now) }
+    {
+        Stop::Unexpected(self.rest.len())
+    }
+
+    /// `NAME`
+    pub fn name(&mut self) -> Result<Name, Stop>
+        ensures { Moves (λ name. name) (one name_of) self.old self.new result }
+    {
+        let [token, rest @ ..] = self.rest else {
+            return Err(self.unexpected());
+        };
+        match token.kind {
+            TokenKind::Name => {
+                self.rest = rest;
+                Ok(Name {
+                    from: token.from,
+                    to: token.to,
+                })
+            }
+            _ => Err(self.unexpected()),
+        }
+    }
+
+    /// The format `"%d\n"`
+    pub fn format(&mut self) -> Result<(), Stop>
+        ensures { Moves (λ _. tt) (one format_of) self.old self.new result }
+    {
+        let [token, rest @ ..] = self.rest else {
+            return Err(self.unexpected());
+        };
+        match token.kind {
+            TokenKind::Text => {
+                self.rest = rest;
+                Ok(())
+            }
+            _ => Err(self.unexpected()),
+        }
+    }
+
+    /// A mark that is no operator.
+    pub fn expected(&mut self, mark: Mark) -> Result<(), Stop>
+        requires { IsSeparator mark }
+        ensures { Moves (λ _. tt) (one (mark_of mark)) self.old self.new result }
+    {
+        let [token, rest @ ..] = self.rest else {
+            return Err(self.unexpected());
+        };
+        match token.kind {
+            TokenKind::Mark(found) if found == mark => {
+                self.rest = rest;
+                Ok(())
+            }
+            _ => Err(self.unexpected()),
+        }
+    }
+
+    /// Whether a mark that is no operator is next.
+    pub fn is_next(&self, mark: Mark) -> Result<bool, Stop>
+        requires { IsSeparator mark }
+        ensures { Moves (λ b. b) (ahead (mark_of mark)) self.now self.now result }
+    {
+        match self.rest {
+            [] => Err(self.unexpected()),
+            [token, ..] => match token.kind {
+                TokenKind::Mark(found) => Ok(found == mark),
+                _ => Ok(false),
+            },
+        }
+    }
+
+    /// A word inside a production.
+    pub fn expected_word(&mut self, word: Word) -> Result<(), Stop>
+        requires { IsInnerWord word }
+        ensures { Moves (λ _. tt) (one (word_of word)) self.old self.new result }
+    {
+        let [token, rest @ ..] = self.rest else {
+            return Err(self.unexpected());
+        };
+        match token.kind {
+            TokenKind::Word(found) if found == word => {
+                self.rest = rest;
+                Ok(())
+            }
+            _ => Err(self.unexpected()),
+        }
+    }
+
+    /// The place of a production's first word.
+    pub fn first_word(&mut self, word: Word) -> Result<u32, Stop>
+        requires { IsFirstWord word }
+        ensures { Moves (λ place. place) (one (placed_of word)) self.old self.new result }
+    {
+        let [token, rest @ ..] = self.rest else {
+            return Err(self.unexpected());
+        };
+        match token.kind {
+            TokenKind::Word(found) if found == word => {
+                self.rest = rest;
+                Ok(token.from)
+            }
+            _ => Err(self.unexpected()),
+        }
+    }
+
+    /// Which item the next word begins.
+    pub fn item_start(&self) -> Result<ItemStart, Stop>
+        ensures { Gives (λ start. start) (peek start_of) self.now result }
+    {
+        match self.rest {
+            [] => Err(self.unexpected()),
+            [token, ..] => match token.kind {
+                TokenKind::Word(Word::Int) => Ok(ItemStart::Declaration),
+                TokenKind::Word(Word::Printf) => Ok(ItemStart::Print),
+                TokenKind::Word(Word::Return) => Ok(ItemStart::Return),
+                _ => Err(self.unexpected()),
+            },
+        }
+    }
+
+    /// The place of a star, if one is next.
+    pub fn star(&mut self) -> Result<Option<u32>, Stop>
+        ensures { Moves star_view (maybe (operator_of 0)) self.old self.new result }
+    {
+        let [token, rest @ ..] = self.rest else {
+            return Err(self.unexpected());
+        };
+        match token.kind {
+            TokenKind::Mark(Mark::Star) => {
+                self.rest = rest;
+                Ok(Some(token.from))
+            }
+            _ => Ok(None),
+        }
+    }
+
+    /// The place of an additive operator and which it is, if one is next.
+    pub fn add_op(&mut self) -> Result<Option<(u32, AddOp)>, Stop>
+        ensures { Moves additive_view (maybe (operator_of 1)) self.old self.new result }
+    {
+        let [token, rest @ ..] = self.rest else {
+            return Err(self.unexpected());
+        };
+        let op = match token.kind {
+            TokenKind::Mark(Mark::Plus) => AddOp::Plus,
+            TokenKind::Mark(Mark::Minus) => AddOp::Minus,
+            _ => return Ok(None),
+        };
+        self.rest = rest;
+        Ok(Some((token.from, op)))
+    }
+
+    /// The end of the text, and nothing behind it.
+    pub fn end(&self) -> Result<(), Stop>
+        ensures { Gives (λ _. tt) at_end self.now result }
+    {
+        let [token, behind @ ..] = self.rest else {
+            return Err(self.unexpected());
+        };
+        match token.kind {
+            TokenKind::End if behind.is_empty() => Ok(()),
+            TokenKind::End => Err(Stop::Unexpected(behind.len())),
+            _ => Err(self.unexpected()),
+        }
+    }
+}
