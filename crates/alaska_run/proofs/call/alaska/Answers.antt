@@ -1,0 +1,8 @@
+use Rattle.alaska_run.proofs.Answered.{causes, answers}
+use Rattle.alaska_run.proofs.call.alaska.Goals as goal
+
+pub returns-clause-causes : goal.returns-clause-causes
+returns-clause-causes g c = causes _ _ _ _ _ _ c.carry_out.ensures.headline
+
+pub returns-clause-answers : goal.returns-clause-answers
+returns-clause-answers g c = answers _ _ _ _ _ _ c.carry_out.ensures.headline

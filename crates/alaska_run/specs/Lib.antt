@@ -1,0 +1,9 @@
+pub mod Language
+pub mod Meaning
+pub mod Lines
+pub mod Headline
+pub mod Reading
+pub mod Machine
+pub mod Verdict
+pub mod Answers
+pub mod Numbers
