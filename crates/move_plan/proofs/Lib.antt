@@ -1,0 +1,11 @@
+pub mod Judged
+pub mod Longest
+pub mod Numbered
+pub mod PinSets
+pub mod Plans
+pub mod Rest
+pub mod Sweep
+pub mod Slid
+pub mod Slides
+pub mod Turns
+pub mod Unique

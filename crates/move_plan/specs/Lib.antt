@@ -1,0 +1,4 @@
+pub mod Holding
+pub mod Moving
+pub mod Stretches
+pub mod Sliding

@@ -1,0 +1,11 @@
+//! Objects of rounded sizes in sub-heaps that stand one after the other, none overlapping another.
+//! Promises upward: a place is the lowest at which the object fits, and none comes only where it fits nowhere.
+//! Stands on ak_words, for want of memory.
+#![tactic(auto)]
+
+mod objects;
+mod placement;
+mod search;
+
+pub use objects::Object;
+pub use placement::Heaps;
