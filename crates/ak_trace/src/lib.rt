@@ -1,0 +1,14 @@
+//! The journal of a run: its entries, and the order of the C threads' turns that they tell.
+//! Promises upward: a journal is a list of entries up to a limit that was reserved, and its order follows from the entries alone.
+//! Stands on ak_words.
+#![tactic(auto)]
+
+mod entry;
+pub mod how;
+mod journal;
+pub mod kind;
+mod order;
+
+pub use entry::Entry;
+pub use journal::Journal;
+pub use order::{Mark, order_of_joined, order_of_local_turns};
