@@ -1,0 +1,115 @@
+-- The store, and what each action makes of it: a value and the next store, or the rule that it breaks.
+use Rattle.std.specs.Prelude.{ℕ, ◌+◌, ◌%◌, Bool, true, false, ◌&&◌, ◌==◌, nat_le, if◌then◌else◌, List, [], ◌∷◌, ◌++◌, length, map, take, drop, set, replicate, slice_get, Option, Some, None, Result, Ok, Err}
+use Rattle.std.specs.Option.{option_map, option_flatten}
+use Rattle.ak_words.specs.declared.rule.Rule.{Rule}
+use Rattle.ak_words.specs.declared.rule.Rule.TheVariants.{C5, C6, C10, C12}
+use Rattle.block_store.specs.declared.values.Access.{Access}
+use Rattle.block_store.specs.declared.values.BlockKind.{BlockKind}
+use Rattle.block_store.specs.declared.values.BlockKind.TheVariants.{Global, Literal, Local, Heap}
+use Rattle.block_store.specs.declared.values.Cell.{Cell}
+use Rattle.block_store.specs.declared.values.Cell.TheVariants.{Byte}
+use Rattle.block_store.specs.declared.values.Ptr.{Ptr}
+use Rattle.block_store.specs.declared.values.Ptr.TheVariants.{Null, To}
+use Rattle.block_store.specs.declared.values.Value.{Value}
+use Rattle.block_store.specs.Cells.{size_of, access_of, cells_of, read}
+
+-- a block: where it comes from, and its cells, one a byte
+pub record Block : Type 0 where
+  pub kind : BlockKind
+  pub cells : List Cell
+
+-- the store: for each name that was ever made, from 0 on, its block while that lives, and none once it has ended
+abbrev pub Blocks : Type 0
+Blocks = List (Option Block)
+
+-- the live block of a name
+abbrev pub live : Blocks → ℕ → Option Block
+live blocks name = option_flatten (slice_get blocks name)
+
+-- the size of the live block of a name
+abbrev pub live_size : Blocks → ℕ → Option ℕ
+live_size blocks name = option_map (λ b. length b.cells) (live blocks name)
+
+-- the store with a new block, whose name is the count of names made before
+abbrev pub made : Blocks → ℕ → BlockKind → Cell → Blocks
+made blocks size kind first = blocks ++ Some (record { kind = kind; cells = replicate size first }) ∷ []
+
+-- the store with the new block of a string literal, whose cells are its bytes (C11 6.4.5 p6)
+abbrev pub made_literal : Blocks → List ℕ → Blocks
+made_literal blocks bytes = blocks ++ Some (record { kind = Literal; cells = map Byte bytes }) ∷ []
+
+-- the store after a block has ended (C11 6.2.4)
+abbrev pub ended : Blocks → ℕ → Blocks
+ended blocks name = set blocks name None
+
+-- a block of malloc
+abbrev pub is_heap : BlockKind → Bool
+is_heap Heap = true
+is_heap kind = false
+
+-- a string literal
+abbrev pub is_literal : BlockKind → Bool
+is_literal Literal = true
+is_literal kind = false
+
+-- free may be given the start of this block
+abbrev pub is_freeable : (offset : ℕ) → Option Block → Bool
+is_freeable offset None = false
+is_freeable offset (Some b) = (offset == 0) && is_heap b.kind
+
+-- free: nothing at null, the end of a live heap block at its start, and else C10 (C11 7.22.3.3)
+abbrev pub freed : Blocks → Ptr → Result Blocks Rule
+freed blocks Null = Ok blocks
+freed blocks (To name offset) = if is_freeable offset (live blocks name) then Ok (ended blocks name) else Err C10
+
+-- the cells that an access reaches: the block's name, the block, and where in it they start
+pub record Spot : Type 0 where
+  pub name : ℕ
+  pub block : Block
+  pub offset : ℕ
+
+-- the spot in a block, if that lives: C5 where the cells aren't all inside it, and then C6 where they start at no multiple of
+-- their size
+abbrev pub spot_in : (size name offset : ℕ) → Option Block → Result Spot Rule
+spot_in size name offset None = Err C5
+spot_in size name offset (Some b) =
+    if nat_le (offset + size) (length b.cells) then (if offset % size == 0 then Ok (record { name = name; block = b; offset = offset }) else Err C6) else Err C5
+
+-- the spot of `size` bytes that a pointer points to: C5 through null, to a dead block or outside the block, then C6
+-- (C11 6.5.3.2 p4, 6.3.2.3 p7)
+abbrev pub spot_at : Blocks → (size : ℕ) → Ptr → Result Spot Rule
+spot_at blocks size Null = Err C5
+spot_at blocks size (To name offset) = spot_in size name offset (live blocks name)
+
+-- what an access reads at a spot
+abbrev pub read_at : Access → Result Spot Rule → Result Value Rule
+read_at how (Err rule) = Err rule
+read_at how (Ok s) = read how (take (size_of how) (drop s.offset s.block.cells))
+
+-- load: the value, or the first rule that is broken of C5, C6, C4 and C16
+abbrev pub loaded : Blocks → Ptr → Access → Result Value Rule
+loaded blocks at how = read_at how (spot_at blocks (size_of how) at)
+
+-- the cells with new ones from an offset on
+abbrev pub with_cells : List Cell → (offset : ℕ) → List Cell → List Cell
+with_cells cells offset new = take offset cells ++ new ++ drop (offset + length new) cells
+
+-- the store with new cells at a spot, or C12 where that lies in a string literal (C11 6.4.5 p7)
+abbrev pub written_at : Blocks → List Cell → Result Spot Rule → Result Blocks Rule
+written_at blocks new (Err rule) = Err rule
+written_at blocks new (Ok s) =
+    if is_literal s.block.kind then Err C12 else Ok (set blocks s.name (Some (record { kind = s.block.kind; cells = with_cells s.block.cells s.offset new })))
+
+-- store: the next store, or the first rule that is broken of C5, C6 and C12
+abbrev pub stored : Blocks → Ptr → Value → Result Blocks Rule
+stored blocks at v = written_at blocks (cells_of v) (spot_at blocks (size_of (access_of v)) at)
+
+-- the answer of an action that gives no value
+abbrev pub answer_of : Result Blocks Rule → Result (Unit {0}) Rule
+answer_of (Ok blocks) = Ok tt
+answer_of (Err rule) = Err rule
+
+-- the store after an action: a broken rule changes nothing
+abbrev pub store_after : Result Blocks Rule → Blocks → Blocks
+store_after (Ok next) blocks = next
+store_after (Err rule) blocks = blocks

@@ -1,0 +1,13 @@
+//! Blocks of memory by name, as C's objects: made, read, written, freed, ended, and no name used twice.
+//! Promises upward: each call gives the value and the store, or the broken rule of C, that its definition gives.
+//! Stands on ak_words, for numbers, rules and want of memory.
+#![tactic(auto)]
+
+mod cells;
+mod store;
+#[cfg(test)]
+mod tests;
+mod values;
+
+pub use store::Store;
+pub use values::{Access, BlockKind, Cell, Ptr, Value};

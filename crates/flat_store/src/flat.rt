@@ -1,0 +1,148 @@
+ghost use Rattle.std.specs.Prelude.{◌≡◌, ◌≢◌, ℕ, ◌+◌, ◌-◌, ◌*◌, ◌^◌, ◌%◌, ◌<◌, ◌≤◌, ◌↔◌, length, slice_index, replicate, IsTrue, IsOk, OnOk, OnErr, IfOk, IfErr, IfSome, IfNone};
+ghost use Rattle.flat_store.specs.Flat.{first_address, HasBytes, IsFirstOutside, IsFirstOutsideOfBoth, bytes_from, with_bytes, ChangesOnly, IsTextLen, HasNoZero};
+ghost use Rattle.flat_store.specs.Word.{is_word_size, number_of, low_bytes};
+
+use crate::outside::OutsideFlat;
+use ak_words::NoMemory;
+use std::alloc::Global;
+use std::marker::Model;
+
+/// The address of the first byte.
+pub const FIRST_ADDRESS: u64 = 4096;
+
+/// Bytes with addresses from [`FIRST_ADDRESS`] on, one after the other.
+#[derive(Debug, Drop)]
+pub struct Flat {
+    bytes: Vec<u8>,
+}
+
+// Clauses see the list of the bytes.
+impl Model for Flat {
+    ghost use Rattle.std.specs.Prelude.{ℕ, List, length, ◌≤◌, ◌^◌};
+
+    ghost Value = { List ℕ };
+
+    ghost view = { λ f. f.bytes.items };
+
+    ghost invariant = { λ f. length f.bytes.items ≤ 2 ^ 32 };
+}
+
+impl Flat {
+    /// Makes `size` zero bytes, of which [`FIRST_ADDRESS`] is the first's address. The error is
+    /// want of memory.
+    pub fn new(alloc: Global, size: u64) -> Result<Flat, NoMemory>
+        requires { size ≤ 2 ^ 32 }
+        ensures { IfOk result (λ f. f ≡ replicate size 0) }
+    {
+        let bytes = vec![in alloc; 0; size as usize]?;
+        Ok(Flat { bytes })
+    }
+
+    /// The number that the `n` bytes from `at` on stand for, the least first. The error names the
+    /// first of these addresses that has no byte.
+    pub fn load(&self, at: u64, n: u8) -> Result<u64, OutsideFlat>
+        requires { IsTrue (is_word_size n) }
+        ensures within { IsOk result ↔ HasBytes self.now at n }
+        ensures value { IfOk result (λ v. v ≡ number_of (bytes_from self.now at n)) }
+        ensures fits { IfOk result (λ v. v < 256 ^ n) }
+        ensures outside { IfErr result (λ e. IsFirstOutside self.now at n e.0) }
+    {
+        let start = index_of(&self.bytes, at, u64::from(n))?;
+        Ok(number_from(&self.bytes[start..start + usize::from(n)]))
+    }
+
+    /// Writes the `n` low bytes of `v` from `at` on, the least first. The error names the first of
+    /// these addresses that has no byte, and nothing is written.
+    pub fn store(&mut self, at: u64, n: u8, v: u64) -> Result<(), OutsideFlat>
+        requires { IsTrue (is_word_size n) }
+        ensures within { IsOk result ↔ HasBytes self.old at n }
+        ensures stored { OnOk result (self.new ≡ with_bytes self.old at (low_bytes n v)) }
+        ensures others { OnOk result (ChangesOnly self.old self.new at n) }
+        ensures read_back { OnOk result (number_of (bytes_from self.new at n) ≡ v % 256 ^ n) }
+        ensures outside { IfErr result (λ e. IsFirstOutside self.old at n e.0) }
+        ensures unchanged { OnErr result (self.new ≡ self.old) }
+    {
+        let start = index_of(&self.bytes, at, u64::from(n))?;
+        let width = usize::from(n);
+        let word = v.to_le_bytes();
+        self.bytes[start..start + width].copy_from_slice(&word[..width]);
+        Ok(())
+    }
+
+    /// Leaves at `to` the `n` bytes that stood at `from`, also where the two overlap. The error
+    /// names the first address from `to` on that has no byte, and if there is none the first from
+    /// `from` on; nothing is written then.
+    pub fn copy(&mut self, to: u64, from: u64, n: u64) -> Result<(), OutsideFlat>
+        ensures within { IsOk result ↔ (HasBytes self.old to n × HasBytes self.old from n) }
+        ensures copied { OnOk result (self.new ≡ with_bytes self.old to (bytes_from self.old from n)) }
+        ensures there { OnOk result (bytes_from self.new to n ≡ bytes_from self.old from n) }
+        ensures others { OnOk result (ChangesOnly self.old self.new to n) }
+        ensures outside { IfErr result (λ e. IsFirstOutsideOfBoth self.old to from n e.0) }
+        ensures unchanged { OnErr result (self.new ≡ self.old) }
+    {
+        if n == 0 {
+            return Ok(());
+        }
+        let target = index_of(&self.bytes, to, n)?;
+        let source = index_of(&self.bytes, from, n)?;
+        self.bytes.copy_within(source..source + n as usize, target);
+        Ok(())
+    }
+
+    /// How many bytes stand from `at` on before the first zero byte, or none where the first
+    /// `most + 1` bytes hold no zero. The error names the first address that has no byte, where
+    /// that comes before either.
+    pub fn text_len(&self, at: u64, most: u64) -> Result<Option<u64>, OutsideFlat>
+        // No two of these hold at once, so each answer comes exactly where its own does.
+        ensures ended { IfOk result (λ text. IfSome text (λ len. (len ≤ most) × IsTextLen self.now at len)) }
+        ensures longer { IfOk result (λ text. IfNone text (HasNoZero self.now at (most + 1))) }
+        ensures outside { IfErr result (λ e. IsFirstOutside self.now at (most + 1) e.0 × HasNoZero self.now at (e.0 - at)) }
+    {
+        let start = index_of(&self.bytes, at, 1)?;
+        let left = self.bytes.len() - start;
+        let reached = left.min(most.saturating_add(1) as usize);
+        match first_zero(&self.bytes[start..start + reached]) {
+            Some(len) => Ok(Some(len as u64)),
+            None if most < reached as u64 => Ok(None),
+            None => Err(OutsideFlat(at + reached as u64)),
+        }
+    }
+}
+
+// The index of the byte at `at`, where there are `n` bytes from there on.
+fn index_of(bytes: &[u8], at: u64, n: u64) -> Result<usize, OutsideFlat>
+    requires size { length bytes.now ≤ 2 ^ 32 }
+    requires some { 1 ≤ n }
+    ensures index { IfOk result (λ i. at ≡ first_address + i) }
+    ensures within { IfOk result (λ i. i + n ≤ length bytes.now) }
+    ensures outside { IfErr result (λ e. IsFirstOutside bytes.now at n e.0) }
+{
+    let end = FIRST_ADDRESS + bytes.len() as u64;
+    if at < FIRST_ADDRESS || end <= at {
+        Err(OutsideFlat(at))
+    } else if end - at < n {
+        Err(OutsideFlat(end))
+    } else {
+        Ok((at - FIRST_ADDRESS) as usize)
+    }
+}
+
+// The index of the first zero byte.
+fn first_zero(bytes: &[u8]) -> Option<usize>
+    ensures zero { IfSome result (λ i. (i < length bytes.now) × (slice_index bytes.now i ≡ 0)) }
+    ensures before { IfSome result (λ i. (k : ℕ) → k < i → slice_index bytes.now k ≢ 0) }
+    ensures none { IfNone result ((k : ℕ) → k < length bytes.now → slice_index bytes.now k ≢ 0) }
+{
+    bytes.iter().position(|byte| *byte == 0)
+}
+
+// The number that the bytes stand for, the least first.
+fn number_from(bytes: &[u8]) -> u64
+    requires { length bytes.now ≤ 8 }
+    ensures value { result ≡ number_of bytes.now }
+    ensures fits { result < 256 ^ length bytes.now }
+{
+    let mut word = [0; 8];
+    word[..bytes.len()].copy_from_slice(bytes);
+    u64::from_le_bytes(word)
+}

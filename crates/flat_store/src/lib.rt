@@ -1,0 +1,12 @@
+//! Bytes at addresses from 4096 on, which the machine's loads, stores and copies reach.
+//! Promises upward: an access reaches exactly its own bytes, or names the first address that has none.
+//! Stands on ak_words, for want of memory.
+#![tactic(auto)]
+
+mod flat;
+mod outside;
+#[cfg(test)]
+mod tests;
+
+pub use flat::{FIRST_ADDRESS, Flat};
+pub use outside::OutsideFlat;

@@ -1,0 +1,42 @@
+ghost use Rattle.std.specs.Prelude.{◌≡◌, ℕ, ◌+◌, ◌*◌, ◌%◌, ◌<◌, ◌≤◌, ◌≢◌, length, slice_index};
+ghost use Rattle.handle_table.specs.Tree.{HoldsLeast, IsLeaf};
+
+/// Writes a leaf, and the least numbers on the way from it to the root.
+pub fn write_leaf(tree: &mut [u32], leaf: usize, number: u32)
+    requires whole { length tree.old % 2 ≡ 0 }
+    requires leaf { IsLeaf tree.old leaf }
+    requires least { HoldsLeast tree.old }
+    ensures least { HoldsLeast tree.new }
+    ensures written { slice_index tree.new leaf ≡ number }
+    ensures others { (k : ℕ) → length tree.old ≤ 2 * k → k ≢ leaf → slice_index tree.new k ≡ slice_index tree.old k }
+{
+    tree[leaf] = number;
+    let mut node = leaf / 2;
+    while node > 0 {
+        tree[node] = tree[2 * node].min(tree[2 * node + 1]);
+        node /= 2;
+    }
+}
+
+/// The least number of all leaves.
+pub fn least_leaf(tree: &[u32]) -> u32
+    requires whole { length tree.now % 2 ≡ 0 }
+    requires some { 1 ≤ length tree.now }
+    requires least { HoldsLeast tree.now }
+    ensures least { (k : ℕ) → IsLeaf tree.now k → result ≤ slice_index tree.now k }
+    ensures among { (k : ℕ) × IsLeaf tree.now k × (slice_index tree.now k ≡ result) }
+{
+    tree[1]
+}
+
+/// Writes the numbers from 0 on into the leaves of a tree whose nodes all hold one number.
+pub fn number_leaves(tree: &mut [u32], leaves: u32)
+    requires size { length tree.old ≡ 2 * leaves }
+    requires least { HoldsLeast tree.old }
+    ensures least { HoldsLeast tree.new }
+    ensures numbered { (k : ℕ) → k < leaves → slice_index tree.new (leaves + k) ≡ k }
+{
+    for number in 0..leaves {
+        write_leaf(tree, leaves as usize + number as usize, number);
+    }
+}

@@ -1,0 +1,81 @@
+ghost use Rattle.std.specs.Prelude.{◌≡◌, ◌^◌, ◌<◌, ◌↔◌, IsTrue};
+ghost use Rattle.handle_words.specs.Handle.{IsHandle, added, handle_of, id_of, offset_of};
+
+// The top bit, which every handle has.
+const MARK: u64 = 1 << 63;
+
+/// The handle of the byte at `offset` of the object with this id: 2^63 + id * 2^32 + offset (this
+/// project's profile).
+pub fn make(id: u32, offset: u32) -> u64
+    requires { id < 2 ^ 31 }
+    ensures word { result ≡ handle_of id offset }
+    ensures handle { IsHandle result }
+    ensures id { id_of result ≡ id }
+    ensures offset { offset_of result ≡ offset }
+{
+    MARK + (u64::from(id) << 32) + u64::from(offset)
+}
+
+/// Whether a word is a handle; any other word is a plain address.
+pub fn is_handle(w: u64) -> bool
+    ensures { IsTrue result ↔ IsHandle w }
+{
+    w >= MARK
+}
+
+/// A handle's id.
+pub fn id(w: u64) -> u32
+    requires { IsHandle w }
+    ensures value { result ≡ id_of w }
+    ensures below { result < 2 ^ 31 }
+    ensures round_trip { handle_of result (offset_of w) ≡ w }
+{
+    ((w - MARK) >> 32) as u32
+}
+
+/// A handle's offset, in bytes.
+pub fn offset(w: u64) -> u32
+    requires { IsHandle w }
+    ensures value { result ≡ offset_of w }
+    ensures round_trip { handle_of (id_of w) result ≡ w }
+{
+    (w % (1 << 32)) as u32
+}
+
+/// The word that lies `n` bytes further: of a handle the offset grows, modulo 2^32, and the id
+/// stays; any other word grows modulo 2^64.
+pub fn add(w: u64, n: u64) -> u64
+    ensures value { result ≡ added w n }
+    ensures same_kind { IsHandle w → IsHandle result }
+    ensures same_id { IsHandle w → id_of result ≡ id_of w }
+{
+    if is_handle(w) {
+        make(id(w), offset(w).wrapping_add((n % (1 << 32)) as u32))
+    } else {
+        w.wrapping_add(n)
+    }
+}
+
+#[cfg(test)]
+mod tests {
+    use super::*;
+
+    #[test]
+    fn parts_come_back(rt: HostRuntime) {
+        let handle = make(5, 12);
+        assert_eq!(rt; handle, 9223372058329612300);
+        assert!(rt; is_handle(handle));
+        assert_eq!(rt; (id(handle), offset(handle)), (5, 12));
+    }
+
+    #[test]
+    fn sums_stay_in_the_offset(rt: HostRuntime) {
+        let before = add(9223372058329612300, u64::MAX - 12);
+        assert_eq!(rt; before, 9223372062624579583);
+        assert!(rt; is_handle(before));
+        assert_eq!(rt; (id(before), offset(before)), (5, 4294967295));
+        assert_eq!(rt; add(9223372062624579583, 1), 9223372058329612288);
+        assert_eq!(rt; add(4096, u64::MAX), 4095);
+        assert!(rt; !is_handle(4096));
+    }
+}
