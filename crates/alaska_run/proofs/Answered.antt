@@ -1,14 +1,20 @@
 -- What the headline says of each status.
-use Rattle.std.proofs.Common.{◌≡◌, ℕ, ℤ, ◌<◌, ◌≤◌, List, [], length, Option, Some, None, refl, sym, ap, subst, ◌∙◌, arith, inl, inr, ◌⊎◌, unwrap_or}
+use Rattle.std.proofs.Common.{◌≡◌, ℕ, ℤ, ◌<◌, ◌≤◌, List, length, Option, Some, None, Result, Ok, Err, map, refl, sym, ap, subst, ◌∙◌, arith, inl, inr, ◌⊎◌}
 use Rattle.c_lex.specs.declared.refusal.Refusal.{Refusal}
 use Rattle.c_lex.specs.declared.refusal.Kind.TheVariants.{TooLong}
 use Rattle.alaska_run.specs.declared.status.Status.{Status}
-use Rattle.alaska_run.specs.declared.status.Status.TheVariants.{Done, Usage, Refused, ReadFault, WriteFault, NoMemory}
-use Rattle.alaska_run.specs.Language.{InLanguage, Refuses}
-use Rattle.alaska_run.specs.Lines.{line_of}
-use Rattle.alaska_run.specs.Headline.{Shelved, Channel, ReadFailed, WriteFailed, IsWhole, most_bytes, file_of, Judged, Written, after_note_fault, Headline}
-use Rattle.alaska_run.specs.Answers.{NothingFailed, IsUnlessMemory, Causes, Answers}
-use Rattle.alaska_run.proofs.Reasons.{not_both, one_reason}
+use Rattle.alaska_run.specs.declared.status.Status.TheVariants.{Done, Usage, Refused, ReadFault, WriteFault, Trap, NoMemory}
+use Rattle.alaska_run.specs.declared.status.Trap.{Trap as MachineTrap}
+use Rattle.ak_words.specs.declared.rule.Rule.{Rule}
+use Rattle.c_parse.specs.Trees.{File}
+use Rattle.alaska_run.specs.Language.{IsProgram, InLanguage, Refuses}
+use Rattle.alaska_run.specs.Flat.{machine_run}
+use Rattle.alaska_run.specs.Follows.{DoesAll, FollowsTo}
+use Rattle.alaska_run.specs.Meant.{meaning, address_of_offset}
+use Rattle.alaska_run.specs.Headline.{Shelved, Channel, ReadFailed, WriteFailed, IsWhole, most_bytes, file_of, Ran, Judged, Written, after_note_fault, Headline}
+use Rattle.alaska_run.specs.Answers.{IsUnlessMemory, Causes, Answers, ended_as}
+use Rattle.alaska_run.proofs.Simulated.{machine_follows}
+use Rattle.alaska_run.proofs.Reasons.{not_both, one_reason, same_file}
 
 -- where no write failed, the status is the one that was judged
 all_written : (judged status : Status) (output line : List ℕ) (out note : Channel) → (WriteFailed out → ⊥) → (WriteFailed note → ⊥) → Written judged status output line out note → status ≡ judged
@@ -36,6 +42,7 @@ after_note_is Usage = inl refl
 after_note_is (Refused place kind) = inl refl
 after_note_is ReadFault = inl refl
 after_note_is WriteFault = inl refl
+after_note_is (Trap word kind) = inl refl
 after_note_is NoMemory = inr refl
 
 -- a status that no failed write gives was judged
@@ -66,23 +73,45 @@ no_file None file text output (Done exit) none cause = absurd cause
 no_file None file text output (Refused place kind) none cause = absurd cause
 no_file None file text output ReadFault none cause = absurd cause
 no_file None file text output WriteFault none cause = absurd cause
+no_file None file text output (Trap word kind) none cause = absurd cause
 no_file (Some name) file text output judged none cause = cc
 
 -- the text that was read is the file's
 text_told : (file : Shelved) (text bytes : List ℕ) → file.told ≡ Some bytes → IsWhole file text → text ≡ bytes
 text_told file text bytes told whole = whole.whole bytes told
 
-program_judged : (name bytes : List ℕ) (file : List ℕ → Shelved) (text output : List ℕ) (judged : Status) → (file name).told ≡ Some bytes → length bytes ≤ most_bytes → InLanguage bytes → (ReadFailed (file name) → ⊥)
-    → Judged (Some name) file text judged output → ((exit : ℤ) × (judged ≡ Done exit)) ⊎ (judged ≡ NoMemory)
-program_judged name bytes file text output (Done exit) told short program read cause = inl (exit, refl)
-program_judged name bytes file text output NoMemory told short program read cause = inr refl
-program_judged name bytes file text output (Refused place kind) told short program read cause = elim cause.1 [
-  | inl whole ↦ absurd (not_both bytes (record { place = place; kind = kind }) program (subst (λ t. Refuses t (record { place = place; kind = kind })) (text_told (file name) text bytes told whole.0) whole.1))
+-- a text is one file
+one_program : (text : List ℕ) (f g : File) → IsProgram text f → IsProgram text g → g ≡ f
+one_program text f g these those = same_file text these.tokens those.tokens f g these.lexed those.lexed these.parsed those.parsed
+
+-- the run of the text that was read is that of the file's bytes
+run_told : (text bytes : List ℕ) (f g : File) (ending : Result ℤ MachineTrap) (output : List ℕ) → text ≡ bytes → IsProgram bytes f → IsProgram text g → Ran text g ending output → (machine_run bytes f).outcome ≡ ending
+run_told text bytes f g ending output told program read ran =
+    let same : g ≡ f = one_program bytes f g program (subst (λ t. IsProgram t g) told read) in
+    ap (λ h. (machine_run bytes h).outcome) (sym same) ∙ ap (λ t. (machine_run t g).outcome) (sym told) ∙ ran.ended
+
+program_judged : (name bytes : List ℕ) (f : File) (file : List ℕ → Shelved) (text output : List ℕ) (judged : Status) → (file name).told ≡ Some bytes → length bytes ≤ most_bytes → IsProgram bytes f → (ReadFailed (file name) → ⊥)
+    → Judged (Some name) file text judged output → IsUnlessMemory judged (ended_as (machine_run bytes f).outcome)
+program_judged name bytes f file text output (Done exit) told short program read cause =
+    inl (sym (ap ended_as (run_told text bytes f cause.1 (Ok exit) output (text_told (file name) text bytes told cause.0) program cause.2 cause.3)))
+program_judged name bytes f file text output (Trap word kind) told short program read cause =
+    inl (sym (ap ended_as (run_told text bytes f cause.1 (Err (record { word = word; kind = kind })) output (text_told (file name) text bytes told cause.0) program cause.2 cause.3)))
+program_judged name bytes f file text output NoMemory told short program read cause = inr refl
+program_judged name bytes f file text output (Refused place kind) told short program read cause = elim cause.1 [
+  | inl whole ↦ absurd (not_both bytes (record { place = place; kind = kind }) (f, program) (subst (λ t. Refuses t (record { place = place; kind = kind })) (text_told (file name) text bytes told whole.0) whole.1))
   | inr front ↦ absurd (omega (arith, short, front.0.longer bytes told))
 ]
-program_judged name bytes file text output ReadFault told short program read cause = absurd (read cause.0)
-program_judged name bytes file text output Usage told short program read cause = absurd cause
-program_judged name bytes file text output WriteFault told short program read cause = absurd cause
+program_judged name bytes f file text output ReadFault told short program read cause = absurd (read cause.0)
+program_judged name bytes f file text output Usage told short program read cause = absurd cause
+program_judged name bytes f file text output WriteFault told short program read cause = absurd cause
+
+-- a file that means a value ends with it
+meant_value : (text : List ℕ) (f : File) (exit : ℤ) → (meaning text f).outcome ≡ Ok exit → (machine_run text f).outcome ≡ Ok exit
+meant_value text f exit is =
+    let meant = meaning text f in
+    let P : Result ℤ Rule → Type 0 = λ r. FollowsTo meant.output (map address_of_offset meant.reached) r (machine_run text f) in
+    let all : DoesAll meant.output (map address_of_offset meant.reached) exit (machine_run text f) = subst P is (machine_follows text f) in
+    all.outcome
 
 refusal_judged : (name bytes : List ℕ) (r : Refusal) (file : List ℕ → Shelved) (text output : List ℕ) (judged : Status) → (file name).told ≡ Some bytes → length bytes ≤ most_bytes → Refuses bytes r → (ReadFailed (file name) → ⊥)
     → Judged (Some name) file text judged output → IsUnlessMemory judged (Refused r.place r.kind)
@@ -96,6 +125,8 @@ refusal_judged name bytes r file text output (Refused place kind) told short ref
 refusal_judged name bytes r file text output ReadFault told short refuses read cause = absurd (read cause.0)
 refusal_judged name bytes r file text output Usage told short refuses read cause = absurd cause
 refusal_judged name bytes r file text output WriteFault told short refuses read cause = absurd cause
+refusal_judged name bytes r file text output (Trap word kind) told short refuses read cause =
+    absurd (not_both bytes r (subst InLanguage (text_told (file name) text bytes told cause.0) (cause.1, cause.2)) refuses)
 
 -- a file that is told to be longer was not read whole
 not_whole : (file : Shelved) (text bytes : List ℕ) → file.told ≡ Some bytes → most_bytes < length bytes → IsWhole file text → ⊥
@@ -112,12 +143,15 @@ long_judged name bytes file text output (Refused place kind) told long read caus
 long_judged name bytes file text output ReadFault told long read cause = absurd (read cause.0)
 long_judged name bytes file text output Usage told long read cause = absurd cause
 long_judged name bytes file text output WriteFault told long read cause = absurd cause
+long_judged name bytes file text output (Trap word kind) told long read cause = absurd (not_whole (file name) text bytes told long cause.0)
 
 pub answers : (words : List (List ℕ)) (file : List ℕ → Shelved) (out note : Channel) (status : Status) (text : List ℕ) → Headline words file out note status text → Answers words file out note status
 answers words file out note status text h = record {
   usage = λ none kept also. subst (λ s. IsUnlessMemory s Usage) (sym (all_written h.judged status h.output _ out note kept also h.written)) (no_file (file_of words) file text h.output h.judged none h.cause);
-  done = λ name bytes named told short program fine. subst (λ s. ((exit : ℤ) × (s ≡ Done exit)) ⊎ (s ≡ NoMemory)) (sym (all_written h.judged status h.output _ out note fine.out_kept fine.note_kept h.written))
-      (program_judged name bytes file text h.output h.judged told short program fine.read (subst (λ w. Judged w file text h.judged h.output) named h.cause));
+  ran = λ name bytes f named told short program fine. subst (λ s. IsUnlessMemory s (ended_as (machine_run bytes f).outcome)) (sym (all_written h.judged status h.output _ out note fine.out_kept fine.note_kept h.written))
+      (program_judged name bytes f file text h.output h.judged told short program fine.read (subst (λ w. Judged w file text h.judged h.output) named h.cause));
+  done = λ name bytes f exit named told short program means fine. subst (λ s. IsUnlessMemory s (Done exit)) (sym (all_written h.judged status h.output _ out note fine.out_kept fine.note_kept h.written))
+      (subst (λ r. IsUnlessMemory h.judged (ended_as r)) (meant_value bytes f exit means) (program_judged name bytes f file text h.output h.judged told short program fine.read (subst (λ w. Judged w file text h.judged h.output) named h.cause)));
   refused = λ name bytes r named told short refuses fine. subst (λ s. IsUnlessMemory s (Refused r.place r.kind)) (sym (all_written h.judged status h.output _ out note fine.out_kept fine.note_kept h.written))
       (refusal_judged name bytes r file text h.output h.judged told short refuses fine.read (subst (λ w. Judged w file text h.judged h.output) named h.cause));
   too_long = λ name bytes named told long fine. subst (λ s. IsUnlessMemory s (Refused most_bytes TooLong)) (sym (all_written h.judged status h.output _ out note fine.out_kept fine.note_kept h.written))

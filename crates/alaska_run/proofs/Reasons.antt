@@ -1,15 +1,15 @@
 -- A text is a program or is refused, not both, and is refused for one reason.
-use Rattle.std.proofs.Common.{◌≡◌, ℕ, ◌<◌, ◌≤◌, List, refl, sym, ap, subst, ◌∙◌, arith, inl, inr, ◌⊎◌}
+use Rattle.std.proofs.Common.{◌≡◌, ℕ, List, sym, subst, ◌∙◌, arith, inl, inr}
 use Rattle.c_lex.specs.declared.token.Token.{Token}
 use Rattle.c_lex.specs.declared.refusal.Refusal.{Refusal}
 use Rattle.c_lex.specs.Tokens.{AreTokens}
 use Rattle.c_parse.specs.Trees.{File}
-use Rattle.c_parse.specs.Names.{IsWellNamed, FirstMisname}
+use Rattle.c_parse.specs.Names.{FirstMisname}
 use Rattle.c_parse.specs.Language.{Parses, FirstBadToken}
 use Rattle.c_parse.proofs.Laws.{parse_or_refuse}
 use Rattle.c_parse.proofs.NameTokens.{StandInOrder-AreTokens}
 use Rattle.c_parse.proofs.NameLawsLemmas.{one_fault}
-use Rattle.alaska_run.specs.Language.{InLanguage, StopsAt, FirstStop, FirstBadName, Refuses}
+use Rattle.alaska_run.specs.Language.{InLanguage, StopsAt, Refuses}
 use Rattle.alaska_run.proofs.Stops.{no_bad_byte, reach_whole}
 
 -- a file of the grammar stops nowhere
@@ -21,7 +21,7 @@ same_tokens : (text : List ℕ) (ts us : List Token) → AreTokens text ts → A
 same_tokens text ts us these those = reach_whole text ts us these (inl those)
 
 -- one file of one text
-same_file : (text : List ℕ) (ts us : List Token) (f g : File) → AreTokens text ts → AreTokens text us → Parses ts f → Parses us g → g ≡ f
+pub same_file : (text : List ℕ) (ts us : List Token) (f g : File) → AreTokens text ts → AreTokens text us → Parses ts f → Parses us g → g ≡ f
 same_file text ts us f g these those pf pg =
     let here : Parses ts g = subst (λ (vs : List Token). Parses vs g) (same_tokens text ts us these those) pg in
     pf.only g here.fits here.spelt

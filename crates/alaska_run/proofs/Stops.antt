@@ -1,5 +1,5 @@
 -- Where a text ceases to be a file of the grammar.
-use Rattle.std.proofs.Common.{◌≡◌, ℕ, zero, suc, ◌+◌, ◌<◌, ◌≤◌, List, [], ◌∷◌, ◌++◌, length, take, Some, refl, sym, ap, subst, ◌∙◌, arith, inl, inr, ◌⊎◌, slice_get, min}
+use Rattle.std.proofs.Common.{◌≡◌, ℕ, zero, suc, ◌+◌, ◌<◌, ◌≤◌, List, [], ◌∷◌, ◌++◌, length, take, Some, sym, ap, subst, ◌∙◌, arith, inl, inr, slice_get, min}
 use Rattle.std.proofs.lemmas.List.{take-append-le, length-take-le}
 use Rattle.std.proofs.lemmas.Bool.{cases_lt}
 use Rattle.std.proofs.lemmas.Option.{slice_get_within}
@@ -13,7 +13,7 @@ use Rattle.c_parse.specs.Trees.{File}
 use Rattle.c_parse.specs.Language.{Parses, BeginsFile, FirstBadToken, RefusesTokens}
 use Rattle.c_parse.proofs.Laws.{parse_or_refuse, refuse_once}
 use Rattle.c_parse.specs.Laws.{RefuseOnce}
-use Rattle.alaska_run.specs.Language.{Reach, StopsAt, FirstStop, Refuses}
+use Rattle.alaska_run.specs.Language.{Reach, FirstStop, Refuses}
 
 -- a text of which all are tokens has no bad byte
 pub no_bad_byte : (text : List ℕ) (ts : List Token) (place : ℕ) → AreTokens text ts → FirstBadByte text place → ⊥
@@ -140,13 +140,14 @@ stop_parsed text byte ts f bad are parses =
 
 -- what is refused of the tokens before the byte, and where the text stops then
 pub stop_of : (text : List ℕ) (byte stop : ℕ) (ts : List Token) (r : Refusal) → FirstBadByte text byte → AreTokens (take byte text) ts → RefusesTokens (take byte text) ts r
-    → (r.kind ≡ kinds.OutsideSubset 0 → stop ≡ min r.place byte) → (r.kind ≡ kinds.UnknownName → stop ≡ byte) → (r.kind ≡ kinds.DoubleName → stop ≡ byte) → FirstStop text stop
-stop_of text byte stop ts r bad are (inl grammar) here unknown double = subst (FirstStop text) (sym (here grammar.0)) (stop_refused text byte r.place ts bad are grammar.1)
-stop_of text byte stop ts r bad are (inr names) here unknown double =
+    → (r.kind ≡ kinds.OutsideSubset 0 → stop ≡ min r.place byte) → (r.kind ≡ kinds.UnknownName → stop ≡ byte) → (r.kind ≡ kinds.DoubleName → stop ≡ byte) → (r.kind ≡ kinds.TypeMismatch → stop ≡ byte) → FirstStop text stop
+stop_of text byte stop ts r bad are (inl grammar) here unknown double mismatch = subst (FirstStop text) (sym (here grammar.0)) (stop_refused text byte r.place ts bad are grammar.1)
+stop_of text byte stop ts r bad are (inr names) here unknown double mismatch =
     let parsed = stop_parsed text byte ts names.0 bad are names.1 in
     elim names.2.here.2 [
       | inl n ↦ subst (FirstStop text) (sym (unknown n.0)) parsed
-      | inr n ↦ subst (FirstStop text) (sym (double n.0)) parsed
+      | inr (inl n) ↦ subst (FirstStop text) (sym (double n.0)) parsed
+      | inr (inr n) ↦ subst (FirstStop text) (sym (mismatch n.0)) parsed
     ]
 
 -- a text that has tokens, and no bad byte

@@ -1,10 +1,14 @@
 -- When each status comes: only where it has its cause, and just there where nothing failed and memory sufficed.
-use Rattle.std.specs.Prelude.{◌≡◌, ℕ, ◌<◌, ◌≤◌, ◌⊎◌, List, length, Option, Some, None, ℤ}
+use Rattle.std.specs.Prelude.{◌≡◌, ℕ, ◌<◌, ◌≤◌, ◌⊎◌, List, length, Some, None, ℤ, Result, Ok, Err}
 use Rattle.c_lex.specs.declared.refusal.Refusal.{Refusal}
 use Rattle.c_lex.specs.declared.refusal.Kind.TheVariants.{TooLong}
 use Rattle.alaska_run.specs.declared.status.Status.{Status}
 use Rattle.alaska_run.specs.declared.status.Status.TheVariants as statuses
-use Rattle.alaska_run.specs.Language.{InLanguage, Refuses}
+use Rattle.alaska_run.specs.declared.status.Trap.{Trap}
+use Rattle.c_parse.specs.Trees.{File}
+use Rattle.alaska_run.specs.Language.{IsProgram, Refuses}
+use Rattle.alaska_run.specs.Flat.{machine_run}
+use Rattle.alaska_run.specs.Meant.{meaning}
 use Rattle.alaska_run.specs.Headline.{Shelved, Channel, ReadFailed, WriteFailed, most_bytes, file_of}
 
 -- no read of FILE failed, and no write
@@ -16,6 +20,11 @@ pub record NothingFailed (file : Shelved) (out note : Channel) : Type 0 where
 -- the status is this one, unless memory was wanting
 abbrev pub IsUnlessMemory : Status → Status → Type 0
 IsUnlessMemory status wanted = (status ≡ wanted) ⊎ (status ≡ statuses.NoMemory)
+
+-- the status of a run: the value that main ended with, or the trap
+abbrev pub ended_as : Result ℤ Trap → Status
+ended_as (Ok exit) = statuses.Done exit
+ended_as (Err trap) = statuses.Trap trap.word trap.kind
 
 -- what a status says of the words, the shelf and the sinks
 pub record Causes (words : List (List ℕ)) (file : List ℕ → Shelved) (out note : Channel) (status : Status) : Type 0 where
@@ -30,9 +39,12 @@ pub record Causes (words : List (List ℕ)) (file : List ℕ → Shelved) (out n
 pub record Answers (words : List (List ℕ)) (file : List ℕ → Shelved) (out note : Channel) (status : Status) : Type 0 where
   -- words that name no file are usage
   pub usage : file_of words ≡ None → (WriteFailed out → ⊥) → (WriteFailed note → ⊥) → IsUnlessMemory status statuses.Usage
-  -- a program of the language is run to its end
-  pub done : (name bytes : List ℕ) → file_of words ≡ Some name → (file name).told ≡ Some bytes → length bytes ≤ most_bytes → InLanguage bytes → NothingFailed (file name) out note
-      → ((exit : ℤ) × (status ≡ statuses.Done exit)) ⊎ (status ≡ statuses.NoMemory)
+  -- a program of the language is run until it ends, or comes to a trap
+  pub ran : (name bytes : List ℕ) (f : File) → file_of words ≡ Some name → (file name).told ≡ Some bytes → length bytes ≤ most_bytes → IsProgram bytes f → NothingFailed (file name) out note
+      → IsUnlessMemory status (ended_as (machine_run bytes f).outcome)
+  -- and one that breaks no rule of C ends with the value that it means
+  pub done : (name bytes : List ℕ) (f : File) (exit : ℤ) → file_of words ≡ Some name → (file name).told ≡ Some bytes → length bytes ≤ most_bytes → IsProgram bytes f
+      → (meaning bytes f).outcome ≡ Ok exit → NothingFailed (file name) out note → IsUnlessMemory status (statuses.Done exit)
   -- another text is refused, for the one reason that it has
   pub refused : (name bytes : List ℕ) (r : Refusal) → file_of words ≡ Some name → (file name).told ≡ Some bytes → length bytes ≤ most_bytes → Refuses bytes r → NothingFailed (file name) out note
       → IsUnlessMemory status (statuses.Refused r.place r.kind)

@@ -1,14 +1,16 @@
 -- What a call of `alaska` promises, as one record of named facts.
-use Rattle.std.specs.Prelude.{◌≡◌, ◌≢◌, ℕ, ◌<◌, ◌≤◌, ◌⊎◌, List, [], ◌∷◌, length, take, Option, Some, None, unwrap_or, MatchResult, if◌then◌else◌, ◌==◌, ℤ}
-use Rattle.c_lex.specs.declared.refusal.Kind.{Kind}
+use Rattle.std.specs.Prelude.{◌≡◌, ℕ, ◌<◌, ◌≤◌, ◌⊎◌, List, [], ◌∷◌, length, take, Option, Some, None, unwrap_or, Result, Ok, Err, if◌then◌else◌, ◌==◌, ℤ}
 use Rattle.c_lex.specs.declared.refusal.Kind.TheVariants.{TooLong}
 use Rattle.c_parse.specs.Trees.{File}
 use Rattle.ak_io.specs.Faults.{Rose}
-use Rattle.ak_io.specs.Bytes.{grown, IsPrefix, GrewByPrefix}
+use Rattle.ak_io.specs.Bytes.{grown, GrewByPrefix}
 use Rattle.alaska_run.specs.declared.status.Status.{Status}
 use Rattle.alaska_run.specs.declared.status.Status.TheVariants as statuses
-use Rattle.alaska_run.specs.Language.{IsProgram, InLanguage, Refuses}
-use Rattle.alaska_run.specs.Meaning.{Meant, meaning}
+use Rattle.alaska_run.specs.Language.{IsProgram, Refuses}
+use Rattle.alaska_run.specs.declared.status.Trap.{Trap}
+use Rattle.alaska_run.specs.Flat.{machine_run}
+use Rattle.alaska_run.specs.Follows.{Follows}
+use Rattle.alaska_run.specs.Meant.{meaning, address_of_offset}
 use Rattle.alaska_run.specs.Lines.{line_of}
 
 -- ---- the words
@@ -81,11 +83,13 @@ pub record IsFront (file : Shelved) (text : List ℕ) : Type 0 where
 
 -- ---- how it ended
 
--- what was printed, and the exit value, are those that are meant; where a rule is broken, what was printed before it is
-abbrev pub Does : Meant → List ℕ → ℤ → Type 0
-Does meant output exit = MatchResult meant.outcome
-    (λ value. (exit ≡ value) × (output ≡ meant.output))
-    (λ rule. IsPrefix meant.output output)
+-- A program ran: it ended so, with a value or a trap, and printed this, as the machine does; and the machine does what the text
+-- means. Where that breaks no rule of C, the value and what is printed are those that are meant, and each access is at the address
+-- of the object of the block that is meant, plus its offset. Where it breaks one, this holds of all that comes before.
+pub record Ran (text : List ℕ) (f : File) (ending : Result ℤ Trap) (output : List ℕ) : Type 0 where
+  pub ended : (machine_run text f).outcome ≡ ending
+  pub printed : (machine_run text f).output ≡ output
+  pub means : Follows address_of_offset (meaning text f) (machine_run text f)
 
 -- The cause of each status but a fault of writing, with the text that was read and what the program printed.
 abbrev pub Judged : Option (List ℕ) → (List ℕ → Shelved) → List ℕ → Status → List ℕ → Type 0
@@ -93,7 +97,9 @@ Judged None file text statuses.Usage output = (text ≡ []) × (output ≡ [])
 Judged None file text statuses.NoMemory output = output ≡ []
 Judged None file text _ output = ⊥
 Judged (Some name) file text (statuses.Done exit) output =
-    IsWhole (file name) text × (f : File) × IsProgram text f × Does (meaning text f) output exit
+    IsWhole (file name) text × (f : File) × IsProgram text f × Ran text f (Ok exit) output
+Judged (Some name) file text (statuses.Trap word kind) output =
+    IsWhole (file name) text × (f : File) × IsProgram text f × Ran text f (Err (record { word = word; kind = kind })) output
 Judged (Some name) file text (statuses.Refused place kind) output = (output ≡ [])
     × ((IsWhole (file name) text × Refuses text (record { place = place; kind = kind }))
     ⊎ (IsFront (file name) text × (place ≡ most_bytes) × (kind ≡ TooLong)))

@@ -1,5 +1,16 @@
 pub mod Language
+pub mod Memory
+pub mod Execution
 pub mod Meaning
+pub mod Heap
+pub mod Flat
+pub mod Homes
+pub mod StandsFor
+pub mod Simulation
+pub mod Follows
+pub mod Meant
+pub mod Actions
+pub mod Rows
 pub mod Lines
 pub mod Headline
 pub mod Reading

@@ -3,6 +3,8 @@ use Rattle.std.specs.Prelude.{ℕ, ◌+◌, List, [], ◌∷◌, ◌++◌, lengt
 use Rattle.std.specs.Fmt.{signed_decimal}
 use Rattle.c_lex.specs.declared.refusal.Kind.{Kind}
 use Rattle.c_lex.specs.declared.refusal.Kind.TheVariants as kinds
+use Rattle.alaska_run.specs.declared.status.TrapKind.{TrapKind}
+use Rattle.alaska_run.specs.declared.status.TrapKind.TheVariants as trap_kinds
 use Rattle.alaska_run.specs.declared.status.Status.{Status}
 use Rattle.alaska_run.specs.declared.status.Status.TheVariants as statuses
 
@@ -36,9 +38,16 @@ kind_number (kinds.OutsideSubset feature) = 32 ∷ decimal feature
 kind_number (kinds.TooMany count) = 32 ∷ decimal count
 kind_number _ = []
 
+-- the name of a kind of trap, in lower case
+abbrev pub trap_name : TrapKind → List ℕ
+trap_name trap_kinds.Load = codes "load"
+trap_name trap_kinds.Store = codes "store"
+trap_name trap_kinds.Free = codes "free"
+
 -- the line of a status, of the file with this name and this text; a fault of writing has none
 abbrev pub line_of : List ℕ → List ℕ → Status → List ℕ
 line_of name text (statuses.Done value) = codes "ended: done " ++ signed_decimal value ++ 10 ∷ []
+line_of name text (statuses.Trap word kind) = codes "ended: trap " ++ trap_name kind ++ codes " " ++ decimal word ++ 10 ∷ []
 line_of name text statuses.Usage = codes "usage: alaska FILE [options]\n"
 line_of name text (statuses.Refused place kind) = name ++ codes ":" ++ decimal (line_at text place)
     ++ codes ":" ++ decimal (column_at text place) ++ codes ": refused: " ++ kind_name kind ++ kind_number kind ++ 10 ∷ []

@@ -1,29 +1,40 @@
 -- The machine that runs a file: what it holds, and what one item does to it.
-use Rattle.std.specs.Prelude.{◌≡◌, ℕ, ℤ, List, [], ◌∷◌, ◌++◌, map, Option, Some, None}
+use Rattle.std.specs.Prelude.{◌≡◌, ℕ, ℤ, List, ◌++◌, Option, Result, Ok, Err}
+use Rattle.std.specs.Map.{lookup}
+use Rattle.std.specs.Str.{bytes_eq}
+use Rattle.c_parse.specs.Trees.{Item}
+use Rattle.alaska_run.specs.declared.status.Trap.{Trap}
 use Rattle.alaska_run.specs.declared.machine.Machine.{Machine}
-use Rattle.alaska_run.specs.Meaning.{Locals, local_value, line_of_int}
-use Rattle.c_parse.specs.Trees.{Expr, Item, declare, print, give}
-use Rattle.c_parse.specs.Names.{bytes_of}
+use Rattle.alaska_run.specs.declared.machine.Stop.{Stop}
+use Rattle.alaska_run.specs.declared.machine.Stop.TheVariants as stops
+use Rattle.alaska_run.specs.Execution.{World, Effect, step}
+use Rattle.alaska_run.specs.Flat.{FlatMemory, flat}
 
--- the locals that the machine holds, in order of declaration
-abbrev pub locals_in : Machine → Locals
-locals_in m = map (λ entry. (entry.0.now, entry.1)) m.locals.entries
+-- the locals and the memory that the machine holds
+abbrev pub world_in : Machine → World FlatMemory ℕ
+world_in m = record {
+  ints = λ name. lookup (λ k. bytes_eq name k.now) m.ints.entries;
+  pointers = λ name. lookup (λ k. bytes_eq name k.now) m.pointers.entries;
+  memory = m.memory;
+}
 
--- what is read in both alike
-abbrev pub SameLocals : Locals → Locals → Type 0
-SameLocals old new = (name : List ℕ) → local_value new name ≡ local_value old name
+-- an item came to this outcome, and the machine went on to what it left
+pub record Carried (outcome : Result (Effect FlatMemory ℕ) Trap) (old new : Machine) (ended : Option ℤ) : Type 0 where
+  pub printed : List ℕ
+  pub is : outcome ≡ Ok (record { world = world_in new; printed = printed; ended = ended })
+  pub output : new.output.items ≡ old.output.items ++ printed
 
--- the expression that an item evaluates
-abbrev pub item_value : Item → Expr
-item_value (declare place n e) = e
-item_value (print place e) = e
-item_value (give place e) = e
+-- an item was a trap, before which nothing was printed
+pub record Trapped (outcome : Result (Effect FlatMemory ℕ) Trap) (old new : Machine) (trap : Trap) : Type 0 where
+  pub is : outcome ≡ Err trap
+  pub output : new.output.items ≡ old.output.items
 
--- what an item does once its expression has this value: to the locals, to the output, and whether main ends with it
-abbrev pub DoesItem : List ℕ → Item → ℤ → Machine → Machine → Option ℤ → Type 0
-DoesItem text (declare place n e) v old new ended =
-    SameLocals ((bytes_of text n, v) ∷ locals_in old) (locals_in new) × (new.output.items ≡ old.output.items) × (ended ≡ None)
-DoesItem text (print place e) v old new ended =
-    SameLocals (locals_in old) (locals_in new) × (new.output.items ≡ old.output.items ++ line_of_int v) × (ended ≡ None)
-DoesItem text (give place e) v old new ended =
-    SameLocals (locals_in old) (locals_in new) × (new.output.items ≡ old.output.items) × (ended ≡ Some v)
+-- why the machine stopped in an item, unless memory ran out
+abbrev pub Stopped : Result (Effect FlatMemory ℕ) Trap → Machine → Machine → Stop → Type 0
+Stopped outcome old new (stops.Trap trap) = Trapped outcome old new trap
+Stopped outcome old new stops.NoMemory = Unit {0}
+
+-- what came of an item
+abbrev pub DoesItem : List ℕ → Item → Machine → Machine → Result (Option ℤ) Stop → Type 0
+DoesItem text i old new (Ok ended) = Carried (step flat text (world_in old) i).outcome old new ended
+DoesItem text i old new (Err stop) = Stopped (step flat text (world_in old) i).outcome old new stop

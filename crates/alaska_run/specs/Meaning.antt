@@ -1,31 +1,35 @@
--- What a file of the language means (C11 6.5, 6.7.9, 6.8.6.4): what main prints, and with what it ends.
-use Rattle.std.specs.Prelude.{ℕ, ℤ, pos, List, [], ◌∷◌, ◌++◌, Result, Ok, Err, if◌then◌else◌}
-use Rattle.std.specs.Str.{bytes_eq}
-use Rattle.std.specs.Fmt.{signed_decimal}
+-- What a file of the language means (C11 6.5, 6.7.9, 6.8, 7.22.3): over named blocks, with no address, handle or table. Which
+-- mallocs are served is told by a rule, which the meaning asks and knows nothing of.
+use Rattle.std.specs.Prelude.{ℕ, ℤ, pos, negsuc, ◌+ℤ◌, ◌*ℤ◌, List, [], ◌∷◌, ◌++◌, length, nat_le, ◌==◌, slice_get, Option, Some, None, Result, Ok, Err, if◌then◌else◌}
+use Rattle.std.specs.Option.{ok_or}
 use Rattle.ak_words.specs.declared.number.Num.{Num}
 use Rattle.ak_words.specs.declared.operation.Op.{Op}
 use Rattle.ak_words.specs.declared.rule.Rule.{Rule}
-use Rattle.ak_words.specs.declared.rule.Rule.TheVariants.{C4}
+use Rattle.ak_words.specs.declared.rule.Rule.TheVariants.{C4, C7, C9, C16}
 use Rattle.ak_words.specs.IntType.{int}
 use Rattle.ak_words.specs.Num.{num}
 use Rattle.ak_words.specs.Op.{result_of}
-use Rattle.c_parse.specs.Trees.{Expr, name, number, binary, Item, declare, print, give, File}
-use Rattle.c_parse.specs.Names.{bytes_of}
+use Rattle.block_store.specs.declared.values.Access.TheVariants as accesses
+use Rattle.block_store.specs.declared.values.BlockKind.TheVariants.{Heap}
+use Rattle.block_store.specs.declared.values.Cell.TheVariants.{Unknown}
+use Rattle.block_store.specs.declared.values.Ptr.{Ptr}
+use Rattle.block_store.specs.declared.values.Ptr.TheVariants.{Null, To}
+use Rattle.block_store.specs.declared.values.Value.{Value}
+use Rattle.block_store.specs.declared.values.Value.TheVariants as values
+use Rattle.block_store.specs.Blocks.{Blocks, live_size, made, freed, loaded, stored}
+use Rattle.c_parse.specs.Trees.{File}
+use Rattle.alaska_run.specs.Memory.{Memory}
+use Rattle.alaska_run.specs.Execution.{Run, run_of}
 
--- the locals that are declared, each name with its value, the last one first
-abbrev pub Locals : Type 0
-Locals = List (List ℕ × ℤ)
-
--- the value of a local; to read one that isn't there breaks the rule of unset locals (C11 6.3.2.1)
-abbrev pub local_value : Locals → List ℕ → Result ℤ Rule
-local_value [] bytes = Err C4
-local_value (l ∷ locals) bytes = if bytes_eq bytes l.0 then Ok l.1 else local_value locals bytes
-
--- f of two values, where both are there; else the rule that the first of them breaks
-abbrev pub both : Result ℤ Rule → Result ℤ Rule → (ℤ → ℤ → Result ℤ Rule) → Result ℤ Rule
-both (Err rule) right f = Err rule
-both (Ok x) (Err rule) f = Err rule
-both (Ok x) (Ok y) f = f x y
+-- which mallocs are served, over all that were asked for and freed before, and the object that each one is given
+pub record MallocRule : Type 1 where
+  pub State : Type 0
+  pub Object : Type 0
+  pub start : State
+  -- an object for so many bytes, if one is left
+  pub served : State → ℕ → Option (Object × State)
+  -- with an object given back
+  pub returned : State → Object → State
 
 -- the value of a number
 abbrev pub number_value : Result Num Rule → Result ℤ Rule
@@ -36,40 +40,93 @@ number_value (Err rule) = Err rule
 abbrev pub int_value : Op → ℤ → ℤ → Result ℤ Rule
 int_value op x y = number_value (result_of op (num int x) (num int y))
 
--- the value of an expression: a constant is an int (C11 6.4.4.1); operands from left to right, then the operation, all of them ints (C11 6.5)
-abbrev pub value : List ℕ → Locals → Expr → Result ℤ Rule
-value text locals (name n) = local_value locals (bytes_of text n)
-value text locals (number place n) = Ok (num int n.value).value
-value text locals (binary place op a b) = both (value text locals a) (value text locals b) (int_value op)
+-- the pointer at a distance from the block's start, which lies from 0 to the block's size, or else C7
+abbrev pub within_block : (block size : ℕ) → ℤ → Result Ptr Rule
+within_block block size (pos distance) = if nat_le distance size then Ok (To block distance) else Err C7
+within_block block size (negsuc less) = Err C7
 
--- what was printed, and the value that main ended with, or the rule that was broken
-pub record Meant : Type 0 where
-  pub output : List ℕ
-  pub outcome : Result ℤ Rule
+-- so many bytes from an offset of a block on: C9 where the block is dead
+abbrev pub moved_in : (block offset : ℕ) → ℤ → Option ℕ → Result Ptr Rule
+moved_in block offset bytes None = Err C9
+moved_in block offset bytes (Some size) = within_block block size (pos offset +ℤ bytes)
 
--- what printf writes of an int by "%d\n" (C11 7.21.6.1)
-abbrev pub line_of_int : ℤ → List ℕ
-line_of_int v = signed_decimal v ++ 10 ∷ []
+-- a null pointer plus 0 is null, and plus another number breaks C7 (this project's profile)
+abbrev pub moved_null : ℤ → Result Ptr Rule
+moved_null (pos distance) = if distance == 0 then Ok Null else Err C7
+moved_null (negsuc less) = Err C7
 
--- a value is needed to go on; where a rule is broken, nothing comes after it
-abbrev pub with_value : Result ℤ Rule → (ℤ → Meant) → Meant
-with_value (Err rule) go = record { output = []; outcome = Err rule }
-with_value (Ok v) go = go v
+-- a pointer plus so many bytes (C11 6.5.6 p8)
+abbrev pub moved : Blocks → Ptr → ℤ → Result Ptr Rule
+moved blocks Null bytes = moved_null bytes
+moved blocks (To block offset) bytes = moved_in block offset bytes (live_size blocks block)
 
--- this was printed first
-abbrev pub printed : List ℕ → Meant → Meant
-printed bytes m = record { output = bytes ++ m.output; outcome = m.outcome }
+-- the int that a load gives; a load of a number gives no pointer
+abbrev pub int_of : Result Value Rule → Result ℤ Rule
+int_of (Ok (values.Num n)) = Ok n.value
+int_of (Ok (values.Pointer p)) = Err C16
+int_of (Err rule) = Err rule
 
--- the items one after the other: a declaration sets its local, a return ends main, and main that reaches its end
--- returns 0 (C11 5.1.2.2.3)
-abbrev pub meaning_from : List ℕ → Locals → List Item → Meant
-meaning_from text locals [] = record { output = []; outcome = Ok (pos 0) }
-meaning_from text locals (declare place n e ∷ items) =
-    with_value (value text locals e) (λ v. meaning_from text ((bytes_of text n, v) ∷ locals) items)
-meaning_from text locals (print place e ∷ items) =
-    with_value (value text locals e) (λ v. printed (line_of_int v) (meaning_from text locals items))
-meaning_from text locals (give place e ∷ items) = record { output = []; outcome = value text locals e }
+-- the blocks, for each of them the object that malloc's rule gave it, and what the rule keeps
+pub record Allocated (S O : Type 0) : Type 0 where
+  pub blocks : Blocks
+  pub objects : List O
+  pub supply : S
 
--- what a file means
-abbrev pub meaning : List ℕ → File → Meant
-meaning text f = meaning_from text [] f.items
+-- an object, and an offset in it
+abbrev pub offset_in : {O : Type 0} → ℕ → Option O → List (O × ℕ)
+offset_in offset None = []
+offset_in offset (Some o) = (o, offset) ∷ []
+
+-- what an access through a pointer reaches: the object of the block that it names, and its offset
+abbrev pub reached_in : {O : Type 0} → List O → Ptr → List (O × ℕ)
+reached_in objects Null = []
+reached_in objects (To block offset) = offset_in offset (slice_get objects block)
+
+-- with the blocks after an action
+abbrev pub with_blocks : {S O : Type 0} → Allocated S O → Result Blocks Rule → Result (Allocated S O) Rule
+with_blocks a (Ok blocks) = Ok (record a { blocks = blocks })
+with_blocks a (Err rule) = Err rule
+
+-- malloc: a new block of unknown cells where it is served, and else null (C11 7.22.3.4)
+abbrev pub malloc_by : (R : MallocRule) → ℕ → Allocated R.State R.Object → Option (R.Object × R.State) → Ptr × Allocated R.State R.Object
+malloc_by R size a None = (Null, a)
+malloc_by R size a (Some (o, supply)) =
+    (To (length a.blocks) 0, record { blocks = made a.blocks size Heap Unknown; objects = a.objects ++ o ∷ []; supply = supply })
+
+-- with a block's object given back
+abbrev pub object_returned : (R : MallocRule) → R.State → Option R.Object → R.State
+object_returned R supply None = supply
+object_returned R supply (Some o) = R.returned supply o
+
+-- with the object of what a pointer points to given back; null has none
+abbrev pub supply_after : (R : MallocRule) → Allocated R.State R.Object → Ptr → R.State
+supply_after R a Null = a.supply
+supply_after R a (To block offset) = object_returned R a.supply (slice_get a.objects block)
+
+-- free, by the blocks after it (C11 7.22.3.3)
+abbrev pub free_by : (R : MallocRule) → Allocated R.State R.Object → Ptr → Result Blocks Rule → Result (Allocated R.State R.Object) Rule
+free_by R a p (Err rule) = Err rule
+free_by R a p (Ok blocks) = Ok (record { blocks = blocks; objects = a.objects; supply = supply_after R a p })
+
+-- the memory of the meaning
+abbrev pub named_blocks : MallocRule → Memory
+named_blocks R = record {
+  State = Allocated R.State R.Object;
+  Pointer = Ptr;
+  Place = R.Object × ℕ;
+  Fault = Rule;
+  start = record { blocks = []; objects = []; supply = R.start };
+  int_read = λ o. ok_or o C4;
+  pointer_read = λ o. ok_or o C4;
+  calculated = int_value;
+  advanced = λ a p n. moved a.blocks p (pos 4 *ℤ n);
+  reached = λ a p. reached_in a.objects p;
+  loaded = λ a p. int_of (loaded a.blocks p (accesses.Number int));
+  stored = λ a p v. with_blocks a (stored a.blocks p (values.Num (num int v)));
+  allocated = λ a size. malloc_by R size a (R.served a.supply size);
+  freed = λ a p. free_by R a p (freed a.blocks p);
+}
+
+-- what a file means, where malloc is served by this rule
+abbrev pub meaning_by : (R : MallocRule) → List ℕ → File → Run (R.Object × ℕ) Rule
+meaning_by R text f = run_of (named_blocks R) text f.items

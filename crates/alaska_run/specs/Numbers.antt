@@ -10,4 +10,5 @@ number_of statuses.Usage = 2
 number_of (statuses.Refused place kind) = 3
 number_of statuses.ReadFault = 4
 number_of statuses.WriteFault = 5
+number_of (statuses.Trap word kind) = 6
 number_of statuses.NoMemory = 11

@@ -1,18 +1,18 @@
 -- How a call ends before anything is written.
-use Rattle.std.specs.Prelude.{◌≡◌, ℕ, List, [], Option, unwrap_or}
+use Rattle.std.specs.Prelude.{◌≡◌, ℕ, List, [], Option, unwrap_or, Ok, Err}
 use Rattle.c_parse.specs.Trees.{File}
 use Rattle.alaska_run.specs.declared.status.Status.{Status}
 use Rattle.alaska_run.specs.declared.status.Status.TheVariants as statuses
 use Rattle.alaska_run.specs.declared.call.Outcome.{Outcome}
 use Rattle.alaska_run.specs.declared.call.Verdict.{Verdict}
 use Rattle.alaska_run.specs.Language.{IsProgram, Refuses}
-use Rattle.alaska_run.specs.Meaning.{meaning}
 use Rattle.alaska_run.specs.Lines.{line_of}
-use Rattle.alaska_run.specs.Headline.{Shelved, Does, Judged}
+use Rattle.alaska_run.specs.Headline.{Shelved, Ran, Judged}
 
--- a text ended so: it is a program, and did what it means, or it is none, for this reason
+-- a text ended so: it is a program, and ran as it means, or it is none, for this reason
 abbrev pub Ended : List ℕ → Status → List ℕ → Type 0
-Ended text (statuses.Done exit) output = (f : File) × IsProgram text f × Does (meaning text f) output exit
+Ended text (statuses.Done exit) output = (f : File) × IsProgram text f × Ran text f (Ok exit) output
+Ended text (statuses.Trap word kind) output = (f : File) × IsProgram text f × Ran text f (Err (record { word = word; kind = kind })) output
 Ended text (statuses.Refused place kind) output = (output ≡ []) × Refuses text (record { place = place; kind = kind })
 Ended text _ output = ⊥
 

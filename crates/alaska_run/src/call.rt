@@ -1,5 +1,5 @@
 ghost use Rattle.std.specs.Prelude.{◌≡◌, ◌⊎◌, [], map, string_bytes, unwrap_or, length, ◌≤◌, None, IfOk};
-ghost use Rattle.alaska_run.specs.Answers.{Causes, Answers};
+ghost use Rattle.alaska_run.specs.Answers.{Causes, Answers, ended_as};
 ghost use Rattle.alaska_run.specs.Headline.{file_of, channel, shelved, Headline};
 ghost use Rattle.alaska_run.specs.Lines.{line_of};
 ghost use Rattle.alaska_run.specs.Verdict.{IsVerdict, IsOutcome, Tells};
@@ -8,7 +8,7 @@ use crate::compile::compile;
 use crate::lines::note_line;
 use crate::machine::run;
 use crate::reading::{MOST_BYTES, TextRead, read_text};
-use crate::status::{Ending, Status};
+use crate::status::{Ending, Status, Trap};
 use crate::words::file_name;
 use crate::writing::write_ending;
 use ak_io::{Shelf, Sink};
@@ -33,6 +33,16 @@ pub struct Verdict {
     pub line: Vec<u8>,
 }
 
+// The status of a run.
+fn status_of_run(ending: Result<i32, Trap>) -> Status
+    ensures { result ≡ ended_as ending }
+{
+    match ending {
+        Ok(exit) => Status::Done(exit),
+        Err(Trap { word, kind }) => Status::Trap(word, kind),
+    }
+}
+
 // Compiles and runs a text.
 fn outcome_of(alloc: Global, text: &[u8]) -> Result<Outcome, NoMemory>
     requires { length text.now ≤ 1048576 }
@@ -42,7 +52,7 @@ fn outcome_of(alloc: Global, text: &[u8]) -> Result<Outcome, NoMemory>
         Ok(program) => {
             let ran = run(alloc, text, &program)?;
             Ok(Outcome {
-                status: Status::Done(ran.exit),
+                status: status_of_run(ran.ending),
                 output: ran.output,
             })
         }

@@ -12,6 +12,7 @@ fn stop_of_refusal(refusal: Refusal, bad_byte: u32) -> u32
     ensures grammar { refusal.kind ≡ Kind.OutsideSubset 0 → result ≡ min refusal.place bad_byte }
     ensures unknown { refusal.kind ≡ Kind.UnknownName → result ≡ bad_byte }
     ensures double { refusal.kind ≡ Kind.DoubleName → result ≡ bad_byte }
+    ensures mismatch { refusal.kind ≡ Kind.TypeMismatch → result ≡ bad_byte }
 {
     match refusal.kind {
         Kind::OutsideSubset(_) => refusal.place.min(bad_byte),

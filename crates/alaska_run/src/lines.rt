@@ -1,7 +1,7 @@
 ghost use Rattle.std.specs.Prelude.{◌≡◌, ◌+◌, ◌<◌, ◌^◌, ◌++◌, ◌==◌, length, not, reverse, take_while, [], decimal, IfOk, OnOk};
-ghost use Rattle.alaska_run.specs.Lines.{line_at, column_at, kind_name, kind_number, line_of};
+ghost use Rattle.alaska_run.specs.Lines.{line_at, column_at, kind_name, kind_number, trap_name, line_of};
 
-use crate::status::Status;
+use crate::status::{Status, TrapKind};
 use ak_words::NoMemory;
 use c_lex::Kind;
 use itoa::{Buffer, Integer};
@@ -108,6 +108,29 @@ fn done_line(alloc: Global, value: i32) -> Result<Vec<u8>, NoMemory>
     Ok(line)
 }
 
+/// The name of a kind of trap.
+fn name_of_trap(kind: TrapKind) -> &'static [u8]
+    ensures { result.now ≡ trap_name kind }
+{
+    match kind {
+        TrapKind::Load => b"load",
+        TrapKind::Store => b"store",
+        TrapKind::Free => b"free",
+    }
+}
+
+/// The line of a program that came to a trap.
+fn trap_line(alloc: Global, word: u64, kind: TrapKind) -> Result<Vec<u8>, NoMemory>
+    ensures { IfOk result (λ line. line.items ≡ line_of [] [] (Status.Trap word kind)) }
+{
+    let mut line = Vec::from_slice(alloc, b"ended: trap ")?;
+    line.extend_from_slice(name_of_trap(kind))?;
+    line.push(b' ')?;
+    push_number(&mut line, word)?;
+    line.push(b'\n')?;
+    Ok(line)
+}
+
 /// The line of a file that couldn't be read.
 fn read_fault_line(alloc: Global, name: &str) -> Result<Vec<u8>, NoMemory>
     ensures { IfOk result (λ line. line.items ≡ line_of name.now [] Status.ReadFault) }
@@ -129,6 +152,7 @@ pub fn note_line(
 {
     match status {
         Status::Done(value) => done_line(alloc, value),
+        Status::Trap(word, kind) => trap_line(alloc, word, kind),
         Status::Usage => Ok(Vec::from_slice(alloc, b"usage: alaska FILE [options]\n")?),
         Status::Refused(place, kind) => refusal_line(alloc, name, text, place, kind),
         Status::ReadFault => read_fault_line(alloc, name),

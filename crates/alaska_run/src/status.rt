@@ -2,6 +2,22 @@ ghost use Rattle.std.specs.Prelude.{◌≡◌};
 
 use c_lex::Kind;
 
+/// What the machine was at when it came to a word or an address that it can't go on with.
+#[derive(Clone, Copy, Debug, PartialEq, Eq)]
+pub enum TrapKind {
+    Load,
+    Store,
+    Free,
+}
+
+/// Why the machine stopped before the program's end: the first address of an access that has no byte, or a word that was
+/// given to `free` and is that of no object.
+#[derive(Clone, Copy, Debug, PartialEq, Eq)]
+pub struct Trap {
+    pub word: u64,
+    pub kind: TrapKind,
+}
+
 /// How a call of `alaska` ended.
 #[derive(Clone, Copy, Debug, PartialEq, Eq)]
 pub enum Status {
@@ -15,6 +31,8 @@ pub enum Status {
     ReadFault,
     /// What was to be written couldn't be written.
     WriteFault,
+    /// The program broke a rule of C, and the machine came to this word or address ([`Trap`]) and stopped there.
+    Trap(u64, TrapKind),
     /// Want of memory.
     NoMemory,
 }
@@ -32,6 +50,7 @@ impl Status {
             Status::Refused(_, _) => 3,
             Status::ReadFault => 4,
             Status::WriteFault => 5,
+            Status::Trap(_, _) => 6,
             Status::NoMemory => 11,
         }
     }

@@ -1,21 +1,26 @@
 -- The laws of expressions: operands with operators of several levels between them, each level grouped to the left.
-use Rattle.std.proofs.Common.{◌≡◌, ◌≢◌, ℕ, zero, suc, ◌<◌, ◌≤◌, List, [], ◌∷◌, ◌++◌, length, Option, Some, None, Result, Ok, Err, refl, ap, subst, ◌∙◌, arith, inl, inr, eqb}
+use Rattle.std.proofs.Common.{◌≡◌, ◌≢◌, ℕ, zero, suc, ◌<◌, ◌≤◌, List, [], ◌∷◌, ◌++◌, length, Option, Some, None, Result, Ok, Err, refl, ap, subst, ◌∙◌, arith, inl, inr, eqb, Bool, true, false}
 use Rattle.std.proofs.lemmas.Bool.{eqb-true, eq-eqb, ne_eqb, cases_lt}
 use Rattle.ak_words.specs.declared.operation.Op.{Op}
 use Rattle.c_lex.specs.declared.token.Mark.{Mark}
+use Rattle.c_lex.specs.declared.token.Mark.TheVariants.{OpenBracket}
 use Rattle.ak_words.specs.declared.operation.Op.TheVariants.{Mul}
+use Rattle.c_parse.specs.declared.syntax.Name.{Name}
 use Rattle.c_parse.specs.declared.syntax.Factor.{Factor}
 use Rattle.c_parse.specs.declared.syntax.Addend.{Addend}
+use Rattle.c_parse.specs.declared.reading_tokens.AtomStart.{AtomStart}
+use Rattle.c_parse.specs.declared.reading_tokens.AtomStart.TheVariants as atom_starts
 use Rattle.c_parse.specs.Views.{atom_view, times, add_op_view, term_view, plus}
-use Rattle.c_parse.specs.Trees.{Expr, name, number, binary, Sign, name_at, number_at, operator_at, mark, on, level, Fits}
-use Rattle.c_parse.specs.Readers.{Fault, bad, spent, ◌>>=◌, Reads, one, maybe_turn, maybe, Turn, again, last, repeat}
-use Rattle.c_parse.specs.Reading.{atom_of, operator_of, operand, operation, chain, ladder}
+use Rattle.c_parse.specs.Trees.{Sub, deref, subscript, Expr, name, number, element, binary, Sign, name_at, number_at, operator_at, mark, on, level, Fits}
+use Rattle.c_parse.specs.Readers.{Fault, bad, spent, ◌>>=◌, Reads, one, made, ahead_turn, ahead, maybe_turn, maybe, Turn, again, last, repeat}
+use Rattle.c_parse.specs.Reading.{name_of, number_of, mark_of, atom_start_of, bracketed, dereference, behind_name, named, atom_by, operator_of, operand, operation, chain, ladder}
 use Rattle.c_parse.proofs.Spellings.{Onto, onto_sign, onto_both, meets_onto, Class}
-use Rattle.c_parse.proofs.Soundness.{SoundAt, Sound, refused, refused_behind, then_sound, SoundTurnAt, SoundTurn, turns_sound}
-use Rattle.c_parse.proofs.Steadiness.{Steady, one_steady, maybe_steady, ok_steady, then_steady, Within, rest_of, goes_on, Advances, repeat_steady, repeat_goes, repeat_ends}
+use Rattle.c_parse.proofs.Soundness.{SoundAt, Sound, refused_behind, then_sound, made_sound, choice_sound, SoundTurnAt, SoundTurn, turns_sound}
+use Rattle.c_parse.proofs.Steadiness.{Steady, one_steady, ahead_steady, maybe_steady, ok_steady, then_steady, made_steady, choice_steady, Within, rest_of, goes_on, Advances, repeat_steady, repeat_goes, repeat_ends}
 use Rattle.c_parse.proofs.Completeness.{Complete}
 use Rattle.c_parse.proofs.Lawful.{Lawful}
-use Rattle.c_parse.proofs.TokenLaws.{no_name, if_so_is}
+use Rattle.c_parse.proofs.TokenLaws.{no_name, if_so_is, names, name_lawful, numbers, number_lawful}
+use Rattle.c_parse.proofs.ElementLaws.{brackets, bracketed_lawful, onto_element, element_class, dereference_makes}
 
 -- ---- the trees
 
@@ -23,6 +28,7 @@ use Rattle.c_parse.proofs.TokenLaws.{no_name, if_so_is}
 pub onto_expr : (a : Expr) → Onto (on a)
 onto_expr (name n) = onto_sign (name_at n) tt
 onto_expr (number place n) = onto_sign (number_at place n) tt
+onto_expr (element l) = onto_element l
 onto_expr (binary place op a b) = onto_both (on a) (λ z. operator_at place op ∷ on b z) (onto_expr a) (onto_both (λ z. operator_at place op ∷ z) (on b) (onto_sign (operator_at place op) tt) (onto_expr b))
 
 -- expressions of h levels of operators
@@ -33,6 +39,7 @@ exprs h = record { Tree = Expr; spell = on; Is = Fits h; onto = onto_expr; some 
 fits_more : (k : ℕ) (a : Expr) → Fits k a → Fits (suc k) a
 fits_more k (name n) f = tt
 fits_more k (number place n) f = tt
+fits_more k (element l) f = tt
 fits_more k (binary place op a b) f = (omega (arith, f.0), f.1, f.2)
 
 -- an operator of the level k with its operands
@@ -41,11 +48,33 @@ fits_binary k place op left right e l r = (omega arith, rw e l, rw e r)
 
 -- ---- sound
 
-atom_sound : Sound (exprs 0) (one atom_of)
-atom_sound [] = refused (exprs 0) []
-atom_sound (name_at n ∷ ss) = record { fits = tt; parts = refl }
-atom_sound (number_at place n ∷ ss) = record { fits = tt; parts = refl }
-atom_sound (s ∷ ss) = refused (exprs 0) (s ∷ ss)
+-- a name, and brackets behind it
+bracketed_behind : (n : Name) (ts : List Sign) (o : Result (Sub × List Sign) Fault) → SoundAt brackets ts o → SoundAt (exprs 0) (name_at n ∷ ts) (o >>= λ i. Ok (element (subscript n i.0), i.1))
+bracketed_behind n ts (Ok x) t = record { fits = tt; parts = ap (λ (z : List Sign). name_at n ∷ z) t.parts }
+bracketed_behind n ts (Err (bad m)) b = record { tree = element (subscript n b.tree); fits = tt; meets = λ z. meets_onto (λ y. name_at n ∷ y) (onto_sign (name_at n) tt) m ts _ (b.meets z) }
+bracketed_behind n ts (Err spent) b = tt
+
+-- a name, and a sign behind it
+name_sound_at : (n : Name) (s : Sign) (ss : List Sign) (o : Option (Unit {0})) → SoundAt (exprs 0) (name_at n ∷ s ∷ ss) (ahead_turn s ss o >>= λ b. behind_name n b.0 b.1)
+name_sound_at n s ss None = record { fits = tt; parts = refl }
+name_sound_at n s ss (Some u) = bracketed_behind n (s ∷ ss) (bracketed (s ∷ ss)) (bracketed_lawful.sound (s ∷ ss))
+
+-- what a name begins
+abbrev behind : Name → Reads Expr
+behind n ss = ahead (mark_of OpenBracket) ss >>= λ b. behind_name n b.0 b.1
+
+behind_sound : (n : Name) (ts : List Sign) → SoundAt (exprs 0) (name_at n ∷ ts) (behind n ts)
+behind_sound n [] = refused_behind (exprs 0) (name n) tt []
+behind_sound n (s ∷ ss) = name_sound_at n s ss (mark_of OpenBracket s)
+
+named_sound : Sound (exprs 0) named
+unfolding named
+named_sound = then_sound names (exprs 0) name (λ n f. tt) (λ n z. refl) behind (λ n f ts. behind_sound n ts) (one name_of) name_lawful.sound
+
+atom_by_sound : (s : AtomStart) → Sound (exprs 0) (atom_by s)
+atom_by_sound atom_starts.Name = named_sound
+atom_by_sound atom_starts.Number = made_sound numbers (exprs 0) (λ (place, n). number place n) (λ a f. tt) (λ a z. refl) (one number_of) number_lawful.sound
+atom_by_sound atom_starts.Star = made_sound element_class (exprs 0) element (λ l f. tt) (λ l z. refl) dereference dereference_makes.sound
 
 -- an operator of the level k
 abbrev IsOperator : ℕ → Sign → ℕ × Op → Type 0
@@ -82,10 +111,23 @@ chain_sound k next h = then_sound (exprs k) (exprs (suc k)) (λ a. a) (fits_more
 
 ladder_sound : (h : ℕ) → Sound (exprs h) (ladder h)
 unfolding ladder
-ladder_sound zero = atom_sound
+ladder_sound zero = choice_sound (exprs 0) atom_start_of atom_by atom_by_sound
 ladder_sound (suc k) = chain_sound k (ladder k) (ladder_sound k)
 
 -- ---- steady
+
+behind_name_steady : (n : Name) (b : Bool) → Steady (behind_name n b)
+behind_name_steady n true = then_steady bracketed (λ i ss. Ok (element (subscript n i), ss)) bracketed_lawful.steady (λ i. ok_steady (element (subscript n i)))
+behind_name_steady n false = ok_steady (name n)
+
+named_steady : Steady named
+unfolding named
+named_steady = then_steady (one name_of) behind (one_steady name_of) (λ n. then_steady (ahead (mark_of OpenBracket)) (behind_name n) (ahead_steady (mark_of OpenBracket)) (behind_name_steady n))
+
+atom_by_steady : (s : AtomStart) → Steady (atom_by s)
+atom_by_steady atom_starts.Name = named_steady
+atom_by_steady atom_starts.Number = made_steady (λ (place, n). number place n) (one number_of) (one_steady number_of)
+atom_by_steady atom_starts.Star = made_steady element dereference dereference_makes.steady
 
 operand_steady : (next : Reads Expr) → Steady next → (left : Expr) (o : Option (ℕ × Op)) → Steady (operand next left o)
 operand_steady next s left None = ok_steady (last left)
@@ -118,15 +160,15 @@ chain_steady k next h = then_steady next (repeat (operation k next)) h (repeat_s
 
 pub ladder_steady : (h : ℕ) → Steady (ladder h)
 unfolding ladder
-ladder_steady zero = one_steady atom_of
+ladder_steady zero = choice_steady atom_start_of atom_by atom_by_steady
 ladder_steady (suc k) = chain_steady k (ladder k) (ladder_steady k)
 
 -- ---- complete
 
--- no operator of the levels below h is next
+-- neither a bracket nor an operator of the levels below h is next
 abbrev pub Ends : ℕ → List Sign → Type 0
 Ends h [] = ⊥
-Ends h (s ∷ z) = (j : ℕ) → j < h → operator_of j s ≡ None
+Ends h (s ∷ z) = (mark_of OpenBracket s ≡ None) × ((j : ℕ) → j < h → operator_of j s ≡ None)
 
 -- an operator is of its level
 own_level : (place : ℕ) (op : Op) → operator_of (level op) (operator_at place op) ≡ Some (place, op)
@@ -158,14 +200,14 @@ step_down k a c f z e = rw (c f z e) refl
 finish : (k : ℕ) (a : Expr) → Comes k a → CompleteAt (suc k) a
 finish k a c f [] e = absurd e
 finish k a c f (s ∷ z) e =
-    c f (s ∷ z) (λ j lt. e j (omega arith)) ∙ repeat_ends (operation k (ladder k)) a a (s ∷ z) (s ∷ z) (rw (e k (omega arith)) refl)
+    c f (s ∷ z) (e.0, λ j lt. e.1 j (omega arith)) ∙ repeat_ends (operation k (ladder k)) a a (s ∷ z) (s ∷ z) (rw (e.1 k (omega arith)) refl)
 
 -- the operator is of the level k
 here : (k place : ℕ) (op : Op) (a b : Expr) → level op ≡ k → Comes k a → CompleteAt k b → Fits (suc k) a → Fits k b → (z : List Sign) → Ends k z
     → ladder (suc k) (on a (operator_at place op ∷ on b z)) ≡ repeat (operation k (ladder k)) (binary place op a b) z
 here k place op a b e ca cb fa fb z ends =
     let own : operator_of k (operator_at place op) ≡ Some (place, op) = rw (← e) (own_level place op) in
-    ca fa (operator_at place op ∷ on b z) (λ j lt. other_level place op j (omega arith))
+    ca fa (operator_at place op ∷ on b z) (refl, λ j lt. other_level place op j (omega arith))
     ∙ repeat_goes (operation k (ladder k)) (advances k) a (binary place op a b) (operator_at place op ∷ on b z) z (rw (own, cb fb z ends) refl)
 
 -- an operator on top, of the level k or one that binds tighter
@@ -193,16 +235,34 @@ all_complete : (a : Expr) → CompleteAt 0 a → ((k : ℕ) → Comes k a) → (
 all_complete a c b zero = c
 all_complete a c b (suc k) = finish k a (b k)
 
+-- a name, where no bracket is behind it
+name_complete : (n : Name) (z : List Sign) → Ends 0 z → named (name_at n ∷ z) ≡ Ok (name n, z)
+unfolding named
+name_complete n [] e = absurd e
+name_complete n (s ∷ z) e = rw (e.0) refl
+
+-- a name with brackets behind it
+subscript_complete : (n : Name) (i : Sub) (z : List Sign) → named (on (element (subscript n i)) z) ≡ Ok (element (subscript n i), z)
+unfolding named
+subscript_complete n i z = rw (bracketed_lawful.complete i tt z tt) refl
+
+-- a star before a name
+deref_complete : (place : ℕ) (n : Name) (z : List Sign) → made element dereference (on (element (deref place n)) z) ≡ Ok (element (deref place n), z)
+deref_complete place n z = rw (dereference_makes.complete (place, n) (tt, tt) z tt) refl
+
 atom_complete : (a : Expr) → CompleteAt 0 a
 unfolding ladder
-atom_complete (name n) f z e = refl
+atom_complete (name n) f z e = name_complete n z e
 atom_complete (number place n) f z e = refl
+atom_complete (element (deref place n)) f z e = deref_complete place n z
+atom_complete (element (subscript n i)) f z e = subscript_complete n i z
 atom_complete (binary place op a b) f z e = absurd (omega (arith, f.0))
 
 -- any tree
 comes : (a : Expr) (k : ℕ) → Comes k a
 comes (name n) = flat_comes (name n) (atom_complete (name n)) (λ k f. f)
 comes (number place n) = flat_comes (number place n) (atom_complete (number place n)) (λ k f. f)
+comes (element l) = flat_comes (element l) (atom_complete (element l)) (λ k f. f)
 comes (binary place op a b) = binary_comes place op a b (comes a) (all_complete b (atom_complete b) (comes b))
 
 ladder_complete : (h : ℕ) → Complete (exprs h) (Ends h) (ladder h)
@@ -213,9 +273,9 @@ ladder_complete h a = all_complete a (atom_complete a) (comes a) h
 pub expr_lawful : (h : ℕ) → Lawful (exprs h) (Ends h) (ladder h)
 expr_lawful h = record { sound = ladder_sound h; steady = ladder_steady h; complete = ladder_complete h }
 
--- a mark that is no operator ends an expression
-pub mark_ends : (m : Mark) (h : ℕ) (z : List Sign) → Ends h (mark m ∷ z)
-mark_ends m h z j lt = refl
+-- a mark that is neither an operator nor a bracket ends an expression
+pub mark_ends : (m : Mark) → mark_of OpenBracket (mark m) ≡ None → (h : ℕ) (z : List Sign) → Ends h (mark m ∷ z)
+mark_ends m e h z = (e, λ j lt. refl)
 
 -- ---- for the code: a turn of its loops
 

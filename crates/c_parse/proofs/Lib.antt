@@ -4,6 +4,7 @@ pub mod Steadiness
 pub mod Completeness
 pub mod Lawful
 pub mod TokenLaws
+pub mod ElementLaws
 pub mod ExpressionLaws
 pub mod ItemLaws
 pub mod FileLaws

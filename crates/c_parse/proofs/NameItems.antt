@@ -1,40 +1,22 @@
--- What the names of an item are, by its form, and which items are clean.
-use Rattle.std.proofs.Common.{◌≡◌, ℕ, ◌⊎◌, List, [], All, sym, ap, subst, inl, inr}
-use Rattle.std.proofs.lemmas.List.Elements.{All-nil, All-cons}
+-- What the names of an item are, by its form.
+use Rattle.std.proofs.Common.{◌≡◌, ℕ, ◌⊎◌, map, All, ap, inl, inr}
 use Rattle.c_parse.specs.declared.syntax.Name.{Name}
 use Rattle.c_parse.specs.declared.syntax.Expr.{Expr as CodeExpr}
 use Rattle.c_parse.specs.declared.syntax.Item.{Item as CodeItem}
-use Rattle.c_parse.specs.declared.syntax.ItemNode.TheVariants as nodes
-use Rattle.c_parse.specs.Trees.{Item, declare}
-use Rattle.c_parse.specs.Views.{expr_view, node_view, item_view}
+use Rattle.c_parse.specs.declared.syntax.Item.TheVariants as items
+use Rattle.c_parse.specs.Trees.{Item}
+use Rattle.c_parse.specs.Views.{expr_view, item_view}
 use Rattle.c_parse.specs.Names.{uses, item_uses, item_declares}
-use Rattle.c_parse.specs.Scope.{IsKnown, IsClean}
+use Rattle.c_parse.specs.Occurrences.{item_names}
+use Rattle.c_parse.proofs.NameLists.{All-map-right}
 
--- a declaration
-pub item_view-declare : (i : CodeItem) (n : Name) (value : CodeExpr) → i.node ≡ nodes.Declare n value → item_view i ≡ declare i.place n (expr_view value)
-item_view-declare i n value is = ap (node_view i.place) is
+-- an item that uses the names of its value alone
+pub item_uses-valued : (i : CodeItem) (value : CodeExpr)
+    → ((place : ℕ) × (n : Name) × (i ≡ items.Declare place n value)) ⊎ (((place : ℕ) × (i ≡ items.Print place value)) ⊎ ((place : ℕ) × (i ≡ items.Return place value))) → item_uses (item_view i) ≡ uses (expr_view value)
+item_uses-valued i value (inl (place, n, is)) = ap (λ i. item_uses (item_view i)) is
+item_uses-valued i value (inr (inl (place, is))) = ap (λ i. item_uses (item_view i)) is
+item_uses-valued i value (inr (inr (place, is))) = ap (λ i. item_uses (item_view i)) is
 
--- an item with no declaration uses the names of its expression
-pub record IsPlain (item : Item) (names : List Name) : Type 0 where
-  pub uses : item_uses item ≡ names
-  pub none : item_declares item ≡ []
-
--- a print or a return
-pub IsPlain-item_view : (i : CodeItem) (value : CodeExpr) → (i.node ≡ nodes.Print value) ⊎ (i.node ≡ nodes.Return value) → IsPlain (item_view i) (uses (expr_view value))
-IsPlain-item_view i value (inl is) = record { uses = ap (λ node. item_uses (node_view i.place node)) is; none = ap (λ node. item_declares (node_view i.place node)) is }
-IsPlain-item_view i value (inr is) = record { uses = ap (λ node. item_uses (node_view i.place node)) is; none = ap (λ node. item_declares (node_view i.place node)) is }
-
-module _ (text : List ℕ) (known : List (List ℕ)) where
-  -- a declaration of a new name by known ones
-  pub IsClean-declare : (item : Item) (place : ℕ) (n : Name) (value : CodeExpr) → item ≡ declare place n (expr_view value) → (IsKnown text known n → ⊥) → All (IsKnown text known) (uses (expr_view value)) → IsClean text known item
-  IsClean-declare item place n value is fresh used = subst (IsClean text known) (sym is) (record {
-    uses = used;
-    fresh = All-cons (λ n. IsKnown text known n → ⊥) n [] fresh (All-nil (λ n. IsKnown text known n → ⊥));
-  })
-
-  -- a plain item
-  pub IsClean-plain : (item : Item) (names : List Name) → IsPlain item names → All (IsKnown text known) names → IsClean text known item
-  IsClean-plain item names plain used = record {
-    uses = subst (All (IsKnown text known)) (sym plain.uses) used;
-    fresh = subst (All (λ n. IsKnown text known n → ⊥)) (sym plain.none) (All-nil (λ n. IsKnown text known n → ⊥));
-  }
+-- what holds of each name of an item holds of those that it uses
+pub All-used : (P : Name → Type 0) (i : Item) → All P (item_names i) → All P (map (λ u. u.0) (item_uses i))
+All-used P i h = All-map-right P (λ u. u.0) (item_declares i) (item_uses i) h

@@ -1,40 +1,56 @@
 -- The first fault of a file's names is one.
 use Rattle.std.proofs.Common.{◌≡◌, ℕ, ◌<◌, List, ◌∷◌, ◌++◌, Contains, refl, sym, ap, subst, ◌∙◌, inl, inr, append_assoc, arith}
-use Rattle.std.proofs.lemmas.List.Elements.{Contains-append_left, Contains-append_right}
 use Rattle.c_lex.specs.declared.refusal.Refusal.{Refusal}
 use Rattle.c_parse.specs.declared.syntax.Name.{Name}
+use Rattle.c_parse.specs.declared.syntax.Sort.{Sort}
 use Rattle.c_parse.specs.Trees.{Item}
-use Rattle.c_parse.specs.Names.{item_uses, item_declares, IsUnknown, IsDouble, Misnames}
+use Rattle.c_parse.specs.Names.{bytes_of, item_uses, item_declares, declared, IsUnknown, IsMismatch, Misnames}
 use Rattle.c_parse.specs.Occurrences.{item_names, Precedes, StandInOrder}
 use Rattle.c_parse.specs.NameLaws.{HaveOneFault, HaveNoneWhereWell}
-use Rattle.c_parse.proofs.NameLists.{AllPairs-across, Meeting, earlier, same, later, meeting}
-use Rattle.c_parse.proofs.NameFaults.{item_rising, item_precedes}
+use Rattle.c_parse.proofs.NameLists.{AllPairs-same, Meeting, earlier, same, later, meeting}
+use Rattle.c_parse.proofs.NameFaults.{Contains-used, Contains-declares, declares_precedes, item_rising, item_precedes}
 
--- an unknown use and a second declaration do not begin at one place
-apart : (text : List ℕ) (items : List Item) → StandInOrder text items → (n m : Name) → IsUnknown text items n → IsDouble text items m → n.from ≡ m.from → ⊥
-apart text items order n m u d e = at (meeting u.before u.item u.after d.before d.item d.after (sym u.split ∙ d.split))
-  where
-    used : Contains (item_names u.item) n
-    used = Contains-append_right (item_declares u.item) (item_uses u.item) n u.used
+module _ (text : List ℕ) (items : List Item) (order : StandInOrder text items) where
+  -- a use and a declaration do not begin at one place
+  apart : (before : List Item) (item : Item) (after : List Item) (n : Name) (s : Sort) → items ≡ before ++ item ∷ after → Contains (item_uses item) (n, s)
+      → (before' : List Item) (item' : Item) (after' : List Item) (m : Name) (t : Sort) → items ≡ before' ++ item' ∷ after' → Contains (item_declares item') (m, t) → n.from ≡ m.from → ⊥
+  apart before item after n s split used before' item' after' m t split' declares e = at (meeting before item after before' item' after' (sym split ∙ split'))
+    where
+      at : Meeting before item after before' item' after' → ⊥
+      at (earlier mid is) =
+          let again = split ∙ ap (λ b. b ++ item ∷ after) is ∙ append_assoc before' (item' ∷ mid) (item ∷ after) in
+          let less : m.from < n.from = item_precedes text before' item' (mid ++ item ∷ after) items order again mid item after m n refl (Contains-declares item' (m, t) declares) (Contains-used item (n, s) used) in omega arith
+      at (same befores is) =
+          let less : m.from < n.from = declares_precedes item (m, t) (n, s) (item_rising text before item after items order split) (subst (λ i. Contains (item_declares i) (m, t)) (sym is) declares) used in omega arith
+      at (later mid is) =
+          let less : n.from < m.from = item_precedes text before item after items order split mid item' after' n m is (Contains-used item (n, s) used) (Contains-declares item' (m, t) declares) in omega arith
 
-    declares : Contains (item_names d.item) m
-    declares = Contains-append_left (item_declares d.item) (item_uses d.item) m d.declares
+  -- nor do an unknown use and one as something else
+  unlike : (n m : Name) → IsUnknown text items n → IsMismatch text items m → n.from ≡ m.from → ⊥
+  unlike n m u w e = at (meeting u.before u.item u.after w.before w.item w.after (sym u.split ∙ w.split))
+    where
+      at : Meeting u.before u.item u.after w.before w.item w.after → ⊥
+      at (earlier mid is) =
+          let again = u.split ∙ ap (λ b. b ++ u.item ∷ u.after) is ∙ append_assoc w.before (w.item ∷ mid) (u.item ∷ u.after) in
+          let less : m.from < n.from = item_precedes text w.before w.item (mid ++ u.item ∷ u.after) items order again mid u.item u.after m n refl (Contains-used w.item (m, w.sort) w.used) (Contains-used u.item (n, u.sort) u.used) in omega arith
+      at (same befores is) =
+          let one : n ≡ m = AllPairs-same Precedes _ n m (item_rising text u.before u.item u.after items order u.split) (Contains-used u.item (n, u.sort) u.used)
+          (subst (λ i. Contains (item_names i) m) (sym is) (Contains-used w.item (m, w.sort) w.used)) (λ less. omega (arith, less)) (λ less. omega (arith, less)) in
+          u.absent (w.other, subst (λ b. Contains (declared text b) (bytes_of text n, w.other)) (sym befores) (subst (λ n. Contains (declared text w.before) (bytes_of text n, w.other)) (sym one) w.present))
+      at (later mid is) =
+          let less : n.from < m.from = item_precedes text u.before u.item u.after items order u.split mid w.item w.after n m is (Contains-used u.item (n, u.sort) u.used) (Contains-used w.item (m, w.sort) w.used) in omega arith
 
-    at : Meeting u.before u.item u.after d.before d.item d.after → ⊥
-    at (earlier mid is) =
-        let split = u.split ∙ ap (λ b. b ++ u.item ∷ u.after) is ∙ append_assoc d.before (d.item ∷ mid) (u.item ∷ u.after) in
-        let less : m.from < n.from = item_precedes text d.before d.item (mid ++ u.item ∷ u.after) items order split mid u.item u.after m n refl declares used in omega arith
-    at (same befores is) =
-        let less : m.from < n.from = AllPairs-across Precedes (item_declares u.item) (item_uses u.item) m n (item_rising text u.before u.item u.after items order u.split) (subst (λ i. Contains (item_declares i) m) (sym is) d.declares) u.used in omega arith
-    at (later mid is) =
-        let less : n.from < m.from = item_precedes text u.before u.item u.after items order u.split mid d.item d.after n m is used declares in omega arith
-
--- refusals at one place are of one kind
-same_kind : (text : List ℕ) (items : List Item) → StandInOrder text items → (r other : Refusal) → Misnames text items r → Misnames text items other → r.place ≡ other.place → other.kind ≡ r.kind
-same_kind text items order r other (n, at-n, inl (k, u)) (m, at-m, inl (l, v)) e = l ∙ sym k
-same_kind text items order r other (n, at-n, inr (k, d)) (m, at-m, inr (l, c)) e = l ∙ sym k
-same_kind text items order r other (n, at-n, inl (k, u)) (m, at-m, inr (l, d)) e = absurd (apart text items order n m u d (sym at-n ∙ e ∙ at-m))
-same_kind text items order r other (n, at-n, inr (k, d)) (m, at-m, inl (l, u)) e = absurd (apart text items order m n u d (sym at-m ∙ sym e ∙ at-n))
+  -- refusals at one place are of one kind
+  same_kind : (r other : Refusal) → Misnames text items r → Misnames text items other → r.place ≡ other.place → other.kind ≡ r.kind
+  same_kind r other (n, at-n, inl (k, u)) (m, at-m, inl (l, v)) e = l ∙ sym k
+  same_kind r other (n, at-n, inr (inl (k, d))) (m, at-m, inr (inl (l, c))) e = l ∙ sym k
+  same_kind r other (n, at-n, inr (inr (k, w))) (m, at-m, inr (inr (l, x))) e = l ∙ sym k
+  same_kind r other (n, at-n, inl (k, u)) (m, at-m, inr (inl (l, d))) e = absurd (apart u.before u.item u.after n u.sort u.split u.used d.before d.item d.after m d.sort d.split d.declares (sym at-n ∙ e ∙ at-m))
+  same_kind r other (n, at-n, inr (inl (k, d))) (m, at-m, inl (l, u)) e = absurd (apart u.before u.item u.after m u.sort u.split u.used d.before d.item d.after n d.sort d.split d.declares (sym at-m ∙ sym e ∙ at-n))
+  same_kind r other (n, at-n, inr (inr (k, w))) (m, at-m, inr (inl (l, d))) e = absurd (apart w.before w.item w.after n w.sort w.split w.used d.before d.item d.after m d.sort d.split d.declares (sym at-n ∙ e ∙ at-m))
+  same_kind r other (n, at-n, inr (inl (k, d))) (m, at-m, inr (inr (l, w))) e = absurd (apart w.before w.item w.after m w.sort w.split w.used d.before d.item d.after n d.sort d.split d.declares (sym at-m ∙ sym e ∙ at-n))
+  same_kind r other (n, at-n, inl (k, u)) (m, at-m, inr (inr (l, w))) e = absurd (unlike n m u w (sym at-n ∙ e ∙ at-m))
+  same_kind r other (n, at-n, inr (inr (k, w))) (m, at-m, inl (l, u)) e = absurd (unlike m n u w (sym at-m ∙ sym e ∙ at-n))
 
 pub one_fault : HaveOneFault
 one_fault text items order r other first first' =

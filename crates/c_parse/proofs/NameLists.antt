@@ -1,6 +1,6 @@
 -- Lists: a part of a list, two elements in their order, and two ways to split one list.
-use Rattle.std.proofs.Common.{◌≡◌, zero, suc, ◌+◌, ◌⊎◌, List, [], ◌∷◌, ◌++◌, length, get_or, All, AllPairs, Contains, refl, sym, ap, subst, ◌∙◌, inl, inr, length-append, arith}
-use Rattle.std.proofs.lemmas.List.{get_or_append_left, get_or-append-add, get_or_default}
+use Rattle.std.proofs.Common.{◌≡◌, zero, suc, ◌+◌, ◌⊎◌, List, [], ◌∷◌, ◌++◌, length, get_or, map, All, AllPairs, Contains, refl, sym, ap, subst, ◌∙◌, inl, inr, length-append, arith}
+use Rattle.std.proofs.lemmas.List.{get_or_append_left, get_or-append-add, get_or_default, map-append}
 use Rattle.std.proofs.lemmas.List.Elements.{All-append, Contains-append_cases, Contains-append_right, Contains-get_or}
 
 -- ---- what holds of each element
@@ -21,6 +21,22 @@ All-middle P front mid back all e h = All-left P mid back (All-right P front (mi
 pub All-parts : {X : Type 0} (P : X → Type 0) (front mid all : List X) → all ≡ front ++ mid → All P front → All P mid → All P all
 All-parts P front mid all e f m = subst (All P) (sym e) (All-append P front mid f m)
 
+-- the parts of what f gives of a list
+pub map-parts : {X Y : Type 0} (f : X → Y) (front mid back all : List X) → all ≡ front ++ (mid ++ back) → map f all ≡ map f front ++ (map f mid ++ map f back)
+map-parts f front mid back all e = ap (map f) e ∙ map-append f front (mid ++ back) ∙ ap (λ l. map f front ++ l) (map-append f mid back)
+
+-- what holds of each that f gives holds of those that it gives of the part in front
+pub All-map-left : {X Y : Type 0} (P : Y → Type 0) (f : X → Y) (xs ys : List X) → All P (map f (xs ++ ys)) → All P (map f xs)
+All-map-left P f xs ys h = All-left P (map f xs) (map f ys) (subst (All P) (map-append f xs ys) h)
+
+-- of the part behind
+pub All-map-right : {X Y : Type 0} (P : Y → Type 0) (f : X → Y) (xs ys : List X) → All P (map f (xs ++ ys)) → All P (map f ys)
+All-map-right P f xs ys h = All-right P (map f xs) (map f ys) (subst (All P) (map-append f xs ys) h)
+
+-- and of the part between
+pub All-map-middle : {X Y : Type 0} (P : Y → Type 0) (f : X → Y) (front mid back all : List X) → all ≡ front ++ (mid ++ back) → All P (map f all) → All P (map f mid)
+All-map-middle P f front mid back all e h = All-middle P (map f front) (map f mid) (map f back) (map f all) (map-parts f front mid back all e) h
+
 -- ---- membership
 
 -- the first element, or one of the others
@@ -34,6 +50,23 @@ Contains-cons_cases x xs y h = first (Contains-append_cases (x ∷ []) xs y h)
 -- the element in the middle
 pub Contains-middle : {X : Type 0} (front : List X) (x : X) (back all : List X) → all ≡ front ++ x ∷ back → Contains all x
 Contains-middle front x back all e = subst (λ l. Contains l x) (sym e) (Contains-append_right front (x ∷ back) x (Contains-get_or (x ∷ back) 0 x (omega arith)))
+
+-- what f gives of an element
+pub Contains-map : {X Y : Type 0} (f : X → Y) (xs : List X) (x : X) → Contains xs x → Contains (map f xs) (f x)
+Contains-map f [] x (k, lt, is) = absurd (omega arith)
+Contains-map f (y ∷ ys) x h = by (Contains-cons_cases y ys x h) (Contains-map f ys x)
+  where
+    by : (y ≡ x) ⊎ Contains ys x → (Contains ys x → Contains (map f ys) (f x)) → Contains (f y ∷ map f ys) (f x)
+    by (inl is) rest = subst (Contains (f y ∷ map f ys)) (ap f is) (Contains-get_or (f y ∷ map f ys) 0 (f y) (omega arith))
+    by (inr h') rest = Contains-append_right (f y ∷ []) (map f ys) (f x) (rest h')
+
+-- an element of a list of one
+pub Contains-single : {X : Type 0} (x : X) (xs : List X) (y : X) → xs ≡ x ∷ [] → Contains xs y → x ≡ y
+Contains-single x xs y e h = lone (Contains-cons_cases x [] y (subst (λ l. Contains l y) e h))
+  where
+    lone : (x ≡ y) ⊎ Contains [] y → x ≡ y
+    lone (inl is) = is
+    lone (inr (k, lt, is)) = absurd (omega arith)
 
 -- ---- pairs in order
 
@@ -62,6 +95,21 @@ AllPairs-cons R x xs each rest zero zero d lt within = absurd (omega arith)
 AllPairs-cons R x xs each rest zero (suc j) d lt within = each j d (omega arith)
 AllPairs-cons R x xs each rest (suc i) zero d lt within = absurd (omega arith)
 AllPairs-cons R x xs each rest (suc i) (suc j) d lt within = rest i j d (omega arith) (omega arith)
+
+-- two elements of which neither comes before the other are one
+pub AllPairs-same : {X : Type 0} (R : X → X → Type 0) (xs : List X) (x y : X) → AllPairs R xs → Contains xs x → Contains xs y → (R x y → ⊥) → (R y x → ⊥) → x ≡ y
+AllPairs-same R [] x y h (k, lt, is) at-y not-xy not-yx = absurd (omega arith)
+AllPairs-same {X} R (z ∷ zs) x y h at-x at-y not-xy not-yx =
+    by (Contains-cons_cases z zs x at-x) (Contains-cons_cases z zs y at-y) (λ b c. AllPairs-same R zs x y (AllPairs-right R (z ∷ []) zs h) b c not-xy not-yx)
+  where
+    across : (w : X) → Contains zs w → R z w
+    across w in-rest = AllPairs-across R (z ∷ []) zs z w h (Contains-get_or (z ∷ []) 0 z (omega arith)) in-rest
+
+    by : (z ≡ x) ⊎ Contains zs x → (z ≡ y) ⊎ Contains zs y → (Contains zs x → Contains zs y → x ≡ y) → x ≡ y
+    by (inl is-x) (inl is-y) rest = sym is-x ∙ is-y
+    by (inl is-x) (inr in-y) rest = absurd (not-xy (subst (λ w. R w y) is-x (across y in-y)))
+    by (inr in-x) (inl is-y) rest = absurd (not-yx (subst (λ w. R w x) is-y (across x in-x)))
+    by (inr in-x) (inr in-y) rest = rest in-x in-y
 
 -- ---- two splits of one list
 

@@ -6,7 +6,7 @@ use Rattle.c_parse.specs.declared.syntax.Item.{Item as CodeItem}
 use Rattle.c_parse.specs.declared.names.Scope.{Scope}
 use Rattle.c_parse.specs.Trees.{Item}
 use Rattle.c_parse.specs.Views.{item_view}
-use Rattle.c_parse.specs.Names.{bytes_of, item_declares, declared, IsWellNamed, FirstMisname}
+use Rattle.c_parse.specs.Names.{spelled, item_declares, declared, IsWellNamed, FirstMisname}
 use Rattle.c_parse.specs.Occurrences.{IsWithin, item_names, names_of, StandInOrder}
 use Rattle.c_parse.specs.Scope.{known_in, IsClean, FirstFault}
 use Rattle.c_parse.proofs.NameLists.{All-middle}
@@ -36,12 +36,12 @@ module _ (text : List ℕ) (scope : Scope) (codes : List CodeItem) (i : ℕ) (se
         (subst (λ t. FirstFault t (declared text (map item_view (take i codes))) (item_view item) r) seen.text_is (subst (λ k. FirstFault scope.text.now k (item_view item) r) seen.known_is fault))
 
     -- it is seen when its name is added
-    pub HasSeen-more : IsClean scope.text.now (known_in scope) (item_view item) → (new : Scope) → new.text ≡ scope.text → known_in new ≡ known_in scope ++ map (bytes_of scope.text.now) (item_declares (item_view item))
+    pub HasSeen-more : IsClean scope.text.now (known_in scope) (item_view item) → (new : Scope) → new.text ≡ scope.text → known_in new ≡ known_in scope ++ map (spelled scope.text.now) (item_declares (item_view item))
         → HasSeen text new (map item_view (take (i + 1) codes))
     HasSeen-more clean new same added = subst (HasSeen text new) (sym more) (record {
       text_is = ap (λ t. t.now) same ∙ seen.text_is;
-      known_is = added ∙ ap (λ k. k ++ map (bytes_of scope.text.now) (item_declares (item_view item))) seen.known_is
-          ∙ ap (λ t. declared text (map item_view (take i codes)) ++ map (bytes_of t) (item_declares (item_view item))) seen.text_is
+      known_is = added ∙ ap (λ k. k ++ map (spelled scope.text.now) (item_declares (item_view item))) seen.known_is
+          ∙ ap (λ t. declared text (map item_view (take i codes)) ++ map (spelled t) (item_declares (item_view item))) seen.text_is
           ∙ sym (declared-push text (map item_view (take i codes)) (item_view item));
       clean = AreClean-push text [] (map item_view (take i codes)) (item_view item) seen.clean
           (subst (λ t. IsClean t (declared text (map item_view (take i codes))) (item_view item)) seen.text_is (subst (λ k. IsClean scope.text.now k (item_view item)) seen.known_is clean));
@@ -50,6 +50,6 @@ module _ (text : List ℕ) (scope : Scope) (codes : List CodeItem) (i : ℕ) (se
         more : map item_view (take (i + 1) codes) ≡ map item_view (take i codes) ++ item_view item ∷ []
         more = ap (map item_view) (take_more codes i item here ∙ ap (λ c. take i codes ++ c ∷ []) (sym is)) ∙ map_push item_view (take i codes) item
 
-  -- once all are seen, each name is declared before its use, and once
+  -- once all are seen, each name is declared before its use, once, and as what its use asks for
   pub IsWellNamed-HasSeen : length codes ≤ i → IsWellNamed text (map item_view codes)
   IsWellNamed-HasSeen past = IsWellNamed-AreClean text (map item_view codes) (subst (λ l. AreClean text [] (map item_view l)) (take_all i codes past) seen.clean)

@@ -1,5 +1,5 @@
 -- The names of a file stand in the text in order, since its tokens do.
-use Rattle.std.proofs.Common.{◌≡◌, ℕ, ◌-◌, ◌<◌, ◌≤◌, min, List, [], ◌∷◌, ◌++◌, length, drop, All, AllPairs, sym, ap, subst, ◌∙◌, refl, append_assoc, length-take, arith}
+use Rattle.std.proofs.Common.{◌≡◌, ℕ, ◌-◌, ◌<◌, ◌≤◌, min, List, [], ◌∷◌, ◌++◌, map, length, drop, All, AllPairs, sym, ap, subst, ◌∙◌, refl, append_assoc, length-take, arith}
 use Rattle.std.specs.List.{flat_map, slice_range}
 use Rattle.std.proofs.lemmas.List.{append-nil, map-append}
 use Rattle.std.proofs.lemmas.List.Concat.{flat_map-append}
@@ -13,8 +13,8 @@ use Rattle.c_lex.specs.declared.token.TokenKind.TheVariants as kinds
 use Rattle.c_lex.specs.declared.token.Token.{Token}
 use Rattle.c_lex.specs.Tokens.{IsRunOfName, Spells, Tokens, end_of, AreTokens}
 use Rattle.c_parse.specs.declared.syntax.Name.{Name}
-use Rattle.c_parse.specs.Trees.{Expr, name, number, binary, Item, declare, print, give, File, Sign, name_at, operator_at, end, sign_of_word, sign_of_mark, sign_of_kind, sign_of, signs, on, on_item, on_items, spelling}
-use Rattle.c_parse.specs.Names.{uses}
+use Rattle.c_parse.specs.Trees.{Sub, sub_name, sub_number, Element, deref, subscript, Expr, name, number, element, binary, Item, declare, allocate, assign, release, print, give, File, Sign, name_at, operator_at, mark, end, sign_of_word, sign_of_mark, sign_of_kind, sign_of, signs, on_sub, on_element, on, on_item, on_items, spelling}
+use Rattle.c_parse.specs.Names.{sub_uses, element_uses, uses}
 use Rattle.c_parse.specs.Occurrences.{item_names, names_of, IsWithin, Precedes, StandInOrder}
 use Rattle.c_parse.proofs.NameLists.{AllPairs-cons}
 
@@ -27,13 +27,27 @@ sign_names _ = []
 abbrev names_in : List Sign → List Name
 names_in z = flat_map sign_names z
 
-names_in-on : (e : Expr) (z : List Sign) → names_in (on e z) ≡ uses e ++ names_in z
+names_in-on_sub : (i : Sub) (z : List Sign) → names_in (on_sub i z) ≡ map (λ u. u.0) (sub_uses i) ++ names_in z
+names_in-on_sub (sub_name n) z = refl
+names_in-on_sub (sub_number place n) z = refl
+
+names_in-on_element : (l : Element) (z : List Sign) → names_in (on_element l z) ≡ map (λ u. u.0) (element_uses l) ++ names_in z
+names_in-on_element (deref place n) z = refl
+names_in-on_element (subscript n i) z = ap (λ ns. n ∷ ns) (names_in-on_sub i (mark marks.CloseBracket ∷ z))
+
+names_in-on : (e : Expr) (z : List Sign) → names_in (on e z) ≡ map (λ u. u.0) (uses e) ++ names_in z
 names_in-on (name n) z = refl
 names_in-on (number place n) z = refl
-names_in-on (binary place op a b) z = names_in-on a (operator_at place op ∷ on b z) ∙ ap (λ ns. uses a ++ ns) (names_in-on b z) ∙ sym (append_assoc (uses a) (uses b) (names_in z))
+names_in-on (element l) z = names_in-on_element l z
+names_in-on (binary place op a b) z = names_in-on a (operator_at place op ∷ on b z) ∙ ap (λ ns. map (λ u. u.0) (uses a) ++ ns) (names_in-on b z)
+    ∙ sym (append_assoc (map (λ u. u.0) (uses a)) (map (λ u. u.0) (uses b)) (names_in z)) ∙ ap (λ ns. ns ++ names_in z) (sym (map-append (λ u. u.0) (uses a) (uses b)))
 
 names_in-on_item : (i : Item) (z : List Sign) → names_in (on_item i z) ≡ item_names i ++ names_in z
 names_in-on_item (declare place n value) z = ap (λ ns. n ∷ ns) (names_in-on value _)
+names_in-on_item (allocate place star n size_place size) z = refl
+names_in-on_item (assign target value) z = names_in-on_element target _ ∙ ap (λ ns. map (λ u. u.0) (element_uses target) ++ ns) (names_in-on value (mark marks.Semicolon ∷ z))
+    ∙ sym (append_assoc (map (λ u. u.0) (element_uses target)) (map (λ u. u.0) (uses value)) (names_in z)) ∙ ap (λ ns. ns ++ names_in z) (sym (map-append (λ u. u.0) (element_uses target) (uses value)))
+names_in-on_item (release place n) z = refl
 names_in-on_item (print place value) z = names_in-on value _
 names_in-on_item (give place value) z = names_in-on value _
 
@@ -64,6 +78,7 @@ no_word : (from : ℕ) (w : Word) → sign_names (sign_of_word from w) ≡ []
 no_word from words.Int = refl
 no_word from words.Printf = refl
 no_word from words.Return = refl
+no_word from words.Free = refl
 no_word from w = refl
 
 no_mark : (from : ℕ) (m : Mark) → sign_names (sign_of_mark from m) ≡ []

@@ -3,15 +3,16 @@ use Rattle.std.proofs.Common.{◌≡◌, ℕ, ◌+◌, ◌<◌, List, [], ◌∷
 use Rattle.std.specs.List.{flat_map}
 use Rattle.std.proofs.lemmas.List.{append-nil, take-append-drop, drop_more, take_more}
 use Rattle.std.proofs.lemmas.List.Concat.{flat_map-append}
-use Rattle.std.proofs.lemmas.List.Elements.{All-append}
+use Rattle.std.proofs.lemmas.List.Elements.{All-nil, All-cons, All-append}
 use Rattle.c_lex.specs.declared.refusal.Refusal.{Refusal}
 use Rattle.c_parse.specs.declared.syntax.Name.{Name}
+use Rattle.c_parse.specs.declared.syntax.Sort.{Sort}
 use Rattle.c_parse.specs.declared.syntax.Factor.{Factor}
 use Rattle.c_parse.specs.declared.syntax.Addend.{Addend}
 use Rattle.c_parse.specs.Trees.{Expr, binary}
 use Rattle.c_parse.specs.Views.{atom_view, term_view, times, plus}
 use Rattle.c_parse.specs.Names.{uses}
-use Rattle.c_parse.specs.Scope.{IsKnown, FirstUnknown}
+use Rattle.c_parse.specs.Scope.{IsKnownAs, IsMisused, FirstMisused}
 
 -- ---- lists
 
@@ -23,25 +24,41 @@ flat_map_at f xs i d lt = ap (flat_map f) (sym (take-append-drop i xs)) ∙ flat
 flat_map_more_at : {X A : Type 0} (f : X → List A) (xs : List X) (i : ℕ) (d : X) → i < length xs → flat_map f (take (i + 1) xs) ≡ flat_map f (take i xs) ++ f (get_or xs i d)
 flat_map_more_at f xs i d lt = ap (flat_map f) (take_more xs i d lt) ∙ flat_map-append f (take i xs) (get_or xs i d ∷ []) ∙ ap (λ ys. flat_map f (take i xs) ++ ys) (append-nil (f (get_or xs i d)))
 
--- ---- the first unknown name
+-- ---- the first use at fault
 
--- the first unknown name of a part is that of the whole, where all names before the part are known
-pub FirstUnknown-middle : (text : List ℕ) (known : List (List ℕ)) (front mid back all : List Name) (r : Refusal) → all ≡ front ++ (mid ++ back) → All (IsKnown text known) front → FirstUnknown text known mid r
-    → FirstUnknown text known all r
-FirstUnknown-middle text known front mid back all r e f h = record {
+-- the first use at fault of a part is that of the whole, where all uses before the part are known
+pub FirstMisused-middle : (text : List ℕ) (known : List (List ℕ × Sort)) (front mid back all : List (Name × Sort)) (r : Refusal) → all ≡ front ++ (mid ++ back) → All (IsKnownAs text known) front → FirstMisused text known mid r
+    → FirstMisused text known all r
+FirstMisused-middle text known front mid back all r e f h = record {
   before = front ++ h.before;
-  name = h.name;
+  misused = h.misused;
   after = h.after ++ back;
-  split = e ∙ ap (λ ns. front ++ (ns ++ back)) h.split ∙ ap (λ ns. front ++ ns) (append_assoc h.before (h.name ∷ h.after) back) ∙ sym (append_assoc front h.before (h.name ∷ (h.after ++ back)));
-  earlier = All-append (IsKnown text known) front h.before f h.earlier;
-  unknown = h.unknown;
-  place = h.place;
-  kind = h.kind;
+  split = e ∙ ap (λ ns. front ++ (ns ++ back)) h.split ∙ ap (λ ns. front ++ ns) (append_assoc h.before (h.misused ∷ h.after) back) ∙ sym (append_assoc front h.before (h.misused ∷ (h.after ++ back)));
+  earlier = All-append (IsKnownAs text known) front h.before f h.earlier;
+  here = h.here;
 }
+
+-- the first use of all is at fault
+pub FirstMisused-head : (text : List ℕ) (known : List (List ℕ × Sort)) (u : Name × Sort) (rest all : List (Name × Sort)) (r : Refusal) → all ≡ u ∷ rest → IsMisused text known u r → FirstMisused text known all r
+FirstMisused-head text known u rest all r e h = record { before = []; misused = u; after = rest; split = e; earlier = All-nil (IsKnownAs text known); here = h }
+
+-- the first use at fault of the part in front
+pub FirstMisused-front : (text : List ℕ) (known : List (List ℕ × Sort)) (front back all : List (Name × Sort)) (r : Refusal) → all ≡ front ++ back → FirstMisused text known front r → FirstMisused text known all r
+FirstMisused-front text known front back all r e h = FirstMisused-middle text known [] front back all r e (All-nil (IsKnownAs text known)) h
+
+-- the first use at fault of the part behind, where all uses in front are known
+pub FirstMisused-back : (text : List ℕ) (known : List (List ℕ × Sort)) (front back all : List (Name × Sort)) (r : Refusal) → all ≡ front ++ back → All (IsKnownAs text known) front → FirstMisused text known back r
+    → FirstMisused text known all r
+FirstMisused-back text known front back all r e f h = FirstMisused-middle text known front back [] all r (e ∙ ap (λ us. front ++ us) (sym (append-nil back))) f h
+
+-- the first use at fault of those behind the first, which is known
+pub FirstMisused-tail : (text : List ℕ) (known : List (List ℕ × Sort)) (u : Name × Sort) (rest all : List (Name × Sort)) (r : Refusal) → all ≡ u ∷ rest → IsKnownAs text known u → FirstMisused text known rest r
+    → FirstMisused text known all r
+FirstMisused-tail text known u rest all r e k h = FirstMisused-back text known (u ∷ []) rest all r e (All-cons (IsKnownAs text known) u [] k (All-nil (IsKnownAs text known))) h
 
 -- ---- products
 
-abbrev pub factor_uses : Factor → List Name
+abbrev pub factor_uses : Factor → List (Name × Sort)
 factor_uses f = uses (atom_view f.atom)
 
 pub uses-times : (e : Expr) (fs : List Factor) → uses (times e fs) ≡ uses e ++ flat_map factor_uses fs
@@ -65,7 +82,7 @@ uses-times_more e fs i f lt is = uses-times e (take (i + 1) fs) ∙ ap (λ ns. u
 
 -- ---- sums
 
-abbrev pub addend_uses : Addend → List Name
+abbrev pub addend_uses : Addend → List (Name × Sort)
 addend_uses a = uses (term_view a.term)
 
 pub uses-plus : (e : Expr) (as_ : List Addend) → uses (plus e as_) ≡ uses e ++ flat_map addend_uses as_

@@ -1,17 +1,22 @@
 -- The laws of single signs.
-use Rattle.std.proofs.Common.{◌≡◌, Some, Bool, true, false, refl, ap}
+use Rattle.std.proofs.Common.{◌≡◌, ℕ, [], ◌∷◌, Some, Bool, true, false, pos, refl, ap}
 use denote.Enum.Bare.{sameb, same_true, true_same}
+use Rattle.ak_words.specs.declared.number.Num.{Num}
+use Rattle.ak_words.specs.declared.operation.Op.TheVariants as ops
+use Rattle.ak_words.specs.IntType.{int}
+use Rattle.ak_words.specs.Num.{num}
 use Rattle.c_lex.specs.declared.token.Word.{Word}
 use Rattle.c_lex.specs.declared.token.Mark.{Mark}
 use Rattle.c_lex.specs.contracts.token.Word.{the_type as word_type}
 use Rattle.c_lex.specs.contracts.token.Mark.{the_type as mark_type}
 use Rattle.c_parse.specs.declared.syntax.Name.{Name}
-use Rattle.c_parse.specs.Trees.{name_at, word_at, word, mark, format}
+use Rattle.c_parse.specs.Trees.{Sub, sub_name, sub_number, name_at, number_at, operator_at, word_at, word, mark, format, on_sub}
 use Rattle.c_parse.specs.Readers.{one}
-use Rattle.c_parse.specs.Reading.{if_so, name_of, mark_of, word_of, placed_of, format_of}
-use Rattle.c_parse.proofs.Spellings.{Class, sign_class}
-use Rattle.c_parse.proofs.Soundness.{Spells}
-use Rattle.c_parse.proofs.Completeness.{Anything}
+use Rattle.c_parse.specs.Reading.{if_so, name_of, number_of, sub_of, star_of, mark_of, word_of, placed_of, format_of}
+use Rattle.c_parse.proofs.Spellings.{Onto, onto_sign, Class, sign_class}
+use Rattle.c_parse.proofs.Soundness.{Sound, Spells, refused}
+use Rattle.c_parse.proofs.Steadiness.{one_steady}
+use Rattle.c_parse.proofs.Completeness.{Complete, Anything}
 use Rattle.c_parse.proofs.Lawful.{Lawful, token}
 
 -- a class that is given where a test holds
@@ -34,6 +39,56 @@ name_back _ a e = absurd cc
 
 pub name_lawful : Lawful names Anything (one name_of)
 name_lawful = token name_at (λ n. tt) no_name name_of name_back (λ n. refl)
+
+-- ---- numbers
+
+-- a number, and its place
+abbrev pub numbers : Class
+numbers = sign_class (λ (x : ℕ × Num). number_at x.0 x.1) (λ x. tt) (0, num int (pos 0))
+
+number_back : Spells (λ (x : ℕ × Num). number_at x.0 x.1) number_of
+number_back (number_at place n) a e = let is : (place, n) ≡ a = cc in rw (← is) refl
+number_back _ a e = absurd cc
+
+pub number_lawful : Lawful numbers Anything (one number_of)
+number_lawful = token (λ (x : ℕ × Num). number_at x.0 x.1) (λ x. tt) (0, num int (pos 0)) number_of number_back (λ x. refl)
+
+-- ---- what stands between brackets
+
+-- its spelling is a front of signs
+pub onto_sub : (i : Sub) → Onto (on_sub i)
+onto_sub (sub_name n) = onto_sign (name_at n) tt
+onto_sub (sub_number place n) = onto_sign (number_at place n) tt
+
+-- a name or a number
+abbrev pub subs : Class
+subs = record { Tree = Sub; spell = on_sub; Is = λ _. Unit {0}; onto = onto_sub; some = sub_name no_name; some_is = tt }
+
+sub_sound : Sound subs (one sub_of)
+sub_sound [] = refused subs []
+sub_sound (name_at n ∷ ss) = record { fits = tt; parts = refl }
+sub_sound (number_at place n ∷ ss) = record { fits = tt; parts = refl }
+sub_sound (s ∷ ss) = refused subs (s ∷ ss)
+
+sub_complete : Complete subs Anything (one sub_of)
+sub_complete (sub_name n) f z g = refl
+sub_complete (sub_number place n) f z g = refl
+
+pub sub_lawful : Lawful subs Anything (one sub_of)
+sub_lawful = record { sound = sub_sound; steady = one_steady sub_of; complete = sub_complete }
+
+-- ---- stars
+
+-- a star before a name
+abbrev pub stars : Class
+stars = sign_class (λ place. operator_at place ops.Mul) (λ place. tt) 0
+
+star_back : Spells (λ place. operator_at place ops.Mul) star_of
+star_back (operator_at place ops.Mul) a e = cc
+star_back _ a e = absurd cc
+
+pub star_lawful : Lawful stars Anything (one star_of)
+star_lawful = token (λ place. operator_at place ops.Mul) (λ place. tt) 0 star_of star_back (λ place. refl)
 
 -- ---- marks
 

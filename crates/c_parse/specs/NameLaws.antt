@@ -9,6 +9,6 @@ use Rattle.c_parse.specs.Occurrences.{StandInOrder}
 abbrev pub HaveOneFault : Type 0
 HaveOneFault = (text : List ℕ) (items : List Item) → StandInOrder text items → (r other : Refusal) → FirstMisname text items r → FirstMisname text items other → other ≡ r
 
--- and none where each is declared before its use, and once
+-- and none where each is declared before its use, once, and as what its use asks for
 abbrev pub HaveNoneWhereWell : Type 0
 HaveNoneWhereWell = (text : List ℕ) (items : List Item) (r : Refusal) → IsWellNamed text items → FirstMisname text items r → ⊥

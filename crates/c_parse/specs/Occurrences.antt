@@ -1,5 +1,5 @@
 -- Where the names of a file stand.
-use Rattle.std.specs.Prelude.{ℕ, ◌<◌, ◌≤◌, List, ◌++◌, length, All, AllPairs}
+use Rattle.std.specs.Prelude.{ℕ, ◌<◌, ◌≤◌, List, ◌++◌, length, map, All, AllPairs}
 use Rattle.std.specs.List.{flat_map}
 use Rattle.c_parse.specs.declared.syntax.Name.{Name}
 use Rattle.c_parse.specs.Trees.{Item}
@@ -7,7 +7,7 @@ use Rattle.c_parse.specs.Names.{item_uses, item_declares}
 
 -- the names of an item, from left to right
 abbrev pub item_names : Item → List Name
-item_names i = item_declares i ++ item_uses i
+item_names i = map (λ u. u.0) (item_declares i ++ item_uses i)
 
 -- the names of the items, from left to right
 abbrev pub names_of : List Item → List Name

@@ -2,6 +2,7 @@
 use Rattle.std.specs.Prelude.{◌≡◌, ℕ, zero, suc, List, [], ◌∷◌, length, Option, Some, None, Result, Ok, Err, Bool, true, false, ◌==◌}
 use denote.Enum.Bare.{sameb}
 use Rattle.std.specs.Option.{option_map}
+use Rattle.ak_words.specs.declared.number.Num.{Num}
 use Rattle.ak_words.specs.declared.operation.Op.{Op}
 use Rattle.ak_words.specs.declared.operation.Op.TheVariants as ops
 use Rattle.c_lex.specs.declared.token.Word.{Word}
@@ -16,10 +17,14 @@ use Rattle.c_parse.specs.Views.{add_op_view}
 use Rattle.c_parse.specs.declared.parser.Parser.{Parser}
 use Rattle.c_parse.specs.declared.parser.Stop.{Stop}
 use Rattle.c_parse.specs.declared.parser.Stop.TheVariants as stops
+use Rattle.c_parse.specs.declared.reading_tokens.NameStart.{NameStart}
+use Rattle.c_parse.specs.declared.reading_tokens.NameStart.TheVariants as name_starts
+use Rattle.c_parse.specs.declared.reading_tokens.AtomStart.{AtomStart}
+use Rattle.c_parse.specs.declared.reading_tokens.AtomStart.TheVariants as atom_starts
 use Rattle.c_parse.specs.declared.reading_tokens.ItemStart.{ItemStart}
 use Rattle.c_parse.specs.declared.reading_tokens.ItemStart.TheVariants as starts
-use Rattle.c_parse.specs.Trees.{Expr, name, number, binary, Item, declare, print, give, File, Sign, name_at, number_at, operator_at, word_at, word, mark, format, end, sign_of_word, sign_of_mark, signs, level}
-use Rattle.c_parse.specs.Readers.{Fault, bad, ◌>>=◌, Reads, one, maybe, ◌&◌, made, choice, Turn, again, last, repeat, row}
+use Rattle.c_parse.specs.Trees.{Sub, sub_name, sub_number, Element, deref, subscript, Expr, name, number, element, binary, Item, declare, allocate, assign, release, print, give, File, Sign, name_at, number_at, operator_at, word_at, word, mark, format, end, sign_of_word, sign_of_mark, signs, level}
+use Rattle.c_parse.specs.Readers.{Fault, bad, ◌>>=◌, Reads, one, maybe, ahead, ◌&◌, made, choice, Turn, again, last, repeat, row}
 
 -- ---- classes of signs
 
@@ -33,11 +38,21 @@ abbrev pub name_of : Sign → Option Name
 name_of (name_at n) = Some n
 name_of _ = None
 
--- an operand: a name or a number
-abbrev pub atom_of : Sign → Option Expr
-atom_of (name_at n) = Some (name n)
-atom_of (number_at place n) = Some (number place n)
-atom_of _ = None
+-- a number, and its place
+abbrev pub number_of : Sign → Option (ℕ × Num)
+number_of (number_at place n) = Some (place, n)
+number_of _ = None
+
+-- what may stand between brackets: a name or a number
+abbrev pub sub_of : Sign → Option Sub
+sub_of (name_at n) = Some (sub_name n)
+sub_of (number_at place n) = Some (sub_number place n)
+sub_of _ = None
+
+-- the place of a star
+abbrev pub star_of : Sign → Option ℕ
+star_of (operator_at place ops.Mul) = Some place
+star_of _ = None
 
 -- the operator of a level, and its place
 abbrev pub operator_of : ℕ → Sign → Option (ℕ × Op)
@@ -64,12 +79,73 @@ abbrev pub format_of : Sign → Option (Unit {0})
 format_of format = Some tt
 format_of _ = None
 
+-- what begins what a name stands in: the name, or a star before it
+abbrev pub name_start_of : Sign → Option NameStart
+name_start_of (name_at n) = Some name_starts.Name
+name_start_of (operator_at place ops.Mul) = Some name_starts.Star
+name_start_of _ = None
+
+-- what begins an operand
+abbrev pub atom_start_of : Sign → Option AtomStart
+atom_start_of (name_at n) = Some atom_starts.Name
+atom_start_of (number_at place n) = Some atom_starts.Number
+atom_start_of (operator_at place ops.Mul) = Some atom_starts.Star
+atom_start_of _ = None
+
 -- what begins an item
 abbrev pub start_of : Sign → Option ItemStart
 start_of (word_at place words.Int) = Some starts.Declaration
+start_of (word_at place words.Free) = Some starts.Free
 start_of (word_at place words.Printf) = Some starts.Print
 start_of (word_at place words.Return) = Some starts.Return
+start_of (name_at n) = Some starts.Assignment
+start_of (operator_at place ops.Mul) = Some starts.Assignment
 start_of _ = None
+
+-- ---- what a pointer leads to
+
+-- "[" sub "]"
+unfoldable pub bracketed : Reads Sub
+bracketed = made (λ (_, (i, _)). i) (one (mark_of marks.OpenBracket) & one sub_of & one (mark_of marks.CloseBracket))
+
+-- "*" NAME
+unfoldable pub dereference : Reads Element
+dereference = made (λ (place, n). deref place n) (one star_of & one name_of)
+
+-- NAME "[" sub "]"
+unfoldable pub subscripted : Reads Element
+subscripted = made (λ (n, i). subscript n i) (one name_of & bracketed)
+
+-- which of the two a sign begins
+abbrev pub target_by : NameStart → Reads Element
+target_by name_starts.Name = subscripted
+target_by name_starts.Star = dereference
+
+-- "*" NAME | NAME "[" sub "]"
+unfoldable pub target : Reads Element
+target = choice name_start_of target_by
+
+-- ---- operands
+
+-- what a name begins: with a bracket behind it the int that its pointer leads to, else the name alone
+abbrev pub behind_name : Name → Bool → Reads Expr
+behind_name n true ss = do
+  i ← bracketed ss
+  Ok (element (subscript n i.0), i.1)
+behind_name n false ss = Ok (name n, ss)
+
+-- NAME | NAME "[" sub "]"
+unfoldable pub named : Reads Expr
+named ss = do
+  n ← one name_of ss
+  b ← ahead (mark_of marks.OpenBracket) n.1
+  behind_name n.0 b.0 b.1
+
+-- which operand a sign begins
+abbrev pub atom_by : AtomStart → Reads Expr
+atom_by atom_starts.Name = named
+atom_by atom_starts.Number = made (λ (place, n). number place n) (one number_of)
+atom_by atom_starts.Star = made element dereference
 
 -- ---- expressions
 
@@ -94,15 +170,48 @@ chain k next ss = do
 
 -- an expression of h levels of operators
 unfoldable pub ladder : ℕ → Reads Expr
-ladder zero = one atom_of
+ladder zero = choice atom_start_of atom_by
 ladder (suc k) = chain k (ladder k)
 
 -- ---- items
 
--- "int" NAME "=" expr ";"
+-- what stands behind "int": the name of an int and its value; or a star, the name of a pointer, and the size of its malloc
+pub data Declared : Type 0 where
+  an_int : (n : Name) (value : Expr) → Declared
+  a_pointer : (star : ℕ) (n : Name) (size_place : ℕ) (size : Num) → Declared
+
+-- the item, at the place of "int"
+abbrev pub declared_at : ℕ → Declared → Item
+declared_at place (an_int n value) = declare place n value
+declared_at place (a_pointer star n size_place size) = allocate place star n size_place size
+
+-- NAME "=" expr ";"
+unfoldable pub int_declared : Reads Declared
+int_declared = made (λ (n, (_, (value, _))). an_int n value) (one name_of & one (mark_of marks.Assign) & ladder 2 & one (mark_of marks.Semicolon))
+
+-- "*" NAME "=" "malloc" "(" DIGITS ")" ";"
+unfoldable pub pointer_declared : Reads Declared
+pointer_declared = made (λ (star, (n, (_, (_, (_, (size, _)))))). a_pointer star n size.0 size.1)
+    (one star_of & one name_of & one (mark_of marks.Assign) & one (word_of words.Malloc) & one (mark_of marks.OpenParen) & one number_of
+    & one (mark_of marks.CloseParen) & one (mark_of marks.Semicolon))
+
+-- which of the two a sign begins
+abbrev pub declared_by : NameStart → Reads Declared
+declared_by name_starts.Name = int_declared
+declared_by name_starts.Star = pointer_declared
+
+-- "int" NAME "=" expr ";" | "int" "*" NAME "=" "malloc" "(" DIGITS ")" ";"
 unfoldable pub declaration : Reads Item
-declaration = made (λ (place, (n, (_, (value, _)))). declare place n value)
-    (one (placed_of words.Int) & one name_of & one (mark_of marks.Assign) & ladder 2 & one (mark_of marks.Semicolon))
+declaration = made (λ (place, d). declared_at place d) (one (placed_of words.Int) & choice name_start_of declared_by)
+
+-- "*" NAME "=" expr ";" | NAME "[" sub "]" "=" expr ";"
+unfoldable pub assignment : Reads Item
+assignment = made (λ (l, (_, (value, _))). assign l value) (target & one (mark_of marks.Assign) & ladder 2 & one (mark_of marks.Semicolon))
+
+-- "free" "(" NAME ")" ";"
+unfoldable pub free_statement : Reads Item
+free_statement = made (λ (place, (_, (n, _))). release place n)
+    (one (placed_of words.Free) & one (mark_of marks.OpenParen) & one name_of & one (mark_of marks.CloseParen) & one (mark_of marks.Semicolon))
 
 -- "printf" "(" "\"%d\\n\"" "," expr ")" ";"
 unfoldable pub print_statement : Reads Item
@@ -115,13 +224,15 @@ unfoldable pub return_statement : Reads Item
 return_statement = made (λ (place, (value, _)). give place value)
     (one (placed_of words.Return) & ladder 2 & one (mark_of marks.Semicolon))
 
--- which item a word begins
+-- which item a sign begins
 abbrev pub item_by : ItemStart → Reads Item
 item_by starts.Declaration = declaration
+item_by starts.Assignment = assignment
+item_by starts.Free = free_statement
 item_by starts.Print = print_statement
 item_by starts.Return = return_statement
 
--- a declaration, a print or a return
+-- a declaration or a statement
 unfoldable pub item : Reads Item
 item = choice start_of item_by
 

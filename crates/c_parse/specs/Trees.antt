@@ -15,15 +15,30 @@ use Rattle.c_parse.specs.declared.syntax.Name.{Name}
 
 -- ---- trees, without where they lie in memory
 
+-- what stands between brackets
+pub data Sub : Type 0 where
+  sub_name : (n : Name) → Sub
+  sub_number : (place : ℕ) (n : Num) → Sub
+
+-- the int that a pointer leads to: *p, with the place of the star, or p[i] (C11 6.5.3.2, 6.5.2.1)
+pub data Element : Type 0 where
+  deref : (place : ℕ) (n : Name) → Element
+  subscript : (n : Name) (i : Sub) → Element
+
 -- an expression; a place is that of its name, number or operator
 pub data Expr : Type 0 where
   name : (n : Name) → Expr
   number : (place : ℕ) (n : Num) → Expr
+  element : (l : Element) → Expr
   binary : (place : ℕ) (op : Op) (left right : Expr) → Expr
 
--- a declaration, a print or a return; the place is that of its first word
+-- a declaration of an int; one of a pointer with its malloc, and the places of the star and of the size; an assignment to an
+-- int that a pointer leads to; a free; a print; a return. The place is that of the first word
 pub data Item : Type 0 where
   declare : (place : ℕ) (n : Name) (value : Expr) → Item
+  allocate : (place star : ℕ) (n : Name) (size_place : ℕ) (size : Num) → Item
+  assign : (target : Element) (value : Expr) → Item
+  release : (place : ℕ) (n : Name) → Item
   print : (place : ℕ) (value : Expr) → Item
   give : (place : ℕ) (value : Expr) → Item
 
@@ -50,6 +65,7 @@ abbrev pub sign_of_word : ℕ → Word → Sign
 sign_of_word place words.Int = word_at place words.Int
 sign_of_word place words.Printf = word_at place words.Printf
 sign_of_word place words.Return = word_at place words.Return
+sign_of_word place words.Free = word_at place words.Free
 sign_of_word place w = word w
 
 -- a mark; an operator keeps its place
@@ -78,15 +94,30 @@ signs ts = map sign_of ts
 
 -- ---- spellings: of a tree, and then other tokens
 
+-- what stands between brackets
+abbrev pub on_sub : Sub → List Sign → List Sign
+on_sub (sub_name n) z = name_at n ∷ z
+on_sub (sub_number place n) z = number_at place n ∷ z
+
+-- an int that a pointer leads to
+abbrev pub on_element : Element → List Sign → List Sign
+on_element (deref place n) z = operator_at place ops.Mul ∷ name_at n ∷ z
+on_element (subscript n i) z = name_at n ∷ mark marks.OpenBracket ∷ on_sub i (mark marks.CloseBracket ∷ z)
+
 -- an expression, operands and operators from left to right
 abbrev pub on : Expr → List Sign → List Sign
 on (name n) z = name_at n ∷ z
 on (number place n) z = number_at place n ∷ z
+on (element l) z = on_element l z
 on (binary place op a b) z = on a (operator_at place op ∷ on b z)
 
 -- an item
 abbrev pub on_item : Item → List Sign → List Sign
 on_item (declare place n value) z = word_at place words.Int ∷ name_at n ∷ mark marks.Assign ∷ on value (mark marks.Semicolon ∷ z)
+on_item (allocate place star n size_place size) z = word_at place words.Int ∷ operator_at star ops.Mul ∷ name_at n ∷ mark marks.Assign
+    ∷ word words.Malloc ∷ mark marks.OpenParen ∷ number_at size_place size ∷ mark marks.CloseParen ∷ mark marks.Semicolon ∷ z
+on_item (assign target value) z = on_element target (mark marks.Assign ∷ on value (mark marks.Semicolon ∷ z))
+on_item (release place n) z = word_at place words.Free ∷ mark marks.OpenParen ∷ name_at n ∷ mark marks.CloseParen ∷ mark marks.Semicolon ∷ z
 on_item (print place value) z = word_at place words.Printf ∷ mark marks.OpenParen ∷ format ∷ mark marks.Comma
     ∷ on value (mark marks.CloseParen ∷ mark marks.Semicolon ∷ z)
 on_item (give place value) z = word_at place words.Return ∷ on value (mark marks.Semicolon ∷ z)
@@ -114,11 +145,15 @@ level _ = 2
 abbrev pub Fits : ℕ → Expr → Type 0
 Fits h (name n) = Unit {0}
 Fits h (number place n) = Unit {0}
+Fits h (element l) = Unit {0}
 Fits h (binary place op a b) = (level op < h) × Fits (suc (level op)) a × Fits (level op) b
 
 -- the item's expression may stand where each operator of the language may
 abbrev pub IsItem : Item → Type 0
 IsItem (declare place n value) = Fits 2 value
+IsItem (allocate place star n size_place size) = Unit {0}
+IsItem (assign target value) = Fits 2 value
+IsItem (release place n) = Unit {0}
 IsItem (print place value) = Fits 2 value
 IsItem (give place value) = Fits 2 value
 

@@ -1,5 +1,5 @@
 -- What the trees of the program are.
-use Rattle.std.specs.Prelude.{ℕ, List, [], ◌∷◌, map}
+use Rattle.std.specs.Prelude.{List, [], ◌∷◌, map}
 use Rattle.ak_words.specs.declared.operation.Op.{Op}
 use Rattle.ak_words.specs.declared.operation.Op.TheVariants as ops
 use Rattle.c_parse.specs.declared.syntax.Atom.{Atom}
@@ -10,16 +10,30 @@ use Rattle.c_parse.specs.declared.syntax.AddOp.{AddOp}
 use Rattle.c_parse.specs.declared.syntax.AddOp.TheVariants as add_ops
 use Rattle.c_parse.specs.declared.syntax.Addend.{Addend}
 use Rattle.c_parse.specs.declared.syntax.Expr.{Expr as CodeExpr}
-use Rattle.c_parse.specs.declared.syntax.ItemNode.{ItemNode}
-use Rattle.c_parse.specs.declared.syntax.ItemNode.TheVariants as nodes
+use Rattle.c_parse.specs.declared.syntax.Subscript.{Subscript}
+use Rattle.c_parse.specs.declared.syntax.Subscript.TheVariants as subscripts
+use Rattle.c_parse.specs.declared.syntax.Element.{Element as CodeElement}
+use Rattle.c_parse.specs.declared.syntax.Element.TheVariants as elements
 use Rattle.c_parse.specs.declared.syntax.Item.{Item as CodeItem}
+use Rattle.c_parse.specs.declared.syntax.Item.TheVariants as items
 use Rattle.c_parse.specs.declared.syntax.Program.{Program}
-use Rattle.c_parse.specs.Trees.{Expr, name, number, binary, Item, declare, print, give, File}
+use Rattle.c_parse.specs.Trees.{Sub, sub_name, sub_number, Element, deref, subscript, Expr, name, number, element, binary, Item, declare, allocate, assign, release, print, give, File}
 
--- a name or a number
+-- what stands between brackets
+abbrev pub sub_view : Subscript → Sub
+sub_view (subscripts.Name n) = sub_name n
+sub_view (subscripts.Number place value) = sub_number place value
+
+-- an int that a pointer leads to
+abbrev pub element_view : CodeElement → Element
+element_view (elements.Deref place n) = deref place n
+element_view (elements.Subscripted n i) = subscript n (sub_view i)
+
+-- a name, a number or an int that a pointer leads to
 abbrev pub atom_view : Atom → Expr
 atom_view (atoms.Name n) = name n
 atom_view (atoms.Number place value) = number place value
+atom_view (atoms.Element l) = element (element_view l)
 
 -- the factors multiply what stands before them, one after the other
 abbrev pub times : Expr → List Factor → Expr
@@ -44,15 +58,14 @@ plus left (a ∷ as_) = plus (binary a.place (add_op_view a.op) left (term_view 
 abbrev pub expr_view : CodeExpr → Expr
 expr_view e = plus (term_view e.first) e.rest.items
 
--- an item, at the place of its first word
-abbrev pub node_view : ℕ → ItemNode → Item
-node_view place (nodes.Declare n value) = declare place n (expr_view value)
-node_view place (nodes.Print value) = print place (expr_view value)
-node_view place (nodes.Return value) = give place (expr_view value)
-
 -- an item of the program
 abbrev pub item_view : CodeItem → Item
-item_view i = node_view i.place i.node
+item_view (items.Declare place n value) = declare place n (expr_view value)
+item_view (items.Allocate a) = allocate a.place a.star a.pointer a.size_place a.size
+item_view (items.Assign target value) = assign (element_view target) (expr_view value)
+item_view (items.Free place n) = release place n
+item_view (items.Print place value) = print place (expr_view value)
+item_view (items.Return place value) = give place (expr_view value)
 
 -- a program
 abbrev pub view : Program → File

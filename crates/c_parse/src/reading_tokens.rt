@@ -3,13 +3,31 @@
 ghost use Rattle.std.specs.Prelude.{◌≡◌};
 
 use crate::parser::{Parser, Stop};
-use crate::syntax::{AddOp, Name};
+use crate::syntax::{AddOp, Name, Subscript};
+use ak_words::Num;
 use c_lex::{Mark, TokenKind, Word};
 
-/// The items, told apart by their first words.
+/// What begins what a name stands in: the name, or a star before it.
+#[derive(Clone, Copy, Debug, PartialEq, Eq)]
+pub enum NameStart {
+    Name,
+    Star,
+}
+
+/// The operands, told apart by their first tokens.
+#[derive(Clone, Copy, Debug, PartialEq, Eq)]
+pub enum AtomStart {
+    Name,
+    Number,
+    Star,
+}
+
+/// The items, told apart by their first tokens.
 #[derive(Clone, Copy, Debug, PartialEq, Eq)]
 pub enum ItemStart {
     Declaration,
+    Assignment,
+    Free,
     Print,
     Return,
 }
@@ -17,8 +35,9 @@ pub enum ItemStart {
 // One token each.
 impl Parser<'_> {
     ghost use Rattle.std.specs.Prelude.{length};
+    ghost use Rattle.c_parse.specs.Views.{sub_view};
     ghost use Rattle.c_parse.specs.Readers.{one, maybe, ahead, peek};
-    ghost use Rattle.c_parse.specs.Reading.{Moves, Gives, star_view, additive_view, name_of, operator_of, mark_of, word_of, placed_of, format_of, start_of, at_end, IsSeparator, IsFirstWord, IsInnerWord};
+    ghost use Rattle.c_parse.specs.Reading.{Moves, Gives, star_view, additive_view, name_of, number_of, sub_of, star_of, operator_of, mark_of, word_of, placed_of, format_of, name_start_of, atom_start_of, start_of, at_end, IsSeparator, IsFirstWord, IsInnerWord};
 
     /// The refusal of the next token.
     pub fn unexpected(&self) -> Stop
@@ -41,6 +60,60 @@ impl Parser<'_> {
                     from: token.from,
                     to: token.to,
                 })
+            }
+            _ => Err(self.unexpected()),
+        }
+    }
+
+    /// `DIGITS`: its place and its value.
+    pub fn digits(&mut self) -> Result<(u32, Num), Stop>
+        ensures { Moves (λ d. d) (one number_of) self.old self.new result }
+    {
+        let [token, rest @ ..] = self.rest else {
+            return Err(self.unexpected());
+        };
+        match token.kind {
+            TokenKind::Int(value) => {
+                self.rest = rest;
+                Ok((token.from, value))
+            }
+            _ => Err(self.unexpected()),
+        }
+    }
+
+    /// `NAME | DIGITS`, between brackets.
+    pub fn subscript(&mut self) -> Result<Subscript, Stop>
+        ensures { Moves sub_view (one sub_of) self.old self.new result }
+    {
+        let [token, rest @ ..] = self.rest else {
+            return Err(self.unexpected());
+        };
+        let subscript = match token.kind {
+            TokenKind::Name => Subscript::Name(Name {
+                from: token.from,
+                to: token.to,
+            }),
+            TokenKind::Int(value) => Subscript::Number {
+                place: token.from,
+                value,
+            },
+            _ => return Err(self.unexpected()),
+        };
+        self.rest = rest;
+        Ok(subscript)
+    }
+
+    /// The place of a star before a name.
+    pub fn name_star(&mut self) -> Result<u32, Stop>
+        ensures { Moves (λ place. place) (one star_of) self.old self.new result }
+    {
+        let [token, rest @ ..] = self.rest else {
+            return Err(self.unexpected());
+        };
+        match token.kind {
+            TokenKind::Mark(Mark::Star) => {
+                self.rest = rest;
+                Ok(token.from)
             }
             _ => Err(self.unexpected()),
         }
@@ -127,7 +200,36 @@ impl Parser<'_> {
         }
     }
 
-    /// Which item the next word begins.
+    /// Whether a name is next, or a star before it.
+    pub fn name_start(&self) -> Result<NameStart, Stop>
+        ensures { Gives (λ start. start) (peek name_start_of) self.now result }
+    {
+        match self.rest {
+            [] => Err(self.unexpected()),
+            [token, ..] => match token.kind {
+                TokenKind::Name => Ok(NameStart::Name),
+                TokenKind::Mark(Mark::Star) => Ok(NameStart::Star),
+                _ => Err(self.unexpected()),
+            },
+        }
+    }
+
+    /// Which operand the next token begins.
+    pub fn atom_start(&self) -> Result<AtomStart, Stop>
+        ensures { Gives (λ start. start) (peek atom_start_of) self.now result }
+    {
+        match self.rest {
+            [] => Err(self.unexpected()),
+            [token, ..] => match token.kind {
+                TokenKind::Name => Ok(AtomStart::Name),
+                TokenKind::Int(_) => Ok(AtomStart::Number),
+                TokenKind::Mark(Mark::Star) => Ok(AtomStart::Star),
+                _ => Err(self.unexpected()),
+            },
+        }
+    }
+
+    /// Which item the next token begins.
     pub fn item_start(&self) -> Result<ItemStart, Stop>
         ensures { Gives (λ start. start) (peek start_of) self.now result }
     {
@@ -135,6 +237,8 @@ impl Parser<'_> {
             [] => Err(self.unexpected()),
             [token, ..] => match token.kind {
                 TokenKind::Word(Word::Int) => Ok(ItemStart::Declaration),
+                TokenKind::Name | TokenKind::Mark(Mark::Star) => Ok(ItemStart::Assignment),
+                TokenKind::Word(Word::Free) => Ok(ItemStart::Free),
                 TokenKind::Word(Word::Printf) => Ok(ItemStart::Print),
                 TokenKind::Word(Word::Return) => Ok(ItemStart::Return),
                 _ => Err(self.unexpected()),

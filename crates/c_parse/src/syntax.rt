@@ -7,11 +7,34 @@ pub struct Name {
     pub to: u32,
 }
 
-/// `NAME | DIGITS`
+/// What a name is declared as, and what its use asks for.
+#[derive(Clone, Copy, Debug, PartialEq, Eq)]
+pub enum Sort {
+    Int,
+    Pointer,
+}
+
+/// `NAME | DIGITS`, between brackets.
+#[derive(Clone, Copy, Debug)]
+pub enum Subscript {
+    Name(Name),
+    Number { place: u32, value: Num },
+}
+
+/// The int that a pointer leads to: `"*" NAME | NAME "[" sub "]"` (C11 6.5.3.2, 6.5.2.1).
+#[derive(Clone, Copy, Debug)]
+pub enum Element {
+    /// With the place of the star.
+    Deref { place: u32, pointer: Name },
+    Subscripted { pointer: Name, subscript: Subscript },
+}
+
+/// `NAME | DIGITS | "*" NAME | NAME "[" sub "]"`
 #[derive(Clone, Copy, Debug)]
 pub enum Atom {
     Name(Name),
     Number { place: u32, value: Num },
+    Element(Element),
 }
 
 /// `"*" atom`, with the place of the star.
@@ -50,22 +73,36 @@ pub struct Expr {
     pub rest: Vec<Addend>,
 }
 
-/// What an item does.
-#[derive(Debug, Drop)]
-pub enum ItemNode {
-    /// `"int" NAME "=" expr ";"`
-    Declare(Name, Expr),
-    /// `"printf" "(" "\"%d\\n\"" "," expr ")" ";"`
-    Print(Expr),
-    /// `"return" expr ";"`
-    Return(Expr),
+/// What `malloc` is called with, and where its pointer goes.
+#[derive(Clone, Copy, Debug)]
+pub struct Allocation {
+    /// The place of `int`.
+    pub place: u32,
+    /// The place of the star.
+    pub star: u32,
+    /// The pointer that is declared.
+    pub pointer: Name,
+    /// The place of the size.
+    pub size_place: u32,
+    /// The size in bytes.
+    pub size: Num,
 }
 
 /// A declaration or a statement of main's body, with the place of its first word.
 #[derive(Debug, Drop)]
-pub struct Item {
-    pub place: u32,
-    pub node: ItemNode,
+pub enum Item {
+    /// `"int" NAME "=" expr ";"`
+    Declare { place: u32, name: Name, value: Expr },
+    /// `"int" "*" NAME "=" "malloc" "(" DIGITS ")" ";"`
+    Allocate(Allocation),
+    /// `"*" NAME "=" expr ";" | NAME "[" sub "]" "=" expr ";"`
+    Assign { target: Element, value: Expr },
+    /// `"free" "(" NAME ")" ";"`
+    Free { place: u32, pointer: Name },
+    /// `"printf" "(" "\"%d\\n\"" "," expr ")" ";"`
+    Print { place: u32, value: Expr },
+    /// `"return" expr ";"`
+    Return { place: u32, value: Expr },
 }
 
 /// A whole file: main, with the place of its first word, and the items of its body in order.

@@ -1,9 +1,8 @@
-use Rattle.std.proofs.Common.{◌≡◌, ℕ, ◌<◌, ◌≤◌, List, ◌++◌, length, take, drop, Option, Some, refl, sym, ap, subst, ◌∙◌, arith, IfSome, length-drop, length-append}
+use Rattle.std.proofs.Common.{◌≡◌, ℕ, ◌<◌, ◌≤◌, List, ◌++◌, length, take, drop, Option, Some, ap, subst, ◌∙◌, arith, IfSome}
 use Rattle.std.proofs.lemmas.List.{length-take}
 use Rattle.std.proofs.Math.Seq.{take-append_seam}
 use Rattle.ak_io.specs.declared.outside.ReadEnd.{ReadEnd}
-use Rattle.ak_io.specs.declared.outside.ReadEnd.TheVariants.{Whole, TooLong}
-use Rattle.ak_io.specs.ReadEnd.{FitsIn, IsReadOf}
+use Rattle.ak_io.specs.ReadEnd.{IsReadOf}
 use Rattle.alaska_run.specs.Headline.{most_bytes}
 use Rattle.alaska_run.proofs.reading.read_text.Goals as goal
 

@@ -3,6 +3,7 @@ use Rattle.std.proofs.lemmas.Result.{err_from_is_err_and}
 use Rattle.c_lex.specs.declared.refusal.Refusal.{Refusal}
 use Rattle.c_lex.specs.declared.refusal.CompileFault.{CompileFault}
 use Rattle.c_lex.specs.declared.refusal.CompileFault.TheVariants.{Refused}
+use Rattle.c_parse.specs.Scope.{entry_of}
 use Rattle.c_parse.proofs.NameScopes.{IsWithin-item, FirstMisname-item, HasSeen-more, IsWellNamed-HasSeen}
 use Rattle.c_parse.proofs.names.check_names.Goals as goal
 
@@ -12,7 +13,7 @@ refusal_of (Ok x) fault P r is cases h = cc
 refusal_of (Err e) fault P r is cases h = let same : e ≡ r = cc in subst P same h
 
 pub items-init : goal.items-init
-items-init c = record { text_is = refl; known_is = ap (map (λ k. k.now)) c.new.ensures.empty; clean = tt }
+items-init c = record { text_is = refl; known_is = ap (map entry_of) c.new.ensures.empty; clean = tt }
 
 pub check_item-requires : goal.check_item-requires
 check_item-requires c =

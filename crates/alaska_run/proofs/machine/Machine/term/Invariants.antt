@@ -1,9 +1,9 @@
-use Rattle.std.proofs.Common.{◌≡◌, IfOk, take}
+use Rattle.std.proofs.Common.{◌≡◌, Ok, take}
 use Rattle.c_parse.specs.Views.{atom_view, times}
-use Rattle.alaska_run.specs.Meaning.{value}
-use Rattle.alaska_run.specs.Machine.{locals_in}
+use Rattle.alaska_run.specs.Machine.{world_in}
+use Rattle.alaska_run.proofs.Values.{comes_to}
 use Rattle.alaska_run.proofs.machine.Machine.term.Given as goal
 
--- the product so far is as it is meant
+-- the product so far
 abbrev pub invariant-factors : goal.invariant-factors
-invariant-factors l = IfOk (value l.self.text.now (locals_in l.self) (times (atom_view l.term.first) (take l.factor-index l.term.rest.items))) (λ v. l.product ≡ v)
+invariant-factors l = comes_to l.self.text.now (world_in l.self) (times (atom_view l.term.first) (take l.factor-index l.term.rest.items)) ≡ Ok l.product

@@ -1,18 +1,13 @@
-use Rattle.std.proofs.Common.{[], ap}
-use Rattle.std.proofs.lemmas.List.Elements.{All-nil}
+use Rattle.std.proofs.Common.{[], All, ap, subst, sym}
+use Rattle.std.proofs.lemmas.Result.{IfErr-weaker, on_ok_weaker}
 use Rattle.c_parse.specs.Views.{atom_view}
 use Rattle.c_parse.specs.Names.{uses}
-use Rattle.c_parse.specs.Scope.{IsKnown}
+use Rattle.c_parse.specs.Scope.{known_in, IsKnownAs}
+use Rattle.c_parse.proofs.NameUses.{FirstMisused-head}
 use Rattle.c_parse.proofs.names.Scope.check_atom.Goals as goal
 
 pub returns-in-Name-clause-refused : goal.returns-in-Name-clause-refused
-returns-in-Name-clause-refused c = record {
-  before = [];
-  name = c.in-Name.name;
-  after = [];
-  split = ap (λ a. uses (atom_view a)) c.in-Name.is;
-  earlier = All-nil (IsKnown c.args.self.now.text.now _);
-  unknown = λ h. cc (c.is_declared.ensures.1 h);
-  place = c.refusal_for.ensures.place;
-  kind = c.refusal_for.ensures.kind;
-}
+returns-in-Name-clause-refused c = IfErr-weaker c.check_use.result _ _ (λ r h. FirstMisused-head _ _ _ [] _ r (ap (λ a. uses (atom_view a)) c.in-Name.is) h) c.check_use.ensures.refused
+
+pub returns-in-Element-clause-known : goal.returns-in-Element-clause-known
+returns-in-Element-clause-known c = on_ok_weaker c.check_element.result (subst (λ a. All (IsKnownAs c.args.self.now.text.now (known_in c.args.self.now)) (uses (atom_view a))) (sym c.in-Element.is)) c.check_element.ensures.known

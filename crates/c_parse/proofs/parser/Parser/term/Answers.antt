@@ -1,9 +1,17 @@
 use Rattle.std.proofs.Common.{◌∙◌, sym}
+use Rattle.std.proofs.lemmas.List.{length-map}
 use Rattle.ak_words.specs.declared.operation.Op.TheVariants.{Mul}
+use Rattle.c_parse.specs.Trees.{signs}
 use Rattle.c_parse.specs.Views.{atom_view, times}
 use Rattle.c_parse.specs.Reading.{ladder}
-use Rattle.c_parse.proofs.ExpressionLaws.{operation_goes, times_push}
+use Rattle.c_parse.proofs.ExpressionLaws.{operation_goes, operation_falls, times_push}
 use Rattle.c_parse.proofs.parser.Parser.term.Goals as goal
+
+pub factors-smaller : goal.factors-smaller
+factors-smaller c =
+    let star = rw c.in-Some.is at c.in_ok-place.ensures in
+    let falls = operation_falls 0 (atom_view c.in_ok-atom.atom) (c.in-Some.place, Mul) (signs c.factors.self.rest.now) (signs c.star.new.self.rest.now) (signs c.atom-in-Some.new.self.rest.now) star c.in_ok-atom.ensures in
+    simp length-map at falls
 
 pub factors-preserved : goal.factors-preserved
 unfolding ladder
