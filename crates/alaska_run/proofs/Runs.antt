@@ -1,6 +1,5 @@
 -- A run of the items, one after the other.
-use Rattle.std.proofs.Common.{◌≡◌, ℕ, ℤ, pos, ◌≤◌, List, [], ◌∷◌, ◌++◌, length, drop, map, All, Option, Some, None, Result, Ok, Err, Bor, sym, ap, subst, ◌∙◌, append_assoc, append-nil}
-use Rattle.std.proofs.lemmas.List.{drop_all}
+use Rattle.std.proofs.Common.{◌≡◌, ℕ, ℤ, List, [], ◌∷◌, ◌++◌, map, All, Option, Some, None, Result, Ok, Err, Bor, sym, ap, subst, ◌∙◌, append_assoc, append-nil}
 use Rattle.c_parse.specs.declared.syntax.Item.{Item as CodeItem}
 use Rattle.c_parse.specs.Views.{item_view}
 use Rattle.c_parse.specs.Occurrences.{IsWithin, item_names, names_of}
@@ -100,12 +99,6 @@ pub ended_by : (text : List ℕ) (whole : Run ℕ Trap) (old new : Machine) (lef
 ended_by text whole old new left more i trap is h r =
     over_at_trap (step flat text (world_in old) (item_view i)).reached (λ next. run_from flat text next (map item_view more)) whole old new (step flat text (world_in old) (item_view i)).outcome
     (ends_next text whole old left more i is r) trap (subst (λ t. Trapped (step flat t (world_in old) (item_view i)).outcome old new trap) r.text_is h)
-
--- no item is left: main reached its end, and returns 0
-pub ran_out : (text : List ℕ) (whole : Run ℕ Trap) (m : Machine) (codes : List CodeItem) (k : ℕ) → length codes ≤ k → Running text whole m (drop k codes) → Over whole m.output.items (Ok (pos 0))
-ran_out text whole m codes k past r =
-    let e : Ends whole m.output.items (run_on_from text m []) = subst (λ (left : List CodeItem). Ends whole m.output.items (run_on_from text m left)) (drop_all k codes past) r.ends in
-    record { output = sym (e.output ∙ append-nil m.output.items); outcome = sym e.outcome }
 
 -- ---- the first item
 
