@@ -2,7 +2,7 @@
 use Rattle.std.proofs.Common.{◌≡◌, ◌≢◌, ℕ, zero, suc, ◌+◌, ◌<◌, ◌≤◌, ◌⊎◌, List, [], ◌∷◌, ◌++◌, length, Some, None, IsSome, slice_get, set, refl, sym, ap, subst, ◌∙◌, inl, inr, arith}
 use Rattle.std.specs.Prelude.{slice_index}
 use Rattle.std.specs.List.{Contains}
-use Rattle.std.proofs.lemmas.Bool.{false≢true}
+use Rattle.std.proofs.lemmas.List.{length-set}
 use Rattle.std.proofs.lemmas.Option.{none-some, same_Some}
 use Rattle.block_store.specs.declared.values.Cell.{Cell}
 use Rattle.block_store.specs.declared.values.Cell.TheVariants.{Unknown, Byte, Part}
@@ -18,6 +18,7 @@ use Rattle.sub_heaps.specs.SubHeaps.{rounded}
 use Rattle.alaska_run.specs.Heap.{Heap}
 use Rattle.alaska_run.specs.Flat.{FlatMemory}
 use Rattle.alaska_run.specs.StandsFor.{Ids, AgreesWord, AgreesByte, StandsAt, ids_of, owner_of}
+use Rattle.alaska_run.proofs.Lives.{set_lived}
 
 -- ---- elements by index
 
@@ -38,12 +39,6 @@ element_at (x ∷ xs) zero within = (x, refl)
 element_at (x ∷ xs) (suc k) within = element_at xs k (omega arith)
 
 -- ---- the live blocks
-
--- a name of a live block was made
-pub lives_within : (blocks : Blocks) (b : ℕ) → IsSome (live blocks b) → b < length blocks
-lives_within [] b lives = absurd (false≢true lives)
-lives_within (x ∷ xs) zero lives = omega arith
-lives_within (x ∷ xs) (suc b) lives = omega (arith, lives_within xs b lives)
 
 -- with a block more, the live one of a name is as it was, or it is the new one
 pub live_made : (blocks : Blocks) (new : Block) (b : ℕ) (block : Block) → live (blocks ++ Some new ∷ []) b ≡ Some block → ((b < length blocks) × (live blocks b ≡ Some block)) ⊎ ((b ≡ length blocks) × (new ≡ block))
@@ -79,6 +74,14 @@ pub record Carries (blocks : Blocks) (ids : Ids) (next : Blocks) (names : Ids) :
   pub longer : length blocks ≤ length next
   pub alive : (b : ℕ) → b < length blocks → IsSome (live next b) → IsSome (live blocks b)
   pub same : (b : ℕ) → b < length blocks → names b ≡ ids b
+
+-- a block in place of a live one carries all over
+pub Carries-set : (blocks : Blocks) (ids : Ids) (b : ℕ) (old new : Block) → live blocks b ≡ Some old → Carries blocks ids (set blocks b (Some new)) ids
+Carries-set blocks ids b old new is = record {
+  longer = omega (arith, length-set blocks b (Some new));
+  alive = λ c within lives. set_lived blocks b old new is c lives;
+  same = λ c within. refl;
+}
 
 module _ (blocks : Blocks) (ids : Ids) (next : Blocks) (names : Ids) (carries : Carries blocks ids next names) where
   -- what agreed agrees

@@ -21,7 +21,8 @@ use Rattle.alaska_run.specs.StandsFor.{Agrees, StandsAt, SameMemory, ids_of, own
 use Rattle.alaska_run.specs.Actions.{FreesAgree}
 use Rattle.alaska_run.proofs.Placed.{IsSound-without, without-member, same_place, each_held}
 use Rattle.alaska_run.proofs.Tables.{IsSome-from, value_in, address_of-set_other, freed_word-start}
-use Rattle.alaska_run.proofs.Carried.{Carries, AgreesWord-carried, StandsAt-carried, element_at, lives_within, live_ended}
+use Rattle.alaska_run.proofs.Carried.{Carries, AgreesWord-carried, StandsAt-carried, element_at, live_ended}
+use Rattle.alaska_run.proofs.Lives.{lives_within}
 
 -- the machine's memory without an object
 abbrev memory_then : FlatMemory → Object → FlatMemory

@@ -1,4 +1,5 @@
--- What holds of the machine's numbers, and of a heap of that shape without an object.
+-- What holds of the machine's numbers, and of a heap of that shape without an object. The numbers are unfolded for their bounds
+-- alone, so that no list of their length is computed.
 use Rattle.std.proofs.Common.{◌≡◌, ℕ, ◌*◌, ◌<◌, ◌≤◌, Option, Some, None, List, [], replicate, refl, sym, ◌∙◌, inl, inr, arith}
 use Rattle.std.proofs.lemmas.List.{get_or-replicate, get_or_past, length-replicate}
 use Rattle.std.proofs.lemmas.Bool.{cases_lt}

@@ -26,7 +26,8 @@ use Rattle.alaska_run.specs.Heap.{Heap}
 use Rattle.alaska_run.specs.Meaning.{Allocated, with_blocks, reached_in}
 use Rattle.alaska_run.specs.StandsFor.{Ids, AgreesWord, AgreesByte, StandsAt, StandsFor, SameMemory, ids_of}
 use Rattle.alaska_run.proofs.Apart.{objects_apart}
-use Rattle.alaska_run.proofs.Lives.{LivesLess, LivesLess-set, keeps_word, keeps_byte, live_within, live-set_same, live-set_other}
+use Rattle.alaska_run.proofs.Carried.{Carries, Carries-set, AgreesWord-carried, AgreesByte-carried}
+use Rattle.alaska_run.proofs.Lives.{live_within, live-set_same, live-set_other, set_lived}
 use Rattle.alaska_run.proofs.Loads.{spot_tells, int_inside}
 use Rattle.alaska_run.proofs.Overwritten.{get_or-before, get_or-inside, get_or-behind, length-overwritten, length-with_bytes, byte_at-other, byte_at-new}
 use Rattle.alaska_run.proofs.Places.{lives, cells_room, cell_agrees, rounded-room, address-handle, place-reached}
@@ -99,8 +100,8 @@ module _ (blocks : Blocks) (ids : Ids) (m : FlatMemory) (stand : StandsFor block
   cells_count : length (written_block block offset bytes).cells ≡ length block.cells
   cells_count = length-overwritten block.cells (map Byte bytes) offset cells_within
 
-  less : LivesLess blocks (set blocks b (Some (written_block block offset bytes)))
-  less = LivesLess-set blocks b block (written_block block offset bytes) is
+  carried : Carries blocks ids (set blocks b (Some (written_block block offset bytes))) ids
+  carried = Carries-set blocks ids b block (written_block block offset bytes) is
 
   -- the block's cells agree with their bytes again
   own_agrees : (i : ℕ) → AgreesByte blocks ids (get_or (written_block block offset bytes).cells i Unknown) (byte_at (written_memory m (first_address + at + offset) bytes).bytes (first_address + at + i))
@@ -131,7 +132,7 @@ module _ (blocks : Blocks) (ids : Ids) (m : FlatMemory) (stand : StandsFor block
     cells = λ i c found.
         subst (λ (d : Cell). AgreesByte (set blocks b (Some (written_block block offset bytes))) ids d (byte_at (written_memory m (first_address + at + offset) bytes).bytes (first_address + at + i)))
         (get_or_from_slice_get (written_block block offset bytes).cells i c Unknown found)
-        (keeps_byte blocks (set blocks b (Some (written_block block offset bytes))) ids less _ _ (own_agrees i));
+        (AgreesByte-carried blocks ids (set blocks b (Some (written_block block offset bytes))) ids carried _ _ (own_agrees i));
   }
 
   -- the bytes of another block are as they were
@@ -155,7 +156,7 @@ module _ (blocks : Blocks) (ids : Ids) (m : FlatMemory) (stand : StandsFor block
     object = there.object;
     cells = λ i cell is_cell.
         agrees_by (set blocks b (Some (written_block block offset bytes))) ids cell cell _ _ refl (other_byte c other place differs found there i (slice_get_within other.cells i cell is_cell))
-        (keeps_byte blocks (set blocks b (Some (written_block block offset bytes))) ids less _ _ (there.cells i cell is_cell));
+        (AgreesByte-carried blocks ids (set blocks b (Some (written_block block offset bytes))) ids carried _ _ (there.cells i cell is_cell));
   }
 
   -- the memory with the bytes stands for the blocks with the cells
@@ -176,7 +177,7 @@ module _ (blocks : Blocks) (ids : Ids) (m : FlatMemory) (stand : StandsFor block
           let there = stand.stands c other was in
           (there.0, other_stands c other there.0 differs was there.1)
     ];
-    own = λ c d first second. stand.own c d (less.lived c first) (less.lived d second);
+    own = λ c d first second. stand.own c d (set_lived blocks b block (written_block block offset bytes) is c first) (set_lived blocks b block (written_block block offset bytes) is d second);
   }
 
   -- each live block is malloc's, as before
@@ -204,7 +205,7 @@ SameMemory-written a m same b block is at here offset bytes within = record {
   many = same.many ∙ sym (length-set a.blocks b (Some (written_block block offset bytes)));
   stands = StandsFor-written a.blocks (ids_of a.objects) m same.stands b block is at here offset bytes within;
   kinds = kinds-written a.blocks (ids_of a.objects) m same.stands b block is at here offset bytes within same.kinds;
-  unmoved = λ c o alive. same.unmoved c o ((LivesLess-set a.blocks b block (written_block block offset bytes) is).lived c alive);
+  unmoved = λ c o alive. same.unmoved c o (set_lived a.blocks b block (written_block block offset bytes) is c alive);
 }
 
 -- what a store of an int gives, where one over the blocks succeeds
@@ -230,7 +231,7 @@ stored_to a m b offset w v same agrees block is within =
       stored = ap (λ n. store_by m n v (first_outside m.bytes n)) leads ∙ ap (store_by m (first_address + at + offset) v) inside;
       place = ap (λ n. n ∷ []) leads ∙ place-reached a m same b block at offset is here;
       same = SameMemory-written a m same b block is at here offset (int_bytes v) within;
-      keeps = keeps_word a.blocks (set a.blocks b (Some (written_block block offset (int_bytes v)))) ids (LivesLess-set a.blocks b block (written_block block offset (int_bytes v)) is);
+      keeps = AgreesWord-carried a.blocks ids (set a.blocks b (Some (written_block block offset (int_bytes v)))) ids (Carries-set a.blocks ids b block (written_block block offset (int_bytes v)) is);
     }
 
 -- a store of an int that succeeds over the blocks succeeds through a word that agrees with its pointer, at the same place
