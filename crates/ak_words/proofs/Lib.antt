@@ -1,3 +1,5 @@
+pub mod Prefixes
+pub mod Bytes
 pub mod Residues
 pub mod Types
 pub mod Wraps

@@ -7,7 +7,8 @@ use Rattle.std.specs.Int.{w32, w128}
 use Rattle.ak_words.specs.declared.int_type.IntType.{IntType}
 use Rattle.ak_words.specs.declared.number.Num.{Num}
 use Rattle.ak_words.specs.IntType.{int, least, IsInRange}
-use Rattle.ak_words.specs.Wrapped.{residue, wrapped_value, wrapped_value-in_range}
+use Rattle.ak_words.specs.Wrapped.{residue, wrapped_value}
+use Rattle.ak_words.specs.inner.InRange.{wrapped_value-in_range}
 use Rattle.ak_words.specs.Num.{num}
 use mathlib.Core.HLevel.{is_prop→PathP}
 use Rattle.ak_words.proofs.Types.{int_type_is, range_bounds}

@@ -8,7 +8,8 @@ use Rattle.std.specs.Prelude.{Bool, true, false}
 use Rattle.std.specs.Int.{w128, int_wrap}
 use Rattle.ak_words.specs.declared.int_type.IntType.{IntType}
 use Rattle.ak_words.specs.IntType.{least, IsInRange}
-use Rattle.ak_words.specs.Wrapped.{AreCongruent, residue, residue-below, wrapped_value}
+use Rattle.ak_words.specs.Wrapped.{AreCongruent, residue, wrapped_value}
+use Rattle.ak_words.specs.inner.InRange.{residue-below}
 use borrow.Author.Differences.{up, down, product_is}
 use mir.Val.{sel}
 use Rattle.ak_words.proofs.Residues.{residue_is, residue_same, residue_left, powers}

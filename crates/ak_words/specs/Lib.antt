@@ -1,6 +1,8 @@
 pub mod Width
-pub mod Memory
+pub mod Prefix
+pub mod Bytes
 pub mod IntType
 pub mod Wrapped
+pub mod inner
 pub mod Num
 pub mod Op

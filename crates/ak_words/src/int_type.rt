@@ -13,7 +13,7 @@ pub struct IntType {
 
 impl IntType {
     ghost use Rattle.std.specs.Prelude.{◌≡◌, ◌^◌, ◌<◌, ◌↔◌, pos};
-    ghost use Rattle.ak_words.specs.IntType.{IsInRange, is_held};
+    ghost use Rattle.ak_words.specs.IntType.{char, int, unsigned_int, long, unsigned_long, IsInRange, is_held};
     ghost use Rattle.ak_words.specs.Wrapped.{bit_pattern, wrapped_value};
 
     /// `char`, which is signed (this project's profile).
@@ -45,6 +45,41 @@ impl IntType {
         signed: false,
         bits: 64,
     };
+
+    /// `char`, by a clause.
+    pub fn char() -> IntType
+        ensures { result ≡ char }
+    {
+        IntType::CHAR
+    }
+
+    /// `int`, by a clause.
+    pub fn int() -> IntType
+        ensures { result ≡ int }
+    {
+        IntType::INT
+    }
+
+    /// `unsigned int`, by a clause.
+    pub fn unsigned_int() -> IntType
+        ensures { result ≡ unsigned_int }
+    {
+        IntType::UNSIGNED_INT
+    }
+
+    /// `long`, by a clause.
+    pub fn long() -> IntType
+        ensures { result ≡ long }
+    {
+        IntType::LONG
+    }
+
+    /// `unsigned long`, by a clause.
+    pub fn unsigned_long() -> IntType
+        ensures { result ≡ unsigned_long }
+    {
+        IntType::UNSIGNED_LONG
+    }
 
     /// Whether the type holds a number.
     pub fn holds(self, value: i128) -> bool

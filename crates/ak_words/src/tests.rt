@@ -120,21 +120,25 @@ fn conversions(rt: HostRuntime) {
 #[test]
 fn types(rt: HostRuntime) {
     for (a, b, want) in [
-        (IntType::CHAR, SHORT, IntType::INT),
-        (UNSIGNED_CHAR, UNSIGNED_CHAR, IntType::INT),
-        (IntType::INT, IntType::UNSIGNED_INT, IntType::UNSIGNED_INT),
-        (IntType::UNSIGNED_INT, IntType::LONG, IntType::LONG),
+        (IntType::char(), SHORT, IntType::int()),
+        (UNSIGNED_CHAR, UNSIGNED_CHAR, IntType::int()),
         (
-            IntType::UNSIGNED_LONG,
-            IntType::LONG,
-            IntType::UNSIGNED_LONG,
+            IntType::int(),
+            IntType::unsigned_int(),
+            IntType::unsigned_int(),
+        ),
+        (IntType::unsigned_int(), IntType::long(), IntType::long()),
+        (
+            IntType::unsigned_long(),
+            IntType::long(),
+            IntType::unsigned_long(),
         ),
     ] {
         assert_eq!(rt; common(a, b), want);
         assert_eq!(rt; common(b, a), want);
     }
-    assert_eq!(rt; promote(SHORT), IntType::INT);
-    assert_eq!(rt; promote(IntType::UNSIGNED_INT), IntType::UNSIGNED_INT);
+    assert_eq!(rt; promote(SHORT), IntType::int());
+    assert_eq!(rt; promote(IntType::unsigned_int()), IntType::unsigned_int());
 }
 
 #[test]

@@ -4,7 +4,8 @@ use Rattle.ak_words.specs.declared.int_type.IntType.{IntType}
 use Rattle.ak_words.specs.declared.number.Num.{Num}
 use Rattle.ak_words.specs.IntType.{int, IsInRange}
 use Rattle.ak_words.specs.Num.{num}
-use Rattle.ak_words.specs.Wrapped.{bit_pattern, wrapped_value, wrapped_value-in_range}
+use Rattle.ak_words.specs.Wrapped.{bit_pattern, wrapped_value}
+use Rattle.ak_words.specs.inner.InRange.{wrapped_value-in_range}
 use Rattle.ak_words.proofs.Types.{int_type_is}
 use Rattle.handle_table.specs.Table.{translated}
 use Rattle.flat_store.specs.Flat.{HasBytes, IsFirstOutside, bytes_from, with_bytes}

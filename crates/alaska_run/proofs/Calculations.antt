@@ -9,7 +9,8 @@ use Rattle.ak_words.specs.declared.rule.Rule.{Rule}
 use Rattle.ak_words.specs.IntType.{int, IsInRange}
 use Rattle.ak_words.specs.Num.{num}
 use Rattle.ak_words.specs.Op.{rule_of, exact_result, result_type, replacement, outcome}
-use Rattle.ak_words.specs.Wrapped.{wrapped_value, wrapped_value-in_range}
+use Rattle.ak_words.specs.Wrapped.{wrapped_value}
+use Rattle.ak_words.specs.inner.InRange.{wrapped_value-in_range}
 use Rattle.ak_words.proofs.Wraps.{wrapped_value-in_type}
 use Rattle.alaska_run.specs.Flat.{wrapped_int}
 use Rattle.alaska_run.specs.Meaning.{int_value, number_value}

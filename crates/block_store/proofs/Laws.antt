@@ -9,7 +9,8 @@ use Rattle.ak_words.specs.declared.rule.Rule.{Rule}
 use Rattle.ak_words.specs.declared.rule.Rule.TheVariants.{C4, C16}
 use Rattle.ak_words.specs.Num.{num}
 use Rattle.ak_words.specs.Width.{is_width}
-use Rattle.ak_words.specs.Wrapped.{bit_pattern, residue-below}
+use Rattle.ak_words.specs.Wrapped.{bit_pattern}
+use Rattle.ak_words.specs.inner.InRange.{residue-below}
 use Rattle.ak_words.proofs.Numbers.{num-residue}
 use Rattle.std.proofs.Math.Pow.{pow_pos}
 use Rattle.block_store.specs.declared.values.Access.TheVariants as accesses

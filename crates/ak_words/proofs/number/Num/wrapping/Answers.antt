@@ -2,7 +2,8 @@ use Rattle.std.proofs.Common.{arith, ◌∙◌, ap, refl, pos}
 use Rattle.std.proofs.Math.Pow.{pow_pos}
 use Rattle.std.specs.Int.{w128}
 use Rattle.std.proofs.lemmas.Int.{ints, to_z-of_z}
-use Rattle.ak_words.specs.Wrapped.{wrapped_value, residue-below}
+use Rattle.ak_words.specs.Wrapped.{wrapped_value}
+use Rattle.ak_words.specs.inner.InRange.{residue-below}
 use Rattle.ak_words.proofs.Wraps.{wrapped_value-residue}
 use Rattle.ak_words.proofs.Numbers.{num_is}
 use Rattle.ak_words.proofs.number.Num.wrapping.Goals as goal
