@@ -1,0 +1,5 @@
+pub mod Typed
+pub mod TypedViews
+pub mod TypedLayout
+pub mod TypedPrinting
+pub mod TypedRows

@@ -1,0 +1,147 @@
+-- The typed tree of a program, without where it lies in memory.
+use Rattle.std.specs.Prelude.{ℕ, ℤ, Bool, List, Option}
+use Rattle.ak_words.specs.declared.int_type.IntType.{IntType}
+use Rattle.ak_words.specs.declared.operation.Op.{Op}
+
+-- ---- types (C11 6.2.5)
+
+pub data Ty : Type 0 where
+  void : Ty
+  integer : (t : IntType) → Ty
+  mutex : Ty
+  pointer : (to : Ty) → Ty
+  array : (of : Ty) (size : ℕ) → Ty
+  structure : (number : ℕ) → Ty
+
+-- a struct: the offset and the type of each member, and its size and alignment (6.7.2.1)
+pub record Layout : Type 0 where
+  pub offsets : List ℕ
+  pub types : List Ty
+  pub size : ℕ
+  pub align : ℕ
+
+-- ---- library functions (7.21, 7.22, 7.24, 7.26)
+
+-- a piece of a format: bytes as they stand; a number of so many bits in decimal, as a signed one or as an unsigned one, or in
+-- hexadecimal; the low byte of a number; the text that a pointer leads to (7.21.6.1)
+pub data Piece : Type 0 where
+  bytes : (all : List ℕ) → Piece
+  signed : (bits : ℕ) → Piece
+  unsigned : (bits : ℕ) → Piece
+  hexadecimal : (bits : ℕ) → Piece
+  character : Piece
+  text : Piece
+
+-- printf with the pieces of its format, malloc, free, memcpy, thrd_create of a function, thrd_join, and the calls of a mutex
+pub data Lib : Type 0 where
+  print : (pieces : List Piece) → Lib
+  malloc : Lib
+  free : Lib
+  copy : Lib
+  start : (function : ℕ) → Lib
+  join : Lib
+  mutex_init : Lib
+  mutex_lock : Lib
+  mutex_unlock : Lib
+  mutex_destroy : Lib
+
+-- ---- expressions (6.5)
+
+-- an expression has a place in the text, a type, and what it does. Of these literal, global, local, deref and member are
+-- lvalues; decay is the pointer to the first element of an array; test says whether a pointer is not null
+mutual
+  pub data Expr : Type 0 where
+    at : (place : ℕ) (ty : Ty) (node : ExprNode) → Expr
+
+  pub data ExprNode : Type 0 where
+    num : (t : IntType) (value : ℤ) → ExprNode
+    null : ExprNode
+    literal : (number : ℕ) → ExprNode
+    global : (number : ℕ) → ExprNode
+    local : (number : ℕ) → ExprNode
+    deref : (e : Expr) → ExprNode
+    member : (e : Expr) (number : ℕ) → ExprNode
+    address_of : (e : Expr) → ExprNode
+    decay : (e : Expr) → ExprNode
+    convert : (e : Expr) → ExprNode
+    not_ : (e : Expr) → ExprNode
+    binary : (op : Op) (left right : Expr) → ExprNode
+    and_also : (left right : Expr) → ExprNode
+    or_else : (left right : Expr) → ExprNode
+    choose : (condition yes_ no_ : Expr) → ExprNode
+    pointer_add : (p n : Expr) → ExprNode
+    pointer_diff : (p q : Expr) → ExprNode
+    pointer_compare : (op : Op) (p q : Expr) → ExprNode
+    pointer_test : (p : Expr) → ExprNode
+    call : (function : ℕ) (args : Exprs) → ExprNode
+    lib : (which : Lib) (args : Exprs) → ExprNode
+
+  pub data Exprs : Type 0 where
+    no_exprs : Exprs
+    more_exprs : (e : Expr) (rest : Exprs) → Exprs
+
+abbrev pub place_of : Expr → ℕ
+place_of (at place ty node) = place
+
+abbrev pub type_of : Expr → Ty
+type_of (at place ty node) = ty
+
+abbrev pub node_of : Expr → ExprNode
+node_of (at place ty node) = node
+
+-- ---- statements (6.8)
+
+-- a statement has a place in the text and what it does; update is a compound assignment, ++ or --
+mutual
+  pub data Stmt : Type 0 where
+    at_stmt : (place : ℕ) (node : StmtNode) → Stmt
+
+  pub data StmtNode : Type 0 where
+    block : (body : Stmts) → StmtNode
+    declare : (number : ℕ) (init : Option Expr) → StmtNode
+    if_ : (condition : Expr) (then_ : Stmt) → StmtNode
+    if_else : (condition : Expr) (then_ else_ : Stmt) → StmtNode
+    while_ : (condition : Expr) (body : Stmt) → StmtNode
+    for_ : (first : Stmt) (condition : Option Expr) (step body : Stmt) → StmtNode
+    break_ : StmtNode
+    continue_ : StmtNode
+    return_ : (value : Option Expr) → StmtNode
+    assign : (left right : Expr) → StmtNode
+    update : (left : Expr) (op : Op) (right : Expr) → StmtNode
+    evaluate : (e : Expr) → StmtNode
+    empty : StmtNode
+
+  pub data Stmts : Type 0 where
+    no_stmts : Stmts
+    more_stmts : (s : Stmt) (rest : Stmts) → Stmts
+
+-- ---- programs (6.9)
+
+-- what a global holds at the start: zero bytes, a number, or a pointer to a string literal (6.7.9)
+pub data Init : Type 0 where
+  zero_bytes : Init
+  number : (t : IntType) (value : ℤ) → Init
+  literal_at : (number : ℕ) → Init
+
+pub record GlobalVar : Type 0 where
+  pub ty : Ty
+  pub init : Init
+
+pub record Local : Type 0 where
+  pub ty : Ty
+  pub in_memory : Bool
+
+-- the first `params` locals are the parameters
+pub record Func : Type 0 where
+  pub params : ℕ
+  pub locals : List Local
+  pub result : Ty
+  pub body : Stmts
+
+-- a literal is its bytes
+pub record Typed : Type 0 where
+  pub structs : List Layout
+  pub globals : List GlobalVar
+  pub literals : List (List ℕ)
+  pub funcs : List Func
+  pub main : ℕ

@@ -1,0 +1,33 @@
+-- Worked rows: the layout of a struct and the bytes of formats, put to the test.
+use Rattle.std.specs.Prelude.{◌≡◌, ℕ, pos, negsuc, List, [], ◌∷◌, ◌++◌, codes}
+use Rattle.ak_words.specs.IntType.{char, int, unsigned_long}
+use Rattle.c_tree.specs.Typed.{integer, pointer, array, structure, Layout, Piece, bytes, signed, unsigned, hexadecimal, character, text}
+use Rattle.c_tree.specs.TypedLayout.{size_in, align_in, laid_out}
+use Rattle.c_tree.specs.TypedPrinting.{parts}
+
+-- struct node { struct node *next; char *key; unsigned long len; int owner; };
+abbrev pub node : Layout
+node = laid_out [] (pointer (structure 0) ∷ pointer (integer char) ∷ integer unsigned_long ∷ integer int ∷ [])
+
+-- struct pair { char tag; struct node of[2]; char last; };
+abbrev pub pair : Layout
+pair = laid_out (node ∷ []) (integer char ∷ array (structure 0) 2 ∷ integer char ∷ [])
+
+-- what is printed where texts stand for themselves
+abbrev pub joined : List (List ℕ) → List ℕ
+joined [] = []
+joined (bs ∷ rest) = bs ++ joined rest
+
+abbrev pub printed : List Piece → List ℕ
+printed pieces = joined (parts (λ bs. bs) (λ bs. bs) pieces (negsuc 0 ∷ negsuc 0 ∷ pos 4294967295 ∷ negsuc 0 ∷ pos 321 ∷ []) (codes "of" ∷ []))
+
+pub record TypedRowsHold : Type 0 where
+  -- the padding between members, and behind the last one
+  pub node_offsets : node.offsets ≡ 0 ∷ 8 ∷ 16 ∷ 24 ∷ []
+  pub node_size : node.size ≡ 32
+  pub pair_offsets : pair.offsets ≡ 0 ∷ 8 ∷ 72 ∷ []
+  pub pair_size : size_in (node ∷ pair ∷ []) (array (structure 1) 3) ≡ 240
+  pub pair_align : align_in (node ∷ pair ∷ []) (array (structure 1) 3) ≡ 8
+  -- printf("%d %u%d%lx%s%c", -1, -1, 4294967295, -1, "of", 321), with numbers of other types than the conversions'
+  pub format_is : printed (signed 32 ∷ bytes (codes " ") ∷ unsigned 32 ∷ signed 32 ∷ hexadecimal 64 ∷ text ∷ character ∷ [])
+      ≡ codes "-1 4294967295-1ffffffffffffffffofA"
