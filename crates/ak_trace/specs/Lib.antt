@@ -1,2 +1,5 @@
 pub mod Log
+pub mod Kinds
+pub mod Hows
 pub mod Order
+pub mod Rows

@@ -7,8 +7,10 @@ mod entry;
 pub mod how;
 mod journal;
 pub mod kind;
+mod numbers;
 mod order;
 
 pub use entry::Entry;
 pub use journal::Journal;
-pub use order::{Mark, order_of_joined, order_of_local_turns};
+pub use numbers::constants_are_the_numbers;
+pub use order::{Answer, order_of_joined, order_of_worked_journals};

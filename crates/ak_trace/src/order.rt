@@ -1,11 +1,12 @@
 //! The order of the turns that a journal tells.
-ghost use Rattle.std.specs.Prelude.{◌≡◌, ◌++◌, List, replicate};
+ghost use Rattle.std.specs.Prelude.{◌≡◌, ◌++◌, List};
 ghost use Rattle.ak_trace.specs.declared.entry.Entry.{Entry};
-ghost use Rattle.ak_trace.specs.Order.{order, local_journal};
+ghost use Rattle.ak_trace.specs.Order.{order};
+ghost use Rattle.ak_trace.specs.Rows.{local_journal, local_turns, full_journal, full_turns};
 
 /// What a turn is told of the choice that the source leaves open.
 #[derive(Clone, Copy, Debug, PartialEq, Eq)]
-pub enum Mark {
+pub enum Answer {
     /// The turn has no choice.
     Plain,
     /// Its malloc gets an object, or its thread is made.
@@ -19,7 +20,8 @@ pub fn order_of_joined()
     ensures { (log more : List Entry) → order (log ++ more) ≡ order log ++ order more }
 {}
 
-/// A journal worked by hand: thread 0 goes out, does 2 turns and a look, a plain step, and 3 turns and a rest. These are six turns.
-pub fn order_of_local_turns()
-    ensures { order local_journal ≡ replicate 6 (0, Mark.Plain) }
+/// Two journals worked by hand: one of local turns, and one that has every kind and every how.
+pub fn order_of_worked_journals()
+    ensures local { order local_journal ≡ local_turns }
+    ensures full { order full_journal ≡ full_turns }
 {}

@@ -12,9 +12,11 @@ use Rattle.turn_lock.specs.declared.board.View.{View}
 use Rattle.turn_lock.specs.declared.board.Taken.{Taken}
 use Rattle.turn_lock.specs.declared.board.Stage.{Stage}
 use Rattle.turn_lock.specs.declared.board.Stage.TheVariants.{Idle, Waiting, Holding, Spent}
-use Rattle.turn_lock.specs.Histories.{of_worker, StartsWith}
+use Rattle.turn_lock.specs.Histories.{of_worker}
 use Rattle.turn_lock.specs.Board.{words_of, total, founder, one_more, newcomer_of, taken_of, nothing_taken, taken_in, spent, waiting, holding, after_call, busy_at, busy, Tells, Common, Knows, Chief, Holder, InTurn, drew, looked, served}
-use Rattle.turn_lock.proofs.Histories.{of_worker-append, of_worker-append_none, none_else, starts_longer, starts_whole, cancel_none}
+use Rattle.turn_lock.proofs.Histories.{of_worker-append, of_worker-append_none, none_else, cancel_none}
+use Rattle.ak_words.specs.Prefix.{IsPrefix}
+use Rattle.ak_words.proofs.Prefixes.{prefix_of_itself, prefix_of_more}
 use Rattle.turn_lock.proofs.Counting.{total-set, total_at, total-append, total_most, within, at_end, or_before, or_last, next_mod}
 
 abbrev ticket_of : Stage → ℕ
@@ -61,7 +63,7 @@ seats_stay K vs me w mine others j d e = ⊎_elim (λ (t : (j ≡ me) × (w ≡ 
 
 -- what another pass knows stays so
 others_know : (h h' : List Entry) (drawn now drawn' now' : ℕ) (held held' : Bool) (owner owner' : ℕ → ℕ) (i : ℕ) (u : View)
-    → (of_worker i h' ≡ of_worker i h) → ((seen : List Entry) → StartsWith h seen → StartsWith h' seen)
+    → (of_worker i h' ≡ of_worker i h) → ((seen : List Entry) → IsPrefix seen h → IsPrefix seen h')
     → ((t : ℕ) → owner t ≡ i → now ≤ t → t < drawn → (t ≡ now → held ≡ false) → (owner' t ≡ i) × (now' ≤ t) × (t < drawn') × (t ≡ now' → held' ≡ false))
     → ((t : ℕ) → owner t ≡ i → t ≡ now → t < drawn → held ≡ true → (owner' t ≡ i) × (t ≡ now') × (t < drawn') × (held' ≡ true) × (h ≡ h'))
     → (st : Stage) → Knows h drawn now held owner i u st → Knows h' drawn' now' held' owner' i u st
@@ -74,7 +76,7 @@ others_know h h' drawn now drawn' now' held held' owner owner' i u same longer w
 
 -- what pass 0 knows stays so, at a step of a pass that is not spent
 chief_stays : (h h' : List Entry) (vs : List View) (j : ℕ) (v w u u' : View) → get_elem? vs j ≡ some v → ¬ (IsSpent v.stage) → ((i : ℕ) → i ≢ j → of_worker i h' ≡ of_worker i h)
-    → ((seen : List Entry) → StartsWith h seen → StartsWith h' seen) → u'.made ≡ u.made → u'.joined ≡ u.joined → Chief h vs u → Chief h' (set vs j w) u'
+    → ((seen : List Entry) → IsPrefix seen h → IsPrefix seen h') → u'.made ≡ u.made → u'.joined ≡ u.joined → Chief h vs u → Chief h' (set vs j w) u'
 chief_stays h h' vs j v w u u' at here same longer made joined c = (
   made ∙ (c.0 ∙ sym (length-set vs j w)),
   λ k l. let f = c.1 k (subst (λ (z : List Taken). k < length z) joined l) in
@@ -118,7 +120,7 @@ module _ {O : Type 0} (replays : List Entry → O → Type 0) where
       → words' ≡ words_of drawn' now' → now' + (r.drawn + busy w) ≡ drawn' + (r.now + busy v)
       → (held' ≡ false → (x : O) × (homes' ≡ some x ∷ []) × replays h' x)
       → (held' ≡ true → Holder now' (set s.views j w))
-      → ((i : ℕ) → i ≢ j → of_worker i h' ≡ of_worker i r.history) → ((seen : List Entry) → StartsWith r.history seen → StartsWith h' seen)
+      → ((i : ℕ) → i ≢ j → of_worker i h' ≡ of_worker i r.history) → ((seen : List Entry) → IsPrefix seen r.history → IsPrefix seen h')
       → ((i t : ℕ) → i ≢ j → r.owner t ≡ i → r.now ≤ t → t < r.drawn → (t ≡ r.now → r.held ≡ false) → (owner' t ≡ i) × (now' ≤ t) × (t < drawn') × (t ≡ now' → held' ≡ false))
       → ((i t : ℕ) → i ≢ j → r.owner t ≡ i → t ≡ r.now → t < r.drawn → r.held ≡ true → (owner' t ≡ i) × (t ≡ now') × (t < drawn') × (held' ≡ true) × (r.history ≡ h'))
       → Knows h' drawn' now' held' owner' j w w.stage
@@ -162,8 +164,9 @@ module _ {O : Type 0} (replays : List Entry → O → Type 0) where
   same_ticket : (s : St) (r : Rule s) (t : ℕ) → r.now ≤ t → t < r.drawn → r.now % 2 ^ 64 ≡ t % 2 ^ 64 → r.now ≡ t
   same_ticket s r t lo hi e = let a = total_most busy busy_one s.views in let few = r.few in let line = r.line in one_turn r.now t (2 ^ 64) lo (omega arith) e
 
-  pub looks : (slots id : ℕ) (me : M) (t : ℕ) → me.0.stage ≡ Waiting t → Allows Rule slots id me 1 (λ n. n) (looked replays (step slots 1 0 0 none) me)
-  looks slots id me t wait s r _ at _ =
+  pub looks : (told : List Entry → O → Type 0) → ((log : List Entry) (x : O) → replays log x → told log x)
+      → (slots id : ℕ) (me : M) (t : ℕ) → me.0.stage ≡ Waiting t → Allows Rule slots id me 1 (λ n. n) (looked told (step slots 1 0 0 none) me)
+  looks told tells slots id me t wait s r _ at _ =
       let v : View = me.0 in let k = knows s r id v (Waiting t) at wait in let found : get_or s.words 1 0 ≡ r.now % 2 ^ 64 = ap (λ (ws : List ℕ). get_or ws 1 0) r.words_are in
       let b : busy v ≡ 1 = ap busy_at wait in dite (ℕ_discrete r.now t)
       (λ mine. let free : r.held ≡ false = k.4 (sym mine) in let h = r.home free in let x : O = h.0 in let others : List Entry = k.0.1.0 in let all : r.history ≡ v.seen ++ others = k.0.1.1 in
@@ -178,9 +181,9 @@ module _ {O : Type 0} (replays : List Entry → O → Type 0) where
             (set-get_or s.words 1 0 ∙ r.words_are) (omega arith) (λ no. absurd (cc no)) (λ _. (id, w, set_here s.views id w (within s.views id v at), ap Holding (sym mine))) (λ i ne. refl) (λ seen p. p)
             (λ i t' ne own lo hi f. (own, lo, hi, λ e. absurd (ne (sym own ∙ (ap r.owner (e ∙ mine) ∙ k.1)))))
             (λ i t' ne own is hi held. true_false r.held held free)
-            ((k.0.0, subst (λ (z : List Entry). StartsWith r.history z) all (starts_whole r.history), k.0.2, mine_all), k.1, sym mine, k.3, refl, sym all),
+            ((k.0.0, subst (λ (z : List Entry). IsPrefix z r.history) all (prefix_of_itself r.history), k.0.2, mine_all), k.1, sym mine, k.3, refl, sym all),
         (λ t' is. let same : t ≡ t' = ap ticket_of (sym wait ∙ is) in (
-          (λ _. (x, others, ap (λ (z : ℕ). holding z others v) same, refl, subst (λ (z : List Entry). replays z x) all h.2, none_mine)),
+          (λ _. (x, others, ap (λ (z : ℕ). holding z others v) same, refl, tells _ x (subst (λ (z : List Entry). replays z x) all h.2), none_mine)),
           λ ne. absurd (ne (found ∙ ap (λ (z : ℕ). z % 2 ^ 64) (mine ∙ same))),
         )),
       ))
@@ -205,10 +208,10 @@ module _ {O : Type 0} (replays : List Entry → O → Type 0) where
         moves s r id v w _ _ h' r.drawn (r.now + 1) false r.owner at (λ g. subst IsSpent hold g) refl refl
             (ap (λ (ws : List ℕ). set ws 1 ((get_or ws 1 0 + 1) % 2 ^ 64)) r.words_are ∙ ap (λ (n : ℕ). r.drawn % 2 ^ 64 ∷ n ∷ []) (next_mod r.now))
             (omega arith) (λ _. (x, ap (put_back s.homes) carried ∙ home_set s.homes (some x) (deep ∙ one), subst (λ (z : List Entry). replays z x) grown next)) (λ no. absurd (cc no))
-            (λ i ne. of_worker-append_none i r.history es (none_else id i es own' ne)) (λ seen p. starts_longer r.history seen es p)
+            (λ i ne. of_worker-append_none i r.history es (none_else id i es own' ne)) (λ seen p. prefix_of_more seen r.history es p)
             (λ i t' ne o lo hi f. let far : t' ≢ r.now = λ e. ne (sym o ∙ (ap r.owner (e ∙ sym k.2) ∙ k.1)) in (o, omega arith, hi, λ _. refl))
             (λ i t' ne o is hi held. absurd (ne (sym o ∙ (ap r.owner (is ∙ sym k.2) ∙ k.1))))
-            (k.0.0, subst (λ (z : List Entry). StartsWith h' z) (sym grown) (starts_whole h'), of_worker-append id r.history es ∙ ap₂ (λ (a b : List Entry). a ++ b) k.0.2 own', of_worker-append id v.seen es ∙ ap₂ (λ (a b : List Entry). a ++ b) k.0.3 own'),
+            (k.0.0, subst (λ (z : List Entry). IsPrefix z h') (sym grown) (prefix_of_itself h'), of_worker-append id r.history es ∙ ap₂ (λ (a b : List Entry). a ++ b) k.0.2 own', of_worker-append id v.seen es ∙ ap₂ (λ (a b : List Entry). a ++ b) k.0.3 own'),
         (refl, ap rest carried),
       )
 

@@ -4,7 +4,8 @@ use Rattle.crossbeam_utils.specs.Padded.{padded_value}
 use Rattle.ak_trace.specs.declared.entry.Entry.{Entry}
 use Rattle.turn_lock.specs.declared.lock.Pass.{Pass}
 use Rattle.turn_lock.specs.declared.lock.TurnLock.{TurnLock}
-use Rattle.turn_lock.specs.Histories.{of_worker, StartsWith}
+use Rattle.ak_words.specs.Prefix.{IsPrefix}
+use Rattle.turn_lock.specs.Histories.{of_worker}
 
 module _ {O : Type 0} where
   -- the history as the pass last saw it, at the end of its last call
@@ -25,9 +26,13 @@ module _ {O : Type 0} where
 
   -- for each pass, the log has just the pass's own entries of its number, and begins with what the pass had seen
   abbrev pub Accounts : List Entry → List (Pass O) → Type 0
-  Accounts log passes = (k : ℕ) (p : Pass O) → slice_get passes k ≡ Some p → (of_worker k log ≡ own_of p) × StartsWith log (seen_of p)
+  Accounts log passes = (k : ℕ) (p : Pass O) → slice_get passes k ≡ Some p → (of_worker k log ≡ own_of p) × IsPrefix (seen_of p) log
 
 module _ {O Call Reply : Type 0} where
+  -- the object as the lock was made with it
+  abbrev pub first_of : TurnLock O Call Reply → O
+  first_of lock = lock.board.shared.key.value
+
   -- how many passes the lock has
   abbrev pub passes_of : TurnLock O Call Reply → ℕ
   passes_of lock = lock.count

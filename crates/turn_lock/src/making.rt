@@ -1,14 +1,16 @@
 //! How a lock is made.
 ghost use Rattle.std.specs.Prelude.{◌≡◌, ℕ, ◌<◌, ◌≤◌, [], ◌∷◌, IfOk, vec_len, vec_capacity};
+ghost use Rattle.turn_lock.specs.Limits.{most_passes};
 ghost use Rattle.turn_lock.specs.Board.{founder};
-ghost use Rattle.turn_lock.specs.Locks.{AllPasses, AllNew, passes_of};
+ghost use Rattle.turn_lock.specs.Locks.{AllPasses, AllNew, first_of, passes_of};
 
 use crate::board::{Another, Place};
-use crate::lock::{MOST_PASSES, Pass, TurnLock};
+use crate::lock::{Pass, TurnLock};
 use crate::object::Object;
 use ak_words::NoMemory;
 use atomic_table::Table;
 use std::alloc::Global;
+use std::snapshot::Snapshot;
 
 impl<Call, Reply, O: Object<Call, Reply>> TurnLock<O, Call, Reply> {
     // Makes the passes. The first place is that of pass 0, from which the others are split.
@@ -36,23 +38,25 @@ impl<Call, Reply, O: Object<Call, Reply>> TurnLock<O, Call, Reply> {
     ) -> Result<(TurnLock<O, Call, Reply>, Vec<Pass<O>>), NoMemory>
     where
         O: Drop,
-        requires state { O.replays [] object }
-        requires passes { (0 < passes) × (passes ≤ MOST_PASSES) }
+        requires state { O.replays object [] object }
+        requires passes { (0 < passes) × (passes ≤ most_passes) }
+        ensures first { IfOk result (λ r. first_of r.0 ≡ object) }
         ensures count { IfOk result (λ r. (passes_of r.0 ≡ passes) × (vec_len r.1 ≡ passes)) }
         ensures passes { IfOk result (λ r. AllPasses r.0 r.1.items) }
         ensures new { IfOk result (λ r. AllNew r.1.items) }
     {
+        let first = Snapshot::of(&object);
         let mut slots = Vec::with_capacity(alloc, 1)?;
         slots.push_reserved(object);
         let room = Vec::with_capacity(alloc, passes as usize)?;
-        let Ok((board, first)) = Table::new(alloc, &[ticket, ticket], slots, &()) else {
+        let Ok((board, place)) = Table::new(alloc, &[ticket, ticket], slots, &first) else {
             return Err(NoMemory);
         };
         let lock = TurnLock {
             board,
             count: passes,
         };
-        let all = lock.deal(first, room);
+        let all = lock.deal(place, room);
         Ok((lock, all))
     }
 
@@ -64,8 +68,9 @@ impl<Call, Reply, O: Object<Call, Reply>> TurnLock<O, Call, Reply> {
     ) -> Result<(TurnLock<O, Call, Reply>, Vec<Pass<O>>), NoMemory>
     where
         O: Drop,
-        requires state { O.replays [] object }
-        requires passes { (0 < passes) × (passes ≤ MOST_PASSES) }
+        requires state { O.replays object [] object }
+        requires passes { (0 < passes) × (passes ≤ most_passes) }
+        ensures first { IfOk result (λ r. first_of r.0 ≡ object) }
         ensures count { IfOk result (λ r. (passes_of r.0 ≡ passes) × (vec_len r.1 ≡ passes)) }
         ensures passes { IfOk result (λ r. AllPasses r.0 r.1.items) }
         ensures new { IfOk result (λ r. AllNew r.1.items) }

@@ -1,14 +1,17 @@
 //! Passes on threads of their own call one tally.
-ghost use Rattle.std.specs.Prelude.{◌≡◌, ◌<◌, ◌≤◌, []};
+ghost use Rattle.std.specs.Prelude.{◌≡◌, ◌*◌, ◌<◌, ◌≤◌, [], IfOk};
 ghost use Rattle.turn_lock.specs.Locks.{IsPassOf, own_of, seen_of, worker_of};
 
-use super::{Pass, Tally, TurnLock};
+mod tally;
+
+use super::{Pass, TurnLock};
 use ak_words::NoMemory;
 use std::alloc::{AllocError, Global};
 use std::sync::Wait;
 use std::test::Fail;
 use std::thread;
 use std::thread::{Threads, join};
+use tally::Tally;
 
 type Lock = TurnLock<Tally, u32, Option<u64>>;
 
@@ -34,6 +37,7 @@ fn by_two<R: Threads + Wait + Sync>(
     ticket: u64,
 ) -> Result<Tally, NoMemory>
     requires { calls ≤ 1000 }
+    ensures { IfOk result (λ x. x.journal.limit ≡ 2 * calls) }
 {
     let tally = Tally::with_limit(alloc, 2 * calls)?;
     let (lock, mut passes) = Lock::starting_at(alloc, tally, 2, ticket)?;
@@ -64,6 +68,7 @@ fn by_many<R: Threads + Wait + Sync>(
     calls: u32,
 ) -> Result<Tally, NoMemory>
     requires { (0 < passes) × (passes ≤ 64) × (calls ≤ 1000) }
+    ensures { IfOk result (λ x. x.journal.limit ≡ passes * calls) }
 {
     let tally = Tally::with_limit(alloc, passes * calls)?;
     let (lock, all) = Lock::new(alloc, tally, passes)?;

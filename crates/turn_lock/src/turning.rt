@@ -2,12 +2,13 @@
 ghost use Rattle.std.specs.Prelude.{◌≡◌, ℕ, ◌<◌, List, [], ◌∷◌, ◌++◌};
 ghost use Rattle.ak_trace.specs.declared.entry.Entry.{Entry};
 ghost use Rattle.turn_lock.specs.declared.board.Stage.TheVariants.{Idle, Holding};
+ghost use Rattle.turn_lock.specs.Limits.{most_passes};
 ghost use Rattle.turn_lock.specs.Histories.{of_worker};
 ghost use Rattle.turn_lock.specs.Board.{holding, after_call};
-ghost use Rattle.turn_lock.specs.Locks.{seen_of, own_of, worker_of, IsPassOf, MakesCall};
+ghost use Rattle.turn_lock.specs.Locks.{first_of, seen_of, own_of, worker_of, IsPassOf, MakesCall};
 
-use crate::board::{DRAWN, Draw, Leaves, Look, Place, SERVED, Serve};
-use crate::lock::{MOST_PASSES, Pass, TurnLock};
+use crate::board::{DRAWN, Draw, Leads, Leaves, Look, Place, SERVED, Serve};
+use crate::lock::{Pass, TurnLock};
 use crate::object::Object;
 use crossbeam_utils::Backoff;
 use std::marker::Brand;
@@ -15,17 +16,18 @@ use std::snapshot::Snapshot;
 use std::sync::Wait;
 
 impl<Call, Reply, O: Object<Call, Reply>> TurnLock<O, Call, Reply> {
-    // Draws a ticket, waits until it is served, and takes the object out.
-    fn take<R: Wait>(&self, rt: &R, place: &mut Place<O>)
-        requires { (place.old.table_id ≡ self.now.board.shared.table_id) × (place.old.me.0.stage ≡ Idle) × (place.old.me.1 ≡ []) }
+    // Draws a ticket, waits until it is served, and takes the object out. The caller says what J is.
+    fn take<R: Wait, J: Leads<O>>(&self, rt: &R, place: &mut Place<O>)
+        requires place { (place.old.table_id ≡ self.now.board.shared.table_id) × (place.old.me.0.stage ≡ Idle) × (place.old.me.1 ≡ []) }
+        requires leads { (log : List Entry) (x : O) → O.replays (first_of self.now) log x → J.replays log x }
         ensures place { (place.new.table_id ≡ place.old.table_id) × (place.new.id ≡ place.old.id) }
-        ensures took { (t : ℕ) × (x : O) × (others : List Entry) × (place.new.me ≡ (holding t others place.old.me.0, (0, x) ∷ [])) × O.replays (place.old.me.0.seen ++ others) x × (of_worker place.old.me.0.number others ≡ []) }
+        ensures took { (t : ℕ) × (x : O) × (others : List Entry) × (place.new.me ≡ (holding t others place.old.me.0, (0, x) ∷ [])) × J.replays (place.old.me.0.seen ++ others) x × (of_worker place.old.me.0.number others ≡ []) }
     {
         let table = &self.board.shared;
         let ticket = table.fetch_add::<Draw>(place, DRAWN, 1);
         let backoff = Backoff::new();
         for _ in rt.forever() {
-            let found = table.load::<Look<Call, Reply>>(place, SERVED);
+            let found = table.load::<Look<J>>(place, SERVED);
             if found == ticket {
                 return;
             }
@@ -36,11 +38,11 @@ impl<Call, Reply, O: Object<Call, Reply>> TurnLock<O, Call, Reply> {
 
     // Makes the call on the object that the place has, and tells the state before.
     fn call(&self, place: &mut Place<O>, worker: u32, call: Call) -> (Reply, Snapshot<O>)
-        requires place { (place.old.table_id ≡ self.now.board.shared.table_id) × ((x : O) × (place.old.me.1 ≡ (0, x) ∷ []) × O.replays place.old.me.0.seen x) }
-        requires worker { worker < MOST_PASSES }
-        requires allowed { O.allowed place.old.me.0.seen worker call }
+        requires place { (place.old.table_id ≡ self.now.board.shared.table_id) × ((x : O) × (place.old.me.1 ≡ (0, x) ∷ []) × O.replays (first_of self.now) place.old.me.0.seen x) }
+        requires worker { worker < most_passes }
+        requires allowed { O.allowed (first_of self.now) place.old.me.0.seen worker call }
         ensures place { (place.new.table_id ≡ place.old.table_id) × (place.new.id ≡ place.old.id) × (place.new.me.0 ≡ place.old.me.0) }
-        ensures call { (place.old.me.1 ≡ (0, result.1.value) ∷ []) × (result.0 ≡ O.reply_of result.1.value worker call) × ((y : O) × (place.new.me.1 ≡ (0, y) ∷ []) × O.replays (place.old.me.0.seen ++ O.entries_of result.1.value worker call) y) }
+        ensures call { (place.old.me.1 ≡ (0, result.1.value) ∷ []) × (result.0 ≡ O.reply_of result.1.value worker call) × ((y : O) × (place.new.me.1 ≡ (0, y) ∷ []) × O.replays (first_of self.now) (place.old.me.0.seen ++ O.entries_of result.1.value worker call) y) }
     {
         let object = place.slot_mut(&self.board.shared, 0);
         let before = Snapshot::of(&*object);
@@ -51,7 +53,7 @@ impl<Call, Reply, O: Object<Call, Reply>> TurnLock<O, Call, Reply> {
     // Puts the object back and serves the next ticket. The clauses alone read `before` and `call`, from which the caller says what J is.
     fn give<J: Leaves>(&self, place: &mut Place<O>, before: &Snapshot<O>, call: &Snapshot<Call>)
         requires place { (place.old.table_id ≡ self.now.board.shared.table_id) × ((t : ℕ) × (place.old.me.0.stage ≡ Holding t)) }
-        requires entries { (of_worker place.old.me.0.number J.entries ≡ J.entries) × ((y : O) × (place.old.me.1 ≡ (0, y) ∷ []) × O.replays (place.old.me.0.seen ++ J.entries) y) }
+        requires entries { (of_worker place.old.me.0.number J.entries ≡ J.entries) × ((y : O) × (place.old.me.1 ≡ (0, y) ∷ []) × O.replays (first_of self.now) (place.old.me.0.seen ++ J.entries) y) }
         ensures { (place.new.table_id ≡ place.old.table_id) × (place.new.id ≡ place.old.id) × (place.new.me ≡ (after_call J.entries place.old.me.0, [])) }
     {
         let _ = before;
@@ -62,14 +64,14 @@ impl<Call, Reply, O: Object<Call, Reply>> TurnLock<O, Call, Reply> {
     /// Waits for the pass's turn, makes the call, and ends the turn. It takes no memory.
     pub fn turn<R: Wait>(&self, rt: &R, pass: &mut Pass<O>, call: Call) -> Reply
         requires pass { IsPassOf self.now pass.old }
-        requires allowed { O.allowed (seen_of pass.old) (worker_of pass.old) call }
+        requires allowed { O.allowed (first_of self.now) (seen_of pass.old) (worker_of pass.old) call }
         ensures pass { IsPassOf self.now pass.new × (worker_of pass.new ≡ worker_of pass.old) }
-        ensures call { MakesCall O.replays O.reply_of O.entries_of pass.old call result pass.new }
-        ensures state { (y : O) × O.replays (seen_of pass.new) y }
+        ensures call { MakesCall (O.replays (first_of self.now)) O.reply_of O.entries_of pass.old call result pass.new }
+        ensures state { (y : O) × O.replays (first_of self.now) (seen_of pass.new) y }
         ensures own { of_worker (worker_of pass.new) (seen_of pass.new) ≡ own_of pass.new }
     {
         let worker = pass.worker();
-        self.take(rt, &mut pass.place);
+        self.take::<R, Brand>(rt, &mut pass.place);
         let asked = Snapshot::of(&call);
         let (reply, before) = self.call(&mut pass.place, worker, call);
         self.give::<Brand>(&mut pass.place, &before, &asked);

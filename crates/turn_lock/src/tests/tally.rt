@@ -15,11 +15,11 @@ pub struct Tally {
 
 impl Tally {
     ghost use Rattle.std.specs.Prelude.{◌≡◌, [], IfOk};
-    ghost use Rattle.turn_lock.specs.Tallies.{Tallies};
+    ghost use Rattle.turn_lock.specs.inner.Tallies.{IsTally};
 
     /// No calls yet, with memory for the entries of `calls`.
     pub fn with_limit(alloc: Global, calls: u32) -> Result<Tally, NoMemory>
-        ensures { IfOk result (λ x. Tallies [] x × (x.journal.limit ≡ calls)) }
+        ensures { IfOk result (λ x. IsTally calls [] x.journal x.count) }
     {
         let journal = Journal::with_limit(alloc, calls)?;
         Ok(Tally { count: 0, journal })
@@ -27,20 +27,19 @@ impl Tally {
 }
 
 impl Object<u32, Option<u64>> for Tally {
-    ghost use Rattle.turn_lock.specs.Tallies.{Tallies, IsNext, count_before, entries_left};
-    ghost use Rattle.turn_lock.specs.TallyLaws.{next_stays, left_own};
+    ghost use Rattle.turn_lock.specs.inner.Tallies.{IsTally, IsNext, count_before, entries_left, next_stays, left_own};
 
-    ghost replays = { Tallies };
+    ghost replays = { λ first log x. IsTally first.journal.limit log x.journal x.count };
 
-    ghost allowed = { IsNext };
+    ghost allowed = { λ _ log worker number. IsNext log worker number };
 
-    ghost reply_of = { count_before };
+    ghost reply_of = { λ x _ _. count_before x.journal x.count };
 
-    ghost entries_of = { entries_left };
+    ghost entries_of = { λ x worker number. entries_left x.journal worker number };
 
-    ghost still_allowed = { next_stays };
+    ghost still_allowed = { λ _ log more worker number _ next none _. next_stays log more worker number next none };
 
-    ghost own_entries = { left_own };
+    ghost own_entries = { λ x worker number. left_own x.journal worker number };
 
     /// The count before the call, or `None` where the journal is full.
     fn answer(&mut self, worker: u32, call: u32) -> Option<u64> {
