@@ -2,4 +2,5 @@ pub mod Typed
 pub mod TypedViews
 pub mod TypedLayout
 pub mod TypedPrinting
+pub mod TypedForm
 pub mod TypedRows

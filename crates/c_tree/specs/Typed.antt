@@ -70,6 +70,7 @@ mutual
     or_else : (left right : Expr) → ExprNode
     choose : (condition yes_ no_ : Expr) → ExprNode
     pointer_add : (p n : Expr) → ExprNode
+    pointer_sub : (p n : Expr) → ExprNode
     pointer_diff : (p q : Expr) → ExprNode
     pointer_compare : (op : Op) (p q : Expr) → ExprNode
     pointer_test : (p : Expr) → ExprNode

@@ -32,14 +32,15 @@ align_in structs (pointer t) = 8
 align_in structs (array t n) = align_in structs t
 align_in structs (structure n) = layout_align (slice_get structs n)
 
--- the type is complete (6.2.5 p22), and it, with each array and struct in it, has at most the greatest object's size
+-- the type is complete (6.2.5 p22), and it, with each array and struct in it, has a byte at least and at most the greatest object's
+-- size
 abbrev pub IsSized : List Layout → Ty → Type 0
 IsSized structs void = ⊥
 IsSized structs (integer t) = Unit {0}
 IsSized structs mutex = Unit {0}
 IsSized structs (pointer t) = Unit {0}
-IsSized structs (array t n) = IsSized structs t × (size_in structs t * n ≤ greatest_object)
-IsSized structs (structure n) = (n < length structs) × (layout_size (slice_get structs n) ≤ greatest_object)
+IsSized structs (array t n) = IsSized structs t × (0 < n) × (size_in structs t * n ≤ greatest_object)
+IsSized structs (structure n) = (n < length structs) × (0 < layout_size (slice_get structs n)) × (layout_size (slice_get structs n) ≤ greatest_object)
 
 -- ---- structs: the members lie in order, each at the next multiple of its alignment (6.7.2.1)
 

@@ -1,7 +1,10 @@
 -- Worked rows: the layout of a struct and the bytes of formats, put to the test.
-use Rattle.std.specs.Prelude.{◌≡◌, ℕ, pos, negsuc, List, [], ◌∷◌, ◌++◌, codes}
+use Rattle.std.specs.Prelude.{◌≡◌, ℕ, pos, negsuc, false, List, [], ◌∷◌, ◌++◌, codes, Some}
+use Rattle.ak_words.specs.declared.operation.Op.TheVariants.{Add}
 use Rattle.ak_words.specs.IntType.{char, int, unsigned_long}
 use Rattle.c_tree.specs.Typed.{integer, pointer, array, structure, Layout, Piece, bytes, signed, unsigned, hexadecimal, character, text}
+use Rattle.c_tree.specs.Typed.{Expr, at, num, global, local, binary, at_stmt, declare, return_, no_stmts, more_stmts, Func, Typed}
+use Rattle.c_tree.specs.TypedForm.{IsWellFormed}
 use Rattle.c_tree.specs.TypedLayout.{size_in, align_in, laid_out}
 use Rattle.c_tree.specs.TypedPrinting.{parts}
 
@@ -21,6 +24,19 @@ joined (bs ∷ rest) = bs ++ joined rest
 abbrev pub printed : List Piece → List ℕ
 printed pieces = joined (parts (λ bs. bs) (λ bs. bs) pieces (negsuc 0 ∷ negsuc 0 ∷ pos 4294967295 ∷ negsuc 0 ∷ pos 321 ∷ []) (codes "of" ∷ []))
 
+-- int main(void){int x=41;return e+1;}
+abbrev pub func : (e : Expr) → Func
+func e = record {
+  params = 0;
+  locals = record { ty = integer int; in_memory = false } ∷ [];
+  result = integer int;
+  body = more_stmts (at_stmt 15 (declare 0 (Some (at 21 (integer int) (num int (pos 41))))))
+      (more_stmts (at_stmt 24 (return_ (Some (at 32 (integer int) (binary Add e (at 33 (integer int) (num int (pos 1)))))))) no_stmts);
+}
+
+abbrev pub program : (e : Expr) → Typed
+program e = record { structs = []; globals = []; literals = []; funcs = func e ∷ []; main = 0 }
+
 pub record TypedRowsHold : Type 0 where
   -- the padding between members, and behind the last one
   pub node_offsets : node.offsets ≡ 0 ∷ 8 ∷ 16 ∷ 24 ∷ []
@@ -31,3 +47,8 @@ pub record TypedRowsHold : Type 0 where
   -- printf("%d %u%d%lx%s%c", -1, -1, 4294967295, -1, "of", 321), with numbers of other types than the conversions'
   pub format_is : printed (signed 32 ∷ bytes (codes " ") ∷ unsigned 32 ∷ signed 32 ∷ hexadecimal 64 ∷ text ∷ character ∷ [])
       ≡ codes "-1 4294967295-1ffffffffffffffffofA"
+  -- x+1 is well formed; the local behind the last one isn't, nor a global where there is none, nor a char that wasn't promoted
+  pub accepted : IsWellFormed (program (at 31 (integer int) (local 0)))
+  pub no_such_local : IsWellFormed (program (at 31 (integer int) (local 1))) → ⊥
+  pub no_such_global : IsWellFormed (program (at 31 (integer int) (global 0))) → ⊥
+  pub not_promoted : IsWellFormed (program (at 31 (integer char) (num char (pos 7)))) → ⊥

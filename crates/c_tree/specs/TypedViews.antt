@@ -76,6 +76,8 @@ abbrev mutual
       trees.choose (trees.at place (type_view ty) (expr_node_view node)) (trees.at r (type_view s) (expr_node_view b)) (trees.at v (type_view w) (expr_node_view c))
   expr_node_view (exprs.PtrAdd' p place ty node q r s b) =
       trees.pointer_add (trees.at place (type_view ty) (expr_node_view node)) (trees.at r (type_view s) (expr_node_view b))
+  expr_node_view (exprs.PtrSub' p place ty node q r s b) =
+      trees.pointer_sub (trees.at place (type_view ty) (expr_node_view node)) (trees.at r (type_view s) (expr_node_view b))
   expr_node_view (exprs.PtrDiff' p place ty node q r s b) =
       trees.pointer_diff (trees.at place (type_view ty) (expr_node_view node)) (trees.at r (type_view s) (expr_node_view b))
   expr_node_view (exprs.PtrCompare' op p place ty node q r s b) =

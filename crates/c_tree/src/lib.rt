@@ -6,5 +6,7 @@
 pub mod typed;
 pub mod typed_laws;
 pub mod typed_layout;
+#[cfg(test)]
+mod typed_tests;
 
 pub use typed_layout::{align_of, size_of};

@@ -182,6 +182,8 @@ pub enum ExprNode {
     Choose(Box<Expr>, Box<Expr>, Box<Expr>),
     /// A pointer plus a number of elements.
     PtrAdd(Box<Expr>, Box<Expr>),
+    /// A pointer minus a number of elements, which is taken as a whole number.
+    PtrSub(Box<Expr>, Box<Expr>),
     /// The elements between two pointers.
     PtrDiff(Box<Expr>, Box<Expr>),
     /// A comparison of two pointers.
@@ -209,7 +211,7 @@ pub enum Lib {
     Start(u32),
     /// `thrd_join`
     Join,
-    /// `mtx_init`
+    /// `mtx_init`, of a plain mutex: the kind is no argument here.
     MutexInit,
     /// `mtx_lock`
     MutexLock,

@@ -1,0 +1,331 @@
+-- What a well formed typed tree is: each number is in range, and types agree as the meaning of the tree needs them.
+use Rattle.std.specs.Prelude.{◌≡◌, ℕ, ◌+◌, ◌*◌, ◌/◌, ◌<◌, ◌≤◌, ◌⊎◌, Bool, true, false, List, [], ◌∷◌, length, map, take, sum_by, slice_get, Option, Some, None}
+use Rattle.std.specs.List.{AllByRecursion}
+use Rattle.ak_words.specs.declared.int_type.IntType.{IntType}
+use Rattle.ak_words.specs.declared.operation.Op.{Op}
+use Rattle.ak_words.specs.declared.operation.Op.TheVariants as ops
+use Rattle.ak_words.specs.IntType.{char, int, long, unsigned_long, promoted_type, IsInRange}
+use Rattle.ak_words.specs.Op.{result_type}
+use Rattle.c_tree.specs.Typed.{Ty, void, integer, mutex, pointer, array, structure, Layout, Piece, bytes, signed, unsigned, hexadecimal, character, text}
+use Rattle.c_tree.specs.Typed.{Lib, print, malloc, free, copy, start, join, mutex_init, mutex_lock, mutex_unlock, mutex_destroy}
+use Rattle.c_tree.specs.Typed.{Expr, at, ExprNode, num, null, literal, global, local, deref, member, address_of, decay, convert, not_, binary, and_also, or_else, choose}
+use Rattle.c_tree.specs.Typed.{pointer_add, pointer_sub, pointer_diff, pointer_compare, pointer_test, call, lib, Exprs, no_exprs, more_exprs, type_of, node_of}
+use Rattle.c_tree.specs.Typed.{Stmt, at_stmt, StmtNode, block, declare, if_, if_else, while_, for_, break_, continue_, return_, assign, update, evaluate, empty, Stmts, no_stmts, more_stmts}
+use Rattle.c_tree.specs.Typed.{Init, zero_bytes, number, literal_at, GlobalVar, Local, Func, Typed}
+use Rattle.c_tree.specs.TypedLayout.{greatest_object, size_in, IsSized, laid_out}
+
+-- ---- types
+
+abbrev pub IsInteger : Ty → Type 0
+IsInteger (integer t) = Unit {0}
+IsInteger t = ⊥
+
+abbrev pub IsPointer : Ty → Type 0
+IsPointer (pointer t) = Unit {0}
+IsPointer t = ⊥
+
+-- a number or a pointer (C11 6.2.5 p21)
+abbrev pub IsScalar : Ty → Type 0
+IsScalar (integer t) = Unit {0}
+IsScalar (pointer t) = Unit {0}
+IsScalar t = ⊥
+
+-- a value of type s stands where one of type t is wanted: numbers of one type, any two pointers, one struct
+abbrev pub Fits : (s t : Ty) → Type 0
+Fits (integer s) (integer t) = s ≡ t
+Fits (pointer s) (pointer t) = Unit {0}
+Fits (structure m) (structure n) = m ≡ n
+Fits s t = ⊥
+
+-- a pointer to elements that have a size (6.5.6 p2)
+abbrev pub PointsToSized : List Layout → Ty → Type 0
+PointsToSized structs (pointer t) = IsSized structs t
+PointsToSized structs t = ⊥
+
+-- at least 32 bits
+abbrev pub IsPromoted : IntType → Type 0
+IsPromoted t = promoted_type t ≡ t
+
+-- operands of an operation: both of one promoted type, and of a shift each of a promoted type (6.3.1.8, 6.5.7)
+abbrev pub AreOperands : Op → Ty → Ty → Type 0
+AreOperands ops.Shl (integer s) (integer t) = IsPromoted s × IsPromoted t
+AreOperands ops.Shr (integer s) (integer t) = IsPromoted s × IsPromoted t
+AreOperands op (integer s) (integer t) = IsPromoted s × (s ≡ t)
+AreOperands op s t = ⊥
+
+abbrev pub type_of_result : Op → Ty → Ty
+type_of_result op (integer t) = integer (result_type op t)
+type_of_result op t = t
+
+abbrev pub is_comparison : Op → Bool
+is_comparison ops.Eq = true
+is_comparison ops.Ne = true
+is_comparison ops.Lt = true
+is_comparison ops.Le = true
+is_comparison ops.Gt = true
+is_comparison ops.Ge = true
+is_comparison op = false
+
+-- what a compound assignment to an object of type s takes: numbers with any operator but a comparison, or a pointer moved by a
+-- number of elements (6.5.16.2)
+abbrev pub CanUpdate : List Layout → Op → (s t : Ty) → Type 0
+CanUpdate structs op (integer s) (integer t) = is_comparison op ≡ false
+CanUpdate structs op (pointer s) (integer t) = ((op ≡ ops.Add) ⊎ (op ≡ ops.Sub)) × IsSized structs s
+CanUpdate structs op s t = ⊥
+
+-- a conversion: of a number to a number, of a pointer to a pointer, and of anything to void (6.3, 6.5.4)
+abbrev pub Converts : (s t : Ty) → Type 0
+Converts s void = Unit {0}
+Converts (integer s) (integer t) = Unit {0}
+Converts (pointer s) (pointer t) = Unit {0}
+Converts s t = ⊥
+
+-- ---- what is in scope
+
+-- a function, as a call sees it
+pub record Signature : Type 0 where
+  pub params : List Ty
+  pub result : Ty
+
+-- the structs, the types of the globals, the bytes of the literals, the functions, and the locals of the function around
+pub record Context : Type 0 where
+  pub structs : List Layout
+  pub globals : List Ty
+  pub literals : List (List ℕ)
+  pub funcs : List Signature
+  pub locals : List Local
+
+abbrev pub IsNth : {A : Type 0} → List A → ℕ → (A → Type 0) → Type 0
+IsNth xs n P = (x : _) × (slice_get xs n ≡ Some x) × P x
+
+-- the member of this number has this type
+abbrev pub IsMember : List Layout → Ty → ℕ → Ty → Type 0
+IsMember structs (structure s) m t = IsNth structs s (λ l. slice_get l.types m ≡ Some t)
+IsMember structs s m t = ⊥
+
+-- ---- expressions
+
+-- an object: something that has a place (6.3.2.1)
+abbrev pub IsLvalue : ExprNode → Type 0
+IsLvalue (literal n) = Unit {0}
+IsLvalue (global n) = Unit {0}
+IsLvalue (local n) = Unit {0}
+IsLvalue (deref e) = Unit {0}
+IsLvalue (member e m) = Unit {0}
+IsLvalue node = ⊥
+
+-- an object that is a block or lies in one; a local that is none has no address
+abbrev pub IsInMemory : Context → ExprNode → Type 0
+IsInMemory c (literal n) = Unit {0}
+IsInMemory c (global n) = Unit {0}
+IsInMemory c (local n) = IsNth c.locals n (λ l. l.in_memory ≡ true)
+IsInMemory c (deref e) = Unit {0}
+IsInMemory c (member e m) = Unit {0}
+IsInMemory c node = ⊥
+
+-- a number of so many bits, for a piece that writes one
+abbrev pub HasBits : ℕ → Ty → Type 0
+HasBits bits (integer t) = (t.bits ≡ bits) × ((bits ≡ 32) ⊎ (bits ≡ 64))
+HasBits bits t = ⊥
+
+-- the arguments of printf behind its format, one for each piece that takes one, in order
+abbrev pub ArePrinted : List Piece → Exprs → Type 0
+ArePrinted [] no_exprs = Unit {0}
+ArePrinted [] (more_exprs e rest) = ⊥
+ArePrinted (bytes all ∷ pieces) es = ArePrinted pieces es
+ArePrinted (signed bits ∷ pieces) (more_exprs e rest) = HasBits bits (type_of e) × ArePrinted pieces rest
+ArePrinted (unsigned bits ∷ pieces) (more_exprs e rest) = HasBits bits (type_of e) × ArePrinted pieces rest
+ArePrinted (hexadecimal bits ∷ pieces) (more_exprs e rest) = HasBits bits (type_of e) × ArePrinted pieces rest
+ArePrinted (character ∷ pieces) (more_exprs e rest) = HasBits 32 (type_of e) × ArePrinted pieces rest
+ArePrinted (text ∷ pieces) (more_exprs e rest) = IsPointer (type_of e) × ArePrinted pieces rest
+ArePrinted (piece ∷ pieces) no_exprs = ⊥
+
+-- a function that a thread may begin with: int f(void *)
+abbrev pub CanStart : Signature → Type 0
+CanStart f = (f.result ≡ integer int) × (f.params ≡ pointer void ∷ [])
+
+-- arguments of these types, as many as there are
+abbrev pub AreArguments : List Ty → Exprs → Type 0
+AreArguments [] no_exprs = Unit {0}
+AreArguments (t ∷ ts) (more_exprs e rest) = Fits (type_of e) t × AreArguments ts rest
+AreArguments [] (more_exprs e rest) = ⊥
+AreArguments (t ∷ ts) no_exprs = ⊥
+
+-- the arguments and the result of a library function; the mutex's kind, and the function of a new thread, are no arguments
+abbrev pub IsLibCall : Context → Lib → Exprs → Ty → Type 0
+IsLibCall c (print pieces) es t = ArePrinted pieces es × (t ≡ integer int)
+IsLibCall c malloc es t = AreArguments (integer unsigned_long ∷ []) es × (t ≡ pointer void)
+IsLibCall c free es t = AreArguments (pointer void ∷ []) es × (t ≡ void)
+IsLibCall c copy es t = AreArguments (pointer void ∷ pointer void ∷ integer unsigned_long ∷ []) es × (t ≡ pointer void)
+IsLibCall c (start f) es t = IsNth c.funcs f CanStart × AreArguments (pointer (integer unsigned_long) ∷ pointer void ∷ []) es × (t ≡ integer int)
+IsLibCall c join es t = AreArguments (integer unsigned_long ∷ pointer (integer int) ∷ []) es × (t ≡ integer int)
+IsLibCall c mutex_init es t = AreArguments (pointer mutex ∷ []) es × (t ≡ integer int)
+IsLibCall c mutex_lock es t = AreArguments (pointer mutex ∷ []) es × (t ≡ integer int)
+IsLibCall c mutex_unlock es t = AreArguments (pointer mutex ∷ []) es × (t ≡ integer int)
+IsLibCall c mutex_destroy es t = AreArguments (pointer mutex ∷ []) es × (t ≡ void)
+
+-- an expression of its type, whose parts are well formed
+abbrev mutual
+  pub IsTyped : Context → Expr → Type 0
+  IsTyped c (at place ty node) = IsTypedNode c ty node
+
+  pub IsTypedNode : Context → Ty → ExprNode → Type 0
+  IsTypedNode c ty (num t value) = (ty ≡ integer t) × IsInRange t value
+  IsTypedNode c ty null = IsPointer ty
+  IsTypedNode c ty (literal n) = IsNth c.literals n (λ bs. ty ≡ array (integer char) (length bs))
+  IsTypedNode c ty (global n) = slice_get c.globals n ≡ Some ty
+  IsTypedNode c ty (local n) = IsNth c.locals n (λ l. l.ty ≡ ty)
+  IsTypedNode c ty (deref e) = IsTyped c e × (type_of e ≡ pointer ty)
+  IsTypedNode c ty (member e m) = IsTyped c e × IsLvalue (node_of e) × IsMember c.structs (type_of e) m ty
+  IsTypedNode c ty (address_of e) = IsTyped c e × IsInMemory c (node_of e) × (ty ≡ pointer (type_of e))
+  IsTypedNode c ty (decay e) = IsTyped c e × IsInMemory c (node_of e) × ((t : Ty) × (n : ℕ) × (type_of e ≡ array t n) × (ty ≡ pointer t))
+  IsTypedNode c ty (convert e) = IsTyped c e × Converts (type_of e) ty
+  IsTypedNode c ty (not_ e) = IsTyped c e × IsScalar (type_of e) × (ty ≡ integer int)
+  IsTypedNode c ty (binary op a b) = IsTyped c a × IsTyped c b × AreOperands op (type_of a) (type_of b) × (ty ≡ type_of_result op (type_of a))
+  IsTypedNode c ty (and_also a b) = IsTyped c a × IsTyped c b × IsScalar (type_of a) × IsScalar (type_of b) × (ty ≡ integer int)
+  IsTypedNode c ty (or_else a b) = IsTyped c a × IsTyped c b × IsScalar (type_of a) × IsScalar (type_of b) × (ty ≡ integer int)
+  IsTypedNode c ty (choose a b d) = IsTyped c a × IsTyped c b × IsTyped c d × IsScalar (type_of a) × IsInteger ty × (type_of b ≡ ty) × (type_of d ≡ ty)
+  IsTypedNode c ty (pointer_add p n) = IsTyped c p × IsTyped c n × PointsToSized c.structs (type_of p) × IsInteger (type_of n) × (ty ≡ type_of p)
+  IsTypedNode c ty (pointer_sub p n) = IsTyped c p × IsTyped c n × PointsToSized c.structs (type_of p) × IsInteger (type_of n) × (ty ≡ type_of p)
+  IsTypedNode c ty (pointer_diff p q) = IsTyped c p × IsTyped c q × PointsToSized c.structs (type_of p) × IsPointer (type_of q) × (ty ≡ integer long)
+  IsTypedNode c ty (pointer_compare op p q) = IsTyped c p × IsTyped c q × IsPointer (type_of p) × IsPointer (type_of q) × (is_comparison op ≡ true) × (ty ≡ integer int)
+  IsTypedNode c ty (pointer_test p) = IsTyped c p × IsPointer (type_of p) × (ty ≡ integer int)
+  IsTypedNode c ty (call f args) = AreTyped c args × IsNth c.funcs f (λ s. AreArguments s.params args × (ty ≡ s.result))
+  IsTypedNode c ty (lib which args) = AreTyped c args × IsLibCall c which args ty
+
+  pub AreTyped : Context → Exprs → Type 0
+  AreTyped c no_exprs = Unit {0}
+  AreTyped c (more_exprs e rest) = IsTyped c e × AreTyped c rest
+
+-- a value of this type, or none where there is no expression
+abbrev pub IfTyped : Context → (Ty → Type 0) → Option Expr → Type 0
+IfTyped c P None = Unit {0}
+IfTyped c P (Some e) = IsTyped c e × P (type_of e)
+
+-- ---- statements
+
+-- it declares nothing: it may stand under an if or a loop
+abbrev pub IsNoDeclaration : Stmt → Type 0
+IsNoDeclaration (at_stmt place (declare n init)) = ⊥
+IsNoDeclaration s = Unit {0}
+
+-- an expression of C as a statement, or nothing: it may be the step of a for
+abbrev pub IsStep : Stmt → Type 0
+IsStep (at_stmt place (assign left right)) = Unit {0}
+IsStep (at_stmt place (update left op right)) = Unit {0}
+IsStep (at_stmt place (evaluate e)) = Unit {0}
+IsStep (at_stmt place empty) = Unit {0}
+IsStep s = ⊥
+
+-- what may stand first in a for: that, or one declaration
+abbrev pub IsFirst : Stmt → Type 0
+IsFirst (at_stmt place (declare n init)) = Unit {0}
+IsFirst s = IsStep s
+
+-- the value of a return: none in a function of type void, and else one that fits
+abbrev pub IsReturned : Context → Ty → Option Expr → Type 0
+IsReturned c result None = result ≡ void
+IsReturned c result (Some e) = IsTyped c e × Fits (type_of e) result
+
+-- the first locals are parameters, so many, and are declared by no statement
+pub record Inside : Type 0 where
+  pub context : Context
+  pub params : ℕ
+  pub result : Ty
+
+-- a statement is well formed, in a loop or not
+abbrev mutual
+  pub IsWell : Inside → (in_loop : Bool) → Stmt → Type 0
+  IsWell f in_loop (at_stmt place node) = IsWellNode f in_loop node
+
+  pub IsWellNode : Inside → Bool → StmtNode → Type 0
+  IsWellNode f in_loop (block body) = AreWell f in_loop body
+  IsWellNode f in_loop (declare n init) = (f.params ≤ n) × IsNth f.context.locals n (λ l. IfTyped f.context (λ t. Fits t l.ty × IsScalar t) init)
+  IsWellNode f in_loop (if_ e one) = IsTyped f.context e × IsScalar (type_of e) × IsWell f in_loop one × IsNoDeclaration one
+  IsWellNode f in_loop (if_else e one other) = IsTyped f.context e × IsScalar (type_of e) × IsWell f in_loop one × IsNoDeclaration one
+      × IsWell f in_loop other × IsNoDeclaration other
+  IsWellNode f in_loop (while_ e body) = IsTyped f.context e × IsScalar (type_of e) × IsWell f true body × IsNoDeclaration body
+  IsWellNode f in_loop (for_ first e step body) = IsWell f in_loop first × IsFirst first × IfTyped f.context IsScalar e
+      × IsWell f in_loop step × IsStep step × IsWell f true body × IsNoDeclaration body
+  IsWellNode f in_loop break_ = in_loop ≡ true
+  IsWellNode f in_loop continue_ = in_loop ≡ true
+  IsWellNode f in_loop (return_ value) = IsReturned f.context f.result value
+  IsWellNode f in_loop (assign left right) = IsTyped f.context left × IsTyped f.context right × IsLvalue (node_of left) × Fits (type_of right) (type_of left)
+  IsWellNode f in_loop (update left op right) = IsTyped f.context left × IsTyped f.context right × IsLvalue (node_of left)
+      × CanUpdate f.context.structs op (type_of left) (type_of right)
+  IsWellNode f in_loop (evaluate e) = IsTyped f.context e
+  IsWellNode f in_loop empty = Unit {0}
+
+  pub AreWell : Inside → Bool → Stmts → Type 0
+  AreWell f in_loop no_stmts = Unit {0}
+  AreWell f in_loop (more_stmts s rest) = IsWell f in_loop s × AreWell f in_loop rest
+
+-- ---- programs
+
+-- a local that is no block is a number or a pointer
+pub record IsLocal (structs : List Layout) (l : Local) : Type 0 where
+  pub sized : IsSized structs l.ty
+  pub scalar : l.in_memory ≡ false → IsScalar l.ty
+
+-- a function returns nothing, a number or a pointer
+abbrev pub IsResult : Ty → Type 0
+IsResult void = Unit {0}
+IsResult t = IsScalar t
+
+abbrev pub signature_of : Func → Signature
+signature_of f = record { params = map (λ l. l.ty) (take f.params f.locals); result = f.result }
+
+abbrev pub context_of : Typed → Func → Context
+context_of t f = record { structs = t.structs; globals = map (λ g. g.ty) t.globals; literals = t.literals; funcs = map signature_of t.funcs; locals = f.locals }
+
+pub record IsFunc (t : Typed) (f : Func) : Type 0 where
+  pub few_params : f.params ≤ 16
+  pub params : f.params ≤ length f.locals
+  -- no parameter is in memory
+  pub in_registers : AllByRecursion (λ l. l.in_memory ≡ false) (take f.params f.locals)
+  pub locals : AllByRecursion (IsLocal t.structs) f.locals
+  -- 1,024 of the text, and one for each parameter whose address is taken
+  pub few_locals : length f.locals ≤ 1040
+  pub result : IsResult f.result
+  pub body : AreWell (record { context = context_of t f; params = f.params; result = f.result }) false f.body
+
+-- its members lie as they must, and each has a size
+pub record IsLayout (structs : List Layout) (l : Layout) : Type 0 where
+  pub sized : AllByRecursion (IsSized structs) l.types
+  pub laid : l ≡ laid_out structs l.types
+  pub few : length l.types ≤ 256
+  pub small : l.size ≤ greatest_object
+
+-- what a global of this type may hold at the start
+abbrev pub IsInit : List (List ℕ) → Ty → Init → Type 0
+IsInit literals t zero_bytes = Unit {0}
+IsInit literals t (number s value) = (t ≡ integer s) × IsInRange s value
+IsInit literals t (literal_at n) = (t ≡ pointer (integer char)) × (n < length literals)
+
+pub record IsGlobal (t : Typed) (g : GlobalVar) : Type 0 where
+  pub sized : IsSized t.structs g.ty
+  pub init : IsInit t.literals g.ty g.init
+
+-- the bytes that a plain object of this size takes, with at least one of padding behind it
+abbrev pub taken : ℕ → ℕ
+taken size = 16 * (size / 16 + 1)
+
+-- the bytes that globals and literals take
+abbrev pub plain_bytes : Typed → ℕ
+plain_bytes t = sum_by (λ g. taken (size_in t.structs g.ty)) t.globals + sum_by (λ bs. taken (length bs)) t.literals
+
+-- main has no parameter and gives an int
+abbrev pub IsMain : Func → Type 0
+IsMain f = (f.params ≡ 0) × (f.result ≡ integer int)
+
+pub record IsWellFormed (t : Typed) : Type 0 where
+  pub structs : AllByRecursion (IsLayout t.structs) t.structs
+  pub globals : AllByRecursion (IsGlobal t) t.globals
+  -- a literal has a zero byte at its end, and so at least one
+  pub literals : AllByRecursion (λ bs. 0 < length bs) t.literals
+  pub funcs : AllByRecursion (IsFunc t) t.funcs
+  pub main : IsNth t.funcs t.main IsMain
+  pub few_structs : length t.structs ≤ 256
+  pub few_globals : length t.globals ≤ 4096
+  pub few_funcs : length t.funcs ≤ 8192
+  pub small : plain_bytes t ≤ 1048576
