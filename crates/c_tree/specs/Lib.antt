@@ -1,3 +1,5 @@
+pub mod Syntax
+pub mod SyntaxViews
 pub mod Typed
 pub mod TypedViews
 pub mod TypedLayout

@@ -1,12 +1,14 @@
-//! The trees of a C program: the typed tree, and how its types are laid out in memory.
-//! Promises upward: sizes and alignments are those of their definition, which also says what a well formed tree is.
+//! The trees of a C program: as it is written, one node a production, and with its types; and how types are laid out in memory.
+//! Promises upward: each tree as data without pointers; sizes and alignments are those of their definition; what a well formed typed tree is.
 //! Stands on the words of C alone.
 #![tactic(auto)]
 
+pub mod syntax;
 pub mod typed;
 pub mod typed_laws;
 pub mod typed_layout;
 #[cfg(test)]
 mod typed_tests;
 
+pub use syntax::Program;
 pub use typed_layout::{align_of, size_of};

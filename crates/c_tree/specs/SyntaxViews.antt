@@ -1,0 +1,149 @@
+-- What the code's trees of a program are.
+use Rattle.std.specs.Prelude.{ℕ, List, map, Option, Some, None, Box}
+use Rattle.std.specs.Option.{option_map}
+use Rattle.std.specs.declared.alloc.Global.{Global}
+use Rattle.c_tree.specs.declared.syntax.Expr.{Expr as CodeExpr, fold-Expr}
+use Rattle.c_tree.specs.declared.syntax.Expr.TheOpen.{Expr-F, Spec-F, Declarator-F, Member-F, TypeName-F}
+use Rattle.c_tree.specs.declared.syntax.Spec.{Spec as CodeSpec, fold-Spec}
+use Rattle.c_tree.specs.declared.syntax.Declarator.{Declarator as CodeDeclarator, fold-Declarator}
+use Rattle.c_tree.specs.declared.syntax.Member.{Member as CodeMember, fold-Member}
+use Rattle.c_tree.specs.declared.syntax.TypeName.{TypeName as CodeTypeName, fold-TypeName}
+use Rattle.c_tree.specs.declared.syntax.InitDeclarator.{InitDeclarator as CodeInitDeclarator}
+use Rattle.c_tree.specs.declared.syntax.Declaration.{Declaration as CodeDeclaration}
+use Rattle.c_tree.specs.declared.syntax.ParamDim.{ParamDim as CodeParamDim}
+use Rattle.c_tree.specs.declared.syntax.Param.{Param as CodeParam}
+use Rattle.c_tree.specs.declared.syntax.Simple.{Simple as CodeSimple}
+use Rattle.c_tree.specs.declared.syntax.Simple.TheVariants as simples
+use Rattle.c_tree.specs.declared.syntax.ForFirst.{ForFirst as CodeForFirst}
+use Rattle.c_tree.specs.declared.syntax.ForFirst.TheVariants as firsts
+use Rattle.c_tree.specs.declared.syntax.Stmt.{Stmt as CodeStmt, fold-Stmt}
+use Rattle.c_tree.specs.declared.syntax.Stmt.TheOpen.{Stmt-F}
+use Rattle.c_tree.specs.declared.syntax.Block.{Block as CodeBlock}
+use Rattle.c_tree.specs.declared.syntax.Rest.{Rest as CodeRest}
+use Rattle.c_tree.specs.declared.syntax.Rest.TheVariants as rests
+use Rattle.c_tree.specs.declared.syntax.External.{External as CodeExternal}
+use Rattle.c_tree.specs.declared.syntax.Program.{Program}
+use Rattle.c_tree.specs.Syntax as trees
+
+abbrev pub LayerOf : (Type 0 → Type 0 → Type 0 → Type 0 → Type 0 → Type 0) → Type 0
+LayerOf F = F trees.Expr trees.Spec trees.Declarator trees.Member trees.TypeName
+
+-- one layer of an expression, the trees in it seen already
+abbrev pub expr_layer : LayerOf Expr-F → trees.Expr
+expr_layer (Expr-F.Name n) = trees.name n
+expr_layer (Expr-F.Call callee args) = trees.call callee (trees.exprs_of args.items)
+expr_layer (Expr-F.Int place value) = trees.int place value
+expr_layer (Expr-F.Char place value) = trees.char place value
+expr_layer (Expr-F.Text parts) = trees.text parts.items
+expr_layer (Expr-F.Null place) = trees.null place
+expr_layer (Expr-F.Group e) = trees.group e.value
+expr_layer (Expr-F.Prefix place op e) = trees.prefix place op e.value
+expr_layer (Expr-F.SizeofType place t) = trees.sizeof_type place t
+expr_layer (Expr-F.SizeofExpr place e) = trees.sizeof_expr place e.value
+expr_layer (Expr-F.Cast place t e) = trees.cast place t e.value
+expr_layer (Expr-F.Index place a i) = trees.index place a.value i.value
+expr_layer (Expr-F.Member place a m) = trees.member place a.value m
+expr_layer (Expr-F.Arrow place a m) = trees.arrow place a.value m
+expr_layer (Expr-F.Binary place op a b) = trees.binary place op a.value b.value
+expr_layer (Expr-F.Conditional place a b c) = trees.conditional place a.value b.value c.value
+
+abbrev pub spec_layer : LayerOf Spec-F → trees.Spec
+spec_layer (Spec-F.Word place w) = trees.word place w
+spec_layer (Spec-F.Struct place tag) = trees.struct place tag
+spec_layer (Spec-F.StructBody place tag members) = trees.struct_body place tag (trees.members_row members.items)
+
+abbrev pub declarator_layer : LayerOf Declarator-F → trees.Declarator
+declarator_layer d = trees.declarator d.pointers.items d.name (trees.exprs_of d.dims.items)
+
+abbrev pub member_layer : LayerOf Member-F → trees.Member
+member_layer m = trees.members_of (trees.specs_of m.specs.items) (trees.declarators_of m.declarators.items)
+
+abbrev pub type_name_layer : LayerOf TypeName-F → trees.TypeName
+type_name_layer t = trees.type_name (trees.specs_of t.specs.items) t.pointers.items
+
+abbrev pub expr_view : CodeExpr → trees.Expr
+expr_view = fold-Expr trees.Expr trees.Spec trees.Declarator trees.Member trees.TypeName expr_layer spec_layer declarator_layer member_layer type_name_layer
+
+abbrev pub spec_view : CodeSpec → trees.Spec
+spec_view = fold-Spec trees.Expr trees.Spec trees.Declarator trees.Member trees.TypeName expr_layer spec_layer declarator_layer member_layer type_name_layer
+
+abbrev pub declarator_view : CodeDeclarator → trees.Declarator
+declarator_view = fold-Declarator trees.Expr trees.Spec trees.Declarator trees.Member trees.TypeName expr_layer spec_layer declarator_layer member_layer type_name_layer
+
+abbrev pub member_view : CodeMember → trees.Member
+member_view = fold-Member trees.Expr trees.Spec trees.Declarator trees.Member trees.TypeName expr_layer spec_layer declarator_layer member_layer type_name_layer
+
+abbrev pub type_name_view : CodeTypeName → trees.TypeName
+type_name_view = fold-TypeName trees.Expr trees.Spec trees.Declarator trees.Member trees.TypeName expr_layer spec_layer declarator_layer member_layer type_name_layer
+
+-- ---- declarations
+
+abbrev pub init_declarator_view : CodeInitDeclarator → trees.InitDeclarator
+init_declarator_view d = record { declarator = declarator_view d.declarator; value = option_map expr_view d.value }
+
+abbrev pub declaration_view : CodeDeclaration → trees.Declaration
+declaration_view d = record { specs = map spec_view d.specs.items; declarators = map init_declarator_view d.declarators.items }
+
+abbrev pub param_dim_view : CodeParamDim → trees.ParamDim
+param_dim_view d = record { place = d.place; size = option_map expr_view d.size }
+
+abbrev pub param_view : CodeParam → trees.Param
+param_view p = record {
+  specs = map spec_view p.specs.items;
+  pointers = p.pointers.items;
+  name = p.name;
+  dims = map param_dim_view p.dims.items;
+}
+
+-- ---- statements
+
+abbrev pub simple_view : CodeSimple → trees.Simple
+simple_view (simples.Before place op target) = trees.before place op (expr_view target)
+simple_view (simples.After place op target) = trees.after place op (expr_view target)
+simple_view (simples.Assign place op target value) = trees.assign place op (expr_view target) (expr_view value)
+simple_view (simples.Eval e) = trees.eval (expr_view e)
+
+abbrev pub for_first_view : CodeForFirst → trees.ForFirst
+for_first_view (firsts.Declare d) = trees.first_declare (declaration_view d)
+for_first_view (firsts.Simple s) = trees.first_simple (simple_view s)
+for_first_view firsts.Nothing = trees.first_nothing
+
+-- what is behind the first branch of an if
+abbrev pub if_layer : ℕ → CodeExpr → trees.Stmt → Option (Box trees.Stmt Global) → trees.Stmt
+if_layer place condition then None = trees.if_then place (expr_view condition) then
+if_layer place condition then (Some otherwise) = trees.if_else place (expr_view condition) then otherwise.value
+
+-- one layer of a statement, the statements in it seen already
+abbrev pub stmt_layer : Stmt-F trees.Stmt → trees.Stmt
+stmt_layer (Stmt-F.Block place items) = trees.block place (trees.stmts_of items.items)
+stmt_layer (Stmt-F.Declare d) = trees.declare (declaration_view d)
+stmt_layer (Stmt-F.Empty place) = trees.empty place
+stmt_layer (Stmt-F.If place condition then otherwise) = if_layer place condition then.value otherwise
+stmt_layer (Stmt-F.While place condition body) = trees.while place (expr_view condition) body.value
+stmt_layer (Stmt-F.For place first condition step body) =
+    trees.for place (for_first_view first) (option_map expr_view condition) (option_map simple_view step) body.value
+stmt_layer (Stmt-F.Break place) = trees.break place
+stmt_layer (Stmt-F.Continue place) = trees.continue place
+stmt_layer (Stmt-F.Return place value) = trees.return place (option_map expr_view value)
+stmt_layer (Stmt-F.Simple s) = trees.simple (simple_view s)
+
+abbrev pub stmt_view : CodeStmt → trees.Stmt
+stmt_view = fold-Stmt trees.Stmt stmt_layer
+
+-- ---- files
+
+abbrev pub body_view : CodeBlock → trees.Body
+body_view b = record { place = b.place; items = map stmt_view b.items.items }
+
+abbrev pub rest_view : CodeRest → trees.Rest
+rest_view rests.Nothing = trees.nothing
+rest_view (rests.Function pointers n params body) =
+    trees.function pointers.items n (map param_view params.items) (option_map body_view body)
+rest_view (rests.Variables declarators) = trees.variables (map init_declarator_view declarators.items)
+
+abbrev pub external_view : CodeExternal → trees.External
+external_view e = record { storage = e.storage.items; specs = map spec_view e.specs.items; rest = rest_view e.rest }
+
+-- a program
+abbrev pub view : Program → trees.File
+view p = record { externals = map external_view p.externals.items }
