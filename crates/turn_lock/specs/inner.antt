@@ -1,2 +1,3 @@
--- What the tests alone use: nothing here has to be believed.
+-- What laws of objects and the tests use: nothing here has to be believed.
+pub mod Own
 pub mod Tallies
