@@ -4,7 +4,7 @@ ghost use Rattle.ak_trace.specs.declared.entry.Entry.{Entry};
 ghost use Rattle.turn_lock.specs.declared.board.Stage.TheVariants.{Idle, Holding};
 ghost use Rattle.turn_lock.specs.Limits.{most_passes};
 ghost use Rattle.turn_lock.specs.Histories.{of_worker};
-ghost use Rattle.turn_lock.specs.Board.{holding, after_call};
+ghost use Rattle.turn_lock.specs.inner.Board.{holding, after_call};
 ghost use Rattle.turn_lock.specs.Locks.{first_of, seen_of, own_of, worker_of, IsPassOf, MakesCall};
 
 use crate::board::{DRAWN, Draw, Leads, Leaves, Look, Place, SERVED, Serve};
