@@ -10,6 +10,9 @@ pub mod ir;
 pub mod laws;
 mod scope;
 mod step;
+#[cfg(test)]
+mod tests;
+pub mod listing;
 pub mod valid;
 
 pub use code::{
@@ -17,4 +20,5 @@ pub use code::{
 };
 pub use erasing::erase;
 pub use ir::Ir;
+pub use listing::text;
 pub use valid::is_valid;
