@@ -53,6 +53,10 @@ number_of [] = Some 0
 number_of (Byte low ∷ cells) = option_map (λ high. low + 256 * high) (number_of cells)
 number_of (cell ∷ cells) = None
 
+-- the same as a reading: C4 where a cell was never written, and C16 where one belongs to a pointer
+abbrev pub read_number : List Cell → Result ℕ Rule
+read_number cells = if has_unknown cells then Err C4 else ok_or (number_of cells) C16
+
 -- the cells are the parts of this pointer, from part k on, in order
 abbrev pub are_parts : (block offset k : ℕ) → List Cell → Bool
 are_parts block offset k [] = true
