@@ -1,6 +1,5 @@
 -- The worked rows hold by computing them.
 use Rattle.std.proofs.Common.{refl}
-use Rattle.std.specs.Fmt.{digits}
 use Rattle.ak_words.specs.Wrapped.{residue, wrapped_value}
 use Rattle.block_store.specs.Rows.{ActionsStand, PointersStand}
 
@@ -66,7 +65,7 @@ actions_stand = record {
 }
 
 pub pointers_stand : PointersStand
-unfolding digits residue wrapped_value
+unfolding residue wrapped_value
 pointers_stand = record {
   to_the_end = refl;
   past_the_end = refl;
@@ -94,9 +93,4 @@ pointers_stand = record {
   no_whole_ints = refl;
   of_nulls = refl;
   across_blocks = refl;
-  signed = refl;
-  unsigned = refl;
-  signed_again = refl;
-  hex = refl;
-  low_byte = refl;
 }

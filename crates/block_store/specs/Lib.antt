@@ -3,7 +3,6 @@ pub mod Blocks
 pub mod Pointers
 pub mod Mutexes
 pub mod Texts
-pub mod Numerals
 pub mod Actions
 pub mod Runs
 pub mod Rows

@@ -16,7 +16,6 @@ use Rattle.block_store.specs.declared.values.Value.TheVariants as values
 use Rattle.block_store.specs.Blocks.{Blocks}
 use Rattle.block_store.specs.Cells.{cells_of}
 use Rattle.block_store.specs.Pointers.{moved, indexed, tested, compared, difference}
-use Rattle.block_store.specs.Numerals.{signed_numeral, unsigned_numeral, hex_numeral, character}
 use Rattle.block_store.specs.Actions.{Thread, World, running, returned, joined, with_blocks, staged, Printed, bytes, text, Action, load, store, copy, allocate, free, print, lock, unlock, destroy, start, join, finish, Done, went, blocked, unfit, broke, acted}
 
 -- a mutex of zero bytes; the literal "hi"; a local of four bytes never written; a block that was freed; and a heap block with a
@@ -183,9 +182,3 @@ pub record PointersStand : Type 0 where
   pub no_whole_ints : difference here (To 4 6) (To 4 0) 4 ≡ Err rules.C8
   pub of_nulls : difference here Null Null 4 ≡ Ok (pos 0)
   pub across_blocks : difference here (To 1 0) (To 2 0) 1 ≡ Err rules.C8
-  -- printf of -1 and 300
-  pub signed : signed_numeral 32 (num int (negsuc 0)) ≡ codes "-1"
-  pub unsigned : unsigned_numeral 32 (num int (negsuc 0)) ≡ codes "4294967295"
-  pub signed_again : signed_numeral 32 (num unsigned_long (pos 4294967295)) ≡ codes "-1"
-  pub hex : hex_numeral 64 (num unsigned_long (pos 48879)) ≡ codes "beef"
-  pub low_byte : character (num int (pos 300)) ≡ 44 ∷ []
