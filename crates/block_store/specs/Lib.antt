@@ -1,3 +1,4 @@
+pub mod inner
 pub mod Cells
 pub mod Blocks
 pub mod Pointers
