@@ -50,13 +50,6 @@ lives_there (None ∷ B) zero d c e = cc
 lives_there (Some b ∷ B) zero d c e = e
 lives_there (x ∷ B) (suc f) d c e = lives_there B f d c e
 
-pub no_block : (P : Block → Type 0) (B : Blocks) (t : ℕ) (d : Option Block) → d ≡ get_or B t d → d ≡ None → IsSomeAnd (live B t) P → ⊥
-no_block P B t d e n h = by (live B t) refl h
-  where
-    by : (r : Option Block) → live B t ≡ r → IsSomeAnd r P → ⊥
-    by None is h = h
-    by (Some b) is h = let x : Some b ≡ None = sym (lives_there B t d b is) ∙ sym e ∙ n in cc
-
 -- the block that stands there lives
 pub stands_live : (P : Block → Type 0) (B : Blocks) (t : ℕ) (d : Option Block) (s : Block) → Some s ≡ get_or B t d → IsSomeAnd (live B t) P → live B t ≡ Some s
 stands_live P B t d s e h = by (live B t) refl h
@@ -74,17 +67,6 @@ copied_across P B B1 B2 f t o n fo s d x cells e1 ne lives e2 e3 e4 e5 =
     ap (λ l. set l f (Some s)) (e5 ∙ ap (λ l. overwritten (set l f x) t o cells) e1 ∙ ap (λ y. overwritten (set B f y) t o cells) e3)
     ∙ written_across B f t o s cells ne is
     ∙ ap (λ new. overwritten B t o new) (e4 ∙ ap (λ r. held n fo r) (sym is))
-
--- the whole copy inside one block
-pub copied_inside : (P : Block → Type 0) (B B1 : Blocks) (f t o n fo : ℕ) (b : Block) (d : Option Block) (new : List Cell) → B1 ≡ B → t ≡ f
-    → IsSomeAnd (live B t) P → Some b ≡ get_or B1 t d → new ≡ with_cells b.cells o (take n (drop fo b.cells))
-    → set B1 t (Some (record { kind = b.kind; cells = new })) ≡ overwritten B t o (held n fo (live B f))
-copied_inside P B B1 f t o n fo b d new e1 same lives e2 e3 =
-    let is : live B t ≡ Some b = stands_live P B t d b (e2 ∙ ap (λ l. get_or l t d) e1) lives in
-    ap (λ l. set l t (Some (record { kind = b.kind; cells = new }))) e1
-    ∙ ap (λ cells. set B t (Some (record { kind = b.kind; cells = cells }))) e3
-    ∙ ap (λ r. overwritten_if B t o (take n (drop fo b.cells)) r) (sym is)
-    ∙ ap (λ r. overwritten B t o (held n fo r)) (sym is ∙ ap (λ g. live B g) same)
 
 -- ---- inside a block
 

@@ -55,8 +55,9 @@ struct Place {
 }
 
 impl Block {
-    ghost use Rattle.std.specs.Prelude.{◌+◌, ◌≤◌, ◌<◌, ◌^◌, drop, take};
+    ghost use Rattle.std.specs.Prelude.{◌+◌, ◌≤◌, ◌<◌, ◌^◌, drop, take, false};
     ghost use Rattle.block_store.specs.Blocks.{with_cells};
+    ghost use Rattle.block_store.specs.inner.Copying.{is_read_late};
 
     fn is_heap(&self) -> bool
         ensures { result ≡ is_heap self.now.kind }
@@ -89,6 +90,15 @@ impl Block {
     {
         let start = self.size().min(offset);
         &self.cells[start as usize..]
+    }
+
+    fn copy(&mut self, to: usize, from: usize, n: usize)
+        requires target { to + n ≤ length self.old.cells }
+        requires source { from + n ≤ length self.old.cells }
+        requires apart { is_read_late n to from ≡ false }
+        ensures { self.new ≡ record { kind = self.old.kind; cells = with_cells self.old.cells to (take n (drop from self.old.cells)) } }
+    {
+        copy_inside(&mut self.cells, to, from, n);
     }
 
     fn write(&mut self, offset: usize, new: &[Cell])
@@ -448,7 +458,7 @@ impl Store {
         ensures { self.new ≡ overwritten self.old name to (held n from (live self.old name)) }
     {
         if let Some(block) = &mut self.blocks[name as usize] {
-            copy_inside(&mut block.cells, to as usize, from as usize, n as usize);
+            block.copy(to as usize, from as usize, n as usize);
         }
     }
 
