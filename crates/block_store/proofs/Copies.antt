@@ -1,8 +1,8 @@
 -- Copies of cells inside a block, and from one block to another.
-use Rattle.std.proofs.Common.{◌≡◌, ◌≢◌, refl, sym, ◌∙◌, ap, ℕ, zero, suc, ◌+◌, ◌-◌, ◌<◌, ◌≤◌, List, [], ◌∷◌, ◌++◌, length, take, drop, set, get_or, append_assoc, append-nil, drop-cons, Some, arith, ◌⊎◌, inl, inr}
-use Rattle.std.specs.Prelude.{Bool, true, false, ◌&&◌, ◌==◌, not, nat_lt, Option, None, IsSomeAnd}
+use Rattle.std.proofs.Common.{◌≡◌, ◌≢◌, refl, sym, ◌∙◌, ap, ℕ, zero, suc, ◌+◌, ◌-◌, ◌<◌, ◌≤◌, List, [], ◌∷◌, ◌++◌, length, take, drop, set, get_or, append_assoc, drop-cons, Some, arith, ◌⊎◌, inl, inr}
+use Rattle.std.specs.Prelude.{false, Option, None, IsSomeAnd}
 use Rattle.std.proofs.lemmas.Bool.Decides.{nat_tests}
-use Rattle.std.proofs.lemmas.List.{set-set, set_comm, set-get_or, set_at, get_or-set_other, get_or_append_left, get_or-append_right, get_or-take, get_or-drop, take-append-drop, length-take-le, length-append, length-drop, take_more}
+use Rattle.std.proofs.lemmas.List.{set-set, set_comm, set-get_or, set_at, get_or-set_other, get_or_append_left, get_or-append_right, get_or-take, get_or-drop, length-take-le, length-append, length-drop, take_more}
 use Rattle.block_store.specs.declared.values.Cell.{Cell}
 use Rattle.block_store.specs.Blocks.{Block, Blocks, live, with_cells}
 use Rattle.block_store.specs.inner.Copying.{is_read_late, overwritten, overwritten_if, held}
@@ -70,9 +70,6 @@ copied_across P B B1 B2 f t o n fo s d x cells e1 ne lives e2 e3 e4 e5 =
 
 -- ---- inside a block
 
-nothing_new : (c : List Cell) (o : ℕ) → with_cells c o [] ≡ c
-nothing_new c o = (let e : o + 0 ≡ o = omega arith in ap (λ n. take o c ++ [] ++ drop n c) e) ∙ ap (λ (t : List Cell). t ++ drop o c) (append-nil (take o c)) ∙ take-append-drop o c
-
 -- the stretches are one, or one lies behind the other
 not_late : (n to from : ℕ) → is_read_late n to from ≡ false → (from + n ≤ to) ⊎ (to ≤ from)
 not_late n to from e = grind (arith, nat_tests)
@@ -105,10 +102,6 @@ one_more c new o x h =
     ∙ sym (append_assoc (take o c ++ new) (x ∷ []) (drop (o + length (new ++ x ∷ [])) c))
     ∙ ap (λ (t : List Cell). t ++ drop (o + length (new ++ x ∷ [])) c) (append_assoc (take o c) new (x ∷ []))
 
--- before the first cell
-pub copied-none : (c : List Cell) (to from : ℕ) → c ≡ with_cells c to (take 0 (drop from c))
-copied-none c to from = sym (nothing_new c to)
-
 -- the next cell is copied
 pub copied-next : (c : List Cell) (to from n k : ℕ) (x : Cell) → k < n → to + n ≤ length c → from + n ≤ length c → is_read_late n to from ≡ false
     → x ≡ get_or (with_cells c to (take k (drop from c))) (from + k) x
@@ -120,10 +113,10 @@ copied-next c to from n k x h t s late e =
     let le : to + length (take k (drop from c)) ≤ length c = omega (arith, ln, h, t) in
     let lt : to + length (take k (drop from c)) < length c = omega (arith, ln, h, t) in
     let unchanged : get_or (with_cells c to (take k (drop from c))) (from + k) x ≡ get_or c (from + k) x =
-        elim (not_late n to from late) [
-          inl low ↦ before c new to (from + k) x (omega (arith, low, h)) le
-        | inr high ↦ behind c new to (from + k) x (omega (arith, high, ln)) le
-        ] in
+    elim (not_late n to from late) [
+      | inl low ↦ before c new to (from + k) x (omega (arith, low, h)) le
+      | inr high ↦ behind c new to (from + k) x (omega (arith, high, ln)) le
+    ] in
     let same : get_or (drop from c) k x ≡ x = get_or-drop from c k x ∙ sym unchanged ∙ sym e in
     ap (λ j. set (with_cells c to (take k (drop from c))) (to + j) x) (sym ln)
     ∙ one_more c new to x lt

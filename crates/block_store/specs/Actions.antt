@@ -1,6 +1,6 @@
 -- What threads share, and what one action of a thread makes of it. The meaning of the source and that of structured code stand on
 -- these; neither knows anything else of what other threads did.
-use Rattle.std.specs.Prelude.{ℕ, ◌+◌, ◌^◌, ◌==◌, ◌||◌, nat_lt, Bool, true, false, if◌then◌else◌, List, [], ◌∷◌, ◌++◌, length, set, slice_get, Option, Some, None, Result, Ok, Err, ℤ, pos}
+use Rattle.std.specs.Prelude.{ℕ, ◌^◌, ◌==◌, nat_lt, Bool, if◌then◌else◌, List, [], ◌∷◌, ◌++◌, length, set, slice_get, Option, Some, None, Result, Ok, Err, ℤ, pos}
 use Rattle.ak_words.specs.declared.rule.Rule.{Rule}
 use Rattle.ak_words.specs.declared.rule.Rule.TheVariants.{C14}
 use Rattle.ak_words.specs.IntType.{int, unsigned_long}

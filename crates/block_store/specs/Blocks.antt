@@ -5,7 +5,7 @@ use Rattle.ak_words.specs.declared.rule.Rule.{Rule}
 use Rattle.ak_words.specs.declared.rule.Rule.TheVariants.{C5, C6, C10, C11, C12}
 use Rattle.block_store.specs.declared.values.Access.{Access}
 use Rattle.block_store.specs.declared.values.BlockKind.{BlockKind}
-use Rattle.block_store.specs.declared.values.BlockKind.TheVariants.{Global, Literal, Local, Heap}
+use Rattle.block_store.specs.declared.values.BlockKind.TheVariants.{Literal, Heap}
 use Rattle.block_store.specs.declared.values.Cell.{Cell}
 use Rattle.block_store.specs.declared.values.Cell.TheVariants.{Byte}
 use Rattle.block_store.specs.declared.values.Ptr.{Ptr}

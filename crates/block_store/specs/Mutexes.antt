@@ -3,12 +3,13 @@
 use Rattle.std.specs.Prelude.{ℕ, ◌+◌, ◌==◌, if◌then◌else◌, map, Option, Some, None, Result, Ok, Err}
 use Rattle.ak_words.specs.declared.rule.Rule.{Rule}
 use Rattle.ak_words.specs.declared.rule.Rule.TheVariants.{C12, C13}
+use Rattle.ak_words.specs.Bytes.{low_bytes}
 use Rattle.block_store.specs.declared.values.Cell.TheVariants.{Byte}
 use Rattle.block_store.specs.declared.values.LockEnd.{LockEnd}
 use Rattle.block_store.specs.declared.values.LockEnd.TheVariants as ends
 use Rattle.block_store.specs.declared.values.Ptr.{Ptr}
 use Rattle.block_store.specs.Blocks.{Blocks, Spot, spot_at, cells_at, with_cells_at, is_literal}
-use Rattle.block_store.specs.Cells.{low_bytes, read_number}
+use Rattle.block_store.specs.Cells.{read_number}
 
 -- where a mutex lies, and its number
 pub record Mutex : Type 0 where

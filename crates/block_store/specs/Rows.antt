@@ -1,8 +1,8 @@
 -- Actions worked out by hand: the definitions, put to the test.
-use Rattle.std.specs.Prelude.{◌≡◌, ℕ, ◌^◌, List, [], ◌∷◌, ◌++◌, map, take, replicate, codes, Option, Some, None, Result, Ok, Err, pos, negsuc, true, false}
+use Rattle.std.specs.Prelude.{◌≡◌, ℕ, ◌^◌, List, [], ◌∷◌, ◌++◌, map, take, replicate, codes, Some, None, Ok, Err, pos, negsuc, true, false}
 use Rattle.ak_words.specs.declared.operation.Op.TheVariants as ops
 use Rattle.ak_words.specs.declared.rule.Rule.TheVariants as rules
-use Rattle.ak_words.specs.IntType.{char, int, unsigned_long}
+use Rattle.ak_words.specs.IntType.{char, int}
 use Rattle.ak_words.specs.Num.{num}
 use Rattle.block_store.specs.declared.values.Access.TheVariants as accesses
 use Rattle.block_store.specs.declared.values.Answer.TheVariants as answers
@@ -16,7 +16,7 @@ use Rattle.block_store.specs.declared.values.Value.TheVariants as values
 use Rattle.block_store.specs.Blocks.{Blocks}
 use Rattle.block_store.specs.Cells.{cells_of}
 use Rattle.block_store.specs.Pointers.{moved, indexed, tested, compared, difference}
-use Rattle.block_store.specs.Actions.{Thread, World, running, returned, joined, with_blocks, staged, Printed, bytes, text, Action, load, store, copy, allocate, free, print, lock, unlock, destroy, start, join, finish, Done, went, blocked, unfit, broke, acted}
+use Rattle.block_store.specs.Actions.{Thread, World, running, returned, joined, with_blocks, staged, bytes, text, Action, load, store, copy, allocate, free, print, lock, unlock, destroy, start, join, finish, Done, went, blocked, unfit, broke, acted}
 
 -- a mutex of zero bytes; the literal "hi"; a local of four bytes never written; a block that was freed; and a heap block with a
 -- pointer to its own first byte, and then 41, an int

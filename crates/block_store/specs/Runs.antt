@@ -1,6 +1,6 @@
 -- Turns of several threads over one world, and the runs that they make up, of threads of any kind: those of the source, and those of
 -- structured code.
-use Rattle.std.specs.Prelude.{ℕ, zero, suc, Bool, true, false, if◌then◌else◌, List, [], ◌∷◌, ◌++◌, map, drop, set, slice_get, length, Option, Some, None}
+use Rattle.std.specs.Prelude.{ℕ, suc, List, [], ◌∷◌, ◌++◌, map, drop, set, slice_get, length, Option, Some, None}
 use Rattle.std.specs.Option.{option_flatten}
 use Rattle.ak_words.specs.declared.rule.Rule.{Rule}
 use Rattle.block_store.specs.declared.values.Answer.{Answer}

@@ -1,5 +1,6 @@
 ghost use Rattle.std.specs.Prelude.{◌≡◌, ◌<◌, ◌≤◌, ◌+◌, ◌^◌, IfOk, IfSome, length, map, take, drop, false};
-ghost use Rattle.block_store.specs.Cells.{size_of, access_of, cells_of, pointer_cells, low_bytes, has_unknown, number_of, read_number, are_parts, are_zeros, pointer_of, read};
+ghost use Rattle.ak_words.specs.Bytes.{low_bytes};
+ghost use Rattle.block_store.specs.Cells.{size_of, access_of, cells_of, pointer_cells, has_unknown, number_of, read_number, are_parts, are_zeros, pointer_of, read};
 ghost use Rattle.block_store.specs.Blocks.{with_cells};
 ghost use Rattle.block_store.specs.Texts.{text_of, length_of};
 ghost use Rattle.block_store.specs.inner.Copying.{is_read_late};

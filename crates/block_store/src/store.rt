@@ -6,9 +6,7 @@ ghost use Rattle.block_store.specs.Blocks.{is_freeable, is_heap, is_literal, liv
 ghost use Rattle.block_store.specs.Mutexes.{mutex_at, locked, unlocked, destroyed, lock_end, store_after_lock};
 ghost use Rattle.block_store.specs.Texts.{text_len};
 
-use crate::cells::{
-    byte_cells, cells_of, copy_inside, literal_cells, read, read_number, text_len,
-};
+use crate::cells::{byte_cells, cells_of, copy_inside, literal_cells, read, read_number, text_len};
 use crate::values::{Access, BlockKind, Cell, LockEnd, Ptr, Value};
 use ak_words::{NoMemory, Rule};
 use std::alloc::Global;
@@ -270,14 +268,7 @@ impl Store {
     /// nothing: C5 and C6 of the target, then of the source, by this alignment, then C12 in a string literal, and then
     /// C11 where the ranges overlap, but for exactly the same range where `same` says so. No byte breaks no rule (C11
     /// 7.24.2.1, 6.5.16.1 p3).
-    pub fn copy(
-        &mut self,
-        to: Ptr,
-        from: Ptr,
-        n: u32,
-        align: u32,
-        same: bool,
-    ) -> Result<(), Rule>
+    pub fn copy(&mut self, to: Ptr, from: Ptr, n: u32, align: u32, same: bool) -> Result<(), Rule>
         requires { 0 < align }
         ensures answer { result ≡ answer_of (copied self.old to from n align same) }
         ensures after { self.new ≡ store_after (copied self.old to from n align same) self.old }
