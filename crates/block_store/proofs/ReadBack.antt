@@ -1,25 +1,25 @@
 -- What a value is stored as is read as that value again.
-use Rattle.std.proofs.Common.{◌≡◌, refl, ap, sym, ◌∙◌, ℕ, zero, suc, ◌+◌, ◌*◌, ◌/◌, ◌%◌, ◌^◌, ◌<◌, List, [], ◌∷◌, map, Some, Ok, Err, arith, ℤ, pos}
+use Rattle.std.proofs.Common.{◌≡◌, refl, ap, ◌∙◌, ℕ, zero, suc, ◌+◌, ◌*◌, ◌/◌, ◌%◌, ◌^◌, ◌<◌, List, [], ◌∷◌, map, Some, Ok, arith, pos}
 use Rattle.std.proofs.lemmas.Bool.Decides.{nat_tests}
-use Rattle.std.specs.Prelude.{Bool, true, false, ◌==◌, ◌&&◌, IsTrue, if◌then◌else◌, Option, None, Result}
-use Rattle.std.specs.Option.{option_map, ok_or}
+use Rattle.std.specs.Prelude.{true, false, ◌==◌, IsTrue}
+use Rattle.std.specs.Option.{option_map}
 use Rattle.ak_words.specs.declared.int_type.IntType.{IntType}
 use Rattle.ak_words.specs.declared.number.Num.{Num}
-use Rattle.ak_words.specs.declared.rule.Rule.{Rule}
-use Rattle.ak_words.specs.declared.rule.Rule.TheVariants.{C4, C16}
 use Rattle.ak_words.specs.Num.{num}
 use Rattle.ak_words.specs.Width.{is_width}
 use Rattle.ak_words.specs.Wrapped.{bit_pattern}
 use Rattle.ak_words.specs.inner.InRange.{residue-below}
+use Rattle.ak_words.specs.Bytes.{low_bytes}
+use Rattle.ak_words.proofs.Bytes.{low_bytes-suc}
 use Rattle.ak_words.proofs.Numbers.{num-residue}
 use Rattle.std.proofs.Math.Pow.{pow_pos}
 use Rattle.block_store.specs.declared.values.Access.TheVariants as accesses
 use Rattle.block_store.specs.declared.values.Cell.{Cell}
-use Rattle.block_store.specs.declared.values.Cell.TheVariants.{Unknown, Byte, Part}
+use Rattle.block_store.specs.declared.values.Cell.TheVariants.{Byte}
 use Rattle.block_store.specs.declared.values.Ptr.TheVariants.{Null, To}
 use Rattle.block_store.specs.declared.values.Value.{Value}
 use Rattle.block_store.specs.declared.values.Value.TheVariants as values
-use Rattle.block_store.specs.Cells.{access_of, cells_of, low_bytes, has_unknown, number_of, are_parts, read}
+use Rattle.block_store.specs.Cells.{access_of, cells_of, has_unknown, number_of, read}
 
 -- bytes are written cells
 has_unknown-bytes : (bs : List ℕ) → has_unknown (map Byte bs) ≡ false
@@ -31,7 +31,7 @@ number_of-bytes : (k n : ℕ) → n < 256 ^ k → number_of (map Byte (low_bytes
 number_of-bytes zero n h = ap Some (omega arith)
 number_of-bytes (suc k) n h =
     let small : n / 256 < 256 ^ k = omega arith in
-    rw (number_of-bytes k (n / 256) small) (ap Some (omega arith))
+    ap (λ bs. number_of (map Byte bs)) (low_bytes-suc k n) ∙ ap (λ r. option_map (λ high. n % 256 + 256 * high) r) (number_of-bytes k (n / 256) small) ∙ (let e : n % 256 + 256 * (n / 256) ≡ n = omega arith in ap Some e)
 
 -- a width in bits is eight times one in bytes
 width_bytes : (n : ℕ) → IsTrue (is_width n) → 256 ^ (n / 8) ≡ 2 ^ n
