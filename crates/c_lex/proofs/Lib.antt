@@ -10,4 +10,5 @@ pub mod Chains
 pub mod Orders
 pub mod Longest
 pub mod Strings
+pub mod Names
 pub mod NameMaps

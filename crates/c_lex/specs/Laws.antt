@@ -1,13 +1,17 @@
 -- Laws of the tokens of a text.
-use Rattle.std.specs.Prelude.{◌≡◌, ℕ, ◌<◌, ◌≤◌, List, [], ◌∷◌, length, map, false, Contains, ◌⊎◌}
-use Rattle.std.specs.List.{slice_range, AllByRecursion}
+use Rattle.std.specs.Prelude.{◌≡◌, ◌≢◌, ℕ, ◌<◌, ◌≤◌, List, [], ◌∷◌, ◌++◌, length, map, true, false, None, Contains, ◌⊎◌}
+use Rattle.std.specs.List.{slice_range, list_all, AllByRecursion}
 use Rattle.std.specs.List.Sorted.{IsStrictlyIncreasing}
 use Rattle.c_lex.specs.declared.refusal.Refusal.{Refusal}
 use Rattle.c_lex.specs.declared.token.Token.{Token}
+use Rattle.c_lex.specs.declared.token.TokenKind.TheVariants as tokens
 use Rattle.c_lex.specs.declared.item.Item.{Item}
 use Rattle.c_lex.specs.declared.item.Item.TheVariants as items
+use Rattle.c_lex.specs.Bytes.{is_letter, is_name_byte}
+use Rattle.c_lex.specs.Spellings.{word_of}
+use Rattle.c_lex.specs.Directives.{begins}
 use Rattle.c_lex.specs.Items.{found, item_at}
-use Rattle.c_lex.specs.Tokens.{AreTokens}
+use Rattle.c_lex.specs.Tokens.{end_of, AreTokens}
 use Rattle.c_lex.specs.Refusals.{RefusesText}
 
 -- a text has no two lists of tokens
@@ -57,3 +61,21 @@ pub record AreOrdered (text : List ℕ) (tokens : List Token) : Type 0 where
 -- the tokens of a text are in order
 abbrev pub OrderedTokens : Type 0
 OrderedTokens = (text : List ℕ) (ts : List Token) → AreTokens text ts → AreOrdered text ts
+
+-- the list is tokens that are no end, and then the one that ends the text
+abbrev pub EndsOnce : List ℕ → List Token → Type 0
+EndsOnce text ts = (front : List Token) × (ts ≡ front ++ end_of text ∷ []) × AllByRecursion (λ t. t.kind ≢ tokens.End) front
+
+-- the tokens of a text have one end, the last
+abbrev pub OneEnd : Type 0
+OneEnd = (text : List ℕ) (ts : List Token) → AreTokens text ts → EndsOnce text ts
+
+-- the bytes are a name of the program's own: a letter or _, then letters, digits and _, and no reserved word (C11 6.4.2.1)
+pub record IsName (bytes : List ℕ) : Type 0 where
+  pub first : begins is_letter bytes ≡ true
+  pub each : list_all is_name_byte bytes ≡ true
+  pub free : word_of bytes ≡ None
+
+-- a token that is a name spans the bytes of one
+abbrev pub NamesAreNames : Type 0
+NamesAreNames = (text : List ℕ) (ts : List Token) → AreTokens text ts → (t : Token) → Contains ts t → t.kind ≡ tokens.Name → IsName (slice_range text t.from t.to)

@@ -1,6 +1,6 @@
 //! Laws of the tokens of a text, which hold for every text.
 
-ghost use Rattle.c_lex.specs.Laws.{OneTokenList, OneRefusal, TokensOrRefusal, EachTextIsRead, LongestToken, OrderedTokens};
+ghost use Rattle.c_lex.specs.Laws.{OneTokenList, OneRefusal, TokensOrRefusal, EachTextIsRead, LongestToken, OrderedTokens, OneEnd, NamesAreNames};
 
 /// A text has no two lists of tokens.
 pub fn only()
@@ -30,4 +30,14 @@ pub fn longest()
 /// The tokens of a text lie in it, one behind the other, and their places rise.
 pub fn ordered()
     ensures { OrderedTokens }
+{}
+
+/// The tokens of a text have one end, the last.
+pub fn one_end()
+    ensures { OneEnd }
+{}
+
+/// A token that is a name spans the bytes of a name that is no reserved word.
+pub fn names()
+    ensures { NamesAreNames }
 {}

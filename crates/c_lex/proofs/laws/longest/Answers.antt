@@ -2,23 +2,14 @@ use Rattle.std.proofs.Common.{◌≡◌, ℕ, ◌-◌, ◌<◌, ◌≤◌, List,
 use Rattle.std.proofs.lemmas.List.{length-drop, length-take-le}
 use Rattle.std.proofs.lemmas.List.Elements.{Contains-append_cases}
 use Rattle.c_lex.specs.declared.token.Token.{Token}
-use Rattle.c_lex.specs.declared.token.TokenKind.{TokenKind}
 use Rattle.c_lex.specs.declared.item.Item.{Item}
-use Rattle.c_lex.specs.declared.item.Item.TheVariants as items
 use Rattle.c_lex.specs.Items.{found}
 use Rattle.c_lex.specs.Tokens.{end_of}
-use Rattle.c_lex.specs.Laws.{IsToken, Spells}
-use Rattle.c_lex.proofs.Chains.{IsOfKind, TokenAt, tokens_stand, stands_at, only_end}
+use Rattle.c_lex.specs.Laws.{Spells}
+use Rattle.c_lex.proofs.Chains.{TokenAt, tokens_stand, stands_at, only_end}
 use Rattle.c_lex.proofs.Longest.{no_longer}
+use Rattle.c_lex.proofs.Names.{is_token}
 use Rattle.c_lex.proofs.laws.longest.Goals as goal
-
--- what gives a token is one
-is_token : (item : Item) (kind : TokenKind) → IsOfKind item kind → IsToken item
-is_token items.Blank kind of = of
-is_token items.Name kind of = tt
-is_token (items.Token k) kind of = tt
-is_token (items.Define d) kind of = of
-is_token (items.Fault k) kind of = of
 
 -- no more bytes than those of a token that stands there
 at : (text : List ℕ) (t : Token) (to : ℕ) (item : Item) → TokenAt text 0 t → t.to < to → to ≤ length text → Spells (take (to - t.from) (drop t.from text)) item → ⊥
