@@ -1,11 +1,8 @@
 -- Programs that keep each other's turns show the same under every order, and what is shown tells where a run comes to.
-use Rattle.std.proofs.Common.{◌≡◌, refl, ap, ◌∙◌, sym, subst, ℕ, zero, suc, List, [], ◌∷◌, ◌++◌, length, map, drop, set, Option, Some, None}
-use Rattle.std.specs.Prelude.{slice_get}
-use Rattle.ak_words.specs.declared.rule.Rule.{Rule}
-use Rattle.block_store.specs.declared.values.Answer.{Answer}
+use Rattle.std.proofs.Common.{◌≡◌, refl, ap, subst, ℕ, zero, suc, List, [], ◌∷◌, ◌++◌, length, map, drop, set, Option, Some, None}
 use Rattle.block_store.specs.Actions.{World, Thread}
-use Rattle.block_store.specs.Runs.{Turn, went, ended, blocked, unfit, broke, Program, State, Run, reaches, breaks, no_run, Pick, begun, next_state, own_at, turn_if, picked, goes_on, run_from, run, Shown, it_went, it_ended, it_blocked, it_was_unfit, no_such_turn, shown_then, shown_from, shown}
-use Rattle.c_meaning.specs.Alike.{TurnsAlike, both_went, both_ended, both_blocked, both_unfit, both_broke, KeepsTurns, Reached, in_world, at_break, at_no_run, reached_by, reached_in}
+use Rattle.block_store.specs.Runs.{Turn, went, ended, blocked, unfit, broke, Program, State, Run, Pick, begun, next_state, own_at, turn_if, picked, goes_on, run_from, run, Shown, it_went, it_ended, it_blocked, it_was_unfit, no_such_turn, shown_then, shown_from, shown}
+use Rattle.c_meaning.specs.Alike.{TurnsAlike, both_went, both_ended, both_blocked, both_unfit, both_broke, KeepsTurns, reached_by, reached_in}
 
 -- ---- what threads have of their own
 

@@ -1,10 +1,10 @@
 -- When two programs, of threads of any two kinds, do the same turn by turn: their threads' own things are related, and stay so.
-use Rattle.std.specs.Prelude.{◌≡◌, ℕ, suc, List, [], ◌∷◌, Option, Some, None}
+use Rattle.std.specs.Prelude.{ℕ, suc, List, [], ◌∷◌}
 use Rattle.ak_words.specs.declared.rule.Rule.{Rule}
 use Rattle.block_store.specs.declared.values.Answer.{Answer}
 use Rattle.block_store.specs.declared.values.Ptr.{Ptr}
 use Rattle.block_store.specs.Actions.{World}
-use Rattle.block_store.specs.Runs.{Turn, went, ended, blocked, unfit, broke, Program, State, Run, reaches, breaks, no_run, Pick, run, shown, Shown, it_went, it_ended, it_blocked, it_was_unfit, it_broke, no_such_turn}
+use Rattle.block_store.specs.Runs.{Turn, went, ended, blocked, unfit, broke, Program, Run, reaches, breaks, no_run, Shown, it_went, it_ended, it_blocked, it_was_unfit, it_broke, no_such_turn}
 
 -- two turns come out alike: the same way, in the same world or at the same place, and what the threads then have is related
 pub data TurnsAlike {A B : Type 0} (R : A → B → Type 0) : Turn A → Turn B → Type 0 where

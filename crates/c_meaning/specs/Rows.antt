@@ -1,14 +1,12 @@
 -- Small programs, worked out by hand: the definitions, put to the test.
-use Rattle.std.specs.Prelude.{◌≡◌, refl, ℕ, ◌^◌, List, [], ◌∷◌, ◌++◌, map, replicate, slice_get, codes, Option, Some, None, ℤ, pos, negsuc, Bool, true, false}
-use Rattle.std.specs.Option.{option_map}
+use Rattle.std.specs.Prelude.{◌≡◌, refl, ℕ, List, [], ◌∷◌, ◌++◌, map, replicate, codes, Some, None, pos, true, false}
 use Rattle.ak_words.specs.declared.operation.Op.{Op}
 use Rattle.ak_words.specs.declared.operation.Op.TheVariants as ops
 use Rattle.ak_words.specs.declared.rule.Rule.{Rule}
 use Rattle.ak_words.specs.declared.rule.Rule.TheVariants as rules
 use Rattle.ak_words.specs.IntType.{char, int, unsigned_int, long, unsigned_long}
-use Rattle.block_store.specs.declared.values.Answer.{Answer}
 use Rattle.block_store.specs.declared.values.Answer.TheVariants as answers
-use Rattle.block_store.specs.Actions.{Thread, Stage, running, returned, joined, World}
+use Rattle.block_store.specs.Actions.{Thread, Stage, running, returned, joined}
 use Rattle.block_store.specs.Runs.{Pick, Run, reaches, breaks, no_run, Shown, it_went, it_ended, it_blocked, it_was_unfit, it_broke, no_such_turn}
 use Rattle.c_tree.specs.Typed
 use Rattle.c_tree.specs.Typed.{Ty, void, integer, mutex, pointer, array, structure, Layout, Piece, bytes, signed, unsigned, text, Lib, print, malloc, free, copy, start, join, mutex_init, mutex_lock, mutex_unlock, mutex_destroy}
@@ -299,8 +297,8 @@ abbrev pub number_formats : List Pick → Told
 number_formats = of_main (in_register unsigned_char ∷ [])
     (declare 0 (Some (of_type unsigned_char (convert (k 300))))
     ∷ evaluate (lib_call int_ty (print (signed 32 ∷ bytes (codes " ") ∷ unsigned 32 ∷ bytes (codes " ") ∷ signed 32 ∷ bytes (codes " ") ∷ signed 32 ∷ bytes (codes " ") ∷ signed 32 ∷ bytes (codes "\n") ∷ []))
-        (of_type int_ty (convert (of_type unsigned_char (local 0))) ∷ of_type (integer unsigned_int) (binary ops.Sub (u 0) (u 1))
-        ∷ op_of ops.Div (minus 7) (k 2) ∷ op_of ops.Rem (minus 7) (k 2) ∷ op_of ops.Shr (minus 8) (k 1) ∷ []))
+    (of_type int_ty (convert (of_type unsigned_char (local 0))) ∷ of_type (integer unsigned_int) (binary ops.Sub (u 0) (u 1))
+    ∷ op_of ops.Div (minus 7) (k 2) ∷ op_of ops.Rem (minus 7) (k 2) ∷ op_of ops.Shr (minus 8) (k 1) ∷ []))
     ∷ returns (k 0) ∷ [])
 
 -- mtx_t m;int n;int f(void *v){mtx_lock(&m);n=n+1;mtx_unlock(&m);return 0;}
