@@ -56,4 +56,8 @@ orders_stand = record {
   structs_is = refl;
   short_cuts_is = refl;
   nothing_is = refl;
+  end_and_start_is = refl;
+  number_formats_is = refl;
+  one_waits_is = refl;
+  counted_is = refl;
 }

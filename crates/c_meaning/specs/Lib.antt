@@ -3,4 +3,5 @@ pub mod Library
 pub mod Control
 pub mod Turns
 pub mod Meaning
+pub mod Alike
 pub mod Rows

@@ -1,13 +1,12 @@
 -- The library's calls (C11 7.21, 7.22, 7.24, 7.26), as a table: the action that each is, of its arguments, and its value.
-use Rattle.std.specs.Prelude.{ℕ, List, [], ◌∷◌, Option, Some, None, ℤ, pos, unsigned_abs, false, Bool, true}
-use Rattle.ak_words.specs.declared.number.Num.{Num}
+use Rattle.std.specs.Prelude.{List, [], ◌∷◌, Option, Some, None, ℤ, pos, unsigned_abs, false}
 use Rattle.ak_words.specs.IntType.{int, unsigned_long}
 use Rattle.ak_words.specs.Num.{num}
 use Rattle.block_store.specs.declared.values.Cell.TheVariants.{Unknown}
 use Rattle.block_store.specs.declared.values.Ptr.{Ptr}
 use Rattle.block_store.specs.declared.values.Value.{Value}
 use Rattle.block_store.specs.declared.values.Value.TheVariants as values
-use Rattle.block_store.specs.Actions.{Printed, bytes, text, Action, store, copy, allocate, free, print, lock, unlock, destroy, start, join}
+use Rattle.block_store.specs.Actions.{bytes, text, Action, store, copy, allocate, free, print, lock, unlock, destroy, start, join}
 use Rattle.c_tree.specs.Typed as tree
 use Rattle.c_tree.specs.TypedPrinting.{parts}
 

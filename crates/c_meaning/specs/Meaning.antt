@@ -1,7 +1,6 @@
 -- What a C program means: its runs, over named blocks, under every order of its threads' turns and every answer.
 use Rattle.std.specs.Prelude.{ℕ, zero, suc, ◌+◌, List, [], ◌∷◌, ◌++◌, length, map, replicate, slice_get, Option, Some, None}
 use Rattle.ak_words.specs.Num.{num}
-use Rattle.block_store.specs.declared.values.Answer.{Answer}
 use Rattle.block_store.specs.declared.values.BlockKind.TheVariants as kinds
 use Rattle.block_store.specs.declared.values.Cell.{Cell}
 use Rattle.block_store.specs.declared.values.Cell.TheVariants.{Byte}
@@ -15,7 +14,7 @@ use Rattle.block_store.specs.Actions.{World, first_world}
 use Rattle.block_store.specs.Runs as runs
 use Rattle.c_tree.specs.Typed as tree
 use Rattle.c_tree.specs.TypedLayout.{size_in}
-use Rattle.c_meaning.specs.Control.{Control, begins, leaves, then_row}
+use Rattle.c_meaning.specs.Control.{Control, begins, leaves}
 use Rattle.c_meaning.specs.Turns.{begins_in, turn}
 
 -- what a global of this size holds at the start; a literal's block comes behind the globals (C11 6.7.9 p10)

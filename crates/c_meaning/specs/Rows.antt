@@ -1,17 +1,15 @@
 -- Small programs, worked out by hand: the definitions, put to the test.
-use Rattle.std.specs.Prelude.{◌≡◌, ℕ, ◌^◌, List, [], ◌∷◌, ◌++◌, map, replicate, slice_get, codes, Option, Some, None, ℤ, pos, negsuc, Bool, true, false}
-use Rattle.std.specs.Option.{option_map}
+use Rattle.std.specs.Prelude.{◌≡◌, refl, ℕ, List, [], ◌∷◌, ◌++◌, map, replicate, codes, Some, None, pos, true, false}
 use Rattle.ak_words.specs.declared.operation.Op.{Op}
 use Rattle.ak_words.specs.declared.operation.Op.TheVariants as ops
 use Rattle.ak_words.specs.declared.rule.Rule.{Rule}
 use Rattle.ak_words.specs.declared.rule.Rule.TheVariants as rules
-use Rattle.ak_words.specs.IntType.{char, int, long, unsigned_long}
-use Rattle.block_store.specs.declared.values.Answer.{Answer}
+use Rattle.ak_words.specs.IntType.{char, int, unsigned_int, long, unsigned_long}
 use Rattle.block_store.specs.declared.values.Answer.TheVariants as answers
-use Rattle.block_store.specs.Actions.{Thread, Stage, running, returned, joined, World}
+use Rattle.block_store.specs.Actions.{Thread, Stage, running, returned, joined}
 use Rattle.block_store.specs.Runs.{Pick, Run, reaches, breaks, no_run, Shown, it_went, it_ended, it_blocked, it_was_unfit, it_broke, no_such_turn}
 use Rattle.c_tree.specs.Typed
-use Rattle.c_tree.specs.Typed.{Ty, void, integer, mutex, pointer, array, structure, Layout, Piece, bytes, signed, text, Lib, print, malloc, free, copy, start, join, mutex_init, mutex_lock, mutex_unlock, mutex_destroy}
+use Rattle.c_tree.specs.Typed.{Ty, void, integer, mutex, pointer, array, structure, Layout, Piece, bytes, signed, unsigned, text, Lib, print, malloc, free, copy, start, join, mutex_init, mutex_lock, mutex_unlock, mutex_destroy}
 use Rattle.c_tree.specs.Typed.{Expr, at, ExprNode, num, null, literal, global, local, deref, member, address_of, decay, convert, not_, binary, and_also, or_else, choose, pointer_add, pointer_sub, pointer_diff, pointer_compare, pointer_test, call, lib, Exprs, no_exprs, more_exprs}
 use Rattle.c_tree.specs.Typed.{Stmt, at_stmt, StmtNode, block, declare, if_, if_else, while_, for_, break_, continue_, return_, assign, update, evaluate, empty, Stmts, no_stmts, more_stmts, Init, zero_bytes, number, literal_at, GlobalVar, Local, Func}
 use Rattle.c_meaning.specs.Control.{Control}
@@ -280,6 +278,56 @@ short_cuts = of_main (ints 1)
     ∷ if_ (of_type int_ty (or_else (of_type int_ty (not_ (v 0))) (op_of ops.Div (k 1) (v 0)))) (one (assign (v 0) (of_type int_ty (choose (v 0) (k 3) (k 4)))))
     ∷ returns (v 0) ∷ [])
 
+-- int a[2];int b[2];int main(void){printf("%d\n",a+2==b);return 0;}
+abbrev pub end_and_start : List Pick → Told
+end_and_start order = told (run (whole (record { ty = array int_ty 2; init = zero_bytes } ∷ record { ty = array int_ty 2; init = zero_bytes } ∷ []) []
+    (func 0 [] (printf_int (of_type int_ty (pointer_compare ops.Eq (of_type int_star (pointer_add (decayed int_ty 2 (global 0)) (k 2))) (decayed int_ty 2 (global 1)))) ∷ returns (k 0) ∷ []) ∷ [])) order)
+
+-- unsigned char c=300;printf("%d %u %d %d %d\n",c,0u-1u,-7/2,-7%2,-8>>1);return 0;
+abbrev pub unsigned_char : Ty
+unsigned_char = integer (record { signed = false; bits = 8; known_width = refl })
+
+abbrev pub u : ℕ → Expr
+u n = of_type (integer unsigned_int) (num unsigned_int (pos n))
+
+abbrev pub minus : ℕ → Expr
+minus n = op_of ops.Sub (k 0) (k n)
+
+abbrev pub number_formats : List Pick → Told
+number_formats = of_main (in_register unsigned_char ∷ [])
+    (declare 0 (Some (of_type unsigned_char (convert (k 300))))
+    ∷ evaluate (lib_call int_ty (print (signed 32 ∷ bytes (codes " ") ∷ unsigned 32 ∷ bytes (codes " ") ∷ signed 32 ∷ bytes (codes " ") ∷ signed 32 ∷ bytes (codes " ") ∷ signed 32 ∷ bytes (codes "\n") ∷ []))
+    (of_type int_ty (convert (of_type unsigned_char (local 0))) ∷ of_type (integer unsigned_int) (binary ops.Sub (u 0) (u 1))
+    ∷ op_of ops.Div (minus 7) (k 2) ∷ op_of ops.Rem (minus 7) (k 2) ∷ op_of ops.Shr (minus 8) (k 1) ∷ []))
+    ∷ returns (k 0) ∷ [])
+
+-- mtx_t m;int n;int f(void *v){mtx_lock(&m);n=n+1;mtx_unlock(&m);return 0;}
+-- int main(void){thrd_t x;thrd_t y;thrd_create(&x,f,NULL);thrd_create(&y,f,NULL);thrd_join(x,NULL);thrd_join(y,NULL);return n;}
+abbrev pub thread_of : ℕ → Expr
+thread_of n = of_type thread_ty (local n)
+
+abbrev pub starts_f : ℕ → StmtNode
+starts_f n = evaluate (lib_call int_ty (start 1) (of_type (pointer thread_ty) (address_of (thread_of n)) ∷ of_type (pointer void) null ∷ []))
+
+abbrev pub joins_f : ℕ → StmtNode
+joins_f n = evaluate (lib_call int_ty join (thread_of n ∷ of_type int_star null ∷ []))
+
+abbrev pub global_mutex_call : Lib → StmtNode
+global_mutex_call which = evaluate (lib_call int_ty which (of_type (pointer mutex) (address_of (of_type mutex (global 0))) ∷ []))
+
+abbrev pub n1 : Expr
+n1 = of_type int_ty (global 1)
+
+abbrev pub counted : Typed.Typed
+counted = whole (record { ty = mutex; init = zero_bytes } ∷ record { ty = int_ty; init = zero_bytes } ∷ []) []
+    (func 0 (in_memory thread_ty ∷ in_memory thread_ty ∷ []) (declare 0 None ∷ declare 1 None ∷ starts_f 0 ∷ starts_f 1 ∷ joins_f 0 ∷ joins_f 1 ∷ returns n1 ∷ [])
+    ∷ func 1 (in_register (pointer void) ∷ []) (global_mutex_call mutex_lock ∷ assign n1 (op_of ops.Add n1 (k 1)) ∷ global_mutex_call mutex_unlock ∷ returns (k 0) ∷ [])
+    ∷ [])
+
+-- thread 1 has the mutex, thread 2 would wait, and each goes on to its end
+abbrev pub one_waits : List Pick
+one_waits = got 0 ++ got 0 ++ turns 1 1 ++ turns 2 1 ++ turns 1 4 ++ turns 2 5 ++ turns 0 6
+
 -- int main(void){}
 abbrev pub nothing_at_all : List Pick → Told
 nothing_at_all = of_main [] []
@@ -371,3 +419,7 @@ pub record OrdersStand : Type 0 where
   pub structs_is : structs (turns 0 6) ≡ reached [] (returned (pos 2) ∷ [])
   pub short_cuts_is : short_cuts (turns 0 1) ≡ reached [] (returned (pos 4) ∷ [])
   pub nothing_is : nothing_at_all (turns 0 1) ≡ reached [] (returned (pos 0) ∷ [])
+  pub end_and_start_is : end_and_start (turns 0 2) ≡ reached (codes "0\n") (returned (pos 0) ∷ [])
+  pub number_formats_is : number_formats (turns 0 2) ≡ reached (codes "44 4294967295 -3 -1 -4\n") (returned (pos 0) ∷ [])
+  pub one_waits_is : seen counted one_waits ≡ replicate 3 yes' ++ waits' ∷ replicate 3 yes' ++ end' ∷ replicate 4 yes' ++ end' ∷ replicate 5 yes' ++ end' ∷ []
+  pub counted_is : told (run counted (got 0 ++ got 0 ++ turns 1 5 ++ turns 2 5 ++ turns 0 6)) ≡ reached [] (returned (pos 2) ∷ joined (pos 0) ∷ joined (pos 0) ∷ [])

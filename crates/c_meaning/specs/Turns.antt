@@ -5,7 +5,6 @@
 -- What follows an expression or a statement is a way: what is left to do, as data, which is kept where a turn ends, and what it does,
 -- which goes on inside a turn.
 use Rattle.std.specs.Prelude.{ℕ, ◌+◌, ◌-◌, Bool, true, false, not, ◌==◌, if◌then◌else◌, List, [], ◌∷◌, ◌++◌, length, map, set, replicate, slice_get, Option, Some, None, Result, Ok, Err, ℤ, pos}
-use Rattle.std.specs.Option.{option_map}
 use Rattle.ak_words.specs.declared.operation.Op.{Op}
 use Rattle.ak_words.specs.declared.rule.Rule.{Rule}
 use Rattle.ak_words.specs.declared.rule.Rule.TheVariants.{C4, C15}

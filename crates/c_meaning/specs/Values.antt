@@ -1,6 +1,6 @@
 -- What operators give of values (C11 6.3, 6.5). In a well typed program each gets values of the kinds that it takes; of others the
 -- definitions say C16.
-use Rattle.std.specs.Prelude.{ℕ, ◌*◌, ◌==◌, Bool, true, false, not, ℤ, pos, neg_ℤ, List, [], ◌∷◌, Option, Some, None, Result, Ok, Err, slice_get, unsigned_abs}
+use Rattle.std.specs.Prelude.{ℕ, Bool, true, false, not, ℤ, pos, neg_ℤ, List, Option, Some, None, Result, Ok, Err, slice_get}
 use Rattle.std.specs.Ordering.{int_eq}
 use Rattle.ak_words.specs.declared.int_type.IntType.{IntType}
 use Rattle.ak_words.specs.declared.number.Num.{Num}
