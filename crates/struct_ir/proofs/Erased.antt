@@ -1,12 +1,12 @@
 -- Looks and safepoints may be left out, with slots and lists.
-use Rattle.std.proofs.Common.{◌≡◌, ℕ, List, Bool, true, false, Ok, refl, sym, ap, subst, ◌∙◌, ◌⊎◌, inl, inr}
+use Rattle.std.proofs.Common.{◌≡◌, ℕ, Bool, true, false, refl, sym, ap, subst, ◌∙◌, ◌⊎◌, inl, inr}
 use Rattle.struct_ir.specs.Nodes.{Act, set, call, step, look, safepoint, begin_object, end_object, plain, if_, loop, break_, next_, ret, Nodes, no_nodes, more_nodes}
 use Rattle.struct_ir.specs.Structured.{Position, done, then_, in_body, in_latch, out_of, end_of, next, structured}
 use Rattle.struct_ir.specs.Machine.{Machine, Point, goes, stopped_or, acted}
 use Rattle.struct_ir.specs.Maps.{Carries, Vanishes, IsMap}
-use Rattle.struct_ir.specs.MapsTurns.{thread_mapped, AllCarry, IsMapped}
-use Rattle.struct_ir.specs.Threads.{World, Thread, turn}
-use Rattle.struct_ir.specs.Lists.{bare_act, listless, IgnoresLists}
+use Rattle.struct_ir.specs.MapsTurns.{thread_mapped, IsMapped}
+use Rattle.struct_ir.specs.Threads.{turn}
+use Rattle.struct_ir.specs.Lists.{bare_act, listless}
 use Rattle.struct_ir.specs.Erased.{is_kept, at_erased, LooksAreIdle, ErasureKeepsTurns}
 use Rattle.struct_ir.proofs.Sizes.{structured_shrinks}
 use Rattle.struct_ir.proofs.Lists.{lists_are_nothing, listless_shrinks}

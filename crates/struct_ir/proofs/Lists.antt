@@ -1,5 +1,5 @@
 -- Slots and lists change nothing.
-use Rattle.std.proofs.Common.{◌≡◌, ℕ, zero, suc, List, [], ◌∷◌, Bool, true, false, Option, refl, ap, ◌∙◌}
+use Rattle.std.proofs.Common.{◌≡◌, ℕ, zero, suc, List, [], ◌∷◌, true, Option, refl, ap, ◌∙◌}
 use Rattle.struct_ir.specs.Nodes.{Act, set, call, step, look, safepoint, begin_object, end_object}
 use Rattle.struct_ir.specs.Flow.{Here, does, tests, passes, round, returns, Flow, GoesOn, Shrinks}
 use Rattle.struct_ir.specs.Machine.{Machine, Point, Ahead, goes, stops, breaks, acted, stopped_or, further, ahead_at, ahead, run_within, run}

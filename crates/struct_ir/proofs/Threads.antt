@@ -3,7 +3,7 @@ use Rattle.std.proofs.Common.{◌≡◌, ℕ, List, [], ◌∷◌, Bool, true, f
 use Rattle.struct_ir.specs.Nodes.{Act, call}
 use Rattle.struct_ir.specs.Flow.{Here, does, tests, passes, round, returns, Flow, Stays, Shrinks}
 use Rattle.struct_ir.specs.Machine.{Machine, Point, stops, stopped_or, acted, ahead_at, ahead, run, Steps, still, more, starts, walks, resumes, changes}
-use Rattle.struct_ir.specs.Threads.{Served, serves, waits, refuses, fails, World, Thread, Outcome, behind, alone, served, finished, if_fits, entered_or_served, back_in, left_call, stop_at, HasCome, Waits, AllWait, AllCome, IfWent, KeepsWays, EventsKeepWays}
+use Rattle.struct_ir.specs.Threads.{Served, serves, waits, refuses, fails, World, Thread, Outcome, behind, alone, served, finished, if_fits, entered_or_served, left_call, stop_at, HasCome, Waits, AllWait, AllCome, IfWent, KeepsWays, EventsKeepWays}
 use Rattle.struct_ir.proofs.Runs.{runs_are_steps}
 
 module _ {P L F S A : Type 0} (C : Flow P) (shrinks : Shrinks C) (M : Machine L F) (W : World L F S A) (code : ℕ → P) where

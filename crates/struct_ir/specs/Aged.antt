@@ -4,12 +4,14 @@ use Rattle.struct_ir.specs.Nodes.{Act}
 use Rattle.struct_ir.specs.Flow.{Flow, Shrinks}
 use Rattle.struct_ir.specs.Machine.{Machine, Point, Steps, run}
 
+-- what the second comes to: something aged, or a fault; what broke the first breaks it too
 abbrev pub Worse : {L F : Type 0} → (L → L → Type 0) → Result L F → Result L F → Type 0
 Worse Aged (Ok l) (Ok l1) = Aged l l1
 Worse Aged (Ok l) (Err f) = Unit {0}
 Worse Aged (Err f) (Ok l1) = ⊥
 Worse Aged (Err f) (Err g) = Unit {0}
 
+-- the same answer, or a fault; what broke the first breaks it too
 abbrev pub WorseTest : {F : Type 0} → Result Bool F → Result Bool F → Type 0
 WorseTest (Ok c) (Ok d) = c ≡ d
 WorseTest (Ok c) (Err f) = Unit {0}
@@ -21,16 +23,20 @@ pub record KeepsAged {L F : Type 0} (A : Machine L F) (Aged : L → L → Type 0
   pub acts : (l l1 : L) → Aged l l1 → (place : ℕ) (a : Act) → Worse Aged (A.does place a l) (A.does place a l1)
   pub tests : (l l1 : L) → Aged l l1 → (place temp : ℕ) → WorseTest (A.test place temp l) (A.test place temp l1)
 
+-- the same position, with something aged
 pub record AgedPoint {P L : Type 0} (Aged : L → L → Type 0) (p p1 : Point P L) : Type 0 where
   pub at : p1.at ≡ p.at
   pub own : Aged p.own p1.own
 
+-- steps lead to such a point, or the run breaks
 abbrev pub OrBreaks : {P L F : Type 0} → Flow P → Machine L F → Point P L → (Point P L → Type 0) → Type 0
 OrBreaks {P} {L} {F} C A p1 B = ((x1 : Point P L) × Steps C A p1 x1 × B x1) ⊎ ((f : F) × (run C A p1 ≡ Err f))
 
+-- the steps of the one are steps of the other till that breaks, and what broke breaks again
 pub record GoesTheSameWay {P L F : Type 0} (C : Flow P) (A : Machine L F) (Aged : L → L → Type 0) : Type 0 where
   pub comes : (p p1 x : Point P L) → AgedPoint Aged p p1 → Steps C A p x → OrBreaks C A p1 (AgedPoint Aged x)
   pub breaks : (p p1 : Point P L) (f : F) → AgedPoint Aged p p1 → run C A p ≡ Err f → (g : F) × (run C A p1 ≡ Err g)
 
+-- where acts and tests keep what has aged, runs go the same way
 abbrev pub AgedRunsGoTheSameWay : (P L F : Type 0) → Type 1
 AgedRunsGoTheSameWay P L F = (C : Flow P) → Shrinks C → (A : Machine L F) (Aged : L → L → Type 0) → KeepsAged A Aged → GoesTheSameWay C A Aged

@@ -17,6 +17,7 @@ is_kept (safepoint slots) = false
 is_kept (begin_object i) = true
 is_kept (end_object i) = true
 
+-- a node that is neither a Look nor a safepoint
 abbrev pub stays : Node → Bool
 stays (plain place a) = is_kept a
 stays (if_ place temp one other) = true
@@ -44,14 +45,17 @@ abbrev mutual
   erased no_nodes = no_nodes
   erased (more_nodes n rest) = put (stays n) (node_erased n) (erased rest)
 
+-- a function without slots
 abbrev pub func_erased : Func → Func
 func_erased f = record { params = f.params; temps = f.temps; slots = 0; objects = f.objects; nodes = erased f.nodes }
 
+-- a program without Looks, safepoints, slots and lists
 abbrev pub ir_erased : Ir → Ir
 ir_erased x = record { globals = x.globals; literals = x.literals; funcs = map func_erased x.funcs; main = x.main }
 
 -- ---- what it does
 
+-- the position in the erased code
 abbrev pub at_erased : Position → Position
 at_erased done = done
 at_erased (then_ nodes k) = then_ (erased nodes) (at_erased k)

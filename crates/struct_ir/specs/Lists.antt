@@ -9,9 +9,11 @@ use Rattle.struct_ir.specs.Threads.{World, Thread, turn}
 abbrev pub bare_place : Place → Place
 bare_place a = record { base = a.base; index = a.index; scale = a.scale; offset = a.offset; slot = None }
 
+-- a step without its list, and without the slots of its places
 abbrev pub bare_step : Step → Step
 bare_step s = record { action = s.action; places = map bare_place s.places; to = s.to; temps = s.temps; slots = [] }
 
+-- a call without its list
 abbrev pub bare_call : Call → Call
 bare_call c = record { to = c.to; function = c.function; temps = c.temps; slots = [] }
 
@@ -25,6 +27,7 @@ bare_act (safepoint slots) = safepoint slots
 bare_act (begin_object i) = begin_object i
 bare_act (end_object i) = end_object i
 
+-- what stands at a position, seen so
 abbrev pub bare_here : Here → Here
 bare_here (does place a) = does place (bare_act a)
 bare_here (tests place temp) = tests place temp
@@ -36,6 +39,7 @@ bare_here (returns temp) = returns temp
 abbrev pub listless : {P : Type 0} → Flow P → Flow P
 listless C = record { here = λ k. bare_here (C.here k); next = C.next; size = C.size }
 
+-- neither the machine nor the world looks at slots and lists
 pub record IgnoresLists {L F S A : Type 0} (M : Machine L F) (W : World L F S A) : Type 0 where
   pub stops : (a : Act) → M.stops (bare_act a) ≡ M.stops a
   pub does : (place : ℕ) (a : Act) (l : L) → M.does place (bare_act a) l ≡ M.does place a l

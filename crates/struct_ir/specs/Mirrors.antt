@@ -18,6 +18,7 @@ pub data Match {P Q L F : Type 0} (C : Flow P) (D : Flow Q) (M : Machine L F) (R
   first : IsIdle C M k → R (C.next k true) j → Match C D M R k j
   second : IsIdle D M j → R k (D.next j true) → Match C D M R k j
 
+-- at positions that correspond the codes match
 abbrev pub IsMirror : {P Q L F : Type 0} → Flow P → Flow Q → Machine L F → (P → Q → Type 0) → Type 0
 IsMirror {P} {Q} C D M R = (k : P) (j : Q) → R k j → Match C D M R k j
 
@@ -27,6 +28,7 @@ pub data SameAt {P Q : Type 0} (C : Flow P) (D : Flow Q) (R : P → Q → Type 0
   first_on : C.here k ≡ passes → ((c : Bool) → R (C.next k c) j) → SameAt C D R k j
   second_on : D.here j ≡ passes → ((c : Bool) → R k (D.next j c)) → SameAt C D R k j
 
+-- at positions that correspond control is the same
 abbrev pub IsSame : {P Q : Type 0} → Flow P → Flow Q → (P → Q → Type 0) → Type 0
 IsSame {P} {Q} C D R = (k : P) (j : Q) → R k j → SameAt C D R k j
 
@@ -37,5 +39,6 @@ EndAlike C D R (Ok p) (Err f) = ⊥
 EndAlike C D R (Err f) (Ok q) = ⊥
 EndAlike C D R (Err f) (Err g) = g ≡ f
 
+-- runs from positions that correspond end alike
 abbrev pub MirrorsRuns : {P Q L F : Type 0} → Flow P → Flow Q → Machine L F → (P → Q → Type 0) → Type 0
 MirrorsRuns {P} {Q} {L} C D M R = (k : P) (j : Q) (l : L) → R k j → EndAlike C D R (run C M (record { at = k; own = l })) (run D M (record { at = j; own = l }))

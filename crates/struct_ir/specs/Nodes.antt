@@ -95,6 +95,7 @@ pub record StackObject : Type 0 where
   pub size : ℕ
   pub align : ℕ
 
+-- a global object, and what it holds at the start
 pub record Global : Type 0 where
   pub size : ℕ
   pub align : ℕ
@@ -108,6 +109,7 @@ pub record Func : Type 0 where
   pub objects : List StackObject
   pub nodes : Nodes
 
+-- a program; a literal is its bytes
 pub record Ir : Type 0 where
   pub globals : List Global
   pub literals : List (List ℕ)

@@ -13,6 +13,7 @@ pub data Fact : Type 0 where
 abbrev pub lacks : ℕ → List ℕ → Bool
 lacks s list = not (list_any (λ x. x == s) list)
 
+-- there is a list, and it lacks the slot
 abbrev pub lacks_if : ℕ → Option (List ℕ) → Bool
 lacks_if s None = false
 lacks_if s (Some list) = lacks s list

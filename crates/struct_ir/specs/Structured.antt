@@ -75,6 +75,7 @@ abbrev mutual
   row_size no_nodes = 0
   row_size (more_nodes n rest) = node_size n + row_size rest + 1
 
+-- what is left to do up to the end of a round
 abbrev pub size : Position → ℕ
 size done = 0
 size (then_ nodes k) = row_size nodes + size k + 1

@@ -1,6 +1,5 @@
 -- What the code's nodes are.
 use Rattle.std.specs.Prelude.{ℕ, List, [], ◌∷◌, map}
-use Rattle.std.specs.Global.{Vec}
 use Rattle.c_tree.specs.TypedViews.{piece_view, init_view}
 use Rattle.struct_ir.specs.declared.code.Place.{Place as CodePlace}
 use Rattle.struct_ir.specs.declared.code.Calc.{Calc as CodeCalc}
@@ -17,9 +16,11 @@ use Rattle.struct_ir.specs.declared.code.IrGlobal.{IrGlobal}
 use Rattle.struct_ir.specs.declared.code.IrFunc.{IrFunc}
 use Rattle.struct_ir.specs.Nodes as nodes
 
+-- where an access goes
 abbrev pub place_view : CodePlace → nodes.Place
 place_view a = record { base = a.base; index = a.index; scale = a.scale; offset = a.offset; slot = a.slot }
 
+-- what a register is set to
 abbrev pub calc_view : CodeCalc → nodes.Calc
 calc_view (calcs.Num n) = nodes.constant n.ty n.value
 calc_view calcs.Null = nodes.null
@@ -35,6 +36,7 @@ calc_view (calcs.PtrDiff p q scale) = nodes.pointer_diff p q scale
 calc_view (calcs.PtrCompare op p q) = nodes.pointer_compare op p q
 calc_view (calcs.PtrTest p) = nodes.pointer_test p
 
+-- an action
 abbrev pub action_view : CodeAction → nodes.Action
 action_view (actions.Load how) = nodes.load how
 action_view (actions.Store how) = nodes.store how
@@ -48,9 +50,11 @@ action_view actions.Destroy = nodes.destroy
 action_view (actions.Start f) = nodes.start f
 action_view actions.Join = nodes.join
 
+-- a step
 abbrev pub step_view : StepNode → nodes.Step
 step_view s = record { action = action_view s.action; places = map place_view s.places.items; to = s.to; temps = s.temps.items; slots = s.slots.items }
 
+-- a call
 abbrev pub call_view : CallNode → nodes.Call
 call_view c = record { to = c.to; function = c.function; temps = c.temps.items; slots = c.slots.items }
 
@@ -73,6 +77,7 @@ abbrev mutual
   row_view end_of-Node = nodes.no_nodes
   row_view (more_of-Node place kind rest) = nodes.more_nodes (kind_view place kind) (row_view rest)
 
+-- a node
 abbrev pub node_view : CodeNode → nodes.Node
 node_view n = kind_view n.place n.kind
 
@@ -81,12 +86,15 @@ abbrev pub nodes_view : List CodeNode → nodes.Nodes
 nodes_view [] = nodes.no_nodes
 nodes_view (n ∷ rest) = nodes.more_nodes (node_view n) (nodes_view rest)
 
+-- a stack object
 abbrev pub object_view : CodeObject → nodes.StackObject
 object_view o = record { size = o.size; align = o.align }
 
+-- a global object
 abbrev pub global_view : IrGlobal → nodes.Global
 global_view g = record { size = g.size; align = g.align; init = init_view g.init }
 
+-- a function
 abbrev pub func_view : IrFunc → nodes.Func
 func_view f = record { params = f.params; temps = f.temps; slots = f.slots; objects = map object_view f.objects.items; nodes = nodes_view f.nodes.items }
 

@@ -8,11 +8,11 @@ mod copies;
 pub mod erasing;
 pub mod ir;
 pub mod laws;
+pub mod listing;
 mod scope;
 mod step;
 #[cfg(test)]
 mod tests;
-pub mod listing;
 pub mod valid;
 
 pub use code::{

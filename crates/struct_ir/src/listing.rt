@@ -16,7 +16,11 @@ use std::alloc::Global;
 pub fn text(alloc: Global, ir: &Ir) -> Result<Vec<u8>, NoMemory> {
     let mut out = String::new(alloc);
     for (i, f) in ir.funcs.iter().enumerate() {
-        write!(out, "function {i}: {} parameters, {} registers, {} slots", f.params, f.temps, f.slots)?;
+        write!(
+            out,
+            "function {i}: {} parameters, {} registers, {} slots",
+            f.params, f.temps, f.slots
+        )?;
         write!(out, ", {} objects\n", f.objects.len())?;
         write_row(&mut out, 0, "", &f.nodes)?;
     }
@@ -105,7 +109,13 @@ fn write_calc(out: &mut String, calc: &Calc) -> Result<(), NoMemory> {
         Calc::Copy(t) => write!(out, "t{t}")?,
         Calc::Convert(to, t) => write!(out, "t{t} as {}{}", sign(to.signed), to.bits)?,
         Calc::Apply(op, t, a, b) => {
-            write!(out, "t{a} {} t{b} as {}{}", symbol(*op), sign(t.signed), t.bits)?
+            write!(
+                out,
+                "t{a} {} t{b} as {}{}",
+                symbol(*op),
+                sign(t.signed),
+                t.bits
+            )?
         }
         Calc::PtrAdd(p, n, scale) => write!(out, "t{p} + t{n} * {scale}")?,
         Calc::PtrSub(p, n, scale) => write!(out, "t{p} - t{n} * {scale}")?,

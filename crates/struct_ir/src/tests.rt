@@ -114,13 +114,19 @@ fn erased_code_as_text(rt: HostRuntime) -> Result<(), Fail> {
     let alloc = rt.alloc();
     let nodes = vec![in alloc;
         at(NodeKind::Look(0, 1)),
-        at(in_loop(alloc, load(alloc, Vec::new(alloc))?, NodeKind::Safepoint(vec![in alloc; 0]?))?),
+        at(in_loop(
+            alloc,
+            load(alloc, Vec::new(alloc))?,
+            NodeKind::Safepoint(vec![in alloc; 0]?)
+        )?),
         at(NodeKind::Ret(Some(3))),
     ]?;
     let ir = program(alloc, nodes)?;
-    let whole = "function 0: 0 parameters, 4 registers, 2 slots, 0 objects\nlook s0 t1\nloop\n+ t3 = load Number(IntType { signed: true, bits: 32 }) [t1 + t2 * 4 + 8 by s0]\n- safepoint s0\nreturn t3\n";
+    let whole =
+        "function 0: 0 parameters, 4 registers, 2 slots, 0 objects\nlook s0 t1\nloop\n+ t3 = load Number(IntType { signed: true, bits: 32 }) [t1 + t2 * 4 + 8 by s0]\n- safepoint s0\nreturn t3\n";
     assert_eq!(rt; text(alloc, &ir)?.as_slice(), whole.as_bytes());
-    let bare = "function 0: 0 parameters, 4 registers, 0 slots, 0 objects\nloop\n+ t3 = load Number(IntType { signed: true, bits: 32 }) [t1 + t2 * 4 + 8]\nreturn t3\n";
+    let bare =
+        "function 0: 0 parameters, 4 registers, 0 slots, 0 objects\nloop\n+ t3 = load Number(IntType { signed: true, bits: 32 }) [t1 + t2 * 4 + 8]\nreturn t3\n";
     let Some(erased) = bare_if_valid(alloc, &ir)? else {
         panic!(&rt; "the code is valid");
     };

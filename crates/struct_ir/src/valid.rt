@@ -235,7 +235,10 @@ fn texts(pieces: &[Piece]) -> usize
 fn numbers(pieces: &[Piece]) -> usize
     ensures { result ≡ count_by takes_number (map piece_view pieces.now) }
 {
-    pieces.iter().filter(|p| !matches!(p, Piece::Text | Piece::Bytes(_))).count()
+    pieces
+        .iter()
+        .filter(|p| !matches!(p, Piece::Text | Piece::Bytes(_)))
+        .count()
 }
 
 fn counts_of(action: &Action) -> Counts
