@@ -1,3 +1,5 @@
+#include <stdio.h>
+
 int main(void) {
   int a = 6;
   int b = 7;

@@ -1,6 +1,9 @@
+#include <stdio.h>
+#include <stdlib.h>
+
 int main(void)
 {
-	int *p = malloc(12);
+	int *p = malloc(12); /* three ints */
 	int i = 2;
 	p[0] = 6;
 	p[1] = 7;

@@ -1,3 +1,5 @@
+#include <stdio.h>
+
 int main(void) {
   int hours = 7;
   int minutes = 42;

@@ -1,3 +1,5 @@
+#include <stdio.h>
+
 int main(void) {
   int n = 1;
   printf("%d\n", n * n);

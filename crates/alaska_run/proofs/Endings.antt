@@ -1,6 +1,6 @@
 -- How a program that ran ended, as the verdict of its text says it.
 use Rattle.std.proofs.Common.{◌≡◌, ℕ, ℤ, List, Result, Ok, Err, sym, subst}
-use Rattle.c_parse.specs.Trees.{File}
+use Rattle.second_language.specs.Trees.{File}
 use Rattle.alaska_run.specs.declared.status.Status.{Status}
 use Rattle.alaska_run.specs.declared.status.Trap.{Trap}
 use Rattle.alaska_run.specs.Answers.{ended_as}

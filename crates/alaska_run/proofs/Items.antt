@@ -1,9 +1,9 @@
 -- What an assignment and a free come to.
 use Rattle.std.proofs.Common.{◌≡◌, ℕ, ℤ, List, Result, Ok, Err, MatchResult, unwrap_or, refl, sym, ap, ◌∙◌}
 use Rattle.std.proofs.lemmas.Result.{MatchResult-weaker}
-use Rattle.c_parse.specs.declared.syntax.Name.{Name}
-use Rattle.c_parse.specs.Trees.{Element, Expr, assign, release}
-use Rattle.c_parse.specs.Names.{bytes_of}
+use Rattle.second_language.specs.declared.syntax.Name.{Name}
+use Rattle.second_language.specs.Trees.{Element, Expr, assign, free}
+use Rattle.second_language.specs.Names.{bytes_of}
 use Rattle.alaska_run.specs.declared.status.Trap.{Trap}
 use Rattle.alaska_run.specs.Execution.{World, Did, Effect, plainly, accessed, ◌>>=◌, going, with_memory, target, value, step}
 use Rattle.alaska_run.specs.Flat.{FlatMemory, flat, store_word, free_word}
@@ -42,6 +42,6 @@ module _ (text : List ℕ) (w : World FlatMemory ℕ) where
 
   -- what a free that gives a memory comes to
   pub released : (place : ℕ) (n : Name) (word : ℕ) (memory : FlatMemory) → word ≡ unwrap_or (w.pointers (bytes_of text n)) 0 → free_word w.memory word ≡ Ok memory
-      → (step flat text w (release place n)).outcome ≡ Ok (going (with_memory w memory))
+      → (step flat text w (free place n)).outcome ≡ Ok (going (with_memory w memory))
   released place n word memory read freed =
       goes_on (plainly (free_word w.memory (unwrap_or (w.pointers (bytes_of text n)) 0))) left_with memory (ap (free_word w.memory) (sym read) ∙ freed)

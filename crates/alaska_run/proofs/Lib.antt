@@ -29,7 +29,6 @@ mod Serving
 mod Simulated
 mod Sizes
 mod Starts
-mod Stops
 mod Stores
 mod Tables
 mod Values

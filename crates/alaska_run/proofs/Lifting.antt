@@ -5,39 +5,40 @@ use Rattle.std.specs.Str.{bytes_eq}
 use Rattle.ak_words.specs.declared.operation.Op.{Op}
 use Rattle.ak_words.specs.IntType.{int}
 use Rattle.ak_words.specs.Num.{num}
-use Rattle.c_parse.specs.Trees.{Sub, sub_name, sub_number, Element, deref, subscript, Expr, name, number, element, binary, Item, declare, allocate, assign, release, print, give}
-use Rattle.c_parse.specs.Names.{bytes_of}
+use Rattle.second_language.specs.Trees.{Sub, sub_name, sub_number, Element, deref, subscript, Expr, name, number, element, binary, Item, declare, allocate, assign, free, print, return}
+use Rattle.second_language.specs.Names.{bytes_of}
 use Rattle.alaska_run.specs.Memory.{Memory}
 use Rattle.alaska_run.specs.Execution.{Did, plainly, accessed, going_on, ◌>>=◌, World, with_name, with_int, with_pointer, with_memory, first_world, sub_value, pointer_value, target, value, Effect, going, line_of_int, step, Run, run_behind, run_on, run_after, run_from}
 use Rattle.alaska_run.specs.Simulation.{Simulates, Keeps}
-use Rattle.alaska_run.specs.Follows.{IsFront, FollowsTo, Follows, RunsAgree}
+use Rattle.ak_words.specs.Prefix.{IsPrefix}
+use Rattle.alaska_run.specs.Follows.{FollowsTo, Follows, RunsAgree}
 
 -- ---- what was done over the second memory, by what was done over the first: the same, or more where the first came to a fault
 
 abbrev DidAs : {P Q F G X Y : Type 0} → (P → Q) → (X → Y → Type 0) → List P → Result X F → Did Q G Y → Type 0
 DidAs {Y = Y} place R reached (Ok x) e = (y : Y) × (e.outcome ≡ Ok y) × (e.reached ≡ map place reached) × R x y
-DidAs place R reached (Err f) e = IsFront (map place reached) e.reached
+DidAs place R reached (Err f) e = IsPrefix (map place reached) e.reached
 
 abbrev DoesAs : {P Q F G X Y : Type 0} → (P → Q) → (X → Y → Type 0) → Did P F X → Did Q G Y → Type 0
 DoesAs place R d e = DidAs place R d.reached d.outcome e
 
 -- more of a list, with a front before it
-front_behind : {X : Type 0} (a b c : List X) → IsFront b c → IsFront (a ++ b) (a ++ c)
+front_behind : {X : Type 0} (a b c : List X) → IsPrefix b c → IsPrefix (a ++ b) (a ++ c)
 front_behind a b c (rest, is) = (rest, ap (λ x. a ++ x) is ∙ sym (append_assoc a b rest))
 
 -- behind what was reached
 did_behind : {P Q F G X Y : Type 0} (place : P → Q) (R : X → Y → Type 0) (before reached : List P) (r : Result X F) (e : Did Q G Y)
     → DidAs place R reached r e → DidAs place R (before ++ reached) r (record { reached = map place before ++ e.reached; outcome = e.outcome })
 did_behind place R before reached (Ok x) e (y, o, is, same) = (y, o, ap (λ q. map place before ++ q) is ∙ sym (map-append place before reached), same)
-did_behind place R before reached (Err f) e front = subst (λ q. IsFront q (map place before ++ e.reached)) (sym (map-append place before reached)) (front_behind (map place before) (map place reached) e.reached front)
+did_behind place R before reached (Err f) e front = subst (λ q. IsPrefix q (map place before ++ e.reached)) (sym (map-append place before reached)) (front_behind (map place before) (map place reached) e.reached front)
 
 -- what goes on begins with what came before
-goes_behind : {Q G Y Z : Type 0} (before : List Q) (r : Result Y G) (ho : Y → Did Q G Z) → IsFront before (going_on before r ho).reached
+goes_behind : {Q G Y Z : Type 0} (before : List Q) (r : Result Y G) (ho : Y → Did Q G Z) → IsPrefix before (going_on before r ho).reached
 goes_behind before (Ok y) ho = ((ho y).reached, refl)
 goes_behind before (Err g) ho = ([], sym (append-nil before))
 
 -- a front of a front
-front_more : {X : Type 0} (a b c : List X) → IsFront a b → IsFront b c → IsFront a c
+front_more : {X : Type 0} (a b c : List X) → IsPrefix a b → IsPrefix b c → IsPrefix a c
 front_more a b c (p, is) (q, more) = (p ++ q, more ∙ ap (λ x. x ++ q) is ∙ append_assoc a p q)
 
 -- one after the other
@@ -226,10 +227,10 @@ module _ (A B : Memory) (S : Simulates A B) where
   free_does v w same p q agrees = did_plainly S.place (MovedTo v.memory) (A.freed v.memory p) (B.freed w.memory q)
       (λ next is. let f = S.frees v.memory next w.memory p q same.memory agrees is in (f.0, f.1, (f.2, f.3)))
 
-  release_does : (text : List ℕ) (v : World A.State A.Pointer) (w : World B.State B.Pointer) → SameWorld v w → (bytes : List ℕ)
+  free_item_does : (text : List ℕ) (v : World A.State A.Pointer) (w : World B.State B.Pointer) → SameWorld v w → (bytes : List ℕ)
       → DoesAs S.place SameEffect (pointer_value A text v bytes >>= λ p. plainly (A.freed v.memory p) >>= λ m. plainly (Ok (going (with_memory v m))))
       (pointer_value B text w bytes >>= λ q. plainly (B.freed w.memory q) >>= λ m. plainly (Ok (going (with_memory w m))))
-  release_does text v w same bytes =
+  free_item_does text v w same bytes =
       let p = pointer_value A text v bytes in
       did_then S.place (S.Agrees v.memory) SameEffect p.reached p.outcome (pointer_value B text w bytes)
       (λ p. plainly (A.freed v.memory p) >>= λ m. plainly (Ok (going (with_memory v m)))) (λ q. plainly (B.freed w.memory q) >>= λ m. plainly (Ok (going (with_memory w m))))
@@ -247,10 +248,10 @@ module _ (A B : Memory) (S : Simulates A B) where
       leaves (going (with_pointer v bytes (A.allocated v.memory many))) (going (with_pointer w bytes (B.allocated w.memory many)))
       (record { world = pointer_declared v w same bytes many; printed = refl; ended = refl })
   step_does text v w same (assign l e) = assign_does text v w same l e
-  step_does text v w same (release place n) = release_does text v w same (bytes_of text n)
+  step_does text v w same (free place n) = free_item_does text v w same (bytes_of text n)
   step_does text v w same (print place e) = value_then text v w same e (λ x. record { world = v; printed = line_of_int x; ended = None }) (λ y. record { world = w; printed = line_of_int y; ended = None })
       (λ x y equal. record { world = same; printed = ap line_of_int equal; ended = refl })
-  step_does text v w same (give place e) = value_then text v w same e (λ x. record { world = v; printed = []; ended = Some x }) (λ y. record { world = w; printed = []; ended = Some y })
+  step_does text v w same (return place e) = value_then text v w same e (λ x. record { world = v; printed = []; ended = Some x }) (λ y. record { world = w; printed = []; ended = Some y })
       (λ x y equal. record { world = same; printed = refl; ended = ap Some equal })
 
   -- ---- runs
@@ -265,7 +266,7 @@ module _ (A B : Memory) (S : Simulates A B) where
   }
   follows_behind printed before meant (Err g) ran f = record {
     printed = front_behind printed meant.output ran.output f.printed;
-    places = subst (λ q. IsFront q (map S.place before ++ ran.reached)) (sym (map-append S.place before meant.reached)) (front_behind (map S.place before) (map S.place meant.reached) ran.reached f.places);
+    places = subst (λ q. IsPrefix q (map S.place before ++ ran.reached)) (sym (map-append S.place before meant.reached)) (front_behind (map S.place before) (map S.place meant.reached) ran.reached f.places);
   }
 
   -- main ended, or goes on
@@ -288,10 +289,10 @@ module _ (A B : Memory) (S : Simulates A B) where
       subst (λ s. Follows S.place meant (run_after e.reached s ho)) (sym o) places
   followed_after reached (Err f) e go ho front next = record { printed = ((run_after e.reached e.outcome ho).output, refl); places = after_front e.outcome }
     where
-      after_front : (s : Result (Effect B.State B.Pointer) B.Fault) → IsFront (map S.place reached) (run_after e.reached s ho).reached
+      after_front : (s : Result (Effect B.State B.Pointer) B.Fault) → IsPrefix (map S.place reached) (run_after e.reached s ho).reached
       after_front (Ok c) = front_more (map S.place reached) e.reached (run_after e.reached (Ok c) ho).reached front (on_front c.ended)
         where
-          on_front : (ended : Option ℤ) → IsFront e.reached (run_on e.reached c.printed ended c.world ho).reached
+          on_front : (ended : Option ℤ) → IsPrefix e.reached (run_on e.reached c.printed ended c.world ho).reached
           on_front None = ((ho c.world).reached, refl)
           on_front (Some x) = ([], sym (append-nil e.reached))
       after_front (Err g) = front

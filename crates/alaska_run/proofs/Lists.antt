@@ -1,7 +1,7 @@
 -- The parts of a list round one of its elements.
 use Rattle.std.proofs.Common.{◌≡◌, ℕ, ◌+◌, ◌<◌, List, [], ◌∷◌, ◌++◌, length, get_or, take, drop, All, sym, ap, ◌∙◌}
 use Rattle.std.proofs.lemmas.List.{take-append-drop, drop_more}
-use Rattle.c_parse.proofs.NameLists.{All-right}
+use Rattle.second_language.proofs.NameLists.{All-right}
 
 -- what is left, from the element at an index on
 pub next_of : {X : Type 0} (xs : List X) (i : ℕ) (x : X) → i < length xs → x ≡ get_or xs i x → drop i xs ≡ x ∷ drop (i + 1) xs

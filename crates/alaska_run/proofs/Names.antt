@@ -2,14 +2,14 @@
 use Rattle.std.proofs.Common.{◌≡◌, ℕ, ◌+◌, ◌<◌, List, [], ◌∷◌, ◌++◌, length, map, get_or, take, drop, All, subst}
 use Rattle.std.proofs.lemmas.List.{map-append}
 use Rattle.ak_words.specs.declared.operation.Op.TheVariants.{Mul}
-use Rattle.c_parse.specs.declared.syntax.Name.{Name}
-use Rattle.c_parse.specs.declared.syntax.Sort.{Sort}
-use Rattle.c_parse.specs.declared.syntax.Factor.{Factor}
-use Rattle.c_parse.specs.declared.syntax.Addend.{Addend}
-use Rattle.c_parse.specs.Trees.{Expr, binary}
-use Rattle.c_parse.specs.Views.{atom_view, term_view, add_op_view, times, plus}
-use Rattle.c_parse.specs.Names.{uses}
-use Rattle.c_parse.proofs.NameLists.{All-left, All-right}
+use Rattle.second_language.specs.declared.syntax.Name.{Name}
+use Rattle.second_language.specs.declared.syntax.Sort.{Sort}
+use Rattle.second_language.specs.declared.syntax.Factor.{Factor}
+use Rattle.second_language.specs.declared.syntax.Addend.{Addend}
+use Rattle.second_language.specs.Trees.{Expr, binary}
+use Rattle.second_language.specs.Views.{atom_view, term_view, add_op_view, times, plus}
+use Rattle.second_language.specs.Names.{uses}
+use Rattle.second_language.proofs.NameLists.{All-left, All-right}
 use Rattle.alaska_run.proofs.Lists.{parted}
 
 -- the names of uses

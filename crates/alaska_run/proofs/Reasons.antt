@@ -1,45 +1,44 @@
--- A text is a program or is refused, not both, and is refused for one reason.
-use Rattle.std.proofs.Common.{◌≡◌, ℕ, List, sym, subst, ◌∙◌, arith, inl, inr}
+-- A text is a program or is refused, not both, and is refused for one reason: from the laws of its tokens and of what they spell.
+use Rattle.std.proofs.Common.{◌≡◌, ℕ, List, ◌⊎◌, sym, subst, inl, inr}
 use Rattle.c_lex.specs.declared.token.Token.{Token}
 use Rattle.c_lex.specs.declared.refusal.Refusal.{Refusal}
 use Rattle.c_lex.specs.Tokens.{AreTokens}
-use Rattle.c_parse.specs.Trees.{File}
-use Rattle.c_parse.specs.Names.{FirstMisname}
-use Rattle.c_parse.specs.Language.{Parses, FirstBadToken}
-use Rattle.c_parse.proofs.Laws.{parse_or_refuse}
-use Rattle.c_parse.proofs.NameTokens.{StandInOrder-AreTokens}
-use Rattle.c_parse.proofs.NameLawsLemmas.{one_fault}
-use Rattle.alaska_run.specs.Language.{InLanguage, StopsAt, Refuses}
-use Rattle.alaska_run.proofs.Stops.{no_bad_byte, reach_whole}
+use Rattle.c_lex.specs.Refusals.{RefusesText}
+use Rattle.c_lex.specs.Laws as lexed
+use Rattle.second_language.specs.Trees.{File}
+use Rattle.second_language.specs.Language.{Spell, RefusesTokens}
+use Rattle.second_language.specs.Laws as parsed
+use Rattle.alaska_run.specs.Language.{InLanguage, RefusesProgram, IsProgram, Refuses, EachIsJudged, NotBoth, OneProgram, OneReason}
 
--- a file of the grammar stops nowhere
-no_stop : (text : List ℕ) (ts : List Token) (f : File) (place : ℕ) → AreTokens text ts → Parses ts f → StopsAt text place → ⊥
-no_stop text ts f place are parses (inl byte) = no_bad_byte text ts place are byte
-no_stop text ts f place are parses (inr there) = parse_or_refuse ts f place parses (subst (λ (us : List Token). FirstBadToken us place) (reach_whole text ts there.0 are there.1) there.2)
+module _ (only : lexed.OneTokenList) where
+  -- the same, of the tokens of one of the two
+  spelt_there : (text : List ℕ) (ts us : List Token) (f : File) → AreTokens text ts → AreTokens text us → Spell text us f → Spell text ts f
+  spelt_there text ts us f these those spelt = subst (λ (vs : List Token). Spell text vs f) (only text us ts those these) spelt
 
-same_tokens : (text : List ℕ) (ts us : List Token) → AreTokens text ts → AreTokens text us → us ≡ ts
-same_tokens text ts us these those = reach_whole text ts us these (inl those)
+  refused_there : (text : List ℕ) (ts us : List Token) (r : Refusal) → AreTokens text ts → AreTokens text us → RefusesTokens text us r → RefusesTokens text ts r
+  refused_there text ts us r these those refused = subst (λ (vs : List Token). RefusesTokens text vs r) (only text us ts those these) refused
 
--- one file of one text
-pub same_file : (text : List ℕ) (ts us : List Token) (f g : File) → AreTokens text ts → AreTokens text us → Parses ts f → Parses us g → g ≡ f
-same_file text ts us f g these those pf pg =
-    let here : Parses ts g = subst (λ (vs : List Token). Parses vs g) (same_tokens text ts us these those) pg in
-    pf.only g here.fits here.spelt
+  pub one_program : parsed.OneProgram → OneProgram
+  one_program one text f g a b = one text a.tokens f g a.parsed (spelt_there text a.tokens b.tokens g a.lexed b.lexed b.parsed)
 
-pub not_both : (text : List ℕ) (r : Refusal) → InLanguage text → Refuses text r → ⊥
-not_both text r program (inl stop) = no_stop text program.1.tokens program.0 r.place program.1.lexed program.1.parsed stop.1.here
-not_both text r program (inr bad) =
-    let same : bad.file ≡ program.0 = same_file text program.1.tokens bad.tokens program.0 bad.file program.1.lexed bad.lexed program.1.parsed bad.parsed in
-    program.1.named r (subst (λ (f : File). FirstMisname text f.items r) same bad.named).here
+  pub not_both : lexed.TokensOrRefusal → parsed.NotBoth → NotBoth
+  not_both either once text f r a (inl fault) = either text a.tokens r a.lexed fault
+  not_both either once text f r a (inr b) = once text a.tokens f r a.parsed (refused_there text a.tokens b.tokens r a.lexed b.lexed b.refused)
 
-same_refusal : (r s : Refusal) → r.place ≡ s.place → r.kind ≡ s.kind → r ≡ s
-same_refusal r s p q = λ i. record { place = p i; kind = q i }
+  pub one_reason : lexed.OneRefusal → lexed.TokensOrRefusal → parsed.OneReason → OneReason
+  one_reason fault either one text r s (inl a) (inl b) = fault text r s a b
+  one_reason fault either one text r s (inl a) (inr b) = absurd (either text b.tokens r b.lexed a)
+  one_reason fault either one text r s (inr a) (inl b) = absurd (either text a.tokens s a.lexed b)
+  one_reason fault either one text r s (inr a) (inr b) = one text a.tokens s r a.lexed (refused_there text a.tokens b.tokens s a.lexed b.lexed b.refused) a.refused
 
-pub one_reason : (text : List ℕ) (r s : Refusal) → Refuses text r → Refuses text s → r ≡ s
-one_reason text r s (inl a) (inl b) =
-    same_refusal r s (omega (arith, a.1.least s.place b.1.here, b.1.least r.place a.1.here)) (a.0 ∙ sym b.0)
-one_reason text r s (inl a) (inr b) = absurd (no_stop text b.tokens b.file r.place b.lexed b.parsed a.1.here)
-one_reason text r s (inr a) (inl b) = absurd (no_stop text a.tokens a.file s.place a.lexed a.parsed b.1.here)
-one_reason text r s (inr a) (inr b) =
-    let same : b.file ≡ a.file = same_file text a.tokens b.tokens a.file b.file a.lexed b.lexed a.parsed b.parsed in
-    one_fault text a.file.items (StandInOrder-AreTokens text a.tokens a.file a.lexed a.parsed.spelt) s r (subst (λ (f : File). FirstMisname text f.items s) same b.named) a.named
+-- tokens that are a program, or are refused
+judged_tokens : (text : List ℕ) (ts : List Token) → AreTokens text ts → ((f : File) × Spell text ts f) ⊎ ((r : Refusal) × RefusesTokens text ts r) → InLanguage text ⊎ ((r : Refusal) × Refuses text r)
+judged_tokens text ts are (inl (f, spelt)) = inl (f, record { tokens = ts; lexed = are; parsed = spelt })
+judged_tokens text ts are (inr (r, refused)) = inr (r, inr (record { tokens = ts; lexed = are; refused = refused }))
+
+pub each_judged : lexed.EachTextIsRead → parsed.EachIsJudged → EachIsJudged
+each_judged has judged text = by (has text)
+  where
+    by : ((ts : List Token) × AreTokens text ts) ⊎ ((r : Refusal) × RefusesText text r) → InLanguage text ⊎ ((r : Refusal) × Refuses text r)
+    by (inl (ts, are)) = judged_tokens text ts are (judged text ts are)
+    by (inr (r, fault)) = inr (r, inl fault)

@@ -1,14 +1,14 @@
 -- A run of the items, one after the other.
 use Rattle.std.proofs.Common.{◌≡◌, ℕ, ℤ, List, [], ◌∷◌, ◌++◌, map, All, Option, Some, None, Result, Ok, Err, Bor, sym, ap, subst, ◌∙◌, append_assoc, append-nil}
-use Rattle.c_parse.specs.declared.syntax.Item.{Item as CodeItem}
-use Rattle.c_parse.specs.Views.{item_view}
-use Rattle.c_parse.specs.Occurrences.{IsWithin, item_names, names_of}
+use Rattle.second_language.specs.declared.syntax.Item.{Item as CodeItem}
+use Rattle.second_language.specs.Views.{item_view}
+use Rattle.second_language.specs.Occurrences.{IsWithin, item_names, names_of}
 use Rattle.alaska_run.specs.declared.machine.Machine.{Machine}
 use Rattle.alaska_run.specs.declared.status.Trap.{Trap}
 use Rattle.alaska_run.specs.Execution.{World, Effect, Run, first_world, run_behind, run_after, run_from, run_of, step}
 use Rattle.alaska_run.specs.Flat.{FlatMemory, empty_memory, flat}
 use Rattle.alaska_run.specs.Machine.{world_in, Carried, Trapped}
-use Rattle.c_parse.proofs.NameLists.{All-left, All-right}
+use Rattle.second_language.proofs.NameLists.{All-left, All-right}
 use Rattle.alaska_run.proofs.Locals.{read}
 
 -- the run of the items that are left, from where the machine stands

@@ -3,10 +3,10 @@ use Rattle.std.proofs.Common.{◌≡◌, ℕ, ℤ, ◌+◌, ◌<◌, List, [], �
 use Rattle.std.proofs.lemmas.List.{take_more}
 use Rattle.ak_words.specs.declared.operation.Op.{Op}
 use Rattle.ak_words.specs.declared.operation.Op.TheVariants.{Mul}
-use Rattle.c_parse.specs.declared.syntax.Factor.{Factor}
-use Rattle.c_parse.specs.declared.syntax.Addend.{Addend}
-use Rattle.c_parse.specs.Trees.{Expr, binary}
-use Rattle.c_parse.specs.Views.{atom_view, term_view, times, plus, add_op_view}
+use Rattle.second_language.specs.declared.syntax.Factor.{Factor}
+use Rattle.second_language.specs.declared.syntax.Addend.{Addend}
+use Rattle.second_language.specs.Trees.{Expr, binary}
+use Rattle.second_language.specs.Views.{atom_view, term_view, times, plus, add_op_view}
 use Rattle.alaska_run.specs.declared.status.Trap.{Trap}
 use Rattle.alaska_run.specs.Execution.{World, Did, plainly, ◌>>=◌, value}
 use Rattle.alaska_run.specs.Flat.{FlatMemory, flat, wrapped_int}

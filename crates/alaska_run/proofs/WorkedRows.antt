@@ -17,4 +17,9 @@ rows_mean = record {
   further = refl;
   dead_index = refl;
   overflow = refl;
+  local = refl;
+  null_store = refl;
+  null_index = refl;
+  null_free = refl;
+  two_blocks_are = refl;
 }

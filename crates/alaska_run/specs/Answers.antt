@@ -5,7 +5,7 @@ use Rattle.c_lex.specs.declared.refusal.Kind.TheVariants.{TooLong}
 use Rattle.alaska_run.specs.declared.status.Status.{Status}
 use Rattle.alaska_run.specs.declared.status.Status.TheVariants as statuses
 use Rattle.alaska_run.specs.declared.status.Trap.{Trap}
-use Rattle.c_parse.specs.Trees.{File}
+use Rattle.second_language.specs.Trees.{File}
 use Rattle.alaska_run.specs.Language.{IsProgram, Refuses}
 use Rattle.alaska_run.specs.Flat.{machine_run}
 use Rattle.alaska_run.specs.Meant.{meaning}

@@ -4,8 +4,8 @@ use Rattle.std.specs.Str.{bytes_eq}
 use Rattle.std.specs.Fmt.{signed_decimal}
 use Rattle.ak_words.specs.IntType.{int}
 use Rattle.ak_words.specs.Num.{num}
-use Rattle.c_parse.specs.Trees.{Sub, sub_name, sub_number, Element, deref, subscript, Expr, name, number, element, binary, Item, declare, allocate, assign, release, print, give}
-use Rattle.c_parse.specs.Names.{bytes_of}
+use Rattle.second_language.specs.Trees.{Sub, sub_name, sub_number, Element, deref, subscript, Expr, name, number, element, binary, Item, declare, allocate, assign, free, print, return}
+use Rattle.second_language.specs.Names.{bytes_of}
 use Rattle.alaska_run.specs.Memory.{Memory}
 
 -- ---- steps
@@ -121,14 +121,14 @@ step M text w (assign l e) = do
   v ← value M text w e
   m ← accessed (M.reached w.memory p) (M.stored w.memory p v)
   plainly (Ok (going (with_memory w m)))
-step M text w (release place n) = do
+step M text w (free place n) = do
   p ← pointer_value M text w (bytes_of text n)
   m ← plainly (M.freed w.memory p)
   plainly (Ok (going (with_memory w m)))
 step M text w (print place e) = do
   v ← value M text w e
   plainly (Ok (record { world = w; printed = line_of_int v; ended = None }))
-step M text w (give place e) = do
+step M text w (return place e) = do
   v ← value M text w e
   plainly (Ok (record { world = w; printed = []; ended = Some v }))
 

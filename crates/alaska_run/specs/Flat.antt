@@ -10,7 +10,7 @@ use Rattle.handle_words.specs.Handle.{added}
 use Rattle.handle_table.specs.Table.{translated}
 use Rattle.flat_store.specs.Flat.{first_address, bytes_from, with_bytes}
 use Rattle.flat_store.specs.Word.{number_of, low_bytes}
-use Rattle.c_parse.specs.Trees.{File}
+use Rattle.second_language.specs.Trees.{File}
 use Rattle.alaska_run.specs.declared.status.TrapKind.TheVariants.{Load, Store, Free}
 use Rattle.alaska_run.specs.declared.status.Trap.{Trap}
 use Rattle.alaska_run.specs.Memory.{Memory}

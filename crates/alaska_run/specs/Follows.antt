@@ -1,13 +1,10 @@
 -- What it is for a run of the machine to be what is meant, up to the first rule that is broken.
-use Rattle.std.specs.Prelude.{◌≡◌, ℕ, ℤ, List, ◌++◌, map, Result, Ok, Err}
+use Rattle.std.specs.Prelude.{◌≡◌, ℕ, ℤ, List, map, Result, Ok, Err}
+use Rattle.ak_words.specs.Prefix.{IsPrefix}
 use Rattle.alaska_run.specs.Memory.{Memory}
 use Rattle.alaska_run.specs.Execution.{Run, run_of}
 use Rattle.alaska_run.specs.Simulation.{Simulates}
-use Rattle.c_parse.specs.Trees.{Item}
-
--- the first elements of the whole
-abbrev pub IsFront : {X : Type 0} → List X → List X → Type 0
-IsFront {X = X} front whole = (rest : List X) × (whole ≡ front ++ rest)
+use Rattle.second_language.specs.Trees.{Item}
 
 -- the run ended with this value, and printed and reached what is meant
 pub record DoesAll {Q F : Type 0} (output : List ℕ) (reached : List Q) (v : ℤ) (ran : Run Q F) : Type 0 where
@@ -17,8 +14,8 @@ pub record DoesAll {Q F : Type 0} (output : List ℕ) (reached : List Q) (v : �
 
 -- the run printed and reached first what is meant
 pub record DoesFirst {Q F : Type 0} (output : List ℕ) (reached : List Q) (ran : Run Q F) : Type 0 where
-  pub printed : IsFront output ran.output
-  pub places : IsFront reached ran.reached
+  pub printed : IsPrefix output ran.output
+  pub places : IsPrefix reached ran.reached
 
 -- a run follows what is meant: all of it where that breaks no rule, and else all up to the broken rule; what is reached lies
 -- where `place` says

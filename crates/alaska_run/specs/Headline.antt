@@ -1,7 +1,7 @@
 -- What a call of `alaska` promises, as one record of named facts.
 use Rattle.std.specs.Prelude.{◌≡◌, ℕ, ◌<◌, ◌≤◌, ◌⊎◌, List, [], ◌∷◌, length, take, Option, Some, None, unwrap_or, Result, Ok, Err, if◌then◌else◌, ◌==◌, ℤ}
 use Rattle.c_lex.specs.declared.refusal.Kind.TheVariants.{TooLong}
-use Rattle.c_parse.specs.Trees.{File}
+use Rattle.second_language.specs.Trees.{File}
 use Rattle.ak_io.specs.Faults.{Rose}
 use Rattle.ak_io.specs.Bytes.{grown, GrewByPrefix}
 use Rattle.alaska_run.specs.declared.status.Status.{Status}

@@ -1,46 +1,46 @@
 -- What a text of the language is, and why another is refused.
-use Rattle.std.specs.Prelude.{◌≡◌, ℕ, ◌≤◌, ◌⊎◌, List}
+use Rattle.std.specs.Prelude.{◌≡◌, ℕ, ◌⊎◌, List}
 use Rattle.c_lex.specs.declared.token.Token.{Token}
 use Rattle.c_lex.specs.declared.refusal.Refusal.{Refusal}
-use Rattle.c_lex.specs.declared.refusal.Kind.TheVariants.{OutsideSubset}
-use Rattle.c_lex.specs.Tokens.{Tokens, AreTokens, FirstBadByte}
-use Rattle.c_parse.specs.Trees.{File}
-use Rattle.c_parse.specs.Names.{IsWellNamed, FirstMisname}
-use Rattle.c_parse.specs.Language.{Parses, FirstBadToken}
+use Rattle.c_lex.specs.Tokens.{AreTokens}
+use Rattle.c_lex.specs.Refusals.{RefusesText}
+use Rattle.second_language.specs.Trees.{File}
+use Rattle.second_language.specs.Language.{Spell, RefusesTokens}
 
 -- the program that a text is: its tokens spell this file of the grammar, with each name declared before its use, and once
 pub record IsProgram (text : List ℕ) (f : File) : Type 0 where
   pub tokens : List Token
   pub lexed : AreTokens text tokens
-  pub parsed : Parses tokens f
-  pub named : IsWellNamed text f.items
+  pub parsed : Spell text tokens f
 
 -- the text is a program of the language
 abbrev pub InLanguage : List ℕ → Type 0
 InLanguage text = (f : File) × IsProgram text f
 
--- the tokens of a text as far as they go: all of them, or those before the first byte that begins none
-abbrev pub Reach : List ℕ → List Token → Type 0
-Reach text ts = AreTokens text ts ⊎ ((place : ℕ) × FirstBadByte text place × Tokens text 0 ts place)
-
--- the text is no file of the grammar because of what stands at this place: a byte that begins no token, or a token
--- up to which, itself included, the tokens begin no file
-abbrev pub StopsAt : List ℕ → ℕ → Type 0
-StopsAt text place = FirstBadByte text place ⊎ ((ts : List Token) × Reach text ts × FirstBadToken ts place)
-
--- the least place of a text where it ceases to be a file of the grammar
-pub record FirstStop (text : List ℕ) (place : ℕ) : Type 0 where
-  pub here : StopsAt text place
-  pub least : (other : ℕ) → StopsAt text other → place ≤ other
-
--- a file of the grammar whose names are not as they must be, with the first that is not
-pub record FirstBadName (text : List ℕ) (r : Refusal) : Type 0 where
-  pub file : File
+-- the text has tokens, and they are no program
+pub record RefusesProgram (text : List ℕ) (r : Refusal) : Type 0 where
   pub tokens : List Token
   pub lexed : AreTokens text tokens
-  pub parsed : Parses tokens file
-  pub named : FirstMisname text file.items r
+  pub refused : RefusesTokens text tokens r
 
--- why a text is no program: it is no file of the grammar, or else its names are not as they must be
+-- why a text is no program: it has no tokens, or else they are none
 abbrev pub Refuses : List ℕ → Refusal → Type 0
-Refuses text r = ((r.kind ≡ OutsideSubset 0) × FirstStop text r.place) ⊎ FirstBadName text r
+Refuses text r = RefusesText text r ⊎ RefusesProgram text r
+
+-- ---- what holds of each text
+
+-- it is a program, or is refused
+abbrev pub EachIsJudged : Type 0
+EachIsJudged = (text : List ℕ) → InLanguage text ⊎ ((r : Refusal) × Refuses text r)
+
+-- not both
+abbrev pub NotBoth : Type 0
+NotBoth = (text : List ℕ) (f : File) (r : Refusal) → IsProgram text f → Refuses text r → ⊥
+
+-- it is one program at most
+abbrev pub OneProgram : Type 0
+OneProgram = (text : List ℕ) (f g : File) → IsProgram text f → IsProgram text g → g ≡ f
+
+-- it is refused for one reason at most
+abbrev pub OneReason : Type 0
+OneReason = (text : List ℕ) (r s : Refusal) → Refuses text r → Refuses text s → r ≡ s

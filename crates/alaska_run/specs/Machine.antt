@@ -2,7 +2,7 @@
 use Rattle.std.specs.Prelude.{◌≡◌, ℕ, ℤ, List, ◌++◌, Option, Result, Ok, Err}
 use Rattle.std.specs.Map.{lookup}
 use Rattle.std.specs.Str.{bytes_eq}
-use Rattle.c_parse.specs.Trees.{Item}
+use Rattle.second_language.specs.Trees.{Item}
 use Rattle.alaska_run.specs.declared.status.Trap.{Trap}
 use Rattle.alaska_run.specs.declared.machine.Machine.{Machine}
 use Rattle.alaska_run.specs.declared.machine.Stop.{Stop}

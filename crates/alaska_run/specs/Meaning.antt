@@ -17,7 +17,7 @@ use Rattle.block_store.specs.declared.values.Ptr.TheVariants.{Null, To}
 use Rattle.block_store.specs.declared.values.Value.{Value}
 use Rattle.block_store.specs.declared.values.Value.TheVariants as values
 use Rattle.block_store.specs.Blocks.{Blocks, live_size, made, freed, loaded, stored}
-use Rattle.c_parse.specs.Trees.{File}
+use Rattle.second_language.specs.Trees.{File}
 use Rattle.alaska_run.specs.Memory.{Memory}
 use Rattle.alaska_run.specs.Execution.{Run, run_of}
 

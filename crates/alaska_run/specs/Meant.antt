@@ -3,7 +3,7 @@ use Rattle.std.specs.Prelude.{ℕ, ◌+◌, List}
 use Rattle.ak_words.specs.declared.rule.Rule.{Rule}
 use Rattle.flat_store.specs.Flat.{first_address}
 use Rattle.sub_heaps.specs.declared.objects.Object.{Object}
-use Rattle.c_parse.specs.Trees.{File}
+use Rattle.second_language.specs.Trees.{File}
 use Rattle.alaska_run.specs.Execution.{Run}
 use Rattle.alaska_run.specs.Meaning.{meaning_by}
 use Rattle.alaska_run.specs.Heap.{sub_heap_rule}

@@ -1,6 +1,6 @@
 -- How a call ends before anything is written.
 use Rattle.std.specs.Prelude.{◌≡◌, ℕ, List, [], Option, unwrap_or, Ok, Err}
-use Rattle.c_parse.specs.Trees.{File}
+use Rattle.second_language.specs.Trees.{File}
 use Rattle.alaska_run.specs.declared.status.Status.{Status}
 use Rattle.alaska_run.specs.declared.status.Status.TheVariants as statuses
 use Rattle.alaska_run.specs.declared.call.Outcome.{Outcome}

@@ -5,6 +5,7 @@ ghost use Rattle.alaska_run.specs.Lines.{line_of};
 ghost use Rattle.alaska_run.specs.Verdict.{IsVerdict, IsOutcome, Tells};
 
 use crate::compile::compile;
+use crate::laws::judge_each_text_once;
 use crate::lines::note_line;
 use crate::machine::run;
 use crate::reading::{MOST_BYTES, TextRead, read_text};
@@ -177,5 +178,6 @@ pub fn alaska<R, F: Shelf, O: Sink, N: Sink>(
     // With words that name no file the shelf isn't called.
     ensures uncalled { file_of (map string_bytes words.now) ≡ None → shelf.new ≡ shelf.old }
 {
+    judge_each_text_once();
     carry_out(alloc, words, shelf, out, note)
 }

@@ -128,54 +128,97 @@ fn most_objects() -> u32
 #[cfg(test)]
 mod tests {
     use super::*;
-    use std::test::Fail;
+    use std::process::Abort;
 
-    #[test]
-    fn takes_the_least_ids_and_the_lowest_places(rt: HostRuntime) -> Result<(), Fail> {
-        let mut heap = HandleHeap::new(rt.alloc())?;
-        let zero = heap.malloc(0);
-        assert_eq!(rt; (zero, heap.look(zero)), (0x8000_0000_0000_0000, 4096));
-        let whole = heap.malloc(65_536);
-        assert_eq!(rt; (whole, heap.look(whole)), (0x8000_0001_0000_0000, 69_632));
-        assert_eq!(rt; heap.malloc(65_537), 0);
-        let one = heap.malloc(1);
-        assert_eq!(rt; (one, heap.look(one)), (0x8000_0002_0000_0000, 4112));
-        assert_eq!(rt; heap.free(zero), Ok(()));
-        assert_eq!(rt; heap.look(zero), 0);
-        let larger = heap.malloc(17);
-        assert_eq!(rt; (larger, heap.look(larger)), (0x8000_0000_0000_0000, 4128));
-        let lowest = heap.malloc(16);
-        assert_eq!(rt; (lowest, heap.look(lowest)), (0x8000_0003_0000_0000, 4096));
-        assert_eq!(rt; heap.look(make(2, 5)), 4117);
+    // A call of the heap.
+    #[derive(Clone, Copy, Debug)]
+    enum Call {
+        Malloc(u32),
+        Free(u64),
+        Look(u64),
+    }
+
+    // What the call gives; a free that is done gives 0.
+    fn given(heap: &mut HandleHeap, call: Call) -> Result<u64, Trap> {
+        match call {
+            Call::Malloc(bytes) => Ok(heap.malloc(bytes)),
+            Call::Free(word) => heap.free(word).map(|_| 0),
+            Call::Look(word) => Ok(heap.look(word)),
+        }
+    }
+
+    // One call after the other gives these.
+    fn gives<R: Abort>(
+        rt: &R,
+        alloc: Global,
+        rows: &[(Call, Result<u64, Trap>)],
+    ) -> Result<(), NoMemory> {
+        let mut heap = HandleHeap::new(alloc)?;
+        for (call, wanted) in rows {
+            let given = given(&mut heap, *call);
+            assert!(rt; given == *wanted, "{call:?}");
+        }
         Ok(())
     }
 
+    // A trap of free.
+    const fn no_start(word: u64) -> Result<u64, Trap> {
+        Err(Trap {
+            word,
+            kind: TrapKind::Free,
+        })
+    }
+
+    // The handle of the id 0, at its object's start.
+    const FIRST: u64 = 0x8000_0000_0000_0000;
+
+    // And of the ids 1 to 3.
+    const SECOND: u64 = 0x8000_0001_0000_0000;
+
+    const THIRD: u64 = 0x8000_0002_0000_0000;
+
+    const FOURTH: u64 = 0x8000_0003_0000_0000;
+
     #[test]
-    fn gives_null_where_no_place_is_left(rt: HostRuntime) -> Result<(), Fail> {
-        let mut heap = HandleHeap::new(rt.alloc())?;
-        for id in 0..16 {
-            assert_eq!(rt; heap.malloc(65_536), make(id, 0));
-        }
-        assert_eq!(rt; heap.malloc(0), 0);
-        assert_eq!(rt; heap.free(make(7, 0)), Ok(()));
-        assert_eq!(rt; heap.malloc(65_521), make(7, 0));
-        assert_eq!(rt; heap.look(make(7, 0)), 462_848);
-        Ok(())
+    fn takes_the_least_ids_and_the_lowest_places(rt: HostRuntime) -> Result<(), NoMemory> {
+        gives(
+            &rt,
+            rt.alloc(),
+            &[
+                (Call::Malloc(0), Ok(FIRST)),
+                (Call::Look(FIRST), Ok(4096)),
+                (Call::Malloc(65_536), Ok(SECOND)),
+                (Call::Look(SECOND), Ok(69_632)),
+                (Call::Malloc(65_537), Ok(0)),
+                (Call::Malloc(1), Ok(THIRD)),
+                (Call::Look(THIRD), Ok(4112)),
+                (Call::Free(FIRST), Ok(0)),
+                (Call::Look(FIRST), Ok(0)),
+                (Call::Malloc(17), Ok(FIRST)),
+                (Call::Look(FIRST), Ok(4128)),
+                (Call::Malloc(16), Ok(FOURTH)),
+                (Call::Look(FOURTH), Ok(4096)),
+                (Call::Look(THIRD + 5), Ok(4117)),
+            ],
+        )
     }
 
     #[test]
-    fn frees_each_object_once_and_by_its_start(rt: HostRuntime) -> Result<(), Fail> {
-        let mut heap = HandleHeap::new(rt.alloc())?;
-        let word = heap.malloc(24);
-        for other in [make(0, 8), make(1, 0), 4096, 1] {
-            let kind = TrapKind::Free;
-            assert_eq!(rt; heap.free(other), Err(Trap { word: other, kind }));
-        }
-        assert_eq!(rt; heap.free(0), Ok(()));
-        assert_eq!(rt; heap.look(word), 4096);
-        assert_eq!(rt; heap.free(word), Ok(()));
-        let kind = TrapKind::Free;
-        assert_eq!(rt; heap.free(word), Err(Trap { word, kind }));
-        Ok(())
+    fn frees_each_object_once_and_by_its_start(rt: HostRuntime) -> Result<(), NoMemory> {
+        gives(
+            &rt,
+            rt.alloc(),
+            &[
+                (Call::Malloc(24), Ok(FIRST)),
+                (Call::Free(FIRST + 8), no_start(FIRST + 8)),
+                (Call::Free(SECOND), no_start(SECOND)),
+                (Call::Free(4096), no_start(4096)),
+                (Call::Free(1), no_start(1)),
+                (Call::Free(0), Ok(0)),
+                (Call::Look(FIRST), Ok(4096)),
+                (Call::Free(FIRST), Ok(0)),
+                (Call::Free(FIRST), no_start(FIRST)),
+            ],
+        )
     }
 }

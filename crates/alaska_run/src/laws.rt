@@ -1,5 +1,6 @@
 //! Laws of the meaning and the machine, as contracts of functions that do nothing.
 ghost use Rattle.alaska_run.specs.Actions.{StartsAgree, CalculationsAgree, AdvancesAgree, LoadsAgree, StoresAgree, MallocsAgree, FreesAgree};
+ghost use Rattle.alaska_run.specs.Language.{EachIsJudged, NotBoth, OneProgram, OneReason};
 ghost use Rattle.alaska_run.specs.Meant.{MachineFollows};
 ghost use Rattle.alaska_run.specs.Rows.{RowsMean};
 
@@ -8,6 +9,20 @@ ghost use Rattle.alaska_run.specs.Rows.{RowsMean};
 pub fn machine_follows_the_meaning()
     ensures { MachineFollows }
 {}
+
+/// The law of texts: each is a program of the language, and one only, or is refused, for one reason only.
+pub fn judge_each_text_once()
+    ensures either { EachIsJudged }
+    ensures not_both { NotBoth }
+    ensures one_program { OneProgram }
+    ensures one_reason { OneReason }
+{
+    c_lex::laws::each_is_read();
+    c_lex::laws::exclusive();
+    c_lex::laws::only();
+    c_lex::laws::one_refusal();
+    second_language::laws::judge_once();
+}
 
 /// Bytes stand for blocks before the first item and after each action, and where the action breaks no rule of C, what it
 /// gives agrees.

@@ -1,16 +1,18 @@
 ghost use Rattle.std.specs.Prelude.{◌≡◌, All, map, Ok, IfOk, OnOk, ◌++◌};
-ghost use Rattle.c_parse.specs.Views.{add_op_view, sub_view, element_view, atom_view, term_view, expr_view, item_view, view};
-ghost use Rattle.c_parse.specs.Names.{bytes_of, sub_uses, element_uses, uses};
-ghost use Rattle.c_parse.specs.Occurrences.{IsWithin, item_names, names_of};
+ghost use Rattle.second_language.specs.Views.{add_op_view, sub_view, element_view, atom_view, term_view, expr_view, item_view, view};
+ghost use Rattle.second_language.specs.Names.{bytes_of, sub_uses, element_uses, uses};
+ghost use Rattle.second_language.specs.Occurrences.{IsWithin, item_names, names_of};
 ghost use Rattle.alaska_run.specs.Execution.{sub_value, target, value, line_of_int};
 ghost use Rattle.alaska_run.specs.Flat.{flat, wrapped_int, machine_run};
 
 use crate::memory::{Memory, advance};
 use crate::status::Trap;
 use ak_words::{NoMemory, Num, Op, wrap_apply};
-use c_parse::{AddOp, Allocation, Atom, Element, Expr, Item, Name, Program, Subscript, Term};
 use indexmap::IndexMap;
 use itoa::Buffer;
+use second_language::{
+    AddOp, Allocation, Atom, Element, Expr, Item, Name, Program, Subscript, Term,
+};
 use std::alloc::Global;
 
 /// Why the machine stops in an item.
@@ -169,7 +171,7 @@ impl<'t> Machine<'t> {
     ghost use Rattle.std.specs.Prelude.{Err, MatchResult, unsigned_abs};
     ghost use Rattle.ak_words.specs.IntType.{int};
     ghost use Rattle.ak_words.specs.Num.{num};
-    ghost use Rattle.c_parse.specs.Trees.{assign};
+    ghost use Rattle.second_language.specs.Trees.{assign};
     ghost use Rattle.alaska_run.specs.Execution.{with_int, with_pointer, going, step};
     ghost use Rattle.alaska_run.specs.Flat.{malloc_word};
     ghost use Rattle.alaska_run.specs.Machine.{world_in, DoesItem};

@@ -96,63 +96,61 @@ impl Memory {
 #[cfg(test)]
 mod tests {
     use super::*;
-    use handle_words::make;
     use std::test::Fail;
 
-    #[test]
-    fn loads_what_was_stored(rt: HostRuntime) -> Result<(), Fail> {
-        let mut memory = Memory::new(rt.alloc())?;
-        let word = memory.malloc(8);
-        assert_eq!(rt; memory.store(word, -2), Ok(()));
-        assert_eq!(rt; memory.load(word), Ok(-2));
-        assert_eq!(rt; memory.load(make(0, 1)), Ok(16_777_215));
-        assert_eq!(rt; memory.load(advance(word, 1)), Ok(0));
-        assert_eq!(rt; memory.load(4096), Ok(-2));
-        Ok(())
+    // The handles of the ids 0 and 1, each at its object's start.
+    const LIVE: u64 = 0x8000_0000_0000_0000;
+
+    const DEAD: u64 = 0x8000_0001_0000_0000;
+
+    // A memory with an object of eight bytes, the first int of which is set, and one that was freed.
+    fn set_up(alloc: Global) -> Result<Memory, NoMemory> {
+        let mut memory = Memory::new(alloc)?;
+        let live = memory.malloc(8);
+        let dead = memory.malloc(8);
+        let _ = memory.store(live, -2);
+        let _ = memory.free(dead);
+        Ok(memory)
     }
 
     #[test]
-    fn traps_where_a_byte_is_missing(rt: HostRuntime) -> Result<(), Fail> {
-        let mut memory = Memory::new(rt.alloc())?;
-        let live = memory.malloc(8);
-        let dead = memory.malloc(8);
-        assert_eq!(rt; (live, dead), (make(0, 0), make(1, 0)));
-        assert_eq!(rt; memory.free(dead), Ok(()));
-        for (access, outside) in [
-            (0, 0),
-            (dead, 0),
-            (4094, 4094),
-            (make(0, 1_048_574), 1_052_672),
-            (make(0, 0x8000_0000), 2_147_487_744),
-        ] {
-            let mut kind = TrapKind::Load;
-            assert_eq!(rt;
-                memory.load(access),
-                Err(Trap {
-                    word: outside,
-                    kind
-                })
-            );
-            kind = TrapKind::Store;
-            assert_eq!(rt;
-                memory.store(access, 1),
-                Err(Trap {
-                    word: outside,
-                    kind
-                })
-            );
+    fn loads_what_was_stored_and_traps_where_a_byte_is_missing(
+        rt: HostRuntime,
+    ) -> Result<(), Fail> {
+        let mut memory = set_up(rt.alloc())?;
+        let rows = [
+            (LIVE, Ok(-2)),
+            (LIVE + 1, Ok(16_777_215)),
+            (LIVE + 4, Ok(0)),
+            (4096, Ok(-2)),
+            (LIVE + 1_048_572, Ok(0)),
+            (0, Err(0)),
+            (DEAD, Err(0)),
+            (4094, Err(4094)),
+            (LIVE + 1_048_574, Err(1_052_672)),
+            (LIVE + 0x8000_0000, Err(2_147_487_744)),
+        ];
+        for (word, wanted) in rows {
+            let loaded = memory.load(word);
+            let stored = memory.store(word, loaded.unwrap_or(0));
+            let kind = TrapKind::Load;
+            let wanted = wanted.map_err(|word| Trap { word, kind });
+            assert!(rt; loaded == wanted, "{word}");
+            assert!(rt; stored.is_ok() == wanted.is_ok(), "{word}");
         }
-        assert_eq!(rt; memory.load(make(0, 1_048_572)), Ok(0));
-        let kind = TrapKind::Free;
-        assert_eq!(rt; memory.free(dead), Err(Trap { word: dead, kind }));
         Ok(())
     }
 
     #[test]
     fn advances_by_ints(rt: HostRuntime) {
-        assert_eq!(rt; advance(0x8000_0003_0000_0008, 5), 0x8000_0003_0000_001c);
-        assert_eq!(rt; advance(0x8000_0003_0000_0000, -1), 0x8000_0003_ffff_fffc);
-        assert_eq!(rt; advance(4096, -1024), 0);
-        assert_eq!(rt; advance(0, i32::MIN), 0xffff_fffe_0000_0000);
+        let rows = [
+            (0x8000_0003_0000_0008, 5, 0x8000_0003_0000_001c),
+            (0x8000_0003_0000_0000, -1, 0x8000_0003_ffff_fffc),
+            (4096, -1024, 0),
+            (0, i32::MIN, 0xffff_fffe_0000_0000),
+        ];
+        for (word, count, further) in rows {
+            assert!(rt; advance(word, count) == further, "{word}");
+        }
     }
 }

@@ -1,5 +1,5 @@
 use Rattle.std.proofs.Common.{drop}
-use Rattle.c_parse.specs.Views.{view}
+use Rattle.second_language.specs.Views.{view}
 use Rattle.alaska_run.specs.Flat.{machine_run}
 use Rattle.alaska_run.proofs.Runs.{Running}
 use Rattle.alaska_run.proofs.machine.run.Given as goal

@@ -1,8 +1,8 @@
 use Rattle.std.proofs.Common.{◌≡◌, ◌<◌, length, Err, ap, sym, ◌∙◌, w32, to_z, of_z, arith}
 use Rattle.std.proofs.lemmas.Int.{ints}
 use Rattle.std.proofs.lemmas.Result.{err_from_is_err_and}
-use Rattle.c_parse.specs.Views.{term_view}
-use Rattle.c_parse.specs.Occurrences.{IsWithin}
+use Rattle.second_language.specs.Views.{term_view}
+use Rattle.second_language.specs.Occurrences.{IsWithin}
 use Rattle.alaska_run.specs.Flat.{wrapped_int}
 use Rattle.alaska_run.specs.Machine.{world_in}
 use Rattle.alaska_run.proofs.Names.{named-plus_first, named-addend_at}

@@ -1,8 +1,8 @@
 use Rattle.std.proofs.Common.{[], All, sym, ap, subst, ◌∙◌, append-nil}
-use Rattle.c_parse.specs.declared.syntax.Item.{Item as CodeItem}
-use Rattle.c_parse.specs.Views.{element_view, expr_view, item_view}
-use Rattle.c_parse.specs.Names.{element_uses, uses}
-use Rattle.c_parse.specs.Occurrences.{IsWithin, item_names}
+use Rattle.second_language.specs.declared.syntax.Item.{Item as CodeItem}
+use Rattle.second_language.specs.Views.{element_view, expr_view, item_view}
+use Rattle.second_language.specs.Names.{element_uses, uses}
+use Rattle.second_language.specs.Occurrences.{IsWithin, item_names}
 use Rattle.alaska_run.specs.Execution.{step}
 use Rattle.alaska_run.specs.Flat.{flat}
 use Rattle.alaska_run.specs.Machine.{world_in}

@@ -2,8 +2,8 @@ use Rattle.std.proofs.Common.{◌≡◌, ◌<◌, length, Err, ap, sym, ◌∙�
 use Rattle.std.proofs.lemmas.Int.{ints}
 use Rattle.std.proofs.lemmas.Result.{err_from_is_err_and}
 use Rattle.ak_words.specs.declared.operation.Op.TheVariants.{Mul}
-use Rattle.c_parse.specs.Views.{atom_view}
-use Rattle.c_parse.specs.Occurrences.{IsWithin}
+use Rattle.second_language.specs.Views.{atom_view}
+use Rattle.second_language.specs.Occurrences.{IsWithin}
 use Rattle.alaska_run.specs.Flat.{wrapped_int}
 use Rattle.alaska_run.specs.Machine.{world_in}
 use Rattle.alaska_run.proofs.Names.{named-times_first, named-factor_at}

@@ -1,9 +1,0 @@
-use Rattle.std.proofs.Common.{All, take}
-use Rattle.c_parse.specs.Views.{atom_view, times}
-use Rattle.c_parse.specs.Names.{uses}
-use Rattle.c_parse.specs.Scope.{known_in, IsKnownAs}
-use Rattle.c_parse.proofs.names.Scope.check_term.Given as goal
-
--- the names so far are known
-abbrev pub invariant-factors : goal.invariant-factors
-invariant-factors l = All (IsKnownAs l.self.text.now (known_in l.self)) (uses (times (atom_view l.term.first) (take l.factor-index l.term.rest.items)))
