@@ -317,7 +317,7 @@ names_of_member (source.members_of specs declarators) = names_in declarators
 abbrev pub fresh_member : Context → (before : List Name) → Name → Judged (Unit {0})
 fresh_member c before n =
     both (unless n.from DoubleName (not (list_any (λ m. bytes_eq (bytes_of c.text n) (bytes_of c.text m)) before))) (within n.from 4 256 (length before))
-        >>= λ u. typed tt
+    >>= λ u. typed tt
 
 abbrev pub member_objects : Context → Ty → List Declarator → Judged (List (List ℕ × Ty))
 member_objects c t [] = typed []
@@ -380,7 +380,7 @@ abbrev mutual
   judged_print place source.no_exprs c = (refuse place TypeMismatch, c)
   judged_print place (source.more_exprs e rest) c =
       ruled (in_turn (lone (none_past 7 (place_past 16 rest))) (in_turn (format_or (text_in e) (node_place e) (judged e)) (judged_all rest)))
-          (λ d p. printed place p.1) c
+      (λ d p. printed place p.1) c
 
   -- thrd_create: the function is its second argument
   pub judged_start : (place : ℕ) → source.Exprs → Judging Expr
@@ -420,7 +420,7 @@ abbrev mutual
   judged_declarators before source.no_declarators c = (typed [], c)
   judged_declarators before (source.more_declarators (source.declarator pointers n dims) rest) c =
       ruled (in_turn (lone (fresh_member c before n)) (in_turn (judged_dims dims) (judged_declarators (before ++ n ∷ []) rest)))
-          (λ d p. typed (record { name = n; pointers = pointers; sizes = p.1.0 } ∷ p.1.1)) c
+      (λ d p. typed (record { name = n; pointers = pointers; sizes = p.1.0 } ∷ p.1.1)) c
 
   -- the sizes of an array
   pub judged_dims : source.Exprs → Judging (List ℕ)

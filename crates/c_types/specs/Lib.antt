@@ -10,3 +10,4 @@ pub mod Statements
 pub mod Numbering
 pub mod Programs
 pub mod Rows
+pub mod Laws

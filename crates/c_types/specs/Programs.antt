@@ -296,7 +296,7 @@ is_main m = false
 abbrev pub has_main : Context → (names : List (List ℕ)) → Judged ℕ
 has_main c names =
     unless (length c.text) UnknownName (is_main (lookup (bytes_eq (codes "main")) c.inner) && list_any (bytes_eq (codes "main")) names)
-        >>= λ u. typed (place_of_name (codes "main") names)
+    >>= λ u. typed (place_of_name (codes "main") names)
 
 -- the typed tree of a file, or all its faults
 abbrev pub program_of : Context → Made → ℕ → Typed

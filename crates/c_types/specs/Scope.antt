@@ -73,8 +73,20 @@ pub record Context : Type 0 where
 -- before the first token
 abbrev pub at_start : List ℕ → Context
 at_start text = record {
-  text = text; tags = []; structs = []; members = []; begun = []; literals = []; plain = 0; globals = []; functions = []; bodies = [];
-  inner = []; outer = []; locals = []; addressed = [];
+  text = text;
+  tags = [];
+  structs = [];
+  members = [];
+  begun = [];
+  literals = [];
+  plain = 0;
+  globals = [];
+  functions = [];
+  bodies = [];
+  inner = [];
+  outer = [];
+  locals = [];
+  addressed = [];
 }
 
 -- the bytes of a name

@@ -183,7 +183,7 @@ judged_step place (Some s) = judged_simple s
 abbrev pub looped : (place : ℕ) → Judging (List Stmt) → Judging (Option Expr) → Judging Stmt → Judging Stmt → Judging Stmt
 looped place first test step body =
     scoped (ruled (in_turn first (in_turn test (in_turn step body)))
-        (λ c p. typed (headed place p.0 (λ s. at_stmt place (for_ s p.1.0 p.1.1.0 p.1.1.1)))))
+    (λ c p. typed (headed place p.0 (λ s. at_stmt place (for_ s p.1.0 p.1.1.0 p.1.1.1)))))
 
 -- a statement, in a function of this result, in a loop or not; and the items of a body: a declaration may give several
 abbrev mutual
@@ -196,7 +196,7 @@ abbrev mutual
       ruled (in_turn (condition place e) (one_of (judged_stmt result in_loop s))) (λ d p. typed (at_stmt place (if_ p.0 p.1) ∷ [])) c
   judged_stmt result in_loop (source.if_else place e s t) c =
       ruled (in_turn (condition place e) (in_turn (one_of (judged_stmt result in_loop s)) (one_of (judged_stmt result in_loop t))))
-          (λ d p. typed (at_stmt place (if_else p.0 p.1.0 p.1.1) ∷ [])) c
+      (λ d p. typed (at_stmt place (if_else p.0 p.1.0 p.1.1) ∷ [])) c
   judged_stmt result in_loop (source.while place e s) c =
       ruled (in_turn (condition place e) (one_of (judged_stmt result true s))) (λ d p. typed (at_stmt place (while_ p.0 p.1) ∷ [])) c
   judged_stmt result in_loop (source.for place first e step s) c =
