@@ -5,8 +5,7 @@ set -eu
 here=$(cd "$(dirname "$0")/.." && pwd)
 work=$(mktemp -d)
 trap 'rm -rf "$work"' EXIT
-printf 'int main(void){return 0;}' >"$work/warm.c"
-"$here/alaska" "$work/warm.c" 2>/dev/null
+[ -x "$here/bin/alaska" ] || { echo "run ./prove first: the proved program is measured" >&2; exit 1; }
 
 make_text() { # bytes
   awk -v most="$1" 'BEGIN {

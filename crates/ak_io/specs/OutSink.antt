@@ -1,7 +1,7 @@
 -- A sink over a writer, as contracts see it.
 use Rattle.std.specs.Prelude.{ℕ, List, Option}
 use Rattle.std.specs.Io.KnownBytes.{Appends}
-use Rattle.ak_io.specs.Bytes.{IsPrefix}
+use Rattle.ak_words.specs.Prefix.{IsPrefix}
 use Rattle.ak_io.specs.declared.out_sink.OutSink.{OutSink}
 
 -- the writer below it

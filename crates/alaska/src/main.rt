@@ -3,6 +3,10 @@
 //! Stands on alaska_run, ak_io and ak_words.
 #![tactic(auto)]
 
+ghost use Rattle.std.specs.Prelude.{◌≡◌};
+ghost use Rattle.std.specs.Process.{exit_status};
+ghost use Rattle.alaska_run.specs.Numbers.{number_of};
+
 use ak_io::{FileShelf, OutSink, Sink};
 use ak_words::NoMemory;
 use alaska_run::{Status, alaska};
@@ -27,6 +31,13 @@ fn read_words<R: Env + AllocGlobal>(rt: &R, alloc: Global) -> Result<Vec<String>
     Ok(words)
 }
 
+// What the process ends with, for each status.
+fn exit_code(status: Status) -> ExitCode
+    ensures { exit_status result ≡ number_of status }
+{
+    ExitCode::from(status.number())
+}
+
 fn main(rt: HostRuntime) -> ExitCode {
     let alloc = rt.alloc();
     let mut note = OutSink::new(rt.stderr());
@@ -41,5 +52,5 @@ fn main(rt: HostRuntime) -> ExitCode {
             Status::NoMemory
         }
     };
-    ExitCode::from(status.number())
+    exit_code(status)
 }

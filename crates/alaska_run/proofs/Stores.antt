@@ -15,7 +15,7 @@ use Rattle.block_store.specs.declared.values.Ptr.{Ptr}
 use Rattle.block_store.specs.declared.values.Ptr.TheVariants.{Null, To}
 use Rattle.block_store.specs.declared.values.Value.TheVariants as values
 use Rattle.block_store.specs.Blocks.{Block, Blocks, Spot, live, is_heap, is_literal, spot_in, with_cells, written_at, stored}
-use Rattle.block_store.specs.Cells.{cells_of, low_bytes as low_bytes_of_cells}
+use Rattle.block_store.specs.Cells.{cells_of}
 use Rattle.flat_store.specs.Flat.{first_address, byte_at, with_bytes}
 use Rattle.flat_store.specs.Word.{low_bytes}
 use Rattle.sub_heaps.specs.declared.objects.Object.{Object}
@@ -38,17 +38,9 @@ use Rattle.alaska_run.proofs.Places.{lives, cells_room, cell_agrees, rounded-roo
 abbrev pub int_bytes : ℤ → List ℕ
 int_bytes v = low_bytes 4 (bit_pattern int v)
 
--- the four low bytes of a number are the same by both definitions
-pub low_bytes_alike : (n : ℕ) → low_bytes_of_cells 4 n ≡ low_bytes 4 n
-low_bytes_alike n =
-    let second : n / 256 % 256 ≡ n / 256 ^ 1 % 256 = omega arith in
-    let third : n / 256 / 256 % 256 ≡ n / 256 ^ 2 % 256 = omega arith in
-    let fourth : n / 256 / 256 / 256 % 256 ≡ n / 256 ^ 3 % 256 = omega arith in
-    λ i. (n % 256) ∷ second i ∷ third i ∷ fourth i ∷ []
-
 -- the cells of an int are its bytes
 pub int_cells : (v : ℤ) → cells_of (values.Num (num int v)) ≡ map Byte (int_bytes v)
-int_cells v = ap (λ n. map Byte (low_bytes_of_cells 4 n)) (residue-wrapped_value int v) ∙ ap (map Byte) (low_bytes_alike (bit_pattern int v))
+int_cells v = ap (λ n. map Byte (low_bytes 4 n)) (residue-wrapped_value int v)
 
 -- ---- the block and the bytes that are written
 

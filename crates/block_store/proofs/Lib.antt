@@ -1,2 +1,5 @@
 pub mod Bytes
-pub mod Laws
+pub mod ReadBack
+pub mod Reading
+pub mod Copies
+pub mod WorkedRows

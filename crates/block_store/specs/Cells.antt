@@ -1,10 +1,10 @@
 -- The cells that a value is stored as, and the value that cells are read as.
-use Rattle.std.specs.Prelude.{ℕ, zero, suc, ◌+◌, ◌*◌, ◌/◌, ◌%◌, Bool, true, false, ◌&&◌, ◌==◌, if◌then◌else◌, List, [], ◌∷◌, map, replicate, Option, Some, None, Result, Ok, Err, pos}
+use Rattle.std.specs.Prelude.{ℕ, ◌+◌, ◌*◌, ◌/◌, Bool, true, false, ◌&&◌, ◌==◌, if◌then◌else◌, List, [], ◌∷◌, map, replicate, Option, Some, None, Result, Err, pos}
 use Rattle.std.specs.Option.{option_map, ok_or}
 use Rattle.std.specs.List.{range_with_len}
-use Rattle.ak_words.specs.declared.number.Num.{Num}
 use Rattle.ak_words.specs.declared.rule.Rule.{Rule}
 use Rattle.ak_words.specs.declared.rule.Rule.TheVariants.{C4, C16}
+use Rattle.ak_words.specs.Bytes.{low_bytes}
 use Rattle.ak_words.specs.Num.{num}
 use Rattle.ak_words.specs.Wrapped.{bit_pattern}
 use Rattle.block_store.specs.declared.values.Access.{Access}
@@ -25,11 +25,6 @@ size_of accesses.Pointer = 8
 abbrev pub access_of : Value → Access
 access_of (values.Num n) = accesses.Number n.ty
 access_of (values.Pointer p) = accesses.Pointer
-
--- the k lowest bytes of n, the lowest first
-abbrev pub low_bytes : ℕ → ℕ → List ℕ
-low_bytes zero n = []
-low_bytes (suc k) n = (n % 256) ∷ low_bytes k (n / 256)
 
 -- null is stored as eight zero bytes, and another pointer as its parts 0 to 7 (this project's profile)
 abbrev pub pointer_cells : Ptr → List Cell
@@ -52,6 +47,10 @@ abbrev pub number_of : List Cell → Option ℕ
 number_of [] = Some 0
 number_of (Byte low ∷ cells) = option_map (λ high. low + 256 * high) (number_of cells)
 number_of (cell ∷ cells) = None
+
+-- the same as a reading: C4 where a cell was never written, and C16 where one belongs to a pointer
+abbrev pub read_number : List Cell → Result ℕ Rule
+read_number cells = if has_unknown cells then Err C4 else ok_or (number_of cells) C16
 
 -- the cells are the parts of this pointer, from part k on, in order
 abbrev pub are_parts : (block offset k : ℕ) → List Cell → Bool

@@ -1,5 +1,9 @@
-ghost use Rattle.std.specs.Prelude.{◌≡◌, ◌<◌, ◌≤◌, ◌+◌, ◌^◌, IfOk, IfSome, length, map, take};
-ghost use Rattle.block_store.specs.Cells.{size_of, access_of, cells_of, pointer_cells, low_bytes, has_unknown, number_of, are_parts, are_zeros, pointer_of, read};
+ghost use Rattle.std.specs.Prelude.{◌≡◌, ◌<◌, ◌≤◌, ◌+◌, ◌^◌, IfOk, IfSome, length, map, take, drop, false};
+ghost use Rattle.ak_words.specs.Bytes.{low_bytes};
+ghost use Rattle.block_store.specs.Cells.{size_of, access_of, cells_of, pointer_cells, has_unknown, number_of, read_number, are_parts, are_zeros, pointer_of, read};
+ghost use Rattle.block_store.specs.Blocks.{with_cells};
+ghost use Rattle.block_store.specs.Texts.{text_of, length_of};
+ghost use Rattle.block_store.specs.inner.Copying.{is_read_late};
 ghost use Rattle.block_store.specs.declared.values.Cell.TheVariants.{Byte};
 ghost use Rattle.block_store.specs.declared.values.Ptr.TheVariants.{To};
 
@@ -39,6 +43,46 @@ pub fn read(how: Access, cells: &[Cell]) -> Result<Value, Rule>
     value.ok_or(Rule::C16)
 }
 
+/// The number of at most eight bytes whose bytes the cells are.
+pub fn read_number(cells: &[Cell]) -> Result<u64, Rule>
+    requires { length cells.now ≤ 8 }
+    ensures { result ≡ read_number cells.now }
+{
+    if has_unknown(cells) {
+        Err(Rule::C4)
+    } else {
+        number_of(cells).ok_or(Rule::C16)
+    }
+}
+
+/// How many bytes come before the first zero byte.
+pub fn text_len(cells: &[Cell]) -> Result<u32, Rule>
+    requires { length cells.now < 2 ^ 32 }
+    ensures { result ≡ length_of (text_of cells.now) }
+{
+    for (k, cell) in cells.iter().enumerate() {
+        match cell {
+            Cell::Byte(0) => return Ok(k as u32),
+            Cell::Byte(_) => {}
+            Cell::Unknown => return Err(Rule::C4),
+            Cell::Part { .. } => return Err(Rule::C16),
+        }
+    }
+    Err(Rule::C5)
+}
+
+/// Copies `n` cells, in order, none of which is read after it was written.
+pub fn copy_inside(cells: &mut [Cell], to: usize, from: usize, n: usize)
+    requires target { to + n ≤ length cells.old }
+    requires source { from + n ≤ length cells.old }
+    requires apart { is_read_late n to from ≡ false }
+    ensures { cells.new ≡ with_cells cells.old to (take n (drop from cells.old)) }
+{
+    for k in 0..n {
+        cells[to + k] = cells[from + k];
+    }
+}
+
 /// The cells of a string literal of these bytes.
 pub fn literal_cells(alloc: Global, bytes: &[u8]) -> Result<Vec<Cell>, NoMemory>
     ensures { IfOk result (λ cells. cells.items ≡ map Byte bytes.now) }
@@ -50,8 +94,8 @@ pub fn literal_cells(alloc: Global, bytes: &[u8]) -> Result<Vec<Cell>, NoMemory>
     Ok(cells)
 }
 
-// The bytes of a number, the lowest first.
-fn byte_cells(bits: u64) -> [Cell; 8]
+/// The bytes of a number, the lowest first.
+pub fn byte_cells(bits: u64) -> [Cell; 8]
     ensures { result ≡ map Byte (low_bytes 8 bits) }
 {
     let [b0, b1, b2, b3, b4, b5, b6, b7] = bits.to_le_bytes();

@@ -4,10 +4,12 @@
 #![tactic(auto)]
 
 mod cells;
+mod laws;
 mod store;
 #[cfg(test)]
 mod tests;
 mod values;
 
+pub use laws::rows_of_the_definitions;
 pub use store::Store;
-pub use values::{Access, BlockKind, Cell, Ptr, Value};
+pub use values::{Access, Answer, BlockKind, Cell, LockEnd, Ptr, Value};

@@ -1,10 +1,13 @@
-ghost use Rattle.std.specs.Prelude.{◌≡◌, ◌<◌, ◌≤◌, ◌+◌, ◌-◌, ◌^◌, [], ◌∷◌, ◌++◌, length, Ok, Err, Some, IfOk, OnOk, OnErr, MatchResult, IsSome};
+ghost use Rattle.std.specs.Prelude.{◌≡◌, ◌≢◌, ◌<◌, ◌≤◌, ◌+◌, ◌-◌, ◌^◌, [], ◌∷◌, ◌++◌, length, false, Ok, Err, Some, IfOk, OnOk, OnErr, MatchResult, IsSome, IsSomeAnd, IfSome};
+ghost use Rattle.block_store.specs.inner.Copying.{is_read_late, overwritten, held};
 ghost use Rattle.std.specs.Option.{option_copied};
 ghost use Rattle.block_store.specs.Cells.{size_of, access_of};
-ghost use Rattle.block_store.specs.Blocks.{is_freeable, is_heap, is_literal, live, spot_at, live_size, made, made_literal, ended, freed, loaded, stored, answer_of, store_after};
+ghost use Rattle.block_store.specs.Blocks.{is_freeable, is_heap, is_literal, live, range_at, live_size, made, made_literal, ended, freed, loaded, stored, copied, answer_of, store_after};
+ghost use Rattle.block_store.specs.Mutexes.{mutex_at, locked, unlocked, destroyed, lock_end, store_after_lock};
+ghost use Rattle.block_store.specs.Texts.{text_len};
 
-use crate::cells::{cells_of, literal_cells, read};
-use crate::values::{Access, BlockKind, Cell, Ptr, Value};
+use crate::cells::{byte_cells, cells_of, copy_inside, literal_cells, read, read_number, text_len};
+use crate::values::{Access, BlockKind, Cell, LockEnd, Ptr, Value};
 use ak_words::{NoMemory, Rule};
 use std::alloc::Global;
 use std::marker::Model;
@@ -27,7 +30,7 @@ impl Model for Block {
     ghost invariant = { λ b. length b.cells.items < 2 ^ 32 };
 }
 
-// Where an access reaches a live block.
+// Bytes of a live block, from an offset on.
 #[derive(Clone, Copy)]
 struct Spot<'a> {
     name: u64,
@@ -35,9 +38,24 @@ struct Spot<'a> {
     offset: u32,
 }
 
+// A mutex in a live block.
+#[derive(Clone, Copy)]
+struct Mutex<'a> {
+    spot: Spot<'a>,
+    number: u64,
+}
+
+// A place in a block, by name.
+#[derive(Clone, Copy)]
+struct Place {
+    name: u64,
+    offset: u32,
+}
+
 impl Block {
-    ghost use Rattle.std.specs.Prelude.{◌+◌, ◌≤◌, drop, take};
+    ghost use Rattle.std.specs.Prelude.{◌+◌, ◌≤◌, ◌<◌, ◌^◌, drop, take, false};
     ghost use Rattle.block_store.specs.Blocks.{with_cells};
+    ghost use Rattle.block_store.specs.inner.Copying.{is_read_late};
 
     fn is_heap(&self) -> bool
         ensures { result ≡ is_heap self.now.kind }
@@ -64,11 +82,61 @@ impl Block {
         &self.cells[offset..offset + size]
     }
 
+    fn cells_from(&self, offset: u32) -> &[Cell]
+        ensures cells { result.now ≡ drop offset self.now.cells }
+        ensures few { length result.now < 2 ^ 32 }
+    {
+        let start = self.size().min(offset);
+        &self.cells[start as usize..]
+    }
+
+    fn copy(&mut self, to: usize, from: usize, n: usize)
+        requires target { to + n ≤ length self.old.cells }
+        requires source { from + n ≤ length self.old.cells }
+        requires apart { is_read_late n to from ≡ false }
+        ensures { self.new ≡ record { kind = self.old.kind; cells = with_cells self.old.cells to (take n (drop from self.old.cells)) } }
+    {
+        copy_inside(&mut self.cells, to, from, n);
+    }
+
     fn write(&mut self, offset: usize, new: &[Cell])
         requires { offset + length new.now ≤ length self.old.cells }
         ensures { self.new ≡ record { kind = self.old.kind; cells = with_cells self.old.cells offset new.now } }
     {
         self.cells[offset..offset + new.len()].copy_from_slice(new);
+    }
+}
+
+impl<'a> Spot<'a> {
+    ghost use Rattle.std.specs.Prelude.{◌≡◌, ◌+◌, ◌≤◌, length};
+    ghost use Rattle.block_store.specs.Blocks.{cells_at, clash};
+
+    // The cells of `size` bytes.
+    fn cells(self, size: u32) -> &'a [Cell]
+        requires { self.offset + size ≤ length self.block.now.cells }
+        ensures { result.now ≡ cells_at size (record { name = self.entry.name; block = self.entry.block.now; offset = self.entry.offset }) }
+    {
+        self.block.cells(self.offset as usize, size as usize)
+    }
+
+    // Whether `n` cells may not be copied here from there, since the ranges overlap.
+    fn clashes(self, from: Spot<'_>, n: u32, same: bool) -> bool
+        ensures { result ≡ clash n same (record { name = self.entry.name; block = self.entry.block.now; offset = self.entry.offset }) (record { name = from.entry.name; block = from.entry.block.now; offset = from.entry.offset }) }
+    {
+        self.name == from.name
+            && u64::from(self.offset) < u64::from(from.offset) + u64::from(n)
+            && u64::from(from.offset) < u64::from(self.offset) + u64::from(n)
+            && !(same && self.offset == from.offset)
+    }
+
+    fn place(self) -> Place
+        ensures name { result.name ≡ self.entry.name }
+        ensures offset { result.offset ≡ self.entry.offset }
+    {
+        Place {
+            name: self.name,
+            offset: self.offset,
+        }
     }
 }
 
@@ -170,8 +238,8 @@ impl Store {
         ensures { result ≡ loaded self.now at how }
     {
         let size = how.size();
-        match self.spot_at(at, size) {
-            Ok(spot) => read(how, spot.block.cells(spot.offset as usize, size as usize)),
+        match self.range_at(at, size, size) {
+            Ok(spot) => read(how, spot.cells(size)),
             Err(rule) => Err(rule),
         }
     }
@@ -184,18 +252,119 @@ impl Store {
         ensures after { self.new ≡ store_after (stored self.old at v) self.old }
     {
         let size = how.size();
-        let spot = match self.spot_at(at, size) {
+        let spot = match self.range_at(at, size, size) {
             Ok(spot) => spot,
             Err(rule) => return Err(rule),
         };
         if spot.block.is_literal() {
             return Err(Rule::C12);
         }
-        let Spot { name, offset, .. } = spot;
-        if let Some(block) = &mut self.blocks[name as usize] {
-            block.write(offset as usize, &cells_of(v)[..size as usize]);
-        }
+        let place = spot.place();
+        self.write(place, &cells_of(v)[..size as usize]);
         Ok(())
+    }
+
+    /// Copies the `n` cells at `from` to `to`, whatever they hold, or names the first rule that this breaks and changes
+    /// nothing: C5 and C6 of the target, then of the source, by this alignment, then C12 in a string literal, and then
+    /// C11 where the ranges overlap, but for exactly the same range where `same` says so. No byte breaks no rule (C11
+    /// 7.24.2.1, 6.5.16.1 p3).
+    pub fn copy(&mut self, to: Ptr, from: Ptr, n: u32, align: u32, same: bool) -> Result<(), Rule>
+        requires { 0 < align }
+        ensures answer { result ≡ answer_of (copied self.old to from n align same) }
+        ensures after { self.new ≡ store_after (copied self.old to from n align same) self.old }
+    {
+        if n == 0 {
+            return Ok(());
+        }
+        let target = match self.range_at(to, n, align) {
+            Ok(spot) => spot,
+            Err(rule) => return Err(rule),
+        };
+        let source = match self.range_at(from, n, align) {
+            Ok(spot) => spot,
+            Err(rule) => return Err(rule),
+        };
+        if target.block.is_literal() {
+            return Err(Rule::C12);
+        }
+        if target.clashes(source, n, same) {
+            return Err(Rule::C11);
+        }
+        let (target, source) = (target.place(), source.place());
+        self.copy_cells(target, source, n);
+        Ok(())
+    }
+
+    /// Takes the mutex at `at` for a thread where it is free, and else changes nothing: it tells that another thread holds
+    /// it, or names the first rule that this breaks: C5, C6 and C12 as for a store of its 8 bytes, C4 and C16 of its cells,
+    /// and C13 where the thread holds it already (C11 7.26.4.3).
+    pub fn lock(&mut self, at: Ptr, thread: u32) -> Result<LockEnd, Rule>
+        ensures answer { result ≡ lock_end (locked self.old at thread) }
+        ensures after { self.new ≡ store_after_lock (locked self.old at thread) self.old }
+    {
+        let mutex = match self.mutex_at(at) {
+            Ok(mutex) => mutex,
+            Err(rule) => return Err(rule),
+        };
+        let holder = u64::from(thread) + 1;
+        if mutex.number == 0 {
+            let place = mutex.spot.place();
+            self.write(place, &byte_cells(holder));
+            Ok(LockEnd::Got)
+        } else if mutex.number == holder {
+            Err(Rule::C13)
+        } else {
+            Ok(LockEnd::Held)
+        }
+    }
+
+    /// Sets free the mutex at `at`, which the thread holds, or names the first rule that this breaks and changes nothing:
+    /// as for a lock, and C13 where the thread doesn't hold it (C11 7.26.4.6).
+    pub fn unlock(&mut self, at: Ptr, thread: u32) -> Result<(), Rule>
+        ensures answer { result ≡ answer_of (unlocked self.old at thread) }
+        ensures after { self.new ≡ store_after (unlocked self.old at thread) self.old }
+    {
+        let mutex = match self.mutex_at(at) {
+            Ok(mutex) => mutex,
+            Err(rule) => return Err(rule),
+        };
+        if mutex.number != u64::from(thread) + 1 {
+            return Err(Rule::C13);
+        }
+        let place = mutex.spot.place();
+        self.write(place, &byte_cells(0));
+        Ok(())
+    }
+
+    /// Whether the mutex at `at` may be destroyed, which changes nothing, or the first rule that this breaks: as for a lock,
+    /// and C13 where it is held (C11 7.26.4.1; its being held is this project's profile).
+    pub fn may_destroy(&self, at: Ptr) -> Result<(), Rule>
+        ensures { result ≡ destroyed self.now at }
+    {
+        let mutex = match self.mutex_at(at) {
+            Ok(mutex) => mutex,
+            Err(rule) => return Err(rule),
+        };
+        if mutex.number == 0 {
+            Ok(())
+        } else {
+            Err(Rule::C13)
+        }
+    }
+
+    /// The length of the text at `at`, which is the bytes before the first zero byte, or the first rule that reading it
+    /// breaks: C5 through null, to a dead block or behind the block's end, C4 where a cell was never written, and C16 where
+    /// one belongs to a pointer.
+    pub fn text_len(&self, at: Ptr) -> Result<u32, Rule>
+        ensures { result ≡ text_len self.now at }
+    {
+        let Ptr::To { block, offset } = at else {
+            return Err(Rule::C5);
+        };
+        match self.live(block) {
+            Some(block) => text_len(block.cells_from(offset)),
+            None => Err(Rule::C5),
+        }
     }
 
     // Gives a new block the next name.
@@ -209,10 +378,10 @@ impl Store {
         Ok(name)
     }
 
-    // Where an access of `size` bytes reaches a live block.
-    fn spot_at(&self, at: Ptr, size: u32) -> Result<Spot<'_>, Rule>
-        requires { 0 < size }
-        ensures spot { MatchResult result (λ s. spot_at self.now size at ≡ Ok (record { name = s.name; block = s.block.now; offset = s.offset })) (λ rule. spot_at self.now size at ≡ Err rule) }
+    // The `size` bytes that a pointer points to.
+    fn range_at(&self, at: Ptr, size: u32, align: u32) -> Result<Spot<'_>, Rule>
+        requires { 0 < align }
+        ensures spot { MatchResult result (λ s. range_at self.now size align at ≡ Ok (record { name = s.name; block = s.block.now; offset = s.offset })) (λ rule. range_at self.now size align at ≡ Err rule) }
         ensures live { IfOk result (λ s. live self.now s.name ≡ Some s.block.now) }
         ensures within { IfOk result (λ s. s.offset + size ≤ length s.block.now.cells) }
     {
@@ -228,7 +397,7 @@ impl Store {
         };
         if u64::from(offset) + u64::from(size) > u64::from(block.size()) {
             Err(Rule::C5)
-        } else if offset % size != 0 {
+        } else if offset % align != 0 {
             Err(Rule::C6)
         } else {
             Ok(Spot {
@@ -236,6 +405,75 @@ impl Store {
                 block,
                 offset,
             })
+        }
+    }
+
+    // The mutex that a pointer points to.
+    fn mutex_at(&self, at: Ptr) -> Result<Mutex<'_>, Rule>
+        ensures mutex { MatchResult result (λ m. mutex_at self.now at ≡ Ok (record { spot = record { name = m.spot.name; block = m.spot.block.now; offset = m.spot.offset }; number = m.number })) (λ rule. mutex_at self.now at ≡ Err rule) }
+        ensures live { IfOk result (λ m. live self.now m.spot.name ≡ Some m.spot.block.now) }
+        ensures within { IfOk result (λ m. m.spot.offset + 8 ≤ length m.spot.block.now.cells) }
+    {
+        let spot = match self.range_at(at, 8, 8) {
+            Ok(spot) => spot,
+            Err(rule) => return Err(rule),
+        };
+        if spot.block.is_literal() {
+            return Err(Rule::C12);
+        }
+        match read_number(spot.cells(8)) {
+            Ok(number) => Ok(Mutex { spot, number }),
+            Err(rule) => Err(rule),
+        }
+    }
+
+    // Copies cells from one place to another, where their blocks have them and no cell is read after it was written.
+    fn copy_cells(&mut self, to: Place, from: Place, n: u32)
+        requires target { IsSomeAnd (live self.old to.name) (λ b. to.offset + n ≤ length b.cells) }
+        requires source { IsSomeAnd (live self.old from.name) (λ b. from.offset + n ≤ length b.cells) }
+        requires apart { from.name ≡ to.name → is_read_late n to.offset from.offset ≡ false }
+        ensures { self.new ≡ overwritten self.old to.name to.offset (held n from.offset (live self.old from.name)) }
+    {
+        if to.name == from.name {
+            self.copy_here(to.name, to.offset, from.offset, n);
+        } else {
+            self.copy_across(to, from, n);
+        }
+    }
+
+    // The same, inside one block.
+    fn copy_here(&mut self, name: u64, to: u32, from: u32, n: u32)
+        requires target { IsSomeAnd (live self.old name) (λ b. to + n ≤ length b.cells) }
+        requires source { IsSomeAnd (live self.old name) (λ b. from + n ≤ length b.cells) }
+        requires apart { is_read_late n to from ≡ false }
+        ensures { self.new ≡ overwritten self.old name to (held n from (live self.old name)) }
+    {
+        if let Some(block) = &mut self.blocks[name as usize] {
+            block.copy(to as usize, from as usize, n as usize);
+        }
+    }
+
+    // The same, from another block, which is taken out meanwhile.
+    fn copy_across(&mut self, to: Place, from: Place, n: u32)
+        requires other { from.name ≢ to.name }
+        requires target { IsSomeAnd (live self.old to.name) (λ b. to.offset + n ≤ length b.cells) }
+        requires source { IsSomeAnd (live self.old from.name) (λ b. from.offset + n ≤ length b.cells) }
+        ensures { self.new ≡ overwritten self.old to.name to.offset (held n from.offset (live self.old from.name)) }
+    {
+        let Some(source) = self.blocks[from.name as usize].take() else {
+            return;
+        };
+        self.write(to, source.cells(from.offset as usize, n as usize));
+        self.blocks[from.name as usize] = Some(source);
+    }
+
+    // Writes cells at a place, where its block has them.
+    fn write(&mut self, place: Place, new: &[Cell])
+        requires within { IsSomeAnd (live self.old place.name) (λ b. place.offset + length new.now ≤ length b.cells) }
+        ensures { self.new ≡ overwritten self.old place.name place.offset new.now }
+    {
+        if let Some(block) = &mut self.blocks[place.name as usize] {
+            block.write(place.offset as usize, new);
         }
     }
 

@@ -1,4 +1,6 @@
-use crate::{Access, BlockKind, Cell, Ptr, Store, Value};
+ghost use Rattle.std.specs.Prelude.{◌≡◌, IsTrue};
+
+use crate::{Access, BlockKind, Cell, LockEnd, Ptr, Store, Value};
 use ak_words::{IntType, Num, Rule};
 use std::test::Fail;
 
@@ -126,5 +128,52 @@ fn an_ended_name(rt: HostRuntime) -> Result<(), Fail> {
     assert_eq!(rt; store.live_size(local), Some(0));
     store.end(local);
     assert_eq!(rt; store.live_size(local), None);
+    Ok(())
+}
+
+// A caller, proved from the contracts alone: a thread that has to wait for a mutex has changed nothing.
+fn must_wait(store: &mut Store, at: Ptr, thread: u32) -> bool
+    ensures { IsTrue result → store.new ≡ store.old }
+{
+    matches!(store.lock(at, thread), Ok(LockEnd::Held))
+}
+
+// Thread 1 has the mutex, thread 0 waits, and only thread 1 may set it free.
+#[test]
+fn one_holder(rt: HostRuntime) -> Result<(), Fail> {
+    let mut store = Store::new(rt.alloc());
+    let mutex = to(store.make(8, BlockKind::Global, Cell::Byte(0))?, 0);
+    assert_eq!(rt; store.lock(mutex, 1), Ok(LockEnd::Got));
+    assert_eq!(rt; store.lock(mutex, 1), Err(Rule::C13));
+    assert!(rt; must_wait(&mut store, mutex, 0));
+    assert_eq!(rt; store.may_destroy(mutex), Err(Rule::C13));
+    assert_eq!(rt; store.unlock(mutex, 0), Err(Rule::C13));
+    assert_eq!(rt; store.unlock(mutex, 1), Ok(()));
+    assert_eq!(rt; store.may_destroy(mutex), Ok(()));
+    Ok(())
+}
+
+// The first broken rule of a copy, and copies inside a block and between two.
+#[test]
+fn copies(rt: HostRuntime) -> Result<(), Fail> {
+    let mut store = Store::new(rt.alloc());
+    let literal = store.make_literal(&[104, 105, 0])?;
+    let block = store.make(8, BlockKind::Heap, Cell::Unknown)?;
+    for (target, source, n, align, same, answer) in [
+        (to(block, 1), to(9, 0), 4, 4, false, Err(Rule::C6)),
+        (to(literal, 0), to(9, 0), 2, 1, false, Err(Rule::C5)),
+        (to(literal, 0), to(literal, 0), 2, 1, false, Err(Rule::C12)),
+        (to(block, 0), to(block, 1), 2, 1, false, Err(Rule::C11)),
+        (to(block, 0), to(block, 0), 8, 4, true, Ok(())),
+        (Ptr::Null, Ptr::Null, 0, 1, false, Ok(())),
+        (to(block, 1), to(literal, 0), 3, 1, false, Ok(())),
+        (to(block, 4), to(block, 1), 3, 1, false, Ok(())),
+    ] {
+        assert_eq!(rt; store.copy(target, source, n, align, same), answer);
+    }
+    assert_eq!(rt; store.text_len(to(block, 4)), Ok(2));
+    assert_eq!(rt; store.text_len(to(block, 2)), Ok(1));
+    assert_eq!(rt; store.text_len(to(block, 7)), Err(Rule::C4));
+    assert_eq!(rt; store.text_len(to(literal, 3)), Err(Rule::C5));
     Ok(())
 }

@@ -63,6 +63,26 @@ pub enum BlockKind {
     Heap,
 }
 
+/// How a lock comes out that breaks no rule.
+#[derive(Clone, Copy, Debug, PartialEq, Eq)]
+pub enum LockEnd {
+    /// The thread has the mutex from now on.
+    Got,
+    /// Another thread holds it.
+    Held,
+}
+
+/// What a turn of a thread is told: what was chosen for it, where there is a choice.
+#[derive(Clone, Copy, Debug, PartialEq, Eq)]
+pub enum Answer {
+    /// There is no choice.
+    Plain,
+    /// An allocation gets its block, or a new thread is made.
+    Got,
+    /// An allocation gets no block, or no thread is made.
+    None,
+}
+
 impl Access {
     ghost use Rattle.std.specs.Prelude.{◌≡◌};
     ghost use Rattle.block_store.specs.Cells.{size_of};

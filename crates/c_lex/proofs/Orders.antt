@@ -1,40 +1,27 @@
 -- The order of a text's tokens.
-use Rattle.std.proofs.Common.{ℕ, zero, suc, ◌+◌, ◌-◌, ◌<◌, ◌≤◌, List, [], ◌∷◌, ◌++◌, length, get_or, take, drop, map, sym, subst, arith, add-one}
-use Rattle.std.specs.List.{AllByRecursion, slice_range}
+use Rattle.std.proofs.Common.{ℕ, zero, suc, ◌+◌, ◌<◌, ◌≤◌, List, [], ◌∷◌, ◌++◌, length, get_or, map, sym, subst, arith, add-one}
+use Rattle.std.specs.List.{AllByRecursion}
 use Rattle.c_lex.specs.declared.token.Token.{Token}
-use Rattle.c_lex.specs.Tokens.{StandsIn, Tokens, AreTokens, end_of}
-use Rattle.c_lex.specs.Fronts.{BeginsWith}
+use Rattle.c_lex.specs.Tokens.{AreTokens, end_of}
 use Rattle.c_lex.specs.Laws.{AreApart, AreOrdered}
-use Rattle.c_lex.proofs.Sorts.{Starts, spelled_starts}
-
--- a front that has a first byte is not empty
-some_bytes : (P : ℕ → Type 0) (bytes : List ℕ) (n : ℕ) → BeginsWith P (take n bytes) → 0 < n
-some_bytes P bytes zero first = absurd first
-some_bytes P bytes (suc n) first = omega arith
-
--- a token spans a byte or more
-pub token_spans : (text : List ℕ) (t : Token) → StandsIn text t → t.from < t.to
-token_spans text t stands =
-    let some = some_bytes (Starts t.kind) (drop t.from text) (t.to - t.from) (spelled_starts (slice_range text t.from t.to) t.kind stands.spelled) in
-    omega arith
+use Rattle.c_lex.proofs.Chains.{TokensFrom, tokens_stand}
 
 -- the tokens lie in the text
-each_within : (text : List ℕ) (ts : List Token) (a : ℕ) → Tokens text a ts (length text)
-    → AllByRecursion (λ token. (token.from ≤ token.to) × (token.to ≤ length text)) (ts ++ end_of text ∷ [])
-each_within text [] a tokens = ((omega arith, omega arith), tt)
-each_within text (t ∷ ts) a tokens = ((tokens.1.ordered, tokens.1.within), each_within text ts t.to tokens.2)
+each_within : (text : List ℕ) (ts : List Token) (a : ℕ) → TokensFrom text a ts → AllByRecursion (λ token. (token.from ≤ token.to) × (token.to ≤ length text)) (ts ++ end_of text ∷ [])
+each_within text [] a all = ((omega arith, omega arith), tt)
+each_within text (t ∷ ts) a all = ((omega (arith, all.0.piece.long), all.0.piece.within), each_within text ts t.to all.1)
 
 -- tokens from a place on begin at that place or behind it
-each_behind : (text : List ℕ) (ts : List Token) (a from to : ℕ) → from < to → to ≤ a → Tokens text a ts (length text)
+each_behind : (text : List ℕ) (ts : List Token) (a from to : ℕ) → from < to → to ≤ a → to ≤ length text → TokensFrom text a ts
     → AllByRecursion (λ later. (from < to) × (to ≤ later.from)) (ts ++ end_of text ∷ [])
-each_behind text [] a from to p q tokens = ((p, omega (arith, tokens.ordered)), tt)
-each_behind text (t ∷ ts) a from to p q tokens =
-    ((p, omega (arith, tokens.0.ordered)), each_behind text ts t.to from to p (omega (arith, tokens.0.ordered, tokens.1.ordered)) tokens.2)
+each_behind text [] a from to p q r all = ((p, r), tt)
+each_behind text (t ∷ ts) a from to p q r all =
+    ((p, omega (arith, all.0.piece.later)), each_behind text ts t.to from to p (omega (arith, all.0.piece.later, all.0.piece.long)) r all.1)
 
 -- and apart
-all_apart : (text : List ℕ) (ts : List Token) (a : ℕ) → Tokens text a ts (length text) → AreApart (ts ++ end_of text ∷ [])
-all_apart text [] a tokens = (tt, tt)
-all_apart text (t ∷ ts) a tokens = (each_behind text ts t.to t.from t.to (token_spans text t tokens.1) (omega arith) tokens.2, all_apart text ts t.to tokens.2)
+all_apart : (text : List ℕ) (ts : List Token) (a : ℕ) → TokensFrom text a ts → AreApart (ts ++ end_of text ∷ [])
+all_apart text [] a all = (tt, tt)
+all_apart text (t ∷ ts) a all = (each_behind text ts t.to t.from t.to all.0.piece.long (omega arith) all.0.piece.within all.1, all_apart text ts t.to all.1)
 
 -- where the tokens begin
 places : List Token → List ℕ
@@ -53,9 +40,10 @@ pub are_ordered : (text : List ℕ) (ts : List Token) → AreTokens text ts → 
 unfolding places
 are_ordered text ts are =
     let P : List Token → Type 0 = AreOrdered text in
-    let apart = all_apart text are.0 0 are.2 in
+    let stand = tokens_stand text are.0 are.2 in
+    let apart = all_apart text are.0 0 stand in
     subst P (sym are.1) (record {
-      within = each_within text are.0 0 are.2;
+      within = each_within text are.0 0 stand;
       apart = apart;
       rising = λ k lt. next_rises (are.0 ++ end_of text ∷ []) k apart lt;
     })

@@ -1,5 +1,11 @@
 pub mod Bytes
+pub mod Spellings
+pub mod Constants
+pub mod Quoted
+pub mod Directives
+pub mod Items
 pub mod Tokens
 pub mod Refusals
 pub mod Laws
-pub mod Fronts
+pub mod Rows
+pub mod inner

@@ -1,132 +1,122 @@
--- What the tokens of a text are (C11 6.4).
-use Rattle.std.specs.Prelude.{◌≡◌, ◌≢◌, ℕ, ◌<◌, ◌≤◌, List, [], ◌∷◌, ◌++◌, length, drop, codes, pos, true}
-use Rattle.std.specs.List.{slice_range, AllByRecursion}
-use Rattle.std.specs.Str.Parse.{digits_value}
+-- What the tokens of a text are, and what refuses it (C11 6.4).
+use Rattle.std.specs.Prelude.{◌≡◌, ℕ, zero, suc, ◌+◌, ◌-◌, ◌==◌, nat_le, Bool, true, ◌&&◌, ◌||◌, if◌then◌else◌, List, [], ◌∷◌, ◌++◌, length, Contains, Option, Some, None, Result, Ok, Err}
+use Rattle.std.specs.List.{slice_range}
+use Rattle.std.specs.Map.{lookup}
+use Rattle.std.specs.Option.{is_some}
+use Rattle.std.specs.Str.{bytes_eq}
 use Rattle.ak_words.specs.declared.number.Num.{Num}
-use Rattle.ak_words.specs.IntType.{int}
-use Rattle.ak_words.specs.Num.{num}
-use Rattle.c_lex.specs.declared.token.Word.{Word}
-use Rattle.c_lex.specs.declared.token.Word.TheVariants as words
-use Rattle.c_lex.specs.declared.token.Mark.{Mark}
-use Rattle.c_lex.specs.declared.token.Mark.TheVariants as marks
+use Rattle.c_lex.specs.declared.refusal.Kind.{Kind}
+use Rattle.c_lex.specs.declared.refusal.Kind.TheVariants as kinds
+use Rattle.c_lex.specs.declared.refusal.Refusal.{Refusal}
 use Rattle.c_lex.specs.declared.token.TokenKind.{TokenKind}
-use Rattle.c_lex.specs.declared.token.TokenKind.TheVariants as kinds
+use Rattle.c_lex.specs.declared.token.TokenKind.TheVariants as tokens
 use Rattle.c_lex.specs.declared.token.Token.{Token}
-use Rattle.c_lex.specs.Bytes.{IsWhite, IsDigit, IsLetter, IsNameByte}
+use Rattle.c_lex.specs.declared.item.Item.{Item}
+use Rattle.c_lex.specs.declared.item.Item.TheVariants as items
+use Rattle.c_lex.specs.declared.directive.Define.{Define}
+use Rattle.c_lex.specs.Bytes.{is_white}
+use Rattle.c_lex.specs.Spellings.{is_taken}
+use Rattle.c_lex.specs.Quoted.{string_of}
+use Rattle.c_lex.specs.Items.{item_at}
 
--- ---- how tokens are spelled
+-- ---- the text from item to item
 
--- the bytes of a word
-abbrev pub word_text : Word → List ℕ
-word_text words.Int = codes "int"
-word_text words.Void = codes "void"
-word_text words.Return = codes "return"
-word_text words.Main = codes "main"
-word_text words.Printf = codes "printf"
-word_text words.Malloc = codes "malloc"
-word_text words.Free = codes "free"
+-- an item, with the place where it begins and the place where it ends
+abbrev pub Piece : Type 0
+Piece = ℕ × ℕ × Item
 
--- the reserved words of C11 6.4.1 and this project's own, and the library's names, which no name may be
-abbrev pub taken_words : List (List ℕ)
-taken_words = codes "auto" ∷ codes "break" ∷ codes "case" ∷ codes "char" ∷ codes "const" ∷ codes "continue"
-    ∷ codes "default" ∷ codes "do" ∷ codes "double" ∷ codes "else" ∷ codes "enum" ∷ codes "extern"
-    ∷ codes "float" ∷ codes "for" ∷ codes "goto" ∷ codes "if" ∷ codes "inline" ∷ codes "int"
-    ∷ codes "long" ∷ codes "register" ∷ codes "restrict" ∷ codes "return" ∷ codes "short" ∷ codes "signed"
-    ∷ codes "sizeof" ∷ codes "static" ∷ codes "struct" ∷ codes "switch" ∷ codes "typedef" ∷ codes "union"
-    ∷ codes "unsigned" ∷ codes "void" ∷ codes "volatile" ∷ codes "while" ∷ codes "_Alignas" ∷ codes "_Alignof"
-    ∷ codes "_Atomic" ∷ codes "_Bool" ∷ codes "_Complex" ∷ codes "_Generic" ∷ codes "_Imaginary"
-    ∷ codes "_Noreturn" ∷ codes "_Static_assert" ∷ codes "_Thread_local"
-    ∷ codes "size_t" ∷ codes "thrd_t" ∷ codes "mtx_t" ∷ codes "NULL"
-    ∷ codes "main" ∷ codes "printf" ∷ codes "malloc" ∷ codes "free" ∷ []
+-- whether nothing but white space stands on the line, behind a byte
+abbrev pub stays_line_start : Bool → ℕ → Bool
+stays_line_start is_line_start byte = byte == 10 || is_white byte && is_line_start
 
--- the byte of a mark
-abbrev pub mark_byte : Mark → ℕ
-mark_byte marks.Plus = 43
-mark_byte marks.Minus = 45
-mark_byte marks.Star = 42
-mark_byte marks.Assign = 61
-mark_byte marks.Semicolon = 59
-mark_byte marks.Comma = 44
-mark_byte marks.OpenParen = 40
-mark_byte marks.CloseParen = 41
-mark_byte marks.OpenBrace = 123
-mark_byte marks.CloseBrace = 125
-mark_byte marks.OpenBracket = 91
-mark_byte marks.CloseBracket = 93
+-- the items one behind the other, from a place on; the bytes that the last one still takes are passed over
+abbrev pub pieces : (is_line_start : Bool) → (place passed_over : ℕ) → List ℕ → List Piece
+pieces is_line_start place passed_over [] = []
+pieces is_line_start place (suc n) (byte ∷ bytes) = pieces is_line_start (1 + place) n bytes
+pieces is_line_start place zero (byte ∷ bytes) =
+    let next = item_at is_line_start (byte ∷ bytes) in
+    (place, place + next.len, next.item) ∷ pieces (stays_line_start is_line_start byte) (1 + place) (next.len - 1) bytes
 
--- a letter or _, and then letters, digits and _
-abbrev pub IsRunOfName : List ℕ → Type 0
-IsRunOfName [] = ⊥
-IsRunOfName (byte ∷ bytes) = IsLetter byte × AllByRecursion IsNameByte bytes
+-- the items of a whole text
+abbrev pub pieces_of : List ℕ → List Piece
+pieces_of text = pieces true 0 0 text
 
--- a name of the program's own
-pub record IsName (bytes : List ℕ) : Type 0 where
-  pub run : IsRunOfName bytes
-  pub free : AllByRecursion (λ word. bytes ≢ word) taken_words
+-- ---- the tokens
 
--- decimal digits: 0 alone, or digits that don't begin with 0, of value at most 2147483647
-abbrev pub IsDecimal : List ℕ → Type 0
-IsDecimal [] = ⊥
-IsDecimal (byte ∷ bytes) = IsDigit byte × AllByRecursion IsDigit bytes × ((byte ≡ 48) → (bytes ≡ [])) × (digits_value 10 (byte ∷ bytes) ≤ 2147483647)
+-- the names that #define made stand for numbers so far
+abbrev pub Names : Type 0
+Names = List (List ℕ × Num)
 
--- the number is the int of this value
-abbrev pub IsIntOf : Num → ℕ → Type 0
-IsIntOf n value = n ≡ num int (pos value)
+-- how many there may be
+abbrev pub most_names : ℕ
+most_names = 1024
 
--- the bytes spell a token of this kind
-abbrev pub Spells : List ℕ → TokenKind → Type 0
-Spells bytes kinds.Name = IsName bytes
-Spells bytes (kinds.Word word) = bytes ≡ word_text word
-Spells bytes (kinds.Int n) = IsDecimal bytes × IsIntOf n (digits_value 10 bytes)
-Spells bytes kinds.Text = bytes ≡ codes "\"%d\\n\""
-Spells bytes (kinds.Mark mark) = bytes ≡ mark_byte mark ∷ []
-Spells bytes kinds.End = ⊥
+-- a refusal
+abbrev pub refusal : ℕ → Kind → Refusal
+refusal place kind = record { place = place; kind = kind }
 
--- the first of the bytes, if there is one, has no P
-abbrev pub BeginsWithout : (ℕ → Type 0) → List ℕ → Type 0
-BeginsWithout P [] = Unit {0}
-BeginsWithout P (byte ∷ bytes) = P byte → ⊥
+-- a token
+abbrev pub token : TokenKind → ℕ → ℕ → Token
+token kind from to = record { kind = kind; from = from; to = to }
 
--- a name or a run of digits goes as far as it can: the bytes behind it don't go on with it
-abbrev pub Stops : TokenKind → List ℕ → Type 0
-Stops kinds.Name rest = BeginsWithout IsNameByte rest
-Stops (kinds.Word word) rest = BeginsWithout IsNameByte rest
-Stops (kinds.Int n) rest = BeginsWithout IsDigit rest
-Stops kinds.Text rest = Unit {0}
-Stops (kinds.Mark mark) rest = Unit {0}
-Stops kinds.End rest = Unit {0}
+-- a name is the constant that it was defined as, and else a name of the program's own
+abbrev pub named : Option Num → TokenKind
+named None = tokens.Name
+named (Some n) = tokens.Int n
 
--- ---- the tokens of a text
+-- the number of a define, or where no type holds it the refusal at its place
+abbrev pub in_a_type : (place : ℕ) → Option Num → Result Num Refusal
+in_a_type place None = Err (refusal place kinds.NumberTooWide)
+in_a_type place (Some n) = Ok n
 
--- the token stands in the text where it says
-pub record StandsIn (text : List ℕ) (token : Token) : Type 0 where
-  pub within : token.to ≤ length text
-  pub ordered : token.from ≤ token.to
-  pub spelled : Spells (slice_range text token.from token.to) token.kind
-  pub stops : Stops token.kind (drop token.to text)
+-- the number that a #define at a place makes its name stand for, or what refuses it
+unfoldable pub defined : List ℕ → Names → (place : ℕ) → Define → Result Num Refusal
+defined text names place d =
+    let name = slice_range text (place + d.name_from) (place + d.name_to) in
+    if is_taken name then Err (refusal place kinds.UnexpectedToken)
+    else (if is_some (lookup (bytes_eq name) names) then Err (refusal place kinds.DoubleName)
+    else (if nat_le most_names (length names) then Err (refusal (place + d.name_from) (kinds.TooMany 10))
+    else in_a_type (place + d.number_from) d.value))
 
--- nothing but white space stands between the two places
-pub record IsBlank (text : List ℕ) (from to : ℕ) : Type 0 where
-  pub ordered : from ≤ to
-  pub within : to ≤ length text
-  pub white : AllByRecursion IsWhite (slice_range text from to)
+-- a token before others
+abbrev pub with_token : Token → Result (List Token) Refusal → Result (List Token) Refusal
+with_token t (Ok ts) = Ok (t ∷ ts)
+with_token t (Err r) = Err r
 
--- from one place of the text to another stand these tokens, with white space between them
-abbrev pub Tokens : List ℕ → ℕ → List Token → ℕ → Type 0
-Tokens text from [] to = IsBlank text from to
-Tokens text from (token ∷ tokens) to = IsBlank text from token.from × StandsIn text token × Tokens text token.to tokens to
+-- what follows a #define where it stands for a number
+abbrev pub after_define : Result Num Refusal → (Num → Result (List Token) Refusal) → Result (List Token) Refusal
+after_define (Ok n) rest = rest n
+after_define (Err r) rest = Err r
+
+-- the tokens that the items make, where these names are defined; or the first refusal
+abbrev pub reading : (text : List ℕ) → Names → List Piece → Result (List Token) Refusal
+reading text names [] = Ok []
+reading text names ((from, to, items.Blank) ∷ rest) = reading text names rest
+reading text names ((from, to, items.Name) ∷ rest) =
+    with_token (token (named (lookup (bytes_eq (slice_range text from to)) names)) from to) (reading text names rest)
+reading text names ((from, to, items.Token kind) ∷ rest) = with_token (token kind from to) (reading text names rest)
+reading text names ((from, to, items.Define d) ∷ rest) =
+    after_define (defined text names from d) (λ n. reading text (names ++ (slice_range text (from + d.name_from) (from + d.name_to), n) ∷ []) rest)
+reading text names ((from, to, items.Fault kind) ∷ rest) = Err (refusal from kind)
+
+-- the tokens of a text but for its end, or its refusal
+abbrev pub reading_of : List ℕ → Result (List Token) Refusal
+reading_of text = reading text [] (pieces_of text)
 
 -- the token that ends a text
 abbrev pub end_of : List ℕ → Token
-end_of text = record { kind = kinds.End; from = length text; to = length text }
+end_of text = token tokens.End (length text) (length text)
 
 -- these are the tokens of the text, with its end as the last
 abbrev pub AreTokens : List ℕ → List Token → Type 0
-AreTokens text tokens = (front : List Token) × (tokens ≡ front ++ end_of text ∷ []) × Tokens text 0 front (length text)
+AreTokens text all = (front : List Token) × (all ≡ front ++ end_of text ∷ []) × (reading_of text ≡ Ok front)
 
--- up to this place the text is tokens and white space, and none of the two begins there
-pub record FirstBadByte (text : List ℕ) (place : ℕ) : Type 0 where
-  pub within : place < length text
-  pub before : (front : List Token) × Tokens text 0 front place
-  pub black : BeginsWithout IsWhite (drop place text)
-  pub none : (token : Token) → token.from ≡ place → StandsIn text token → ⊥
+-- ---- what a string stands for
+
+-- the token is a string of the text
+abbrev pub IsStringOf : List ℕ → Token → Type 0
+IsStringOf text t = (all : List Token) × AreTokens text all × Contains all t × (t.kind ≡ tokens.Text)
+
+-- the bytes that a string stands for: those between its quotes, with each escape as one byte
+abbrev pub literal_of : List ℕ → Token → Result (List ℕ) Kind
+literal_of text t = string_of (slice_range text (t.from + 1) (t.to - 1))

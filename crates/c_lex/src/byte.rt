@@ -1,77 +1,76 @@
-ghost use Rattle.std.specs.Prelude.{IsTrue, ◌↔◌};
-ghost use Rattle.c_lex.specs.Fronts.{IsIn, IsRun, MayBegin};
-
-use crate::token::Mark;
+ghost use Rattle.std.specs.Prelude.{◌≡◌, ◌+◌, ◌≤◌, drop, length};
+ghost use Rattle.std.specs.List.{prefix_len};
+ghost use Rattle.c_lex.specs.inner.Classes.{is_in};
+ghost use Rattle.c_lex.specs.Directives.{past, begins};
 
 /// A class of bytes that stand in a row.
-#[derive(Clone, Copy, Debug, PartialEq, Eq)]
+#[derive(Clone, Copy)]
 pub enum Class {
     /// White space.
     White,
-    /// Decimal digits.
+    /// 0 to 9.
     Digit,
+    /// 0 to 7.
+    OctalDigit,
+    /// 0 to 9, A to F, a to f.
+    HexDigit,
+    /// A letter or `_`.
+    Letter,
     /// What a name goes on with.
     Name,
+    /// What doesn't end a line.
+    Line,
+    /// What stands before the `>` of a header.
+    BeforeBracket,
 }
 
-/// What a byte may begin.
-#[derive(Clone, Copy, Debug, PartialEq, Eq)]
-pub enum Start {
-    /// A name or a word.
-    Name,
-    /// A decimal constant.
-    Number,
-    /// The format.
-    Text,
-    /// This mark.
-    Mark(Mark),
-    /// No token.
-    Nothing,
-}
-
-/// Whether the byte is of the class.
-fn is_in(class: Class, byte: u8) -> bool
-    ensures { IsTrue result ↔ IsIn class byte }
-{
-    match class {
-        Class::White => matches!(byte, b'\t'..=b'\r' | b' '),
-        Class::Digit => byte.is_ascii_digit(),
-        Class::Name => byte.is_ascii_alphanumeric() || byte == b'_',
+impl Class {
+    /// Whether the byte is of the class.
+    pub fn has(self, byte: u8) -> bool
+        ensures { result ≡ is_in self byte }
+    {
+        match self {
+            Class::White => matches!(byte, b'\t'..=b'\r' | b' '),
+            Class::Digit => byte.is_ascii_digit(),
+            Class::OctalDigit => matches!(byte, b'0'..=b'7'),
+            Class::HexDigit => byte.is_ascii_hexdigit(),
+            Class::Letter => byte.is_ascii_alphabetic() || byte == b'_',
+            Class::Name => byte.is_ascii_alphanumeric() || byte == b'_',
+            Class::Line => byte != b'\n',
+            Class::BeforeBracket => byte != b'>',
+        }
     }
 }
 
 /// How many bytes of the class the bytes begin with.
 pub fn run_len(class: Class, bytes: &[u8]) -> usize
-    ensures { IsRun (IsIn class) bytes.now result }
+    ensures len { result ≡ prefix_len (is_in class) bytes.now }
+    ensures within { result ≤ length bytes.now }
 {
     for (i, byte) in bytes.iter().enumerate() {
-        if !is_in(class, *byte) {
+        if !class.has(*byte) {
             return i;
         }
     }
     bytes.len()
 }
 
-/// What the byte may begin.
-pub fn start_of(byte: u8) -> Start
-    ensures { MayBegin byte result }
+/// Where the bytes of the class end that stand from a place on.
+pub fn past(class: Class, bytes: &[u8], from: usize) -> usize
+    requires { from ≤ length bytes.now }
+    ensures place { result ≡ past (is_in class) bytes.now from }
+    ensures later { from ≤ result }
+    ensures within { result ≤ length bytes.now }
 {
-    match byte {
-        b'A'..=b'Z' | b'a'..=b'z' | b'_' => Start::Name,
-        b'0'..=b'9' => Start::Number,
-        b'"' => Start::Text,
-        b'+' => Start::Mark(Mark::Plus),
-        b'-' => Start::Mark(Mark::Minus),
-        b'*' => Start::Mark(Mark::Star),
-        b'=' => Start::Mark(Mark::Assign),
-        b';' => Start::Mark(Mark::Semicolon),
-        b',' => Start::Mark(Mark::Comma),
-        b'(' => Start::Mark(Mark::OpenParen),
-        b')' => Start::Mark(Mark::CloseParen),
-        b'{' => Start::Mark(Mark::OpenBrace),
-        b'}' => Start::Mark(Mark::CloseBrace),
-        b'[' => Start::Mark(Mark::OpenBracket),
-        b']' => Start::Mark(Mark::CloseBracket),
-        _ => Start::Nothing,
+    from + run_len(class, &bytes[from..])
+}
+
+/// Whether the first byte, if there is one, is of the class.
+pub fn begins(class: Class, bytes: &[u8]) -> bool
+    ensures { result ≡ begins (is_in class) bytes.now }
+{
+    match bytes {
+        [] => false,
+        [byte, ..] => class.has(*byte),
     }
 }

@@ -1,17 +1,20 @@
-//! The tokens of a text of the first language.
-//! Promises upward: the tokens of the text, each the longest at its place, or the first byte that begins none.
+//! The tokens of a text (C11 6.4).
+//! Promises upward: the tokens of the text, each the longest at its place, or the text's one refusal.
 //! Stands on ak_words.
 #![tactic(auto)]
 
 mod byte;
-mod front;
+mod constant;
+mod directive;
+mod item;
 pub mod laws;
 mod lexer;
+mod quoted;
 pub mod refusal;
 mod spelling;
 pub mod token;
 
-pub use lexer::lex;
+pub use lexer::{lex, literal};
 pub use refusal::{CompileFault, Kind, Refusal};
 pub use token::{Mark, Token, TokenKind, Word};
 

@@ -1,128 +1,271 @@
-ghost use Rattle.std.specs.Prelude.{[], ◌≡◌, ◌≢◌, ◌≤◌, pos, Contains, MatchBool, MatchOption, true};
-ghost use Rattle.std.specs.List.{AllByRecursion};
-ghost use Rattle.std.specs.Option.{SomeIff};
-ghost use Rattle.std.specs.Str.Parse.{digits_value};
-ghost use Rattle.c_lex.specs.declared.token.Word.{Word};
-ghost use Rattle.c_lex.specs.Bytes.{IsDigit};
-ghost use Rattle.c_lex.specs.Tokens.{word_text, taken_words, IsRunOfName, Spells};
-ghost use Rattle.c_lex.specs.Fronts.{SpellsNothing};
+ghost use Rattle.std.specs.Prelude.{◌≡◌, ◌<◌, ◌≤◌, length, nat_eq, IfSome};
+ghost use Rattle.c_lex.specs.Spellings.{word_text, word_of, mark_text, mark_of, library_names, is_one_of, is_taken};
 
-use crate::token::{TokenKind, Word};
-use ak_words::Num;
+use crate::token::{Mark, Word};
 
-/// The words that no name may be.
-const TAKEN_WORDS: [&[u8]; 52] = [
-    b"auto",
-    b"break",
-    b"case",
-    b"char",
-    b"const",
-    b"continue",
-    b"default",
-    b"do",
-    b"double",
-    b"else",
-    b"enum",
-    b"extern",
-    b"float",
-    b"for",
-    b"goto",
-    b"if",
-    b"inline",
-    b"int",
-    b"long",
-    b"register",
-    b"restrict",
-    b"return",
-    b"short",
-    b"signed",
-    b"sizeof",
-    b"static",
-    b"struct",
-    b"switch",
-    b"typedef",
-    b"union",
-    b"unsigned",
-    b"void",
-    b"volatile",
-    b"while",
-    b"_Alignas",
-    b"_Alignof",
-    b"_Atomic",
-    b"_Bool",
-    b"_Complex",
-    b"_Generic",
-    b"_Imaginary",
-    b"_Noreturn",
-    b"_Static_assert",
-    b"_Thread_local",
-    b"size_t",
-    b"thrd_t",
-    b"mtx_t",
-    b"NULL",
-    b"main",
+/// The reserved words.
+const WORDS: [Word; 48] = [
+    Word::Auto,
+    Word::Break,
+    Word::Case,
+    Word::Char,
+    Word::Const,
+    Word::Continue,
+    Word::Default,
+    Word::Do,
+    Word::Double,
+    Word::Else,
+    Word::Enum,
+    Word::Extern,
+    Word::Float,
+    Word::For,
+    Word::Goto,
+    Word::If,
+    Word::Inline,
+    Word::Int,
+    Word::Long,
+    Word::Register,
+    Word::Restrict,
+    Word::Return,
+    Word::Short,
+    Word::Signed,
+    Word::Sizeof,
+    Word::Static,
+    Word::Struct,
+    Word::Switch,
+    Word::Typedef,
+    Word::Union,
+    Word::Unsigned,
+    Word::Void,
+    Word::Volatile,
+    Word::While,
+    Word::Alignas,
+    Word::Alignof,
+    Word::Atomic,
+    Word::Bool,
+    Word::Complex,
+    Word::Generic,
+    Word::Imaginary,
+    Word::Noreturn,
+    Word::StaticAssert,
+    Word::ThreadLocal,
+    Word::SizeT,
+    Word::ThrdT,
+    Word::MtxT,
+    Word::Null,
+];
+
+/// The marks, those of three bytes first, then those of two, then those of one.
+const MARKS: [Mark; 46] = [
+    Mark::Ellipsis,
+    Mark::ShiftLeftAssign,
+    Mark::ShiftRightAssign,
+    Mark::ShiftLeft,
+    Mark::ShiftRight,
+    Mark::LessEqual,
+    Mark::GreaterEqual,
+    Mark::EqualEqual,
+    Mark::NotEqual,
+    Mark::AndAnd,
+    Mark::OrOr,
+    Mark::Arrow,
+    Mark::PlusPlus,
+    Mark::MinusMinus,
+    Mark::PlusAssign,
+    Mark::MinusAssign,
+    Mark::StarAssign,
+    Mark::SlashAssign,
+    Mark::PercentAssign,
+    Mark::AmpersandAssign,
+    Mark::BarAssign,
+    Mark::CaretAssign,
+    Mark::Plus,
+    Mark::Minus,
+    Mark::Star,
+    Mark::Slash,
+    Mark::Percent,
+    Mark::Ampersand,
+    Mark::Bar,
+    Mark::Caret,
+    Mark::Tilde,
+    Mark::Bang,
+    Mark::Less,
+    Mark::Greater,
+    Mark::Assign,
+    Mark::Question,
+    Mark::Colon,
+    Mark::Semicolon,
+    Mark::Comma,
+    Mark::Dot,
+    Mark::OpenParen,
+    Mark::CloseParen,
+    Mark::OpenBracket,
+    Mark::CloseBracket,
+    Mark::OpenBrace,
+    Mark::CloseBrace,
+];
+
+/// The names of the library, which `#define` may not take.
+const LIBRARY_NAMES: [&[u8]; 13] = [
     b"printf",
     b"malloc",
     b"free",
+    b"memcpy",
+    b"thrd_create",
+    b"thrd_join",
+    b"mtx_init",
+    b"mtx_lock",
+    b"mtx_unlock",
+    b"mtx_destroy",
+    b"mtx_plain",
+    b"thrd_success",
+    b"thrd_error",
 ];
 
-/// The word that the bytes spell, if they do.
-fn word_of(run: &[u8]) -> Option<Word>
-    ensures { MatchOption result ((word : Word) → run.now ≢ word_text word) (λ word. run.now ≡ word_text word) }
+/// The bytes of a reserved word.
+#[tactic(auto, unfolding(crate::specs::Spellings::word_text))]
+fn word_bytes(word: Word) -> &'static [u8]
+    ensures { result.now ≡ word_text word }
 {
-    match run {
-        b"int" => Some(Word::Int),
-        b"void" => Some(Word::Void),
-        b"return" => Some(Word::Return),
-        b"main" => Some(Word::Main),
-        b"printf" => Some(Word::Printf),
-        b"malloc" => Some(Word::Malloc),
-        b"free" => Some(Word::Free),
-        _ => None,
+    match word {
+        Word::Auto => b"auto",
+        Word::Break => b"break",
+        Word::Case => b"case",
+        Word::Char => b"char",
+        Word::Const => b"const",
+        Word::Continue => b"continue",
+        Word::Default => b"default",
+        Word::Do => b"do",
+        Word::Double => b"double",
+        Word::Else => b"else",
+        Word::Enum => b"enum",
+        Word::Extern => b"extern",
+        Word::Float => b"float",
+        Word::For => b"for",
+        Word::Goto => b"goto",
+        Word::If => b"if",
+        Word::Inline => b"inline",
+        Word::Int => b"int",
+        Word::Long => b"long",
+        Word::Register => b"register",
+        Word::Restrict => b"restrict",
+        Word::Return => b"return",
+        Word::Short => b"short",
+        Word::Signed => b"signed",
+        Word::Sizeof => b"sizeof",
+        Word::Static => b"static",
+        Word::Struct => b"struct",
+        Word::Switch => b"switch",
+        Word::Typedef => b"typedef",
+        Word::Union => b"union",
+        Word::Unsigned => b"unsigned",
+        Word::Void => b"void",
+        Word::Volatile => b"volatile",
+        Word::While => b"while",
+        Word::Alignas => b"_Alignas",
+        Word::Alignof => b"_Alignof",
+        Word::Atomic => b"_Atomic",
+        Word::Bool => b"_Bool",
+        Word::Complex => b"_Complex",
+        Word::Generic => b"_Generic",
+        Word::Imaginary => b"_Imaginary",
+        Word::Noreturn => b"_Noreturn",
+        Word::StaticAssert => b"_Static_assert",
+        Word::ThreadLocal => b"_Thread_local",
+        Word::SizeT => b"size_t",
+        Word::ThrdT => b"thrd_t",
+        Word::MtxT => b"mtx_t",
+        Word::Null => b"NULL",
     }
 }
 
-/// Whether no name may be spelled so.
-fn is_taken(run: &[u8]) -> bool
-    ensures { MatchBool result (Contains taken_words run.now) (AllByRecursion (λ word. run.now ≢ word) taken_words) }
+/// The bytes of a mark.
+#[tactic(auto, unfolding(crate::specs::Spellings::mark_text))]
+pub(crate) fn mark_bytes(mark: Mark) -> &'static [u8]
+    ensures text { result.now ≡ mark_text mark }
+    ensures some { 0 < length result.now }
 {
-    TAKEN_WORDS.contains(&run)
-}
-
-/// What a letter or `_` and the letters, digits and `_` behind it spell: a word, a name or nothing.
-pub fn name_kind(run: &[u8]) -> Option<TokenKind>
-    requires { IsRunOfName run.now }
-    ensures { MatchOption result (SpellsNothing run.now) (Spells run.now) }
-{
-    match word_of(run) {
-        Some(word) => Some(TokenKind::Word(word)),
-        None if is_taken(run) => None,
-        None => Some(TokenKind::Name),
+    match mark {
+        Mark::Ellipsis => b"...",
+        Mark::ShiftLeft => b"<<",
+        Mark::ShiftRight => b">>",
+        Mark::LessEqual => b"<=",
+        Mark::GreaterEqual => b">=",
+        Mark::EqualEqual => b"==",
+        Mark::NotEqual => b"!=",
+        Mark::AndAnd => b"&&",
+        Mark::OrOr => b"||",
+        Mark::Arrow => b"->",
+        Mark::PlusPlus => b"++",
+        Mark::MinusMinus => b"--",
+        Mark::PlusAssign => b"+=",
+        Mark::MinusAssign => b"-=",
+        Mark::StarAssign => b"*=",
+        Mark::SlashAssign => b"/=",
+        Mark::PercentAssign => b"%=",
+        Mark::AmpersandAssign => b"&=",
+        Mark::BarAssign => b"|=",
+        Mark::CaretAssign => b"^=",
+        Mark::ShiftLeftAssign => b"<<=",
+        Mark::ShiftRightAssign => b">>=",
+        Mark::Plus => b"+",
+        Mark::Minus => b"-",
+        Mark::Star => b"*",
+        Mark::Slash => b"/",
+        Mark::Percent => b"%",
+        Mark::Ampersand => b"&",
+        Mark::Bar => b"|",
+        Mark::Caret => b"^",
+        Mark::Tilde => b"~",
+        Mark::Bang => b"!",
+        Mark::Less => b"<",
+        Mark::Greater => b">",
+        Mark::Assign => b"=",
+        Mark::Question => b"?",
+        Mark::Colon => b":",
+        Mark::Semicolon => b";",
+        Mark::Comma => b",",
+        Mark::Dot => b".",
+        Mark::OpenParen => b"(",
+        Mark::CloseParen => b")",
+        Mark::OpenBracket => b"[",
+        Mark::CloseBracket => b"]",
+        Mark::OpenBrace => b"{",
+        Mark::CloseBrace => b"}",
     }
 }
 
-/// The value of decimal digits, if an `int` has it.
-fn decimal_value(digits: &[u8]) -> Option<i32>
-    requires { AllByRecursion IsDigit digits.now }
-    ensures { SomeIff result (digits_value 10 digits.now ≤ 2147483647) (pos (digits_value 10 digits.now)) }
+/// The reserved word that the bytes spell, if they do.
+#[tactic(auto, unfolding(crate::specs::Spellings::word_of, crate::specs::Spellings::all_words))]
+pub(crate) fn word_of(run: &[u8]) -> Option<Word>
+    ensures { result ≡ word_of run.now }
 {
-    let mut value: u32 = 0;
-    for digit in digits {
-        value = value
-            .checked_mul(10)?
-            .checked_add(u32::from(*digit - b'0'))?;
+    for word in WORDS {
+        if word_bytes(word) == run {
+            return Some(word);
+        }
     }
-    i32::try_from(value).ok()
+    None
 }
 
-/// What decimal digits spell: a constant, or nothing.
-pub fn number_kind(digits: &[u8]) -> Option<TokenKind>
-    requires some { digits.now ≢ [] }
-    requires each { AllByRecursion IsDigit digits.now }
-    ensures { MatchOption result (SpellsNothing digits.now) (Spells digits.now) }
+/// The longest mark that the bytes begin with, if they begin with one.
+#[tactic(auto, unfolding(crate::specs::Spellings::mark_of, crate::specs::Spellings::longest_marks_first))]
+pub(crate) fn mark_of(bytes: &[u8]) -> Option<Mark>
+    ensures mark { result ≡ mark_of bytes.now }
+    ensures within { IfSome result (λ mark. length (mark_text mark) ≤ length bytes.now) }
 {
-    match digits {
-        [b'0', _, ..] => None,
-        _ => Some(TokenKind::Int(Num::int(decimal_value(digits)?))),
+    for mark in MARKS {
+        if bytes.starts_with(mark_bytes(mark)) {
+            return Some(mark);
+        }
     }
+    None
+}
+
+/// Whether `#define` may not take the name.
+#[tactic(auto, unfolding(crate::specs::Spellings::is_taken, crate::specs::Spellings::library_names))]
+pub(crate) fn is_taken(name: &[u8]) -> bool
+    ensures { result ≡ is_taken name.now }
+{
+    word_of(name).is_some() || LIBRARY_NAMES.contains(&name)
 }

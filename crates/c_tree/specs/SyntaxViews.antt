@@ -1,5 +1,5 @@
 -- What the code's trees of a program are.
-use Rattle.std.specs.Prelude.{ℕ, List, map, Option, Some, None, Box}
+use Rattle.std.specs.Prelude.{ℕ, map, Option, Some, None, Box}
 use Rattle.std.specs.Option.{option_map}
 use Rattle.std.specs.declared.alloc.Global.{Global}
 use Rattle.c_tree.specs.declared.syntax.Expr.{Expr as CodeExpr, fold-Expr}

@@ -1,6 +1,6 @@
 -- What a well formed typed tree is: each number is in range, and types agree as the meaning of the tree needs them.
-use Rattle.std.specs.Prelude.{◌≡◌, ℕ, ◌+◌, ◌*◌, ◌/◌, ◌<◌, ◌≤◌, ◌⊎◌, Bool, true, false, List, [], ◌∷◌, length, map, take, sum_by, slice_get, Option, Some, None}
-use Rattle.std.specs.List.{AllByRecursion}
+use Rattle.std.specs.Prelude.{◌≡◌, ℕ, nat_lt, ◌+◌, ◌*◌, ◌/◌, ◌<◌, ◌≤◌, ◌⊎◌, Bool, true, false, List, [], ◌∷◌, length, map, take, sum_by, slice_get, Option, Some, None}
+use Rattle.std.specs.List.{AllByRecursion, filter}
 use Rattle.ak_words.specs.declared.int_type.IntType.{IntType}
 use Rattle.ak_words.specs.declared.operation.Op.{Op}
 use Rattle.ak_words.specs.declared.operation.Op.TheVariants as ops
@@ -325,7 +325,8 @@ pub record IsWellFormed (t : Typed) : Type 0 where
   pub literals : AllByRecursion (λ bs. 0 < length bs) t.literals
   pub funcs : AllByRecursion (IsFunc t) t.funcs
   pub main : IsNth t.funcs t.main IsMain
-  pub few_structs : length t.structs ≤ 256
+  -- a struct whose tag is named and never declared has no member and no size, and isn't counted
+  pub few_structs : length (filter (λ (l : Layout). nat_lt 0 l.size) t.structs) ≤ 256
   pub few_globals : length t.globals ≤ 4096
   pub few_funcs : length t.funcs ≤ 8192
   pub small : plain_bytes t ≤ 1048576

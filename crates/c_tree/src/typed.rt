@@ -20,7 +20,7 @@ pub enum CType {
 /// A typed program: one file of C (C11 6.9).
 #[derive(Drop)]
 pub struct Typed {
-    /// The structs, in order of declaration.
+    /// The structs, in the order in which their tags are first named; one that is never declared has no member.
     pub structs: Vec<Layout>,
     /// The globals, in order of declaration.
     pub globals: Vec<GlobalVar>,

@@ -2,7 +2,7 @@
 use Rattle.std.proofs.Common.{◌≡◌, ◌≢◌, ℕ, zero, suc, ◌+◌, ◌-◌, ◌*◌, ◌/◌, ◌%◌, ◌^◌, ◌<◌, ◌≤◌, List, Option, Some, None, IsSome, IsNone, length, get_or, refl, sym, ap, subst, ◌∙◌, inl, inr, arith}
 use Rattle.std.proofs.lemmas.Bool.{cases_eq, cases_lt, false≢true}
 use Rattle.handle_table.specs.Table.{IsFree, IsFull, address_of}
-use Rattle.handle_table.specs.Tree.{HoldsLeast, IsLeaf, IsTreeOf, leaf_of}
+use Rattle.handle_table.specs.inner.Tree.{HoldsLeast, IsLeaf, IsTreeOf, leaf_of}
 
 module _ (tree : List ℕ) (whole : length tree % 2 ≡ 0) (least : HoldsLeast tree) where
   -- the root is at most each node; `most` bounds the number of steps to it

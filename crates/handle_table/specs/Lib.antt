@@ -1,2 +1,4 @@
 pub mod Table
-pub mod Tree
+pub mod Frame
+pub mod Words
+pub mod inner

@@ -20,7 +20,7 @@ pub struct Table {
 // Clauses see the entries by id; `free` is a tree that finds the least free id.
 impl Model for Table {
     ghost use Rattle.std.specs.Prelude.{ℕ, List, Option};
-    ghost use Rattle.handle_table.specs.Tree.{IsTreeOf};
+    ghost use Rattle.handle_table.specs.inner.Tree.{IsTreeOf};
 
     ghost Value = { List (Option ℕ) };
 

@@ -1,5 +1,5 @@
 ghost use Rattle.std.specs.Prelude.{◌≡◌, ℕ, ◌+◌, ◌*◌, ◌%◌, ◌<◌, ◌≤◌, ◌≢◌, length, slice_index};
-ghost use Rattle.handle_table.specs.Tree.{HoldsLeast, IsLeaf};
+ghost use Rattle.handle_table.specs.inner.Tree.{HoldsLeast, IsLeaf};
 
 /// Writes a leaf, and the least numbers on the way from it to the root.
 pub fn write_leaf(tree: &mut [u32], leaf: usize, number: u32)

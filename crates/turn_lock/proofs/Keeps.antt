@@ -13,7 +13,7 @@ use Rattle.turn_lock.specs.declared.board.Taken.{Taken}
 use Rattle.turn_lock.specs.declared.board.Stage.{Stage}
 use Rattle.turn_lock.specs.declared.board.Stage.TheVariants.{Idle, Waiting, Holding, Spent}
 use Rattle.turn_lock.specs.Histories.{of_worker}
-use Rattle.turn_lock.specs.Board.{words_of, total, founder, one_more, newcomer_of, taken_of, nothing_taken, taken_in, spent, waiting, holding, after_call, busy_at, busy, Tells, Common, Knows, Chief, Holder, InTurn, drew, looked, served}
+use Rattle.turn_lock.specs.inner.Board.{words_of, total, founder, one_more, newcomer_of, taken_of, nothing_taken, taken_in, spent, waiting, holding, after_call, busy_at, busy, Tells, Common, Knows, Chief, Holder, InTurn, drew, looked, served}
 use Rattle.turn_lock.proofs.Histories.{of_worker-append, of_worker-append_none, none_else, cancel_none}
 use Rattle.ak_words.specs.Prefix.{IsPrefix}
 use Rattle.ak_words.proofs.Prefixes.{prefix_of_itself, prefix_of_more}

@@ -1,7 +1,7 @@
 //! How a lock is made.
 ghost use Rattle.std.specs.Prelude.{◌≡◌, ℕ, ◌<◌, ◌≤◌, [], ◌∷◌, IfOk, vec_len, vec_capacity};
 ghost use Rattle.turn_lock.specs.Limits.{most_passes};
-ghost use Rattle.turn_lock.specs.Board.{founder};
+ghost use Rattle.turn_lock.specs.inner.Board.{founder};
 ghost use Rattle.turn_lock.specs.Locks.{AllPasses, AllNew, first_of, passes_of};
 
 use crate::board::{Another, Place};

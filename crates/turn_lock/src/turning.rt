@@ -4,7 +4,7 @@ ghost use Rattle.ak_trace.specs.declared.entry.Entry.{Entry};
 ghost use Rattle.turn_lock.specs.declared.board.Stage.TheVariants.{Idle, Holding};
 ghost use Rattle.turn_lock.specs.Limits.{most_passes};
 ghost use Rattle.turn_lock.specs.Histories.{of_worker};
-ghost use Rattle.turn_lock.specs.Board.{holding, after_call};
+ghost use Rattle.turn_lock.specs.inner.Board.{holding, after_call};
 ghost use Rattle.turn_lock.specs.Locks.{first_of, seen_of, own_of, worker_of, IsPassOf, MakesCall};
 
 use crate::board::{DRAWN, Draw, Leads, Leaves, Look, Place, SERVED, Serve};
@@ -51,7 +51,7 @@ impl<Call, Reply, O: Object<Call, Reply>> TurnLock<O, Call, Reply> {
     }
 
     // Puts the object back and serves the next ticket. The clauses alone read `before` and `call`, from which the caller says what J is.
-    fn give<J: Leaves>(&self, place: &mut Place<O>, before: &Snapshot<O>, call: &Snapshot<Call>)
+    fn end_turn<J: Leaves>(&self, place: &mut Place<O>, before: &Snapshot<O>, call: &Snapshot<Call>)
         requires place { (place.old.table_id ≡ self.now.board.shared.table_id) × ((t : ℕ) × (place.old.me.0.stage ≡ Holding t)) }
         requires entries { (of_worker place.old.me.0.number J.entries ≡ J.entries) × ((y : O) × (place.old.me.1 ≡ (0, y) ∷ []) × O.replays (first_of self.now) (place.old.me.0.seen ++ J.entries) y) }
         ensures { (place.new.table_id ≡ place.old.table_id) × (place.new.id ≡ place.old.id) × (place.new.me ≡ (after_call J.entries place.old.me.0, [])) }
@@ -74,7 +74,7 @@ impl<Call, Reply, O: Object<Call, Reply>> TurnLock<O, Call, Reply> {
         self.take::<R, Brand>(rt, &mut pass.place);
         let asked = Snapshot::of(&call);
         let (reply, before) = self.call(&mut pass.place, worker, call);
-        self.give::<Brand>(&mut pass.place, &before, &asked);
+        self.end_turn::<Brand>(&mut pass.place, &before, &asked);
         reply
     }
 }

@@ -1,13 +1,13 @@
 -- A count of calls with a journal of them, which the tests put under a lock, and its laws as an object.
-use Rattle.std.specs.Prelude.{◌≡◌, ℕ, zero, suc, ◌==◌, Bool, true, false, cond, T, nat_lt, if◌then◌else◌, List, [], ◌∷◌, ◌++◌, length, filter, Option, Some, None}
-use Rattle.std.proofs.Common.{ap, sym, ◌∙◌, refl}
-use Rattle.std.proofs.Math.Dec.{eqb_refl}
+use Rattle.std.specs.Prelude.{◌≡◌, ℕ, ◌==◌, Bool, nat_lt, if◌then◌else◌, List, [], ◌∷◌, ◌++◌, length, Option, Some, None}
+use Rattle.std.proofs.Common.{ap, sym, ◌∙◌}
 use Rattle.std.proofs.lemmas.List.Elements.{filter-append}
 use Rattle.std.proofs.lemmas.List.{append-nil}
 use Rattle.ak_trace.specs.declared.entry.Entry.{Entry}
 use Rattle.ak_trace.specs.Log.{Log}
 use Rattle.ak_trace.specs.Kinds.{out}
 use Rattle.turn_lock.specs.Histories.{of_worker}
+use Rattle.turn_lock.specs.inner.Own.{own_if}
 
 -- the journal has just these entries and this limit, and the count is how many entries there are
 abbrev pub IsTally : (limit : ℕ) → List Entry → Log → ℕ → Type 0
@@ -39,17 +39,6 @@ next_stays log more worker number next none =
     let same : of_worker worker (log ++ more) ≡ of_worker worker log = filter-append (λ (e : Entry). e.worker == worker) log more ∙ (ap (λ (z : List Entry). of_worker worker log ++ z) none ∙ append-nil (of_worker worker log)) in
     next ∙ sym (ap length same)
 
-is_true : (b : Bool) → T b → b ≡ true
-is_true true t = refl
-is_true false t = absurd t
-
-same_number : (n : ℕ) → (n == n) ≡ true
-same_number n = is_true (n == n) (eqb_refl n)
-
-one_own : (b : Bool) (worker number : ℕ) → of_worker worker (cond b (call_entry worker number ∷ []) []) ≡ cond b (call_entry worker number ∷ []) []
-one_own true worker number = ap (λ (b : Bool). cond b (call_entry worker number ∷ []) []) (same_number worker)
-one_own false worker number = refl
-
 -- the entry of a call is its worker's own
 pub left_own : (journal : Log) (worker number : ℕ) → of_worker worker (entries_left journal worker number) ≡ entries_left journal worker number
-left_own journal worker number = one_own (has_room journal) worker number
+left_own journal worker number = own_if (has_room journal) (call_entry worker number)

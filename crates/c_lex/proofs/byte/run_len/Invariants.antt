@@ -1,7 +1,7 @@
-use Rattle.std.proofs.Common.{take}
-use Rattle.std.specs.List.{AllByRecursion}
-use Rattle.c_lex.specs.Fronts.{IsIn}
+use Rattle.std.proofs.Common.{◌≡◌, ◌+◌, drop}
+use Rattle.std.specs.List.{prefix_len}
+use Rattle.c_lex.specs.inner.Classes.{is_in}
 use Rattle.c_lex.proofs.byte.run_len.Given as goal
 
 abbrev pub invariant-loop-i : goal.invariant-loop-i
-invariant-loop-i l = AllByRecursion (IsIn l.class) (take l.i l.bytes)
+invariant-loop-i l = l.i + prefix_len (is_in l.class) (drop l.i l.bytes) ≡ prefix_len (is_in l.class) l.bytes

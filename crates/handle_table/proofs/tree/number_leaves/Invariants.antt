@@ -1,5 +1,5 @@
 use Rattle.std.proofs.Common.{◌≡◌, ℕ, ◌+◌, ◌<◌, get_or}
-use Rattle.handle_table.specs.Tree.{HoldsLeast}
+use Rattle.handle_table.specs.inner.Tree.{HoldsLeast}
 use Rattle.handle_table.proofs.tree.number_leaves.Given as goal
 
 abbrev pub invariant-loop-number : goal.invariant-loop-number

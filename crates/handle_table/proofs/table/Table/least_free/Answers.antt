@@ -1,6 +1,6 @@
 use Rattle.std.proofs.Common.{◌∙◌, sym, subst}
 use Rattle.std.proofs.lemmas.Bool.{false≢true}
-use Rattle.handle_table.specs.Tree.{IsTreeOf}
+use Rattle.handle_table.specs.inner.Tree.{IsTreeOf}
 use Rattle.handle_table.proofs.Trees.{IsFree-leaf, least-leaf}
 use Rattle.handle_table.proofs.table.Table.least_free.Goals as goal
 

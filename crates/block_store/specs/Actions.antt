@@ -1,0 +1,247 @@
+-- What threads share, and what one action of a thread makes of it. The meaning of the source and that of structured code stand on
+-- these; neither knows anything else of what other threads did.
+use Rattle.std.specs.Prelude.{ℕ, ◌^◌, ◌==◌, nat_lt, Bool, if◌then◌else◌, List, [], ◌∷◌, ◌++◌, length, set, slice_get, Option, Some, None, Result, Ok, Err, ℤ, pos}
+use Rattle.ak_words.specs.declared.rule.Rule.{Rule}
+use Rattle.ak_words.specs.declared.rule.Rule.TheVariants.{C14}
+use Rattle.ak_words.specs.IntType.{int, unsigned_long}
+use Rattle.ak_words.specs.Num.{num}
+use Rattle.block_store.specs.declared.values.Access.{Access}
+use Rattle.block_store.specs.declared.values.Answer.{Answer}
+use Rattle.block_store.specs.declared.values.Answer.TheVariants as answers
+use Rattle.block_store.specs.declared.values.BlockKind.TheVariants as kinds
+use Rattle.block_store.specs.declared.values.Cell.{Cell}
+use Rattle.block_store.specs.declared.values.Cell.TheVariants.{Unknown}
+use Rattle.block_store.specs.declared.values.Ptr.{Ptr}
+use Rattle.block_store.specs.declared.values.Ptr.TheVariants.{Null, To}
+use Rattle.block_store.specs.declared.values.Value.{Value}
+use Rattle.block_store.specs.declared.values.Value.TheVariants as values
+use Rattle.block_store.specs.Blocks.{Blocks, made, ended, loaded, stored, copied, freed}
+use Rattle.block_store.specs.Mutexes.{locked, unlocked, destroyed}
+use Rattle.block_store.specs.Texts.{text_at}
+
+-- ---- the world
+
+-- how far a thread is: it runs, its first function has returned this value, or another thread has joined it since
+pub data Stage : Type 0 where
+  running : Stage
+  returned : (value : ℤ) → Stage
+  joined : (value : ℤ) → Stage
+
+-- a thread: the function that it began with, that one's argument, and how far it is
+pub record Thread : Type 0 where
+  pub function : ℕ
+  pub argument : Ptr
+  pub stage : Stage
+
+-- what threads share: the blocks, the bytes that were printed, and the threads by number, in the order in which they were made
+pub record World : Type 0 where
+  pub blocks : Blocks
+  pub output : List ℕ
+  pub threads : List Thread
+
+-- a thread that begins
+abbrev pub beginning : (function : ℕ) → (argument : Ptr) → Thread
+beginning function argument = record { function = function; argument = argument; stage = running }
+
+-- the world in which a run begins: the blocks of the globals and literals, and thread 0, which is in main
+abbrev pub first_world : Blocks → (main : ℕ) → World
+first_world blocks main = record { blocks = blocks; output = []; threads = beginning main Null ∷ [] }
+
+abbrev pub with_blocks : World → Blocks → World
+with_blocks w blocks = record { blocks = blocks; output = w.output; threads = w.threads }
+
+-- the world after a thread has come to another stage
+abbrev pub at_stage : Stage → Thread → Thread
+at_stage stage t = record { function = t.function; argument = t.argument; stage = stage }
+
+abbrev pub staged_if : World → ℕ → Stage → Option Thread → World
+staged_if w number stage None = w
+staged_if w number stage (Some t) = record { blocks = w.blocks; output = w.output; threads = set w.threads number (at_stage stage t) }
+
+abbrev pub staged : World → (number : ℕ) → Stage → World
+staged w number stage = staged_if w number stage (slice_get w.threads number)
+
+-- a local in memory is made, with cells that were never written; its name is the count of the names made before (no action)
+abbrev pub with_local : World → (size : ℕ) → World
+with_local w size = with_blocks w (made w.blocks size kinds.Local Unknown)
+
+-- and ends (no action)
+abbrev pub without_local : World → (name : ℕ) → World
+without_local w name = with_blocks w (ended w.blocks name)
+
+-- ---- actions
+
+-- a part of what one call prints: these bytes, or the text at a pointer
+pub data Printed : Type 0 where
+  bytes : (all : List ℕ) → Printed
+  text : (at : Ptr) → Printed
+
+-- an action, with its operands' values (C11 5.1.2.3 p2: side effects, and this project's profile)
+pub data Action : Type 0 where
+  -- an access that reads; one that writes a value, whose access it fits
+  load : (at : Ptr) (how : Access) → Action
+  store : (at : Ptr) (value : Value) → Action
+  -- n bytes, as memcpy copies them, or an assignment of a struct, which may be to itself (same)
+  copy : (to from : Ptr) (n align : ℕ) (same : Bool) → Action
+  -- an allocation: a heap block of so many bytes, each of which starts as this cell
+  allocate : (size : ℕ) (first : Cell) → Action
+  free : (at : Ptr) → Action
+  print : (parts : List Printed) → Action
+  lock : (at : Ptr) → Action
+  unlock : (at : Ptr) → Action
+  destroy : (at : Ptr) → Action
+  -- a new thread, whose number is stored at a place
+  start : (to : Ptr) (function : ℕ) (argument : Ptr) → Action
+  -- the end of another thread is awaited, and its result stored at a place, or nowhere at null
+  join : (thread : ℕ) (to : Ptr) → Action
+  -- the thread's first function returns, with a value or without
+  finish : (value : Option ℤ) → Action
+
+-- what comes of an action: it's done, and gives a value or none; it waits; it doesn't take this answer; or it breaks a rule.
+-- Only what is done changes the world
+pub data Done : Type 0 where
+  went : (value : Option Value) (w : World) → Done
+  blocked : Done
+  unfit : Done
+  broke : (rule : Rule) → Done
+
+-- what comes of an action under each answer
+pub record Outcomes : Type 0 where
+  pub plain : Done
+  pub got : Done
+  pub none : Done
+
+abbrev pub under : Answer → Outcomes → Done
+under answers.Plain o = o.plain
+under answers.Got o = o.got
+under answers.None o = o.none
+
+-- an action of which nothing is chosen: it takes Plain alone
+abbrev pub settled : Done → Outcomes
+settled d = record { plain = d; got = unfit; none = unfit }
+
+-- an action of which is chosen whether it gets what it asks for: it takes Got and None
+abbrev pub chosen : (got none : Done) → Outcomes
+chosen got none = record { plain = unfit; got = got; none = none }
+
+-- ---- what the actions do
+
+-- a value, and nothing changes
+abbrev pub gives : World → Result Value Rule → Done
+gives w (Ok v) = went (Some v) w
+gives w (Err rule) = broke rule
+
+-- other blocks, and no value
+abbrev pub changes : World → Result Blocks Rule → Done
+changes w (Ok blocks) = went None (with_blocks w blocks)
+changes w (Err rule) = broke rule
+
+-- a lock that may have to wait
+abbrev pub changes_or_waits : World → Result (Option Blocks) Rule → Done
+changes_or_waits w (Ok (Some blocks)) = went None (with_blocks w blocks)
+changes_or_waits w (Ok None) = blocked
+changes_or_waits w (Err rule) = broke rule
+
+-- a check alone
+abbrev pub passes : World → Result (Unit {0}) Rule → Done
+passes w (Ok u) = went None w
+passes w (Err rule) = broke rule
+
+-- an int, as the library's calls give it
+abbrev pub int_value : ℤ → Option Value
+int_value z = Some (values.Num (num int z))
+
+-- the new block of an allocation, and the pointer to it; there is none of more than 2^32 - 1 bytes (this project's profile)
+abbrev pub allocated : World → (size : ℕ) → (first : Cell) → Done
+allocated w size first =
+    if nat_lt size (2 ^ 32) then went (Some (values.Pointer (To (length w.blocks) 0))) (with_blocks w (made w.blocks size kinds.Heap first)) else unfit
+
+-- a null pointer, and nothing changes
+abbrev pub refused_allocation : World → Done
+refused_allocation w = went (Some (values.Pointer Null)) w
+
+-- the bytes of a part
+abbrev pub printed_bytes : Blocks → Printed → Result (List ℕ) Rule
+printed_bytes blocks (bytes all) = Ok all
+printed_bytes blocks (text at) = text_at blocks at
+
+-- two parts that follow one another; the first that breaks a rule names it
+abbrev pub joined_bytes : Result (List ℕ) Rule → Result (List ℕ) Rule → Result (List ℕ) Rule
+joined_bytes (Err rule) after = Err rule
+joined_bytes (Ok before) (Err rule) = Err rule
+joined_bytes (Ok before) (Ok after) = Ok (before ++ after)
+
+-- the bytes of all parts
+abbrev pub all_bytes : Blocks → List Printed → Result (List ℕ) Rule
+all_bytes blocks [] = Ok []
+all_bytes blocks (part ∷ parts) = joined_bytes (printed_bytes blocks part) (all_bytes blocks parts)
+
+-- they are printed, all or none, and the value is their number as an int, modulo 2^32 (C11 7.21.6.3; own where it is too great)
+abbrev pub prints : World → Result (List ℕ) Rule → Done
+prints w (Err rule) = broke rule
+prints w (Ok all) = went (int_value (pos (length all))) (record { blocks = w.blocks; output = w.output ++ all; threads = w.threads })
+
+-- a thread is made where its number could be stored, and the value is thrd_success (C11 7.26.5.1)
+abbrev pub starts : World → (function : ℕ) → (argument : Ptr) → Result Blocks Rule → Done
+starts w function argument (Err rule) = broke rule
+starts w function argument (Ok blocks) =
+    went (int_value (pos 0)) (record { blocks = blocks; output = w.output; threads = w.threads ++ beginning function argument ∷ [] })
+
+-- the number of the next thread, as a thrd_t
+abbrev pub next_number : World → Value
+next_number w = values.Num (num unsigned_long (pos (length w.threads)))
+
+-- no thread is made, no place is checked, and the value is thrd_error
+abbrev pub refused_start : World → Done
+refused_start w = went (int_value (pos 1)) w
+
+-- the result of a thread is stored, unless the place is null
+abbrev pub stored_unless_null : Blocks → Ptr → ℤ → Result Blocks Rule
+stored_unless_null blocks Null z = Ok blocks
+stored_unless_null blocks (To name offset) z = stored blocks (To name offset) (values.Num (num int z))
+
+-- the thread is joined where its result could be stored, and the value is thrd_success
+abbrev pub joins : World → (thread : ℕ) → ℤ → Result Blocks Rule → Done
+joins w thread z (Err rule) = broke rule
+joins w thread z (Ok blocks) = went (int_value (pos 0)) (staged (with_blocks w blocks) thread (joined z))
+
+-- by the thread's stage: it is awaited, joined, or was joined before
+abbrev pub joins_at : World → (thread : ℕ) → (to : Ptr) → Stage → Done
+joins_at w thread to running = blocked
+joins_at w thread to (returned z) = joins w thread z (stored_unless_null w.blocks to z)
+joins_at w thread to (joined z) = broke C14
+
+-- no such thread was made, or it was
+abbrev pub joins_if : World → (thread : ℕ) → (to : Ptr) → Option Thread → Done
+joins_if w thread to None = broke C14
+joins_if w thread to (Some t) = joins_at w thread to t.stage
+
+-- join (C11 7.26.5.6): C14 of oneself, of a thread that was never made, and a second time; then it waits; then it stores
+abbrev pub joined_by : World → (self thread : ℕ) → (to : Ptr) → Done
+joined_by w self thread to = if self == thread then broke C14 else joins_if w thread to (slice_get w.threads thread)
+
+-- the result of a thread's first function, and 0 where that ends without a value (this project's profile)
+abbrev pub result_of : Option ℤ → ℤ
+result_of (Some z) = z
+result_of None = pos 0
+
+-- ---- the table of the actions: which answers each takes, and what it then does, in the world w, for this thread
+
+abbrev pub outcomes : World → (thread : ℕ) → Action → Outcomes
+outcomes w thread (load at how) = settled (gives w (loaded w.blocks at how))
+outcomes w thread (store at value) = settled (changes w (stored w.blocks at value))
+outcomes w thread (copy to from n align same) = settled (changes w (copied w.blocks to from n align same))
+outcomes w thread (allocate size first) = chosen (allocated w size first) (refused_allocation w)
+outcomes w thread (free at) = settled (changes w (freed w.blocks at))
+outcomes w thread (print parts) = settled (prints w (all_bytes w.blocks parts))
+outcomes w thread (lock at) = settled (changes_or_waits w (locked w.blocks at thread))
+outcomes w thread (unlock at) = settled (changes w (unlocked w.blocks at thread))
+outcomes w thread (destroy at) = settled (passes w (destroyed w.blocks at))
+outcomes w thread (start to function argument) =
+    chosen (starts w function argument (stored w.blocks to (next_number w))) (refused_start w)
+outcomes w thread (join number to) = settled (joined_by w thread number to)
+outcomes w thread (finish value) = settled (went None (staged w thread (returned (result_of value))))
+
+-- what an action of a thread does under an answer
+abbrev pub acted : World → (thread : ℕ) → Answer → Action → Done
+acted w thread answer action = under answer (outcomes w thread action)

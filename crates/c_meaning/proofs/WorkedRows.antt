@@ -1,0 +1,59 @@
+-- The worked rows hold by computing them.
+use Rattle.std.proofs.Common.{refl}
+use Rattle.std.specs.Fmt.{digits}
+use Rattle.ak_words.specs.Op.{exact_result, rule_of}
+use Rattle.ak_words.specs.Wrapped.{residue, wrapped_value}
+use Rattle.c_meaning.specs.Rows.{RowsStand, RulesStand, OrdersStand}
+
+pub rows_stand : RowsStand
+unfolding digits residue wrapped_value exact_result rule_of
+rows_stand = record {
+  product_is = refl;
+  product_printed = refl;
+  product_over = refl;
+  product_unfit = refl;
+  loop_is = refl;
+  loop_goes_on = refl;
+  heap_is = refl;
+  heap_refused = refl;
+  heap_wants_answer = refl;
+  recursion_is = refl;
+  freed_between = refl;
+  freed_later = refl;
+  join_waits = refl;
+}
+
+pub rules_stand : RulesStand
+unfolding digits residue wrapped_value exact_result rule_of
+rules_stand = record {
+  c1 = refl;
+  c2 = refl;
+  c3 = refl;
+  c4 = refl;
+  c4_cells = refl;
+  c5 = refl;
+  c6 = refl;
+  c7 = refl;
+  c8 = refl;
+  c9 = refl;
+  c10 = refl;
+  c11 = refl;
+  c12 = refl;
+  c13 = refl;
+  c14 = refl;
+  c15 = refl;
+  c15_dropped = refl;
+  c16 = refl;
+}
+
+pub orders_stand : OrdersStand
+unfolding digits residue wrapped_value exact_result rule_of
+orders_stand = record {
+  left_to_right_is = refl;
+  update_last_is = refl;
+  unset_anew_is = refl;
+  left_block_is = refl;
+  structs_is = refl;
+  short_cuts_is = refl;
+  nothing_is = refl;
+}

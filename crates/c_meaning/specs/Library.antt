@@ -1,0 +1,53 @@
+-- The library's calls (C11 7.21, 7.22, 7.24, 7.26), as a table: the action that each is, of its arguments, and its value.
+use Rattle.std.specs.Prelude.{ℕ, List, [], ◌∷◌, Option, Some, None, ℤ, pos, unsigned_abs, false, Bool, true}
+use Rattle.ak_words.specs.declared.number.Num.{Num}
+use Rattle.ak_words.specs.IntType.{int, unsigned_long}
+use Rattle.ak_words.specs.Num.{num}
+use Rattle.block_store.specs.declared.values.Cell.TheVariants.{Unknown}
+use Rattle.block_store.specs.declared.values.Ptr.{Ptr}
+use Rattle.block_store.specs.declared.values.Value.{Value}
+use Rattle.block_store.specs.declared.values.Value.TheVariants as values
+use Rattle.block_store.specs.Actions.{Printed, bytes, text, Action, store, copy, allocate, free, print, lock, unlock, destroy, start, join}
+use Rattle.c_tree.specs.Typed as tree
+use Rattle.c_tree.specs.TypedPrinting.{parts}
+
+-- the numbers among the arguments, and the pointers, each in order
+abbrev pub numbers_of : List Value → List ℤ
+numbers_of [] = []
+numbers_of (values.Num n ∷ vs) = n.value ∷ numbers_of vs
+numbers_of (values.Pointer p ∷ vs) = numbers_of vs
+
+abbrev pub pointers_of : List Value → List Ptr
+pointers_of [] = []
+pointers_of (values.Num n ∷ vs) = pointers_of vs
+pointers_of (values.Pointer p ∷ vs) = p ∷ pointers_of vs
+
+-- the zero bytes of a free mutex
+abbrev pub free_mutex : Value
+free_mutex = values.Num (num unsigned_long (pos 0))
+
+-- what a call does; a well typed one has the arguments that it takes, and so does something
+abbrev pub action_of : tree.Lib → List Value → Option Action
+action_of (tree.print pieces) args = Some (print (parts bytes text pieces (numbers_of args) (pointers_of args)))
+action_of tree.malloc (values.Num n ∷ []) = Some (allocate (unsigned_abs n.value) Unknown)
+action_of tree.free (values.Pointer p ∷ []) = Some (free p)
+action_of tree.copy (values.Pointer to ∷ values.Pointer from ∷ values.Num n ∷ []) = Some (copy to from (unsigned_abs n.value) 1 false)
+action_of (tree.start function) (values.Pointer to ∷ values.Pointer argument ∷ []) = Some (start to function argument)
+action_of tree.join (values.Num thread ∷ values.Pointer to ∷ []) = Some (join (unsigned_abs thread.value) to)
+action_of tree.mutex_init (values.Pointer p ∷ []) = Some (store p free_mutex)
+action_of tree.mutex_lock (values.Pointer p ∷ []) = Some (lock p)
+action_of tree.mutex_unlock (values.Pointer p ∷ []) = Some (unlock p)
+action_of tree.mutex_destroy (values.Pointer p ∷ []) = Some (destroy p)
+action_of which args = None
+
+abbrev pub first_of_all : List Value → Option Value
+first_of_all [] = None
+first_of_all (v ∷ vs) = Some v
+
+-- the value of a call: that of its action; memcpy gives its first argument, and a call on a mutex 0, which is thrd_success
+abbrev pub value_of_call : tree.Lib → List Value → Option Value → Option Value
+value_of_call tree.copy args v = first_of_all args
+value_of_call tree.mutex_init args v = Some (values.Num (num int (pos 0)))
+value_of_call tree.mutex_lock args v = Some (values.Num (num int (pos 0)))
+value_of_call tree.mutex_unlock args v = Some (values.Num (num int (pos 0)))
+value_of_call which args v = v

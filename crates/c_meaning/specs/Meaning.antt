@@ -1,0 +1,64 @@
+-- What a C program means: its runs, over named blocks, under every order of its threads' turns and every answer.
+use Rattle.std.specs.Prelude.{ℕ, zero, suc, ◌+◌, List, [], ◌∷◌, ◌++◌, length, map, replicate, slice_get, Option, Some, None}
+use Rattle.ak_words.specs.Num.{num}
+use Rattle.block_store.specs.declared.values.Answer.{Answer}
+use Rattle.block_store.specs.declared.values.BlockKind.TheVariants as kinds
+use Rattle.block_store.specs.declared.values.Cell.{Cell}
+use Rattle.block_store.specs.declared.values.Cell.TheVariants.{Byte}
+use Rattle.block_store.specs.declared.values.Ptr.{Ptr}
+use Rattle.block_store.specs.declared.values.Ptr.TheVariants.{To}
+use Rattle.block_store.specs.declared.values.Value.{Value}
+use Rattle.block_store.specs.declared.values.Value.TheVariants as values
+use Rattle.block_store.specs.Blocks.{Block, Blocks}
+use Rattle.block_store.specs.Cells.{cells_of}
+use Rattle.block_store.specs.Actions.{World, first_world}
+use Rattle.block_store.specs.Runs as runs
+use Rattle.c_tree.specs.Typed as tree
+use Rattle.c_tree.specs.TypedLayout.{size_in}
+use Rattle.c_meaning.specs.Control.{Control, begins, leaves, then_row}
+use Rattle.c_meaning.specs.Turns.{begins_in, turn}
+
+-- what a global of this size holds at the start; a literal's block comes behind the globals (C11 6.7.9 p10)
+abbrev pub first_cells : (globals size : ℕ) → tree.Init → List Cell
+first_cells globals size tree.zero_bytes = replicate size (Byte 0)
+first_cells globals size (tree.number t z) = cells_of (values.Num (num t z))
+first_cells globals size (tree.literal_at number) = cells_of (values.Pointer (To (globals + number) 0))
+
+abbrev pub global_block : tree.Typed → tree.GlobalVar → Option Block
+global_block t g = Some (record { kind = kinds.Global; cells = first_cells (length t.globals) (size_in t.structs g.ty) g.init })
+
+abbrev pub literal_block : List ℕ → Option Block
+literal_block bytes = Some (record { kind = kinds.Literal; cells = map Byte bytes })
+
+-- the blocks at the start: the globals in order, then the literals in order
+abbrev pub first_blocks : tree.Typed → Blocks
+first_blocks t = map (global_block t) t.globals ++ map literal_block t.literals
+
+-- the argument of a thread's first function, if it takes one: main takes none
+abbrev pub arguments_if : (params : ℕ) → Ptr → List Value
+arguments_if zero argument = []
+arguments_if (suc n) argument = values.Pointer argument ∷ []
+
+-- a thread begins with a function; of a well formed program there is one of each number that it may begin with
+abbrev pub begins_if : (function : ℕ) → Ptr → Option tree.Func → Control
+begins_if number argument None = record { function = number; locals = []; point = begins leaves; callers = [] }
+begins_if number argument (Some f) = begins_in number f (arguments_if f.params argument) []
+
+-- the program: how a thread begins, and one turn of it
+abbrev pub program : tree.Typed → runs.Program Control
+program t = record {
+  main = t.main;
+  begins = λ number argument. begins_if number argument (slice_get t.funcs number);
+  turn = turn t;
+}
+
+abbrev pub start : tree.Typed → World
+start t = first_world (first_blocks t) t.main
+
+-- the run of an order
+abbrev pub run : tree.Typed → List runs.Pick → runs.Run Control
+run t order = runs.run (program t) (start t) order
+
+-- what an order shows, turn by turn
+abbrev pub shown : tree.Typed → List runs.Pick → List runs.Shown
+shown t order = runs.shown (program t) (start t) order

@@ -1,0 +1,373 @@
+-- Small programs, worked out by hand: the definitions, put to the test.
+use Rattle.std.specs.Prelude.{◌≡◌, ℕ, ◌^◌, List, [], ◌∷◌, ◌++◌, map, replicate, slice_get, codes, Option, Some, None, ℤ, pos, negsuc, Bool, true, false}
+use Rattle.std.specs.Option.{option_map}
+use Rattle.ak_words.specs.declared.operation.Op.{Op}
+use Rattle.ak_words.specs.declared.operation.Op.TheVariants as ops
+use Rattle.ak_words.specs.declared.rule.Rule.{Rule}
+use Rattle.ak_words.specs.declared.rule.Rule.TheVariants as rules
+use Rattle.ak_words.specs.IntType.{char, int, long, unsigned_long}
+use Rattle.block_store.specs.declared.values.Answer.{Answer}
+use Rattle.block_store.specs.declared.values.Answer.TheVariants as answers
+use Rattle.block_store.specs.Actions.{Thread, Stage, running, returned, joined, World}
+use Rattle.block_store.specs.Runs.{Pick, Run, reaches, breaks, no_run, Shown, it_went, it_ended, it_blocked, it_was_unfit, it_broke, no_such_turn}
+use Rattle.c_tree.specs.Typed
+use Rattle.c_tree.specs.Typed.{Ty, void, integer, mutex, pointer, array, structure, Layout, Piece, bytes, signed, text, Lib, print, malloc, free, copy, start, join, mutex_init, mutex_lock, mutex_unlock, mutex_destroy}
+use Rattle.c_tree.specs.Typed.{Expr, at, ExprNode, num, null, literal, global, local, deref, member, address_of, decay, convert, not_, binary, and_also, or_else, choose, pointer_add, pointer_sub, pointer_diff, pointer_compare, pointer_test, call, lib, Exprs, no_exprs, more_exprs}
+use Rattle.c_tree.specs.Typed.{Stmt, at_stmt, StmtNode, block, declare, if_, if_else, while_, for_, break_, continue_, return_, assign, update, evaluate, empty, Stmts, no_stmts, more_stmts, Init, zero_bytes, number, literal_at, GlobalVar, Local, Func}
+use Rattle.c_meaning.specs.Control.{Control}
+use Rattle.c_meaning.specs.Meaning.{run, shown}
+
+-- ---- programs, in few words: a place is the number of a node where a row speaks of it, and else 0
+
+abbrev pub int_ty : Ty
+int_ty = integer int
+
+abbrev pub int_star : Ty
+int_star = pointer int_ty
+
+-- a constant; an int local; a local of another type
+abbrev pub k : ℕ → Expr
+k n = at 0 int_ty (num int (pos n))
+
+abbrev pub v : ℕ → Expr
+v n = at 0 int_ty (local n)
+
+abbrev pub of_type : Ty → ExprNode → Expr
+of_type t node = at 0 t node
+
+abbrev pub arguments : List Expr → Exprs
+arguments [] = no_exprs
+arguments (e ∷ es) = more_exprs e (arguments es)
+
+abbrev pub row : List StmtNode → Stmts
+row [] = no_stmts
+row (s ∷ ss) = more_stmts (at_stmt 0 s) (row ss)
+
+abbrev pub one : StmtNode → Stmt
+one s = at_stmt 0 s
+
+abbrev pub lib_call : Ty → Lib → List Expr → Expr
+lib_call t which args = of_type t (lib which (arguments args))
+
+abbrev pub printf_int : Expr → StmtNode
+printf_int e = evaluate (lib_call int_ty (print (signed 32 ∷ bytes (10 ∷ []) ∷ [])) (e ∷ []))
+
+abbrev pub op_of : Op → Expr → Expr → Expr
+op_of op a b = of_type int_ty (binary op a b)
+
+abbrev pub at_star : Expr → Expr
+at_star p = of_type int_ty (deref p)
+
+-- a local that has a value, and one that is a block
+abbrev pub in_register : Ty → Local
+in_register t = record { ty = t; in_memory = false }
+
+abbrev pub in_memory : Ty → Local
+in_memory t = record { ty = t; in_memory = true }
+
+abbrev pub func : (params : ℕ) → List Local → List StmtNode → Func
+func params locals body = record { params = params; locals = locals; result = int_ty; body = row body }
+
+abbrev pub whole : List GlobalVar → List (List ℕ) → List Func → Typed.Typed
+whole globals literals funcs = record { structs = []; globals = globals; literals = literals; funcs = funcs; main = 0 }
+
+-- a program that is main alone
+abbrev pub main_only : List Local → List StmtNode → Typed.Typed
+main_only locals body = whole [] [] (func 0 locals body ∷ [])
+
+-- ---- what is told of a run
+
+pub data Told : Type 0 where
+  -- the output, and how far the threads are
+  reached : (output : List ℕ) (stages : List Stage) → Told
+  broken : (rule : Rule) (after : ℕ) → Told
+  no_turn : (after : ℕ) → Told
+
+abbrev pub told : Run Control → Told
+told (reaches s) = reached s.world.output (map (λ (t : Thread). t.stage) s.world.threads)
+told (breaks rule n) = broken rule n
+told (no_run n) = no_turn n
+
+-- n turns of a thread
+abbrev pub turns : (thread n : ℕ) → List Pick
+turns thread n = replicate n (record { thread = thread; answer = answers.Plain })
+
+abbrev pub got : (thread : ℕ) → List Pick
+got thread = record { thread = thread; answer = answers.Got } ∷ []
+
+abbrev pub none : (thread : ℕ) → List Pick
+none thread = record { thread = thread; answer = answers.None } ∷ []
+
+-- what is told of main alone, after an order
+abbrev pub of_main : List Local → List StmtNode → List Pick → Told
+of_main locals body order = told (run (main_only locals body) order)
+
+-- int a=6;int b=7;printf("%d\n",a*b);return a;
+abbrev pub product : List Pick → Told
+product = of_main (in_register int_ty ∷ in_register int_ty ∷ [])
+    (declare 0 (Some (k 6)) ∷ declare 1 (Some (k 7)) ∷ printf_int (op_of ops.Mul (v 0) (v 1)) ∷ return_ (Some (v 0)) ∷ [])
+
+-- int s=0;for(int i=0;i<4;i++){if(i==1)continue;if(i==3)break;s=s+i;}return s;
+abbrev pub loop : List Pick → Told
+loop = of_main (in_register int_ty ∷ in_register int_ty ∷ [])
+    (declare 0 (Some (k 0))
+    ∷ for_ (one (declare 1 (Some (k 0)))) (Some (op_of ops.Lt (v 1) (k 4))) (one (update (v 1) ops.Add (k 1)))
+    (one (block (row (if_ (op_of ops.Eq (v 1) (k 1)) (one continue_) ∷ if_ (op_of ops.Eq (v 1) (k 3)) (one break_) ∷ assign (v 0) (op_of ops.Add (v 0) (v 1)) ∷ []))))
+    ∷ return_ (Some (v 0)) ∷ [])
+
+-- int *p=malloc(4);*p=41;*p+=1;printf("%d\n",*p);free(p);return 0;
+abbrev pub p0 : Expr
+p0 = of_type int_star (local 0)
+
+abbrev pub malloc_of : ℕ → Expr
+malloc_of n = of_type int_star (convert (lib_call (pointer void) malloc (of_type (integer unsigned_long) (num unsigned_long (pos n)) ∷ [])))
+
+abbrev pub free_of : Expr → StmtNode
+free_of p = evaluate (lib_call void free (of_type (pointer void) (convert p) ∷ []))
+
+abbrev pub heap : List Pick → Told
+heap = of_main (in_register int_star ∷ [])
+    (declare 0 (Some (malloc_of 4)) ∷ assign (at_star p0) (k 41) ∷ update (at_star p0) ops.Add (k 1) ∷ printf_int (at_star p0) ∷ free_of p0 ∷ return_ (Some (k 0)) ∷ [])
+
+-- int f(int n){if(n)return f(n-1)+1;return 0;}int main(void){return f(2);}
+abbrev pub call_of : ℕ → List Expr → Expr
+call_of f args = of_type int_ty (call f (arguments args))
+
+abbrev pub recursion : List Pick → Told
+recursion order = told (run (whole [] []
+    (func 0 [] (return_ (Some (call_of 1 (k 2 ∷ []))) ∷ [])
+    ∷ func 1 (in_register int_ty ∷ []) (if_ (v 0) (one (return_ (Some (op_of ops.Add (call_of 1 (op_of ops.Sub (v 0) (k 1) ∷ [])) (k 1))))) ∷ return_ (Some (k 0)) ∷ [])
+    ∷ [])) order)
+
+-- int *p;int f(void *v){free(p);return 0;}
+-- int main(void){p=malloc(4);*p=1;thrd_t t;thrd_create(&t,f,NULL);printf("%d\n",*p);thrd_join(t,NULL);return 0;}
+abbrev pub g0 : Expr
+g0 = of_type int_star (global 0)
+
+abbrev pub thread_ty : Ty
+thread_ty = integer unsigned_long
+
+abbrev pub shared_block : Typed.Typed
+shared_block = whole (record { ty = int_star; init = zero_bytes } ∷ []) []
+    (func 0 (in_memory thread_ty ∷ [])
+    (assign g0 (malloc_of 4) ∷ assign (at_star g0) (k 1) ∷ declare 0 None
+    ∷ evaluate (lib_call int_ty (start 1) (of_type (pointer thread_ty) (address_of (of_type thread_ty (local 0))) ∷ of_type (pointer void) null ∷ []))
+    ∷ printf_int (at 77 int_ty (deref g0))
+    ∷ evaluate (lib_call int_ty join (of_type thread_ty (local 0) ∷ of_type int_star null ∷ []))
+    ∷ return_ (Some (k 0)) ∷ [])
+    ∷ func 1 (in_register (pointer void) ∷ []) (free_of g0 ∷ return_ (Some (k 0)) ∷ [])
+    ∷ [])
+
+-- thread 0's first n turns
+abbrev pub first_turns : ℕ → List Pick
+first_turns n = got 0 ++ turns 0 3 ++ got 0 ++ turns 0 n
+
+-- ---- each rule of C, broken once
+
+-- a body that breaks a rule in its first turn, or in the turn behind the first n plain ones
+abbrev pub breaks_at_once : List Local → List StmtNode → Told
+breaks_at_once locals body = of_main locals body (turns 0 1)
+
+abbrev pub ints : ℕ → List Local
+ints n = replicate n (in_register int_ty)
+
+abbrev pub returns : Expr → StmtNode
+returns e = return_ (Some e)
+
+abbrev pub char_star : Ty
+char_star = pointer (integer char)
+
+-- the pointer to the first element of an array that is a local; that of a global
+abbrev pub decayed : Ty → ℕ → ExprNode → Expr
+decayed t n of = of_type (pointer t) (decay (of_type (array t n) of))
+
+-- p[i]
+abbrev pub at_index : Ty → Expr → Expr → Expr
+at_index t p i = of_type t (deref (of_type (pointer t) (pointer_add p i)))
+
+abbrev pub as_void_star : Expr → Expr
+as_void_star p = of_type (pointer void) (convert p)
+
+abbrev pub size : ℕ → Expr
+size n = of_type (integer unsigned_long) (num unsigned_long (pos n))
+
+-- the address of a local mutex
+abbrev pub the_mutex : Expr
+the_mutex = of_type (pointer mutex) (address_of (of_type mutex (local 0)))
+
+abbrev pub mutex_call : Lib → StmtNode
+mutex_call which = evaluate (lib_call int_ty which (the_mutex ∷ []))
+
+-- int *p=malloc(4);free(p);int *q=p;if(q==p)printf(..);return 0;
+abbrev pub dead_pointers : List Pick → Told
+dead_pointers = of_main (in_register int_star ∷ in_register int_star ∷ [])
+    (declare 0 (Some (malloc_of 4)) ∷ free_of p0 ∷ declare 1 (Some p0)
+    ∷ if_ (of_type int_ty (pointer_compare ops.Eq (of_type int_star (local 1)) p0)) (one (printf_int (k 1)))
+    ∷ returns (k 0) ∷ [])
+
+-- int f(void){}int main(void){return f();}, and f(); in main
+abbrev pub no_value : StmtNode → List Pick → Told
+no_value s order = told (run (whole [] [] (func 0 [] (s ∷ returns (k 0) ∷ []) ∷ func 0 [] [] ∷ [])) order)
+
+-- char *s="x";s[0]='y';
+abbrev pub write_to_literal : List Pick → Told
+write_to_literal order = told (run (whole [] ((codes "x" ++ 0 ∷ []) ∷ []) (func 0 (in_register char_star ∷ [])
+    (declare 0 (Some (decayed (integer char) 2 (literal 0)))
+    ∷ assign (at_index (integer char) (of_type char_star (local 0)) (k 0)) (of_type (integer char) (num char (pos 121))) ∷ []) ∷ [])) order)
+
+-- a thread that is joined twice, which main makes and awaits
+abbrev pub joined_twice : Typed.Typed
+joined_twice = whole [] []
+    (func 0 (in_memory thread_ty ∷ [])
+    (declare 0 None
+    ∷ evaluate (lib_call int_ty (start 1) (of_type (pointer thread_ty) (address_of (of_type thread_ty (local 0))) ∷ of_type (pointer void) null ∷ []))
+    ∷ evaluate (lib_call int_ty join (of_type thread_ty (local 0) ∷ of_type int_star null ∷ []))
+    ∷ evaluate (lib_call int_ty join (of_type thread_ty (local 0) ∷ of_type int_star null ∷ [])) ∷ [])
+    ∷ func 1 (in_register (pointer void) ∷ []) (returns (k 3) ∷ []) ∷ [])
+
+-- ---- what comes first
+
+-- int f(void){printf("%d\n",1);return 1;}int g(void){printf("%d\n",2);return 2;}int main(void){printf("%d\n",f()-g());return 0;}
+abbrev pub prints_and_gives : ℕ → Func
+prints_and_gives n = func 0 [] (printf_int (k n) ∷ returns (k n) ∷ [])
+
+abbrev pub left_to_right : List Pick → Told
+left_to_right order = told (run (whole [] []
+    (func 0 [] (printf_int (op_of ops.Sub (call_of 1 []) (call_of 2 [])) ∷ returns (k 0) ∷ []) ∷ prints_and_gives 1 ∷ prints_and_gives 2 ∷ [])) order)
+
+-- int x=1;int f(void){x=10;return 1;}int main(void){x+=f();return x;}: x is read once f was called
+abbrev pub x0 : Expr
+x0 = of_type int_ty (global 0)
+
+abbrev pub update_last : List Pick → Told
+update_last order = told (run (whole (record { ty = int_ty; init = number int (pos 1) } ∷ []) []
+    (func 0 [] (update x0 ops.Add (call_of 1 []) ∷ returns x0 ∷ []) ∷ func 0 [] (assign x0 (k 10) ∷ returns (k 1) ∷ []) ∷ [])) order)
+
+-- for(int i=0;i<2;i++){int a;if(i==0)a=1;else return a;}: a has no value in the second round
+abbrev pub unset_anew : List Pick → Told
+unset_anew = of_main (ints 2)
+    (for_ (one (declare 0 (Some (k 0)))) (Some (op_of ops.Lt (v 0) (k 2))) (one (update (v 0) ops.Add (k 1)))
+    (one (block (row (declare 1 None ∷ if_else (op_of ops.Eq (v 0) (k 0)) (one (assign (v 1) (k 1))) (one (returns (v 1))) ∷ [])))) ∷ [])
+
+-- int *p;{int b=1;p=&b;}return *p;
+abbrev pub left_block : List Pick → Told
+left_block = of_main (in_register int_star ∷ in_memory int_ty ∷ [])
+    (declare 0 None ∷ block (row (declare 1 (Some (k 1)) ∷ assign p0 (of_type int_star (address_of (v 1))) ∷ [])) ∷ returns (at_star p0) ∷ [])
+
+-- struct s{char a;int b;};struct s x;struct s y;x.a=1;x.b=2;y=x;y=y;return y.b;
+abbrev pub pair : Layout
+pair = record { offsets = 0 ∷ 4 ∷ []; types = integer char ∷ int_ty ∷ []; size = 8; align = 4 }
+
+abbrev pub struct_local : ℕ → Expr
+struct_local n = of_type (structure 0) (local n)
+
+abbrev pub structs : List Pick → Told
+structs order = told (run (record {
+  structs = pair ∷ [];
+  globals = [];
+  literals = [];
+  main = 0;
+  funcs = func 0 (in_memory (structure 0) ∷ in_memory (structure 0) ∷ [])
+      (declare 0 None ∷ declare 1 None ∷ assign (of_type (integer char) (member (struct_local 0) 0)) (of_type (integer char) (num char (pos 1)))
+      ∷ assign (of_type int_ty (member (struct_local 0) 1)) (k 2) ∷ assign (struct_local 1) (struct_local 0) ∷ assign (struct_local 1) (struct_local 1) ∷ returns (of_type int_ty (member (struct_local 1) 1)) ∷ []) ∷ [];
+}) order)
+
+-- int x=0;if(x&&1/x)x=1;if(!x||1/x)x=x?3:4;return x;
+abbrev pub short_cuts : List Pick → Told
+short_cuts = of_main (ints 1)
+    (declare 0 (Some (k 0))
+    ∷ if_ (of_type int_ty (and_also (v 0) (op_of ops.Div (k 1) (v 0)))) (one (assign (v 0) (k 1)))
+    ∷ if_ (of_type int_ty (or_else (of_type int_ty (not_ (v 0))) (op_of ops.Div (k 1) (v 0)))) (one (assign (v 0) (of_type int_ty (choose (v 0) (k 3) (k 4)))))
+    ∷ returns (v 0) ∷ [])
+
+-- int main(void){}
+abbrev pub nothing_at_all : List Pick → Told
+nothing_at_all = of_main [] []
+
+-- whether each turn went, and which broke a rule, and where
+pub data Went : Type 0 where
+  yes' : Went
+  end' : Went
+  waits' : Went
+  unfit' : Went
+  broke' : (rule : Rule) (place : ℕ) → Went
+  gone' : Went
+
+abbrev pub went_of : Shown → Went
+went_of (it_went w) = yes'
+went_of (it_ended w) = end'
+went_of it_blocked = waits'
+went_of it_was_unfit = unfit'
+went_of (it_broke rule place) = broke' rule place
+went_of no_such_turn = gone'
+
+abbrev pub seen : Typed.Typed → List Pick → List Went
+seen t order = map went_of (shown t order)
+
+pub record RowsStand : Type 0 where
+  -- a print and the end; a turn more there is none; and it takes no other answer
+  pub product_is : product (turns 0 2) ≡ reached (codes "42\n") (returned (pos 6) ∷ [])
+  pub product_printed : product (turns 0 1) ≡ reached (codes "42\n") (running ∷ [])
+  pub product_over : product (turns 0 3) ≡ no_turn 2
+  pub product_unfit : product (got 0) ≡ no_turn 0
+  -- three rounds are over, and the fourth is left by the break
+  pub loop_is : loop (turns 0 4) ≡ reached [] (returned (pos 2) ∷ [])
+  pub loop_goes_on : loop (turns 0 3) ≡ reached [] (running ∷ [])
+  -- malloc, store, load, store, load, print, free, end
+  pub heap_is : heap (got 0 ++ turns 0 7) ≡ reached (codes "42\n") (returned (pos 0) ∷ [])
+  pub heap_refused : heap (none 0 ++ turns 0 1) ≡ broken rules.C5 1
+  pub heap_wants_answer : heap (turns 0 1) ≡ no_turn 0
+  -- three calls are entered, two are left, and then main ends
+  pub recursion_is : recursion (turns 0 7) ≡ reached [] (returned (pos 2) ∷ [])
+  -- a thread frees a block between a load of the pointer and that of the int
+  pub freed_between : seen shared_block (first_turns 1 ++ turns 1 2 ++ turns 0 1) ≡ replicate 8 yes' ++ broke' rules.C5 77 ∷ []
+  pub freed_later : told (run shared_block (first_turns 3 ++ turns 1 3 ++ turns 0 3)) ≡ reached (codes "1\n") (returned (pos 0) ∷ joined (pos 0) ∷ [])
+  pub join_waits : seen shared_block (first_turns 4 ++ turns 0 1 ++ got 1 ++ turns 2 1) ≡ replicate 9 yes' ++ waits' ∷ unfit' ∷ gone' ∷ []
+
+-- each rule, broken once
+pub record RulesStand : Type 0 where
+  pub c1 : breaks_at_once [] (returns (op_of ops.Add (k 2147483647) (k 1)) ∷ []) ≡ broken rules.C1 0
+  pub c2 : breaks_at_once [] (returns (op_of ops.Div (k 1) (k 0)) ∷ []) ≡ broken rules.C2 0
+  pub c3 : breaks_at_once [] (returns (op_of ops.Shl (k 1) (k 32)) ∷ []) ≡ broken rules.C3 0
+  -- int a;return a;
+  pub c4 : breaks_at_once (ints 1) (declare 0 None ∷ returns (v 0) ∷ []) ≡ broken rules.C4 0
+  -- int a[1];return a[0];
+  pub c4_cells : breaks_at_once (in_memory (array int_ty 1) ∷ []) (declare 0 None ∷ returns (at_index int_ty (decayed int_ty 1 (local 0)) (k 0)) ∷ []) ≡ broken rules.C4 0
+  -- int *p=NULL;*p=1;
+  pub c5 : breaks_at_once (in_register int_star ∷ []) (declare 0 (Some (of_type int_star null)) ∷ assign (at_star p0) (k 1) ∷ []) ≡ broken rules.C5 0
+  -- char a[8];*(int*)(a+1)=1;
+  pub c6 : breaks_at_once (in_memory (array (integer char) 8) ∷ [])
+      (declare 0 None ∷ assign (at_star (of_type int_star (convert (of_type char_star (pointer_add (decayed (integer char) 8 (local 0)) (k 1)))))) (k 1) ∷ []) ≡ broken rules.C6 0
+  -- int a[2];a-1;
+  pub c7 : breaks_at_once (in_memory (array int_ty 2) ∷ []) (declare 0 None ∷ evaluate (of_type int_star (pointer_sub (decayed int_ty 2 (local 0)) (k 1))) ∷ []) ≡ broken rules.C7 0
+  -- int a[1];int b[1];a<b;
+  pub c8 : breaks_at_once (in_memory (array int_ty 1) ∷ in_memory (array int_ty 1) ∷ [])
+      (declare 0 None ∷ declare 1 None ∷ evaluate (of_type int_ty (pointer_compare ops.Lt (decayed int_ty 1 (local 0)) (decayed int_ty 1 (local 1)))) ∷ []) ≡ broken rules.C8 0
+  pub c9 : dead_pointers (got 0 ++ turns 0 2) ≡ broken rules.C9 2
+  -- int a[1];free(a);
+  pub c10 : breaks_at_once (in_memory (array int_ty 1) ∷ []) (declare 0 None ∷ free_of (decayed int_ty 1 (local 0)) ∷ []) ≡ broken rules.C10 0
+  -- int a[2];memcpy(a,a,4);
+  pub c11 : breaks_at_once (in_memory (array int_ty 2) ∷ [])
+      (declare 0 None ∷ evaluate (lib_call (pointer void) copy (as_void_star (decayed int_ty 2 (local 0)) ∷ as_void_star (decayed int_ty 2 (local 0)) ∷ size 4 ∷ [])) ∷ []) ≡ broken rules.C11 0
+  pub c12 : write_to_literal (turns 0 1) ≡ broken rules.C12 0
+  -- mtx_t m;mtx_init(&m,mtx_plain);mtx_lock(&m);mtx_lock(&m);
+  pub c13 : of_main (in_memory mutex ∷ []) (declare 0 None ∷ mutex_call mutex_init ∷ mutex_call mutex_lock ∷ mutex_call mutex_lock ∷ []) (turns 0 3) ≡ broken rules.C13 2
+  pub c14 : told (run joined_twice (got 0 ++ turns 1 1 ++ turns 0 4)) ≡ broken rules.C14 5
+  pub c15 : no_value (returns (call_of 1 [])) (turns 0 3) ≡ broken rules.C15 2
+  pub c15_dropped : no_value (evaluate (call_of 1 [])) (turns 0 3) ≡ reached [] (returned (pos 0) ∷ [])
+  -- int *p=(int*)&p;return *(long*)&p;
+  pub c16 : of_main (in_memory int_star ∷ [])
+      (declare 0 (Some (of_type int_star (convert (of_type (pointer int_star) (address_of p0))))) ∷ returns (of_type (integer long) (deref (of_type (pointer (integer long)) (convert (of_type (pointer int_star) (address_of p0)))))) ∷ []) (turns 0 2) ≡ broken rules.C16 1
+
+pub record OrdersStand : Type 0 where
+  -- f is entered, prints and is left, then g, then main prints and ends
+  pub left_to_right_is : left_to_right (turns 0 8) ≡ reached (codes "1\n2\n-1\n") (returned (pos 0) ∷ [])
+  -- f is entered, stores and is left; x is read, and stored; it's read; and main ends
+  pub update_last_is : update_last (turns 0 7) ≡ reached [] (returned (pos 11) ∷ [])
+  pub unset_anew_is : unset_anew (turns 0 2) ≡ broken rules.C4 1
+  -- the store into b, and then the load through the pointer to it
+  pub left_block_is : left_block (turns 0 2) ≡ broken rules.C5 1
+  -- two stores, two copies, a load and the end
+  pub structs_is : structs (turns 0 6) ≡ reached [] (returned (pos 2) ∷ [])
+  pub short_cuts_is : short_cuts (turns 0 1) ≡ reached [] (returned (pos 4) ∷ [])
+  pub nothing_is : nothing_at_all (turns 0 1) ≡ reached [] (returned (pos 0) ∷ [])

@@ -1,0 +1,6 @@
+//! What a C program means, turn by turn, over named blocks: no address, handle or worker.
+//! Promises upward: definitions of a turn and of a run, which the interpreter and the lowering cite, and worked rows of them.
+//! Stands on ak_words, c_tree for the typed tree, and block_store for blocks and actions.
+#![tactic(auto)]
+
+pub mod laws;

@@ -1,0 +1,9 @@
+pub mod Bytes
+pub mod Owners
+pub mod Counts
+pub mod Kept
+pub mod Named
+pub mod Steps
+pub mod Places
+pub mod Turns
+pub mod Choices

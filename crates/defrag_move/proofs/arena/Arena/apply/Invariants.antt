@@ -1,0 +1,12 @@
+use Rattle.std.proofs.Common.{◌≡◌, drop}
+use Rattle.move_plan.specs.Holding.{is_pinned}
+use Rattle.move_plan.specs.Moving.{AreLegal}
+use Rattle.defrag_move.specs.Moves.{after_plan}
+use Rattle.defrag_move.proofs.arena.Arena.apply.Given as goal
+
+-- the moves that are left are legal, and lead where all of them do
+abbrev pub invariant-loop-turn : goal.invariant-loop-turn
+invariant-loop-turn l = record {
+  legal : AreLegal (is_pinned l.pins) l.self.heaps (drop l.turn l.plan.moves);
+  same : after_plan (drop l.turn l.plan.moves) l.self ≡ after_plan l.plan.moves l.fn.self;
+}

@@ -1,0 +1,15 @@
+//! An arena: objects behind handles, in sub-heaps, which a plan can move with their bytes.
+//! Promises upward: an allocation has the least id and the lowest place, and across moves each id's object keeps its bytes at its address.
+//! Stands on handle_table, sub_heaps, move_plan and flat_store for its parts, on handle_words, and on ak_words for want of memory.
+#![tactic(auto)]
+
+mod answers;
+mod arena;
+mod laws;
+
+pub use answers::{Alloced, NotLive};
+pub use arena::Arena;
+pub use laws::{objects_are_counted, storage_stays_consistent};
+
+#[cfg(test)]
+mod tests;

@@ -1,0 +1,132 @@
+ghost use Rattle.std.specs.Prelude.{◌≡◌, ◌≤◌, [], length};
+ghost use Rattle.std.specs.FinSet as set;
+ghost use Rattle.move_plan.specs.Holding.{is_pinned};
+ghost use Rattle.move_plan.specs.Sliding.{IsSlid, holds};
+ghost use Rattle.defrag_move.specs.Arena.{places_named};
+ghost use Rattle.defrag_move.specs.Changes.{with_places};
+ghost use Rattle.defrag_move.specs.Moves.{KeepsObjects};
+
+use crate::answers::{Alloced, NotLive};
+use crate::arena::Arena;
+use flat_store::OutsideFlat;
+use handle_table::{PinFrame, PinWords, unite};
+use handle_words::make;
+use move_plan::{Pins, Plan, slide};
+use std::test::Fail;
+
+// What a barrier does: it pins what the words name, and slides everything else down.
+fn compact(arena: &mut Arena, words: &PinWords, pins: &mut Pins, plan: &mut Plan)
+    requires plan { plan.old.moves ≡ [] }
+    requires room { length arena.old.heaps.objects ≤ plan.old.room }
+    requires pins { set.len (with_places (places_named arena.old words.now.words) pins.old.places) ≤ pins.old.room }
+    ensures slid { IsSlid (holds (is_pinned pins.new) arena.old.heaps.objects) arena.new.heaps }
+    ensures kept { KeepsObjects (is_pinned pins.new) plan.new.moves arena.old arena.new }
+{
+    arena.pins_of(words, pins);
+    slide(arena.heaps(), pins, plan);
+    arena.apply(plan, pins);
+}
+
+#[test]
+fn moves_an_object_onto_bytes_of_itself(rt: HostRuntime) -> Result<(), Fail> {
+    let mut arena = Arena::new(rt.alloc(), 100, 1, 4096, 8)?;
+    assert_eq!(rt; arena.alloc(16), Alloced::Got { id: 0, place: 0 });
+    assert_eq!(rt; arena.alloc(64), Alloced::Got { id: 1, place: 16 });
+    assert_eq!(rt; arena.look(make(1, 0)), 4224);
+    for i in 0..8 {
+        let at = arena.look(make(1, 8 * i));
+        assert_eq!(rt; arena.store(at, 8, u64::from(i) + 7), Ok(()));
+    }
+    assert_eq!(rt; arena.free(make(0, 0)), Ok(()));
+    let words = PinWords::with_room(rt.alloc(), 0)?;
+    let mut pins = Pins::with_room(rt.alloc(), 8)?;
+    let mut plan = Plan::with_room(rt.alloc(), 8)?;
+    assert!(rt; arena.heaps().live().0 <= 8);
+    compact(&mut arena, &words, &mut pins, &mut plan);
+    assert_eq!(rt; (plan.len(), arena.look(make(1, 0))), (1, 4208));
+    for i in 0..8 {
+        let at = arena.look(make(1, 8 * i));
+        assert_eq!(rt; arena.flat().load(at, 8), Ok(u64::from(i) + 7));
+    }
+    Ok(())
+}
+
+#[test]
+fn answers_for_want_of_an_id_or_of_a_gap(rt: HostRuntime) -> Result<(), Fail> {
+    let mut arena = Arena::new(rt.alloc(), 0, 2, 64, 3)?;
+    for (bytes, answer) in [
+        (49, Alloced::Got { id: 0, place: 0 }),
+        (65, Alloced::NoGap),
+        (u64::MAX, Alloced::NoGap),
+        (0, Alloced::Got { id: 1, place: 64 }),
+        (17, Alloced::Got { id: 2, place: 80 }),
+        (1, Alloced::NoId),
+        (u64::MAX, Alloced::NoId),
+    ] {
+        assert_eq!(rt; arena.alloc(bytes), answer, "{bytes} bytes");
+    }
+    assert_eq!(rt; arena.free(make(0, 0)), Ok(()));
+    assert_eq!(rt; arena.free(make(1, 0)), Ok(()));
+    assert_eq!(rt; arena.alloc(16), Alloced::Got { id: 0, place: 0 });
+    assert_eq!(rt; arena.look(make(2, 20)), 4196);
+    assert_eq!(rt; arena.heaps().live(), (2, 48));
+    Ok(())
+}
+
+#[test]
+fn frees_by_the_word_of_a_start_alone(rt: HostRuntime) -> Result<(), Fail> {
+    let mut arena = Arena::new(rt.alloc(), 0, 1, 64, 2)?;
+    assert_eq!(rt; arena.alloc(32), Alloced::Got { id: 0, place: 0 });
+    for word in [make(0, 8), make(1, 0), make(7, 0), 4096, 1] {
+        assert_eq!(rt; arena.free(word), Err(NotLive), "{word}");
+    }
+    assert_eq!(rt; arena.free(0), Ok(()));
+    assert_eq!(rt; arena.look(make(0, 8)), 4104);
+    assert_eq!(rt; arena.free(make(0, 0)), Ok(()));
+    assert_eq!(rt; arena.look(make(0, 8)), 0);
+    assert_eq!(rt; arena.free(make(0, 0)), Err(NotLive));
+    let words = format!(in rt.alloc(); "{NotLive}")?;
+    assert_eq!(rt; words.as_str(), "no live object starts there");
+    Ok(())
+}
+
+#[test]
+fn copies_within_its_bytes(rt: HostRuntime) -> Result<(), Fail> {
+    let mut arena = Arena::new(rt.alloc(), 16, 1, 16, 1)?;
+    assert_eq!(rt; arena.store(4096, 4, 0x04030201), Ok(()));
+    assert_eq!(rt; arena.copy(4098, 4096, 4), Ok(()));
+    assert_eq!(rt; arena.flat().load(4096, 8), Ok(0x040302010201));
+    assert_eq!(rt; arena.store(4127, 2, 1), Err(OutsideFlat(4128)));
+    assert_eq!(rt; arena.copy(4096, 4128, 1), Err(OutsideFlat(4128)));
+    Ok(())
+}
+
+#[test]
+fn pins_what_handles_name(rt: HostRuntime) -> Result<(), Fail> {
+    let mut arena = Arena::new(rt.alloc(), 0, 1, 4096, 4)?;
+    for place in [0, 16, 32] {
+        let id = place / 16;
+        assert_eq!(rt; arena.alloc(16), Alloced::Got { id, place });
+    }
+    assert_eq!(rt; arena.free(make(0, 0)), Ok(()));
+    let mut frame = PinFrame::with_slots(rt.alloc(), 4)?;
+    frame.set(0, make(2, 12), 4140);
+    frame.set(1, make(0, 0), 4096);
+    frame.set(2, 4112, 4112);
+    frame.set(3, make(3, 0), 0);
+    let mut words = PinWords::with_room(rt.alloc(), 4)?;
+    unite(&frame, 0, [0, 1, 2, 3].as_slice(), &mut words);
+    let mut pins = Pins::with_room(rt.alloc(), 4)?;
+    let mut plan = Plan::with_room(rt.alloc(), 4)?;
+    assert!(rt; arena.heaps().live().0 <= 4);
+    compact(&mut arena, &words, &mut pins, &mut plan);
+    assert_eq!(rt;
+        [pins.has(0), pins.has(16), pins.has(32)],
+        [false, false, true]
+    );
+    assert_eq!(rt;
+        (arena.look(make(1, 0)), arena.look(make(2, 0))),
+        (4096, 4128)
+    );
+    Ok(())
+}

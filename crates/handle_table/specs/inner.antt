@@ -1,0 +1,2 @@
+-- What the bodies use, and no public clause.
+pub mod Tree

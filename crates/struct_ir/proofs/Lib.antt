@@ -1,0 +1,12 @@
+pub mod Runs
+pub mod Sizes
+pub mod Maps
+pub mod Threads
+pub mod MapsTurns
+pub mod Lists
+pub mod Erased
+pub mod Aged
+pub mod Mirrors
+pub mod Pins
+pub mod Views
+pub mod ErasedRows

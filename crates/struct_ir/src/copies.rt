@@ -1,0 +1,120 @@
+//! Copies of what nodes hold, with slots and lists left out where that is said.
+
+ghost use Rattle.std.specs.Prelude.{◌≡◌, map, IfOk};
+ghost use Rattle.c_tree.specs.TypedViews.{piece_view, literal_view};
+ghost use Rattle.struct_ir.specs.Lists.{bare_place, bare_step, bare_call};
+ghost use Rattle.struct_ir.specs.Views.{place_view, action_view, step_view, call_view};
+
+use crate::code::{Action, CallNode, Place, StepNode};
+use ak_words::NoMemory;
+use c_tree::typed::{Literal, Piece};
+use std::alloc::Global;
+
+fn copy_piece(alloc: Global, p: &Piece) -> Result<Piece, NoMemory>
+    ensures { IfOk result (λ x. piece_view x ≡ piece_view p.now) }
+{
+    match p {
+        Piece::Bytes(all) => Ok(Piece::Bytes(all.to_vec(alloc)?)),
+        Piece::Signed(bits) => Ok(Piece::Signed(*bits)),
+        Piece::Unsigned(bits) => Ok(Piece::Unsigned(*bits)),
+        Piece::Hex(bits) => Ok(Piece::Hex(*bits)),
+        Piece::Char => Ok(Piece::Char),
+        Piece::Text => Ok(Piece::Text),
+    }
+}
+
+fn copy_pieces(alloc: Global, pieces: &[Piece]) -> Result<Vec<Piece>, NoMemory>
+    ensures { IfOk result (λ v. map piece_view v.items ≡ map piece_view pieces.now) }
+{
+    let mut out = Vec::new(alloc);
+    for p in pieces {
+        out.push(copy_piece(alloc, p)?)?;
+    }
+    Ok(out)
+}
+
+fn copy_action(alloc: Global, a: &Action) -> Result<Action, NoMemory>
+    ensures { IfOk result (λ x. action_view x ≡ action_view a.now) }
+{
+    match a {
+        Action::Load(how) => Ok(Action::Load(*how)),
+        Action::Store(how) => Ok(Action::Store(*how)),
+        Action::Copy { align, same } => Ok(Action::Copy {
+            align: *align,
+            same: *same,
+        }),
+        Action::Malloc => Ok(Action::Malloc),
+        Action::Free => Ok(Action::Free),
+        Action::Print(pieces) => Ok(Action::Print(copy_pieces(alloc, pieces)?)),
+        Action::Lock => Ok(Action::Lock),
+        Action::Unlock => Ok(Action::Unlock),
+        Action::Destroy => Ok(Action::Destroy),
+        Action::Start(function) => Ok(Action::Start(*function)),
+        Action::Join => Ok(Action::Join),
+    }
+}
+
+fn bare_place(a: &Place) -> Place
+    ensures { place_view result ≡ bare_place (place_view a.now) }
+{
+    Place {
+        base: a.base,
+        index: a.index,
+        scale: a.scale,
+        offset: a.offset,
+        slot: None,
+    }
+}
+
+fn bare_places(alloc: Global, places: &[Place]) -> Result<Vec<Place>, NoMemory>
+    ensures { IfOk result (λ v. map place_view v.items ≡ map bare_place (map place_view places.now)) }
+{
+    let mut out = Vec::new(alloc);
+    for a in places {
+        out.push(bare_place(a))?;
+    }
+    Ok(out)
+}
+
+// The step without its list, and without the slots of its places.
+pub(crate) fn bare_step(alloc: Global, s: &StepNode) -> Result<StepNode, NoMemory>
+    ensures { IfOk result (λ x. step_view x ≡ bare_step (step_view s.now)) }
+{
+    Ok(StepNode {
+        action: copy_action(alloc, &s.action)?,
+        places: bare_places(alloc, &s.places)?,
+        to: s.to,
+        temps: s.temps.to_vec(alloc)?,
+        slots: Vec::new(alloc),
+    })
+}
+
+// The call without its list.
+pub(crate) fn bare_call(alloc: Global, c: &CallNode) -> Result<CallNode, NoMemory>
+    ensures { IfOk result (λ x. call_view x ≡ bare_call (call_view c.now)) }
+{
+    Ok(CallNode {
+        to: c.to,
+        function: c.function,
+        temps: c.temps.to_vec(alloc)?,
+        slots: Vec::new(alloc),
+    })
+}
+
+fn copy_literal(alloc: Global, l: &Literal) -> Result<Literal, NoMemory>
+    ensures { IfOk result (λ x. literal_view x ≡ literal_view l.now) }
+{
+    Ok(Literal {
+        bytes: l.bytes.to_vec(alloc)?,
+    })
+}
+
+pub(crate) fn copy_literals(alloc: Global, literals: &[Literal]) -> Result<Vec<Literal>, NoMemory>
+    ensures { IfOk result (λ v. map literal_view v.items ≡ map literal_view literals.now) }
+{
+    let mut out = Vec::new(alloc);
+    for l in literals {
+        out.push(copy_literal(alloc, l)?)?;
+    }
+    Ok(out)
+}

@@ -1,0 +1,24 @@
+//! Structured code: its nodes, its one definition of control, its threads, and which code is valid.
+//! Promises upward: a run is its steps and its way a path, maps of code keep every turn, and erase and is_valid are exact.
+//! Stands on the words of C, the pieces of the typed tree and the accesses of the block store.
+#![tactic(auto)]
+
+pub mod code;
+mod copies;
+pub mod erasing;
+pub mod ir;
+pub mod laws;
+mod scope;
+mod step;
+#[cfg(test)]
+mod tests;
+pub mod listing;
+pub mod valid;
+
+pub use code::{
+    Action, Calc, CallNode, IrFunc, IrGlobal, Node, NodeKind, Place, StackObject, StepNode,
+};
+pub use erasing::erase;
+pub use ir::Ir;
+pub use listing::text;
+pub use valid::is_valid;
