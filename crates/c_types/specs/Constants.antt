@@ -1,14 +1,12 @@
 -- Integer constant expressions (C11 6.6 p6; this project's profile has fewer forms).
-use Rattle.std.specs.Prelude.{ℕ, Bool, true, false, ◌&&◌, if◌then◌else◌, ℤ, pos, Option, Some, None, Result, Ok, Err}
+use Rattle.std.specs.Prelude.{Bool, true, false, ◌&&◌, if◌then◌else◌, pos, Option, Some, None, Result, Ok, Err}
 use Rattle.std.specs.Ordering.{int_eq}
-use Rattle.ak_words.specs.declared.int_type.IntType.{IntType}
 use Rattle.ak_words.specs.declared.number.Num.{Num}
 use Rattle.ak_words.specs.declared.operation.Op.{Op}
 use Rattle.ak_words.specs.declared.rule.Rule.{Rule}
 use Rattle.ak_words.specs.IntType.{int}
 use Rattle.ak_words.specs.Num.{num as number}
 use Rattle.ak_words.specs.Op.{truth, result_of}
-use Rattle.c_tree.specs.declared.syntax.Name.{Name}
 use Rattle.c_tree.specs.declared.syntax.PrefixOp.{PrefixOp}
 use Rattle.c_tree.specs.declared.syntax.PrefixOp.TheVariants as prefixes
 use Rattle.c_tree.specs.declared.syntax.BinaryOp.{BinaryOp}

@@ -1,5 +1,5 @@
 -- What judging gives: a typed form, or all the faults.
-use Rattle.std.specs.Prelude.{◌≡◌, ℕ, Bool, true, false, ◌&&◌, ◌||◌, nat_lt, nat_eq, if◌then◌else◌, List, [], ◌∷◌, ◌++◌, Option, Some, None, Result, Ok, Err}
+use Rattle.std.specs.Prelude.{◌≡◌, ℕ, Bool, ◌&&◌, ◌||◌, nat_lt, nat_eq, if◌then◌else◌, List, [], ◌∷◌, ◌++◌, Option, Some, None, Result, Ok, Err}
 use Rattle.c_lex.specs.declared.refusal.Kind.{Kind}
 use Rattle.c_lex.specs.declared.refusal.Kind.TheVariants as kinds
 use Rattle.c_lex.specs.declared.refusal.Refusal.{Refusal}

@@ -1,8 +1,7 @@
 -- The formats of printf (C11 7.21.6.1; this project's profile has no flags, widths and precisions).
-use Rattle.std.specs.Prelude.{ℕ, zero, suc, ◌-◌, nat_eq, Bool, true, false, ◌&&◌, ◌||◌, if◌then◌else◌, List, [], ◌∷◌, ◌++◌, length, codes, Option, Some, None}
+use Rattle.std.specs.Prelude.{ℕ, zero, suc, ◌-◌, nat_eq, if◌then◌else◌, List, [], ◌∷◌, ◌++◌, length, codes, Option, Some, None}
 use Rattle.std.specs.List.{starts_with, find}
 use Rattle.std.specs.Option.{option_map}
-use Rattle.ak_words.specs.declared.int_type.IntType.{IntType}
 use Rattle.ak_words.specs.IntType.{promoted_type}
 use Rattle.c_tree.specs.Typed.{Ty, integer, pointer, Piece, bytes, signed, unsigned, hexadecimal, character, text, Expr, type_of}
 use Rattle.c_types.specs.Rules.{converted}

@@ -1,9 +1,9 @@
 -- Judging expressions, types and declarators where they stand, from left to right: the typed form, or all the faults (C11 6.5 to 6.7).
-use Rattle.std.specs.Prelude.{ℕ, zero, suc, ◌+◌, nat_le, nat_lt, Bool, true, false, ◌&&◌, ◌||◌, not, if◌then◌else◌, List, [], ◌∷◌, ◌++◌, length, map, slice_get, Option, Some, None, ℤ, pos, unsigned_abs, int_le}
+use Rattle.std.specs.Prelude.{ℕ, zero, suc, ◌+◌, nat_le, Bool, ◌&&◌, not, if◌then◌else◌, List, [], ◌∷◌, ◌++◌, length, map, Option, Some, None, pos, unsigned_abs, int_le}
 use Rattle.std.specs.List.{list_any}
 use Rattle.std.specs.Str.{bytes_eq}
 use Rattle.ak_words.specs.declared.number.Num.{Num}
-use Rattle.ak_words.specs.IntType.{char, int, long, unsigned_long}
+use Rattle.ak_words.specs.IntType.{char, int, unsigned_long}
 use Rattle.c_lex.specs.declared.refusal.Kind.{Kind}
 use Rattle.c_lex.specs.declared.refusal.Kind.TheVariants.{UnknownName, DoubleName, TypeMismatch, BadSize, OutsideSubset, TooMany}
 use Rattle.c_tree.specs.declared.syntax.Name.{Name}

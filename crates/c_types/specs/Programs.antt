@@ -1,5 +1,5 @@
 -- Judging a file: its structs, globals and functions in the order of the text (C11 6.7, 6.9).
-use Rattle.std.specs.Prelude.{ℕ, ◌+◌, ◌==◌, nat_le, nat_lt, Bool, true, false, ◌&&◌, ◌||◌, not, if◌then◌else◌, List, [], ◌∷◌, ◌++◌, length, map, codes, set, slice_get, Option, Some, None, pos}
+use Rattle.std.specs.Prelude.{ℕ, ◌+◌, Bool, true, false, ◌&&◌, ◌||◌, not, if◌then◌else◌, List, [], ◌∷◌, ◌++◌, length, map, codes, Option, Some, None}
 use Rattle.std.specs.List.{list_any}
 use Rattle.std.specs.Map.{lookup}
 use Rattle.std.specs.Str.{bytes_eq}
@@ -17,10 +17,10 @@ use Rattle.c_tree.specs.Typed as trees
 use Rattle.c_tree.specs.TypedLayout.{size_in}
 use Rattle.c_types.specs.Faults.{Judged, typed, faulty, refuse, unless, both, mapped, ◌>>=◌}
 use Rattle.c_types.specs.Types.{same_int, same_type, same_types, is_void, is_struct_or_mutex, has_size, is_small, behind_pointers, arrays_of}
-use Rattle.c_types.specs.Scope.{Meaning, global_name, local_name, function_name, Context, at_start, bytes_of, library, fresh, declared, inside, back_to, within, taken, fits_plain}
+use Rattle.c_types.specs.Scope.{Meaning, global_name, function_name, Context, at_start, bytes_of, library, fresh, declared, inside, back_to, within, taken, fits_plain}
 use Rattle.c_types.specs.Rules.{is_zero}
 use Rattle.c_types.specs.Constants.{constant_value}
-use Rattle.c_types.specs.Judgement.{Judging, lone, in_turn, ruled, valued, node_place, judged, judged_specs, place_of_specs, dimension, object_declared}
+use Rattle.c_types.specs.Judgement.{Judging, lone, in_turn, ruled, valued, judged, judged_specs, place_of_specs, dimension, object_declared}
 use Rattle.c_types.specs.Statements.{or_int, most_locals, with_local, judged_declarator, name_of, stmts_of, judged_stmts}
 use Rattle.c_types.specs.Numbering.{Param, func_of}
 

@@ -1,5 +1,5 @@
 -- Small programs, accepted or refused, worked out by hand: the definitions, put to the test. The trees are those of the texts.
-use Rattle.std.specs.Prelude.{◌≡◌, ℕ, pos, Bool, true, false, List, [], ◌∷◌, codes, refl, Option, Some, None}
+use Rattle.std.specs.Prelude.{◌≡◌, ℕ, pos, List, [], ◌∷◌, codes, Option, Some, None}
 use Rattle.ak_words.specs.declared.operation.Op.TheVariants as ops
 use Rattle.ak_words.specs.IntType.{int}
 use Rattle.ak_words.specs.Num.{num}
@@ -12,7 +12,6 @@ use Rattle.c_tree.specs.declared.syntax.TypeWord.TheVariants as words
 use Rattle.c_tree.specs.declared.syntax.Pointer.TheVariants as pointers
 use Rattle.c_tree.specs.declared.syntax.PrefixOp.TheVariants as prefixes
 use Rattle.c_tree.specs.declared.syntax.BinaryOp.TheVariants as binaries
-use Rattle.c_tree.specs.declared.syntax.StepOp.TheVariants as steps
 use Rattle.c_tree.specs.declared.syntax.AssignOp.TheVariants as assigns
 use Rattle.c_tree.specs.Syntax as source
 use Rattle.c_types.specs.Faults.{first}

@@ -1,5 +1,5 @@
 -- The rules of C11 6.3 and 6.5 on typed operands: the typed node, or the one fault at its place.
-use Rattle.std.specs.Prelude.{ℕ, ◌^◌, Bool, true, false, ◌&&◌, ◌||◌, not, nat_lt, nat_eq, ℤ, pos, negsuc, if◌then◌else◌, List, [], ◌∷◌, Option, Some, None}
+use Rattle.std.specs.Prelude.{ℕ, Bool, true, false, ◌||◌, nat_eq, pos, negsuc, if◌then◌else◌, Option, Some, None}
 use Rattle.std.specs.Ordering.{int_eq}
 use Rattle.ak_words.specs.declared.int_type.IntType.{IntType}
 use Rattle.ak_words.specs.declared.operation.Op.{Op}
@@ -9,10 +9,10 @@ use Rattle.ak_words.specs.Op.{result_type}
 use Rattle.ak_words.specs.Wrapped.{wrapped_value}
 use Rattle.c_lex.specs.declared.refusal.Kind.TheVariants.{UnknownName, TypeMismatch, NotAnLvalue, BadSize, OutsideSubset}
 use Rattle.c_tree.specs.declared.syntax.Name.{Name}
-use Rattle.c_tree.specs.Typed.{Ty, void, integer, mutex, pointer, array, structure, Layout, Expr, at, ExprNode, num, null, literal, global, local, deref, member, address_of, decay, convert, not_, binary, and_also, or_else, choose, pointer_add, pointer_sub, pointer_diff, pointer_compare, pointer_test, place_of, type_of, node_of}
+use Rattle.c_tree.specs.Typed.{Ty, void, integer, pointer, array, structure, Expr, at, ExprNode, num, null, literal, global, local, deref, member, address_of, decay, convert, not_, binary, choose, pointer_add, pointer_sub, pointer_diff, pointer_compare, pointer_test, place_of, type_of, node_of}
 use Rattle.c_tree.specs.TypedLayout.{size_in}
 use Rattle.c_types.specs.Faults.{Judged, typed, refuse, unless, ◌>>=◌}
-use Rattle.c_types.specs.Types.{same_int, same_type, is_void, is_array, is_scalar, is_struct_or_mutex, has_size}
+use Rattle.c_types.specs.Types.{same_int, same_type, is_void, has_size}
 use Rattle.c_types.specs.Scope.{Context, member_of}
 
 -- ---- conversions (6.3)

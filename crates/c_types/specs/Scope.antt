@@ -1,17 +1,14 @@
 -- What names mean where a node stands, and what the text has shown before it (C11 6.2.1, 6.2.3, 7.1.3).
-use Rattle.std.specs.Prelude.{ℕ, ◌+◌, ◌*◌, ◌/◌, ◌==◌, nat_le, nat_lt, Bool, true, false, ◌&&◌, ◌||◌, not, if◌then◌else◌, List, [], ◌∷◌, ◌++◌, length, map, set, codes, slice_get, Option, Some, None, ℤ, pos}
+use Rattle.std.specs.Prelude.{ℕ, ◌+◌, ◌*◌, ◌/◌, ◌==◌, nat_le, nat_lt, Bool, ◌&&◌, ◌||◌, not, if◌then◌else◌, List, [], ◌∷◌, ◌++◌, length, map, set, codes, slice_get, Option, Some, None, ℤ, pos}
 use Rattle.std.specs.List.{slice_range, list_any}
 use Rattle.std.specs.Map.{lookup}
 use Rattle.std.specs.Option.{is_some}
 use Rattle.std.specs.Str.{bytes_eq}
-use Rattle.ak_words.specs.declared.number.Num.{Num}
-use Rattle.ak_words.specs.IntType.{int}
-use Rattle.ak_words.specs.Num.{num}
 use Rattle.c_lex.specs.declared.refusal.Kind.TheVariants.{DoubleName, TooMany}
 use Rattle.c_tree.specs.declared.syntax.Name.{Name}
 use Rattle.c_tree.specs.Typed.{Ty, Layout}
 use Rattle.c_tree.specs.TypedLayout.{laid_out}
-use Rattle.c_types.specs.Faults.{Judged, typed, refuse, unless, both, mapped}
+use Rattle.c_types.specs.Faults.{Judged, unless}
 
 -- ---- the library
 

@@ -1,22 +1,21 @@
 -- Judging declarations and statements where they stand (C11 6.7, 6.8).
-use Rattle.std.specs.Prelude.{ℕ, ◌+◌, Bool, true, false, not, if◌then◌else◌, List, [], ◌∷◌, ◌++◌, length, Option, Some, None, pos}
+use Rattle.std.specs.Prelude.{ℕ, Bool, true, false, not, if◌then◌else◌, List, [], ◌∷◌, ◌++◌, length, Option, Some, None, pos}
 use Rattle.ak_words.specs.declared.operation.Op.{Op}
 use Rattle.ak_words.specs.declared.operation.Op.TheVariants as ops
 use Rattle.ak_words.specs.IntType.{int}
 use Rattle.c_lex.specs.declared.refusal.Kind.TheVariants.{TypeMismatch, NotAnLvalue, BadSize}
 use Rattle.c_tree.specs.declared.syntax.Name.{Name}
-use Rattle.c_tree.specs.declared.syntax.Pointer.{Pointer}
 use Rattle.c_tree.specs.declared.syntax.StepOp.{StepOp}
 use Rattle.c_tree.specs.declared.syntax.StepOp.TheVariants as steps
 use Rattle.c_tree.specs.declared.syntax.AssignOp.{AssignOp}
 use Rattle.c_tree.specs.declared.syntax.AssignOp.TheVariants as assigns
 use Rattle.c_tree.specs.Syntax as source
-use Rattle.c_tree.specs.Typed.{Ty, void, integer, pointer, Expr, at, num, type_of, node_of, Stmt, at_stmt, block, declare, if_, if_else, while_, for_, break_, continue_, return_, assign, update, evaluate, empty, Stmts, no_stmts, more_stmts}
-use Rattle.c_types.specs.Faults.{Judged, typed, faulty, refuse, unless, both, mapped, ◌>>=◌}
+use Rattle.c_tree.specs.Typed.{Ty, integer, pointer, Expr, at, num, type_of, node_of, Stmt, at_stmt, block, declare, if_, if_else, while_, for_, break_, continue_, return_, assign, update, evaluate, empty, Stmts, no_stmts, more_stmts}
+use Rattle.c_types.specs.Faults.{Judged, typed, faulty, refuse, unless, both, ◌>>=◌}
 use Rattle.c_types.specs.Types.{is_void, is_array, is_scalar, has_size}
 use Rattle.c_types.specs.Scope.{Context, local_name, fresh, declared, inside, back_to, within}
 use Rattle.c_types.specs.Rules.{value_of, fitted, or_mismatch, tested, is_lvalue}
-use Rattle.c_types.specs.Judgement.{Judging, lone, in_turn, ruled, valued, Declarator, object_declared, declared_type, node_place, judged, judged_specs, judged_dims}
+use Rattle.c_types.specs.Judgement.{Judging, lone, in_turn, ruled, valued, Declarator, object_declared, node_place, judged, judged_specs, judged_dims}
 
 -- ---- assignments (6.5.16, 6.5.2.4, 6.5.3.1)
 
