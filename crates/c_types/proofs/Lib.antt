@@ -1,0 +1,2 @@
+pub mod RowsProof
+pub mod Least

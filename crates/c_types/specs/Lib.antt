@@ -1,0 +1,13 @@
+pub mod Faults
+pub mod Types
+pub mod Scope
+pub mod Rules
+pub mod Constants
+pub mod Formats
+pub mod Literals
+pub mod Judgement
+pub mod Statements
+pub mod Numbering
+pub mod Programs
+pub mod Rows
+pub mod Laws
