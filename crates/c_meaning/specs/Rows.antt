@@ -334,20 +334,20 @@ nothing_at_all = of_main [] []
 
 -- whether each turn went, and which broke a rule, and where
 pub data Went : Type 0 where
-  yes' : Went
-  end' : Went
-  waits' : Went
-  unfit' : Went
-  broke' : (rule : Rule) (place : ℕ) → Went
-  gone' : Went
+  goes : Went
+  ends : Went
+  waits : Went
+  misfits : Went
+  breaks_at : (rule : Rule) (place : ℕ) → Went
+  is_none : Went
 
 abbrev pub went_of : Shown → Went
-went_of (it_went w) = yes'
-went_of (it_ended w) = end'
-went_of it_blocked = waits'
-went_of it_was_unfit = unfit'
-went_of (it_broke rule place) = broke' rule place
-went_of no_such_turn = gone'
+went_of (it_went w) = goes
+went_of (it_ended w) = ends
+went_of it_blocked = waits
+went_of it_was_unfit = misfits
+went_of (it_broke rule place) = breaks_at rule place
+went_of no_such_turn = is_none
 
 abbrev pub seen : Typed.Typed → List Pick → List Went
 seen t order = map went_of (shown t order)
@@ -368,9 +368,9 @@ pub record RowsStand : Type 0 where
   -- three calls are entered, two are left, and then main ends
   pub recursion_is : recursion (turns 0 7) ≡ reached [] (returned (pos 2) ∷ [])
   -- a thread frees a block between a load of the pointer and that of the int
-  pub freed_between : seen shared_block (first_turns 1 ++ turns 1 2 ++ turns 0 1) ≡ replicate 8 yes' ++ broke' rules.C5 77 ∷ []
+  pub freed_between : seen shared_block (first_turns 1 ++ turns 1 2 ++ turns 0 1) ≡ replicate 8 goes ++ breaks_at rules.C5 77 ∷ []
   pub freed_later : told (run shared_block (first_turns 3 ++ turns 1 3 ++ turns 0 3)) ≡ reached (codes "1\n") (returned (pos 0) ∷ joined (pos 0) ∷ [])
-  pub join_waits : seen shared_block (first_turns 4 ++ turns 0 1 ++ got 1 ++ turns 2 1) ≡ replicate 9 yes' ++ waits' ∷ unfit' ∷ gone' ∷ []
+  pub join_waits : seen shared_block (first_turns 4 ++ turns 0 1 ++ got 1 ++ turns 2 1) ≡ replicate 9 goes ++ waits ∷ misfits ∷ is_none ∷ []
 
 -- each rule, broken once
 pub record RulesStand : Type 0 where
@@ -421,5 +421,5 @@ pub record OrdersStand : Type 0 where
   pub nothing_is : nothing_at_all (turns 0 1) ≡ reached [] (returned (pos 0) ∷ [])
   pub end_and_start_is : end_and_start (turns 0 2) ≡ reached (codes "0\n") (returned (pos 0) ∷ [])
   pub number_formats_is : number_formats (turns 0 2) ≡ reached (codes "44 4294967295 -3 -1 -4\n") (returned (pos 0) ∷ [])
-  pub one_waits_is : seen counted one_waits ≡ replicate 3 yes' ++ waits' ∷ replicate 3 yes' ++ end' ∷ replicate 4 yes' ++ end' ∷ replicate 5 yes' ++ end' ∷ []
+  pub one_waits_is : seen counted one_waits ≡ replicate 3 goes ++ waits ∷ replicate 3 goes ++ ends ∷ replicate 4 goes ++ ends ∷ replicate 5 goes ++ ends ∷ []
   pub counted_is : told (run counted (got 0 ++ got 0 ++ turns 1 5 ++ turns 2 5 ++ turns 0 6)) ≡ reached [] (returned (pos 2) ∷ joined (pos 0) ∷ joined (pos 0) ∷ [])
