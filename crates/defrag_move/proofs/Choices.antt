@@ -1,12 +1,12 @@
 -- Whichever free id and fitting place a new object takes, and whichever id is freed, the sub-heaps stay sound.
-use Rattle.std.proofs.Common.{◌≡◌, ℕ, suc, ◌+◌, ◌<◌, ◌≤◌, true, false, cond, eqb, ltb, not, List, [], ◌∷◌, length, refl, ap, inl, inr, arith}
+use Rattle.std.proofs.Common.{◌≡◌, ℕ, suc, ◌≤◌, true, false, cond, eqb, ltb, not, List, [], ◌∷◌, length, refl, ap, inl, inr, arith}
 use Rattle.std.specs.List.{AllByRecursion as Each}
 use Rattle.std.proofs.lemmas.Bool.{ltb-true, ltb-false}
 use Rattle.std.proofs.lemmas.List.Elements.{recursion_from_All}
 use Rattle.handle_table.specs.Table.{IsFree}
 use Rattle.sub_heaps.specs.declared.objects.Object.{Object}
 use Rattle.sub_heaps.specs.ByPlace.{end_of, with_object}
-use Rattle.sub_heaps.specs.SubHeaps.{SubHeaps, FitsAt, IsApartFrom, IsRounded, IsSound, LiesInOne, StandFrom, rounded}
+use Rattle.sub_heaps.specs.SubHeaps.{FitsAt, IsApartFrom, IsRounded, LiesInOne, StandFrom, rounded}
 use Rattle.defrag_move.specs.Arena.{IsConsistent, Storage}
 use Rattle.defrag_move.specs.Changes.{with_new, without_id, without_owner}
 use Rattle.defrag_move.proofs.Kept.{IsConsistent-with_new, IsConsistent-without_id}

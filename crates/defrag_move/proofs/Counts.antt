@@ -1,5 +1,5 @@
 -- There are as many objects as ids in use.
-use Rattle.std.proofs.Common.{◌≡◌, ◌≢◌, ℕ, zero, suc, ◌+◌, ◌<◌, ◌≤◌, Bool, true, false, cond, eqb, List, [], ◌∷◌, length, Option, Some, None, IsSome, is_some, set, get_or, refl, sym, ap, ◌∙◌, subst, inl, inr, arith, get_or-set_same, get_or-set_other, set-set, length-set}
+use Rattle.std.proofs.Common.{◌≡◌, ◌≢◌, ℕ, zero, suc, ◌+◌, ◌<◌, ◌≤◌, false, cond, eqb, List, [], ◌∷◌, length, Option, Some, None, is_some, set, refl, sym, ap, ◌∙◌, arith, get_or-set_other}
 use Rattle.std.specs.List.{AllByRecursion as Each, count_by}
 use Rattle.std.proofs.lemmas.Bool.{false≢true, ne_eqb}
 use Rattle.std.proofs.lemmas.List.Sums.{sum_by-cons, count_by-le-length}
@@ -7,7 +7,6 @@ use Rattle.handle_table.specs.Table.{IsFree, IsInUse, address_of}
 use Rattle.sub_heaps.specs.declared.objects.Object.{Object}
 use Rattle.sub_heaps.specs.ByPlace.{end_of}
 use Rattle.sub_heaps.specs.SubHeaps.{StandFrom}
-use Rattle.defrag_move.specs.Arena.{object_of}
 use Rattle.defrag_move.proofs.Owners.{Matches, each_above, freed_unused, same_sum}
 
 abbrev in_use_count : List (Option ℕ) → ℕ

@@ -1,24 +1,24 @@
 -- Storage stays consistent as objects come, go and move, and moves keep each object with its bytes.
-use Rattle.std.proofs.Common.{◌≡◌, ◌≢◌, ℕ, ◌+◌, ◌-◌, ◌*◌, ◌/◌, ◌<◌, ◌≤◌, ◌⊎◌, Bool, true, false, cond, eqb, List, [], ◌∷◌, length, Option, Some, None, IsSome, is_some, set, refl, sym, ap, ◌∙◌, subst, inl, inr, arith, get_or-set_same, get_or-set_other, length-set}
+use Rattle.std.proofs.Common.{◌≡◌, ◌≢◌, ℕ, ◌+◌, ◌*◌, ◌/◌, ◌<◌, ◌≤◌, ◌⊎◌, Bool, eqb, List, [], ◌∷◌, length, Option, Some, None, is_some, set, refl, sym, ap, ◌∙◌, subst, inl, inr, arith, get_or-set_same, get_or-set_other, length-set}
 use Rattle.std.specs.List.{All, AllByRecursion as Each}
 use Rattle.std.proofs.Math.Nat.{div-lt_iff_lt-mul}
-use Rattle.std.proofs.lemmas.Bool.{cases_eq, eq-eqb, ne_eqb, eqb-true, true≢false}
+use Rattle.std.proofs.lemmas.Bool.{cases_eq, eq-eqb, ne_eqb, true≢false}
 use Rattle.std.proofs.lemmas.List.Elements.{All-from_recursion, All-head, All-tail, recursion_from_All}
 use Rattle.std.proofs.lemmas.Nat.{mul-le}
 use Rattle.std.proofs.lemmas.Option.{same_Some}
 use Rattle.handle_table.specs.Table.{IsFree, IsInUse, address_of}
-use Rattle.flat_store.specs.Flat.{first_address, HasByte, byte_at, bytes_from, with_bytes}
+use Rattle.flat_store.specs.Flat.{first_address, byte_at, bytes_from, with_bytes}
 use Rattle.sub_heaps.specs.declared.objects.Object.{Object}
-use Rattle.sub_heaps.specs.ByPlace.{end_of, object_at, with_object, without, shifted}
-use Rattle.sub_heaps.specs.SubHeaps.{SubHeaps, IsSound, IsApartFrom, LiesInOne, StandFrom, FitsAt}
+use Rattle.sub_heaps.specs.ByPlace.{end_of, object_at, without, shifted}
+use Rattle.sub_heaps.specs.SubHeaps.{IsSound, IsApartFrom, LiesInOne, StandFrom}
 use Rattle.move_plan.specs.declared.moves.Move.{Move}
-use Rattle.move_plan.specs.Moving.{AreLegal, IsAllowed, after_move, after_moves, destination}
+use Rattle.move_plan.specs.Moving.{AreLegal, IsAllowed, after_moves, destination}
 use Rattle.move_plan.proofs.Turns.{allowed_object, found_at, without-Each, IsSound-after_move}
 use Rattle.defrag_move.specs.Arena.{IsConsistent, Storage, object_of}
-use Rattle.defrag_move.specs.Changes.{with_new, without_id, without_owner}
+use Rattle.defrag_move.specs.Changes.{with_new, without_id}
 use Rattle.defrag_move.specs.Moves.{IsCarried, KeepsObjects, after_plan, moved, moved_with}
 use Rattle.defrag_move.proofs.Bytes.{byte_at-below, bytes_from-apart, bytes_from-with_bytes, length-bytes_from, length-with_bytes}
-use Rattle.defrag_move.proofs.Owners.{Matches, Matches-gone, Matches-moved, Matches-new, find_each, in_use_within, object_at-owned, object_of-moved, object_of-placed, object_of-unmoved, owner_found, value_in}
+use Rattle.defrag_move.proofs.Owners.{Matches, Matches-gone, Matches-moved, Matches-new, find_each, in_use_within, object_at-owned, object_of-moved, object_of-placed, object_of-unmoved, owner_found}
 
 -- ---- objects lie within the bytes
 

@@ -1,15 +1,14 @@
 -- The object that an id or a word leads to, and its place.
-use Rattle.std.proofs.Common.{◌≡◌, ℕ, ◌+◌, ◌-◌, ◌*◌, ◌%◌, ◌^◌, ◌<◌, ◌≤◌, true, false, nat_le, List, length, Option, Some, None, IsSome, is_some, refl, sym, ap, ◌∙◌, subst, arith}
+use Rattle.std.proofs.Common.{◌≡◌, ℕ, ◌+◌, ◌-◌, ◌%◌, ◌^◌, ◌<◌, ◌≤◌, true, nat_le, length, Option, Some, None, IsSome, is_some, refl, sym, ap, ◌∙◌, arith}
 use Rattle.std.specs.Option.{option_map}
 use Rattle.std.proofs.lemmas.Bool.{le-leb, false≢true}
 use Rattle.handle_words.specs.Handle.{IsHandle, id_of, offset_of}
 use Rattle.handle_table.specs.Table.{IsFree, IsInUse, address_of, translated}
 use Rattle.sub_heaps.specs.declared.objects.Object.{Object}
-use Rattle.sub_heaps.specs.ByPlace.{end_of, object_at}
-use Rattle.defrag_move.specs.Arena.{IsConsistent, IsLiveStart, Storage, object_of}
+use Rattle.defrag_move.specs.Arena.{IsConsistent, Storage, object_of}
 use Rattle.defrag_move.proofs.Counts.{as_many, in_use_count-free}
 use Rattle.defrag_move.proofs.Kept.{matches, object_starts}
-use Rattle.defrag_move.proofs.Owners.{object_at-owned, owner_found, value_in}
+use Rattle.defrag_move.proofs.Owners.{owner_found, value_in}
 
 module _ (s : Storage) (consistent : IsConsistent s) where
   -- where an id is free, there may be one object more

@@ -1,17 +1,17 @@
 -- What the steps of a method make together, in the method's terms: `s` is made of the fields as they were.
-use Rattle.std.proofs.Common.{◌≡◌, ◌≢◌, ℕ, ◌+◌, ◌<◌, ◌≤◌, false, true, eqb, List, drop, length, get_or, ◌∷◌, Option, Some, None, IsSome, is_some, set, refl, sym, ap, ◌∙◌, subst, set-set, arith}
+use Rattle.std.proofs.Common.{◌≡◌, ℕ, ◌+◌, false, List, Option, Some, None, IsSome, is_some, set, refl, sym, ap, ◌∙◌, subst, set-set}
 use Rattle.std.proofs.lemmas.Bool.{false≢true}
-use Rattle.std.proofs.lemmas.List.{set-get_or, drop_more}
+use Rattle.std.proofs.lemmas.List.{set-get_or}
 use Rattle.std.proofs.lemmas.Option.{same_Some}
 use Rattle.std.specs.Option.{option_map}
-use Rattle.handle_table.specs.Table.{IsFree, IsInUse, address_of}
+use Rattle.handle_table.specs.Table.{IsFree, address_of}
 use Rattle.sub_heaps.specs.declared.objects.Object.{Object}
 use Rattle.sub_heaps.specs.ByPlace.{object_at, with_object, without}
 use Rattle.sub_heaps.specs.SubHeaps.{SubHeaps, IsSound}
 use Rattle.defrag_move.specs.Arena.{IsConsistent, Storage, object_of}
 use Rattle.defrag_move.specs.Changes.{with_new, without_id, without_owner}
 use Rattle.defrag_move.proofs.Kept.{IsConsistent-with_new, IsConsistent-without_id, matches}
-use Rattle.defrag_move.proofs.Owners.{object_at-owned, value_in, without-object}
+use Rattle.defrag_move.proofs.Owners.{object_at-owned, without-object}
 
 none_from : (r : Option ℕ) → is_some r ≡ false → r ≡ None
 none_from None none = refl

@@ -1,11 +1,11 @@
 -- One turn of a plan: the move is allowed, and what it makes is the storage after it.
-use Rattle.std.proofs.Common.{◌≡◌, ◌≢◌, ℕ, ◌+◌, ◌*◌, ◌^◌, ◌<◌, ◌≤◌, Bool, true, false, cond, eqb, leb, List, [], ◌∷◌, length, drop, get_or, slice_get, Option, Some, None, IsSome, IsSomeAnd, is_some, set, refl, sym, ap, ◌∙◌, subst, inl, inr, arith}
+use Rattle.std.proofs.Common.{◌≡◌, ℕ, ◌+◌, ◌^◌, ◌<◌, ◌≤◌, Bool, false, eqb, leb, List, [], ◌∷◌, length, drop, get_or, slice_get, Option, Some, None, IsSomeAnd, is_some, set, refl, sym, ap, ◌∙◌, subst, inl, inr, arith}
 use Rattle.std.specs.List.{find}
-use Rattle.std.proofs.lemmas.Bool.{cases_eq, eq-eqb, ne_eqb, le-leb, lt-leb, false≢true}
+use Rattle.std.proofs.lemmas.Bool.{cases_eq, eq-eqb, ne_eqb, le-leb, lt-leb}
 use Rattle.std.proofs.lemmas.List.{drop_all, drop_more}
 use Rattle.std.proofs.lemmas.Option.{same_Some, slice_get-get_or, slice_get_within, get_or_from_slice_get, none-some}
 use Rattle.handle_table.specs.Table.{IsInUse}
-use Rattle.flat_store.specs.Flat.{first_address, HasBytes, bytes_from, with_bytes}
+use Rattle.flat_store.specs.Flat.{HasBytes, bytes_from, with_bytes}
 use Rattle.sub_heaps.specs.declared.objects.Object.{Object}
 use Rattle.sub_heaps.specs.ByPlace.{end_of, object_at, without, shifted}
 use Rattle.sub_heaps.specs.SubHeaps.{SubHeaps, StandFrom, FitsAt}

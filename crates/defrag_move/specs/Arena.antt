@@ -1,6 +1,6 @@
 -- An arena as four values that a contract sees: objects behind handles. Each object of the sub-heaps has an id for its owner, and the
 -- table has the object's address for the id.
-use Rattle.std.specs.Prelude.{◌≡◌, ℕ, ◌+◌, ◌*◌, ◌/◌, ◌%◌, ◌^◌, ◌≤◌, ◌==◌, nat_le, if◌then◌else◌, List, length, Option, Some, None, IsSome}
+use Rattle.std.specs.Prelude.{◌≡◌, ℕ, ◌+◌, ◌*◌, ◌/◌, ◌^◌, ◌≤◌, ◌==◌, nat_le, if◌then◌else◌, List, length, Option, Some, None, IsSome}
 use Rattle.std.specs.List.{All, find, filter_map}
 use Rattle.std.specs.Option.{option_map}
 use Rattle.handle_words.specs.Handle.{IsHandle, id_of, offset_of}

@@ -2,12 +2,11 @@ ghost use Rattle.std.specs.Prelude.{◌≡◌, ◌≤◌, [], length};
 ghost use Rattle.std.specs.FinSet as set;
 ghost use Rattle.move_plan.specs.Holding.{is_pinned};
 ghost use Rattle.move_plan.specs.Sliding.{IsSlid, holds};
-ghost use Rattle.defrag_move.specs.Arena.{places_named};
-ghost use Rattle.defrag_move.specs.Changes.{with_places};
 ghost use Rattle.defrag_move.specs.Moves.{KeepsObjects};
 
 use crate::answers::{Alloced, NotLive};
 use crate::arena::Arena;
+use crate::laws::objects_are_counted;
 use flat_store::OutsideFlat;
 use handle_table::{PinFrame, PinWords, unite};
 use handle_words::make;
@@ -18,10 +17,12 @@ use std::test::Fail;
 fn compact(arena: &mut Arena, words: &PinWords, pins: &mut Pins, plan: &mut Plan)
     requires plan { plan.old.moves ≡ [] }
     requires room { length arena.old.heaps.objects ≤ plan.old.room }
-    requires pins { set.len (with_places (places_named arena.old words.now.words) pins.old.places) ≤ pins.old.room }
+    requires unpinned { pins.old.places ≡ set.empty }
+    requires pins { length words.now.words ≤ pins.old.room }
     ensures slid { IsSlid (holds (is_pinned pins.new) arena.old.heaps.objects) arena.new.heaps }
     ensures kept { KeepsObjects (is_pinned pins.new) plan.new.moves arena.old arena.new }
 {
+    objects_are_counted();
     arena.pins_of(words, pins);
     slide(arena.heaps(), pins, plan);
     arena.apply(plan, pins);
@@ -29,25 +30,22 @@ fn compact(arena: &mut Arena, words: &PinWords, pins: &mut Pins, plan: &mut Plan
 
 #[test]
 fn moves_an_object_onto_bytes_of_itself(rt: HostRuntime) -> Result<(), Fail> {
-    let mut arena = Arena::new(rt.alloc(), 100, 1, 4096, 8)?;
+    let mut arena = Arena::new(rt.alloc(), 100, 1, 128, 2)?;
     assert_eq!(rt; arena.alloc(16), Alloced::Got { id: 0, place: 0 });
     assert_eq!(rt; arena.alloc(64), Alloced::Got { id: 1, place: 16 });
-    assert_eq!(rt; arena.look(make(1, 0)), 4224);
-    for i in 0..8 {
-        let at = arena.look(make(1, 8 * i));
-        assert_eq!(rt; arena.store(at, 8, u64::from(i) + 7), Ok(()));
-    }
+    assert_eq!(rt; arena.store(4224, 8, 7), Ok(()));
+    assert_eq!(rt; arena.store(4280, 8, 9), Ok(()));
     assert_eq!(rt; arena.free(make(0, 0)), Ok(()));
     let words = PinWords::with_room(rt.alloc(), 0)?;
-    let mut pins = Pins::with_room(rt.alloc(), 8)?;
-    let mut plan = Plan::with_room(rt.alloc(), 8)?;
-    assert!(rt; arena.heaps().live().0 <= 8);
+    let mut pins = Pins::with_room(rt.alloc(), 0)?;
+    let mut plan = Plan::with_room(rt.alloc(), 2)?;
+    assert!(rt; arena.heaps().live().0 <= 2);
     compact(&mut arena, &words, &mut pins, &mut plan);
-    assert_eq!(rt; (plan.len(), arena.look(make(1, 0))), (1, 4208));
-    for i in 0..8 {
-        let at = arena.look(make(1, 8 * i));
-        assert_eq!(rt; arena.flat().load(at, 8), Ok(u64::from(i) + 7));
-    }
+    let first = arena.look(make(1, 0));
+    let last = arena.look(make(1, 56));
+    assert_eq!(rt; (first, last), (4208, 4264));
+    assert_eq!(rt; arena.flat().load(first, 8), Ok(7));
+    assert_eq!(rt; arena.flat().load(last, 8), Ok(9));
     Ok(())
 }
 
@@ -103,27 +101,24 @@ fn copies_within_its_bytes(rt: HostRuntime) -> Result<(), Fail> {
 
 #[test]
 fn pins_what_handles_name(rt: HostRuntime) -> Result<(), Fail> {
-    let mut arena = Arena::new(rt.alloc(), 0, 1, 4096, 4)?;
+    let mut arena = Arena::new(rt.alloc(), 0, 1, 64, 3)?;
     for place in [0, 16, 32] {
         let id = place / 16;
         assert_eq!(rt; arena.alloc(16), Alloced::Got { id, place });
     }
     assert_eq!(rt; arena.free(make(0, 0)), Ok(()));
-    let mut frame = PinFrame::with_slots(rt.alloc(), 4)?;
+    let mut frame = PinFrame::with_slots(rt.alloc(), 3)?;
     frame.set(0, make(2, 12), 4140);
     frame.set(1, make(0, 0), 4096);
     frame.set(2, 4112, 4112);
-    frame.set(3, make(3, 0), 0);
-    let mut words = PinWords::with_room(rt.alloc(), 4)?;
-    unite(&frame, 0, [0, 1, 2, 3].as_slice(), &mut words);
-    let mut pins = Pins::with_room(rt.alloc(), 4)?;
-    let mut plan = Plan::with_room(rt.alloc(), 4)?;
-    assert!(rt; arena.heaps().live().0 <= 4);
+    let mut words = PinWords::with_room(rt.alloc(), 3)?;
+    unite(&frame, 0, [0, 1, 2].as_slice(), &mut words);
+    let mut pins = Pins::with_room(rt.alloc(), 3)?;
+    let mut plan = Plan::with_room(rt.alloc(), 3)?;
+    assert!(rt; words.len() <= 3);
+    assert!(rt; arena.heaps().live().0 <= 3);
     compact(&mut arena, &words, &mut pins, &mut plan);
-    assert_eq!(rt;
-        [pins.has(0), pins.has(16), pins.has(32)],
-        [false, false, true]
-    );
+    assert_eq!(rt; (pins.has(0), pins.has(32)), (false, true));
     assert_eq!(rt;
         (arena.look(make(1, 0)), arena.look(make(2, 0))),
         (4096, 4128)

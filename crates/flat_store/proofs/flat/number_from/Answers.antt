@@ -1,5 +1,6 @@
 use Rattle.std.proofs.Common.{ℕ, ◌^◌, ◌<◌, length, ◌∙◌, subst, sym}
-use Rattle.flat_store.proofs.Words.{number_of-below, number_of-word}
+use Rattle.ak_words.proofs.Bytes.{number_of-below}
+use Rattle.flat_store.proofs.Words.{number_of-word}
 use Rattle.flat_store.proofs.flat.number_from.Goals as goal
 
 pub returns-clause-value : goal.returns-clause-value

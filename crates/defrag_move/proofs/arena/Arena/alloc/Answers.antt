@@ -1,6 +1,6 @@
-use Rattle.std.proofs.Common.{◌≡◌, ap, ◌∙◌, subst, sym}
+use Rattle.std.proofs.Common.{ap, ◌∙◌}
 use Rattle.sub_heaps.specs.SubHeaps.{rounded}
-use Rattle.defrag_move.specs.Arena.{IsConsistent, Storage}
+use Rattle.defrag_move.specs.Arena.{Storage}
 use Rattle.defrag_move.specs.Changes.{with_new}
 use Rattle.defrag_move.proofs.Named.{fewer}
 use Rattle.defrag_move.proofs.Steps.{IsConsistent-placed, given_back, placed_is}

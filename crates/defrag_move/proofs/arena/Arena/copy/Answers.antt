@@ -1,4 +1,4 @@
-use Rattle.std.proofs.Common.{◌≡◌, ◌↔◌, IsOk, IfErr, subst}
+use Rattle.std.proofs.Common.{◌↔◌, IsOk, IfErr, subst}
 use Rattle.flat_store.specs.Flat.{HasBytes, IsFirstOutsideOfBoth}
 use Rattle.defrag_move.specs.Arena.{Storage}
 use Rattle.defrag_move.proofs.arena.Arena.copy.Goals as goal

@@ -1,7 +1,5 @@
-use Rattle.std.proofs.Common.{◌≡◌, sym, ap, ◌∙◌, subst}
-use Rattle.std.specs.Option.{option_map}
+use Rattle.std.proofs.Common.{sym, ◌∙◌, subst}
 use Rattle.handle_table.specs.Table.{IsInUse}
-use Rattle.defrag_move.specs.Arena.{object_of}
 use Rattle.defrag_move.proofs.Named.{in_use-place}
 use Rattle.defrag_move.proofs.arena.Arena.live_start.Goals as goal
 

@@ -1,4 +1,4 @@
-use Rattle.std.proofs.Common.{◌≡◌, ◌+◌, ap}
+use Rattle.std.proofs.Common.{◌+◌, ap}
 use Rattle.std.proofs.lemmas.Bool.{false≢true}
 use Rattle.defrag_move.proofs.Turns.{IsConsistent-moved_storage, has_from, has_to, moved_storage, not_none, owner_in_use, shift_allowed}
 use Rattle.defrag_move.proofs.arena.Arena.move_object.Goals as goal

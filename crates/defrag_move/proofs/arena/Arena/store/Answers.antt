@@ -1,4 +1,4 @@
-use Rattle.std.proofs.Common.{◌≡◌, ◌↔◌, IsOk, subst}
+use Rattle.std.proofs.Common.{◌↔◌, IsOk, subst}
 use Rattle.flat_store.specs.Flat.{HasBytes}
 use Rattle.defrag_move.specs.Arena.{Storage}
 use Rattle.defrag_move.proofs.arena.Arena.store.Goals as goal
