@@ -8,7 +8,8 @@ use Rattle.sub_heaps.specs.ByPlace.{end_of, object_at, with_object, without, wit
 use Rattle.sub_heaps.specs.SubHeaps.{SubHeaps, LiesInOne, IsApartFrom, StandFrom}
 use Rattle.sub_heaps.proofs.Standing.{Each-weaker, Each-append, Each-left, Each-right, start_above}
 use Rattle.move_plan.specs.declared.moves.Move.{Move}
-use Rattle.move_plan.specs.Moving.{after_move, after_moves, IsAllowed, AreLegal, AreApart, KeepsClearOf, StaysClearOf, MayFollow}
+use Rattle.move_plan.specs.Moving.{after_move, after_moves, IsAllowed, AreLegal}
+use Rattle.move_plan.specs.inner.Following.{AreApart, KeepsClearOf, StaysClearOf, MayFollow}
 use Rattle.move_plan.proofs.Turns.{Each-three, object_at-shifted, object_at-shifted_from, Each-with_object, with_object-Each, Each-without, without-Each, allowed_object}
 
 -- ---- the object at a place, by the first that starts there or above

@@ -3,7 +3,8 @@ ghost use Rattle.std.specs.List.{All};
 ghost use Rattle.sub_heaps.specs.ByPlace.{object_at};
 ghost use Rattle.sub_heaps.specs.SubHeaps.{LiesInOne};
 ghost use Rattle.move_plan.specs.Holding.{is_pinned};
-ghost use Rattle.move_plan.specs.Moving.{AreApart, AreLegal, KeepsClearOf, MayFollow, StaysClearOf};
+ghost use Rattle.move_plan.specs.Moving.{AreLegal};
+ghost use Rattle.move_plan.specs.inner.Following.{AreApart, KeepsClearOf, MayFollow, StaysClearOf};
 
 use crate::moves::{Move, Plan};
 use crate::pinned::Pins;

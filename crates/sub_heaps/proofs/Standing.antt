@@ -4,11 +4,7 @@ use Rattle.std.specs.List.{AllPairs, AllWithin, AllByRecursion as Each}
 use Rattle.sub_heaps.specs.declared.objects.Object.{Object}
 use Rattle.sub_heaps.specs.ByPlace.{end_of}
 use Rattle.sub_heaps.specs.SubHeaps.{LiesInOne, IsRounded, StandFrom}
-
--- the end of the last object, or `from` where there is none
-abbrev pub last_end : ℕ → List Object → ℕ
-last_end from [] = from
-last_end from (o ∷ os) = last_end (end_of o) os
+pub use Rattle.sub_heaps.specs.inner.Order.{last_end}
 
 -- ---- what holds of each element, by recursion on the list
 
