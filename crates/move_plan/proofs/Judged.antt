@@ -6,17 +6,14 @@ use Rattle.std.proofs.lemmas.List.Elements.{recursion_from_All, All-from_recursi
 use Rattle.sub_heaps.specs.declared.objects.Object.{Object}
 use Rattle.sub_heaps.specs.ByPlace.{end_of, object_at, with_object, without, with_moved, shifted}
 use Rattle.sub_heaps.specs.SubHeaps.{SubHeaps, LiesInOne, IsApartFrom, StandFrom}
+use Rattle.sub_heaps.proofs.Edits.{object_at-above, Each-with_object, with_object-Each, Each-without, without-Each}
 use Rattle.sub_heaps.proofs.Standing.{Each-weaker, Each-append, Each-left, Each-right, start_above}
 use Rattle.move_plan.specs.declared.moves.Move.{Move}
 use Rattle.move_plan.specs.Moving.{after_move, after_moves, IsAllowed, AreLegal}
 use Rattle.move_plan.specs.inner.Following.{AreApart, KeepsClearOf, StaysClearOf, MayFollow}
-use Rattle.move_plan.proofs.Turns.{Each-three, object_at-shifted, object_at-shifted_from, Each-with_object, with_object-Each, Each-without, without-Each, allowed_object}
+use Rattle.move_plan.proofs.Turns.{Each-three, object_at-shifted, object_at-shifted_from, allowed_object}
 
 -- ---- the object at a place, by the first that starts there or above
-
-object_at-above : (at : ℕ) (xs : List Object) → Each (λ x. at < x.at) xs → object_at at xs ≡ None
-object_at-above at [] above = refl
-object_at-above at (x ∷ xs) above = let other : eqb x.at at ≡ false = ne_eqb x.at at (λ same. absurd (omega (arith, same, above.0))) in rw other (object_at-above at xs above.1)
 
 abbrev pub if_there : ℕ → Option Object → Option Object
 if_there at None = None

@@ -92,9 +92,9 @@ fn stays_clear_of_others(heaps: &Heaps, earlier: &[Move], next: Move) -> bool
 fn stays_clear_of(object: Object, earlier: &[Move], next: Move) -> bool
     ensures { IsTrue result ↔ StaysClearOf next earlier.now object }
 {
-    object.at == next.from
+    are_apart(object.at, object.size, next)
+        || object.at == next.from
         || earlier.iter().any(|m| m.from == object.at)
-        || are_apart(object.at, object.size, next)
 }
 
 // Whether so many bytes from a place on have none in common with the moved object.

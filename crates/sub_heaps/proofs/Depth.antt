@@ -1,10 +1,10 @@
 -- A tree of so many objects is no deeper than twice the logarithm of their number.
-use Rattle.std.proofs.Common.{◌≡◌, ℕ, ◌+◌, ◌*◌, ◌/◌, ◌^◌, ◌<◌, ◌≤◌, max, length, length-append, ◌∷◌, inl, inr, arith}
+use Rattle.std.proofs.Common.{◌≡◌, ℕ, ◌+◌, ◌*◌, ◌/◌, ◌^◌, ◌≤◌, length, length-append, ◌∷◌, inl, inr, arith}
 use Rattle.std.proofs.lemmas.Bool.{cases_lt}
 use Rattle.std.proofs.Math.Pow.{pow_mono}
 use Rattle.sub_heaps.specs.declared.tree.Tree.{Tree}
 use Rattle.sub_heaps.specs.declared.tree.Tree.TheVariants.{Empty, Fork'}
-use Rattle.sub_heaps.specs.inner.Trees.{objects_of, height_of, DifferByAtMost, IsTree}
+use Rattle.sub_heaps.specs.inner.Trees.{objects_of, height_of, IsTree}
 
 -- twice a power of two is the next one
 twice : (k : ℕ) → 2 ^ (k + 1) ≡ 2 * 2 ^ k

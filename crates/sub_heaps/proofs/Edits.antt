@@ -1,7 +1,8 @@
 -- What an edit of the list gives where the place of the object in it is known.
-use Rattle.std.proofs.Common.{◌≡◌, ℕ, ◌<◌, ◌≤◌, List, [], ◌∷◌, ◌++◌, Option, Some, None, refl, ap, ◌∙◌, arith}
+use Rattle.std.proofs.Common.{◌≡◌, ◌≢◌, ℕ, ◌<◌, ◌≤◌, true, false, cond, eqb, ltb, not, List, [], ◌∷◌, ◌++◌, Some, None, refl, ap, inl, inr, arith}
 use Rattle.std.specs.List.{AllByRecursion as Each, find}
 use Rattle.std.specs.Bool.{nat_le}
+use Rattle.std.proofs.lemmas.Bool.{cases_eq, eq-eqb, ne_eqb, eqb-true, eqb-false}
 use Rattle.std.proofs.lemmas.Bool.Decides.{nat_tests}
 use Rattle.sub_heaps.specs.declared.objects.Object.{Object}
 use Rattle.sub_heaps.specs.ByPlace.{object_at, with_object, without}
@@ -68,3 +69,55 @@ with_object-split new (x ∷ xs) ys below above = grind (arith, nat_tests, below
 pub first_from-skip : (from : ℕ) (xs ys : List Object) → Each (λ x. x.at < from) xs → find (λ o. nat_le from o.at) (xs ++ ys) ≡ find (λ o. nat_le from o.at) ys
 first_from-skip from [] ys below = refl
 first_from-skip from (x ∷ xs) ys below = grind (arith, nat_tests, below.0, first_from-skip from xs ys below.1)
+
+-- ---- the object at a place, after an edit
+
+pub object_at-without_same : (at : ℕ) (xs : List Object) → object_at at (without at xs) ≡ None
+object_at-without_same at [] = refl
+object_at-without_same at (x ∷ xs) = elim (cases_eq x.at at) [
+  | inl here ↦ let gone : eqb x.at at ≡ true = eq-eqb x.at at here in rw gone (object_at-without_same at xs)
+  | inr kept ↦ let stays : eqb x.at at ≡ false = ne_eqb x.at at kept in rw (stays, stays) (object_at-without_same at xs)
+]
+
+pub object_at-with_object : (f : ℕ) (new : Object) (xs : List Object) → new.at ≢ f → object_at f (with_object new xs) ≡ object_at f xs
+object_at-with_object f new [] other = let skipped : eqb new.at f ≡ false = ne_eqb new.at f other in rw skipped refl
+object_at-with_object f new (x ∷ xs) other =
+    let skipped : eqb new.at f ≡ false = ne_eqb new.at f other in
+    elim (ltb new.at x.at) as (λ t. object_at f (cond t (new ∷ x ∷ xs) (x ∷ with_object new xs)) ≡ object_at f (x ∷ xs)) [
+      | true ↦ rw skipped refl
+      | false ↦ ap (cond (eqb x.at f) (Some x)) (object_at-with_object f new xs other)
+    ]
+
+-- ---- what holds of each object
+
+pub Each-with_object : (P : Object → Type 0) (new : Object) (xs : List Object) → P new → Each P xs → Each P (with_object new xs)
+Each-with_object P new [] holds each = (holds, tt)
+Each-with_object P new (x ∷ xs) holds each =
+    elim (ltb new.at x.at) as (λ t. Each P (cond t (new ∷ x ∷ xs) (x ∷ with_object new xs))) [
+      | true ↦ (holds, each)
+      | false ↦ (each.0, Each-with_object P new xs holds each.1)
+    ]
+
+pub with_object-Each : (P : Object → Type 0) (new : Object) (xs : List Object) → Each P (with_object new xs) → P new × Each P xs
+with_object-Each P new [] each = (each.0, tt)
+with_object-Each P new (x ∷ xs) each =
+    elim (ltb new.at x.at) as (λ t. Each P (cond t (new ∷ x ∷ xs) (x ∷ with_object new xs)) → P new × Each P (x ∷ xs)) [
+      | true ↦ λ each. (each.0, each.1)
+      | false ↦ λ each. let rest = with_object-Each P new xs each.1 in (rest.0, (each.0, rest.1))
+    ] each
+
+pub Each-without : (P : Object → Type 0) (at : ℕ) (xs : List Object) → Each (λ o. o.at ≢ at → P o) xs → Each P (without at xs)
+Each-without P at [] each = tt
+Each-without P at (x ∷ xs) each =
+    elim (eqb x.at at) as (λ t. eqb x.at at ≡ t → Each P (cond (not t) (x ∷ without at xs) (without at xs))) [
+      | true ↦ λ is. Each-without P at xs each.1
+      | false ↦ λ is. (each.0 (eqb-false x.at at is), Each-without P at xs each.1)
+    ] refl
+
+pub without-Each : (P : Object → Type 0) (at : ℕ) (xs : List Object) → Each P (without at xs) → Each (λ o. o.at ≢ at → P o) xs
+without-Each P at [] each = tt
+without-Each P at (x ∷ xs) each =
+    elim (eqb x.at at) as (λ t. eqb x.at at ≡ t → Each P (cond (not t) (x ∷ without at xs) (without at xs)) → Each (λ o. o.at ≢ at → P o) (x ∷ xs)) [
+      | true ↦ λ is each. (λ other. absurd (other (eqb-true x.at at is)), without-Each P at xs each)
+      | false ↦ λ is each. (λ other. each.0, without-Each P at xs each.1)
+    ] refl each

@@ -1,15 +1,15 @@
 -- Where an object fits: in a gap before an object, or above all of them.
-use Rattle.std.proofs.Common.{ℕ, ◌+◌, ◌*◌, ◌%◌, ◌<◌, ◌≤◌, List, [], ◌∷◌, ◌⊎◌, inl, inr, arith}
-use Rattle.std.specs.List.{All, AllByRecursion as Each}
+use Rattle.std.proofs.Common.{ℕ, ◌+◌, ◌*◌, ◌<◌, ◌≤◌, List, [], ◌∷◌, ◌⊎◌, inl, inr, arith}
+use Rattle.std.specs.List.{AllByRecursion as Each}
 use Rattle.std.proofs.lemmas.List.Elements.{recursion_from_All}
 use Rattle.sub_heaps.specs.declared.objects.Object.{Object}
 use Rattle.sub_heaps.specs.ByPlace.{end_of}
-use Rattle.sub_heaps.specs.SubHeaps.{SubHeaps, LiesInOne, IsRounded, IsApartFrom, StandFrom, FitsAt, IsLowestFit, IsSound}
+use Rattle.sub_heaps.specs.SubHeaps.{SubHeaps, LiesInOne, IsApartFrom, StandFrom, FitsAt, IsLowestFit, IsSound}
 use Rattle.sub_heaps.specs.inner.Order.{InOrder, last_end}
 use Rattle.sub_heaps.specs.inner.Gaps.{LiesBefore, IsGapBefore, IsLowestBefore}
 use Rattle.sub_heaps.proofs.Blocks.{end_inside}
 use Rattle.sub_heaps.proofs.Gaps.{IsFirstInside, gap_above, gap_below}
-use Rattle.sub_heaps.proofs.Standing.{Each-weaker, each_at, end_below, start_above, last_end-le, each_inside}
+use Rattle.sub_heaps.proofs.Standing.{Each-weaker, each_at, end_below, last_end-le, each_inside}
 
 -- objects that stand in sub-heaps are in order
 pub stand_in_order : (count size from : ℕ) (xs : List Object) → 0 < size → count * size ≤ 268435456 → from ≤ count * size → StandFrom count size from xs → InOrder from xs

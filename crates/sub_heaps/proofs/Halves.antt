@@ -13,9 +13,9 @@ use Rattle.sub_heaps.specs.declared.tree.Node.{Node}
 use Rattle.sub_heaps.specs.declared.tree.Tree.TheVariants.{Fork}
 use Rattle.sub_heaps.specs.ByPlace.{end_of, object_at, with_object, without}
 use Rattle.sub_heaps.specs.inner.Order.{InOrder, last_end}
-use Rattle.sub_heaps.specs.inner.Trees.{objects_of, height_of, DifferByAtMost, IsTree, AreSides, AreApart, IsOrdered}
+use Rattle.sub_heaps.specs.inner.Trees.{objects_of, height_of, IsTree, AreSides, AreApart, IsOrdered}
 use Rattle.sub_heaps.proofs.Edits.{object_at-skip, object_at-front, object_at-split, without-skip, without-front, without-split, with_object-skip, with_object-front, first_from-skip}
-use Rattle.sub_heaps.proofs.Order.{InOrder-left, InOrder-right, InOrder-append, InOrder-weaker, from-le-last, start_before, start_behind}
+use Rattle.sub_heaps.proofs.Order.{InOrder-left, InOrder-right, InOrder-append, InOrder-weaker, start_before, start_behind}
 use Rattle.sub_heaps.proofs.Standing.{Each-weaker}
 
 -- ---- lists in order, split at an object

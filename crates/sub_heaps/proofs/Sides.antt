@@ -1,12 +1,11 @@
 -- The sides of a node, where one of two sides is opened.
-use Rattle.std.proofs.Common.{◌≡◌, ℕ, ◌+◌, ◌≤◌, max, List, ◌∷◌, ◌++◌, Box, arith}
+use Rattle.std.proofs.Common.{ℕ, Box, arith}
 use Rattle.std.specs.declared.alloc.Global.{Global}
 use Rattle.sub_heaps.specs.declared.objects.Object.{Object}
 use Rattle.sub_heaps.specs.declared.tree.Tree.{Tree}
 use Rattle.sub_heaps.specs.declared.tree.Node.{Node}
 use Rattle.sub_heaps.specs.declared.tree.Tree.TheVariants.{Fork}
-use Rattle.sub_heaps.specs.inner.Order.{InOrder}
-use Rattle.sub_heaps.specs.inner.Trees.{objects_of, height_of, IsTree, AreSides}
+use Rattle.sub_heaps.specs.inner.Trees.{objects_of, AreSides}
 use Rattle.sub_heaps.proofs.Order.{InOrder-inner_left, InOrder-inner_right, regrouped}
 
 -- a side, the object beside it, and what lies between that and the object

@@ -1,14 +1,14 @@
 -- What is known of two lists of objects that stand in order is known of them together.
-use Rattle.std.proofs.Common.{◌≡◌, ℕ, ◌+◌, ◌-◌, ◌%◌, ◌<◌, ◌≤◌, max, List, [], ◌∷◌, ◌++◌, refl, arith}
+use Rattle.std.proofs.Common.{◌≡◌, ℕ, ◌+◌, ◌-◌, ◌%◌, ◌≤◌, max, List, [], ◌∷◌, ◌++◌, arith}
 use Rattle.std.specs.List.{sum_by}
 use Rattle.std.proofs.lemmas.List.Sums.{sum_by-append, sum_by-cons}
 use Rattle.sub_heaps.specs.declared.objects.Object.{Object}
 use Rattle.sub_heaps.specs.declared.summary.Summary.{Summary}
 use Rattle.sub_heaps.specs.ByPlace.{end_of}
 use Rattle.sub_heaps.specs.inner.Order.{InOrder, last_end}
-use Rattle.sub_heaps.specs.inner.Gaps.{widest, longest_from, longest_among}
+use Rattle.sub_heaps.specs.inner.Gaps.{longest_from}
 use Rattle.sub_heaps.specs.inner.Summaries.{extent_from, first_start, summary_of, joined, IsBounded, AreInOrder}
-use Rattle.sub_heaps.proofs.Order.{IsCons, from_bounded, last_bounded, from-le-last, InOrder-left, InOrder-right, InOrder-weaker, last_end-append}
+use Rattle.sub_heaps.proofs.Order.{IsCons, last_bounded, InOrder-left, InOrder-right, InOrder-weaker, last_end-append}
 
 pub longest_from-append : (size from : ℕ) (xs ys : List Object) → longest_from size from (xs ++ ys) ≡ max (longest_from size from xs) (longest_from size (last_end from xs) ys)
 longest_from-append size from [] ys = omega arith

@@ -1,5 +1,5 @@
 -- One object taken out: those that are left stand in order, are found at their places, and are one fewer; and what is found at a place was there.
-use Rattle.std.proofs.Common.{◌≡◌, ◌≢◌, ℕ, ◌+◌, ◌<◌, ◌≤◌, eqb, cond, Bool, true, false, List, [], ◌∷◌, length, Some, None, IsSome, is_some, refl, sym, ap, subst, ◌∙◌, inl, inr, arith}
+use Rattle.std.proofs.Common.{◌≡◌, ◌≢◌, ℕ, ◌+◌, ◌<◌, ◌≤◌, eqb, cond, Bool, true, false, List, [], ◌∷◌, length, Some, IsSome, is_some, refl, sym, ap, subst, ◌∙◌, inl, inr, arith}
 use Rattle.std.specs.Bool.{nat_le}
 use Rattle.std.specs.List.{AllByRecursion as Each, find}
 use Rattle.std.proofs.lemmas.Bool.{cases_eq, eq-eqb, ne_eqb, eqb-true, false≢true}
@@ -79,7 +79,7 @@ element_found (x ∷ xs) =
     found_behind : (o : Object) → is_some (object_at o.at xs) ≡ true → is_some (object_at o.at (x ∷ xs)) ≡ true
     found_behind o there = elim (eqb x.at o.at) as (λ t. is_some (cond t (Some x) (object_at o.at xs)) ≡ true) [ true ↦ refl | false ↦ there ]
 
-pub find_each : (P : Object → Type 0) (p : Object → Bool) (xs : List Object) (o : Object) → find p xs ≡ Some o → Each P xs → P o
+pub find_each : {X : Type 0} (P : X → Type 0) (p : X → Bool) (xs : List X) (o : X) → find p xs ≡ Some o → Each P xs → P o
 find_each P p [] o found each = absurd cc
 find_each P p (x ∷ xs) o found each =
     elim (p x) as (λ t. cond t (Some x) (find p xs) ≡ Some o → P o) [

@@ -42,6 +42,7 @@ impl Heaps {
         requires { IsShape count size most }
         ensures made { IfOk result (λ h. h ≡ record { count = count; size = size; most = most; objects = [] }) }
         ensures sound { IfOk result IsSound }
+        ensures aligned { IfOk result IsAligned }
     {
         let spare = spare_nodes(alloc, most)?;
         Ok(Heaps {
@@ -82,6 +83,7 @@ impl Heaps {
         // The object stands there from now on.
         ensures placed { IfSome result (λ at. self.new ≡ record self.old { objects = with_object (record { at = at; size = rounded bytes; owner = owner }) self.old.objects }) }
         ensures unchanged { IfNone result (self.new ≡ self.old) }
+        ensures still_aligned { IsAligned self.old → IsAligned self.new }
         ensures sound { IsSound self.new }
     {
         let size = size_within(bytes, self.size)?;
@@ -94,6 +96,7 @@ impl Heaps {
     pub fn free(&mut self, at: u32)
         requires { IsSome (object_at at self.old.objects) }
         ensures freed { self.new ≡ record self.old { objects = without at self.old.objects } }
+        ensures still_aligned { IsAligned self.old → IsAligned self.new }
         ensures sound { IsSound self.new }
     {
         self.take(at);
@@ -103,6 +106,7 @@ impl Heaps {
     pub fn shift(&mut self, from: u32, to: u32)
         requires { IsSomeAnd (object_at from self.old.objects) (λ o. FitsAt (record self.old { objects = without from self.old.objects }) o.size to) }
         ensures moved { self.new ≡ record self.old { objects = shifted from to self.old.objects } }
+        ensures still_aligned { to % 16 ≡ 0 → IsAligned self.old → IsAligned self.new }
         ensures sound { IsSound self.new }
     {
         let object = self.take(from);

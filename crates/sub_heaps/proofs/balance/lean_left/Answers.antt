@@ -1,4 +1,4 @@
-use Rattle.std.proofs.Common.{◌≡◌, subst}
+use Rattle.std.proofs.Common.{subst}
 use Rattle.sub_heaps.specs.inner.Trees.{AreSides}
 use Rattle.sub_heaps.proofs.Sides.{inner_right, inner_left, own_right}
 use Rattle.sub_heaps.proofs.balance.lean_left.Goals as goal

@@ -1,7 +1,6 @@
-use Rattle.std.proofs.Common.{◌≡◌, ◌+◌, ◌<◌, ◌≤◌, ◌∷◌, ◌++◌, ◌∙◌, sym, subst, Some, IsSome, arith}
-use Rattle.sub_heaps.specs.declared.tree.Tree.TheVariants.{Fork}
+use Rattle.std.proofs.Common.{◌≡◌, ◌<◌, ◌∙◌, subst, IsSome, arith}
 use Rattle.sub_heaps.specs.ByPlace.{object_at, without}
-use Rattle.sub_heaps.specs.inner.Trees.{objects_of, height_of, IsOrdered}
+use Rattle.sub_heaps.specs.inner.Trees.{objects_of, IsOrdered}
 use Rattle.sub_heaps.proofs.Halves.{left_ordered, right_ordered, left_found, left_shrunk, left_shrunk_sides, right_found, right_shrunk, right_shrunk_sides, own_found, own_gone, sides_apart, left_smaller, right_smaller}
 use Rattle.sub_heaps.proofs.changes.+remove.Goals as goal
 

@@ -1,4 +1,4 @@
-use Rattle.std.proofs.Common.{◌≡◌, ◌+◌, ◌<◌, ◌≤◌, ◌∷◌, ◌++◌, length, refl, subst, arith}
+use Rattle.std.proofs.Common.{◌≡◌, ◌<◌, ◌≤◌, ◌∷◌, length, refl, subst, arith}
 use Rattle.sub_heaps.specs.declared.tree.Tree.TheVariants.{Fork}
 use Rattle.sub_heaps.specs.inner.Trees.{objects_of, height_of}
 use Rattle.sub_heaps.proofs.Halves.{left_ordered, lowest_gone_sides, left_smaller}

@@ -1,4 +1,4 @@
-use Rattle.std.proofs.Common.{◌≡◌, ◌≤◌, ◌∷◌, subst}
+use Rattle.std.proofs.Common.{subst}
 use Rattle.sub_heaps.specs.inner.Trees.{AreApart}
 use Rattle.sub_heaps.proofs.Halves.{topmost_ordered, melded_sides}
 use Rattle.sub_heaps.proofs.changes.meld.Goals as goal

@@ -1,4 +1,4 @@
-use Rattle.std.proofs.Common.{◌≡◌, ℕ, ◌+◌, ◌<◌, ◌≤◌, max, ◌∷◌, ◌++◌, Option, Some, None, IfSome, IfNone, sym, subst, arith}
+use Rattle.std.proofs.Common.{◌≡◌, ℕ, ◌+◌, ◌<◌, max, ◌∷◌, Option, Some, None, IfSome, IfNone, subst, arith}
 use Rattle.sub_heaps.specs.declared.tree.Tree.TheVariants.{Fork}
 use Rattle.sub_heaps.specs.ByPlace.{end_of}
 use Rattle.sub_heaps.specs.inner.Order.{InOrder, last_end}

@@ -1,4 +1,4 @@
-use Rattle.std.proofs.Common.{◌≡◌, ◌<◌, ◌≤◌, ◌∙◌, ap, sym, subst, rules, arith}
+use Rattle.std.proofs.Common.{◌≡◌, ◌<◌, ◌≤◌, ◌∙◌, ap, sym, subst, arith}
 use Rattle.std.specs.List.{find}
 use Rattle.std.specs.Bool.{nat_le}
 use Rattle.sub_heaps.specs.declared.tree.Tree.{Tree}

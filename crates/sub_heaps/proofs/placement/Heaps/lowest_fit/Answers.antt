@@ -1,4 +1,4 @@
-use Rattle.std.proofs.Common.{◌≡◌, ◌+◌, ◌*◌, ◌<◌, ◌≤◌, sym, ap, subst, arith}
+use Rattle.std.proofs.Common.{◌≡◌, sym, ap, subst, arith}
 use Rattle.sub_heaps.specs.SubHeaps.{SubHeaps, FitsAt, IsLowestFit}
 use Rattle.sub_heaps.specs.inner.Order.{last_end}
 use Rattle.sub_heaps.specs.inner.Pools.{heaps_of}

@@ -1,8 +1,7 @@
-use Rattle.std.proofs.Common.{◌≡◌, ◌+◌, ◌<◌, ◌≤◌, length, sym, subst, arith}
+use Rattle.std.proofs.Common.{◌≡◌, ◌<◌, length, sym, subst, arith}
 use Rattle.sub_heaps.specs.declared.tree.Tree.TheVariants.{Fork}
 use Rattle.sub_heaps.specs.ByPlace.{with_object}
 use Rattle.sub_heaps.specs.SubHeaps.{SubHeaps, FitsAt}
-use Rattle.sub_heaps.specs.inner.Pools.{heaps_of}
 use Rattle.sub_heaps.specs.inner.Trees.{objects_of}
 use Rattle.sub_heaps.proofs.Kept.{tree_ordered, with_object_in_order, IsKept-with_object}
 use Rattle.sub_heaps.proofs.placement.Heaps.put.Goals as goal

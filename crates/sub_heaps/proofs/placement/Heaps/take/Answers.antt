@@ -1,4 +1,4 @@
-use Rattle.std.proofs.Common.{◌≡◌, ◌+◌, ◌≤◌, Some, IsSome, sym, subst, arith}
+use Rattle.std.proofs.Common.{◌≡◌, Some, IsSome, sym, subst, arith}
 use Rattle.sub_heaps.specs.ByPlace.{object_at, without}
 use Rattle.sub_heaps.specs.SubHeaps.{SubHeaps, IsRounded}
 use Rattle.sub_heaps.specs.inner.Trees.{objects_of}

@@ -2,7 +2,7 @@ use Rattle.std.proofs.Common.{◌≡◌, ap, subst, arith}
 use Rattle.sub_heaps.specs.declared.summary.Summary.{Summary}
 use Rattle.sub_heaps.specs.declared.tree.Tree.TheVariants.{Fork}
 use Rattle.sub_heaps.specs.inner.Order.{InOrder}
-use Rattle.sub_heaps.specs.inner.Summaries.{summary_of, extent_from, first_start}
+use Rattle.sub_heaps.specs.inner.Summaries.{summary_of}
 use Rattle.sub_heaps.specs.inner.Trees.{objects_of, IsTree}
 use Rattle.sub_heaps.proofs.Order.{IsCons-append}
 use Rattle.sub_heaps.proofs.Summing.{summary_bounded, extent_from-start}
