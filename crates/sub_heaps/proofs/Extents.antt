@@ -7,9 +7,9 @@ use Rattle.std.proofs.lemmas.List.Sums.{sum_by-cons}
 use Rattle.std.proofs.lemmas.Nat.{mul-le}
 use Rattle.sub_heaps.specs.declared.objects.Object.{Object}
 use Rattle.sub_heaps.specs.ByPlace.{end_of}
-use Rattle.sub_heaps.specs.SubHeaps.{LiesInOne, StandFrom, extent_of}
+use Rattle.sub_heaps.specs.SubHeaps.{SubHeaps, LiesInOne, StandFrom, IsSound, extent_of}
+use Rattle.sub_heaps.specs.inner.Summaries.{extent_from}
 use Rattle.sub_heaps.proofs.Blocks.{place_parts}
-use Rattle.sub_heaps.proofs.Gaps.{among}
 
 -- ---- sums over the numbers from `low` on
 
@@ -46,11 +46,6 @@ sum_from-raise f g k more at others low (suc n) le lt = elim (cases_eq low k) [
     at_low = at
 
 -- ---- the extent by one walk
-
--- what the objects from `end` on add
-abbrev pub extent_from : (size end : ℕ) → List Object → ℕ
-extent_from size end [] = 0
-extent_from size end (o ∷ os) = (end_of o - max (o.at - o.at % size) end) + extent_from size (end_of o) os
 
 -- the distance that sub-heap k's objects reach, from what was reached so far
 abbrev pub reach_from : (size best k : ℕ) → List Object → ℕ
@@ -108,7 +103,7 @@ module _ (count size : ℕ) (some : 0 < size) where
       let raised = sum_from-raise best (with_reach size o best) (o.at / size) (end_of o - max (o.at - o.at % size) end) (with_reach-at o end best stand.0 has stand.1 reaches) (with_reach-other o best) 0 count (omega arith) (omega arith) in
       omega (arith, first, rest, raised)
 
-  pub extent_from-extent_of : (xs : List Object) → StandFrom count size 0 xs → extent_from size 0 xs ≡ extent_of (among count size xs)
-  extent_from-extent_of xs stand =
-      let whole = reach_from-extent_from 0 xs stand (λ _. 0) (λ k above. omega arith) in
-      omega (arith, whole, sum_from-zero 0 count)
+pub extent_from-extent_of : (h : SubHeaps) → IsSound h → extent_from h.size 0 h.objects ≡ extent_of h
+extent_from-extent_of h sound =
+    let whole = reach_from-extent_from h.count h.size (omega (arith, sound.shape.size_least)) 0 h.objects sound.stand (λ _. 0) (λ k above. omega arith) in
+    omega (arith, whole, sum_from-zero 0 h.count)

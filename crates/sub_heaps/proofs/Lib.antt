@@ -1,8 +1,15 @@
 pub mod Aligned
 pub mod Blocks
+pub mod Depth
 pub mod Edits
 pub mod Extents
+pub mod Fits
 pub mod Gaps
+pub mod Halves
 pub mod Kept
-pub mod Shifts
+pub mod Knowing
+pub mod Order
+pub mod Sides
 pub mod Standing
+pub mod Summing
+pub mod Taken

@@ -1,14 +1,10 @@
 -- Objects that stand in order: what a part of the list keeps, and when a list stands again after it was put together.
-use Rattle.std.proofs.Common.{◌≡◌, ℕ, suc, zero, ◌<◌, ◌≤◌, List, [], ◌∷◌, ◌++◌, length, get_or, take, drop, refl, ap, arith}
-use Rattle.std.specs.List.{AllPairs, AllWithin, AllByRecursion as Each}
+use Rattle.std.proofs.Common.{ℕ, suc, zero, ◌<◌, ◌≤◌, List, [], ◌∷◌, ◌++◌, length, get_or, take, arith}
+use Rattle.std.specs.List.{AllByRecursion as Each}
 use Rattle.sub_heaps.specs.declared.objects.Object.{Object}
 use Rattle.sub_heaps.specs.ByPlace.{end_of}
 use Rattle.sub_heaps.specs.SubHeaps.{LiesInOne, IsRounded, StandFrom}
-
--- the end of the last object, or `from` where there is none
-abbrev pub last_end : ℕ → List Object → ℕ
-last_end from [] = from
-last_end from (o ∷ os) = last_end (end_of o) os
+pub use Rattle.sub_heaps.specs.inner.Order.{last_end}
 
 -- ---- what holds of each element, by recursion on the list
 
@@ -32,28 +28,10 @@ pub Each-right : {X : Type 0} (P : X → Type 0) (xs ys : List X) → Each P (xs
 Each-right P [] ys h = h
 Each-right P (x ∷ xs) ys h = Each-right P xs ys h.1
 
--- from what holds of the places below an index, and from it on
-pub Each-take : {X : Type 0} (P : X → Type 0) (xs : List X) (i : ℕ) → i ≤ length xs → AllWithin P xs 0 i → Each P (take i xs)
-Each-take P xs zero within h = tt
-Each-take P [] (suc i) within h = tt
-Each-take P (x ∷ xs) (suc i) within h = (h 0 x (omega arith) (omega arith), Each-take P xs i (omega arith) (λ k d low high. h (suc k) d (omega arith) (omega arith)))
-
-pub Each-drop : {X : Type 0} (P : X → Type 0) (xs : List X) (i : ℕ) → AllWithin P xs i (length xs) → Each P (drop i xs)
-Each-drop P [] zero h = tt
-Each-drop P (x ∷ xs) zero h = (h 0 x (omega arith) (omega arith), Each-drop P xs zero (λ k d low high. h (suc k) d (omega arith) (omega arith)))
-Each-drop P [] (suc i) h = tt
-Each-drop P (x ∷ xs) (suc i) h = Each-drop P xs i (λ k d low high. h (suc k) d (omega arith) (omega arith))
-
 pub each_at : {X : Type 0} (P : X → Type 0) (xs : List X) (k : ℕ) (d : X) → Each P xs → k < length xs → P (get_or xs k d)
 each_at P [] k d each within = absurd (omega arith)
 each_at P (x ∷ xs) zero d each within = each.0
 each_at P (x ∷ xs) (suc k) d each within = each_at P xs k d each.1 (omega arith)
-
--- a list is what stands before an index, the element there, and what stands behind
-pub split_at : {X : Type 0} (xs : List X) (i : ℕ) (d : X) → i < length xs → xs ≡ take i xs ++ get_or xs i d ∷ drop (suc i) xs
-split_at [] i d within = absurd (omega arith)
-split_at (x ∷ xs) zero d within = refl
-split_at (x ∷ xs) (suc i) d within = ap (λ ys. x ∷ ys) (split_at xs i d (omega arith))
 
 -- ---- objects in order
 
@@ -92,18 +70,10 @@ module _ (count size : ℕ) where
   last_end-le from top [] le ends = le
   last_end-le from top (o ∷ os) le ends = last_end-le (end_of o) top os ends.0 ends.1
 
-  pub StandFrom-left : (from : ℕ) (xs ys : List Object) → StandFrom count size from (xs ++ ys) → StandFrom count size from xs
-  StandFrom-left from [] ys stand = tt
-  StandFrom-left from (o ∷ os) ys stand = (stand.0, stand.1, stand.2, StandFrom-left (end_of o) os ys stand.3)
-
   pub StandFrom-take : (from : ℕ) (xs : List Object) (i : ℕ) → StandFrom count size from xs → StandFrom count size from (take i xs)
   StandFrom-take from xs zero stand = tt
   StandFrom-take from [] (suc i) stand = tt
   StandFrom-take from (o ∷ os) (suc i) stand = (stand.0, stand.1, stand.2, StandFrom-take (end_of o) os i stand.3)
-
-  pub StandFrom-right : (from : ℕ) (xs ys : List Object) → StandFrom count size from (xs ++ ys) → StandFrom count size (last_end from xs) ys
-  StandFrom-right from [] ys stand = stand
-  StandFrom-right from (o ∷ os) ys stand = StandFrom-right (end_of o) os ys stand.3
 
   pub StandFrom-append : (from : ℕ) (xs ys : List Object) → StandFrom count size from xs → StandFrom count size (last_end from xs) ys → StandFrom count size from (xs ++ ys)
   StandFrom-append from [] ys left right = right
@@ -113,17 +83,6 @@ module _ (count size : ℕ) where
   pub StandFrom-raise : (from high : ℕ) (xs : List Object) → Each (λ o. high ≤ o.at) xs → StandFrom count size from xs → StandFrom count size high xs
   StandFrom-raise from high [] above stand = tt
   StandFrom-raise from high (o ∷ os) above stand = (above.0, stand.1, stand.2, stand.3)
-
-  -- one object less, and one more
-  pub StandFrom-remove : (from : ℕ) (xs : List Object) (o : Object) (ys : List Object) → StandFrom count size from (xs ++ o ∷ ys) → StandFrom count size from (xs ++ ys)
-  StandFrom-remove from xs o ys stand =
-      let right = StandFrom-right from xs (o ∷ ys) stand in
-      StandFrom-append from xs ys (StandFrom-left from xs (o ∷ ys) stand) (StandFrom-tail (last_end from xs) o ys right)
-
-  pub StandFrom-insert : (from : ℕ) (xs : List Object) (o : Object) (ys : List Object) → StandFrom count size from (xs ++ ys) → from ≤ o.at → Each (λ x. end_of x ≤ o.at) xs → Each (λ x. end_of o ≤ x.at) ys → LiesInOne count size o.size o.at → IsRounded o.size → StandFrom count size from (xs ++ o ∷ ys)
-  StandFrom-insert from xs o ys stand le below above inside rounded =
-      StandFrom-append from xs (o ∷ ys) (StandFrom-left from xs ys stand)
-      (last_end-le from o.at xs le below, inside, rounded, StandFrom-raise (last_end from xs) (end_of o) ys above (StandFrom-right from xs ys stand))
 
   -- ---- by index
 
@@ -139,16 +98,3 @@ module _ (count size : ℕ) where
   start_after from [] stand i d within = absurd (omega arith)
   start_after from (o ∷ os) stand zero d within = stand.0
   start_after from (o ∷ os) stand (suc i) d within = start_after (end_of o) os stand.3 i d (omega arith)
-
-  pub last_end-more : (from : ℕ) (xs : List Object) (i : ℕ) (d : Object) → i < length xs → last_end from (take (suc i) xs) ≡ end_of (get_or xs i d)
-  last_end-more from [] i d within = absurd (omega arith)
-  last_end-more from (o ∷ os) zero d within = refl
-  last_end-more from (o ∷ os) (suc i) d within = last_end-more (end_of o) os i d (omega arith)
-
-  -- the places rise along the list
-  pub places_rise : (from : ℕ) (xs : List Object) → StandFrom count size from xs → AllPairs (λ a b. a.at < b.at) xs
-  places_rise from [] stand i j d lt within = absurd (omega arith)
-  places_rise from (o ∷ os) stand i zero d lt within = absurd (omega arith)
-  places_rise from (o ∷ os) stand zero (suc j) d lt within =
-      omega (arith, each_at (λ x. end_of o ≤ x.at) os j d (start_above (end_of o) os stand.3) (omega arith), stand.2)
-  places_rise from (o ∷ os) stand (suc i) (suc j) d lt within = places_rise (end_of o) os stand.3 i j d (omega arith) (omega arith)

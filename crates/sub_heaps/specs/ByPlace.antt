@@ -1,6 +1,6 @@
 -- The objects as a list in order of place: where one ends, which one starts at a place, and the list with one more, one less or one moved.
-use Rattle.std.specs.Prelude.{◌≡◌, ℕ, ◌+◌, ◌-◌, ◌<◌, ◌≤◌, ◌==◌, nat_lt, not, if◌then◌else◌, List, [], ◌∷◌, Option, Some, None, length, slice_index_or}
-use Rattle.std.specs.List.{AllWithin, filter, find}
+use Rattle.std.specs.Prelude.{ℕ, ◌+◌, ◌==◌, nat_lt, not, if◌then◌else◌, List, [], ◌∷◌, Option, Some, None}
+use Rattle.std.specs.List.{filter, find}
 use Rattle.sub_heaps.specs.declared.objects.Object.{Object}
 
 -- the first place after an object
@@ -28,19 +28,3 @@ with_moved (Some o) to objects = with_object (record o { at = to }) objects
 -- the list after the object that starts at `from` has moved to `to`
 abbrev pub shifted : ℕ → ℕ → List Object → List Object
 shifted from to objects = with_moved (object_at from objects) to (without from objects)
-
--- the objects of the list before this index end at or below a place, and the others start at or above another
-pub record StandsBetween (objects : List Object) (index from to : ℕ) : Type 0 where
-  pub within : index ≤ length objects
-  pub below : AllWithin (λ o. end_of o ≤ from) objects 0 index
-  pub above : AllWithin (λ o. to ≤ o.at) objects index (length objects)
-
--- the object at this index of the list starts at a place
-pub record IsIndexOf (objects : List Object) (at index : ℕ) : Type 0 where
-  pub within : index < length objects
-  pub starts : (d : Object) → (slice_index_or objects index d).at ≡ at
-
--- a place lies above the start of the object before this index, and below that of the object after it, where there are such
-pub record FallsBetween (objects : List Object) (index to : ℕ) : Type 0 where
-  pub before : (d : Object) → 0 < index → (slice_index_or objects (index - 1) d).at < to
-  pub behind : (d : Object) → index + 1 < length objects → to < (slice_index_or objects (index + 1) d).at

@@ -3,9 +3,16 @@
 //! Stands on ak_words, for want of memory.
 #![tactic(auto)]
 
+mod balance;
+mod changes;
 mod objects;
 mod placement;
 mod search;
+mod summary;
+mod tree;
 
 pub use objects::Object;
 pub use placement::Heaps;
+
+#[cfg(test)]
+mod tests;

@@ -1,15 +1,17 @@
-ghost use Rattle.std.specs.Prelude.{◌≡◌, ℕ, ◌%◌, ◌<◌, ◌≤◌, ◌↔◌, [], length, nat_le, IsSome, IsNone, IfSome, IfNone, IsSomeAnd, IfOk};
+ghost use Rattle.std.specs.Prelude.{◌≡◌, ℕ, ◌+◌, ◌%◌, ◌<◌, ◌≤◌, ◌↔◌, [], length, nat_le, Some, IsSome, IsNone, IfSome, IfNone, IsSomeAnd, IfOk};
 ghost use Rattle.std.specs.List.{find, sum_by};
 ghost use Rattle.sub_heaps.specs.ByPlace.{object_at, with_object, without, shifted};
-ghost use Rattle.sub_heaps.specs.SubHeaps.{IsShape, rounded, FitsAt, IsLowestFit, IsSound, IsAligned, extent_of};
+ghost use Rattle.std.specs.Vec.{vec_len, vec_capacity};
+ghost use Rattle.sub_heaps.specs.SubHeaps.{IsShape, rounded, IsRounded, FitsAt, IsLowestFit, IsSound, IsAligned, extent_of};
 
+use crate::changes::{insert, remove};
 use crate::objects::Object;
-use crate::search::{
-    extent_among, index_from, index_of, insert_with_room, keeps_order, lowest_gap, size_within,
-};
+use crate::search::{first_inside, lowest_before, next_from, size_within};
+use crate::tree::{Node, Tree};
 use ak_words::NoMemory;
 use std::alloc::Global;
 use std::marker::Model;
+use std::mem;
 
 /// Sub-heaps of one size, one after the other from place 0, and the objects that live in them.
 #[derive(Debug, Drop)]
@@ -17,20 +19,21 @@ pub struct Heaps {
     count: u32,
     size: u32,
     most: u32,
-    objects: Vec<Object>,
+    tree: Tree,
+    spare: Vec<Box<Node>>,
 }
 
 // Clauses see the shape, and the list of the objects in order of place.
 impl Model for Heaps {
-    ghost use Rattle.std.specs.Prelude.{◌≤◌};
-    ghost use Rattle.std.specs.Vec.{vec_capacity};
-    ghost use Rattle.sub_heaps.specs.SubHeaps.{SubHeaps, IsSound};
+    ghost use Rattle.std.specs.Vec.{vec_len, vec_capacity};
+    ghost use Rattle.sub_heaps.specs.SubHeaps.{SubHeaps};
+    ghost use Rattle.sub_heaps.specs.inner.Pools.{heaps_of, IsKept};
 
     ghost Value = { SubHeaps };
 
-    ghost view = { λ h. record { count = h.count; size = h.size; most = h.most; objects = h.objects.items } };
+    ghost view = { λ h. heaps_of h.count h.size h.most h.tree };
 
-    ghost invariant = { λ h. IsSound (record { count = h.count; size = h.size; most = h.most; objects = h.objects.items }) × (h.most ≤ vec_capacity h.objects) };
+    ghost invariant = { λ h. IsKept h.count h.size h.most h.tree (vec_len h.spare) (vec_capacity h.spare) };
 }
 
 impl Heaps {
@@ -39,13 +42,15 @@ impl Heaps {
         requires { IsShape count size most }
         ensures made { IfOk result (λ h. h ≡ record { count = count; size = size; most = most; objects = [] }) }
         ensures sound { IfOk result IsSound }
+        ensures aligned { IfOk result IsAligned }
     {
-        let objects = Vec::with_capacity(alloc, most as usize)?;
+        let spare = spare_nodes(alloc, most)?;
         Ok(Heaps {
             count,
             size,
             most,
-            objects,
+            tree: Tree::Empty,
+            spare,
         })
     }
 
@@ -78,47 +83,34 @@ impl Heaps {
         // The object stands there from now on.
         ensures placed { IfSome result (λ at. self.new ≡ record self.old { objects = with_object (record { at = at; size = rounded bytes; owner = owner }) self.old.objects }) }
         ensures unchanged { IfNone result (self.new ≡ self.old) }
+        ensures still_aligned { IsAligned self.old → IsAligned self.new }
         ensures sound { IsSound self.new }
     {
         let size = size_within(bytes, self.size)?;
-        let gap = lowest_gap(&self.objects, self.count, self.size, size)?;
-        let object = Object {
-            at: gap.at,
-            size,
-            owner,
-        };
-        insert_with_room(&mut self.objects, gap.index, object);
-        Some(gap.at)
+        let at = self.lowest_fit(size)?;
+        self.put(Object { at, size, owner });
+        Some(at)
     }
 
     /// Takes away the object that starts at `at`.
     pub fn free(&mut self, at: u32)
         requires { IsSome (object_at at self.old.objects) }
         ensures freed { self.new ≡ record self.old { objects = without at self.old.objects } }
+        ensures still_aligned { IsAligned self.old → IsAligned self.new }
         ensures sound { IsSound self.new }
     {
-        let freed = index_of(&self.objects, at);
-        self.objects.remove(freed);
+        self.take(at);
     }
 
     /// Moves the object that starts at `from` to `to`, where it lies in one sub-heap and overlaps no other.
     pub fn shift(&mut self, from: u32, to: u32)
         requires { IsSomeAnd (object_at from self.old.objects) (λ o. FitsAt (record self.old { objects = without from self.old.objects }) o.size to) }
         ensures moved { self.new ≡ record self.old { objects = shifted from to self.old.objects } }
+        ensures still_aligned { to % 16 ≡ 0 → IsAligned self.old → IsAligned self.new }
         ensures sound { IsSound self.new }
     {
-        let index = index_of(&self.objects, from);
-        let object = Object {
-            at: to,
-            ..self.objects[index]
-        };
-        if keeps_order(&self.objects, index, to) {
-            self.objects[index] = object;
-        } else {
-            self.objects.remove(index);
-            let index = index_from(&self.objects, to);
-            insert_with_room(&mut self.objects, index, object);
-        }
+        let object = self.take(from);
+        self.put(Object { at: to, ..object });
     }
 
     /// The lowest object that starts at or after `from`.
@@ -126,8 +118,7 @@ impl Heaps {
         ensures next { result ≡ find (λ o. nat_le from o.at) self.now.objects }
         ensures sound { IsSound self.now }
     {
-        let index = index_from(&self.objects, from);
-        self.objects.get(index).copied()
+        next_from(&self.tree, from)
     }
 
     /// How many objects live, and how many bytes they take together.
@@ -135,12 +126,8 @@ impl Heaps {
         ensures live { result ≡ (length self.now.objects, sum_by (λ o. o.size) self.now.objects) }
         ensures sound { IsSound self.now }
     {
-        let bytes = self
-            .objects
-            .iter()
-            .map(|object| u64::from(object.size))
-            .sum();
-        (self.objects.len() as u32, bytes)
+        let count = self.most - self.spare.len() as u32;
+        (count, u64::from(self.tree.bytes()))
     }
 
     /// How far the objects reach into their sub-heaps: the distances from each sub-heap's start to the end of
@@ -149,51 +136,81 @@ impl Heaps {
         ensures extent { result ≡ extent_of self.now }
         ensures sound { IsSound self.now }
     {
-        u64::from(extent_among(&self.objects, self.count, self.size))
+        u64::from(self.tree.extent(self.size))
+    }
+
+    // The lowest place at which so many bytes lie in one sub-heap and overlap no object.
+    fn lowest_fit(&self, bytes: u32) -> Option<u32>
+        requires some { 1 ≤ bytes }
+        requires within { bytes ≤ self.now.size }
+        ensures lowest { IfSome result (IsLowestFit self.now bytes) }
+        ensures none { IfNone result ((at : ℕ) → ¬ FitsAt self.now bytes at) }
+        ensures sound { IsSound self.now }
+    {
+        if let Some(at) = lowest_before(&self.tree, 0, bytes, self.size) {
+            return Some(at);
+        }
+        let at = first_inside(self.tree.end(0), bytes, self.size);
+        if at + bytes <= self.count * self.size {
+            Some(at)
+        } else {
+            None
+        }
+    }
+
+    // Puts an object where it fits, with a spare node.
+    fn put(&mut self, object: Object)
+        requires room { length self.old.objects < self.old.most }
+        requires rounded { IsRounded object.size }
+        requires fits { FitsAt self.old object.size object.at }
+        ensures put { self.new ≡ record self.old { objects = with_object object self.old.objects } }
+        ensures sound { IsSound self.new }
+    {
+        let Some(mut node) = self.spare.pop() else {
+            unreachable!()
+        };
+        node.object = object;
+        let tree = mem::replace(&mut self.tree, Tree::Empty);
+        self.tree = Tree::Fork(insert(tree, node, self.size));
+    }
+
+    // Takes away the object that starts at `at`, and gives its node back.
+    fn take(&mut self, at: u32) -> Object
+        requires { IsSome (object_at at self.old.objects) }
+        ensures object { object_at at self.old.objects ≡ Some result }
+        ensures rounded { IsRounded result.size }
+        ensures room { length self.new.objects < self.new.most }
+        ensures taken { self.new ≡ record self.old { objects = without at self.old.objects } }
+        ensures sound { IsSound self.new }
+    {
+        let tree = mem::replace(&mut self.tree, Tree::Empty);
+        let (node, tree) = remove(tree, at, self.size);
+        let object = node.object;
+        self.tree = tree;
+        give_back(&mut self.spare, node);
+        object
     }
 }
 
-#[cfg(test)]
-mod tests {
-    use super::*;
-    use std::test::Fail;
-
-    #[test]
-    fn takes_the_lowest_places(rt: HostRuntime) -> Result<(), Fail> {
-        let mut heaps = Heaps::new(rt.alloc(), 2, 64, 8)?;
-        let wanted = [
-            (0, Some(0)),
-            (49, Some(64)),
-            (32, Some(16)),
-            (1, Some(48)),
-            (1, None),
-            (65, None),
-            (u64::MAX, None),
-        ];
-        for (bytes, place) in wanted {
-            assert!(rt; heaps.live().0 < 8);
-            assert_eq!(rt; heaps.place(bytes, 1), place, "{bytes} bytes");
-        }
-        assert_eq!(rt; (heaps.count(), heaps.size()), (2, 64));
-        assert_eq!(rt; heaps.live(), (4, 128));
-        assert_eq!(rt; heaps.extent(), 128);
-        Ok(())
+// Puts a node to the spare ones, among which there is room for it.
+fn give_back(spare: &mut Vec<Box<Node>>, node: Box<Node>)
+    requires { vec_len spare.old < vec_capacity spare.old }
+    ensures more { vec_len spare.new ≡ vec_len spare.old + 1 }
+    ensures capacity { vec_capacity spare.old ≤ vec_capacity spare.new }
+{
+    match spare.push(node) {
+        Ok(()) => {}
+        Err(_) => unreachable!(),
     }
+}
 
-    #[test]
-    fn moves_and_frees_an_object(rt: HostRuntime) -> Result<(), Fail> {
-        let mut heaps = Heaps::new(rt.alloc(), 1, 4096, 1)?;
-        assert_eq!(rt; heaps.place(16, 7), Some(0));
-        heaps.shift(0, 64);
-        let moved = Object {
-            at: 64,
-            size: 16,
-            owner: 7,
-        };
-        assert_eq!(rt; heaps.next_object(1), Some(moved));
-        assert_eq!(rt; heaps.next_object(65), None);
-        heaps.free(64);
-        assert_eq!(rt; heaps.live(), (0, 0));
-        Ok(())
+// So many nodes that hold no object.
+fn spare_nodes(alloc: Global, most: u32) -> Result<Vec<Box<Node>>, NoMemory>
+    ensures { IfOk result (λ nodes. (vec_len nodes ≡ most) × (most ≤ vec_capacity nodes)) }
+{
+    let mut nodes = Vec::with_capacity(alloc, most as usize)?;
+    for _made in 0..most {
+        nodes.push(Box::new(alloc, Node::spare())?)?;
     }
+    Ok(nodes)
 }

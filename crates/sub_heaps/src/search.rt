@@ -1,17 +1,13 @@
-ghost use Rattle.std.specs.Prelude.{◌≡◌, ℕ, ◌+◌, ◌-◌, ◌*◌, ◌%◌, ◌^◌, ◌<◌, ◌≤◌, ◌↔◌, length, IsTrue, IsSome, IfSome, IfNone, MatchOption, slice_index_or, vec_len};
-ghost use Rattle.std.specs.List.{AllPairs, AllWithin, insert};
-ghost use Rattle.std.specs.Vec.{vec_capacity};
-ghost use Rattle.sub_heaps.specs.ByPlace.{FallsBetween, IsIndexOf, StandsBetween, object_at};
-ghost use Rattle.sub_heaps.specs.SubHeaps.{rounded, IsRounded, StandFrom, FitsAt, IsLowestFit, extent_of};
+ghost use Rattle.std.specs.Prelude.{◌≡◌, ℕ, ◌+◌, ◌*◌, ◌%◌, ◌^◌, ◌<◌, ◌≤◌, nat_le, IfSome, IfNone, MatchOption};
+ghost use Rattle.std.specs.List.{find};
+ghost use Rattle.sub_heaps.specs.SubHeaps.{rounded, IsRounded};
+ghost use Rattle.sub_heaps.specs.inner.Order.{InOrder, last_end};
+ghost use Rattle.sub_heaps.specs.inner.Gaps.{IsGapBefore, IsLowestBefore};
+ghost use Rattle.sub_heaps.specs.inner.Trees.{objects_of, IsTree};
 
 use crate::objects::Object;
-
-/// A gap among the objects: where it starts, and how many objects stand below it.
-#[derive(Clone, Copy, Debug)]
-pub struct Gap {
-    pub at: u32,
-    pub index: usize,
-}
+use crate::summary::widest;
+use crate::tree::Tree;
 
 /// The size that an object of so many bytes takes, where a sub-heap of `limit` bytes has that many.
 pub fn size_within(bytes: u64, limit: u32) -> Option<u32>
@@ -43,90 +39,46 @@ pub fn first_inside(from: u32, bytes: u32, size: u32) -> u32
     }
 }
 
-/// How many of the objects start below `from`.
-pub fn index_from(objects: &[Object], from: u32) -> usize
-    requires { AllPairs (λ a b. a.at < b.at) objects.now }
-    ensures bound { result ≤ length objects.now }
-    ensures below { AllWithin (λ o. o.at < from) objects.now 0 result }
-    ensures above { AllWithin (λ o. from ≤ o.at) objects.now result (length objects.now) }
+/// The lowest object of the tree that starts at or above `from`.
+pub fn next_from(tree: &Tree, from: u32) -> Option<Object>
+    requires { InOrder 0 (objects_of tree.now) }
+    ensures { result ≡ find (λ o. nat_le from o.at) (objects_of tree.now) }
 {
-    objects.partition_point(|object| object.at < from)
-}
-
-/// The index of the object that starts at `at`.
-pub fn index_of(objects: &[Object], at: u32) -> usize
-    requires rising { AllPairs (λ a b. a.at < b.at) objects.now }
-    requires found { IsSome (object_at at objects.now) }
-    ensures { IsIndexOf objects.now at result }
-{
-    index_from(objects, at)
-}
-
-/// Whether the object at `index` stays between its neighbours when it starts at `to`.
-pub fn keeps_order(objects: &[Object], index: usize, to: u32) -> bool
-    requires { index < length objects.now }
-    ensures { IsTrue result ↔ FallsBetween objects.now index to }
-{
-    (index == 0 || objects[index - 1].at < to)
-        && (index + 1 == objects.len() || to < objects[index + 1].at)
-}
-
-/// Inserts an object where the vector has room left.
-pub fn insert_with_room(objects: &mut Vec<Object>, index: usize, object: Object)
-    requires index { index ≤ vec_len objects.old }
-    requires room { vec_len objects.old < vec_capacity objects.old }
-    ensures items { objects.new.items ≡ insert objects.old.items index object }
-    ensures capacity { vec_capacity objects.old ≤ vec_capacity objects.new }
-{
-    match objects.insert(index, object) {
-        Ok(()) => {}
-        Err(_) => unreachable!(),
+    let Tree::Fork(node) = tree else {
+        return None;
+    };
+    if node.object.at < from {
+        next_from(&node.right, from)
+    } else {
+        next_from(&node.left, from).or(Some(node.object))
     }
 }
 
-/// The lowest place at which `bytes` bytes lie in one of `count` sub-heaps of `size` bytes and overlap no object.
-pub fn lowest_gap(objects: &[Object], count: u32, size: u32, bytes: u32) -> Option<Gap>
+/// The lowest place at which `bytes` bytes lie in one sub-heap of `size` bytes and in a gap before an object
+/// of the tree, from `from` on.
+pub fn lowest_before(tree: &Tree, from: u32, bytes: u32, size: u32) -> Option<u32>
     requires bytes { 1 ≤ bytes }
     requires within { bytes ≤ size }
-    requires size { size ≤ 268435456 }
-    requires whole { count * size ≤ 268435456 }
-    requires stand { StandFrom count size 0 objects.now }
-    ensures lowest { IfSome result (λ gap. IsLowestFit (record { count = count; size = size; most = 0; objects = objects.now }) bytes gap.at) }
-    ensures between { IfSome result (λ gap. StandsBetween objects.now gap.index gap.at (gap.at + bytes)) }
-    ensures none { IfNone result ((at : ℕ) → ¬ FitsAt (record { count = count; size = size; most = 0; objects = objects.now }) bytes at) }
+    requires bounded { size ≤ 268435456 }
+    requires tree { IsTree size tree.now }
+    requires order { InOrder from (objects_of tree.now) }
+    ensures lowest { IfSome result (IsLowestBefore size bytes from (objects_of tree.now)) }
+    ensures none { IfNone result ((at : ℕ) → ¬ IsGapBefore size bytes from (objects_of tree.now) at) }
 {
-    let mut from = 0;
-    for (index, object) in objects.iter().enumerate() {
-        let at = first_inside(from, bytes, size);
-        if at + bytes <= object.at {
-            return Some(Gap { at, index });
-        }
-        from = object.at + object.size;
+    let Tree::Fork(node) = tree else {
+        return None;
+    };
+    let longest = widest(from, node.under.first, size).max(node.under.longest);
+    if longest < bytes {
+        return None;
     }
-    let at = first_inside(from, bytes, size);
-    if at + bytes <= count * size {
-        Some(Gap {
-            at,
-            index: objects.len(),
-        })
-    } else {
-        None
+    if let Some(at) = lowest_before(&node.left, from, bytes, size) {
+        return Some(at);
     }
-}
-
-/// How far the objects reach into their sub-heaps, added up.
-pub fn extent_among(objects: &[Object], count: u32, size: u32) -> u32
-    requires some { 1 ≤ size }
-    requires whole { count * size ≤ 268435456 }
-    requires stand { StandFrom count size 0 objects.now }
-    ensures { result ≡ extent_of (record { count = count; size = size; most = 0; objects = objects.now }) }
-{
-    let mut extent = 0;
-    let mut end = 0;
-    for object in objects {
-        let start = object.at - object.at % size;
-        extent += object.at + object.size - start.max(end);
-        end = object.at + object.size;
+    let at = first_inside(node.left.end(from), bytes, size);
+    if at + bytes <= node.object.at {
+        return Some(at);
     }
-    extent
+    let from = node.object.at + node.object.size;
+    lowest_before(&node.right, from, bytes, size)
 }
