@@ -1,21 +1,19 @@
 -- Whether one more move is legal, told from the objects as they stood before all moves.
-use Rattle.std.proofs.Common.{◌≡◌, ℕ, ◌<◌, ◌≤◌, ◌≢◌, Bool, true, false, cond, eqb, leb, List, [], ◌∷◌, ◌++◌, Some, None, Option, IsSomeAnd, refl, sym, ap, ◌∙◌, subst, inl, inr, arith}
+use Rattle.std.proofs.Common.{◌≡◌, ℕ, ◌≤◌, ◌≢◌, Bool, true, false, cond, eqb, leb, List, [], ◌∷◌, ◌++◌, Some, None, Option, IsSomeAnd, refl, sym, ap, ◌∙◌, subst, inl, inr, arith}
 use Rattle.std.specs.List.{AllByRecursion as Each, find}
 use Rattle.std.proofs.lemmas.Bool.{ne_eqb, leb-true, leb-false, cases_eq}
 use Rattle.std.proofs.lemmas.List.Elements.{recursion_from_All, All-from_recursion}
 use Rattle.sub_heaps.specs.declared.objects.Object.{Object}
 use Rattle.sub_heaps.specs.ByPlace.{end_of, object_at, with_object, without, with_moved, shifted}
 use Rattle.sub_heaps.specs.SubHeaps.{SubHeaps, LiesInOne, IsApartFrom, StandFrom}
+use Rattle.sub_heaps.proofs.Edits.{object_at-above, Each-with_object, with_object-Each, Each-without, without-Each}
 use Rattle.sub_heaps.proofs.Standing.{Each-weaker, Each-append, Each-left, Each-right, start_above}
 use Rattle.move_plan.specs.declared.moves.Move.{Move}
-use Rattle.move_plan.specs.Moving.{after_move, after_moves, IsAllowed, AreLegal, AreApart, KeepsClearOf, StaysClearOf, MayFollow}
-use Rattle.move_plan.proofs.Turns.{Each-three, object_at-shifted, object_at-shifted_from, Each-with_object, with_object-Each, Each-without, without-Each, allowed_object}
+use Rattle.move_plan.specs.Moving.{after_move, after_moves, IsAllowed, AreLegal}
+use Rattle.move_plan.specs.inner.Following.{AreApart, KeepsClearOf, StaysClearOf, MayFollow}
+use Rattle.move_plan.proofs.Turns.{Each-three, object_at-shifted, object_at-shifted_from, allowed_object}
 
 -- ---- the object at a place, by the first that starts there or above
-
-object_at-above : (at : ℕ) (xs : List Object) → Each (λ x. at < x.at) xs → object_at at xs ≡ None
-object_at-above at [] above = refl
-object_at-above at (x ∷ xs) above = let other : eqb x.at at ≡ false = ne_eqb x.at at (λ same. absurd (omega (arith, same, above.0))) in rw other (object_at-above at xs above.1)
 
 abbrev pub if_there : ℕ → Option Object → Option Object
 if_there at None = None

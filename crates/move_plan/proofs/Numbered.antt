@@ -8,6 +8,7 @@ use Rattle.sub_heaps.specs.ByPlace.{end_of}
 use Rattle.sub_heaps.specs.SubHeaps.{SubHeaps, LiesInOne, StandFrom, IsSound, objects_in}
 use Rattle.sub_heaps.proofs.Blocks.{place_parts, mod_below, number_is}
 use Rattle.sub_heaps.proofs.Standing.{Each-weaker, Each-both, StandFrom-weaker, StandFrom-raise, each_inside}
+use Rattle.sub_heaps.proofs.Taken.{find_each}
 use Rattle.move_plan.specs.Stretches.{room_in}
 use Rattle.move_plan.proofs.Rest.{rest_from, rest_more}
 use Rattle.move_plan.proofs.Sweep.{room_from, stretches-room_from}
@@ -38,14 +39,6 @@ module _ (count size : ℕ) where
         | true ↦ (stand.0, stand.1, stand.2, stand_filter p (end_of x) xs stand.3)
         | false ↦ StandFrom-weaker count size low (end_of x) (filter p xs) (omega (arith, stand.0)) (stand_filter p (end_of x) xs stand.3)
       ]
-
-pub find_each : {X : Type 0} (P : X → Type 0) (p : X → Bool) (xs : List X) (o : X) → find p xs ≡ Some o → Each P xs → P o
-find_each P p [] o found each = absurd cc
-find_each P p (x ∷ xs) o found each =
-    elim (p x) as (λ t. cond t (Some x) (find p xs) ≡ Some o → P o) [
-      | true ↦ λ found. let same : x ≡ o = cc in subst P same each.0
-      | false ↦ λ found. find_each P p xs o found each.1
-    ] found
 
 -- ---- the objects of a sub-heap
 

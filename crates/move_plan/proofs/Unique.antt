@@ -17,7 +17,7 @@ use Rattle.move_plan.proofs.Judged.{count_after, size_after}
 use Rattle.move_plan.proofs.Plans.{RiseFrom, rise_above, rise_from_AllPairs, rising_objects, destination-pinned, destination_below, carried_skip, IsSound-after_moves}
 use Rattle.move_plan.proofs.Slid.{slid_objects, slide_moves}
 use Rattle.move_plan.proofs.Slides.{after-slide_moves}
-use Rattle.move_plan.proofs.Turns.{found_at, found_each}
+use Rattle.sub_heaps.proofs.Taken.{found_at, found_each}
 
 abbrev first_place : List Object → ℕ
 first_place [] = 0

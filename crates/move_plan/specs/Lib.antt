@@ -2,3 +2,4 @@ pub mod Holding
 pub mod Moving
 pub mod Stretches
 pub mod Sliding
+pub mod inner

@@ -1,9 +1,9 @@
 -- Moves that are made one after the other: where the objects then stand, and which moves are legal. `pinned` tells the places of pinned objects.
-use Rattle.std.specs.Prelude.{◌≡◌, ℕ, ◌+◌, ◌≤◌, ◌≢◌, ◌==◌, ◌⊎◌, Bool, false, ⊤, List, [], ◌∷◌, if◌then◌else◌, IsSomeAnd, map}
+use Rattle.std.specs.Prelude.{◌≡◌, ℕ, ◌≢◌, ◌==◌, Bool, false, ⊤, List, [], ◌∷◌, if◌then◌else◌, IsSomeAnd, map}
 use Rattle.std.specs.List.{All}
 use Rattle.sub_heaps.specs.declared.objects.Object.{Object}
 use Rattle.sub_heaps.specs.ByPlace.{object_at, without, shifted}
-use Rattle.sub_heaps.specs.SubHeaps.{SubHeaps, LiesInOne, FitsAt}
+use Rattle.sub_heaps.specs.SubHeaps.{SubHeaps, FitsAt}
 use Rattle.move_plan.specs.declared.moves.Move.{Move}
 
 -- the sub-heaps after one move
@@ -34,23 +34,3 @@ destination (m ∷ ms) at = if m.from == at then m.to else destination ms at
 -- the objects, each at its destination, in the order in which they stood
 abbrev pub carried : List Move → List Object → List Object
 carried moves objects = map {A = Object} {B = Object} (λ o. record o { at = destination moves o.at }) objects
-
--- so many bytes from a place on have none in common with those to which a move goes
-abbrev pub AreApart : Move → (at size : ℕ) → Type 0
-AreApart m at size = (at + size ≤ m.to) ⊎ (m.to + m.size ≤ at)
-
--- a move is not of the object that an earlier one moved, nor from where that stood, and overlaps it nowhere
-abbrev pub KeepsClearOf : Move → Move → Type 0
-KeepsClearOf m earlier = (earlier.from ≢ m.from) × (earlier.to ≢ m.from) × AreApart m earlier.to earlier.size
-
--- a move overlaps an object nowhere, unless it is of that object or an earlier move took it away
-abbrev pub StaysClearOf : Move → List Move → Object → Type 0
-StaysClearOf m earlier o = o.at ≢ m.from → All (λ e. e.from ≢ o.at) earlier → AreApart m o.at o.size
-
--- a move may follow earlier ones, told from the sub-heaps as they stood before all: it is of an unpinned object of its size, ends in one sub-heap, and keeps clear of what moved and of what stayed
-pub record MayFollow (pinned : ℕ → Bool) (h : SubHeaps) (earlier : List Move) (m : Move) : Type 0 where
-  pub object : IsSomeAnd (object_at m.from h.objects) (λ o. o.size ≡ m.size)
-  pub unpinned : pinned m.from ≡ false
-  pub inside : LiesInOne h.count h.size m.size m.to
-  pub clear_of_moved : All (KeepsClearOf m) earlier
-  pub clear_of_others : All (StaysClearOf m earlier) h.objects

@@ -3,7 +3,8 @@ ghost use Rattle.std.specs.List.{All};
 ghost use Rattle.sub_heaps.specs.ByPlace.{object_at};
 ghost use Rattle.sub_heaps.specs.SubHeaps.{LiesInOne};
 ghost use Rattle.move_plan.specs.Holding.{is_pinned};
-ghost use Rattle.move_plan.specs.Moving.{AreApart, AreLegal, KeepsClearOf, MayFollow, StaysClearOf};
+ghost use Rattle.move_plan.specs.Moving.{AreLegal};
+ghost use Rattle.move_plan.specs.inner.Following.{AreApart, KeepsClearOf, MayFollow, StaysClearOf};
 
 use crate::moves::{Move, Plan};
 use crate::pinned::Pins;
@@ -91,9 +92,9 @@ fn stays_clear_of_others(heaps: &Heaps, earlier: &[Move], next: Move) -> bool
 fn stays_clear_of(object: Object, earlier: &[Move], next: Move) -> bool
     ensures { IsTrue result ↔ StaysClearOf next earlier.now object }
 {
-    object.at == next.from
+    are_apart(object.at, object.size, next)
+        || object.at == next.from
         || earlier.iter().any(|m| m.from == object.at)
-        || are_apart(object.at, object.size, next)
 }
 
 // Whether so many bytes from a place on have none in common with the moved object.

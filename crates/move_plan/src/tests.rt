@@ -89,7 +89,7 @@ fn slides_down_and_stays_above_a_pin(rt: HostRuntime) -> Result<(), Fail> {
         ],
         moved
     );
-    assert_eq!(rt; heaps.extent(), 96);
+    assert_eq!(rt; (heaps.extent(), room(&heaps, &pins)), (96, 4000));
     Ok(())
 }
 

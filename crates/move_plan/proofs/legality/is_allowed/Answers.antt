@@ -2,7 +2,7 @@ use Rattle.std.proofs.Common.{◌≡◌, ◌+◌, ◌↔◌, IsTrue, [], ◌∷�
 use Rattle.std.proofs.lemmas.List.{take_more}
 use Rattle.std.proofs.lemmas.Option.{get_or_from_slice_get}
 use Rattle.move_plan.specs.Holding.{is_pinned}
-use Rattle.move_plan.specs.Moving.{MayFollow}
+use Rattle.move_plan.specs.inner.Following.{MayFollow}
 use Rattle.move_plan.proofs.Judged.{legal_passes, passes_legal}
 use Rattle.move_plan.proofs.legality.is_allowed.Goals as goal
 

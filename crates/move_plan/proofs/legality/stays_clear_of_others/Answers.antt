@@ -3,7 +3,7 @@ use Rattle.std.specs.List.{All, AllByRecursion as Each}
 use Rattle.std.proofs.lemmas.Bool.{false≢true}
 use Rattle.std.proofs.lemmas.List.Elements.{recursion_from_All, All-from_recursion}
 use Rattle.sub_heaps.specs.ByPlace.{end_of}
-use Rattle.move_plan.specs.Moving.{StaysClearOf}
+use Rattle.move_plan.specs.inner.Following.{StaysClearOf}
 use Rattle.move_plan.proofs.Rest.{IsStep-found, rest_from, rest_none, rest_zero}
 use Rattle.move_plan.proofs.legality.stays_clear_of_others.Goals as goal
 

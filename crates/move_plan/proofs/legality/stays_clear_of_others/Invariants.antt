@@ -1,6 +1,6 @@
 use Rattle.std.proofs.Common.{◌↔◌, length}
 use Rattle.std.specs.List.{All, AllByRecursion as Each}
-use Rattle.move_plan.specs.Moving.{StaysClearOf}
+use Rattle.move_plan.specs.inner.Following.{StaysClearOf}
 use Rattle.move_plan.proofs.Rest.{rest_from}
 use Rattle.move_plan.proofs.legality.stays_clear_of_others.Given as goal
 

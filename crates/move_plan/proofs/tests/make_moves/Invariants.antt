@@ -1,4 +1,4 @@
-use Rattle.std.proofs.Common.{◌≡◌, length, drop}
+use Rattle.std.proofs.Common.{◌≡◌, drop}
 use Rattle.move_plan.specs.Holding.{is_pinned}
 use Rattle.move_plan.specs.Moving.{AreLegal, after_moves}
 use Rattle.move_plan.proofs.tests.make_moves.Given as goal

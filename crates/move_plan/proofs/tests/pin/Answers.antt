@@ -1,9 +1,9 @@
-use Rattle.std.proofs.Common.{◌≡◌, ◌+◌, ◌*◌, ◌≤◌, cond, ap, ◌∙◌, arith}
+use Rattle.std.proofs.Common.{◌+◌, ◌*◌, ◌≤◌, ap, ◌∙◌, arith}
 use Rattle.std.specs.Cmp.{nat_cmp_total}
 use Rattle.std.specs.FinSet as set
 use Rattle.std.specs.Ordering.{nat_cmp}
 use Rattle.std.proofs.lemmas.Bool.{cond_both}
-use Rattle.move_plan.specs.Holding.{PinSet, is_pinned}
+use Rattle.move_plan.specs.Holding.{PinSet}
 use Rattle.move_plan.proofs.tests.pin.Goals.{then-choice-number-eq1, else-choice-number-eq1}
 use Rattle.move_plan.proofs.tests.pin.Goals as goal
 
