@@ -59,7 +59,9 @@ fn main(rt: HostRuntime) -> io::Result<()> {
     let second = place_each(&mut heaps, objects / 2).unwrap_or(0);
     let more = place_each(&mut heaps, 1).unwrap_or(0);
     let micros = start.elapsed(&rt)?.as_micros();
-    println!(rt; "objects: {objects}, the last at {first}; every second one freed, and the last gap filled at {second}; one more at {more}")?;
+    println!(rt;
+        "objects: {objects}, the last at {first}; every second one freed, and the last gap filled at {second}; one more at {more}"
+    )?;
     eprintln!(rt; "microseconds: {micros}")?;
     Ok(())
 }

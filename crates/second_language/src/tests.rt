@@ -36,7 +36,8 @@ fn element_places(element: &Element) -> [u32; 3] {
 
 #[test]
 fn items_have_their_places(rt: HostRuntime) -> Result<(), Fail> {
-    let text = b"int main(void){int a=1-2*3;printf(\"%d\\n\",a);int *p=malloc(4);free(p);*p=p[a];return a;}";
+    let text =
+        b"int main(void){int a=1-2*3;printf(\"%d\\n\",a);int *p=malloc(4);free(p);*p=p[a];return a;}";
     let program = program_of(rt.alloc(), text.as_slice())?;
     assert_eq!(rt; program.place, 0);
     let [
@@ -44,8 +45,14 @@ fn items_have_their_places(rt: HostRuntime) -> Result<(), Fail> {
         Item::Print { place: printed, .. },
         Item::Allocate(got),
         Item::Free { place: freed, .. },
-        Item::Assign { target, value: from },
-        Item::Return { place: returned, .. },
+        Item::Assign {
+            target,
+            value: from,
+        },
+        Item::Return {
+            place: returned,
+            ..
+        },
     ] = program.items.as_slice()
     else {
         return Err("six items".into());
@@ -71,20 +78,62 @@ fn each_token_is_seen_or_refused(rt: HostRuntime) -> Result<(), Fail> {
     // A form of a text, and where it is refused, if it is.
     let rows: [(&[u8], Option<(u32, Kind)>); 16] = [
         (b"int main(void){return 0x1f+017;}", None),
-        (b"#include <stdio.h>\nint main(void){/* a */return 1;// b\n}", None),
-        (b"#define A 7\nint main(void){int *p=malloc(A);return A;}", None),
-        (b"int main(void){return 2147483648;}", Some((22, Kind::OutsideSubset(0)))),
-        (b"int main(void){return 1u;}", Some((22, Kind::OutsideSubset(0)))),
-        (b"int main(void){return 'a';}", Some((22, Kind::OutsideSubset(0)))),
-        (b"int main(void){printf(\"%d\\012\",1);}", Some((22, Kind::OutsideSubset(0)))),
-        (b"int main(void){long a=1;}", Some((15, Kind::OutsideSubset(0)))),
-        (b"int main(void){return 1/1;}", Some((23, Kind::OutsideSubset(0)))),
-        (b"int main(void){int a=1;a+=1;}", Some((24, Kind::OutsideSubset(0)))),
-        (b"int main(void){int free=1;}", Some((19, Kind::OutsideSubset(0)))),
-        (b"int main(void){return calloc;}", Some((22, Kind::UnknownName))),
-        (b"int main(void){int a=1;int a=b;}", Some((27, Kind::DoubleName))),
-        (b"int main(void){int a=1;return *a;}", Some((31, Kind::TypeMismatch))),
-        (b"int main(void){return b;", Some((24, Kind::OutsideSubset(0)))),
+        (
+            b"#include <stdio.h>\nint main(void){/* a */return 1;// b\n}",
+            None,
+        ),
+        (
+            b"#define A 7\nint main(void){int *p=malloc(A);return A;}",
+            None,
+        ),
+        (
+            b"int main(void){return 2147483648;}",
+            Some((22, Kind::OutsideSubset(0))),
+        ),
+        (
+            b"int main(void){return 1u;}",
+            Some((22, Kind::OutsideSubset(0))),
+        ),
+        (
+            b"int main(void){return 'a';}",
+            Some((22, Kind::OutsideSubset(0))),
+        ),
+        (
+            b"int main(void){printf(\"%d\\012\",1);}",
+            Some((22, Kind::OutsideSubset(0))),
+        ),
+        (
+            b"int main(void){long a=1;}",
+            Some((15, Kind::OutsideSubset(0))),
+        ),
+        (
+            b"int main(void){return 1/1;}",
+            Some((23, Kind::OutsideSubset(0))),
+        ),
+        (
+            b"int main(void){int a=1;a+=1;}",
+            Some((24, Kind::OutsideSubset(0))),
+        ),
+        (
+            b"int main(void){int free=1;}",
+            Some((19, Kind::OutsideSubset(0))),
+        ),
+        (
+            b"int main(void){return calloc;}",
+            Some((22, Kind::UnknownName)),
+        ),
+        (
+            b"int main(void){int a=1;int a=b;}",
+            Some((27, Kind::DoubleName)),
+        ),
+        (
+            b"int main(void){int a=1;return *a;}",
+            Some((31, Kind::TypeMismatch)),
+        ),
+        (
+            b"int main(void){return b;",
+            Some((24, Kind::OutsideSubset(0))),
+        ),
         (b"#define A b\n", Some((0, Kind::OutsideSubset(1)))),
     ];
     for (text, refused) in rows {
