@@ -12,3 +12,9 @@ check_names-requires c =
     let seen : c.deref.result.now ≡ terminals c.args.text.now c.args.tokens.now = c.deref.ensures.value ∙ c.in-Ok.ensures in
     StandInOrder-AreOrdered c.args.text.now c.args.tokens.now (view c.in_ok-program.program) (c.ordered.ensures c.args.text.now c.args.tokens.now c.requires)
     (ap signs (sym seen) ∙ c.in_ok-program.ensures.found.spelt)
+
+pub returns-clause-placed : goal.returns-clause-placed
+returns-clause-placed c =
+    let seen : c.deref.result.now ≡ terminals c.args.text.now c.args.tokens.now = c.deref.ensures.value ∙ c.in-Ok.ensures in
+    StandInOrder-AreOrdered c.args.text.now c.args.tokens.now (view c.in_ok-program.program) (c.ordered.ensures c.args.text.now c.args.tokens.now c.requires)
+    (ap signs (sym seen) ∙ c.in_ok-program.ensures.found.spelt)
