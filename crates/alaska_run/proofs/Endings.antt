@@ -7,7 +7,7 @@ use Rattle.alaska_run.specs.Answers.{ended_as}
 use Rattle.alaska_run.specs.Flat.{machine_run}
 use Rattle.alaska_run.specs.Headline.{Ran}
 use Rattle.alaska_run.specs.Language.{IsProgram}
-use Rattle.alaska_run.specs.Verdict.{Ended}
+use Rattle.alaska_run.specs.inner.Verdict.{Ended}
 use Rattle.alaska_run.proofs.Simulated.{machine_follows}
 
 -- by a value, or by a trap

@@ -7,7 +7,7 @@ use Rattle.flat_store.specs.Flat.{first_address}
 use Rattle.sub_heaps.specs.ByPlace.{object_at, without}
 use Rattle.sub_heaps.specs.SubHeaps.{SubHeaps, IsSound}
 use Rattle.alaska_run.specs.Heap.{Heap, is_live_start}
-use Rattle.alaska_run.specs.Homes.{IsHomed}
+use Rattle.alaska_run.specs.inner.Homes.{IsHomed}
 use Rattle.alaska_run.proofs.Homing.{home_below, IsHomed-freed}
 
 -- a word leads to this address, which its id has in the table

@@ -12,7 +12,7 @@ use Rattle.sub_heaps.specs.declared.objects.Object.{Object}
 use Rattle.sub_heaps.specs.ByPlace.{end_of, object_at, with_object, without}
 use Rattle.sub_heaps.specs.SubHeaps.{SubHeaps, IsSound, IsApartFrom, FitsAt, LiesInOne, StandFrom}
 use Rattle.alaska_run.specs.Heap.{Heap, with_new, without_object}
-use Rattle.alaska_run.specs.Homes.{IsHome, IsHomed}
+use Rattle.alaska_run.specs.inner.Homes.{IsHome, IsHomed}
 
 -- ---- the object that starts at a place
 

@@ -7,7 +7,7 @@ use Rattle.alaska_run.specs.declared.machine.Machine.{Machine}
 use Rattle.alaska_run.specs.declared.status.Trap.{Trap}
 use Rattle.alaska_run.specs.Execution.{World, Effect, Run, first_world, run_behind, run_after, run_from, run_of, step}
 use Rattle.alaska_run.specs.Flat.{FlatMemory, empty_memory, flat}
-use Rattle.alaska_run.specs.Machine.{world_in, Carried, Trapped}
+use Rattle.alaska_run.specs.inner.Machine.{world_in, Carried, Trapped}
 use Rattle.second_language.proofs.NameLists.{All-left, All-right}
 use Rattle.alaska_run.proofs.Locals.{read}
 

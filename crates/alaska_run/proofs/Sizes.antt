@@ -6,7 +6,7 @@ use Rattle.std.proofs.lemmas.Bool.{cases_lt}
 use Rattle.sub_heaps.specs.SubHeaps.{SubHeaps, IsShape}
 use Rattle.handle_table.specs.Table.{address_of}
 use Rattle.alaska_run.specs.Heap.{id_count, sub_heap_count, sub_heap_size, most_objects, empty_heap}
-use Rattle.alaska_run.specs.Homes.{IsHomed}
+use Rattle.alaska_run.specs.inner.Homes.{IsHomed}
 
 -- there are ids, and not too many
 pub id_count-bounds : (1 ≤ id_count) × (id_count ≤ 1048576)

@@ -11,8 +11,8 @@ use Rattle.alaska_run.specs.declared.reading.TextRead.{TextRead}
 use Rattle.alaska_run.specs.declared.reading.TextRead.TheVariants.{Front}
 use Rattle.alaska_run.specs.Headline.{Shelved, IsFront, Judged, most_bytes}
 use Rattle.alaska_run.specs.Lines.{line_of}
-use Rattle.alaska_run.specs.Reading.{IsReadFrom}
-use Rattle.alaska_run.specs.Verdict.{IsVerdict}
+use Rattle.alaska_run.specs.inner.Reading.{IsReadFrom}
+use Rattle.alaska_run.specs.inner.Verdict.{IsVerdict}
 
 judged_front : (words : Option (List ℕ)) (name : List ℕ) (file : List ℕ → Shelved) (text : List ℕ) → Some name ≡ words → IsFront (file name) text → Judged words file text (Refused most_bytes TooLong) []
 judged_front words name file text named front = subst (λ w. Judged w file text (Refused most_bytes TooLong) []) named (refl, inr (front, refl, refl))

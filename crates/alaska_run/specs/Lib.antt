@@ -4,7 +4,6 @@ pub mod Execution
 pub mod Meaning
 pub mod Heap
 pub mod Flat
-pub mod Homes
 pub mod StandsFor
 pub mod Simulation
 pub mod Follows
@@ -13,8 +12,6 @@ pub mod Actions
 pub mod Rows
 pub mod Lines
 pub mod Headline
-pub mod Reading
-pub mod Machine
-pub mod Verdict
 pub mod Answers
 pub mod Numbers
+pub mod inner

@@ -2,7 +2,7 @@ ghost use Rattle.std.specs.Prelude.{◌≡◌, ◌⊎◌, [], map, string_bytes,
 ghost use Rattle.alaska_run.specs.Answers.{Causes, Answers, ended_as};
 ghost use Rattle.alaska_run.specs.Headline.{file_of, channel, shelved, Headline};
 ghost use Rattle.alaska_run.specs.Lines.{line_of};
-ghost use Rattle.alaska_run.specs.Verdict.{IsVerdict, IsOutcome, Tells};
+ghost use Rattle.alaska_run.specs.inner.Verdict.{IsVerdict, IsOutcome, Tells};
 
 use crate::compile::compile;
 use crate::laws::judge_each_text_once;

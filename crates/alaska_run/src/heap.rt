@@ -21,7 +21,7 @@ pub struct HandleHeap {
 
 impl Model for HandleHeap {
     ghost use Rattle.alaska_run.specs.Heap.{Heap};
-    ghost use Rattle.alaska_run.specs.Homes.{IsHomed};
+    ghost use Rattle.alaska_run.specs.inner.Homes.{IsHomed};
 
     ghost Value = { Heap };
 

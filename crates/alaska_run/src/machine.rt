@@ -80,7 +80,7 @@ pub struct Machine<'t> {
 // Expressions.
 impl<'t> Machine<'t> {
     ghost use Rattle.std.specs.Prelude.{unwrap_or, pos};
-    ghost use Rattle.alaska_run.specs.Machine.{world_in};
+    ghost use Rattle.alaska_run.specs.inner.Machine.{world_in};
 
     // The bytes of a name.
     fn bytes(&self, name: Name) -> &'t [u8]
@@ -174,7 +174,7 @@ impl<'t> Machine<'t> {
     ghost use Rattle.second_language.specs.Trees.{assign};
     ghost use Rattle.alaska_run.specs.Execution.{with_int, with_pointer, going, step};
     ghost use Rattle.alaska_run.specs.Flat.{malloc_word};
-    ghost use Rattle.alaska_run.specs.Machine.{world_in, DoesItem};
+    ghost use Rattle.alaska_run.specs.inner.Machine.{world_in, DoesItem};
 
     // Sets an int.
     fn declare(&mut self, name: Name, value: i32) -> Result<(), NoMemory>

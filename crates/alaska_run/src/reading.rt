@@ -1,6 +1,6 @@
 ghost use Rattle.std.specs.Prelude.{IfOk};
 ghost use Rattle.alaska_run.specs.Headline.{shelved};
-ghost use Rattle.alaska_run.specs.Reading.{IsReadFrom};
+ghost use Rattle.alaska_run.specs.inner.Reading.{IsReadFrom};
 
 use ak_io::{ReadEnd, ReadFault, Shelf};
 use ak_words::NoMemory;

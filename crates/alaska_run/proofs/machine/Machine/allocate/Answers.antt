@@ -1,7 +1,7 @@
 use Rattle.std.proofs.Common.{◌≡◌, refl, ap, sym, ◌∙◌, unsigned_abs, w32, to_z, of_z, arith}
 use Rattle.std.proofs.lemmas.Int.{ints}
 use Rattle.alaska_run.specs.Flat.{malloc_word}
-use Rattle.alaska_run.specs.Machine.{world_in}
+use Rattle.alaska_run.specs.inner.Machine.{world_in}
 use Rattle.alaska_run.proofs.Locals.{read_set, world_allocated}
 use Rattle.alaska_run.proofs.machine.Machine.allocate.Goals as goal
 

@@ -1,6 +1,6 @@
 use Rattle.std.proofs.Common.{◌≡◌, ap, w32, to_z, of_z, arith}
 use Rattle.std.proofs.lemmas.Int.{ints}
-use Rattle.alaska_run.specs.Machine.{world_in}
+use Rattle.alaska_run.specs.inner.Machine.{world_in}
 use Rattle.alaska_run.proofs.Locals.{read_set}
 use Rattle.alaska_run.proofs.machine.Machine.declare.Goals as goal
 

@@ -4,7 +4,7 @@ use Rattle.std.proofs.lemmas.Result.{err_from_is_err_and}
 use Rattle.second_language.specs.Views.{term_view}
 use Rattle.second_language.specs.Occurrences.{IsWithin}
 use Rattle.alaska_run.specs.Flat.{wrapped_int}
-use Rattle.alaska_run.specs.Machine.{world_in}
+use Rattle.alaska_run.specs.inner.Machine.{world_in}
 use Rattle.alaska_run.proofs.Names.{named-plus_first, named-addend_at}
 use Rattle.alaska_run.proofs.Values.{plus_ends, addend_at_ends, addend_at_more}
 use Rattle.alaska_run.proofs.machine.Machine.expr.Goals as goal

@@ -1,6 +1,6 @@
 use Rattle.std.proofs.Common.{◌≡◌, Ok, take}
 use Rattle.second_language.specs.Views.{term_view, plus}
-use Rattle.alaska_run.specs.Machine.{world_in}
+use Rattle.alaska_run.specs.inner.Machine.{world_in}
 use Rattle.alaska_run.proofs.Values.{comes_to}
 use Rattle.alaska_run.proofs.machine.Machine.expr.Given as goal
 

@@ -5,7 +5,7 @@ use Rattle.second_language.specs.Names.{element_uses, uses}
 use Rattle.second_language.specs.Occurrences.{IsWithin, item_names}
 use Rattle.alaska_run.specs.Execution.{step}
 use Rattle.alaska_run.specs.Flat.{flat}
-use Rattle.alaska_run.specs.Machine.{world_in}
+use Rattle.alaska_run.specs.inner.Machine.{world_in}
 use Rattle.alaska_run.proofs.Lists.{All-rest}
 use Rattle.alaska_run.proofs.Names.{named, named-left, named-right}
 use Rattle.alaska_run.proofs.Items.{released}

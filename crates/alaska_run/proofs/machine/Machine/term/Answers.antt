@@ -5,7 +5,7 @@ use Rattle.ak_words.specs.declared.operation.Op.TheVariants.{Mul}
 use Rattle.second_language.specs.Views.{atom_view}
 use Rattle.second_language.specs.Occurrences.{IsWithin}
 use Rattle.alaska_run.specs.Flat.{wrapped_int}
-use Rattle.alaska_run.specs.Machine.{world_in}
+use Rattle.alaska_run.specs.inner.Machine.{world_in}
 use Rattle.alaska_run.proofs.Names.{named-times_first, named-factor_at}
 use Rattle.alaska_run.proofs.Values.{times_ends, factor_at_ends, factor_at_more}
 use Rattle.alaska_run.proofs.machine.Machine.term.Goals as goal

@@ -1,6 +1,6 @@
 use Rattle.std.proofs.Common.{◌≡◌, Ok, take}
 use Rattle.second_language.specs.Views.{atom_view, times}
-use Rattle.alaska_run.specs.Machine.{world_in}
+use Rattle.alaska_run.specs.inner.Machine.{world_in}
 use Rattle.alaska_run.proofs.Values.{comes_to}
 use Rattle.alaska_run.proofs.machine.Machine.term.Given as goal
 
