@@ -13,7 +13,9 @@ use Rattle.sub_heaps.specs.ByPlace.{end_of, object_at, without, shifted}
 use Rattle.sub_heaps.specs.SubHeaps.{IsSound, IsApartFrom, LiesInOne, StandFrom}
 use Rattle.move_plan.specs.declared.moves.Move.{Move}
 use Rattle.move_plan.specs.Moving.{AreLegal, IsAllowed, after_moves, destination}
-use Rattle.move_plan.proofs.Turns.{allowed_object, found_at, without-Each, IsSound-after_move}
+use Rattle.move_plan.proofs.Turns.{IsSound-after_move, allowed_object}
+use Rattle.sub_heaps.proofs.Edits.{without-Each}
+use Rattle.sub_heaps.proofs.Taken.{found_at}
 use Rattle.defrag_move.specs.Arena.{IsConsistent, Storage, object_of}
 use Rattle.defrag_move.specs.Changes.{with_new, without_id}
 use Rattle.defrag_move.specs.Moves.{IsCarried, KeepsObjects, after_plan, moved, moved_with}

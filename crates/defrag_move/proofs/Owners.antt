@@ -9,7 +9,8 @@ use Rattle.handle_table.specs.Table.{IsFree, IsInUse, address_of}
 use Rattle.sub_heaps.specs.declared.objects.Object.{Object}
 use Rattle.sub_heaps.specs.ByPlace.{end_of, object_at, with_object, without, with_moved, shifted}
 use Rattle.sub_heaps.specs.SubHeaps.{StandFrom}
-use Rattle.move_plan.proofs.Turns.{found_at, Each-with_object}
+use Rattle.sub_heaps.proofs.Edits.{Each-with_object}
+use Rattle.sub_heaps.proofs.Taken.{found_at}
 use Rattle.defrag_move.specs.Arena.{object_of}
 use Rattle.defrag_move.specs.Changes.{without_owner}
 

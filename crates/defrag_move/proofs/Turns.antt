@@ -11,7 +11,8 @@ use Rattle.sub_heaps.specs.ByPlace.{end_of, object_at, without, shifted}
 use Rattle.sub_heaps.specs.SubHeaps.{SubHeaps, StandFrom, FitsAt}
 use Rattle.move_plan.specs.declared.moves.Move.{Move}
 use Rattle.move_plan.specs.Moving.{AreLegal, IsAllowed, after_move}
-use Rattle.move_plan.proofs.Turns.{allowed_object, found_at}
+use Rattle.move_plan.proofs.Turns.{allowed_object}
+use Rattle.sub_heaps.proofs.Taken.{found_at}
 use Rattle.defrag_move.specs.Arena.{IsConsistent, Storage}
 use Rattle.defrag_move.specs.Moves.{after_plan, moved, moved_with}
 use Rattle.defrag_move.proofs.Kept.{IsConsistent-moved, from_within, matches, moved_is, mover, moving, owned, to_within}
