@@ -1,0 +1,11 @@
+mod Sorts
+mod Runs
+mod Steadiness
+mod Lawful
+mod Joints
+mod Loops
+mod FileLaws
+mod Verdicts
+pub mod GrammarLaws
+mod TokenLaws
+pub mod RowsProof

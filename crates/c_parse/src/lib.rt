@@ -1,0 +1,6 @@
+//! The grammar of the whole language.
+//! Promises upward: what it is for tokens to be a file, and where they cease to be one, as definitions; joints of readers that keep their laws.
+//! Stands on c_lex's tokens and c_tree's trees.
+#![tactic(auto)]
+
+pub mod laws;
