@@ -36,12 +36,12 @@ spelt_outcome [] [] s = inl refl
 spelt_outcome [] (t ∷ ts) s = absurd s
 spelt_outcome (l ∷ ls) [] s = absurd s
 spelt_outcome (l ∷ ls) (t ∷ ts) s = elim (judged (over l)) [
-    | inl e ↦ elim (spelt_outcome ls ts s.1) [
-        | inl w ↦ inl (s.0, e, w)
-        | inr x ↦ inr (x.0, x.1, (s.0, inr (e, x.2)), omega (arith, x.3))
-      ]
-    | inr k ↦ inr (k.0, length (t ∷ ts), (s.0, inl (k.1, refl)), omega arith)
+  | inl e ↦ elim (spelt_outcome ls ts s.1) [
+    | inl w ↦ inl (s.0, e, w)
+    | inr x ↦ inr (x.0, x.1, (s.0, inr (e, x.2)), omega (arith, x.3))
   ]
+  | inr k ↦ inr (k.0, length (t ∷ ts), (s.0, inl (k.1, refl)), omega arith)
+]
 
 pub within_spelt : (ls : List Leaf) (ts : List Token) → Within ls ts [] → Spelt ls ts
 within_spelt [] [] w = tt
@@ -132,11 +132,13 @@ pub complete_within : (ls : List Leaf) (front : List Token) → BeginsWithin ls 
 complete_within ls [] b = let m = tokens_of ls in (m.0, spelt_outcome ls m.0 m.1)
 complete_within [] (t ∷ front) b = absurd b
 complete_within (l ∷ ls) (t ∷ front) b =
-    let m = complete_within ls front b.2 in
-    (m.0, elim m.1 [
-      | inl w ↦ inl (b.0, b.1, w)
-      | inr x ↦ inr (x.0, x.1, (b.0, inr (b.1, x.2)), x.3)
-    ])
+    let m = complete_within ls front b.2 in (
+      m.0,
+      elim m.1 [
+        | inl w ↦ inl (b.0, b.1, w)
+        | inr x ↦ inr (x.0, x.1, (b.0, inr (b.1, x.2)), x.3)
+      ],
+    )
 
 -- ---- the leaf that is over a limit
 

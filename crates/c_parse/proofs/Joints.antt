@@ -51,14 +51,14 @@ tree {C = C} {I = I} {r = r} l D f m = record {
   sound = λ c ts. made_sound C D f m c ts (r c ts) (l.sound c ts);
   steady = made_steady f r l.steady;
   complete = λ c b is ts z w g. let a = m.back b is in
-    let P : D.Tree → Type 0 = λ x. Within (D.leaves c x) ts z → made f r c ts ≡ got x (D.after c x) z in
-    subst P a.2 (λ v. made_complete C D I f r m l c a.0 a.1 ts z v g) w;
+      let P : D.Tree → Type 0 = λ x. Within (D.leaves c x) ts z → made f r c ts ≡ got x (D.after c x) z in
+      subst P a.2 (λ v. made_complete C D I f r m l c a.0 a.1 ts z v g) w;
   limited = λ c b is ts k n o. let a = m.back b is in
-    let P : D.Tree → Type 0 = λ x. Over (D.leaves c x) ts k n → made f r c ts ≡ Err (stop (Some k) n) in
-    subst P a.2 (λ v. made_limited C D I f r m l c a.0 a.1 ts k n v) o;
+      let P : D.Tree → Type 0 = λ x. Over (D.leaves c x) ts k n → made f r c ts ≡ Err (stop (Some k) n) in
+      subst P a.2 (λ v. made_limited C D I f r m l c a.0 a.1 ts k n v) o;
   headed = λ c b is. let a = m.back b is in
-    let P : D.Tree → Type 0 = λ x. HeadIn I (D.leaves c x) in
-    subst P a.2 (rw (m.spelt c a.0) (l.headed c a.0 a.1));
+      let P : D.Tree → Type 0 = λ x. HeadIn I (D.leaves c x) in
+      subst P a.2 (rw (m.spelt c a.0) (l.headed c a.0 a.1));
 }
 
 -- ---- what is known, said otherwise
@@ -139,11 +139,11 @@ nothing_lawful D a none same = record {
   sound = λ c ts. record { fits = refl; count = sym (same c); parts = rw (none c) refl };
   steady = nothing_steady a;
   complete = λ c x is ts z w g.
-    let P : D.Tree → Type 0 = λ x. Within (D.leaves c x) ts z → got a c ts ≡ got x (D.after c x) z in
-    subst P is (λ v. let e : ts ≡ z = subst (λ (ls : List Leaf). Within ls ts z) (none c) v in rw (same c, e) refl) w;
+      let P : D.Tree → Type 0 = λ x. Within (D.leaves c x) ts z → got a c ts ≡ got x (D.after c x) z in
+      subst P is (λ v. let e : ts ≡ z = subst (λ (ls : List Leaf). Within ls ts z) (none c) v in rw (same c, e) refl) w;
   limited = λ c x is ts k n o.
-    let P : D.Tree → Type 0 = λ x. Over (D.leaves c x) ts k n → ⊥ in
-    absurd (subst P is (λ v. subst (λ (ls : List Leaf). Over ls ts k n) (none c) v) o);
+      let P : D.Tree → Type 0 = λ x. Over (D.leaves c x) ts k n → ⊥ in
+      absurd (subst P is (λ v. subst (λ (ls : List Leaf). Over ls ts k n) (none c) v) o);
   headed = λ c x is. let P : D.Tree → Type 0 = λ x. HeadIn empty_info (D.leaves c x) in subst P is (rw (none c) refl);
 }
 
@@ -205,11 +205,11 @@ chosen D I start Which J h some part l =
       sound = λ c. elim [ [] ↦ none_begun D c [] | t ∷ ts ↦ choice_sound D part sounds c t ts (start (sort t)) ];
       steady = choice_steady start part (λ s. (l s).steady);
       complete = λ c a is ts z w g. let s = h.which a is in
-        told_by D I start Which J h part s.0 (D.leaves c a) ((l s.0).headed c a s.1) c ts z w g
-        ∙ (l s.0).complete c a s.1 ts z w (part_follows I (J s.0) (h.goes s.0) z g);
+          told_by D I start Which J h part s.0 (D.leaves c a) ((l s.0).headed c a s.1) c ts z w g
+          ∙ (l s.0).complete c a s.1 ts z w (part_follows I (J s.0) (h.goes s.0) z g);
       limited = λ c a is ts k n o. let s = h.which a is in
-        told_over D I start Which J h part s.0 (D.leaves c a) ((l s.0).headed c a s.1) c ts k n o
-        ∙ (l s.0).limited c a s.1 ts k n o;
+          told_over D I start Which J h part s.0 (D.leaves c a) ((l s.0).headed c a s.1) c ts k n o
+          ∙ (l s.0).limited c a s.1 ts k n o;
       headed = λ c a is. let s = h.which a is in part_head I (J s.0) (h.first s.0) (h.empty s.0) (D.leaves c a) ((l s.0).headed c a s.1);
     }
 
@@ -252,8 +252,8 @@ too_deep_lawful C start goes h = record {
   sound = λ c. elim [ [] ↦ none_begun C c [] | t ∷ ts ↦ refused_sound C start h c t ts (start (sort t)) refl ];
   steady = too_deep_steady start;
   complete = λ c a is ts z w g. let d = h.deep c a is in
-    absurd (deep_within d.0 d.1 d.3 ts z (subst (λ (x : List Leaf). Within x ts z) d.2 w));
+      absurd (deep_within d.0 d.1 d.3 ts z (subst (λ (x : List Leaf). Within x ts z) d.2 w));
   limited = λ c a is ts k n o. let d = h.deep c a is in
-    deep_over start d.0 d.1 d.3 d.4 c ts k n (subst (λ (x : List Leaf). Over x ts k n) d.2 o);
+      deep_over start d.0 d.1 d.3 d.4 c ts k n (subst (λ (x : List Leaf). Over x ts k n) d.2 o);
   headed = λ c a is. let d = h.deep c a is in rw (d.2) d.4;
 }

@@ -272,7 +272,7 @@ chained D L Base a q join start I J h r l link m = record {
   sound = λ c ts. chain_sound_at D L Base a q join start I J h link m c ts (r c ts) (l.sound c ts);
   steady = chain_steady r start link join l.steady (λ a. (m a).steady) (λ a. lawful_takes (m a) h.some);
   complete = λ c b is ts z w f. comes D L Base a q join start I J h r l link m c b (h.built b is) ts z w (behind_of start I J z f)
-    ∙ repeat_ends (link_turn start link join) b b (D.after c b) (D.after c b) z z (link_ends I J start link join b (D.after c b) z f);
+      ∙ repeat_ends (link_turn start link join) b b (D.after c b) (D.after c b) z z (link_ends I J start link join b (D.after c b) z f);
   limited = λ c b is ts k n o. chain_limited D L Base a q join start I J h r l link m c b (h.built b is) ts k n o;
   headed = λ c b is. chain_headed D L Base a q join start I J h l.headed (λ a. (m a).headed) c b (h.built b is);
 }
@@ -336,7 +336,7 @@ row_linked C start J told some apart none = record {
   spelt = λ c a x f. pushed_leaves C.leaves C.after c a x;
   after = λ c a x. pushed_after C.after c a x;
   built = λ b is. built_from (λ x. [] ≡ x) (λ a x. AllByRecursion C.Is a × C.Is x) [] b (base [] refl)
-    (λ before a behind e. all_before C.Is before a behind (subst (AllByRecursion C.Is) e is));
+      (λ before a behind e. all_before C.Is before a behind (subst (AllByRecursion C.Is) e is));
   told = told;
   some = some;
   apart_base = none;
@@ -351,7 +351,7 @@ pub row_lawful : {C : Class} {J : Info} {part : Reads C.Tree} → Lawful C J par
     → Lawful (row_class C) (row_info start J) (row start part)
 row_lawful {C = C} {J = J} {part = part} l start told some apart none =
     chained (row_class C) (part_link (List C.Tree) C) (λ x. [] ≡ x) [] refl pushed start empty_info J (row_linked C start J told some apart none)
-      (nothing []) (nothing_lawful (row_class C) [] (λ c. refl) (λ c. refl)) (λ _. part) (λ _. l)
+    (nothing []) (nothing_lawful (row_class C) [] (λ c. refl) (λ c. refl)) (λ _. part) (λ _. l)
 
 -- ---- rows of one or more, of which the first is spelled otherwise than the rest
 
@@ -438,18 +438,18 @@ pub row_from_lawful : {A : Type 0} (R : Rows A) {I J : Info} {first part : Reads
     → Lawful (from_class R) (chain_info start I J) (row_from first start part)
 row_from_lawful {A = A} R {I = I} {J = J} {first = first} {part = part} l m start told some apart_first apart_rest =
     chained (from_class R) (part_link (List A) (rest_class R)) (IsFirstOf R.First) (R.some ∷ []) R.some_first pushed start I J
-      (record {
-        fits_base = first_fits R.First R.Is;
-        fits = λ a x f g. from_pushed R.First R.Is a x f g;
-        spelt = λ c a x f. from_pushed_leaves R c a x f;
-        after = λ c a x. pushed_after R.after c a x;
-        built = from_built R.First R.Is;
-        told = told;
-        some = some;
-        apart_base = apart_first;
-        apart_link = apart_rest;
-      })
-      (made (λ a. a ∷ []) first) (tree l (narrow (from_class R) (IsFirstOf R.First) (R.some ∷ []) R.some_first) (λ a. a ∷ []) (first_makes R)) (λ _. part) (λ _. m)
+    (record {
+      fits_base = first_fits R.First R.Is;
+      fits = λ a x f g. from_pushed R.First R.Is a x f g;
+      spelt = λ c a x f. from_pushed_leaves R c a x f;
+      after = λ c a x. pushed_after R.after c a x;
+      built = from_built R.First R.Is;
+      told = told;
+      some = some;
+      apart_base = apart_first;
+      apart_link = apart_rest;
+    })
+    (made (λ a. a ∷ []) first) (tree l (narrow (from_class R) (IsFirstOf R.First) (R.some ∷ []) R.some_first) (λ a. a ∷ []) (first_makes R)) (λ _. part) (λ _. m)
 
 -- ---- a part that may be left out
 
@@ -533,13 +533,13 @@ maybe_part {C = C} {r = r} l false = nothing_lawful (option_class C) None (λ c.
 pub maybe_lawful : {C : Class} {J : Info} {r : Reads C.Tree} → Lawful C J r → (start : Sort → Bool) → inside J.first start ≡ true → J.empty ≡ false → Lawful (option_class C) (maybe_info start J) (maybe start r)
 maybe_lawful {C = C} {J = J} {r = r} l start told some =
     chosen (option_class C) (maybe_info start J) (λ s. Some (start s)) (IsThere C.Is) (there_info J)
-      (record {
-        fits = there_fits C;
-        which = there_which C;
-        told = maybe_told start J told;
-        left = maybe_left start J some;
-        first = maybe_first J;
-        goes = maybe_goes start J;
-        empty = λ b e. refl;
-      })
-      (some_there C) (maybe_by r) (maybe_part l)
+    (record {
+      fits = there_fits C;
+      which = there_which C;
+      told = maybe_told start J told;
+      left = maybe_left start J some;
+      first = maybe_first J;
+      goes = maybe_goes start J;
+      empty = λ b e. refl;
+    })
+    (some_there C) (maybe_by r) (maybe_part l)

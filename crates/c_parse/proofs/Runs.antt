@@ -82,9 +82,9 @@ over_split [] lb ts k n o = inr (ts, refl, o)
 over_split (l ∷ la) lb [] k n o = absurd o
 over_split (l ∷ la) lb (t ∷ ts) k n (s, inl e) = inl (s, inl e)
 over_split (l ∷ la) lb (t ∷ ts) k n (s, inr m) = elim (over_split la lb ts k n m.1) [
-    | inl o ↦ inl (s, inr (m.0, o))
-    | inr x ↦ inr (x.0, (s, m.0, x.1), x.2)
-  ]
+  | inl o ↦ inl (s, inr (m.0, o))
+  | inr x ↦ inr (x.0, (s, m.0, x.1), x.2)
+]
 
 -- leaves leave no more tokens than there are
 pub within_shorter : (ls : List Leaf) (ts rest : List Token) → Within ls ts rest → length rest ≤ length ts

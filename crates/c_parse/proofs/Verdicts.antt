@@ -21,9 +21,9 @@ use Rattle.c_parse.proofs.FileLaws.{Outcome, spelt_outcome, within_spelt, within
 split_at : (ts : List Token) (n : ℕ) → 0 < n → n ≤ length ts → (front : List Token) × (t : Token) × (behind : List Token) × (ts ≡ front ++ t ∷ behind) × (length (t ∷ behind) ≡ n)
 split_at [] n lt le = absurd (omega arith)
 split_at (t ∷ ts) n lt le = elim (cases_lt (length ts) n) [
-    | inl more ↦ ([], t, ts, refl, omega arith)
-    | inr less ↦ let s = split_at ts n lt less in (t ∷ s.0, s.1, s.2, ap (λ (x : List Token). t ∷ x) s.3, s.4)
-  ]
+  | inl more ↦ ([], t, ts, refl, omega arith)
+  | inr less ↦ let s = split_at ts n lt less in (t ∷ s.0, s.1, s.2, ap (λ (x : List Token). t ∷ x) s.3, s.4)
+]
 
 -- leaves that end inside the front of the tokens
 within_inside : (ls : List Leaf) (front rest z : List Token) → Within ls (front ++ rest) z → length rest < length z → (p : List Token) × (more : List Token) × (front ≡ p ++ more) × Within ls p [] × (z ≡ more ++ rest)
@@ -69,18 +69,18 @@ unexpected_ok r h front t behind f is b nowhere x k =
           let parts : Within (leaves x.tree) ((front ++ t ∷ []) ++ behind) x.rest = rw (append_assoc front (t ∷ []) behind) k.parts in
           absurd (nowhere (x.tree, k.fits, begins_more (leaves x.tree) (front ++ t ∷ []) (within_begins (leaves x.tree) (front ++ t ∷ []) behind x.rest parts (omega arith))))
       | inr le ↦ elim (cases_lt n (length x.rest)) [
-          | inl gt ↦
-              let i = within_inside (leaves x.tree) front (t ∷ behind) x.rest k.parts gt in
-              let q = complete_within (leaves f) front b in
-              let there : r 0 (front ++ q.0) ≡ got x.tree 0 (i.1 ++ q.0) = ap (λ (y : List Token). r 0 (y ++ q.0)) i.2 ∙ ap (r 0) (append_assoc i.0 i.1 q.0) ∙ read_on r h x.tree k.fits i.0 (i.1 ++ q.0) i.3 in
-              elim (spelt_read r h f is (front ++ q.0) (length q.0) q.1) [
-                | inl e ↦
-                    let none : i.1 ++ q.0 ≡ [] = got_rest x.tree f (i.1 ++ q.0) [] (sym there ∙ e) in
-                    absurd (omega (arith, ap length none, length-append i.1 q.0, ap length i.4, length-append i.1 (t ∷ behind)))
-                | inr e ↦ let clash = sym there ∙ e.2 in absurd cc
-              ]
-          | inr ge ↦ same_left x.tree x.rest (omega arith)
-        ]
+        | inl gt ↦
+            let i = within_inside (leaves x.tree) front (t ∷ behind) x.rest k.parts gt in
+            let q = complete_within (leaves f) front b in
+            let there : r 0 (front ++ q.0) ≡ got x.tree 0 (i.1 ++ q.0) = ap (λ (y : List Token). r 0 (y ++ q.0)) i.2 ∙ ap (r 0) (append_assoc i.0 i.1 q.0) ∙ read_on r h x.tree k.fits i.0 (i.1 ++ q.0) i.3 in
+            elim (spelt_read r h f is (front ++ q.0) (length q.0) q.1) [
+              | inl e ↦
+                  let none : i.1 ++ q.0 ≡ [] = got_rest x.tree f (i.1 ++ q.0) [] (sym there ∙ e) in
+                  absurd (omega (arith, ap length none, length-append i.1 q.0, ap length i.4, length-append i.1 (t ∷ behind)))
+              | inr e ↦ let clash = sym there ∙ e.2 in absurd cc
+            ]
+        | inr ge ↦ same_left x.tree x.rest (omega arith)
+      ]
     ]
   where
     same_left : (g : File) (rest : List Token) → length rest ≡ length (t ∷ behind) → nothing_more g rest ≡ Err (stop None (length (t ∷ behind)))
@@ -94,20 +94,21 @@ unexpected_stop r h front t behind f is b nowhere w n e k =
     elim (cases_lt n many) [
       | inl lt ↦ absurd (nowhere (k.tree, k.fits, begins_stopped (leaves k.tree) w n k.stops (omega arith)))
       | inr le ↦ elim (cases_lt many n) [
-          | inl gt ↦
-              let q = complete_within (leaves f) front b in
-              let s = stuck (t ∷ behind) q.0 (r 0 front) (r 0 (front ++ t ∷ behind)) (r 0 (front ++ q.0)) (h.law.steady.stays 0 front (t ∷ behind)) (h.law.steady.stays 0 front q.0) w n gt e in
-              elim (spelt_read r h f is (front ++ q.0) (length q.0) q.1) [
-                | inl x ↦ let clash = sym x ∙ s.2 in absurd cc
-                | inr x ↦ let same = same_fault (Got File) (Some x.0) w x.1 (suc s.0 + length q.0) (sym x.2 ∙ s.2) in absurd (omega (arith, same.1, x.3))
-              ]
-          | inr ge ↦ stopped_here w k.stops (omega arith)
-        ]
+        | inl gt ↦
+            let q = complete_within (leaves f) front b in
+            let s = stuck (t ∷ behind) q.0 (r 0 front) (r 0 (front ++ t ∷ behind)) (r 0 (front ++ q.0)) (h.law.steady.stays 0 front (t ∷ behind)) (h.law.steady.stays 0 front q.0) w n gt e in
+            elim (spelt_read r h f is (front ++ q.0) (length q.0) q.1) [
+              | inl x ↦ let clash = sym x ∙ s.2 in absurd cc
+              | inr x ↦ let same = same_fault (Got File) (Some x.0) w x.1 (suc s.0 + length q.0) (sym x.2 ∙ s.2) in absurd (omega (arith, same.1, x.3))
+            ]
+        | inr ge ↦ stopped_here w k.stops (omega arith)
+      ]
     ]
   where
     begins_stopped : (ls : List Leaf) (w : Option Kind) (n : ℕ) → Stopped ls (front ++ t ∷ behind) w n → n ≤ length behind → Begins ls (front ++ t ∷ [])
     begins_stopped ls None n m le = begins_more ls (front ++ t ∷ []) (met_begins ls (front ++ t ∷ []) behind n (rw (append_assoc front (t ∷ []) behind) m) le)
     begins_stopped ls (Some k) n o le = over_begins ls front t behind k n o (omega arith)
+
     stopped_here : (w : Option Kind) → Stopped (leaves k.tree) (front ++ t ∷ behind) w n → n ≡ length (t ∷ behind) → failed File w n ≡ failed File None (length (t ∷ behind))
     stopped_here None m e = ap (λ (x : ℕ). Err (stop None x)) e
     stopped_here (Some x) o e = absurd (nowhere (k.tree, k.fits, over_begins (leaves k.tree) front t behind x n o (omega (arith, e))))
@@ -252,9 +253,9 @@ tree_or d (Err e) = d
 
 only_file : (r : Reads File) → ReadsFiles r → (ts : List Token) (f : File) → r 0 ts ≡ got f 0 [] → (g : File) → IsFile g → Spelt (leaves g) ts → g ≡ f
 only_file r h ts f e g is s = elim (spelt_read r h g is ts (length ts) (spelt_outcome (leaves g) ts s)) [
-    | inl x ↦ ap (tree_or g) (sym x ∙ e)
-    | inr x ↦ let clash = sym x.2 ∙ e in absurd cc
-  ]
+  | inl x ↦ ap (tree_or g) (sym x ∙ e)
+  | inr x ↦ let clash = sym x.2 ∙ e in absurd cc
+]
 
 parsed_at : (r : Reads File) → ReadsFiles r → (ts : List Token) (f : File) → (o : Reading File) → r 0 ts ≡ o → SoundAt file_class 0 ts o → (o >>= λ x. nothing_more x.tree x.rest) ≡ Ok f → Parses ts f
 parsed_at r h ts f (Ok x) is k e = by_rest x.rest refl e

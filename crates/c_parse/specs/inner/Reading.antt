@@ -186,8 +186,8 @@ casted room deeper inner = choice unary_start (cast_by room deeper inner)
 unfoldable pub sized : ℕ → ℕ → Level → Reads Sized
 sized room deeper inner = either (is_mark marks.OpenParen)
     (made (λ (_, s). s) (tok deeper (mark_is marks.OpenParen) & either begins_type
-      (made (λ (t, _). a_type t) (inner.type_name & tok deeper (mark_is marks.CloseParen)))
-      (made an_expr (group_rest room deeper inner))))
+    (made (λ (t, _). a_type t) (inner.type_name & tok deeper (mark_is marks.CloseParen)))
+    (made an_expr (group_rest room deeper inner))))
     (made an_expr (unary room deeper inner))
 
 -- an expression of h heights of binary operators
@@ -347,7 +347,7 @@ declaration zero = too_deep begins_type
 declaration (suc deeper) = made (λ (ss, (ds, _)). record { specs = ss; declarators = ds })
     (specs false (suc deeper) deeper (level_at false deeper)
     & commas (suc deeper) (initialised (suc deeper) (level_at false (suc deeper)) (bare_declared (suc deeper) deeper (level_at false deeper)))
-      (initialised (suc deeper) (level_at false (suc deeper)) (declared (suc deeper) deeper (level_at false deeper)))
+    (initialised (suc deeper) (level_at false (suc deeper)) (declared (suc deeper) deeper (level_at false deeper)))
     & tok (suc deeper) (mark_is marks.Semicolon))
 
 -- ---- statements (C11 6.8)
