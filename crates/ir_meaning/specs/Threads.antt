@@ -1,0 +1,204 @@
+-- Threads of structured code over named blocks, which share the world that the threads of the source share.
+use Rattle.std.specs.Prelude.{ℕ, zero, suc, ◌==◌, ◌&&◌, Bool, true, false, if◌then◌else◌, List, [], ◌∷◌, length, slice_get, Option, Some, None, Result, Ok, Err, ℤ, pos, unsigned_abs}
+use Rattle.ak_words.specs.declared.int_type.IntType.{IntType}
+use Rattle.block_store.specs.declared.values.Access.{Access}
+use Rattle.block_store.specs.declared.values.Access.TheVariants as accesses
+use Rattle.block_store.specs.declared.values.Answer.{Answer}
+use Rattle.block_store.specs.declared.values.Answer.TheVariants as answers
+use Rattle.block_store.specs.declared.values.Cell.TheVariants.{Unknown}
+use Rattle.block_store.specs.declared.values.Ptr.{Ptr}
+use Rattle.block_store.specs.declared.values.Value.{Value}
+use Rattle.block_store.specs.declared.values.Value.TheVariants as values
+use Rattle.block_store.specs.Pointers.{moved, indexed}
+use Rattle.block_store.specs.Actions.{World as Shared, Done, went, blocked, unfit, broke, acted, bytes, text}
+use Rattle.block_store.specs.Actions as actions
+use Rattle.block_store.specs.Runs as runs
+use Rattle.block_store.specs.Runs.{Program, Turn}
+use Rattle.c_tree.specs.TypedPrinting.{parts}
+use Rattle.struct_ir.specs.Nodes.{Place, Action, load, store, copy_bytes, malloc, free, print, lock, unlock, destroy, start, join, Step, Act, step, no_nodes, Nodes, Func, Ir}
+use Rattle.struct_ir.specs.Structured.{Position, done, then_, structured}
+use Rattle.struct_ir.specs.Threads as threads
+use Rattle.struct_ir.specs.Threads.{World, Served, serves, waits, refuses, fails, Thread, Outcome, turn}
+use Rattle.ir_meaning.specs.Blocks.{Held, value, unset, missing, Fault, broken, wrong_kind, Own, set_at, with_temps, with_blocks, known, on_value, on_number, on_pointer, or_broken, objects_of, all_ended, blocks_machine}
+
+-- ---- where an access goes
+
+-- a pointer plus an index, if there is one
+abbrev pub indexed_if : (place : ℕ) → Own → Option ℕ → (scale : ℕ) → Ptr → Result Ptr Fault
+indexed_if place l None scale p = Ok p
+indexed_if place l (Some i) scale p = on_value (known place (l.temps i)) (on_number (λ n. or_broken place (λ q. q) (indexed l.blocks p n.value scale)))
+
+-- a pointer moved to a member, if that stands behind the first byte
+abbrev pub moved_if : (place : ℕ) → Own → (offset : ℕ) → Ptr → Result Ptr Fault
+moved_if place l offset p = if offset == 0 then Ok p else or_broken place (λ q. q) (moved l.blocks p (pos offset))
+
+-- with the result, or the fault
+abbrev pub on_ok : {A B : Type 0} → Result A Fault → (A → Result B Fault) → Result B Fault
+on_ok (Ok x) go = go x
+on_ok (Err f) go = Err f
+
+-- the pointer in the base, moved by the index and then by the offset, each a pointer sum of C where it's there
+abbrev pub address_of : (place : ℕ) → Own → Place → Result Ptr Fault
+address_of place l a = on_value (known place (l.temps a.base)) (on_pointer (λ p. on_ok (indexed_if place l a.index a.scale p) (moved_if place l a.offset)))
+
+-- the results of all, or the first fault
+abbrev pub all_of : {A B : Type 0} → (A → Result B Fault) → List A → Result (List B) Fault
+all_of f [] = Ok []
+all_of f (x ∷ xs) = on_ok (f x) (λ y. on_ok (all_of f xs) (λ ys. Ok (y ∷ ys)))
+
+-- ---- the action of a step
+
+-- the value is one that the access writes
+abbrev pub same_type : IntType → IntType → Bool
+same_type s t = (s.bits == t.bits) && (if s.signed then t.signed else (if t.signed then false else true))
+
+-- by the kind of value, and its type
+abbrev pub fits : Access → Value → Bool
+fits (accesses.Number t) (values.Num n) = same_type t n.ty
+fits accesses.Pointer (values.Pointer p) = true
+fits how v = false
+
+-- the number that a value is
+abbrev pub number_of : Value → Result ℤ Fault
+number_of (values.Num n) = Ok n.value
+number_of (values.Pointer p) = Err wrong_kind
+
+-- what the threads of the source do too: with these places and values
+abbrev pub action_with : Action → List Ptr → List Value → Result actions.Action Fault
+action_with (load how) (at ∷ []) [] = Ok (actions.load at how)
+action_with (store how) (at ∷ []) (v ∷ []) = if fits how v then Ok (actions.store at v) else Err wrong_kind
+action_with (copy_bytes align same) (to ∷ from ∷ []) (values.Num n ∷ []) = Ok (actions.copy to from (unsigned_abs n.value) align same)
+action_with malloc [] (values.Num n ∷ []) = Ok (actions.allocate (unsigned_abs n.value) Unknown)
+action_with free [] (values.Pointer p ∷ []) = Ok (actions.free p)
+action_with (print pieces) places vs = on_ok (all_of number_of vs) (λ numbers. Ok (actions.print (parts bytes text pieces numbers places)))
+action_with lock (at ∷ []) [] = Ok (actions.lock at)
+action_with unlock (at ∷ []) [] = Ok (actions.unlock at)
+action_with destroy (at ∷ []) [] = Ok (actions.destroy at)
+action_with (start function) (to ∷ []) (values.Pointer p ∷ []) = Ok (actions.start to function p)
+action_with join (to ∷ []) (values.Num n ∷ []) = Ok (actions.join (unsigned_abs n.value) to)
+action_with action places vs = Err wrong_kind
+
+-- the places first, and then the registers, in order
+abbrev pub action_of : (place : ℕ) → Own → Step → Result actions.Action Fault
+action_of place l s = on_ok (all_of (address_of place l) s.places) (λ places. on_ok (all_of (λ t. known place (l.temps t)) s.temps) (action_with s.action places))
+
+-- the register that takes a result, where both are there
+abbrev pub set_if : (ℕ → Held) → Option ℕ → Option Value → ℕ → Held
+set_if temps (Some to) (Some v) = set_at temps to (value v)
+set_if temps to v = temps
+
+-- what the thread has after an action
+abbrev pub served_by : (place : ℕ) → Own → Option ℕ → Done → Served Own Fault Shared
+served_by place l to (went v w) = serves (with_temps l (set_if l.temps to v)) w
+served_by place l to blocked = waits
+served_by place l to unfit = refuses
+served_by place l to (broke rule) = fails (broken rule place)
+
+-- what comes of an action, or the fault
+abbrev pub served_if : (place thread : ℕ) → Answer → Own → Option ℕ → Shared → Result actions.Action Fault → Served Own Fault Shared
+served_if place thread answer l to w (Ok action) = served_by place l to (acted w thread answer action)
+served_if place thread answer l to w (Err f) = fails f
+
+-- what comes of a step
+abbrev pub serve_step : (thread : ℕ) → Answer → (place : ℕ) → Act → Own → Shared → Served Own Fault Shared
+serve_step thread answer place (step s) l w = served_if place thread answer l s.to w (action_of place l s)
+serve_step thread answer place a l w = fails wrong_kind
+
+-- ---- calls
+
+-- the arguments stand in the first registers, in order
+abbrev pub passed : (ℕ → Held) → List ℕ → ℕ → Held
+passed temps [] r = unset
+passed temps (a ∷ args) zero = temps a
+passed temps (a ∷ args) (suc r) = passed temps args r
+
+-- what a call begins with
+abbrev pub entered : (function : ℕ) → Own → List ℕ → Own
+entered function l args = record { function = function; temps = passed l.temps args; objects = λ i. None; blocks = l.blocks }
+
+-- the objects of a call have ended
+abbrev pub over : Ir → Own → Own
+over p l = all_ended l (length (objects_of (slice_get p.funcs l.function)))
+
+-- what the caller gets: the value, or that there is none
+abbrev pub given : Own → Option ℕ → Held
+given l None = missing
+given l (Some t) = l.temps t
+
+-- a register takes it, if one does
+abbrev pub set_given : (ℕ → Held) → Option ℕ → Held → ℕ → Held
+set_given temps None h = temps
+set_given temps (Some to) h = set_at temps to h
+
+-- what the caller has behind its call
+abbrev pub left : Ir → (callee : Own) → Option ℕ → (caller : Own) → Option ℕ → Own
+left p l temp caller to = record { function = caller.function; temps = set_given caller.temps to (given l temp); objects = caller.objects; blocks = (over p l).blocks }
+
+-- the result of a thread's first function
+abbrev pub result_of : Held → Option ℤ
+result_of (value (values.Num n)) = Some n.value
+result_of h = None
+
+-- the return of a thread's first function is an action; the call's objects end in the same turn
+abbrev pub finished : Ir → (thread : ℕ) → Answer → Own → Option ℕ → Shared → Served Own Fault Shared
+finished p thread answer l temp w = served_by 0 l None (acted (actions.with_blocks w (over p l).blocks) thread answer (actions.finish (result_of (given l temp))))
+
+-- the answer of a turn without an action
+abbrev pub is_plain : Answer → Bool
+is_plain answers.Plain = true
+is_plain answer = false
+
+-- what the threads of structured code share, for the thread of this number
+abbrev pub blocks_world : Ir → (thread : ℕ) → World Own Fault Shared Answer
+blocks_world p thread = record {
+  seen = λ w l. with_blocks l w.blocks;
+  kept = λ l w. actions.with_blocks w l.blocks;
+  serve = serve_step thread;
+  finish = finished p thread;
+  is_plain = is_plain;
+  entered = entered;
+  left = left p;
+}
+
+-- ---- programs
+
+-- the nodes of a function
+abbrev pub nodes_of : Option Func → Nodes
+nodes_of (Some f) = f.nodes
+nodes_of None = no_nodes
+
+-- where a call of a function begins
+abbrev pub code_of : Ir → (function : ℕ) → Position
+code_of p function = then_ (nodes_of (slice_get p.funcs function)) done
+
+-- the registers of a thread's first function: its argument is its one parameter, and main has none
+abbrev pub first_temps : (params : ℕ) → Ptr → ℕ → Held
+first_temps zero argument r = unset
+first_temps (suc n) argument zero = value (values.Pointer argument)
+first_temps (suc n) argument (suc r) = unset
+
+-- how many parameters a function has
+abbrev pub params_of : Option Func → ℕ
+params_of (Some f) = f.params
+params_of None = 0
+
+-- what a thread begins with
+abbrev pub first_own : Ir → (function : ℕ) → Ptr → Own
+first_own p function argument = record { function = function; temps = first_temps (params_of (slice_get p.funcs function)) argument; objects = λ i. None; blocks = [] }
+
+-- what comes of a turn, as the turns of the source tell it
+abbrev pub turned : Outcome Position Own Fault Shared → Turn (Thread Position Own)
+turned (threads.went t w) = runs.went t w
+turned (threads.ended l w) = runs.ended w
+turned threads.blocked = runs.blocked
+turned (threads.broke (broken rule place)) = runs.broke rule place
+turned (threads.broke wrong_kind) = runs.unfit
+turned threads.unfit = runs.unfit
+
+-- structured code as a program of threads over named blocks
+abbrev pub program_of : Ir → Program (Thread Position Own)
+program_of p = record {
+  main = p.main;
+  begins = λ function argument. record { top = record { at = code_of p function; own = first_own p function argument }; callers = [] };
+  turn = λ thread answer t w. turned (turn structured (blocks_machine p) (blocks_world p thread) (code_of p) answer t w);
+}
