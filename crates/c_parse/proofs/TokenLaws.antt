@@ -311,7 +311,7 @@ assign_lawful d n e = plain d n e (marked mark_of_assign) (0, assigns.Plain) is_
 
 -- ---- words of types and of storage
 
-type_back : (m : Word) (a : TypeWord) → type_of_word m ≡ Some a → m ≡ word_of_type a
+pub type_back : (m : Word) (a : TypeWord) → type_of_word m ≡ Some a → m ≡ word_of_type a
 type_back words.Void a e = let same : types.Void ≡ a = cc in ap word_of_type same
 type_back words.Char a e = let same : types.Char ≡ a = cc in ap word_of_type same
 type_back words.Short a e = let same : types.Short ≡ a = cc in ap word_of_type same
@@ -327,7 +327,7 @@ type_back words.Register a e = let same : types.Register ≡ a = cc in ap word_o
 type_back words.Auto a e = let same : types.Auto ≡ a = cc in ap word_of_type same
 type_back _ a e = absurd cc
 
-type_forth : (a : TypeWord) → type_of_word (word_of_type a) ≡ Some a
+pub type_forth : (a : TypeWord) → type_of_word (word_of_type a) ≡ Some a
 type_forth types.Void = refl
 type_forth types.Char = refl
 type_forth types.Short = refl
@@ -353,7 +353,7 @@ type_word_back (kinds.Word w) from x e = by_word (type_of_word w) refl e
     by_word (Some a) i e = let same : (from, a) ≡ x = cc in (ap kinds.Word (type_back w a i) ∙ ap (λ (y : ℕ × TypeWord). kinds.Word (word_of_type y.1)) same, ap (λ (y : ℕ × TypeWord). y.0) same)
 type_word_back _ from x e = absurd cc
 
-type_words_tell : Tells type_word_sign type_word_of
+pub type_words_tell : Tells type_word_sign type_word_of
 type_words_tell = record {
   back = λ t a e. type_word_back t.kind t.from a e;
   forth = λ t a s. rw (s.0, s.1, type_forth a.1) refl;
