@@ -8,4 +8,5 @@ mod FileLaws
 mod Verdicts
 pub mod GrammarLaws
 mod TokenLaws
+mod Classes
 pub mod RowsProof
