@@ -9,4 +9,7 @@ mod Verdicts
 pub mod GrammarLaws
 mod TokenLaws
 mod BinaryLaws
+mod Classes
 pub mod RowsProof
+mod MoreJoints
+mod SpecLaws
