@@ -13,3 +13,4 @@ mod Classes
 pub mod RowsProof
 mod MoreJoints
 mod SpecLaws
+mod PointerLaws
