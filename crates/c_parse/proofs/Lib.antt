@@ -14,3 +14,4 @@ pub mod RowsProof
 mod MoreJoints
 mod SpecLaws
 mod PointerLaws
+mod DeclaratorLaws
