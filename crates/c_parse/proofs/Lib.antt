@@ -15,3 +15,4 @@ mod MoreJoints
 mod SpecLaws
 mod PointerLaws
 mod DeclaratorLaws
+mod MemberLaws
