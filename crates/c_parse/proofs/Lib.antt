@@ -9,4 +9,5 @@ mod Verdicts
 pub mod GrammarLaws
 mod TokenLaws
 mod Classes
+mod Forks
 pub mod RowsProof
