@@ -8,6 +8,9 @@ mod FileLaws
 mod Verdicts
 pub mod GrammarLaws
 mod TokenLaws
+mod BinaryLaws
 mod Classes
 mod Forks
 pub mod RowsProof
+mod MoreJoints
+mod SpecLaws

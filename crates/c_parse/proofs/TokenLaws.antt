@@ -43,7 +43,7 @@ use Rattle.c_parse.proofs.Lawful.{Class, sort_of_sign, Lawful, token_class, star
 abbrev pub Room : ℕ → ℕ → Type 0
 Room d n = d + n ≡ 129
 
-deep_at : (d n : ℕ) → Room d n → if_so (nat_lt 128 d) TooDeep ≡ deep n
+pub deep_at : (d n : ℕ) → Room d n → if_so (nat_lt 128 d) TooDeep ≡ deep n
 deep_at d zero e = let is : d ≡ 129 = omega arith in rw is refl
 deep_at d (suc n) e = rw (le-ltb 128 d (omega arith)) refl
 
@@ -260,3 +260,175 @@ is_prefix _ = false
 
 pub prefix_lawful : (d n : ℕ) → Room d n → Lawful (plain_class d (marked mark_of_prefix) (0, prefixes.Minus)) (starts is_prefix) (tok n prefix_of)
 prefix_lawful d n e = plain d n e (marked mark_of_prefix) (0, prefixes.Minus) is_prefix prefix_of (marked_tells prefix_of_mark mark_of_prefix prefix_back prefix_forth) (λ a. ap is_some (prefix_forth a.1))
+
+step_back : (m : Mark) (a : StepOp) → step_of_mark m ≡ Some a → m ≡ mark_of_step a
+step_back marks.PlusPlus a e = let same : steps.Increment ≡ a = cc in ap mark_of_step same
+step_back marks.MinusMinus a e = let same : steps.Decrement ≡ a = cc in ap mark_of_step same
+step_back _ a e = absurd cc
+
+step_forth : (a : StepOp) → step_of_mark (mark_of_step a) ≡ Some a
+step_forth steps.Increment = refl
+step_forth steps.Decrement = refl
+
+-- "++" or "--"
+pub step_lawful : (d n : ℕ) → Room d n → Lawful (plain_class d (marked mark_of_step) (0, steps.Increment)) (starts is_step) (tok n step_of)
+step_lawful d n e = plain d n e (marked mark_of_step) (0, steps.Increment) is_step step_of (marked_tells step_of_mark mark_of_step step_back step_forth) (λ a. ap is_some (step_forth a.1))
+
+assign_back : (m : Mark) (a : AssignOp) → assign_of_mark m ≡ Some a → m ≡ mark_of_assign a
+assign_back marks.Assign a e = let same : assigns.Plain ≡ a = cc in ap mark_of_assign same
+assign_back marks.PlusAssign a e = let same : assigns.Add ≡ a = cc in ap mark_of_assign same
+assign_back marks.MinusAssign a e = let same : assigns.Sub ≡ a = cc in ap mark_of_assign same
+assign_back marks.StarAssign a e = let same : assigns.Mul ≡ a = cc in ap mark_of_assign same
+assign_back marks.SlashAssign a e = let same : assigns.Div ≡ a = cc in ap mark_of_assign same
+assign_back marks.PercentAssign a e = let same : assigns.Rem ≡ a = cc in ap mark_of_assign same
+assign_back marks.AmpersandAssign a e = let same : assigns.And ≡ a = cc in ap mark_of_assign same
+assign_back marks.BarAssign a e = let same : assigns.Or ≡ a = cc in ap mark_of_assign same
+assign_back marks.CaretAssign a e = let same : assigns.Xor ≡ a = cc in ap mark_of_assign same
+assign_back marks.ShiftLeftAssign a e = let same : assigns.Shl ≡ a = cc in ap mark_of_assign same
+assign_back marks.ShiftRightAssign a e = let same : assigns.Shr ≡ a = cc in ap mark_of_assign same
+assign_back _ a e = absurd cc
+
+assign_forth : (a : AssignOp) → assign_of_mark (mark_of_assign a) ≡ Some a
+assign_forth assigns.Plain = refl
+assign_forth assigns.Add = refl
+assign_forth assigns.Sub = refl
+assign_forth assigns.Mul = refl
+assign_forth assigns.Div = refl
+assign_forth assigns.Rem = refl
+assign_forth assigns.And = refl
+assign_forth assigns.Or = refl
+assign_forth assigns.Xor = refl
+assign_forth assigns.Shl = refl
+assign_forth assigns.Shr = refl
+
+abbrev pub is_assign : Sort → Bool
+is_assign (a_mark m) = is_some (assign_of_mark m)
+is_assign _ = false
+
+-- an assignment's operator
+pub assign_lawful : (d n : ℕ) → Room d n → Lawful (plain_class d (marked mark_of_assign) (0, assigns.Plain)) (starts is_assign) (tok n assign_of)
+assign_lawful d n e = plain d n e (marked mark_of_assign) (0, assigns.Plain) is_assign assign_of (marked_tells assign_of_mark mark_of_assign assign_back assign_forth) (λ a. ap is_some (assign_forth a.1))
+
+-- ---- words of types and of storage
+
+pub type_back : (m : Word) (a : TypeWord) → type_of_word m ≡ Some a → m ≡ word_of_type a
+type_back words.Void a e = let same : types.Void ≡ a = cc in ap word_of_type same
+type_back words.Char a e = let same : types.Char ≡ a = cc in ap word_of_type same
+type_back words.Short a e = let same : types.Short ≡ a = cc in ap word_of_type same
+type_back words.Int a e = let same : types.Int ≡ a = cc in ap word_of_type same
+type_back words.Long a e = let same : types.Long ≡ a = cc in ap word_of_type same
+type_back words.Signed a e = let same : types.Signed ≡ a = cc in ap word_of_type same
+type_back words.Unsigned a e = let same : types.Unsigned ≡ a = cc in ap word_of_type same
+type_back words.SizeT a e = let same : types.SizeT ≡ a = cc in ap word_of_type same
+type_back words.ThrdT a e = let same : types.ThrdT ≡ a = cc in ap word_of_type same
+type_back words.MtxT a e = let same : types.MtxT ≡ a = cc in ap word_of_type same
+type_back words.Const a e = let same : types.Const ≡ a = cc in ap word_of_type same
+type_back words.Register a e = let same : types.Register ≡ a = cc in ap word_of_type same
+type_back words.Auto a e = let same : types.Auto ≡ a = cc in ap word_of_type same
+type_back _ a e = absurd cc
+
+pub type_forth : (a : TypeWord) → type_of_word (word_of_type a) ≡ Some a
+type_forth types.Void = refl
+type_forth types.Char = refl
+type_forth types.Short = refl
+type_forth types.Int = refl
+type_forth types.Long = refl
+type_forth types.Signed = refl
+type_forth types.Unsigned = refl
+type_forth types.SizeT = refl
+type_forth types.ThrdT = refl
+type_forth types.MtxT = refl
+type_forth types.Const = refl
+type_forth types.Register = refl
+type_forth types.Auto = refl
+
+abbrev pub type_word_sign : ℕ × TypeWord → Sign
+type_word_sign x = word_at x.0 (word_of_type x.1)
+
+type_word_back : (k : TokenKind) (from : ℕ) (x : ℕ × TypeWord) → at_place from (word_of_kind type_of_word k) ≡ Some x → (k ≡ kinds.Word (word_of_type x.1)) × (from ≡ x.0)
+type_word_back (kinds.Word w) from x e = by_word (type_of_word w) refl e
+  where
+    by_word : (o : Option TypeWord) → type_of_word w ≡ o → at_place from o ≡ Some x → (kinds.Word w ≡ kinds.Word (word_of_type x.1)) × (from ≡ x.0)
+    by_word None i e = absurd cc
+    by_word (Some a) i e = let same : (from, a) ≡ x = cc in (ap kinds.Word (type_back w a i) ∙ ap (λ (y : ℕ × TypeWord). kinds.Word (word_of_type y.1)) same, ap (λ (y : ℕ × TypeWord). y.0) same)
+type_word_back _ from x e = absurd cc
+
+pub type_words_tell : Tells type_word_sign type_word_of
+type_words_tell = record {
+  back = λ t a e. type_word_back t.kind t.from a e;
+  forth = λ t a s. rw (s.0, s.1, type_forth a.1) refl;
+}
+
+abbrev pub is_type_word : Sort → Bool
+is_type_word (a_word w) = is_some (type_of_word w)
+is_type_word _ = false
+
+-- a word of a type
+pub type_word_lawful : (d n : ℕ) → Room d n → Lawful (plain_class d type_word_sign (0, types.Int)) (starts is_type_word) (tok n type_word_of)
+type_word_lawful d n e = plain d n e type_word_sign (0, types.Int) is_type_word type_word_of type_words_tell (λ a. ap is_some (type_forth a.1))
+
+storage_back : (m : Word) (a : Storage) → storage_of_word m ≡ Some a → m ≡ word_of_storage a
+storage_back words.Static a e = let same : storages.Static ≡ a = cc in ap word_of_storage same
+storage_back words.Inline a e = let same : storages.Inline ≡ a = cc in ap word_of_storage same
+storage_back _ a e = absurd cc
+
+storage_forth : (a : Storage) → storage_of_word (word_of_storage a) ≡ Some a
+storage_forth storages.Static = refl
+storage_forth storages.Inline = refl
+
+abbrev pub storage_sign : Storage → Sign
+storage_sign s = some_word (word_of_storage s)
+
+storage_word_back : (k : TokenKind) (a : Storage) → word_of_kind storage_of_word k ≡ Some a → k ≡ kinds.Word (word_of_storage a)
+storage_word_back (kinds.Word w) a e = ap kinds.Word (storage_back w a e)
+storage_word_back _ a e = absurd cc
+
+storages_tell : Tells storage_sign storage_of
+storages_tell = record {
+  back = λ t a e. storage_word_back t.kind a e;
+  forth = λ t a s. rw (s, storage_forth a) refl;
+}
+
+-- static or inline
+pub storage_lawful : (d n : ℕ) → Room d n → Lawful (plain_class d storage_sign storages.Static) (starts is_storage) (tok n storage_of)
+storage_lawful d n e = plain d n e storage_sign storages.Static is_storage storage_of storages_tell (λ a. ap is_some (storage_forth a))
+
+-- ---- numbers, the end, and the opening bracket of a parameter's dimension
+
+abbrev pub is_int : Sort → Bool
+is_int an_int = true
+is_int _ = false
+
+abbrev pub is_char : Sort → Bool
+is_char a_char = true
+is_char _ = false
+
+pub int_lawful : (d n : ℕ) → Room d n → Lawful (plain_class d int_sign (0, num int (pos 0))) (starts is_int) (tok n int_of)
+int_lawful d n e = plain d n e int_sign (0, num int (pos 0)) is_int int_of ints_tell (λ a. refl)
+
+pub char_lawful : (d n : ℕ) → Room d n → Lawful (plain_class d char_sign (0, num int (pos 0))) (starts is_char) (tok n char_of)
+char_lawful d n e = plain d n e char_sign (0, num int (pos 0)) is_char char_of chars_tell (λ a. refl)
+
+abbrev pub end_sign : Unit {0} → Sign
+end_sign u = the_end
+
+end_back : (k : TokenKind) (a : Unit {0}) → end_of_kind k ≡ Some a → k ≡ kinds.End
+end_back kinds.End a e = refl
+end_back _ a e = absurd cc
+
+ends_tell : Tells end_sign end_of
+ends_tell = record {
+  back = λ t a e. end_back t.kind a e;
+  forth = λ t a s. rw s refl;
+}
+
+abbrev pub is_end : Sort → Bool
+is_end an_end = true
+is_end _ = false
+
+pub end_lawful : (d n : ℕ) → Room d n → Lawful (plain_class d end_sign tt) (starts is_end) (tok n end_of)
+end_lawful d n e = plain d n e end_sign tt is_end end_of ends_tell (λ a. refl)
+
+-- the opening bracket of a parameter's dimension, with its place
+pub derived_place_lawful : (d n k : ℕ) → Room d n → (m : Mark) → Lawful (derived_class d k (mark_place_sign m) 0) (starts (is_mark m)) (derived_tok n k (mark_place m))
+derived_place_lawful d n k e m = derived d n k e (mark_place_sign m) 0 (is_mark m) (mark_place m) (mark_place_tells m) (λ a. same_mark m)
