@@ -11,6 +11,7 @@ mod TokenLaws
 mod BinaryLaws
 mod Classes
 mod Forks
+mod StatementClasses
 pub mod RowsProof
 mod MoreJoints
 mod SpecLaws
