@@ -12,6 +12,7 @@ mod BinaryLaws
 mod Classes
 mod Forks
 mod StatementClasses
+mod SimpleLaws
 pub mod RowsProof
 mod MoreJoints
 mod SpecLaws
