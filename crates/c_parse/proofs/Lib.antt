@@ -10,6 +10,9 @@ pub mod GrammarLaws
 mod TokenLaws
 mod BinaryLaws
 mod Classes
+mod Forks
+mod StatementClasses
+mod SimpleLaws
 pub mod RowsProof
 mod MoreJoints
 mod SpecLaws

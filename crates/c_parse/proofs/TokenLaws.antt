@@ -270,9 +270,12 @@ step_forth : (a : StepOp) → step_of_mark (mark_of_step a) ≡ Some a
 step_forth steps.Increment = refl
 step_forth steps.Decrement = refl
 
+pub steps_tell : Tells (marked mark_of_step) step_of
+steps_tell = marked_tells step_of_mark mark_of_step step_back step_forth
+
 -- "++" or "--"
 pub step_lawful : (d n : ℕ) → Room d n → Lawful (plain_class d (marked mark_of_step) (0, steps.Increment)) (starts is_step) (tok n step_of)
-step_lawful d n e = plain d n e (marked mark_of_step) (0, steps.Increment) is_step step_of (marked_tells step_of_mark mark_of_step step_back step_forth) (λ a. ap is_some (step_forth a.1))
+step_lawful d n e = plain d n e (marked mark_of_step) (0, steps.Increment) is_step step_of steps_tell (λ a. ap is_some (step_forth a.1))
 
 assign_back : (m : Mark) (a : AssignOp) → assign_of_mark m ≡ Some a → m ≡ mark_of_assign a
 assign_back marks.Assign a e = let same : assigns.Plain ≡ a = cc in ap mark_of_assign same
