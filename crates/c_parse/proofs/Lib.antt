@@ -19,3 +19,4 @@ mod SpecLaws
 mod PointerLaws
 mod DeclaratorLaws
 mod MemberLaws
+mod DeclarationLaws
