@@ -20,3 +20,4 @@ mod PointerLaws
 mod DeclaratorLaws
 mod MemberLaws
 mod DeclarationLaws
+mod ParamLaws
