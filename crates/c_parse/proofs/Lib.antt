@@ -13,6 +13,8 @@ mod Classes
 mod Forks
 mod StatementClasses
 mod SimpleLaws
+mod DeepStatements
+mod ItemLaws
 pub mod RowsProof
 mod MoreJoints
 mod SpecLaws

@@ -482,7 +482,7 @@ simple_forks d = record {
 pub deeper_room : (d n : ℕ) → Room d (suc n) → Room (d + 1) n
 deeper_room d n r = omega (arith, r)
 
-simply_there : Parts → (n d : ℕ) → Room d (suc n) → Lawful (simple_class d) simple_info (simply (suc n))
+pub simply_there : Parts → (n d : ℕ) → Room d (suc n) → Lawful (simple_class d) simple_info (simply (suc n))
 unfolding simply
 simply_there p n d r =
     forked (simple_class d) simple_info (both_info (starts is_step) postfix_info) (both_info expr_info tail_info) is_step IsBefore IsBehind (simple_forks d) (before 0 steps.Increment (null 0)) (none_less 1, tt) (eval (null 0)) tt
