@@ -23,3 +23,5 @@ mod DeclaratorLaws
 mod MemberLaws
 mod DeclarationLaws
 mod ParamLaws
+mod BodyLaws
+mod RestLaws
