@@ -25,3 +25,4 @@ mod DeclarationLaws
 mod ParamLaws
 mod BodyLaws
 mod RestLaws
+mod ExternalLaws
