@@ -26,3 +26,4 @@ mod ParamLaws
 mod BodyLaws
 mod RestLaws
 mod ExternalLaws
+mod EndLaws
