@@ -27,3 +27,4 @@ mod BodyLaws
 mod RestLaws
 mod ExternalLaws
 mod EndLaws
+mod NoEnds
