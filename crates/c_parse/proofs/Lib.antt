@@ -28,3 +28,4 @@ mod RestLaws
 mod ExternalLaws
 mod EndLaws
 mod NoEnds
+mod WholeLaws
