@@ -10,7 +10,8 @@ pub mod GrammarLaws
 mod TokenLaws
 mod BinaryLaws
 mod Classes
-mod Forks
+mod Respelling
 pub mod RowsProof
 mod MoreJoints
 mod SpecLaws
+mod ArgumentLaws
