@@ -15,3 +15,4 @@ pub mod RowsProof
 mod MoreJoints
 mod SpecLaws
 mod ArgumentLaws
+mod PostfixLaws

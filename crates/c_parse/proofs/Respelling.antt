@@ -1,13 +1,15 @@
--- More joints that keep the laws: the same trees said otherwise, and trees whose leaves are asked for more loosely.
-use Rattle.std.proofs.Common.{◌≡◌, ℕ, List, [], ◌∷◌, Option, Some, None, Result, Ok, Err, Bool, true, false, refl, sym, ap, subst, ◌∙◌, inl, inr, ◌⊎◌}
+-- More joints that keep the laws: the same trees said otherwise, trees whose leaves are asked for more loosely,
+-- and one of several parts, each with a token.
+use Rattle.std.proofs.Common.{◌≡◌, ℕ, List, [], ◌∷◌, Option, Some, None, Result, Ok, Err, Bool, true, false, refl, sym, ap, subst, ◌∙◌}
 use Rattle.c_lex.specs.declared.token.Token.{Token}
 use Rattle.c_lex.specs.declared.refusal.Kind.{Kind}
 use Rattle.c_parse.specs.Leaves.{Leaf}
-use Rattle.c_parse.specs.inner.Readers.{Fault, stop, spent, Got, Reading, got, Reads, ◌>>=◌, Sort, made}
+use Rattle.c_parse.specs.inner.Readers.{Fault, stop, spent, Got, Reading, got, Reads, ◌>>=◌, Sort, made, choice}
+use Rattle.c_parse.proofs.Sorts.{inside, is_inside}
 use Rattle.c_parse.proofs.Runs.{Within, Over, Stopped}
 use Rattle.c_parse.proofs.Steadiness.{made_steady}
 use Rattle.c_parse.proofs.Lawful.{Class, Info, Took, Begun, SoundAt, Follows, Headed, Lawful}
-use Rattle.c_parse.proofs.Joints.{narrow}
+use Rattle.c_parse.proofs.Joints.{narrow, Chosen, chosen}
 
 -- ---- the same trees, said otherwise
 
@@ -67,3 +69,34 @@ respelt {C = C} {I = I} {r = r} l D f m h = record {
   limited = λ c b is ts k n o. let a = m.back_over c b is ts k n o in respelt_limited C D I f r l c a.0 a.1 ts k n a.3;
   headed = h;
 }
+
+-- ---- one of several parts, each with a token
+
+-- the parts are told apart by their first tokens, as a test of all sorts shows
+pub record Picks {S : Type 0} (D : Class) (I : Info) (start : Sort → Option S) (Which : S → D.Tree → Type 0) (J : S → Info) (is_the : S → Option S → Bool) : Type 0 where
+  pub is : (s : S) (o : Option S) → is_the s o ≡ true → o ≡ Some s
+  pub fits : (s : S) (a : D.Tree) → Which s a → D.Is a
+  pub which : (a : D.Tree) → D.Is a → (s : S) × Which s a
+  pub told : (s : S) → inside (J s).first (λ x. is_the s (start x)) ≡ true
+  pub some : (s : S) → (J s).empty ≡ false
+  pub first : (s : S) → inside (J s).first I.first ≡ true
+  pub goes : (s : S) → inside (J s).goes I.goes ≡ true
+
+not_inside : (p q : Bool) → (p ≡ true → q ≡ true) → q ≡ false → p ≡ false
+not_inside true q h f = absurd (cc (h refl, f))
+not_inside false q h f = refl
+
+picks_chosen : {S : Type 0} (D : Class) (I : Info) (start : Sort → Option S) (Which : S → D.Tree → Type 0) (J : S → Info) (is_the : S → Option S → Bool) → Picks D I start Which J is_the → Chosen D I start Which J
+picks_chosen D I start Which J is_the h = record {
+  fits = h.fits;
+  which = h.which;
+  told = λ s x e. h.is s (start x) (is_inside (J s).first (λ x. is_the s (start x)) (h.told s) x e);
+  left = λ s e x f. absurd (cc (e, h.some s));
+  first = λ s x e. is_inside (J s).first I.first (h.first s) x e;
+  goes = λ s x f. not_inside ((J s).goes x) (I.goes x) (is_inside (J s).goes I.goes (h.goes s) x) f;
+  empty = λ s e. absurd (cc (e, h.some s));
+}
+
+pub picked : {S : Type 0} (D : Class) (I : Info) (start : Sort → Option S) (Which : S → D.Tree → Type 0) (J : S → Info) (is_the : S → Option S → Bool) → Picks D I start Which J is_the → (some : (s : S) → (a : D.Tree) × Which s a) → (part : S → Reads D.Tree)
+    → ((s : S) → Lawful (narrow D (Which s) (some s).0 (some s).1) (J s) (part s)) → Lawful D I (choice start part)
+picked D I start Which J is_the h some part l = chosen D I start Which J (picks_chosen D I start Which J is_the h) some part l
