@@ -16,3 +16,4 @@ mod MoreJoints
 mod SpecLaws
 mod ArgumentLaws
 mod PostfixLaws
+mod OperandLaws

@@ -225,6 +225,12 @@ posted_built b s (cast place t e) f = base (cast place t e) (f.0, f.1, f.2, refl
 posted_built b s (binary place op a e) f = base (binary place op a e) (f.0, f.1, f.2, refl)
 posted_built b s (conditional place a t e) f = base (conditional place a t e) (f.0, f.1, f.2, refl)
 
+-- the leaves of an operator stand behind those of what it is for
+pub posted_spelt : (d c : ℕ) (a : Expr) (x : Post) → on d c (posted a x) ≡ on d c a ++ on_post d (counted c a) x
+posted_spelt d c a (an_index place i) = append_assoc (on d c a) (operator_at (d + 1) (counted c a + 1) (mark_at place marks.OpenBracket) ∷ on (d + 1) (counted c a + 1) i) (at (d + 1) (some_mark marks.CloseBracket) ∷ [])
+posted_spelt d c a (a_member place m) = refl
+posted_spelt d c a (an_arrow place m) = refl
+
 -- leaves to which each operator adds its own
 abbrev pub Adds : Bool → ℕ → UnaryStart → (ℕ → Expr → List Leaf) → Type 0
 Adds b d s leaves = (c : ℕ) (a : Expr) (x : Post) → Begins b 0 s a → leaves c (posted a x) ≡ leaves c a ++ on_post d (counted c a) x
