@@ -17,3 +17,4 @@ mod SpecLaws
 mod ArgumentLaws
 mod PostfixLaws
 mod OperandLaws
+mod UnaryLaws
