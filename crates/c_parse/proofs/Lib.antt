@@ -18,3 +18,5 @@ mod ArgumentLaws
 mod PostfixLaws
 mod OperandLaws
 mod UnaryLaws
+mod CastLaws
+mod SizedLaws

@@ -31,22 +31,22 @@ use Rattle.c_parse.proofs.OperandLaws.{begins_operand, primary_class, primary_in
 
 -- ---- expressions by what they begin with
 
-one_one : 1 ≤ 1
+pub one_one : 1 ≤ 1
 one_one = omega arith
 
-one_two : 1 ≤ 2
+pub one_two : 1 ≤ 2
 one_two = omega arith
 
-abbrev some_begin : (b : Bool) (k : ℕ) → 1 ≤ k → (s : UnaryStart) → (e : Expr) × Begins b k s e
+abbrev pub some_begin : (b : Bool) (k : ℕ) → 1 ≤ k → (s : UnaryStart) → (e : Expr) × Begins b k s e
 some_begin b k le Primary = (null 0, (none_less k, tt, refl))
 some_begin b k le Paren = (group (null 0), (none_less k, tt, refl))
 some_begin b k le Prefix = (prefix 0 prefixes.Minus (null 0), (le, (none_less 2, tt), refl))
 some_begin b k le Sizeof = (sizeof_expr 0 (null 0), (le, (none_less 1, tt), refl))
 
-abbrev begin_class : Bool → ℕ → (k : ℕ) → 1 ≤ k → UnaryStart → Class
+abbrev pub begin_class : Bool → ℕ → (k : ℕ) → 1 ≤ k → UnaryStart → Class
 begin_class b d k le s = narrow (expr_class b d k) (Begins b k s) (some_begin b k le s).0 (some_begin b k le s).1
 
-low_primary : (b : Bool) (e : Expr) → Begins b 2 Primary e → rank e ≤ 0
+pub low_primary : (b : Bool) (e : Expr) → Begins b 2 Primary e → rank e ≤ 0
 low_primary b (prefix place op e) f = absurd (cc f.2)
 low_primary b (sizeof_type place t) f = absurd (cc f.2)
 low_primary b (sizeof_expr place e) f = absurd (cc f.2)
@@ -55,7 +55,7 @@ low_primary b (binary place op a e) f = absurd (omega (arith, f.0))
 low_primary b (conditional place a t e) f = absurd (omega (arith, f.0))
 low_primary b _ f = none_less 0
 
-low_paren : (b : Bool) (e : Expr) → Begins b 1 Paren e → rank e ≤ 0
+pub low_paren : (b : Bool) (e : Expr) → Begins b 1 Paren e → rank e ≤ 0
 low_paren b (prefix place op e) f = absurd (cc f.2)
 low_paren b (sizeof_type place t) f = absurd (cc f.2)
 low_paren b (sizeof_expr place e) f = absurd (cc f.2)
@@ -64,7 +64,7 @@ low_paren b (binary place op a e) f = absurd (omega (arith, f.0))
 low_paren b (conditional place a t e) f = absurd (omega (arith, f.0))
 low_paren b _ f = none_less 0
 
-not_cast : (e : Expr) → rank e ≤ 2 → (start_of e ≡ Paren → ⊥) → rank e ≤ 1
+pub not_cast : (e : Expr) → rank e ≤ 2 → (start_of e ≡ Paren → ⊥) → rank e ≤ 1
 not_cast (prefix place op e) le h = one_one
 not_cast (sizeof_type place t) le h = one_one
 not_cast (sizeof_expr place e) le h = one_one
@@ -87,7 +87,7 @@ not_operator b _ le f = (λ h. absurd (cc h), λ h. absurd (cc h))
 
 -- ---- the leaves behind the bracket that begins an expression
 
-group_opens : (b : Bool) (d c : ℕ) (e : Expr) → Begins b 0 Paren e → on d c e ≡ at (d + 1) (some_mark marks.OpenParen) ∷ behind d c e
+pub group_opens : (b : Bool) (d c : ℕ) (e : Expr) → Begins b 0 Paren e → on d c e ≡ at (d + 1) (some_mark marks.OpenParen) ∷ behind d c e
 group_opens b d c (group e) f = refl
 group_opens b d c (index place a i) f = posted_spelt d c a (an_index place i) ∙ ap (λ (ls : List Leaf). ls ++ on_post d (counted c a) (an_index place i)) (group_opens b d c a (f.1.0, f.1.1, f.2))
 group_opens b d c (member place a m) f = posted_spelt d c a (a_member place m) ∙ ap (λ (ls : List Leaf). ls ++ on_post d (counted c a) (a_member place m)) (group_opens b d c a (f.1.0, f.1.1, f.2))
@@ -98,11 +98,11 @@ group_opens b d c (conditional place a t e) f = absurd (omega (arith, f.0))
 group_opens b d c _ f = absurd (cc f.2)
 
 -- the bracket: the tree knows the place of a cast's
-abbrev opening : Expr → Sign
+abbrev pub opening : Expr → Sign
 opening (cast place t e) = mark_at place marks.OpenParen
 opening _ = some_mark marks.OpenParen
 
-opens : (b : Bool) (d c : ℕ) (e : Expr) → Begins b 2 Paren e → on d c e ≡ at (d + 1) (opening e) ∷ behind d c e
+pub opens : (b : Bool) (d c : ℕ) (e : Expr) → Begins b 2 Paren e → on d c e ≡ at (d + 1) (opening e) ∷ behind d c e
 opens b d c (cast place t e) f = refl
 opens b d c (group e) f = refl
 opens b d c (index place a i) f = group_opens b d c (index place a i) (none_less 0, f.1, f.2)
@@ -114,27 +114,27 @@ opens b d c _ f = absurd (cc f.2)
 
 -- ---- unary expressions
 
-abbrev start_info : UnaryStart → Info
+abbrev pub start_info : UnaryStart → Info
 start_info Primary = primary_info
 start_info Paren = record { first = is_mark marks.OpenParen; goes = begins_post; empty = false }
 start_info Prefix = record { first = is_prefix; goes = goes_postfix; empty = false }
 start_info Sizeof = record { first = is_word words.Sizeof; goes = goes_postfix; empty = false }
 
-abbrev is_start : UnaryStart → Option UnaryStart → Bool
+abbrev pub is_start : UnaryStart → Option UnaryStart → Bool
 is_start Primary (Some Primary) = true
 is_start Paren (Some Paren) = true
 is_start Prefix (Some Prefix) = true
 is_start Sizeof (Some Sizeof) = true
 is_start _ _ = false
 
-start_is : (s : UnaryStart) (o : Option UnaryStart) → is_start s o ≡ true → o ≡ Some s
+pub start_is : (s : UnaryStart) (o : Option UnaryStart) → is_start s o ≡ true → o ≡ Some s
 start_is Primary (Some Primary) e = refl
 start_is Paren (Some Paren) e = refl
 start_is Prefix (Some Prefix) e = refl
 start_is Sizeof (Some Sizeof) e = refl
 start_is _ _ e = absurd cc
 
-begin_picks : (b : Bool) (d k : ℕ) → Picks (expr_class b d k) postfix_info unary_start (Begins b k) start_info is_start
+pub begin_picks : (b : Bool) (d k : ℕ) → Picks (expr_class b d k) postfix_info unary_start (Begins b k) start_info is_start
 begin_picks b d k = record {
   is = start_is;
   fits = λ s e f. (f.0, f.1);
@@ -212,7 +212,7 @@ primary_low b e f = let le : rank e ≤ 2 = omega (arith, f.0) in (low_primary b
 primary_high : (b : Bool) (e : Expr) → Begins b 0 Primary e → Begins b 1 Primary e
 primary_high b e f = let le : rank e ≤ 1 = omega (arith, f.0) in (le, f.1, f.2)
 
-unary_part : (b : Bool) (d deeper : ℕ) (inner : Level) → Room d (suc deeper) → LevelLawful b (d + 1) inner → (s : UnaryStart) → Lawful (begin_class b d 1 one_one s) (start_info s) (unary_by (suc deeper) deeper inner s)
+pub unary_part : (b : Bool) (d deeper : ℕ) (inner : Level) → Room d (suc deeper) → LevelLawful b (d + 1) inner → (s : UnaryStart) → Lawful (begin_class b d 1 one_one s) (start_info s) (unary_by (suc deeper) deeper inner s)
 unary_part b d deeper inner e l Primary = retold (primary_lawful b d deeper inner e l) (Begins b 1 Primary) (null 0) (none_less 1, tt, refl) (primary_high b) (primary_low b)
 unary_part b d deeper inner e l Paren =
     let r = room_deeper d deeper e in
