@@ -20,3 +20,4 @@ mod OperandLaws
 mod UnaryLaws
 mod CastLaws
 mod SizedLaws
+mod LadderLaws
