@@ -21,3 +21,4 @@ mod UnaryLaws
 mod CastLaws
 mod SizedLaws
 mod LadderLaws
+mod ExprLaws
