@@ -22,3 +22,4 @@ mod CastLaws
 mod SizedLaws
 mod LadderLaws
 mod ExprLaws
+mod DeepExprs
