@@ -9,18 +9,29 @@ mod Verdicts
 pub mod GrammarLaws
 mod TokenLaws
 mod BinaryLaws
-mod Classes
-mod Forks
-mod StatementClasses
-mod SimpleLaws
-mod DeepStatements
-mod ItemLaws
 pub mod RowsProof
 mod MoreJoints
+mod Forks
+mod Respelling
+mod Classes
+mod ArgumentLaws
+mod PostfixLaws
+mod OperandLaws
+mod UnaryLaws
+mod CastLaws
+mod SizedLaws
+mod LadderLaws
+mod ExprLaws
+mod DeepExprs
 mod SpecLaws
 mod PointerLaws
 mod DeclaratorLaws
 mod MemberLaws
+mod LevelLaws
+mod StatementClasses
+mod SimpleLaws
+mod DeepStatements
+mod ItemLaws
 mod DeclarationLaws
 mod ParamLaws
 mod BodyLaws
