@@ -40,3 +40,4 @@ mod ExternalLaws
 mod EndLaws
 mod NoEnds
 mod WholeLaws
+pub mod FileReading
