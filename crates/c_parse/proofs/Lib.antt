@@ -15,6 +15,7 @@ mod StatementClasses
 mod SimpleLaws
 mod DeepStatements
 mod ItemLaws
+mod ElseLaws
 pub mod RowsProof
 mod MoreJoints
 mod SpecLaws
