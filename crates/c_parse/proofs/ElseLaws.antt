@@ -36,21 +36,22 @@ begins_follows I J e some (l ∷ ls) h [] z w = absurd w
 begins_follows I J e some (l ∷ ls) h (t ∷ ts) z w = are_apart J.first I.goes e (sort t) (rw (spelt_sort l.sign t w.0) h)
 
 -- where the last of the parts is
-pub last_completes : {C : Class} {I : Info} {r : Reads C.Tree} → Lawful C I r → (D : Class) (J : Info) {q : Reads D.Tree} → Headed D J → (Q : D.Tree → Type 0) → ((b : D.Tree) → Q b → D.Is b) → Completes D Q no_sort q → apart J.first I.goes ≡ true → J.empty ≡ false
-    → Completes (both C (λ _. D)) (λ x. C.Is x.0 × Q x.1) no_sort (r & q)
-last_completes {C = C} {I = I} l D J h Q is m e some c x q ts z w f =
+pub last_completes : {C D : Class} {I J : Info} {r : Reads C.Tree} {q : Reads D.Tree} → Lawful C I r → Lawful D J q → (P : D.Tree → Type 0) → Completes D (λ b. D.Is b × P b) no_sort q → apart J.first I.goes ≡ true → J.empty ≡ false
+    → Completes (both C (λ _. D)) (λ x. (C.Is x.0 × D.Is x.1) × P x.1) no_sort (r & q)
+last_completes {C = C} {D = D} {I = I} {J = J} l m P h e some c x is ts z w f =
     let s = within_split (C.leaves c x.0) (D.leaves (C.after c x.0) x.1) ts z w in
-    let first = l.complete c x.0 q.0 ts s.0 s.1 (begins_follows I J e some (D.leaves (C.after c x.0) x.1) (h (C.after c x.0) x.1 (is x.1 q.1)) s.0 z s.2) in
-    let second = m (C.after c x.0) x.1 q.1 s.0 z s.2 f in
+    let first = l.complete c x.0 is.0.0 ts s.0 s.1 (begins_follows I J e some (D.leaves (C.after c x.0) x.1) (m.headed (C.after c x.0) x.1 is.0.1) s.0 z s.2) in
+    let second = h (C.after c x.0) x.1 (is.0.1, is.1) s.0 z s.2 f in
     rw (first, second) refl
 
 -- and the tree that the parts make
-pub made_completes : (C D : Class) (Q : C.Tree → Type 0) (goes : Sort → Bool) {r : Reads C.Tree} → Completes C Q goes r → (f : C.Tree → D.Tree) → Makes C D f → (P : D.Tree → Type 0) → ((b : D.Tree) → P b → (a : C.Tree) × Q a × (f a ≡ b)) → Completes D P goes (made f r)
-made_completes C D Q goes {r = r} l f m P back c b p ts z w g =
-    let a = back b p in
+pub made_completes : (C D : Class) (P : C.Tree → Type 0) {r : Reads C.Tree} → Completes C (λ a. C.Is a × P a) no_sort r → (f : C.Tree → D.Tree) → Makes C D f → (R : D.Tree → Type 0) → ((a : C.Tree) → R (f a) → P a) → Completes D (λ b. D.Is b × R b) no_sort (made f r)
+made_completes C D P {r = r} l f m R back c b is ts z w g =
+    let a = m.back b is.0 in
     let parts : Within (C.leaves c a.0) ts z = subst (λ (ls : List Leaf). Within ls ts z) (ap (D.leaves c) (sym a.2) ∙ m.spelt c a.0) w in
-    let is : made f r c ts ≡ got (f a.0) (D.after c (f a.0)) z = rw (l c a.0 a.1 ts z parts g, m.after c a.0) refl in
-    is ∙ ap (λ (x : D.Tree). got x (D.after c x) z) a.2
+    let closed : P a.0 = back a.0 (subst R (sym a.2) is.1) in
+    let read : made f r c ts ≡ got (f a.0) (D.after c (f a.0)) z = rw (l c a.0 (a.1, closed) ts z parts g, m.after c a.0) refl in
+    read ∙ ap (λ (x : D.Tree). got x (D.after c x) z) a.2
 
 -- ---- trees that leave an else behind them
 
@@ -260,8 +261,7 @@ abbrev pub ClosedBranches : Stmt × Option Stmt → Type 0
 ClosedBranches x = (IsStmt false x.0 × ElseFits x.0 x.1) × (is_open_else x.1 ≡ false)
 
 else_completes : (d n : ℕ) → Room d n → {inner : Reads Stmt} → StmtLawful (d + 1) inner → Completes (else_class d) Closed no_sort (else_reader n inner)
-else_completes d n r l = made_completes (else_parts d) (else_class d) (λ x. Unit {0} × Closed x.1) no_sort (last_completes (word_lawful d n r words.Else) (stmt_class false (d + 1)) stmt_info l.law.headed Closed (λ b f. f.0) l.closed refl refl)
-    (λ (_, t). t) (else_makes d) Closed (λ b f. ((tt, b), (tt, f), refl))
+else_completes d n r l = made_completes (else_parts d) (else_class d) (λ x. is_open x.1 ≡ false) (last_completes (word_lawful d n r words.Else) l.law (λ s. is_open s ≡ false) l.closed refl refl) (λ (_, t). t) (else_makes d) (λ s. is_open s ≡ false) (λ a f. f)
 
 -- what begins with an else
 else_read : (n : ℕ) (inner : Reads Stmt) (d : ℕ) (l : List Leaf) (c : ℕ) (ts z : List Token) → Within (at d (some_word words.Else) ∷ l) ts z → maybe (is_word words.Else) (else_reader n inner) c ts ≡ made Some (else_reader n inner) c ts

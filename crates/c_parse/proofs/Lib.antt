@@ -16,6 +16,10 @@ mod SimpleLaws
 mod DeepStatements
 mod ItemLaws
 mod ElseLaws
+mod StmtParts
+mod ForLaws
+mod StmtLaws
+mod BodyLaws
 pub mod RowsProof
 mod MoreJoints
 mod SpecLaws
