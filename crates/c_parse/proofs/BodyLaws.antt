@@ -1,15 +1,14 @@
 -- The law of what stands behind a function's parameters: its body, or a semicolon.
-use Rattle.std.proofs.Common.{◌≡◌, ℕ, ◌+◌, List, [], ◌∷◌, Option, Some, None, Bool, true, false, refl, sym, ap}
+use Rattle.std.proofs.Common.{◌≡◌, ℕ, List, [], Option, Some, None, Bool, true, false, refl}
 use Rattle.std.specs.Prelude.{◌||◌}
 use Rattle.std.specs.List.{AllByRecursion}
 use Rattle.c_lex.specs.declared.token.Mark.TheVariants as marks
 use Rattle.c_tree.specs.Syntax.{Stmt, Body}
-use Rattle.c_parse.specs.Leaves.{Leaf}
 use Rattle.c_parse.specs.Grammar.{on_body, IsStmt, IsBody, IsMaybe}
-use Rattle.c_parse.specs.inner.Readers.{Reads, Sort, made}
-use Rattle.c_parse.specs.inner.Tokens.{tok, mark_is, is_mark}
-use Rattle.c_parse.specs.inner.Reading.{items, stmt_at, body_by, body}
-use Rattle.c_parse.proofs.Lawful.{Class, Info, Lawful, starts}
+use Rattle.c_parse.specs.inner.Readers.{Sort}
+use Rattle.c_parse.specs.inner.Tokens.{is_mark}
+use Rattle.c_parse.specs.inner.Reading.{body_by, body}
+use Rattle.c_parse.proofs.Lawful.{Class, Lawful, starts}
 use Rattle.c_parse.proofs.Joints.{Makes, tree, narrow}
 use Rattle.c_parse.proofs.TokenLaws.{plain_class, mark_sign, mark_lawful}
 use Rattle.c_parse.proofs.Forks.{by_which, Forks, forked}

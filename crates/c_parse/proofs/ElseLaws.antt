@@ -1,6 +1,6 @@
 -- An else belongs to the nearest if: the branches of an if, where what is read and leaves an else behind it isn't open, and what isn't open is
 -- read whatever is behind it.
-use Rattle.std.proofs.Common.{◌≡◌, ℕ, zero, suc, ◌+◌, List, [], ◌∷◌, ◌++◌, length, Option, Some, None, Result, Ok, Err, Bool, true, false, refl, sym, ap, subst, ◌∙◌, inl, inr, ◌⊎◌}
+use Rattle.std.proofs.Common.{◌≡◌, ℕ, ◌+◌, List, [], ◌∷◌, ◌++◌, Option, Some, None, Ok, Err, Bool, true, false, refl, sym, ap, subst, ◌∙◌, inl, inr}
 use Rattle.std.specs.Prelude.{◌||◌}
 use Rattle.std.proofs.lemmas.List.{append-nil}
 use Rattle.c_lex.specs.declared.token.Word.TheVariants as words
@@ -9,12 +9,12 @@ use Rattle.c_lex.specs.declared.refusal.Kind.{Kind}
 use Rattle.c_tree.specs.Syntax.{Stmt, empty}
 use Rattle.c_parse.specs.Leaves.{some_word, Leaf, at}
 use Rattle.c_parse.specs.Grammar.{on_stmt, IsStmt, is_open}
-use Rattle.c_parse.specs.inner.Readers.{Fault, stop, spent, Got, Reading, got, Reads, ◌>>=◌, Sort, sort, ◌▸◌, ◌&◌, made, choice, maybe_by, maybe}
+use Rattle.c_parse.specs.inner.Readers.{stop, spent, Got, Reading, got, Reads, ◌>>=◌, Sort, sort, ◌&◌, made, maybe_by, maybe}
 use Rattle.c_parse.specs.inner.Tokens.{tok, word_is, is_word}
 use Rattle.c_parse.proofs.Sorts.{apart, are_apart}
-use Rattle.c_parse.proofs.Runs.{Within, Over, Stopped, within_append, within_split, stopped_more, stopped_behind, over_split}
-use Rattle.c_parse.proofs.Steadiness.{Steady, both_steady}
-use Rattle.c_parse.proofs.Lawful.{Class, Info, Took, Begun, SoundAt, Follows, sort_of_sign, spelt_sort, HeadIn, Headed, Lawful, both, both_info}
+use Rattle.c_parse.proofs.Runs.{Within, Over, within_append, within_split, stopped_more, stopped_behind, over_split}
+use Rattle.c_parse.proofs.Steadiness.{both_steady}
+use Rattle.c_parse.proofs.Lawful.{Class, Info, SoundAt, Follows, spelt_sort, HeadIn, Lawful, both}
 use Rattle.c_parse.proofs.Joints.{Makes, tree, known}
 use Rattle.c_parse.proofs.Loops.{option_class, maybe_info, maybe_lawful}
 use Rattle.c_parse.proofs.TokenLaws.{Room, plain_class, word_sign, word_lawful}

@@ -1,14 +1,14 @@
 -- The law of a for.
-use Rattle.std.proofs.Common.{◌≡◌, ℕ, zero, suc, ◌+◌, List, [], ◌∷◌, ◌++◌, Option, Some, None, Bool, true, false, refl, sym, ap, subst, ◌∙◌, append_assoc}
+use Rattle.std.proofs.Common.{◌≡◌, ℕ, suc, ◌+◌, List, [], ◌∷◌, ◌++◌, Option, Some, None, false, refl, ap, ◌∙◌, append_assoc}
 use Rattle.c_lex.specs.declared.token.Word.TheVariants as words
 use Rattle.c_lex.specs.declared.token.Mark.TheVariants as marks
 use Rattle.c_tree.specs.Syntax.{Expr, Simple, ForFirst, Stmt, for}
 use Rattle.c_parse.specs.Leaves.{word_at, some_mark, Leaf, at}
-use Rattle.c_parse.specs.Grammar.{on_full, on_simple, on_first, on_stmt, IsSimple, IsMaybe, is_open, IsStmt}
-use Rattle.c_parse.specs.inner.Readers.{Reads, ◌&◌, made, full, maybe}
+use Rattle.c_parse.specs.Grammar.{on_full, on_simple, on_first, on_stmt, IsSimple, IsMaybe, is_open}
+use Rattle.c_parse.specs.inner.Readers.{Reads, full, maybe}
 use Rattle.c_parse.specs.inner.Tokens.{tok, word_place, mark_is, begins_expr, begins_simple}
 use Rattle.c_parse.specs.inner.Reading.{level_at, simply, first, AFor, stmt_by}
-use Rattle.c_parse.proofs.Lawful.{Class, Lawful, starts, both}
+use Rattle.c_parse.proofs.Lawful.{Class, Lawful, both}
 use Rattle.c_parse.proofs.Joints.{Makes, tree, known}
 use Rattle.c_parse.proofs.Loops.{option_class, OptionIs, maybe_info, maybe_lawful}
 use Rattle.c_parse.proofs.TokenLaws.{Room, plain_class, word_place_sign, mark_sign, word_place_lawful, mark_lawful}

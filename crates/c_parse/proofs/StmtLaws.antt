@@ -1,16 +1,16 @@
 -- The law of statements, by recursion on the room; what isn't open is read whatever is behind it, and what leaves an else isn't open.
-use Rattle.std.proofs.Common.{◌≡◌, ℕ, zero, suc, ◌+◌, List, [], ◌∷◌, length, Option, Some, None, Result, Ok, Err, Bool, true, false, refl, sym, ap, subst, ◌∙◌}
+use Rattle.std.proofs.Common.{◌≡◌, ℕ, zero, suc, ◌+◌, List, [], ◌∷◌, Option, Some, None, Ok, Bool, true, false, refl, sym, ◌∙◌}
 use Rattle.c_lex.specs.declared.token.Word.TheVariants as words
 use Rattle.c_lex.specs.declared.token.Mark.TheVariants as marks
 use Rattle.c_lex.specs.declared.token.Token.{Token}
 use Rattle.c_tree.specs.Syntax.{Expr, Stmt, block, empty, while, break, continue, return, simple, stmts_of}
 use Rattle.c_parse.specs.Leaves.{Leaf}
-use Rattle.c_parse.specs.Grammar.{on_stmt, is_open, IsStmt}
-use Rattle.c_parse.specs.inner.Readers.{Fault, stop, Got, Reading, got, Reads, ◌>>=◌, Sort, sort, ◌&◌, made, full, choice_turn, choice, maybe, refused, too_deep}
+use Rattle.c_parse.specs.Grammar.{on_stmt, is_open}
+use Rattle.c_parse.specs.inner.Readers.{Got, Reads, Sort, sort, ◌&◌, made, full, choice_turn, choice, maybe, refused, too_deep}
 use Rattle.c_parse.specs.inner.Tokens.{tok, word_place, mark_is, mark_place, is_word, begins_expr}
 use Rattle.c_parse.specs.inner.Reading.{level_at, simply, condition, items, if_by, StmtStart, ABlock, AnEmpty, AnIf, AWhile, AFor, ABreak, AContinue, AReturn, ASimple, stmt_start, begins_stmt, stmt_by, stmt_at}
 use Rattle.c_parse.proofs.Runs.{Within}
-use Rattle.c_parse.proofs.Lawful.{Class, Info, Follows, spelt_sort, HeadIn, Lawful}
+use Rattle.c_parse.proofs.Lawful.{spelt_sort, HeadIn}
 use Rattle.c_parse.proofs.Joints.{chosen, too_deep_lawful}
 use Rattle.c_parse.proofs.TokenLaws.{Room, word_place_lawful}
 use Rattle.c_parse.proofs.MoreJoints.{joined}
@@ -18,7 +18,7 @@ use Rattle.c_parse.proofs.StatementClasses.{stmt_class, stmt_info, Parts}
 use Rattle.c_parse.proofs.SimpleLaws.{deeper_room}
 use Rattle.c_parse.proofs.DeepStatements.{deep_stmt}
 use Rattle.c_parse.proofs.ItemLaws.{condition_lawful}
-use Rattle.c_parse.proofs.ElseLaws.{no_sort, Completes, last_completes, made_completes, ElseBehind, Leaves, leaves_made, leaves_last, leaves_any, Closed, StmtLawful, is_open_else, branches, branches_lawful, branches_leaves, branches_completes}
+use Rattle.c_parse.proofs.ElseLaws.{no_sort, Completes, last_completes, made_completes, Leaves, leaves_made, leaves_last, leaves_any, Closed, StmtLawful, is_open_else, branches_lawful, branches_leaves, branches_completes}
 use Rattle.c_parse.proofs.StmtParts.{WhichStmt, some_stmt, part_class, stmt_infos, which_stmt, stmt_told, none_empty, stmt_chosen, StmtPart, if_class, if_of, if_makes, while_class, while_makes, block_lawful, empty_lawful, break_lawful, continue_lawful, simple_lawful, return_lawful, if_lawful, while_lawful}
 use Rattle.c_parse.proofs.ForLaws.{for_lawful, for_closed, for_leaves}
 

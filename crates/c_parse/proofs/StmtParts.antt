@@ -1,34 +1,27 @@
 -- The laws of the kinds of statements, of a level with room, from those of the statements a level deeper.
-use Rattle.std.proofs.Common.{◌≡◌, ℕ, zero, suc, ◌+◌, List, [], ◌∷◌, ◌++◌, length, Option, Some, None, Result, Ok, Err, Bool, true, false, refl, sym, ap, subst, ◌∙◌, append_assoc}
-use Rattle.std.specs.Prelude.{◌||◌}
+use Rattle.std.proofs.Common.{◌≡◌, ℕ, suc, ◌+◌, List, [], ◌∷◌, ◌++◌, Option, Some, None, Bool, true, false, refl, sym, ap, append_assoc}
 use Rattle.std.specs.List.{AllByRecursion}
 use Rattle.std.proofs.lemmas.List.{append-nil}
-use denote.Enum.Bare.{sameb, same_true}
 use Rattle.c_lex.specs.declared.token.Word.{Word}
 use Rattle.c_lex.specs.declared.token.Word.TheVariants as words
-use Rattle.c_lex.specs.declared.token.Mark.{Mark}
 use Rattle.c_lex.specs.declared.token.Mark.TheVariants as marks
-use Rattle.c_lex.specs.declared.token.Token.{Token}
-use Rattle.c_tree.specs.Syntax.{Expr, null, Simple, eval, ForFirst, first_nothing, Stmt, block, declare, empty, if_then, if_else, while, for, break, continue, return, simple, Stmts, no_stmts, more_stmts, stmts_of}
+use Rattle.c_tree.specs.Syntax.{Expr, null, Simple, eval, first_nothing, Stmt, block, declare, empty, if_then, if_else, while, for, break, continue, return, simple, Stmts, no_stmts, more_stmts, stmts_of}
 use Rattle.c_parse.specs.Leaves.{word_at, mark_at, some_mark, some_word, Leaf, at}
-use Rattle.c_parse.specs.Grammar.{on_full, on_bracketed, on_simple, on_first, on_maybe, on_each, on_stmt, on_stmts, IsExpr, IsSimple, IsFirst, IsMaybe, is_open, IsStmt, AreItems}
-use Rattle.c_parse.specs.inner.Readers.{Fault, stop, spent, Got, Reading, got, Reads, ◌>>=◌, Sort, sort, ◌▸◌, ◌&◌, made, full, choice_turn, choice, maybe, too_deep}
-use Rattle.c_parse.specs.inner.Tokens.{tok, word_place, mark_is, mark_place, word_is, is_mark, is_word, is_some, begins_expr, begins_simple}
-use Rattle.c_parse.specs.inner.Reading.{level_at, simply, condition, first, items, if_by, StmtStart, ABlock, AnEmpty, AnIf, AWhile, AFor, ABreak, AContinue, AReturn, ASimple, stmt_start, begins_stmt, stmt_by, stmt_at}
-use Rattle.c_parse.proofs.Sorts.{inside, is_inside}
-use Rattle.c_parse.proofs.Runs.{Within}
-use Rattle.c_parse.proofs.Lawful.{Class, Info, Follows, sort_of_sign, spelt_sort, HeadIn, Headed, Lawful, starts, both, both_info}
-use Rattle.c_parse.proofs.Joints.{Makes, tree, known, full_class, full_lawful, narrow, Chosen, chosen, too_deep_lawful}
-use Rattle.c_parse.proofs.Loops.{option_class, option_leaves, OptionIs, maybe_info, maybe_lawful}
+use Rattle.c_parse.specs.Grammar.{on_full, on_bracketed, on_maybe, on_stmt, IsExpr, IsSimple, IsFirst, IsMaybe, is_open, IsStmt, AreItems}
+use Rattle.c_parse.specs.inner.Readers.{Reads, Sort, full, maybe}
+use Rattle.c_parse.specs.inner.Tokens.{is_mark, is_word, begins_expr, begins_simple}
+use Rattle.c_parse.specs.inner.Reading.{level_at, if_by, StmtStart, ABlock, AnEmpty, AnIf, AWhile, AFor, ABreak, AContinue, AReturn, ASimple, stmt_start, stmt_by}
+use Rattle.c_parse.proofs.Sorts.{is_inside}
+use Rattle.c_parse.proofs.Lawful.{Class, Info, Lawful, starts, both}
+use Rattle.c_parse.proofs.Joints.{Makes, tree, known, full_class, full_lawful, narrow, Chosen}
+use Rattle.c_parse.proofs.Loops.{option_class, maybe_info, maybe_lawful}
 use Rattle.c_parse.proofs.TokenLaws.{Room, plain_class, word_place_sign, mark_sign, mark_place_sign, word_place_lawful, mark_lawful, mark_place_lawful}
 use Rattle.c_parse.proofs.Classes.{expr_info, expr_class}
-use Rattle.c_parse.proofs.Forks.{tree_where}
 use Rattle.c_parse.proofs.MoreJoints.{joined}
-use Rattle.c_parse.proofs.StatementClasses.{simple_class, simple_info, first_class, begins_first, stmt_class, stmt_info, items_class, Parts}
+use Rattle.c_parse.proofs.StatementClasses.{simple_class, stmt_class, stmt_info, items_class, Parts}
 use Rattle.c_parse.proofs.SimpleLaws.{rank_less, deeper_room}
-use Rattle.c_parse.proofs.DeepStatements.{deep_stmt, simply_lawful}
-use Rattle.c_parse.proofs.ItemLaws.{condition_class, condition_lawful, first_lawful, ended_lawful, items_lawful, stmts_spelt, items_fit}
-use Rattle.c_parse.proofs.ElseLaws.{no_sort, Completes, last_completes, made_completes, ElseBehind, Leaves, leaves_made, leaves_last, leaves_any, Closed, StmtLawful, branches_class, is_open_else, branches, branches_lawful, branches_leaves, ClosedBranches, branches_completes}
+use Rattle.c_parse.proofs.ItemLaws.{condition_class, condition_lawful, ended_lawful, items_lawful, stmts_spelt, items_fit}
+use Rattle.c_parse.proofs.ElseLaws.{StmtLawful, branches_class, branches_lawful}
 
 -- ---- which statement it is
 
