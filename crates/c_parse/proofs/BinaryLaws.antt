@@ -11,7 +11,7 @@ use Rattle.c_lex.specs.declared.token.Token.{Token}
 use Rattle.c_lex.specs.declared.refusal.Kind.{Kind}
 use Rattle.c_tree.specs.declared.syntax.BinaryOp.{BinaryOp}
 use Rattle.c_tree.specs.declared.syntax.BinaryOp.TheVariants.{Value, AndAnd, OrOr}
-use Rattle.c_parse.specs.Leaves.{Sign, IsSpelt, Count, operator, Leaf, over, if_so, first_of, beyond}
+use Rattle.c_parse.specs.Leaves.{Sign, IsSpelt, Count, operator, if_so, first_of, beyond}
 use Rattle.c_parse.specs.Grammar.{mark_of_binary, height}
 use Rattle.c_parse.specs.inner.Readers.{allowed, take_turn, take, Sort, deep}
 use Rattle.c_parse.specs.inner.Tokens.{counted_tok, mark_of_kind, at_place, op_of_mark, of_height, binary_of_mark, binary_of, is_some, is_binary}

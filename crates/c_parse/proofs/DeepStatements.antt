@@ -1,6 +1,6 @@
 -- What lies too deep where a level has no room: declarations, simple statements and statements.
-use Rattle.std.proofs.Common.{◌≡◌, ℕ, zero, suc, ◌+◌, ◌<◌, ◌≤◌, List, [], ◌∷◌, ◌++◌, Option, Some, None, Bool, true, false, refl, sym, ap, subst, ◌∙◌, inl, inr, ◌⊎◌, arith}
-use Rattle.std.specs.Prelude.{◌||◌, nat_lt}
+use Rattle.std.proofs.Common.{◌≡◌, ℕ, zero, suc, ◌+◌, ◌<◌, List, [], ◌∷◌, ◌++◌, Some, None, Bool, true, false, refl, ap, subst, ◌∙◌, inl, inr, ◌⊎◌, arith}
+use Rattle.std.specs.Prelude.{◌||◌}
 use Rattle.std.proofs.lemmas.Bool.{lt-ltb}
 use Rattle.c_lex.specs.declared.token.Word.{Word}
 use Rattle.c_lex.specs.declared.token.Word.TheVariants as words
@@ -15,17 +15,17 @@ use Rattle.c_tree.specs.declared.syntax.TypeWord.{TypeWord}
 use Rattle.c_tree.specs.declared.syntax.TypeWord.TheVariants as types
 use Rattle.c_tree.specs.declared.syntax.StepOp.{StepOp}
 use Rattle.c_tree.specs.declared.syntax.StepOp.TheVariants as steps
-use Rattle.c_tree.specs.Syntax.{Expr, null, Spec, word, struct, struct_body, Specs, declarator, no_exprs, Declaration, Simple, before, after, assign, eval, Stmt, block, declare, empty, if_then, if_else, while, for, break, continue, return, simple, no_stmts, first_nothing}
-use Rattle.c_parse.specs.Leaves.{Sign, word_at, mark_at, some_mark, name_at, IsSpelt, Leaf, at, over, if_so, first_of}
+use Rattle.c_tree.specs.Syntax.{null, Spec, word, struct, struct_body, Declaration, Simple, before, after, assign, eval, Stmt, block, declare, empty, if_then, if_else, while, for, break, continue, return, simple, no_stmts, first_nothing}
+use Rattle.c_parse.specs.Leaves.{Sign, word_at, mark_at, some_mark, name_at, IsSpelt, Leaf, at, over}
 use Rattle.c_parse.specs.Grammar.{word_of_type, mark_of_step, mark_of_assign, counted, on_spec, on_each, on_commas, on_init_declarator, on_declaration, IsSome, IsSpec, IsDeclaration, on_simple, IsSimple, on_stmt, IsStmt, on}
 use Rattle.c_parse.specs.inner.Readers.{Sort, a_word, a_mark, sort_of_kind, sort}
-use Rattle.c_parse.specs.inner.Tokens.{step_of_mark, type_of_word, is_some, begins_type, begins_expr, begins_simple, is_mark, is_word}
+use Rattle.c_parse.specs.inner.Tokens.{step_of_mark, is_some, begins_type, begins_expr, begins_simple}
 use Rattle.c_parse.specs.inner.Reading.{is_step, begins_stmt, simply}
 use Rattle.c_parse.proofs.Sorts.{is_inside}
-use Rattle.c_parse.proofs.Lawful.{Class, sort_of_sign, Lawful}
+use Rattle.c_parse.proofs.Lawful.{sort_of_sign, Lawful}
 use Rattle.c_parse.proofs.Joints.{TooDeepFor, too_deep_lawful}
-use Rattle.c_parse.proofs.TokenLaws.{Room, deep_at, marked, steps_tell}
-use Rattle.c_parse.proofs.Classes.{none_less, expr_class}
+use Rattle.c_parse.proofs.TokenLaws.{Room}
+use Rattle.c_parse.proofs.Classes.{none_less}
 use Rattle.c_parse.proofs.SimpleLaws.{rank_less, simply_there}
 use Rattle.c_parse.proofs.StatementClasses.{declaration_class, simple_class, goes_simple, simple_info, stmt_class, Parts}
 

@@ -1,24 +1,23 @@
 -- The laws of what stands around statements: a condition, what a for begins with, the items of a body.
-use Rattle.std.proofs.Common.{◌≡◌, ℕ, zero, suc, ◌+◌, List, [], ◌∷◌, ◌++◌, Option, Some, None, Bool, true, false, refl, sym, ap, subst, ◌∙◌}
-use Rattle.std.specs.Prelude.{◌||◌}
+use Rattle.std.proofs.Common.{◌≡◌, ℕ, ◌+◌, List, [], ◌∷◌, ◌++◌, Option, Some, Bool, true, false, refl, sym, ap}
 use Rattle.std.specs.List.{AllByRecursion}
 use Rattle.c_lex.specs.declared.token.Word.TheVariants as words
 use Rattle.c_lex.specs.declared.token.Mark.TheVariants as marks
-use Rattle.c_tree.specs.Syntax.{Expr, null, Declaration, Simple, eval, ForFirst, first_declare, first_simple, first_nothing, Stmt, block, declare, empty, if_then, if_else, while, for, break, continue, return, simple, no_stmts, more_stmts, stmts_of}
+use Rattle.c_tree.specs.Syntax.{Expr, null, Declaration, eval, ForFirst, first_declare, first_simple, first_nothing, Stmt, block, declare, empty, if_then, if_else, while, for, break, continue, return, simple, stmts_of}
 use Rattle.c_parse.specs.Leaves.{mark_at, some_mark, Leaf, at}
-use Rattle.c_parse.specs.Grammar.{on_each, on_declaration, IsDeclaration, on_simple, IsSimple, on_first, IsFirst, on_bracketed, IsExpr, on_stmt, on_stmts, IsStmt, AreItems}
-use Rattle.c_parse.specs.inner.Readers.{Reads, Sort, ◌&◌, made, full, choice, row}
-use Rattle.c_parse.specs.inner.Tokens.{tok, mark_is, mark_place, is_mark, is_word, begins_type, begins_simple}
-use Rattle.c_parse.specs.inner.Reading.{either, level_at, declaration, simply, condition, FirstStart, Declared, Empty, Simply, first_start, first_by, first, begins_item, items}
+use Rattle.c_parse.specs.Grammar.{on_each, IsDeclaration, IsSimple, IsFirst, on_bracketed, IsExpr, on_stmt, on_stmts, IsStmt, AreItems}
+use Rattle.c_parse.specs.inner.Readers.{Reads, Sort, ◌&◌, made}
+use Rattle.c_parse.specs.inner.Tokens.{tok, mark_is, is_mark, is_word, begins_type, begins_simple}
+use Rattle.c_parse.specs.inner.Reading.{either, declaration, simply, condition, FirstStart, Declared, Empty, Simply, first_start, first_by, first, begins_item, items}
 use Rattle.c_parse.proofs.Sorts.{is_inside}
-use Rattle.c_parse.proofs.Lawful.{Class, Info, Lawful, starts, both, both_info}
-use Rattle.c_parse.proofs.Joints.{Makes, tree, known, full_class, full_lawful, narrow, Chosen, chosen}
-use Rattle.c_parse.proofs.Loops.{row_class, row_info, row_lawful}
+use Rattle.c_parse.proofs.Lawful.{Class, Info, Lawful, starts, both}
+use Rattle.c_parse.proofs.Joints.{Makes, tree, known, full_class, full_lawful, narrow, chosen}
+use Rattle.c_parse.proofs.Loops.{row_class, row_lawful}
 use Rattle.c_parse.proofs.TokenLaws.{Room, plain_class, mark_sign, mark_place_sign, mark_lawful, mark_place_lawful}
 use Rattle.c_parse.proofs.Classes.{expr_class}
 use Rattle.c_parse.proofs.Forks.{by_which, Forks, forked}
 use Rattle.c_parse.proofs.MoreJoints.{joined, flat_after, each_spelt}
-use Rattle.c_parse.proofs.StatementClasses.{declaration_class, simple_class, simple_info, first_class, begins_first, stmt_class, stmt_info, items_class, Parts}
+use Rattle.c_parse.proofs.StatementClasses.{declaration_class, simple_class, first_class, begins_first, stmt_class, stmt_info, items_class, Parts}
 use Rattle.c_parse.proofs.SimpleLaws.{rank_less}
 use Rattle.c_parse.proofs.DeepStatements.{simply_lawful}
 

@@ -32,6 +32,10 @@ mod StatementClasses
 mod SimpleLaws
 mod DeepStatements
 mod ItemLaws
+mod ElseLaws
+mod StmtParts
+mod ForLaws
+mod StmtLaws
 mod DeclarationLaws
 mod ParamLaws
 mod BodyLaws

@@ -22,7 +22,7 @@ use Rattle.c_parse.proofs.PointerLaws.{bare_class, bare_lawful}
 use Rattle.c_parse.proofs.DeclaratorLaws.{dims_class, dims_lawful, exprs_list, list_exprs, begins_bare_declarator}
 use Rattle.c_parse.proofs.DeclarationLaws.{value_class, values_lawful, value_spelt, value_after, value_there, there_value, init_class, more_init_lawful}
 use Rattle.c_parse.proofs.ParamLaws.{params_class}
-use Rattle.c_parse.proofs.BodyLaws.{body_class, body_info}
+use Rattle.c_parse.proofs.BodyLaws.{body_class, begins_body}
 
 -- ---- what is behind a name at file scope
 
@@ -93,7 +93,7 @@ function_makes ps n = record {
   back = elim [ nothing ↦ λ f. absurd f | function qs m all b ↦ λ f. ((all, b), (f.2, f.3), function_same ps qs n m all b f.0 f.1) | variables is ↦ λ f. absurd f ];
 }
 
-function_lawful : Lawful params_class (starts (is_mark marks.OpenParen)) params → Lawful body_class body_info body → (ps : List Pointer) (n : Name) → Lawful (function_class ps n) (starts (is_mark marks.OpenParen)) (made (λ (all, b). function ps n all b) (params & body))
+function_lawful : Lawful params_class (starts (is_mark marks.OpenParen)) params → Lawful body_class (starts begins_body) body → (ps : List Pointer) (n : Name) → Lawful (function_class ps n) (starts (is_mark marks.OpenParen)) (made (λ (all, b). function ps n all b) (params & body))
 function_lawful l m ps n = known (tree (joined l m refl) (function_class ps n) (λ (all, b). function ps n all b) (function_makes ps n)) (record { first = refl; goes = refl; empty = refl })
 
 -- ---- variables
@@ -156,7 +156,7 @@ variables_lawful l m ps n =
 abbrev begins_named : Sort → Bool
 begins_named s = is_mark marks.OpenParen s || begins_variables s
 
-named_lawful : LevelLawful true 0 (level_at true 129) → LevelLawful true 1 (level_at true 128) → Lawful params_class (starts (is_mark marks.OpenParen)) params → Lawful body_class body_info body → (ps : List Pointer) (n : Name)
+named_lawful : LevelLawful true 0 (level_at true 129) → LevelLawful true 1 (level_at true 128) → Lawful params_class (starts (is_mark marks.OpenParen)) params → Lawful body_class (starts begins_body) body → (ps : List Pointer) (n : Name)
     → Lawful (named_class ps n) (starts begins_named) (named_rest ps n)
 unfolding named_rest
 named_lawful l m q b ps n =
@@ -257,7 +257,7 @@ abbrev pub begins_rest : Sort → Bool
 begins_rest s = is_mark marks.Semicolon s || begins_bare_declarator s
 
 -- ";" | ptr NAME ( "(" [ params ] ")" ( body | ";" ) | dims rest )
-pub rest_lawful : LevelLawful true 0 (level_at true 129) → LevelLawful true 1 (level_at true 128) → Lawful params_class (starts (is_mark marks.OpenParen)) params → Lawful body_class body_info body → Lawful rest_class (starts begins_rest) external_rest
+pub rest_lawful : LevelLawful true 0 (level_at true 129) → LevelLawful true 1 (level_at true 128) → Lawful params_class (starts (is_mark marks.OpenParen)) params → Lawful body_class (starts begins_body) body → Lawful rest_class (starts begins_rest) external_rest
 unfolding external_rest
 rest_lawful l m q b =
     let named = named_lawful l m q b in

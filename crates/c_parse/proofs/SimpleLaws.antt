@@ -1,5 +1,5 @@
 -- The law of simple statements: a step before its operand, or an expression with what is behind it.
-use Rattle.std.proofs.Common.{◌≡◌, ℕ, zero, suc, ◌+◌, ◌<◌, ◌≤◌, List, [], ◌∷◌, ◌++◌, length, Option, Some, None, Result, Ok, Err, Bool, true, false, refl, sym, ap, subst, ◌∙◌, inl, inr, ◌⊎◌, arith, not}
+use Rattle.std.proofs.Common.{◌≡◌, ℕ, suc, ◌+◌, ◌≤◌, List, [], ◌∷◌, ◌++◌, Option, Some, None, Ok, Err, Bool, true, false, refl, sym, subst, arith, not}
 use Rattle.std.specs.Prelude.{◌||◌, ◌==◌}
 use Rattle.std.proofs.lemmas.Bool.{eqb-true, eq-eqb}
 use Rattle.std.proofs.lemmas.List.{append-nil}
@@ -12,15 +12,15 @@ use Rattle.c_tree.specs.declared.syntax.AssignOp.TheVariants as assigns
 use Rattle.c_tree.specs.Syntax.{Expr, name, call, int, char, text, null, group, prefix, sizeof_type, sizeof_expr, cast, index, member, arrow, binary, conditional, Simple, before, after, assign, eval}
 use Rattle.c_parse.specs.Leaves.{mark_at, Leaf, at}
 use Rattle.c_parse.specs.Grammar.{mark_of_step, mark_of_assign, counted, on, height, rank, IsExpr, on_simple, IsSimple}
-use Rattle.c_parse.specs.inner.Readers.{Fault, stop, spent, Got, Reading, got, Reads, ◌>>=◌, Sort, a_mark, sort, ◌▸◌, ◌&◌, nothing, made, full, choice_turn, choice}
-use Rattle.c_parse.specs.inner.Tokens.{tok, step_of, step_of_mark, assign_of, assign_of_mark, is_some, begins_simple}
+use Rattle.c_parse.specs.inner.Readers.{Reading, got, Reads, ◌>>=◌, Sort, a_mark, sort, ◌▸◌, ◌&◌, made, full, choice_turn, choice}
+use Rattle.c_parse.specs.inner.Tokens.{tok, step_of, step_of_mark, assign_of_mark, is_some}
 use Rattle.c_parse.specs.inner.Reading.{Level, level_at, Tail, a_step, a_value, no_tail, simple_of, TailStart, Stepped, Assigned, Nothing, if_tail, tail_start, tail_by, simple_tail, is_step, simply}
-use Rattle.c_parse.proofs.Sorts.{implied, inside, is_inside}
+use Rattle.c_parse.proofs.Sorts.{inside, is_inside}
 use Rattle.c_parse.proofs.Lawful.{Class, Info, Lawful, starts, both, both_info}
 use Rattle.c_parse.proofs.Lawful as laws
-use Rattle.c_parse.proofs.Joints.{Makes, tree, Less, known, full_class, full_lawful, empty_info, narrow, nothing_lawful, Chosen, chosen, too_deep_lawful}
+use Rattle.c_parse.proofs.Joints.{Makes, tree, known, full_class, full_lawful, empty_info, narrow, nothing_lawful, chosen}
 use Rattle.c_parse.proofs.TokenLaws.{Room, plain_class, marked, is_assign, step_lawful, assign_lawful}
-use Rattle.c_parse.proofs.Classes.{none_less, goes_expr, goes_postfix, expr_info, postfix_info, expr_class, LevelLawful}
+use Rattle.c_parse.proofs.Classes.{none_less, goes_expr, expr_info, postfix_info, expr_class, LevelLawful}
 use Rattle.c_parse.proofs.Forks.{alike, by_which, Forks, forked}
 use Rattle.c_parse.proofs.MoreJoints.{joined}
 use Rattle.c_parse.proofs.StatementClasses.{simple_class, goes_simple, simple_info, Parts}

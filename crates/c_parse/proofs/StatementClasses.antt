@@ -1,16 +1,15 @@
 -- The trees that the readers of statements are for, and what those readers take of expressions and declarations.
-use Rattle.std.proofs.Common.{◌≡◌, ℕ, suc, ◌+◌, List, [], ◌∷◌, ◌++◌, Option, Some, None, Bool, true, false}
+use Rattle.std.proofs.Common.{ℕ, List, [], ◌∷◌, ◌++◌, None, Bool, true, false}
 use Rattle.std.specs.Prelude.{◌||◌}
 use Rattle.std.specs.List.{AllByRecursion}
 use Rattle.c_lex.specs.declared.token.Word.TheVariants as words
 use Rattle.c_lex.specs.declared.token.Mark.TheVariants as marks
 use Rattle.c_tree.specs.declared.syntax.TypeWord.TheVariants as types
-use Rattle.c_tree.specs.declared.syntax.StepOp.{StepOp}
-use Rattle.c_tree.specs.Syntax.{Expr, null, word, declarator, no_exprs, Declaration, Simple, before, after, assign, eval, ForFirst, first_nothing, Stmt, block, declare, empty, if_then, if_else, while, for, break, continue, return, simple, Body}
-use Rattle.c_parse.specs.Leaves.{mark_at, some_mark, Leaf, at}
-use Rattle.c_parse.specs.Grammar.{mark_of_step, on_each, on_declaration, IsDeclaration, on_simple, on_first, on_stmt, IsSimple, IsFirst, IsStmt}
-use Rattle.c_parse.specs.inner.Readers.{Sort, a_mark}
-use Rattle.c_parse.specs.inner.Tokens.{is_some, is_mark, is_word, assign_of_mark, begins_type, begins_expr, begins_simple}
+use Rattle.c_tree.specs.Syntax.{null, word, declarator, no_exprs, Declaration, Simple, eval, ForFirst, first_nothing, Stmt, empty}
+use Rattle.c_parse.specs.Leaves.{mark_at, some_mark, at}
+use Rattle.c_parse.specs.Grammar.{on_each, on_declaration, IsDeclaration, on_simple, on_first, on_stmt, IsSimple, IsFirst, IsStmt}
+use Rattle.c_parse.specs.inner.Readers.{Sort}
+use Rattle.c_parse.specs.inner.Tokens.{is_some, is_word, begins_type, begins_expr, begins_simple}
 use Rattle.c_parse.specs.inner.Reading.{level_at, declaration, first_start, begins_stmt, is_step}
 use Rattle.c_parse.proofs.Lawful.{Class, Info, Lawful, starts}
 use Rattle.c_parse.proofs.Joints.{TooDeepFor}

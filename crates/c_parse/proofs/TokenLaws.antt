@@ -1,12 +1,11 @@
 -- The laws of single tokens, of a level d with the room n.
-use Rattle.std.proofs.Common.{◌≡◌, ℕ, zero, suc, ◌+◌, ◌≤◌, Option, Some, None, Bool, true, false, refl, sym, ap, ◌∙◌, arith, pos}
+use Rattle.std.proofs.Common.{◌≡◌, ℕ, zero, suc, ◌+◌, Option, Some, None, Bool, true, false, refl, ap, ◌∙◌, arith, pos}
 use Rattle.std.specs.Prelude.{nat_lt}
 use Rattle.std.proofs.lemmas.Bool.{le-ltb}
 use denote.Enum.Bare.{sameb, same_true, true_same}
 use Rattle.ak_words.specs.declared.number.Num.{Num}
 use Rattle.ak_words.specs.IntType.{int}
 use Rattle.ak_words.specs.Num.{num}
-use Rattle.ak_words.specs.declared.operation.Op.TheVariants as ops
 use Rattle.c_lex.specs.declared.token.Word.{Word}
 use Rattle.c_lex.specs.declared.token.Word.TheVariants as words
 use Rattle.c_lex.specs.declared.token.Mark.{Mark}
@@ -30,9 +29,9 @@ use Rattle.c_tree.specs.declared.syntax.StepOp.{StepOp}
 use Rattle.c_tree.specs.declared.syntax.StepOp.TheVariants as steps
 use Rattle.c_tree.specs.declared.syntax.AssignOp.{AssignOp}
 use Rattle.c_tree.specs.declared.syntax.AssignOp.TheVariants as assigns
-use Rattle.c_parse.specs.Leaves.{Sign, name_at, int_at, char_at, text_at, word_at, some_word, mark_at, some_mark, the_end, IsSpelt, uncounted, operator, derivation, if_so, first_of, beyond}
+use Rattle.c_parse.specs.Leaves.{Sign, name_at, int_at, char_at, text_at, word_at, some_word, mark_at, some_mark, the_end, uncounted, operator, derivation, if_so, first_of, beyond}
 use Rattle.c_parse.specs.Grammar.{word_of_type, word_of_storage, mark_of_prefix, mark_of_step, mark_of_assign}
-use Rattle.c_parse.specs.inner.Readers.{Sort, a_name, an_int, a_char, a_text, a_word, a_mark, an_end, deep}
+use Rattle.c_parse.specs.inner.Readers.{Sort, an_int, a_char, a_word, a_mark, an_end, deep}
 use Rattle.c_parse.specs.inner.Tokens.{tok, counted_tok, derived_tok, name_of_kind, name_of, int_of_kind, int_of, char_of_kind, char_of, text_of_kind, text_of, word_of_kind, mark_of_kind, word_is, mark_is, word_place, mark_place, at_place, prefix_of_mark, prefix_of, step_of_mark, step_of, assign_of_mark, assign_of, type_of_word, type_word_of, storage_of_word, storage_of, end_of_kind, end_of, is_some, is_mark, is_word, is_text, is_storage}
 use Rattle.c_parse.specs.inner.Reading.{is_name, is_step}
 use Rattle.c_parse.proofs.Lawful.{Class, sort_of_sign, Lawful, token_class, starts, Tells, Checks, token}
