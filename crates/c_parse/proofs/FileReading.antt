@@ -6,13 +6,13 @@ use Rattle.c_lex.specs.declared.refusal.Kind.{Kind}
 use Rattle.c_lex.specs.declared.refusal.Refusal.{Refusal}
 use Rattle.c_tree.specs.Syntax.{File}
 use Rattle.c_parse.specs.Language.{Parses, RefusesTokens}
-use Rattle.c_parse.specs.Laws.{ParseOrRefuse, RefuseOnce, EndOnce, EachIsJudged}
+use Rattle.c_parse.specs.Laws.{SpellOneFile, ParseOrRefuse, RefuseOnce, EndOnce, EachIsJudged}
 use Rattle.c_parse.specs.inner.Readers.{Fault, stop, spent, Reading, ◌>>=◌}
 use Rattle.c_parse.specs.inner.Reading.{file}
 use Rattle.c_parse.proofs.Steadiness.{Left}
 use Rattle.c_parse.proofs.FileLaws.{nothing_more, file_of, ReadsFiles}
 use Rattle.c_parse.proofs.Verdicts.{kind_by, RefusedAt, EndWithEnd, refuses, parses}
-use Rattle.c_parse.proofs.GrammarLaws.{parse_or_refuse, refuse_once, refusal_at}
+use Rattle.c_parse.proofs.GrammarLaws.{spell_one_file, parse_or_refuse, refuse_once, refusal_at}
 use Rattle.c_parse.proofs.DeepExprs.{deep_expr}
 use Rattle.c_parse.proofs.LevelLaws.{level_laws}
 use Rattle.c_parse.proofs.StatementClasses.{Parts}
@@ -72,6 +72,9 @@ pub file_ends : (ts : List Token) → file_of file ts ≡ Err spent → ⊥
 file_ends ts e = spent_never (length ts) (file 0 ts) (reads_files.law.steady.shrinks 0 ts) e
 
 -- ---- the laws of the grammar
+
+pub one_file : SpellOneFile
+one_file = spell_one_file file reads_files
 
 pub exclusive : ParseOrRefuse
 exclusive = parse_or_refuse file reads_files
