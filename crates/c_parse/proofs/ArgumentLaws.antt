@@ -1,22 +1,21 @@
 -- The law of what stands between the brackets of a call.
-use Rattle.std.proofs.Common.{◌≡◌, ℕ, suc, ◌+◌, ◌≤◌, List, [], ◌∷◌, ◌++◌, Bool, true, false, refl, sym, ap, subst, ◌∙◌, inl, inr, ◌⊎◌, arith, append_assoc}
+use Rattle.std.proofs.Common.{◌≡◌, ℕ, suc, ◌+◌, ◌≤◌, List, [], ◌∷◌, ◌++◌, Bool, false, refl, ap, subst, inl, inr, ◌⊎◌, arith}
 use Rattle.std.specs.List.{AllByRecursion}
 use Rattle.ak_words.specs.declared.operation.Op.TheVariants as ops
 use Rattle.c_lex.specs.declared.token.Mark.TheVariants as marks
 use Rattle.c_tree.specs.declared.syntax.BinaryOp.{BinaryOp}
 use Rattle.c_tree.specs.declared.syntax.BinaryOp.TheVariants.{Value, AndAnd, OrOr}
-use Rattle.c_tree.specs.Syntax.{Expr, name, call, int, char, text, null, group, prefix, sizeof_type, sizeof_expr, cast, index, member, arrow, binary, conditional, Exprs, no_exprs, more_exprs, exprs_of}
+use Rattle.c_tree.specs.Syntax.{Expr, null, binary, conditional, Exprs, no_exprs, more_exprs, exprs_of}
 use Rattle.c_parse.specs.Leaves.{some_mark, Leaf, at}
 use Rattle.c_parse.specs.Grammar.{counted, counted_all, on, on_args, on_more_args, height, rank, IsExpr, AreExprs}
-use Rattle.c_parse.specs.inner.Readers.{nothing}
 use Rattle.c_parse.specs.inner.Tokens.{is_mark, begins_expr}
 use Rattle.c_parse.specs.inner.Reading.{Level, arguments}
 use Rattle.c_parse.proofs.Lawful.{Class, Info, Lawful, both}
-use Rattle.c_parse.proofs.Joints.{Makes, tree, known, narrow, nothing_lawful}
-use Rattle.c_parse.proofs.Loops.{row_leaves, row_after, from_leaves, FromIs, from_class}
+use Rattle.c_parse.proofs.Joints.{known, nothing_lawful}
+use Rattle.c_parse.proofs.Loops.{row_leaves, row_after, from_leaves, FromIs}
 use Rattle.c_parse.proofs.TokenLaws.{Room, plain_class, mark_sign, mark_lawful}
-use Rattle.c_parse.proofs.Classes.{goes_expr, expr_class, expr_info, LevelLawful}
-use Rattle.c_parse.proofs.MoreJoints.{joined, Forms, formed, either_lawful, behind_comma, comma_rows, commas_lawful}
+use Rattle.c_parse.proofs.Classes.{expr_class, LevelLawful}
+use Rattle.c_parse.proofs.MoreJoints.{joined, Forms, formed, either_lawful, behind_comma, commas_lawful}
 
 -- ---- ranks
 

@@ -1,28 +1,25 @@
 -- The law of casts. A bracket opens a group or the type of a cast: the token behind it tells which.
-use Rattle.std.proofs.Common.{◌≡◌, ℕ, zero, suc, ◌+◌, ◌≤◌, List, [], ◌∷◌, ◌++◌, Option, Some, None, Result, Ok, Err, Bool, true, false, refl, sym, ap, subst, ◌∙◌, inl, inr, ◌⊎◌, arith}
+use Rattle.std.proofs.Common.{◌≡◌, ℕ, suc, ◌+◌, ◌≤◌, List, [], ◌∷◌, Option, Some, None, Bool, true, false, refl, sym, ap, subst, ◌∙◌, inl, inr, ◌⊎◌, arith}
 use Rattle.std.specs.Prelude.{◌||◌}
-use Rattle.c_lex.specs.declared.token.Word.TheVariants as words
 use Rattle.c_lex.specs.declared.token.Mark.TheVariants as marks
 use Rattle.c_lex.specs.declared.token.Token.{Token}
 use Rattle.c_lex.specs.declared.refusal.Kind.{Kind}
 use Rattle.c_tree.specs.declared.syntax.TypeWord.TheVariants as types
-use Rattle.c_tree.specs.Syntax.{Expr, name, call, int, char, text, null, group, prefix, sizeof_type, sizeof_expr, cast, index, member, arrow, binary, conditional, TypeName, type_name, word, no_specs, more_specs}
-use Rattle.c_parse.specs.Leaves.{Sign, mark_at, some_mark, IsSpelt, Leaf, over, at}
-use Rattle.c_parse.specs.Grammar.{counted, on, on_type, rank, IsExpr, IsType}
-use Rattle.c_parse.specs.inner.Readers.{Fault, stop, Reading, Reads, ◌>>=◌, Sort, sort, ◌▸◌, ◌&◌, made, choice_turn, choice}
-use Rattle.c_parse.specs.inner.Tokens.{tok, mark_is, mark_place, is_mark, is_text, begins_type, begins_expr}
-use Rattle.c_parse.specs.inner.Reading.{Sized, a_type, an_expr, Level, either_by, either, group_rest, UnaryStart, Primary, Paren, Prefix, Sizeof, unary_start, unary_by, unary, paren_rest, cast_by, casted, sized}
-use Rattle.c_parse.proofs.Sorts.{inside, is_inside}
+use Rattle.c_tree.specs.Syntax.{Expr, null, group, cast, index, member, arrow, binary, conditional, TypeName, type_name, word, no_specs, more_specs}
+use Rattle.c_parse.specs.Leaves.{Sign, mark_at, IsSpelt, Leaf, at}
+use Rattle.c_parse.specs.Grammar.{counted, rank, IsExpr, IsType}
+use Rattle.c_parse.specs.inner.Tokens.{is_mark, begins_type, begins_expr}
+use Rattle.c_parse.specs.inner.Reading.{Level, UnaryStart, Primary, Paren, Prefix, Sizeof, unary_start, paren_rest, cast_by, casted}
 use Rattle.c_parse.proofs.Runs.{Within, Met, Over, Stopped}
 use Rattle.c_parse.proofs.Lawful.{Class, Info, sort_of_sign, HeadIn, Headed, Lawful, both, before}
 use Rattle.c_parse.proofs.Joints.{Makes, tree, known, narrow}
 use Rattle.c_parse.proofs.TokenLaws.{Room, plain_class, mark_sign, mark_place_sign, mark_lawful, mark_place_lawful}
-use Rattle.c_parse.proofs.Classes.{none_less, goes_postfix, postfix_info, expr_class, on_sized, counted_sized, IsSized, sized_class, type_class, LevelLawful}
-use Rattle.c_parse.proofs.MoreJoints.{joined, Forms, formed, either_lawful}
-use Rattle.c_parse.proofs.Respelling.{retold, alike, Respells, respelt, Picks, picked}
+use Rattle.c_parse.proofs.Classes.{none_less, goes_postfix, postfix_info, expr_class, type_class, LevelLawful}
+use Rattle.c_parse.proofs.MoreJoints.{joined, either_lawful}
+use Rattle.c_parse.proofs.Respelling.{retold, Respells, respelt, Picks, picked}
 use Rattle.c_parse.proofs.ArgumentLaws.{room_deeper}
-use Rattle.c_parse.proofs.PostfixLaws.{start_of, Begins, behind, group_class, group_info, group_rest_lawful}
-use Rattle.c_parse.proofs.UnaryLaws.{one_one, one_two, some_begin, begin_class, low_primary, not_cast, group_opens, opening, opens, start_info, is_start, start_is, begin_picks, unary_part}
+use Rattle.c_parse.proofs.PostfixLaws.{start_of, Begins, behind, group_rest_lawful}
+use Rattle.c_parse.proofs.UnaryLaws.{one_two, some_begin, begin_class, not_cast, opening, opens, start_info, is_start, start_is, unary_part}
 
 -- ---- behind the bracket, at whose place it stands
 

@@ -1,8 +1,6 @@
 -- Where no room is left, each expression begins too deep, and so does what stands behind sizeof.
-use Rattle.std.proofs.Common.{◌≡◌, ℕ, zero, suc, ◌+◌, ◌≤◌, ◌<◌, List, [], ◌∷◌, ◌++◌, map, Option, Some, None, Bool, true, false, refl, sym, ap, subst, ◌∙◌, arith}
-use Rattle.std.specs.Prelude.{◌||◌}
+use Rattle.std.proofs.Common.{◌≡◌, ℕ, ◌+◌, ◌≤◌, List, [], ◌∷◌, ◌++◌, map, Some, Bool, true, refl, ap, arith}
 use Rattle.std.proofs.lemmas.Bool.{lt-ltb}
-use denote.Enum.Bare.{sameb, same_true}
 use Rattle.c_lex.specs.declared.token.Word.{Word}
 use Rattle.c_lex.specs.declared.token.Word.TheVariants as words
 use Rattle.c_lex.specs.declared.token.Mark.{Mark}
@@ -11,17 +9,15 @@ use Rattle.c_lex.specs.declared.token.TokenKind.{TokenKind}
 use Rattle.c_lex.specs.declared.token.TokenKind.TheVariants as kinds
 use Rattle.c_lex.specs.declared.token.Token.{Token}
 use Rattle.c_lex.specs.declared.refusal.Kind.TheVariants.{TooDeep}
-use Rattle.c_lex.specs.contracts.token.Word.{the_type as word_type}
-use Rattle.c_lex.specs.contracts.token.Mark.{the_type as mark_type}
 use Rattle.c_tree.specs.declared.syntax.PrefixOp.{PrefixOp}
 use Rattle.c_tree.specs.declared.syntax.PrefixOp.TheVariants as prefixes
 use Rattle.c_tree.specs.declared.syntax.Name.{Name}
 use Rattle.c_tree.specs.declared.syntax.Span.{Span}
 use Rattle.c_tree.specs.Syntax.{Expr, name, call, int, char, text, null, group, prefix, sizeof_type, sizeof_expr, cast, index, member, arrow, binary, conditional}
-use Rattle.c_parse.specs.Leaves.{Sign, name_at, int_at, char_at, text_at, word_at, mark_at, some_mark, IsSpelt, Leaf, over, at, operator_at}
+use Rattle.c_parse.specs.Leaves.{name_at, int_at, char_at, text_at, word_at, mark_at, some_mark, IsSpelt, Leaf, over, at, operator_at}
 use Rattle.c_parse.specs.Grammar.{mark_of_prefix, counted, on, rank, IsSome, IsExpr}
-use Rattle.c_parse.specs.inner.Readers.{Sort, a_mark, sort_of_kind, sort}
-use Rattle.c_parse.specs.inner.Tokens.{prefix_of_mark, is_some, begins_expr}
+use Rattle.c_parse.specs.inner.Readers.{a_mark, sort_of_kind}
+use Rattle.c_parse.specs.inner.Tokens.{begins_expr}
 use Rattle.c_parse.specs.inner.Reading.{Sized, a_type, an_expr}
 use Rattle.c_parse.proofs.Lawful.{sort_of_sign}
 use Rattle.c_parse.proofs.Joints.{TooDeepFor}

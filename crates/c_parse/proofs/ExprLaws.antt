@@ -1,9 +1,9 @@
 -- The law of expressions: binary operators, and a conditional behind them. With it what a level's readers of expressions are, by the deeper level.
-use Rattle.std.proofs.Common.{◌≡◌, ℕ, zero, suc, ◌+◌, ◌≤◌, List, [], ◌∷◌, ◌++◌, Option, Some, None, Bool, true, false, refl, sym, ap, subst, ◌∙◌, arith, append_assoc}
+use Rattle.std.proofs.Common.{◌≡◌, ℕ, suc, ◌+◌, ◌≤◌, ◌∷◌, Option, Some, None, Bool, refl, sym, arith, append_assoc}
 use Rattle.std.proofs.lemmas.List.{append-nil}
 use Rattle.c_lex.specs.declared.token.Mark.TheVariants as marks
-use Rattle.c_tree.specs.Syntax.{Expr, name, call, int, char, text, null, group, prefix, sizeof_type, sizeof_expr, cast, index, member, arrow, binary, conditional}
-use Rattle.c_parse.specs.Leaves.{mark_at, some_mark, Leaf, at}
+use Rattle.c_tree.specs.Syntax.{Expr, binary, conditional}
+use Rattle.c_parse.specs.Leaves.{mark_at, some_mark, at}
 use Rattle.c_parse.specs.Grammar.{counted, on, rank, IsExpr}
 use Rattle.c_parse.specs.inner.Tokens.{is_mark}
 use Rattle.c_parse.specs.inner.Reading.{Level, casted, conditional_by, expr}
@@ -11,7 +11,7 @@ use Rattle.c_parse.proofs.Lawful.{Class, Lawful, both}
 use Rattle.c_parse.proofs.Joints.{known}
 use Rattle.c_parse.proofs.Loops.{option_class, maybe_lawful}
 use Rattle.c_parse.proofs.TokenLaws.{Room, plain_class, mark_sign, mark_place_sign, mark_lawful, mark_place_lawful}
-use Rattle.c_parse.proofs.Classes.{none_less, expr_class, expr_info, LevelLawful}
+use Rattle.c_parse.proofs.Classes.{expr_class, expr_info, LevelLawful}
 use Rattle.c_parse.proofs.MoreJoints.{joined, Forms, formed}
 use Rattle.c_parse.proofs.ArgumentLaws.{height_most, rank_most}
 use Rattle.c_parse.proofs.CastLaws.{casted_lawful}

@@ -1,15 +1,15 @@
 -- The law of binary operators: each height is a chain of the heights below it.
-use Rattle.std.proofs.Common.{◌≡◌, ℕ, zero, suc, ◌+◌, ◌≤◌, ◌<◌, List, [], ◌∷◌, ◌++◌, Option, Some, None, Bool, true, false, refl, sym, ap, subst, ◌∙◌, inl, inr, ◌⊎◌, arith}
+use Rattle.std.proofs.Common.{◌≡◌, ℕ, zero, suc, ◌+◌, ◌≤◌, ◌<◌, Option, Some, None, Bool, true, false, refl, ap, subst, inl, inr, ◌⊎◌, arith}
 use Rattle.std.specs.Prelude.{◌||◌, nat_lt}
 use Rattle.c_tree.specs.declared.syntax.BinaryOp.{BinaryOp}
 use Rattle.c_tree.specs.Syntax.{Expr, name, call, int, char, text, null, group, prefix, sizeof_type, sizeof_expr, cast, index, member, arrow, binary, conditional}
 use Rattle.c_parse.specs.Grammar.{height, rank, IsExpr}
-use Rattle.c_parse.specs.inner.Readers.{Reads, Sort, a_mark, ◌&◌, chain}
+use Rattle.c_parse.specs.inner.Readers.{Reads, Sort, a_mark, ◌&◌}
 use Rattle.c_parse.specs.inner.Tokens.{counted_tok, op_of_mark, binary_of, is_binary, begins_expr}
 use Rattle.c_parse.specs.inner.Reading.{ladder}
 use Rattle.c_parse.proofs.Sorts.{apart, inside}
 use Rattle.c_parse.proofs.Lawful.{Class, Info, Lawful, both, both_info, starts}
-use Rattle.c_parse.proofs.Joints.{Less, known, narrow}
+use Rattle.c_parse.proofs.Joints.{Less, known}
 use Rattle.c_parse.proofs.Loops.{Link, Built, base, step, Linked, chain_info, chained}
 use Rattle.c_parse.proofs.TokenLaws.{Room}
 use Rattle.c_parse.proofs.BinaryLaws.{binary_class, binary_lawful, some_binary}

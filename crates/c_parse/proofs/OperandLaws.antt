@@ -1,5 +1,5 @@
 -- The laws of a primary that isn't in brackets.
-use Rattle.std.proofs.Common.{◌≡◌, ℕ, suc, ◌+◌, ◌≤◌, List, [], ◌∷◌, ◌++◌, map, Option, Some, None, Bool, true, false, refl, sym, ap, subst, ◌∙◌, arith, append_assoc, append-nil, pos}
+use Rattle.std.proofs.Common.{◌≡◌, ℕ, suc, ◌+◌, List, [], ◌∷◌, map, Option, Some, None, Bool, true, false, refl, sym, ap, subst, arith, pos}
 use Rattle.std.specs.Prelude.{◌||◌}
 use Rattle.std.specs.List.{AllByRecursion}
 use Rattle.ak_words.specs.declared.number.Num.{Num}
@@ -9,19 +9,19 @@ use Rattle.c_lex.specs.declared.token.Word.TheVariants as words
 use Rattle.c_lex.specs.declared.token.Mark.TheVariants as marks
 use Rattle.c_tree.specs.declared.syntax.Name.{Name}
 use Rattle.c_tree.specs.declared.syntax.Span.{Span}
-use Rattle.c_tree.specs.Syntax.{Expr, name, call, int, char, text, null, group, prefix, sizeof_type, sizeof_expr, cast, index, member, arrow, binary, conditional, Exprs, no_exprs, exprs_of}
-use Rattle.c_parse.specs.Leaves.{name_at, int_at, char_at, text_at, word_at, mark_at, some_mark, Leaf, at}
-use Rattle.c_parse.specs.Grammar.{counted, on, rank, IsSome, IsExpr}
-use Rattle.c_parse.specs.inner.Readers.{Sort, made}
-use Rattle.c_parse.specs.inner.Tokens.{is_some, is_mark, is_word, is_text, begins_expr}
-use Rattle.c_parse.specs.inner.Reading.{is_name, Level, named, name_or_call, texts, Operand, Named, AnInt, AChar, Texts, NullWord, operand_by, operand_start, operand, Primary, begins_post, posts}
+use Rattle.c_tree.specs.Syntax.{Expr, name, call, int, char, text, null, binary, conditional}
+use Rattle.c_parse.specs.Leaves.{name_at, text_at, Leaf, at}
+use Rattle.c_parse.specs.Grammar.{counted, on, IsSome, IsExpr}
+use Rattle.c_parse.specs.inner.Readers.{Sort}
+use Rattle.c_parse.specs.inner.Tokens.{is_some, is_mark, is_word, is_text}
+use Rattle.c_parse.specs.inner.Reading.{is_name, Level, named, name_or_call, texts, Operand, Named, AnInt, AChar, Texts, NullWord, operand_by, operand_start, operand, Primary, posts}
 use Rattle.c_parse.proofs.Lawful.{Class, Info, Lawful, both, starts}
 use Rattle.c_parse.proofs.Joints.{Makes, tree, known, narrow}
-use Rattle.c_parse.proofs.Loops.{Rows, from_class, row_leaves, row_after, from_leaves, FromIs, option_class, maybe_lawful, row_from_lawful}
+use Rattle.c_parse.proofs.Loops.{Rows, from_class, row_leaves, from_leaves, FromIs, option_class, maybe_lawful, row_from_lawful}
 use Rattle.c_parse.proofs.TokenLaws.{Room, plain_class, int_sign, char_sign, word_place_sign, is_int, is_char, name_lawful, text_lawful, int_lawful, char_lawful, word_place_lawful}
-use Rattle.c_parse.proofs.Classes.{none_less, goes_postfix, postfix_info, expr_class, LevelLawful}
+use Rattle.c_parse.proofs.Classes.{none_less, goes_postfix, expr_class, LevelLawful}
 use Rattle.c_parse.proofs.MoreJoints.{joined, Forms, formed, flat_after}
-use Rattle.c_parse.proofs.Respelling.{retold, Picks, picked}
+use Rattle.c_parse.proofs.Respelling.{Picks, picked}
 use Rattle.c_parse.proofs.ArgumentLaws.{listed, args_class, arguments_lawful}
 use Rattle.c_parse.proofs.PostfixLaws.{BeginsBare, posted_spelt, Adds, postfix_class, posts_lawful}
 

@@ -1,17 +1,17 @@
 -- The laws of postfix operators: of each, and of those behind a primary.
-use Rattle.std.proofs.Common.{◌≡◌, ℕ, suc, ◌+◌, ◌≤◌, List, [], ◌∷◌, ◌++◌, Option, Some, None, Bool, true, false, refl, sym, ap, subst, ◌∙◌, arith, append_assoc}
+use Rattle.std.proofs.Common.{◌≡◌, ℕ, suc, ◌+◌, ◌≤◌, List, [], ◌∷◌, ◌++◌, Option, Some, Bool, true, false, refl, arith, append_assoc}
 use Rattle.c_lex.specs.declared.token.Mark.TheVariants as marks
 use Rattle.c_tree.specs.declared.syntax.Name.{Name}
 use Rattle.c_tree.specs.Syntax.{Expr, name, call, int, char, text, null, group, prefix, sizeof_type, sizeof_expr, cast, index, member, arrow, binary, conditional}
 use Rattle.c_parse.specs.Leaves.{name_at, mark_at, some_mark, Leaf, at, operator_at}
 use Rattle.c_parse.specs.Grammar.{counted, on, on_type, rank, IsExpr}
-use Rattle.c_parse.specs.inner.Readers.{Reads, Sort, ◌&◌, made, chain}
+use Rattle.c_parse.specs.inner.Readers.{Reads, Sort, ◌&◌, made}
 use Rattle.c_parse.specs.inner.Tokens.{tok, mark_is, is_mark, begins_expr}
 use Rattle.c_parse.specs.inner.Reading.{Level, Post, an_index, a_member, an_arrow, posted, PostStart, Bracket, Dot, Arrow, post_start, begins_post, post_by, post, posts, group_rest, UnaryStart, Primary, Paren, Prefix, Sizeof}
 use Rattle.c_parse.proofs.Sorts.{apart}
 use Rattle.c_parse.proofs.Lawful.{Class, Info, Lawful, both}
 use Rattle.c_parse.proofs.Joints.{Makes, tree, known, narrow}
-use Rattle.c_parse.proofs.Loops.{Link, link_class, Built, base, step, Linked, chain_info, chained}
+use Rattle.c_parse.proofs.Loops.{Link, Built, base, step, Linked, chain_info, chained}
 use Rattle.c_parse.proofs.TokenLaws.{Room, plain_class, counted_class, mark_sign, mark_place_sign, name_lawful, mark_lawful, post_mark_lawful}
 use Rattle.c_parse.proofs.Classes.{none_less, expr_class, LevelLawful}
 use Rattle.c_parse.proofs.MoreJoints.{joined}

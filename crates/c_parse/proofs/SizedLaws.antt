@@ -1,16 +1,15 @@
 -- The law of what stands behind sizeof: a type in brackets or a unary expression, told by the token behind a bracket.
-use Rattle.std.proofs.Common.{◌≡◌, ℕ, zero, suc, ◌+◌, ◌≤◌, List, [], ◌∷◌, ◌++◌, length, Option, Some, None, Result, Ok, Err, Bool, true, false, refl, sym, ap, subst, ◌∙◌, inl, inr, ◌⊎◌, arith}
-use Rattle.std.specs.Prelude.{◌||◌}
+use Rattle.std.proofs.Common.{◌≡◌, ℕ, suc, ◌+◌, ◌≤◌, List, [], ◌∷◌, ◌++◌, Option, Some, None, Bool, true, false, refl, sym, ◌∙◌, inl, inr, ◌⊎◌, arith}
 use Rattle.c_lex.specs.declared.token.Mark.TheVariants as marks
 use Rattle.c_lex.specs.declared.token.Token.{Token}
 use Rattle.c_tree.specs.declared.syntax.TypeWord.TheVariants as type_words
-use Rattle.c_tree.specs.Syntax.{Expr, null, group, TypeName, type_name, word, no_specs, more_specs}
+use Rattle.c_tree.specs.Syntax.{null, group, TypeName, type_name, word, no_specs, more_specs}
 use Rattle.c_parse.specs.Leaves.{some_mark, Leaf, at}
-use Rattle.c_parse.specs.Grammar.{counted, on, on_type, rank, IsExpr, IsType}
-use Rattle.c_parse.specs.inner.Readers.{stop, Reads, ◌>>=◌, Sort, sort, ◌&◌, made, choice_turn, choice}
-use Rattle.c_parse.specs.inner.Tokens.{tok, mark_is, is_mark, is_text, begins_type, begins_expr}
+use Rattle.c_parse.specs.Grammar.{on_type, rank, IsType}
+use Rattle.c_parse.specs.inner.Readers.{Reads, Sort, sort, ◌&◌, made, choice_turn, choice}
+use Rattle.c_parse.specs.inner.Tokens.{tok, mark_is, is_mark, begins_type}
 use Rattle.c_parse.specs.inner.Reading.{Sized, a_type, an_expr, Level, either_by, either, group_rest, UnaryStart, Primary, Paren, Prefix, Sizeof, unary_start, unary_by, unary, sized}
-use Rattle.c_parse.proofs.Sorts.{inside, is_inside}
+use Rattle.c_parse.proofs.Sorts.{is_inside}
 use Rattle.c_parse.proofs.Lawful.{Class, Info, Lawful, both}
 use Rattle.c_parse.proofs.Joints.{Makes, tree, known, narrow}
 use Rattle.c_parse.proofs.TokenLaws.{Room, plain_class, mark_sign, mark_lawful}

@@ -1,33 +1,24 @@
 -- The laws of unary expressions, of casts, and of what stands behind sizeof. A bracket opens a group or the type of a cast: the token
 -- behind it tells which.
-use Rattle.std.proofs.Common.{◌≡◌, ℕ, zero, suc, ◌+◌, ◌≤◌, List, [], ◌∷◌, ◌++◌, Option, Some, None, Result, Ok, Err, Bool, true, false, refl, sym, ap, subst, ◌∙◌, inl, inr, ◌⊎◌, arith, append_assoc}
-use Rattle.std.specs.Prelude.{◌||◌}
-use denote.Enum.Bare.{sameb}
-use Rattle.c_lex.specs.declared.token.Mark.{Mark}
+use Rattle.std.proofs.Common.{◌≡◌, ℕ, suc, ◌+◌, ◌≤◌, List, [], ◌∷◌, ◌++◌, Option, Some, Bool, true, false, refl, ap, ◌∙◌, arith}
 use Rattle.c_lex.specs.declared.token.Word.TheVariants as words
 use Rattle.c_lex.specs.declared.token.Mark.TheVariants as marks
-use Rattle.c_lex.specs.declared.token.Token.{Token}
-use Rattle.c_lex.specs.declared.refusal.Kind.{Kind}
-use Rattle.c_lex.specs.contracts.token.Mark.{the_type as mark_type}
 use Rattle.c_tree.specs.declared.syntax.PrefixOp.{PrefixOp}
 use Rattle.c_tree.specs.declared.syntax.PrefixOp.TheVariants as prefixes
-use Rattle.c_tree.specs.declared.syntax.TypeWord.TheVariants as types
-use Rattle.c_tree.specs.Syntax.{Expr, name, call, int, char, text, null, group, prefix, sizeof_type, sizeof_expr, cast, index, member, arrow, binary, conditional, TypeName, type_name, word, no_specs, more_specs}
-use Rattle.c_parse.specs.Leaves.{Sign, name_at, mark_at, word_at, some_mark, IsSpelt, Leaf, over, at, operator_at}
-use Rattle.c_parse.specs.Grammar.{mark_of_prefix, counted, on, on_type, rank, IsExpr, IsType}
-use Rattle.c_parse.specs.inner.Readers.{Fault, stop, Reading, Reads, ◌>>=◌, Sort, sort, a_mark, ◌▸◌, ◌&◌, made, choice_turn, choice}
-use Rattle.c_parse.specs.inner.Tokens.{tok, mark_is, mark_place, prefix_of_mark, is_some, is_mark, is_word, is_text, begins_type, begins_expr}
-use Rattle.c_parse.specs.inner.Reading.{Sized, a_type, an_expr, Level, an_index, a_member, an_arrow, either_by, either, begins_post, group_rest, UnaryStart, Primary, Paren, Prefix, Sizeof, if_mark, unary_start, sizeof_by, unary_by, unary, paren_rest, cast_by, casted, sized}
-use Rattle.c_parse.proofs.Runs.{Within, Met, Over, Stopped}
-use Rattle.c_parse.proofs.Lawful.{Class, Info, sort_of_sign, HeadIn, Lawful, both, before}
+use Rattle.c_tree.specs.Syntax.{Expr, null, group, prefix, sizeof_type, sizeof_expr, cast, index, member, arrow, binary, conditional}
+use Rattle.c_parse.specs.Leaves.{Sign, mark_at, word_at, some_mark, Leaf, at}
+use Rattle.c_parse.specs.Grammar.{mark_of_prefix, counted, on, on_type, rank, IsExpr}
+use Rattle.c_parse.specs.inner.Tokens.{is_mark, is_word}
+use Rattle.c_parse.specs.inner.Reading.{Sized, a_type, an_expr, Level, an_index, a_member, an_arrow, begins_post, UnaryStart, Primary, Paren, Prefix, Sizeof, unary_start, sizeof_by, unary_by, unary}
+use Rattle.c_parse.proofs.Lawful.{Class, Info, Lawful, both}
 use Rattle.c_parse.proofs.Joints.{Makes, tree, known, narrow}
-use Rattle.c_parse.proofs.TokenLaws.{Room, plain_class, mark_sign, mark_place_sign, word_place_sign, marked, is_prefix, mark_lawful, mark_place_lawful, word_place_lawful, prefix_lawful}
-use Rattle.c_parse.proofs.Classes.{none_less, goes_postfix, postfix_info, expr_class, on_sized, counted_sized, IsSized, sized_class, type_class, LevelLawful}
-use Rattle.c_parse.proofs.MoreJoints.{joined, Forms, formed, either_lawful}
-use Rattle.c_parse.proofs.Respelling.{retold, alike, Respells, respelt, Picks, picked}
+use Rattle.c_parse.proofs.TokenLaws.{Room, plain_class, mark_sign, word_place_sign, marked, is_prefix, mark_lawful, word_place_lawful, prefix_lawful}
+use Rattle.c_parse.proofs.Classes.{none_less, goes_postfix, postfix_info, expr_class, on_sized, counted_sized, IsSized, sized_class, LevelLawful}
+use Rattle.c_parse.proofs.MoreJoints.{joined, Forms, formed}
+use Rattle.c_parse.proofs.Respelling.{retold, Picks, picked}
 use Rattle.c_parse.proofs.ArgumentLaws.{room_deeper}
-use Rattle.c_parse.proofs.PostfixLaws.{on_post, posted_spelt, start_of, Begins, behind, group_class, group_info, group_rest_lawful}
-use Rattle.c_parse.proofs.OperandLaws.{begins_operand, primary_class, primary_info, primary_lawful}
+use Rattle.c_parse.proofs.PostfixLaws.{on_post, posted_spelt, start_of, Begins, behind, group_class, group_rest_lawful}
+use Rattle.c_parse.proofs.OperandLaws.{primary_info, primary_lawful}
 
 -- ---- expressions by what they begin with
 
