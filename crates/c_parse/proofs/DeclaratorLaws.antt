@@ -1,16 +1,13 @@
 -- The laws of declarators (C11 6.7.6): what stands before a name, the name, and the sizes of arrays.
-use Rattle.std.proofs.Common.{◌≡◌, ℕ, suc, ◌+◌, ◌≤◌, List, [], ◌∷◌, ◌++◌, length, Option, Some, None, Bool, true, false, refl, sym, ap, subst, ◌∙◌, arith, append_assoc}
+use Rattle.std.proofs.Common.{◌≡◌, ℕ, suc, ◌+◌, List, [], ◌∷◌, ◌++◌, length, Bool, true, false, refl, sym, ap, subst, ◌∙◌, arith, append_assoc}
 use Rattle.std.specs.Prelude.{◌||◌}
 use Rattle.std.specs.List.{AllByRecursion}
-use Rattle.ak_words.specs.declared.operation.Op.TheVariants as ops
 use Rattle.c_lex.specs.declared.token.Mark.TheVariants as marks
 use Rattle.c_tree.specs.declared.syntax.Name.{Name}
 use Rattle.c_tree.specs.declared.syntax.Pointer.{Pointer}
-use Rattle.c_tree.specs.declared.syntax.BinaryOp.{BinaryOp}
-use Rattle.c_tree.specs.declared.syntax.BinaryOp.TheVariants.{Value, AndAnd, OrOr}
-use Rattle.c_tree.specs.Syntax.{Expr, name, call, int, char, text, null, group, prefix, sizeof_type, sizeof_expr, cast, index, member, arrow, binary, conditional, Exprs, no_exprs, more_exprs, exprs_of, Declarator, declarator}
+use Rattle.c_tree.specs.Syntax.{Expr, null, Exprs, no_exprs, exprs_of, Declarator, declarator}
 use Rattle.c_parse.specs.Leaves.{Leaf, at, derivation_at, name_at, some_mark}
-use Rattle.c_parse.specs.Grammar.{on, on_pointers, stars, on_dims, on_declarator, height, rank, IsExpr, AreExprs, StartsBare, StartsBareIn, IsDeclarator}
+use Rattle.c_parse.specs.Grammar.{on, on_pointers, stars, on_dims, on_declarator, IsExpr, AreExprs, StartsBare, StartsBareIn, IsDeclarator}
 use Rattle.c_parse.specs.inner.Readers.{Sort, nothing, pushed}
 use Rattle.c_parse.specs.inner.Tokens.{is_mark, is_pointer}
 use Rattle.c_parse.specs.inner.Reading.{Level, is_name, dim, dims, declarator_behind, declared, bare_declared}
@@ -20,48 +17,9 @@ use Rattle.c_parse.proofs.Loops.{Link, base, Linked, chained, built_from, all_be
 use Rattle.c_parse.proofs.TokenLaws.{Room, plain_class, derived_class, mark_sign, name_lawful, mark_lawful, derived_mark_lawful}
 use Rattle.c_parse.proofs.Classes.{expr_class, LevelLawful}
 use Rattle.c_parse.proofs.MoreJoints.{joined, Forms, formed}
+use Rattle.c_parse.proofs.ArgumentLaws.{rank_most, listed}
 use Rattle.c_parse.proofs.SpecLaws.{no_name}
 use Rattle.c_parse.proofs.PointerLaws.{pointers_class, pointers_lawful, bare_class, is_bare, bare_lawful}
-
--- ---- no expression binds more loosely than a conditional
-
-height_within : (op : BinaryOp) → height op ≤ 9
-height_within (Value ops.Mul) = omega arith
-height_within (Value ops.Div) = omega arith
-height_within (Value ops.Rem) = omega arith
-height_within (Value ops.Add) = omega arith
-height_within (Value ops.Sub) = omega arith
-height_within (Value ops.Shl) = omega arith
-height_within (Value ops.Shr) = omega arith
-height_within (Value ops.Lt) = omega arith
-height_within (Value ops.Gt) = omega arith
-height_within (Value ops.Le) = omega arith
-height_within (Value ops.Ge) = omega arith
-height_within (Value ops.Eq) = omega arith
-height_within (Value ops.Ne) = omega arith
-height_within (Value ops.And) = omega arith
-height_within (Value ops.Xor) = omega arith
-height_within (Value ops.Or) = omega arith
-height_within AndAnd = omega arith
-height_within OrOr = omega arith
-
-pub rank_within : (e : Expr) → rank e ≤ 13
-rank_within (name n) = omega arith
-rank_within (call callee args) = omega arith
-rank_within (int place value) = omega arith
-rank_within (char place value) = omega arith
-rank_within (text parts) = omega arith
-rank_within (null place) = omega arith
-rank_within (group e) = omega arith
-rank_within (prefix place op e) = omega arith
-rank_within (sizeof_type place t) = omega arith
-rank_within (sizeof_expr place e) = omega arith
-rank_within (cast place t e) = omega arith
-rank_within (index place a i) = omega arith
-rank_within (member place a m) = omega arith
-rank_within (arrow place a m) = omega arith
-rank_within (binary place op a b) = omega (arith, height_within op)
-rank_within (conditional place a b e) = omega arith
 
 -- ---- a size between brackets
 
@@ -84,7 +42,7 @@ dim_makes b d k = record {
   fits = λ a f. f.1.0.1;
   spelt = λ c a. refl;
   after = λ c a. refl;
-  back = λ e f. ((tt, (e, tt)), (tt, ((rank_within e, f), tt)), refl);
+  back = λ e f. ((tt, (e, tt)), (tt, ((rank_most e, f), tt)), refl);
 }
 
 -- "[" expr "]"
@@ -151,15 +109,6 @@ dims_lawful b d n k inner e l =
 
 -- ---- a declarator, behind what stands before its name
 
-pub exprs_list : Exprs → List Expr
-exprs_list no_exprs = []
-exprs_list (more_exprs e es) = e ∷ exprs_list es
-
-pub list_exprs : (es : Exprs) → exprs_of (exprs_list es) ≡ es
-unfolding exprs_list
-list_exprs no_exprs = refl
-list_exprs (more_exprs e es) = ap (more_exprs e) (list_exprs es)
-
 abbrev behind_leaves : ℕ → List Pointer → Declarator → List Leaf
 behind_leaves d ps (declarator qs n es) = at d (name_at n) ∷ on_dims d (stars 0 ps) es
 
@@ -175,8 +124,9 @@ behind_info = record { first = is_name; goes = is_mark marks.OpenBracket; empty 
 
 behind_back : (b : Bool) (ps qs : List Pointer) (n : Name) (es : Exprs) → ps ≡ qs → AreExprs b es → (a : Name × List Expr) × (Unit {0} × AreExprs b (exprs_of a.1)) × (declarator ps a.0 (exprs_of a.1) ≡ declarator qs n es)
 behind_back b ps qs n es e f =
-    let is : AreExprs b (exprs_of (exprs_list es)) = rw (list_exprs es) f in
-    ((n, exprs_list es), (tt, is), ap (λ (x : Exprs). declarator ps n x) (list_exprs es) ∙ ap (λ (x : List Pointer). declarator x n es) e)
+    let all = listed es in
+    let is : AreExprs b (exprs_of all.0) = rw (all.1) f in
+    ((n, all.0), (tt, is), ap (λ (x : Exprs). declarator ps n x) all.1 ∙ ap (λ (x : List Pointer). declarator x n es) e)
 
 behind_makes : (b : Bool) (d : ℕ) (ps : List Pointer) → Makes (both (plain_class d name_at no_name) (λ _. dims_class b d (stars 0 ps))) (behind_class b d ps) (λ (n, es). declarator ps n (exprs_of es))
 behind_makes b d ps = record {

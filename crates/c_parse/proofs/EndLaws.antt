@@ -1,6 +1,5 @@
 -- No leaf of an expression or a type is the end of the text.
-use Rattle.std.proofs.Common.{◌≡◌, ℕ, ◌+◌, List, [], ◌∷◌, ◌++◌, map, Bool, true, false, refl}
-use Rattle.c_lex.specs.declared.token.Mark.TheVariants as marks
+use Rattle.std.proofs.Common.{◌≡◌, ℕ, ◌+◌, List, [], ◌∷◌, ◌++◌, map, false, refl}
 use Rattle.c_tree.specs.declared.syntax.Span.{Span}
 use Rattle.c_tree.specs.declared.syntax.Pointer.{Pointer}
 use Rattle.c_tree.specs.declared.syntax.Pointer.TheVariants.{Star, Const, Restrict}

@@ -1,16 +1,14 @@
 -- The laws of external declarations (C11 6.9), and of the reader of a whole file.
-use Rattle.std.proofs.Common.{◌≡◌, ℕ, suc, ◌+◌, List, [], ◌∷◌, ◌++◌, Option, Some, None, Bool, true, false, refl, sym, ap, subst, ◌∙◌, append_assoc}
+use Rattle.std.proofs.Common.{◌≡◌, ℕ, List, [], ◌∷◌, ◌++◌, Bool, true, refl, sym, ap, ◌∙◌, append_assoc}
 use Rattle.std.specs.Prelude.{◌||◌}
-use Rattle.std.specs.List.{AllByRecursion}
-use Rattle.c_lex.specs.declared.token.Token.{Token}
 use Rattle.c_tree.specs.declared.syntax.TypeWord.TheVariants as types
 use Rattle.c_tree.specs.declared.syntax.Storage.{Storage}
 use Rattle.c_tree.specs.declared.syntax.Storage.TheVariants as storages
-use Rattle.c_tree.specs.Syntax.{Spec, word, Rest, nothing, External, File}
+use Rattle.c_tree.specs.Syntax.{Spec, word, Rest, nothing, External}
 use Rattle.c_parse.specs.Leaves.{Leaf, at, the_end}
-use Rattle.c_parse.specs.Grammar.{on_spec, on_each, on_storage, on_rest, on_external, leaves, IsExternal, IsFile}
-use Rattle.c_parse.specs.inner.Readers.{Sort, Reads, got, row}
-use Rattle.c_parse.specs.inner.Tokens.{begins_type, is_storage, tok, end_of}
+use Rattle.c_parse.specs.Grammar.{on_spec, on_each, on_storage, on_rest, on_external, IsExternal}
+use Rattle.c_parse.specs.inner.Readers.{Sort, row}
+use Rattle.c_parse.specs.inner.Tokens.{is_storage}
 use Rattle.c_parse.specs.inner.Reading.{level_at, external_rest, external_by, external, begins_external, file}
 use Rattle.c_parse.proofs.Lawful.{Class, Info, Lawful, starts, both}
 use Rattle.c_parse.proofs.Joints.{Makes, tree, known}

@@ -1,17 +1,17 @@
 -- The reader of files reads files: its laws, and those of the grammar that follow.
-use Rattle.std.proofs.Common.{◌≡◌, ℕ, suc, List, [], ◌∷◌, ◌++◌, length, Option, Some, None, Result, Ok, Err, true, false, refl, sym, ap, subst, ◌∙◌, inl, inr, ◌⊎◌, arith}
+use Rattle.std.proofs.Common.{◌≡◌, ℕ, List, [], ◌∷◌, ◌++◌, length, Option, Result, Ok, Err, true, false, refl, sym, ap, subst, ◌∙◌, inl, inr, ◌⊎◌, arith}
 use Rattle.std.proofs.lemmas.List.{length-append}
 use Rattle.c_lex.specs.declared.token.Token.{Token}
 use Rattle.c_lex.specs.declared.refusal.Kind.{Kind}
 use Rattle.c_lex.specs.declared.refusal.Refusal.{Refusal}
 use Rattle.c_tree.specs.Syntax.{File}
 use Rattle.c_parse.specs.Language.{Parses, RefusesTokens}
-use Rattle.c_parse.specs.Laws.{SpellOneFile, ParseOrRefuse, RefuseOnce, EndOnce, EachIsJudged}
+use Rattle.c_parse.specs.Laws.{SpellOneFile, ParseOrRefuse, RefuseOnce, EachIsJudged}
 use Rattle.c_parse.specs.inner.Readers.{Fault, stop, spent, Reading, ◌>>=◌}
 use Rattle.c_parse.specs.inner.Reading.{file}
 use Rattle.c_parse.proofs.Steadiness.{Left}
 use Rattle.c_parse.proofs.FileLaws.{nothing_more, file_of, ReadsFiles}
-use Rattle.c_parse.proofs.Verdicts.{kind_by, RefusedAt, EndWithEnd, refuses, parses}
+use Rattle.c_parse.proofs.Verdicts.{kind_by, EndWithEnd, refuses, parses}
 use Rattle.c_parse.proofs.GrammarLaws.{spell_one_file, parse_or_refuse, refuse_once, refusal_at}
 use Rattle.c_parse.proofs.DeepExprs.{deep_expr}
 use Rattle.c_parse.proofs.LevelLaws.{level_laws}

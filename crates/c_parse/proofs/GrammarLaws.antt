@@ -1,18 +1,18 @@
 -- The laws of the grammar, from any lawful reader of files.
-use Rattle.std.proofs.Common.{◌≡◌, ℕ, suc, ◌+◌, ◌<◌, ◌≤◌, List, [], ◌∷◌, ◌++◌, length, Option, Some, None, Result, Ok, Err, refl, sym, ap, subst, ◌∙◌, inl, inr, ◌⊎◌, arith}
+use Rattle.std.proofs.Common.{◌≡◌, ℕ, List, [], ◌∷◌, ◌++◌, length, Option, Some, None, Ok, Err, refl, sym, ap, subst, ◌∙◌, inl, inr, ◌⊎◌, arith}
 use Rattle.std.proofs.lemmas.List.{length-append}
 use Rattle.c_lex.specs.declared.token.Token.{Token}
 use Rattle.c_lex.specs.declared.refusal.Kind.{Kind}
 use Rattle.c_lex.specs.declared.refusal.Refusal.{Refusal}
 use Rattle.c_tree.specs.Syntax.{File}
-use Rattle.c_parse.specs.Leaves.{Leaf, Spelt}
-use Rattle.c_parse.specs.Grammar.{leaves, IsFile}
+use Rattle.c_parse.specs.Leaves.{Leaf}
+use Rattle.c_parse.specs.Grammar.{leaves}
 use Rattle.c_parse.specs.Language.{Parses, IsUnexpected, IsOver, RefusesTokens}
-use Rattle.c_parse.specs.Laws.{SpellOneFile, ParseOrRefuse, RefuseOnce, EachIsJudged}
-use Rattle.c_parse.specs.inner.Readers.{Fault, stop, spent, Reads}
+use Rattle.c_parse.specs.Laws.{SpellOneFile, ParseOrRefuse, RefuseOnce}
+use Rattle.c_parse.specs.inner.Readers.{stop, Reads}
 use Rattle.c_parse.proofs.Runs.{Over}
-use Rattle.c_parse.proofs.FileLaws.{spelt_within, over_join, nothing_more, file_of, ReadsFiles}
-use Rattle.c_parse.proofs.Verdicts.{unexpected_judged, over_judged, failed, same_fault, kind_by, RefusedAt, EndWithEnd, refuses, parses}
+use Rattle.c_parse.proofs.FileLaws.{spelt_within, over_join, file_of, ReadsFiles}
+use Rattle.c_parse.proofs.Verdicts.{unexpected_judged, over_judged, same_fault, kind_by, RefusedAt, parses}
 
 -- what is a file is read
 file_judged : (r : Reads File) → ReadsFiles r → (ts : List Token) (f : File) → Parses ts f → file_of r ts ≡ Ok f

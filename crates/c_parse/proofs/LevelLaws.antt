@@ -1,9 +1,7 @@
 -- The laws of the levels, each from those of the level deeper.
-use Rattle.std.proofs.Common.{◌≡◌, ℕ, zero, suc, ◌+◌, Bool, true, false, refl, subst, arith}
-use Rattle.c_parse.specs.inner.Readers.{too_deep}
+use Rattle.std.proofs.Common.{◌≡◌, ℕ, zero, suc, ◌+◌, Bool, false, refl, subst, arith}
 use Rattle.c_parse.specs.inner.Tokens.{begins_type, begins_expr}
 use Rattle.c_parse.specs.inner.Reading.{Level, no_level, level_by, level_at}
-use Rattle.c_parse.proofs.Lawful.{Lawful}
 use Rattle.c_parse.proofs.Joints.{too_deep_lawful}
 use Rattle.c_parse.proofs.TokenLaws.{Room}
 use Rattle.c_parse.proofs.Classes.{goes_postfix, goes_expr, goes_type, expr_class, sized_class, type_class, member_class, LevelLawful}

@@ -1,5 +1,5 @@
 -- The laws of the members of a struct (C11 6.7.2.1), and of types and members where no room is left.
-use Rattle.std.proofs.Common.{◌≡◌, ℕ, suc, ◌+◌, List, [], ◌∷◌, ◌++◌, Option, Some, None, Bool, true, false, refl, sym, ap, ◌∙◌, inl, inr, ◌⊎◌, append_assoc}
+use Rattle.std.proofs.Common.{◌≡◌, ℕ, suc, ◌+◌, List, [], ◌∷◌, ◌++◌, Option, Some, None, Bool, true, refl, sym, ap, ◌∙◌, inl, inr, ◌⊎◌, append_assoc}
 use Rattle.std.specs.Prelude.{◌||◌}
 use Rattle.std.specs.List.{AllByRecursion}
 use denote.Enum.Bare.{sameb, same_true}
@@ -15,12 +15,12 @@ use Rattle.c_tree.specs.declared.syntax.TypeWord.{TypeWord}
 use Rattle.c_tree.specs.Syntax.{Spec, word, struct, struct_body, Specs, no_specs, more_specs, specs_of, TypeName, type_name, Member, members_of, Declarator, declarator, no_exprs, Declarators, no_declarators, more_declarators, declarators_of}
 use Rattle.c_parse.specs.Leaves.{Leaf, at, word_at, some_mark, IsSpelt, over}
 use Rattle.c_parse.specs.Grammar.{word_of_type, on_spec, on_specs, on_pointers, on_type, on_member, on_declarator, on_declarators, on_more_declarators, HasSpecs, AreSpecs, IsSpec, HasDeclarators, AreDeclarators, IsDeclarator}
-use Rattle.c_parse.specs.inner.Readers.{Sort, a_word, sort_of_kind, sort}
-use Rattle.c_parse.specs.inner.Tokens.{is_some, is_mark, type_of_word, begins_type}
+use Rattle.c_parse.specs.inner.Readers.{a_word, sort_of_kind, sort}
+use Rattle.c_parse.specs.inner.Tokens.{is_some, type_of_word, begins_type}
 use Rattle.c_parse.specs.inner.Reading.{Level, membered}
 use Rattle.c_parse.proofs.Lawful.{Class, Lawful, both, sort_of_sign}
 use Rattle.c_parse.proofs.Joints.{Makes, tree, known, TooDeepFor}
-use Rattle.c_parse.proofs.Loops.{row_leaves, from_leaves, FromIs, from_class}
+use Rattle.c_parse.proofs.Loops.{row_leaves, FromIs, from_class}
 use Rattle.c_parse.proofs.TokenLaws.{Room, plain_class, mark_sign, mark_lawful, type_back, type_forth}
 use Rattle.c_parse.proofs.Classes.{LevelLawful, type_class, member_class, member_info}
 use Rattle.c_parse.proofs.MoreJoints.{joined, flat_after, behind_comma, comma_rows, commas_lawful}

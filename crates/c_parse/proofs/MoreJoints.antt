@@ -1,21 +1,20 @@
 -- More joints: trees of parts that depend on each other, one of two parts, and parts with commas between them.
-use Rattle.std.proofs.Common.{◌≡◌, ℕ, ◌+◌, List, [], ◌∷◌, ◌++◌, Option, Some, None, Result, Ok, Err, Bool, true, false, refl, sym, ap, subst, ◌∙◌, inl, inr, ◌⊎◌}
-use Rattle.std.specs.Prelude.{◌&&◌, ◌||◌}
-use Rattle.std.specs.List.{AllByRecursion}
+use Rattle.std.proofs.Common.{◌≡◌, ℕ, List, [], ◌∷◌, ◌++◌, Some, Ok, Err, Bool, true, false, refl, sym, ap, subst, ◌∙◌, inl, inr, ◌⊎◌}
+use Rattle.std.specs.Prelude.{◌||◌}
 use Rattle.c_lex.specs.declared.token.Mark.TheVariants as marks
 use Rattle.c_lex.specs.declared.token.Token.{Token}
 use Rattle.c_lex.specs.declared.refusal.Kind.{Kind}
 use Rattle.c_parse.specs.Leaves.{Leaf, at, some_mark}
 use Rattle.c_parse.specs.Grammar.{on_more, on_commas, on_each}
-use Rattle.c_parse.specs.inner.Readers.{Fault, stop, spent, Got, Reading, got, Reads, ◌>>=◌, Sort, ◌&◌, made, choice}
-use Rattle.c_parse.specs.inner.Tokens.{tok, mark_is, is_mark}
+use Rattle.c_parse.specs.inner.Readers.{stop, spent, Reading, got, Reads, ◌>>=◌, Sort, ◌&◌, made}
+use Rattle.c_parse.specs.inner.Tokens.{is_mark}
 use Rattle.c_parse.specs.inner.Reading.{commas, either_by, either}
 use Rattle.c_parse.proofs.Sorts.{apart, are_apart, inside, is_inside}
 use Rattle.c_parse.proofs.Runs.{Within, Over}
-use Rattle.c_parse.proofs.Steadiness.{Steady, made_steady}
-use Rattle.c_parse.proofs.Lawful.{Class, Info, Took, Begun, SoundAt, Follows, HeadIn, Lawful, starts, both, both_info, if_empty, before}
-use Rattle.c_parse.proofs.Joints.{Makes, tree, narrow, Chosen, chosen}
-use Rattle.c_parse.proofs.Loops.{chain_info, row_leaves, row_after, from_leaves, FromIs, Rows, first_class, rest_class, from_class, row_from_lawful}
+use Rattle.c_parse.proofs.Steadiness.{made_steady}
+use Rattle.c_parse.proofs.Lawful.{Class, Info, SoundAt, Follows, HeadIn, Lawful, starts, both, both_info, if_empty, before}
+use Rattle.c_parse.proofs.Joints.{Makes, tree, narrow, chosen}
+use Rattle.c_parse.proofs.Loops.{chain_info, row_leaves, row_after, from_leaves, Rows, rest_class, from_class, row_from_lawful}
 use Rattle.c_parse.proofs.TokenLaws.{Room, plain_class, mark_sign, mark_lawful}
 
 -- ---- a part, and then another

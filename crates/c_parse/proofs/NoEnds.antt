@@ -1,10 +1,10 @@
 -- No leaf of an external declaration is the end of the text.
-use Rattle.std.proofs.Common.{◌≡◌, ℕ, ◌+◌, List, [], ◌∷◌, ◌++◌, Option, Some, None, true, false, refl}
+use Rattle.std.proofs.Common.{ℕ, ◌+◌, List, [], ◌∷◌, ◌++◌, Option, Some, None, refl}
 use Rattle.c_lex.specs.declared.token.Mark.TheVariants as marks
 use Rattle.c_lex.specs.declared.token.Word.TheVariants as words
 use Rattle.c_tree.specs.declared.syntax.Name.{Name}
 use Rattle.c_tree.specs.declared.syntax.Storage.{Storage}
-use Rattle.c_tree.specs.Syntax.{Expr, Spec, InitDeclarator, Declaration, ParamDim, Param, Simple, before, after, assign, eval, ForFirst, first_declare, first_simple, first_nothing, Stmt, block, declare, empty, if_then, if_else, while, for, break, continue, return, simple, Stmts, no_stmts, more_stmts, Body, Rest, nothing, function, variables, External}
+use Rattle.c_tree.specs.Syntax.{Expr, InitDeclarator, Declaration, ParamDim, Param, Simple, before, after, assign, eval, ForFirst, first_declare, first_simple, first_nothing, Stmt, block, declare, empty, if_then, if_else, while, for, break, continue, return, simple, Stmts, no_stmts, more_stmts, Body, Rest, nothing, function, variables, External}
 use Rattle.c_parse.specs.Leaves.{Leaf, at, some_word, some_mark}
 use Rattle.c_parse.specs.Grammar.{counted, on, on_pointers, stars, on_spec, on_declarator, on_more, on_commas, on_each, on_full, on_value, on_init_declarator, on_declaration, on_size, on_param_dims, on_name, on_param, on_simple, on_maybe, on_first, on_bracketed, on_stmt, on_stmts, on_storage, on_body, on_rest, on_external}
 use Rattle.c_parse.proofs.EndLaws.{NoEnd, no_end_append, no_end_pointers, no_end_expr, no_end_spec, no_end_declarator}

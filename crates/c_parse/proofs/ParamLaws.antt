@@ -8,19 +8,19 @@ use Rattle.c_tree.specs.declared.syntax.TypeWord.TheVariants as types
 use Rattle.c_tree.specs.declared.syntax.Pointer.{Pointer}
 use Rattle.c_tree.specs.Syntax.{Expr, Spec, word, ParamDim, Param}
 use Rattle.c_parse.specs.Leaves.{Leaf, at, derivation_at, name_at, mark_at, some_mark}
-use Rattle.c_parse.specs.Grammar.{on_spec, on_pointers, stars, on_each, on_commas, on_size, on_param_dims, on_name, on_param, IsExpr, IsValue, IsParam}
+use Rattle.c_parse.specs.Grammar.{on_spec, on_pointers, stars, on_each, on_commas, on_size, on_param_dims, on_name, on_param, IsValue, IsParam}
 use Rattle.c_parse.specs.inner.Readers.{Sort, nothing, pushed}
 use Rattle.c_parse.specs.inner.Tokens.{is_mark, is_pointer, begins_type, begins_expr}
-use Rattle.c_parse.specs.inner.Reading.{Level, level_at, commas, either, param_dim_by, param_dim, is_name, param_behind, param, params}
+use Rattle.c_parse.specs.inner.Reading.{level_at, param_dim_by, param_dim, is_name, param_behind, param, params}
 use Rattle.c_parse.proofs.Lawful.{Class, Info, Lawful, starts, both, before}
-use Rattle.c_parse.proofs.Joints.{Makes, tree, known, full_class, full_lawful, narrow, empty_info, nothing_lawful}
-use Rattle.c_parse.proofs.Loops.{Link, base, Linked, chained, built_from, all_pushed, all_before, OptionIs, option_class, maybe_lawful, from_leaves, FromIs, row_after, from_class}
+use Rattle.c_parse.proofs.Joints.{Makes, tree, known, full_class, full_lawful, empty_info, nothing_lawful}
+use Rattle.c_parse.proofs.Loops.{Link, base, Linked, chained, built_from, all_pushed, all_before, option_class, maybe_lawful, from_class}
 use Rattle.c_parse.proofs.TokenLaws.{Room, plain_class, derived_class, mark_sign, mark_place_sign, name_lawful, mark_lawful, derived_place_lawful}
 use Rattle.c_parse.proofs.Classes.{expr_class, LevelLawful}
-use Rattle.c_parse.proofs.MoreJoints.{joined, either_lawful, behind_comma, comma_rows, commas_lawful, flat_after, some_spelt, commas_spelt}
+use Rattle.c_parse.proofs.MoreJoints.{joined, either_lawful, comma_rows, commas_lawful, flat_after, some_spelt, commas_spelt}
 use Rattle.c_parse.proofs.SpecLaws.{no_name, specs_class, specs_lawful, specs_some, some_specs, goes_specs}
 use Rattle.c_parse.proofs.PointerLaws.{bare_class, bare_lawful}
-use Rattle.c_parse.proofs.DeclaratorLaws.{rank_within}
+use Rattle.c_parse.proofs.ArgumentLaws.{rank_most}
 
 -- ---- a size between brackets, which may be left out
 
@@ -41,7 +41,7 @@ size_fits d (Some e) f = f.1
 
 fits_size : (d : ℕ) (o : Option Expr) → IsValue false o → (size_class d).Is o
 fits_size d None f = tt
-fits_size d (Some e) f = (rank_within e, f)
+fits_size d (Some e) f = (rank_most e, f)
 
 -- the leaves of a size, behind k stars and dimensions
 abbrev on_param_dim : ℕ → ℕ → ParamDim → List Leaf

@@ -1,5 +1,5 @@
 -- The laws of what stands before a declared name: stars, const and restrict (C11 6.7.6.1), and of the names of types (C11 6.7.7).
-use Rattle.std.proofs.Common.{◌≡◌, ℕ, suc, ◌+◌, List, [], ◌∷◌, ◌++◌, length, Option, Some, None, Ok, Err, Bool, true, false, refl, sym, ap, subst, ◌∙◌, inl, inr}
+use Rattle.std.proofs.Common.{◌≡◌, ℕ, suc, ◌+◌, List, [], ◌∷◌, ◌++◌, Some, None, Ok, Err, Bool, true, false, refl, sym, ap, ◌∙◌, inl, inr}
 use Rattle.std.specs.Prelude.{◌||◌}
 use denote.Enum.Bare.{sameb, same_true}
 use Rattle.c_lex.specs.declared.token.Token.{Token}
@@ -12,19 +12,19 @@ use Rattle.c_lex.specs.contracts.token.Word.{the_type as word_type}
 use Rattle.c_lex.specs.contracts.token.Mark.{the_type as mark_type}
 use Rattle.c_tree.specs.declared.syntax.Pointer.{Pointer}
 use Rattle.c_tree.specs.declared.syntax.Pointer.TheVariants.{Star, Const, Restrict}
-use Rattle.c_tree.specs.Syntax.{Spec, Specs, specs_of, TypeName, type_name}
+use Rattle.c_tree.specs.Syntax.{Spec, Specs, specs_of, type_name}
 use Rattle.c_parse.specs.Leaves.{Leaf, some_word, IsSpelt}
 use Rattle.c_parse.specs.Grammar.{on_pointers, stars, StartsBare, HasSpecs, AreSpecs}
-use Rattle.c_parse.specs.inner.Readers.{Fault, stop, spent, Got, Reading, got, Reads, Sort, a_name, an_int, a_char, a_text, a_word, a_mark, an_end, sort, nothing, choice_turn, choice, pushed}
-use Rattle.c_parse.specs.inner.Tokens.{is_mark, is_word, is_pointer, begins_type}
-use Rattle.c_parse.specs.inner.Reading.{Level, if_pointer, pointer_start, pointer_by, pointers, unless, bare_pointers, specs, type_named}
+use Rattle.c_parse.specs.inner.Readers.{stop, spent, Reading, Reads, Sort, a_word, a_mark, sort, nothing, choice_turn, choice, pushed}
+use Rattle.c_parse.specs.inner.Tokens.{is_mark, is_word, is_pointer}
+use Rattle.c_parse.specs.inner.Reading.{Level, pointer_start, pointer_by, pointers, unless, bare_pointers, type_named}
 use Rattle.c_parse.proofs.Sorts.{are_apart, is_inside}
 use Rattle.c_parse.proofs.Runs.{Within, Met, Over}
 use Rattle.c_parse.proofs.Steadiness.{choice_steady}
-use Rattle.c_parse.proofs.Lawful.{Class, Info, Took, Begun, SoundAt, Follows, spelt_sort, sort_of_sign, HeadIn, Lawful, none_begun, starts, both}
-use Rattle.c_parse.proofs.Joints.{Makes, tree, known, narrow, empty_info, Chosen, chosen, nothing_lawful}
-use Rattle.c_parse.proofs.Loops.{Link, link_class, Built, base, Linked, chained, built_from}
-use Rattle.c_parse.proofs.TokenLaws.{Room, plain_class, derived_class, mark_sign, word_sign, word_lawful, derived_mark_lawful}
+use Rattle.c_parse.proofs.Lawful.{Class, Info, Begun, SoundAt, Follows, spelt_sort, HeadIn, Lawful, none_begun, starts, both}
+use Rattle.c_parse.proofs.Joints.{Makes, tree, known, narrow, empty_info, chosen, nothing_lawful}
+use Rattle.c_parse.proofs.Loops.{Link, base, Linked, chained, built_from}
+use Rattle.c_parse.proofs.TokenLaws.{Room, word_lawful, derived_mark_lawful}
 use Rattle.c_parse.proofs.Classes.{LevelLawful, type_class, type_info}
 use Rattle.c_parse.proofs.MoreJoints.{either_false, joined, flat_after}
 use Rattle.c_parse.proofs.SpecLaws.{specs_class, specs_lawful, specs_row, row_specs, specs_list, list_specs, specs_spelt}

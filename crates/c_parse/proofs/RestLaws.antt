@@ -1,5 +1,5 @@
 -- The laws of what stands behind the specifiers at file scope: a function, or variables (C11 6.9.1, 6.9.2).
-use Rattle.std.proofs.Common.{◌≡◌, ℕ, suc, ◌+◌, List, [], ◌∷◌, ◌++◌, Option, Some, None, Bool, true, false, refl, sym, ap, subst, ◌∙◌, append_assoc, inl, inr, ◌⊎◌}
+use Rattle.std.proofs.Common.{◌≡◌, ℕ, List, [], ◌∷◌, ◌++◌, Option, None, Bool, true, refl, sym, ap, subst, ◌∙◌, append_assoc, inl, inr, ◌⊎◌}
 use Rattle.std.specs.Prelude.{◌||◌}
 use Rattle.std.specs.List.{AllByRecursion}
 use Rattle.c_lex.specs.declared.token.Mark.TheVariants as marks
@@ -8,18 +8,19 @@ use Rattle.c_tree.specs.declared.syntax.Pointer.{Pointer}
 use Rattle.c_tree.specs.Syntax.{Expr, Exprs, exprs_of, Declarator, declarator, InitDeclarator, Param, Body, Rest, nothing, function, variables}
 use Rattle.c_parse.specs.Leaves.{Leaf, at, name_at, some_mark}
 use Rattle.c_parse.specs.Grammar.{on_pointers, stars, on_dims, on_more, on_commas, on_value, on_init_declarator, on_param, on_body, on_rest, StartsBare, AreExprs, IsValue, IsDeclarator, IsInitDeclarator, IsParam, IsMaybe, IsBody, IsRest}
-use Rattle.c_parse.specs.inner.Readers.{Sort, Reads, ◌&◌, made}
-use Rattle.c_parse.specs.inner.Tokens.{tok, mark_is, is_mark}
-use Rattle.c_parse.specs.inner.Reading.{Level, level_at, init_by, initialised, declared, params, body, variable_rest, named_rest, external_rest}
-use Rattle.c_parse.proofs.Lawful.{Class, Info, Lawful, starts, both, before}
+use Rattle.c_parse.specs.inner.Readers.{Sort, ◌&◌, made}
+use Rattle.c_parse.specs.inner.Tokens.{is_mark}
+use Rattle.c_parse.specs.inner.Reading.{level_at, init_by, params, body, variable_rest, named_rest, external_rest}
+use Rattle.c_parse.proofs.Lawful.{Class, Lawful, starts, both, before}
 use Rattle.c_parse.proofs.Joints.{Makes, tree, known, narrow}
 use Rattle.c_parse.proofs.Loops.{option_class, row_class, row_lawful}
 use Rattle.c_parse.proofs.TokenLaws.{plain_class, mark_sign, name_lawful, mark_lawful}
 use Rattle.c_parse.proofs.Classes.{LevelLawful}
 use Rattle.c_parse.proofs.MoreJoints.{joined, Forms, formed, either_lawful, behind_comma, flat_after, more_spelt}
+use Rattle.c_parse.proofs.ArgumentLaws.{listed}
 use Rattle.c_parse.proofs.SpecLaws.{no_name}
 use Rattle.c_parse.proofs.PointerLaws.{bare_class, bare_lawful}
-use Rattle.c_parse.proofs.DeclaratorLaws.{dims_class, dims_lawful, exprs_list, list_exprs, begins_bare_declarator}
+use Rattle.c_parse.proofs.DeclaratorLaws.{dims_class, dims_lawful, begins_bare_declarator}
 use Rattle.c_parse.proofs.DeclarationLaws.{value_class, values_lawful, value_spelt, value_after, value_there, there_value, init_class, more_init_lawful}
 use Rattle.c_parse.proofs.ParamLaws.{params_class}
 use Rattle.c_parse.proofs.BodyLaws.{body_class, begins_body}
@@ -122,9 +123,10 @@ variables_spelt ps c es v is =
 variables_back : (ps : List Pointer) (n : Name) (x : Declarator) (v : Option Expr) (is : List InitDeclarator) → IsNamedSo ps n x → IsValue true v → AllByRecursion (IsInitDeclarator true) is
     → (a : (variable_parts ps).Tree) × (variable_parts ps).Is a × (variables (init_by (declarator ps n (exprs_of a.0)) a.1.0 ∷ a.1.1.0) ≡ variables (init_by x v ∷ is))
 variables_back ps n (declarator qs m es) v is e f g =
-    let are : AreExprs true (exprs_of (exprs_list es)) = rw (list_exprs es) e.2 in
-    let same : declarator ps n (exprs_of (exprs_list es)) ≡ declarator qs m es = ap (λ (x : Exprs). declarator ps n x) (list_exprs es) ∙ ap (λ (x : List Pointer). declarator x n es) e.0 ∙ ap (λ (x : Name). declarator qs x es) e.1 in
-    ((exprs_list es, (v, (is, tt))), (are, (there_value true v f, (g, tt))), ap (λ (x : Declarator). variables (init_by x v ∷ is)) same)
+    let all = listed es in
+    let are : AreExprs true (exprs_of all.0) = rw (all.1) e.2 in
+    let same : declarator ps n (exprs_of all.0) ≡ declarator qs m es = ap (λ (x : Exprs). declarator ps n x) all.1 ∙ ap (λ (x : List Pointer). declarator x n es) e.0 ∙ ap (λ (x : Name). declarator qs x es) e.1 in
+    ((all.0, (v, (is, tt))), (are, (there_value true v f, (g, tt))), ap (λ (x : Declarator). variables (init_by x v ∷ is)) same)
 
 variables_makes : (ps : List Pointer) (n : Name) → Makes (variable_parts ps) (variables_class ps n) (λ (es, (v, (ds, _))). variables (init_by (declarator ps n (exprs_of es)) v ∷ ds))
 variables_makes ps n = record {

@@ -1,5 +1,5 @@
 -- The laws of specifiers (C11 6.7.1 to 6.7.3), with the members of a struct between its braces.
-use Rattle.std.proofs.Common.{◌≡◌, ℕ, suc, ◌+◌, List, [], ◌∷◌, ◌++◌, Option, Some, None, Bool, true, false, refl, sym, ap, subst, ◌∙◌, arith}
+use Rattle.std.proofs.Common.{◌≡◌, ℕ, suc, ◌+◌, List, [], ◌∷◌, ◌++◌, Option, Some, None, Bool, true, false, refl, sym, ap, subst, arith}
 use Rattle.std.specs.Prelude.{◌||◌}
 use Rattle.std.specs.List.{AllByRecursion}
 use denote.Enum.Bare.{sameb, same_true}
@@ -8,17 +8,16 @@ use Rattle.c_lex.specs.declared.token.Word.TheVariants as words
 use Rattle.c_lex.specs.declared.token.Mark.TheVariants as marks
 use Rattle.c_lex.specs.contracts.token.Word.{the_type as word_type}
 use Rattle.c_tree.specs.declared.syntax.Name.{Name}
-use Rattle.c_tree.specs.declared.syntax.TypeWord.{TypeWord}
 use Rattle.c_tree.specs.declared.syntax.TypeWord.TheVariants as types
 use Rattle.c_tree.specs.Syntax.{Spec, word, struct, struct_body, Member, Members, no_members, more_members, members_row, Specs, no_specs, more_specs, specs_of}
 use Rattle.c_parse.specs.Leaves.{Leaf, at, name_at, some_mark}
-use Rattle.c_parse.specs.Grammar.{on_spec, on_specs, on_member, on_members, on_each, IsSome, HasSpecs, HasMembers, IsSpec, AreSpecs, IsMember, AreMembers, IsSpecList}
-use Rattle.c_parse.specs.inner.Readers.{Sort, a_name, an_int, a_char, a_text, a_word, a_mark, an_end, Reads, nothing, made, choice}
+use Rattle.c_parse.specs.Grammar.{on_spec, on_specs, on_member, on_members, HasSpecs, HasMembers, IsSpec, AreSpecs, IsMember, AreMembers, IsSpecList}
+use Rattle.c_parse.specs.inner.Readers.{Sort, a_word}
 use Rattle.c_parse.specs.inner.Tokens.{is_some, is_word, is_mark, type_of_word, begins_type}
-use Rattle.c_parse.specs.inner.Reading.{Level, SpecStart, TypeWords, StructWord, if_spec, spec_start, members, members_where, struct_by, spec_by, spec, specs}
-use Rattle.c_parse.proofs.Lawful.{Class, Info, Lawful, starts, both, before}
-use Rattle.c_parse.proofs.Joints.{Makes, tree, known, narrow, Chosen, chosen, nothing_lawful}
-use Rattle.c_parse.proofs.Loops.{row_leaves, row_after, from_leaves, FromIs, Rows, from_class, row_from_lawful, OptionIs, option_class, maybe_lawful}
+use Rattle.c_parse.specs.inner.Reading.{Level, SpecStart, TypeWords, StructWord, if_spec, spec_start, members, struct_by, spec_by, spec, specs}
+use Rattle.c_parse.proofs.Lawful.{Class, Info, Lawful, starts, both}
+use Rattle.c_parse.proofs.Joints.{Makes, tree, known, narrow, chosen, nothing_lawful}
+use Rattle.c_parse.proofs.Loops.{row_leaves, from_leaves, FromIs, Rows, from_class, row_from_lawful, OptionIs, option_class, maybe_lawful}
 use Rattle.c_parse.proofs.TokenLaws.{Room, plain_class, word_place_sign, word_place_lawful, name_lawful, mark_lawful, mark_sign, is_type_word, type_word_sign, type_word_lawful}
 use Rattle.c_parse.proofs.Sorts.{is_inside}
 use Rattle.c_parse.proofs.Classes.{member_class, member_info, LevelLawful}

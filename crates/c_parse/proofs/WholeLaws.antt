@@ -1,11 +1,11 @@
 -- A whole file is read where nothing is behind it, and no leaf but its last is the end of the text.
-use Rattle.std.proofs.Common.{◌≡◌, ℕ, suc, List, [], ◌∷◌, ◌++◌, Option, Some, None, Ok, Bool, true, false, refl, sym, ap, subst, ◌∙◌}
+use Rattle.std.proofs.Common.{◌≡◌, ℕ, List, [], ◌∷◌, ◌++◌, true, false, refl, sym, ap, subst, ◌∙◌}
 use Rattle.c_lex.specs.declared.token.TokenKind.TheVariants as kinds
 use Rattle.c_lex.specs.declared.token.Token.{Token}
 use Rattle.c_tree.specs.Syntax.{External, File}
-use Rattle.c_parse.specs.Leaves.{Leaf, at, the_end, IsSpelt, BeginsWithin}
+use Rattle.c_parse.specs.Leaves.{Leaf, at, the_end, BeginsWithin}
 use Rattle.c_parse.specs.Grammar.{leaves, IsFile}
-use Rattle.c_parse.specs.inner.Readers.{Sort, an_end, sort_of_kind, sort, got, row}
+use Rattle.c_parse.specs.inner.Readers.{Sort, an_end, sort_of_kind, got, row}
 use Rattle.c_parse.specs.inner.Tokens.{tok, end_of}
 use Rattle.c_parse.specs.inner.Reading.{external, begins_external, file}
 use Rattle.c_parse.proofs.Runs.{Within, within_split}
