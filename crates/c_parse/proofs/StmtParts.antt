@@ -19,7 +19,8 @@ use Rattle.c_parse.proofs.TokenLaws.{Room, plain_class, word_place_sign, mark_si
 use Rattle.c_parse.proofs.Classes.{expr_info, expr_class}
 use Rattle.c_parse.proofs.MoreJoints.{joined}
 use Rattle.c_parse.proofs.StatementClasses.{simple_class, stmt_class, stmt_info, items_class, Parts}
-use Rattle.c_parse.proofs.SimpleLaws.{rank_less, deeper_room}
+use Rattle.c_parse.proofs.ArgumentLaws.{rank_most}
+use Rattle.c_parse.proofs.SimpleLaws.{deeper_room}
 use Rattle.c_parse.proofs.ItemLaws.{condition_class, condition_lawful, ended_lawful, items_lawful, stmts_spelt, items_fit}
 use Rattle.c_parse.proofs.ElseLaws.{StmtLawful, branches_class, branches_lawful}
 
@@ -228,7 +229,7 @@ expr_fits d (Some e) f = f.1
 
 pub expr_back : (d : ℕ) (o : Option Expr) → IsMaybe (IsExpr false) o → (some_expr d).Is o
 expr_back d None f = tt
-expr_back d (Some e) f = (rank_less e, f)
+expr_back d (Some e) f = (rank_most e, f)
 
 expr_spelt : (d c : ℕ) (o : Option Expr) → on_maybe (on_full d) o ≡ (some_expr d).leaves c o
 expr_spelt d c None = refl
