@@ -276,9 +276,6 @@ if_spelt : (d c place : ℕ) (e : Expr) (s : Stmt) (o : Option Stmt) → on_stmt
 if_spelt d c place e s None = ap (λ (ls : List Leaf). at d (word_at place words.If) ∷ on_bracketed d e ++ ls) (sym (append-nil (on_stmt (d + 1) s)))
 if_spelt d c place e s (Some t) = ap (λ (ls : List Leaf). at d (word_at place words.If) ∷ ls) (append_assoc (on_bracketed d e) (on_stmt (d + 1) s) (at d (some_word words.Else) ∷ on_stmt (d + 1) t))
 
-if_after : (d c place : ℕ) (e : Expr) (s : Stmt) (o : Option Stmt) → c ≡ (branches_class d).after c (s, o)
-if_after d c place e s o = refl
-
 if_back : (d : ℕ) (b : Stmt) → WhichStmt AnIf b → (a : (if_class d).Tree) × (if_class d).Is a × (if_of a ≡ b)
 if_back d (if_then place e s) f = ((place, (e, (s, None))), (tt, (f.0, (f.1, tt))), refl)
 if_back d (if_else place e s t) f = ((place, (e, (s, Some t))), (tt, (f.0, (f.1, (f.2, f.3)))), refl)
