@@ -1,22 +1,22 @@
 -- The laws of declarations (C11 6.7): declarators with their initialisers, and specifiers before them.
-use Rattle.std.proofs.Common.{◌≡◌, ℕ, zero, suc, ◌+◌, List, [], ◌∷◌, ◌++◌, Option, Some, None, Bool, true, false, refl, sym, ap, ◌∙◌, arith, append_assoc}
+use Rattle.std.proofs.Common.{subst, ◌≡◌, ℕ, zero, suc, ◌+◌, List, [], ◌∷◌, ◌++◌, Option, Some, None, Bool, true, false, refl, sym, ap, ◌∙◌, arith, append_assoc}
 use Rattle.std.specs.Prelude.{◌||◌}
 use Rattle.std.specs.List.{AllByRecursion}
 use Rattle.c_lex.specs.declared.token.Mark.TheVariants as marks
 use Rattle.c_tree.specs.Syntax.{Expr, null, Spec, Declarator, declarator, no_exprs, InitDeclarator}
 use Rattle.c_parse.specs.Leaves.{Leaf, at, some_mark}
-use Rattle.c_parse.specs.Grammar.{on_spec, on_each, on_commas, on_full, on_value, on_init_declarator, on_declaration, IsExpr, IsDeclarator, StartsBareFirst, IsValue, IsInitDeclarator, IsDeclaration}
+use Rattle.c_parse.specs.Grammar.{IsSome, on_spec, on_each, on_commas, on_full, on_value, on_init_declarator, on_declaration, IsExpr, IsDeclarator, StartsBareFirst, IsValue, IsInitDeclarator, IsDeclaration}
 use Rattle.c_parse.specs.inner.Readers.{Sort, Reads, maybe}
 use Rattle.c_parse.specs.inner.Tokens.{is_mark, begins_type}
 use Rattle.c_parse.specs.inner.Reading.{Level, level_at, value, init_by, initialised, declared, bare_declared, declaration}
 use Rattle.c_parse.proofs.Sorts.{inside}
 use Rattle.c_parse.proofs.Lawful.{Class, Info, Lawful, starts, both, if_empty}
-use Rattle.c_parse.proofs.Joints.{Makes, tree, known, full_class, full_lawful, narrow, too_deep_lawful}
+use Rattle.c_parse.proofs.Joints.{TooDeepFor, Makes, tree, known, full_class, full_lawful, narrow, too_deep_lawful}
 use Rattle.c_parse.proofs.Loops.{OptionIs, option_class, maybe_lawful, FromIs, from_class}
 use Rattle.c_parse.proofs.TokenLaws.{Room, plain_class, mark_sign, mark_lawful}
 use Rattle.c_parse.proofs.Classes.{expr_class, goes_expr, LevelLawful}
 use Rattle.c_parse.proofs.StatementClasses.{declaration_class}
-use Rattle.c_parse.proofs.DeepStatements.{deep_declaration}
+use Rattle.c_parse.proofs.MemberLaws.{BeginsDeep, spec_deep, spec_at, deep_behind, at_behind}
 use Rattle.c_parse.proofs.ArgumentLaws.{rank_most}
 use Rattle.c_parse.proofs.MoreJoints.{joined, comma_rows, commas_lawful, flat_after, some_spelt, commas_spelt}
 use Rattle.c_parse.proofs.SpecLaws.{no_name, specs_class, specs_lawful, specs_some, some_specs}
@@ -145,12 +145,30 @@ declaration_there d n e l m =
     let parts = joined (specs_lawful false d n (level_at false n) e m) (joined all (mark_lawful d (suc n) e marks.Semicolon) refl) refl in
     known (tree parts (declaration_class d) _ (declaration_makes d)) (record { first = refl; goes = refl; empty = refl })
 
--- where no room is left
-declaration_deep : (d : ℕ) → Room d zero → Lawful (declaration_class d) (starts begins_type) (declaration zero)
+each_deep : (ss : List Spec) → IsSome ss → BeginsDeep (on_each (on_spec 129) ss)
+each_deep [] f = absurd f
+each_deep (s ∷ ss) f = deep_behind (on_spec 129 s) (on_each (on_spec 129) ss) (spec_deep s)
+
+-- declarations, where no room is left
+declaration_too_deep : TooDeepFor (declaration_class 129) begins_type
+declaration_too_deep = record {
+  deep = λ c a f. deep_behind (on_each (on_spec 129) a.specs ++ on_commas 129 (on_init_declarator 129) a.declarators) (at 129 (some_mark marks.Semicolon) ∷ [])
+      (deep_behind (on_each (on_spec 129) a.specs) (on_commas 129 (on_init_declarator 129) a.declarators) (each_deep a.specs f.0.0));
+  begins = λ c t h. let s = spec_at false t h in
+      let is = (declaration_class 129).some.declarators in (
+        record { specs = s.0 ∷ []; declarators = is },
+        ((tt, (s.1, tt)), tt, ((tt, tt), tt)),
+        at_behind t (on_spec 129 s.0 ++ [] ++ on_commas 129 (on_init_declarator 129) is) (at 129 (some_mark marks.Semicolon) ∷ []) (at_behind t (on_spec 129 s.0 ++ []) (on_commas 129 (on_init_declarator 129) is) (at_behind t (on_spec 129 s.0) [] s.2)),
+      );
+}
+
+declaration_zero : Lawful (declaration_class 129) (starts begins_type) (declaration zero)
 unfolding declaration
-declaration_deep d e = too_deep_lawful (declaration_class d) begins_type (λ s. false) (deep_declaration d e)
+declaration_zero = too_deep_lawful (declaration_class 129) begins_type (λ s. false) declaration_too_deep
 
 -- specs ptr NAME dims rest
 pub declaration_lawful : ((n d : ℕ) → Room d n → LevelLawful false d (level_at false n)) → (n d : ℕ) → Room d n → Lawful (declaration_class d) (starts begins_type) (declaration n)
-declaration_lawful levels zero d e = declaration_deep d e
+declaration_lawful levels zero d e =
+    let same : 129 ≡ d = omega arith in
+    subst (λ (x : ℕ). Lawful (declaration_class x) (starts begins_type) (declaration zero)) same declaration_zero
 declaration_lawful levels (suc n) d e = declaration_there d n e (levels (suc n) d e) (levels n (d + 1) (omega (arith, e)))

@@ -1,8 +1,7 @@
--- What lies too deep where a level has no room: declarations, simple statements and statements.
-use Rattle.std.proofs.Common.{◌≡◌, ℕ, zero, suc, ◌+◌, ◌<◌, List, [], ◌∷◌, ◌++◌, Some, None, Bool, true, false, refl, ap, subst, ◌∙◌, inl, inr, ◌⊎◌, arith}
+-- What lies too deep where a level has no room: simple statements and statements.
+use Rattle.std.proofs.Common.{◌≡◌, ℕ, zero, suc, ◌+◌, ◌<◌, List, [], ◌∷◌, ◌++◌, Some, None, Bool, true, false, refl, ap, subst, arith}
 use Rattle.std.specs.Prelude.{◌||◌}
 use Rattle.std.proofs.lemmas.Bool.{lt-ltb}
-use Rattle.c_lex.specs.declared.token.Word.{Word}
 use Rattle.c_lex.specs.declared.token.Word.TheVariants as words
 use Rattle.c_lex.specs.declared.token.Mark.{Mark}
 use Rattle.c_lex.specs.declared.token.Mark.TheVariants as marks
@@ -10,24 +9,22 @@ use Rattle.c_lex.specs.declared.token.TokenKind.{TokenKind}
 use Rattle.c_lex.specs.declared.token.TokenKind.TheVariants as kinds
 use Rattle.c_lex.specs.declared.token.Token.{Token}
 use Rattle.c_lex.specs.declared.refusal.Kind.TheVariants.{TooDeep}
-use Rattle.c_tree.specs.declared.syntax.Name.{Name}
-use Rattle.c_tree.specs.declared.syntax.TypeWord.{TypeWord}
-use Rattle.c_tree.specs.declared.syntax.TypeWord.TheVariants as types
 use Rattle.c_tree.specs.declared.syntax.StepOp.{StepOp}
 use Rattle.c_tree.specs.declared.syntax.StepOp.TheVariants as steps
-use Rattle.c_tree.specs.Syntax.{null, Spec, word, struct, struct_body, Declaration, Simple, before, after, assign, eval, Stmt, block, declare, empty, if_then, if_else, while, for, break, continue, return, simple, no_stmts, first_nothing}
-use Rattle.c_parse.specs.Leaves.{Sign, word_at, mark_at, some_mark, name_at, IsSpelt, Leaf, at, over}
-use Rattle.c_parse.specs.Grammar.{word_of_type, mark_of_step, mark_of_assign, counted, on_spec, on_each, on_commas, on_init_declarator, on_declaration, IsSome, IsSpec, IsDeclaration, on_simple, IsSimple, on_stmt, IsStmt, on}
-use Rattle.c_parse.specs.inner.Readers.{Sort, a_word, a_mark, sort_of_kind, sort}
-use Rattle.c_parse.specs.inner.Tokens.{step_of_mark, is_some, begins_type, begins_expr, begins_simple}
+use Rattle.c_tree.specs.Syntax.{null, Simple, before, after, assign, eval, Stmt, block, declare, empty, if_then, if_else, while, for, break, continue, return, simple, no_stmts, first_nothing}
+use Rattle.c_parse.specs.Leaves.{Sign, word_at, mark_at, some_mark, IsSpelt, Leaf, at, over}
+use Rattle.c_parse.specs.Grammar.{mark_of_step, mark_of_assign, counted, on_simple, IsSimple, on_stmt, IsStmt, on}
+use Rattle.c_parse.specs.inner.Readers.{Sort, a_mark, sort_of_kind, sort}
+use Rattle.c_parse.specs.inner.Tokens.{step_of_mark, is_some, begins_expr, begins_simple}
 use Rattle.c_parse.specs.inner.Reading.{is_step, begins_stmt, simply}
 use Rattle.c_parse.proofs.Sorts.{is_inside}
 use Rattle.c_parse.proofs.Lawful.{sort_of_sign, Lawful}
 use Rattle.c_parse.proofs.Joints.{TooDeepFor, too_deep_lawful}
 use Rattle.c_parse.proofs.TokenLaws.{Room}
 use Rattle.c_parse.proofs.Classes.{none_less}
-use Rattle.c_parse.proofs.SimpleLaws.{rank_less, simply_there}
-use Rattle.c_parse.proofs.StatementClasses.{declaration_class, simple_class, goes_simple, simple_info, stmt_class, Parts}
+use Rattle.c_parse.proofs.ArgumentLaws.{rank_most}
+use Rattle.c_parse.proofs.SimpleLaws.{simply_there}
+use Rattle.c_parse.proofs.StatementClasses.{simple_class, goes_simple, simple_info, stmt_class, Parts}
 
 -- a token past the last level
 pub past : (d : ℕ) → 128 < d → (s : Sign) → over (at d s) ≡ Some TooDeep
@@ -65,9 +62,9 @@ head_told start other f ls h = (h.0, h.1, h.2, h.3, f (sort_of_sign h.0.sign) h.
 
 simple_deep : Parts → (d : ℕ) → Room d 0 → (s : Simple) → IsSimple s → DeepHead begins_simple (on_simple d s)
 simple_deep p d r (before place op e) f = (at d (mark_at place (mark_of_step op)), on (d + 1) 0 e, refl, past d (past_room d r) (mark_at place (mark_of_step op)), step_begins op)
-simple_deep p d r (after place op e) f = head_more begins_expr begins_simple expr_begins (on d 0 e) (at d (mark_at place (mark_of_step op)) ∷ []) ((p.deep d r).deep 0 e (rank_less e, f.1))
-simple_deep p d r (assign place op l v) f = head_more begins_expr begins_simple expr_begins (on d 0 l) (at d (mark_at place (mark_of_assign op)) ∷ on d (counted 0 l) v) ((p.deep d r).deep 0 l (rank_less l, f.0))
-simple_deep p d r (eval e) f = head_told begins_expr begins_simple expr_begins (on d 0 e) ((p.deep d r).deep 0 e (rank_less e, f))
+simple_deep p d r (after place op e) f = head_more begins_expr begins_simple expr_begins (on d 0 e) (at d (mark_at place (mark_of_step op)) ∷ []) ((p.deep d r).deep 0 e (rank_most e, f.1))
+simple_deep p d r (assign place op l v) f = head_more begins_expr begins_simple expr_begins (on d 0 l) (at d (mark_at place (mark_of_assign op)) ∷ on d (counted 0 l) v) ((p.deep d r).deep 0 l (rank_most l, f.0))
+simple_deep p d r (eval e) f = head_told begins_expr begins_simple expr_begins (on d 0 e) ((p.deep d r).deep 0 e (rank_most e, f))
 
 step_mark : (m : Mark) → is_some (step_of_mark m) ≡ true → (op : StepOp) × (m ≡ mark_of_step op)
 step_mark marks.PlusPlus h = (steps.Increment, refl)
@@ -96,69 +93,6 @@ pub deep_simple : Parts → (d : ℕ) → Room d 0 → TooDeepFor (simple_class 
 deep_simple p d r = record {
   deep = λ c a is. simple_deep p d r a is;
   begins = λ c t h. simple_begins p d r t h;
-}
-
--- ---- declarations
-
-type_begins : (w : TypeWord) → begins_type (a_word (word_of_type w)) ≡ true
-type_begins types.Void = refl
-type_begins _ = refl
-
-spec_deep : (d : ℕ) → Room d 0 → (s : Spec) → DeepHead begins_type (on_spec d s)
-spec_deep d r (word place w) = (at d (word_at place (word_of_type w)), [], refl, past d (past_room d r) (word_at place (word_of_type w)), type_begins w)
-spec_deep d r (struct place tag) = (at d (word_at place words.Struct), at d (name_at tag) ∷ [], refl, past d (past_room d r) (word_at place words.Struct), refl)
-spec_deep d r (struct_body place tag all) = (at d (word_at place words.Struct), _, refl, past d (past_room d r) (word_at place words.Struct), refl)
-
-specs_deep : (d : ℕ) → Room d 0 → (specs : List Spec) → IsSome specs → (more : List Leaf) → DeepHead begins_type (on_each (on_spec d) specs ++ more)
-specs_deep d r [] f more = absurd f
-specs_deep d r (s ∷ specs) f more =
-    head_more begins_type begins_type (λ _ e. e) (on_spec d s ++ on_each (on_spec d) specs) more (head_more begins_type begins_type (λ _ e. e) (on_spec d s) (on_each (on_spec d) specs) (spec_deep d r s))
-
-type_word : (w : Word) → begins_type (a_word w) ≡ true → ((v : TypeWord) × (w ≡ word_of_type v)) ⊎ (w ≡ words.Struct)
-type_word words.Void h = inl (types.Void, refl)
-type_word words.Char h = inl (types.Char, refl)
-type_word words.Short h = inl (types.Short, refl)
-type_word words.Int h = inl (types.Int, refl)
-type_word words.Long h = inl (types.Long, refl)
-type_word words.Signed h = inl (types.Signed, refl)
-type_word words.Unsigned h = inl (types.Unsigned, refl)
-type_word words.SizeT h = inl (types.SizeT, refl)
-type_word words.ThrdT h = inl (types.ThrdT, refl)
-type_word words.MtxT h = inl (types.MtxT, refl)
-type_word words.Const h = inl (types.Const, refl)
-type_word words.Register h = inl (types.Register, refl)
-type_word words.Auto h = inl (types.Auto, refl)
-type_word words.Struct h = inr refl
-type_word _ h = absurd cc
-
--- a specifier that begins with the token
-spec_begins : (d : ℕ) → Room d 0 → (t : Token) (k : TokenKind) → t.kind ≡ k → begins_type (sort_of_kind k) ≡ true → (s : Spec) × IsSpec false s × DeepToken t (on_spec d s)
-spec_begins d r t (kinds.Word w) e h = elim (type_word w h) [
-  | inl v ↦
-      let sign = word_at t.from (word_of_type v.0) in
-      (word t.from v.0, tt, (at d sign, [], refl, past d (past_room d r) sign, (e ∙ ap kinds.Word v.1, refl)))
-  | inr v ↦
-      let sign = word_at t.from words.Struct in
-      let tag : Name = record { from = 0; to = 0 } in
-      (struct t.from tag, tt, (at d sign, at d (name_at tag) ∷ [], refl, past d (past_room d r) sign, (e ∙ ap kinds.Word v, refl)))
-]
-spec_begins d r t _ e h = absurd cc
-
-declaration_deep : (d : ℕ) → Room d 0 → (x : Declaration) → IsDeclaration false x → DeepHead begins_type (on_declaration d x)
-declaration_deep d r x is =
-    let more = on_commas d (on_init_declarator d) x.declarators in
-    head_more begins_type begins_type (λ _ e. e) (on_each (on_spec d) x.specs ++ more) (at d (some_mark marks.Semicolon) ∷ []) (specs_deep d r x.specs is.0.0 more)
-
-pub deep_declaration : (d : ℕ) → Room d 0 → TooDeepFor (declaration_class d) begins_type
-deep_declaration d r = record {
-  deep = λ c a is. declaration_deep d r a is;
-  begins = λ c t h. let s = spec_begins d r t t.kind refl h in
-      let some = (declaration_class d).some.declarators in (
-        record { specs = s.0 ∷ []; declarators = some },
-        ((tt, (s.1, tt)), tt, ((tt, tt), tt)),
-        token_more t ((on_spec d s.0 ++ []) ++ on_commas d (on_init_declarator d) some) (at d (some_mark marks.Semicolon) ∷ [])
-            (token_more t (on_spec d s.0 ++ []) (on_commas d (on_init_declarator d) some) (token_more t (on_spec d s.0) [] s.2)),
-      );
 }
 
 -- ---- statements

@@ -18,7 +18,7 @@ use Rattle.c_parse.proofs.Classes.{expr_class}
 use Rattle.c_parse.proofs.Forks.{by_which, Forks, forked}
 use Rattle.c_parse.proofs.MoreJoints.{joined, flat_after, each_spelt}
 use Rattle.c_parse.proofs.StatementClasses.{declaration_class, simple_class, first_class, begins_first, stmt_class, stmt_info, items_class, Parts}
-use Rattle.c_parse.proofs.SimpleLaws.{rank_less}
+use Rattle.c_parse.proofs.ArgumentLaws.{rank_most}
 use Rattle.c_parse.proofs.DeepStatements.{simply_lawful}
 
 -- ---- an expression between brackets, behind a word of the level d
@@ -31,7 +31,7 @@ condition_makes d = record {
   fits = λ a f. f.1.0.1;
   spelt = λ c a. refl;
   after = λ c a. refl;
-  back = λ b f. ((tt, (b, tt)), (tt, ((rank_less b, f), tt)), refl);
+  back = λ b f. ((tt, (b, tt)), (tt, ((rank_most b, f), tt)), refl);
 }
 
 pub condition_lawful : Parts → (n d : ℕ) → Room (d + 1) n → Lawful (condition_class d) (starts (is_mark marks.OpenParen)) (condition n)

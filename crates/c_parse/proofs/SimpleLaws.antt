@@ -3,15 +3,12 @@ use Rattle.std.proofs.Common.{◌≡◌, ℕ, suc, ◌+◌, ◌≤◌, List, [],
 use Rattle.std.specs.Prelude.{◌||◌, ◌==◌}
 use Rattle.std.proofs.lemmas.Bool.{eqb-true, eq-eqb}
 use Rattle.std.proofs.lemmas.List.{append-nil}
-use Rattle.ak_words.specs.declared.operation.Op.TheVariants as ops
 use Rattle.c_lex.specs.declared.token.Token.{Token}
-use Rattle.c_tree.specs.declared.syntax.BinaryOp.{BinaryOp}
-use Rattle.c_tree.specs.declared.syntax.BinaryOp.TheVariants.{Value, AndAnd, OrOr}
 use Rattle.c_tree.specs.declared.syntax.StepOp.TheVariants as steps
 use Rattle.c_tree.specs.declared.syntax.AssignOp.TheVariants as assigns
-use Rattle.c_tree.specs.Syntax.{Expr, name, call, int, char, text, null, group, prefix, sizeof_type, sizeof_expr, cast, index, member, arrow, binary, conditional, Simple, before, after, assign, eval}
+use Rattle.c_tree.specs.Syntax.{Expr, null, Simple, before, after, assign, eval}
 use Rattle.c_parse.specs.Leaves.{mark_at, Leaf, at}
-use Rattle.c_parse.specs.Grammar.{mark_of_step, mark_of_assign, counted, on, height, rank, IsExpr, on_simple, IsSimple}
+use Rattle.c_parse.specs.Grammar.{mark_of_step, mark_of_assign, counted, on, rank, IsExpr, on_simple, IsSimple}
 use Rattle.c_parse.specs.inner.Readers.{Reading, got, Reads, ◌>>=◌, Sort, a_mark, sort, ◌▸◌, ◌&◌, made, full, choice_turn, choice}
 use Rattle.c_parse.specs.inner.Tokens.{tok, step_of, step_of_mark, assign_of_mark, is_some}
 use Rattle.c_parse.specs.inner.Reading.{Level, level_at, Tail, a_step, a_value, no_tail, simple_of, TailStart, Stepped, Assigned, Nothing, if_tail, tail_start, tail_by, simple_tail, is_step, simply}
@@ -21,49 +18,10 @@ use Rattle.c_parse.proofs.Lawful as laws
 use Rattle.c_parse.proofs.Joints.{Makes, tree, known, full_class, full_lawful, empty_info, narrow, nothing_lawful, chosen}
 use Rattle.c_parse.proofs.TokenLaws.{Room, plain_class, marked, is_assign, step_lawful, assign_lawful}
 use Rattle.c_parse.proofs.Classes.{none_less, goes_expr, expr_info, postfix_info, expr_class, LevelLawful}
+use Rattle.c_parse.proofs.ArgumentLaws.{rank_most}
 use Rattle.c_parse.proofs.Forks.{alike, by_which, Forks, forked}
 use Rattle.c_parse.proofs.MoreJoints.{joined}
 use Rattle.c_parse.proofs.StatementClasses.{simple_class, goes_simple, simple_info, Parts}
-
--- ---- how loosely an expression binds
-
-height_less : (op : BinaryOp) → height op + 3 ≤ 13
-height_less (Value ops.Mul) = omega arith
-height_less (Value ops.Div) = omega arith
-height_less (Value ops.Rem) = omega arith
-height_less (Value ops.Add) = omega arith
-height_less (Value ops.Sub) = omega arith
-height_less (Value ops.Shl) = omega arith
-height_less (Value ops.Shr) = omega arith
-height_less (Value ops.Lt) = omega arith
-height_less (Value ops.Gt) = omega arith
-height_less (Value ops.Le) = omega arith
-height_less (Value ops.Ge) = omega arith
-height_less (Value ops.Eq) = omega arith
-height_less (Value ops.Ne) = omega arith
-height_less (Value ops.And) = omega arith
-height_less (Value ops.Xor) = omega arith
-height_less (Value ops.Or) = omega arith
-height_less AndAnd = omega arith
-height_less OrOr = omega arith
-
-pub rank_less : (e : Expr) → rank e ≤ 13
-rank_less (binary place op a b) = height_less op
-rank_less (name n) = omega arith
-rank_less (call callee args) = omega arith
-rank_less (int place value) = omega arith
-rank_less (char place value) = omega arith
-rank_less (text parts) = omega arith
-rank_less (null place) = omega arith
-rank_less (group e) = omega arith
-rank_less (prefix place op e) = omega arith
-rank_less (sizeof_type place t) = omega arith
-rank_less (sizeof_expr place e) = omega arith
-rank_less (cast place t e) = omega arith
-rank_less (index place a i) = omega arith
-rank_less (member place a m) = omega arith
-rank_less (arrow place a m) = omega arith
-rank_less (conditional place a b e) = omega arith
 
 -- ---- readers that give what they read as it is
 
@@ -120,7 +78,7 @@ value_makes d e = record {
   fits = λ a f. f.1.1;
   spelt = λ c a. refl;
   after = λ c a. refl;
-  back = elim [ a_step place op ↦ λ f. absurd f | a_value place op v ↦ λ f. (((place, op), v), (tt, (rank_less v, f)), refl) | no_tail ↦ λ f. absurd f ];
+  back = elim [ a_step place op ↦ λ f. absurd f | a_value place op v ↦ λ f. (((place, op), v), (tt, (rank_most v, f)), refl) | no_tail ↦ λ f. absurd f ];
 }
 
 value_lawful : (d n : ℕ) → Room d n → (here : Level) → LevelLawful false d here → (e : Expr) → Lawful (narrow (tail_class d e) IsValueTail (a_value 0 assigns.Plain (null 0)) tt) value_info (tail_by n here Assigned)
@@ -388,9 +346,9 @@ behind_class d = both (expr_class false d 13) (tail_class d)
 
 simple_back : (d : ℕ) (s : Simple) → IsBehind s → (a : (e : Expr) × Tail) × (((rank a.0 ≤ 13) × IsExpr false a.0) × IsTail a.0 a.1) × (simple_of a.0 a.1 ≡ s)
 simple_back d (before place op e) f = absurd f
-simple_back d (after place op e) f = ((e, a_step place op), ((rank_less e, f.1), at_none (rank e) f.0), refl)
-simple_back d (assign place op l v) f = ((l, a_value place op v), ((rank_less l, f.0), f.1), refl)
-simple_back d (eval e) f = ((e, no_tail), ((rank_less e, f), tt), refl)
+simple_back d (after place op e) f = ((e, a_step place op), ((rank_most e, f.1), at_none (rank e) f.0), refl)
+simple_back d (assign place op l v) f = ((l, a_value place op v), ((rank_most l, f.0), f.1), refl)
+simple_back d (eval e) f = ((e, no_tail), ((rank_most e, f), tt), refl)
 
 behind_makes : (d : ℕ) → Makes (behind_class d) (bare_class d) (λ (e, t). simple_of e t)
 behind_makes d = record {

@@ -19,7 +19,8 @@ use Rattle.c_parse.proofs.TokenLaws.{Room, plain_class, word_place_sign, mark_si
 use Rattle.c_parse.proofs.Classes.{expr_info, expr_class}
 use Rattle.c_parse.proofs.MoreJoints.{joined}
 use Rattle.c_parse.proofs.StatementClasses.{simple_class, stmt_class, stmt_info, items_class, Parts}
-use Rattle.c_parse.proofs.SimpleLaws.{rank_less, deeper_room}
+use Rattle.c_parse.proofs.ArgumentLaws.{rank_most}
+use Rattle.c_parse.proofs.SimpleLaws.{deeper_room}
 use Rattle.c_parse.proofs.ItemLaws.{condition_class, condition_lawful, ended_lawful, items_lawful, stmts_spelt, items_fit}
 use Rattle.c_parse.proofs.ElseLaws.{StmtLawful, branches_class, branches_lawful}
 
@@ -228,7 +229,7 @@ expr_fits d (Some e) f = f.1
 
 pub expr_back : (d : ℕ) (o : Option Expr) → IsMaybe (IsExpr false) o → (some_expr d).Is o
 expr_back d None f = tt
-expr_back d (Some e) f = (rank_less e, f)
+expr_back d (Some e) f = (rank_most e, f)
 
 expr_spelt : (d c : ℕ) (o : Option Expr) → on_maybe (on_full d) o ≡ (some_expr d).leaves c o
 expr_spelt d c None = refl
@@ -274,9 +275,6 @@ if_fits d place e s (Some t) f g = (f, g.0, g.1.0, g.1.1)
 if_spelt : (d c place : ℕ) (e : Expr) (s : Stmt) (o : Option Stmt) → on_stmt d (if_by place e s o) ≡ at d (word_at place words.If) ∷ on_bracketed d e ++ (branches_class d).leaves c (s, o)
 if_spelt d c place e s None = ap (λ (ls : List Leaf). at d (word_at place words.If) ∷ on_bracketed d e ++ ls) (sym (append-nil (on_stmt (d + 1) s)))
 if_spelt d c place e s (Some t) = ap (λ (ls : List Leaf). at d (word_at place words.If) ∷ ls) (append_assoc (on_bracketed d e) (on_stmt (d + 1) s) (at d (some_word words.Else) ∷ on_stmt (d + 1) t))
-
-if_after : (d c place : ℕ) (e : Expr) (s : Stmt) (o : Option Stmt) → c ≡ (branches_class d).after c (s, o)
-if_after d c place e s o = refl
 
 if_back : (d : ℕ) (b : Stmt) → WhichStmt AnIf b → (a : (if_class d).Tree) × (if_class d).Is a × (if_of a ≡ b)
 if_back d (if_then place e s) f = ((place, (e, (s, None))), (tt, (f.0, (f.1, tt))), refl)
