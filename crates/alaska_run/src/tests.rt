@@ -600,6 +600,47 @@ fn bytes_are_refused_first(rt: HostRuntime) -> Result<(), NoMemory> {
     )
 }
 
+// Adds a part so many times.
+fn add_times(text: &mut String, part: &str, times: u8) -> Result<(), NoMemory> {
+    for _ in 0..times {
+        text.push_str(part)?;
+    }
+    Ok(())
+}
+
+// A program that returns 1 in so many brackets.
+fn in_brackets(alloc: Global, brackets: u8) -> Result<String, NoMemory> {
+    let mut text = String::from_str(alloc, "int main(void){return ")?;
+    add_times(&mut text, "(", brackets)?;
+    text.push_str("1")?;
+    add_times(&mut text, ")", brackets)?;
+    text.push_str(";}")?;
+    Ok(text)
+}
+
+// The body's brace is a level, and each bracket is one more; 128 are read, and brackets are no form that is built yet.
+#[test]
+fn brackets_nest_to_a_limit(rt: HostRuntime) -> Result<(), NoMemory> {
+    let most = in_brackets(rt.alloc(), 127)?;
+    let more = in_brackets(rt.alloc(), 128)?;
+    tells(
+        &rt,
+        rt.alloc(),
+        &[
+            (
+                most.as_str(),
+                Status::Refused(22, UNBUILT),
+                "a.c:1:23: refused: OutsideSubset 0\n",
+            ),
+            (
+                more.as_str(),
+                Status::Refused(149, Kind::TooDeep),
+                "a.c:1:150: refused: TooDeep\n",
+            ),
+        ],
+    )
+}
+
 #[test]
 fn faults_have_their_status(rt: HostRuntime) -> Result<(), NoMemory> {
     let fault = "alaska: can't read a.c\n";
