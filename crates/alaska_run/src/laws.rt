@@ -21,6 +21,10 @@ pub fn judge_each_text_once()
     c_lex::laws::exclusive();
     c_lex::laws::only();
     c_lex::laws::one_refusal();
+    c_lex::laws::one_end();
+    c_parse::laws::exclusive();
+    c_parse::laws::one_refusal();
+    c_parse::laws::each_is_judged();
     second_language::laws::judge_once();
 }
 

@@ -119,6 +119,9 @@ const DONE: Status = Status::Done(0);
 // A form that isn't built yet.
 const UNBUILT: Kind = Kind::OutsideSubset(0);
 
+// A token that no file of the whole subset has there.
+const UNEXPECTED: Kind = Kind::UnexpectedToken;
+
 #[test]
 fn programs_run(rt: HostRuntime) -> Result<(), NoMemory> {
     ends(
@@ -265,6 +268,16 @@ fn programs_come_to_traps(rt: HostRuntime) -> Result<(), NoMemory> {
                 "",
                 Status::Trap(4, TrapKind::Load),
             ),
+        ],
+    )
+}
+
+#[test]
+fn programs_reach_where_no_byte_is(rt: HostRuntime) -> Result<(), NoMemory> {
+    ends(
+        &rt,
+        rt.alloc(),
+        &[
             // Far behind the object: the heap ends at 4,096 + 1,048,576.
             (
                 "int main(void){int *p=malloc(4);return p[262144];}",
@@ -407,50 +420,50 @@ fn texts_cut_behind_each_kind_of_token_are_refused(rt: HostRuntime) -> Result<()
         rt.alloc(),
         &[
             ("", 0, UNBUILT),
-            ("i", 0, UNBUILT),
-            ("int", 3, UNBUILT),
-            ("int main", 8, UNBUILT),
-            ("int main(", 9, UNBUILT),
-            ("int main(void", 13, UNBUILT),
-            ("int main(void)", 14, UNBUILT),
-            ("int main(void){", 15, UNBUILT),
-            ("int main(void){int", 18, UNBUILT),
-            ("int main(void){int a", 20, UNBUILT),
-            ("int main(void){int a=", 21, UNBUILT),
-            ("int main(void){int a=6", 22, UNBUILT),
-            ("int main(void){int a=6;", 23, UNBUILT),
-            ("int main(void){printf", 21, UNBUILT),
-            ("int main(void){printf(", 22, UNBUILT),
-            ("int main(void){printf(\"%d\\n\"", 28, UNBUILT),
-            ("int main(void){printf(\"%d\\n\",", 29, UNBUILT),
-            ("int main(void){printf(\"%d\\n\",1", 30, UNBUILT),
-            ("int main(void){printf(\"%d\\n\",1)", 31, UNBUILT),
-            ("int main(void){return", 21, UNBUILT),
-            ("int main(void){return 1-1", 25, UNBUILT),
-            ("int main(void){return 1;", 24, UNBUILT),
-            ("int main(void){int *", 20, UNBUILT),
-            ("int main(void){int *p", 21, UNBUILT),
-            ("int main(void){int *p=", 22, UNBUILT),
-            ("int main(void){int *p=malloc", 28, UNBUILT),
-            ("int main(void){int *p=malloc(", 29, UNBUILT),
-            ("int main(void){int *p=malloc(4", 30, UNBUILT),
-            ("int main(void){int *p=malloc(4)", 31, UNBUILT),
-            ("int main(void){*", 16, UNBUILT),
-            ("int main(void){*p", 17, UNBUILT),
-            ("int main(void){*p=", 18, UNBUILT),
-            ("int main(void){*p=1", 19, UNBUILT),
-            ("int main(void){p", 16, UNBUILT),
-            ("int main(void){p[", 17, UNBUILT),
-            ("int main(void){p[0", 18, UNBUILT),
-            ("int main(void){p[0]", 19, UNBUILT),
-            ("int main(void){p[0]=", 20, UNBUILT),
-            ("int main(void){free", 19, UNBUILT),
-            ("int main(void){free(", 20, UNBUILT),
-            ("int main(void){free(p", 21, UNBUILT),
-            ("int main(void){free(p)", 22, UNBUILT),
-            ("int main(void){return *", 23, UNBUILT),
-            ("int main(void){return p[", 24, UNBUILT),
-            ("int main(void){return p[0", 25, UNBUILT),
+            ("i", 0, UNEXPECTED),
+            ("int", 3, UNEXPECTED),
+            ("int main", 8, UNEXPECTED),
+            ("int main(", 9, UNEXPECTED),
+            ("int main(void", 13, UNEXPECTED),
+            ("int main(void)", 14, UNEXPECTED),
+            ("int main(void){", 15, UNEXPECTED),
+            ("int main(void){int", 18, UNEXPECTED),
+            ("int main(void){int a", 20, UNEXPECTED),
+            ("int main(void){int a=", 21, UNEXPECTED),
+            ("int main(void){int a=6", 22, UNEXPECTED),
+            ("int main(void){int a=6;", 23, UNEXPECTED),
+            ("int main(void){printf", 21, UNEXPECTED),
+            ("int main(void){printf(", 22, UNEXPECTED),
+            ("int main(void){printf(\"%d\\n\"", 28, UNEXPECTED),
+            ("int main(void){printf(\"%d\\n\",", 29, UNEXPECTED),
+            ("int main(void){printf(\"%d\\n\",1", 30, UNEXPECTED),
+            ("int main(void){printf(\"%d\\n\",1)", 31, UNEXPECTED),
+            ("int main(void){return", 21, UNEXPECTED),
+            ("int main(void){return 1-1", 25, UNEXPECTED),
+            ("int main(void){return 1;", 24, UNEXPECTED),
+            ("int main(void){int *", 20, UNEXPECTED),
+            ("int main(void){int *p", 21, UNEXPECTED),
+            ("int main(void){int *p=", 22, UNEXPECTED),
+            ("int main(void){int *p=malloc", 28, UNEXPECTED),
+            ("int main(void){int *p=malloc(", 29, UNEXPECTED),
+            ("int main(void){int *p=malloc(4", 30, UNEXPECTED),
+            ("int main(void){int *p=malloc(4)", 31, UNEXPECTED),
+            ("int main(void){*", 16, UNEXPECTED),
+            ("int main(void){*p", 17, UNEXPECTED),
+            ("int main(void){*p=", 18, UNEXPECTED),
+            ("int main(void){*p=1", 19, UNEXPECTED),
+            ("int main(void){p", 16, UNEXPECTED),
+            ("int main(void){p[", 17, UNEXPECTED),
+            ("int main(void){p[0", 18, UNEXPECTED),
+            ("int main(void){p[0]", 19, UNEXPECTED),
+            ("int main(void){p[0]=", 20, UNEXPECTED),
+            ("int main(void){free", 19, UNEXPECTED),
+            ("int main(void){free(", 20, UNEXPECTED),
+            ("int main(void){free(p", 21, UNEXPECTED),
+            ("int main(void){free(p)", 22, UNEXPECTED),
+            ("int main(void){return *", 23, UNEXPECTED),
+            ("int main(void){return p[", 24, UNEXPECTED),
+            ("int main(void){return p[0", 25, UNEXPECTED),
         ],
     )
 }
@@ -463,26 +476,26 @@ fn texts_with_another_token_are_refused(rt: HostRuntime) -> Result<(), NoMemory>
         &[
             ("void main(void){}", 0, UNBUILT),
             ("int mein(void){}", 4, UNBUILT),
-            ("int main[void){}", 8, UNBUILT),
+            ("int main[void){}", 9, UNEXPECTED),
             ("int main(int){}", 9, UNBUILT),
-            ("int main(void]{}", 13, UNBUILT),
-            ("int main(void)({}", 14, UNBUILT),
-            ("int main(void){,}", 15, UNBUILT),
-            ("int main(void){int int=1;}", 19, UNBUILT),
-            ("int main(void){int 7=1;}", 19, UNBUILT),
-            ("int main(void){int a+1;}", 20, UNBUILT),
-            ("int main(void){int a=;}", 21, UNBUILT),
-            ("int main(void){int a=1,}", 22, UNBUILT),
+            ("int main(void]{}", 13, UNEXPECTED),
+            ("int main(void)({}", 14, UNEXPECTED),
+            ("int main(void){,}", 15, UNEXPECTED),
+            ("int main(void){int int=1;}", 22, UNEXPECTED),
+            ("int main(void){int 7=1;}", 19, UNEXPECTED),
+            ("int main(void){int a+1;}", 20, UNEXPECTED),
+            ("int main(void){int a=;}", 21, UNEXPECTED),
+            ("int main(void){int a=1,}", 23, UNEXPECTED),
             ("int main(void){printf(1,1);}", 22, UNBUILT),
-            ("int main(void){printf(\"%d\\n\";1);}", 28, UNBUILT),
-            ("int main(void){return 1 2;}", 24, UNBUILT),
-            ("int main(void){return 1+;}", 24, UNBUILT),
+            ("int main(void){printf(\"%d\\n\";1);}", 28, UNEXPECTED),
+            ("int main(void){return 1 2;}", 24, UNEXPECTED),
+            ("int main(void){return 1+;}", 24, UNEXPECTED),
             ("int main(void){return *1;}", 23, UNBUILT),
-            ("int main(void){return 1}", 23, UNBUILT),
+            ("int main(void){return 1}", 23, UNEXPECTED),
             ("int main(void){return main;}", 22, UNBUILT),
             ("int main(void){int malloc=1;}", 19, UNBUILT),
-            ("int main(void){return 1;}+", 25, UNBUILT),
-            ("int main(void){return 0;}int", 25, UNBUILT),
+            ("int main(void){return 1;}+", 25, UNEXPECTED),
+            ("int main(void){return 0;}int", 28, UNEXPECTED),
             ("int main(void){int *p=1;}", 22, UNBUILT),
             ("int main(void){int *p=malloc(n);}", 29, UNBUILT),
             ("int main(void){int **p=malloc(4);}", 20, UNBUILT),
@@ -491,22 +504,22 @@ fn texts_with_another_token_are_refused(rt: HostRuntime) -> Result<(), NoMemory>
             ("int main(void){p[1+1]=1;}", 18, UNBUILT),
             ("int main(void){*1=1;}", 16, UNBUILT),
             ("int main(void){free(1);}", 20, UNBUILT),
-            ("int main(void){free p;}", 20, UNBUILT),
+            ("int main(void){free p;}", 20, UNEXPECTED),
             ("int main(void){return **p;}", 23, UNBUILT),
             ("int main(void){return p[0][0];}", 26, UNBUILT),
-            ("int main(void){int while=1;}", 19, UNBUILT),
+            ("int main(void){int while=1;}", 19, UNEXPECTED),
             ("int main(void){return 2147483648;}", 22, UNBUILT),
             ("int main(void){return 1u;}", 22, UNBUILT),
             ("int main(void){return 'a';}", 22, UNBUILT),
             ("int main(void){printf(\"%u\\n\",1);}", 22, UNBUILT),
             ("int main(void){return 1/1;}", 23, UNBUILT),
-            ("int main(void){return 1;}+ /* + */", 25, UNBUILT),
+            ("int main(void){return 1;}+ /* + */", 25, UNEXPECTED),
         ],
     )
 }
 
 #[test]
-fn names_and_bytes_are_refused(rt: HostRuntime) -> Result<(), NoMemory> {
+fn names_are_refused(rt: HostRuntime) -> Result<(), NoMemory> {
     refuses(
         &rt,
         rt.alloc(),
@@ -525,7 +538,7 @@ fn names_and_bytes_are_refused(rt: HostRuntime) -> Result<(), NoMemory> {
                 32,
                 Kind::UnknownName,
             ),
-            ("int main(void){return b;", 24, UNBUILT),
+            ("int main(void){return b;", 24, UNEXPECTED),
             ("int main(void){int a=1;*a=2;}", 24, Kind::TypeMismatch),
             ("int main(void){int a=1;a[0]=2;}", 23, Kind::TypeMismatch),
             ("int main(void){int a=1;free(a);}", 28, Kind::TypeMismatch),
@@ -561,6 +574,16 @@ fn names_and_bytes_are_refused(rt: HostRuntime) -> Result<(), NoMemory> {
                 34,
                 Kind::UnknownName,
             ),
+        ],
+    )
+}
+
+#[test]
+fn bytes_are_refused_first(rt: HostRuntime) -> Result<(), NoMemory> {
+    refuses(
+        &rt,
+        rt.alloc(),
+        &[
             ("int main(void){printf(\"ab", 22, Kind::OpenLiteral),
             ("int main(void){return 1.5;}", 22, Kind::OutsideSubset(2)),
             ("int main(void){return 1;$}", 24, Kind::BadByte),
@@ -572,6 +595,47 @@ fn names_and_bytes_are_refused(rt: HostRuntime) -> Result<(), NoMemory> {
                 "int main(void){return 18446744073709551616;}",
                 22,
                 Kind::NumberTooWide,
+            ),
+        ],
+    )
+}
+
+// Adds a part so many times.
+fn add_times(text: &mut String, part: &str, times: u8) -> Result<(), NoMemory> {
+    for _ in 0..times {
+        text.push_str(part)?;
+    }
+    Ok(())
+}
+
+// A program that returns 1 in so many brackets.
+fn in_brackets(alloc: Global, brackets: u8) -> Result<String, NoMemory> {
+    let mut text = String::from_str(alloc, "int main(void){return ")?;
+    add_times(&mut text, "(", brackets)?;
+    text.push_str("1")?;
+    add_times(&mut text, ")", brackets)?;
+    text.push_str(";}")?;
+    Ok(text)
+}
+
+// The body's brace is a level, and each bracket is one more; 128 are read, and brackets are no form that is built yet.
+#[test]
+fn brackets_nest_to_a_limit(rt: HostRuntime) -> Result<(), NoMemory> {
+    let most = in_brackets(rt.alloc(), 127)?;
+    let more = in_brackets(rt.alloc(), 128)?;
+    tells(
+        &rt,
+        rt.alloc(),
+        &[
+            (
+                most.as_str(),
+                Status::Refused(22, UNBUILT),
+                "a.c:1:23: refused: OutsideSubset 0\n",
+            ),
+            (
+                more.as_str(),
+                Status::Refused(149, Kind::TooDeep),
+                "a.c:1:150: refused: TooDeep\n",
             ),
         ],
     )
