@@ -1,3 +1,4 @@
 pub mod Readers
 pub mod Tokens
 pub mod Reading
+pub mod Moves

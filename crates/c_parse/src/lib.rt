@@ -3,4 +3,7 @@
 //! Stands on c_lex's tokens and c_tree's trees.
 #![tactic(auto)]
 
+mod classes;
 pub mod laws;
+mod parser;
+mod reading_tokens;
