@@ -2,3 +2,4 @@ pub mod Readers
 pub mod Tokens
 pub mod Reading
 pub mod Moves
+pub mod Starts

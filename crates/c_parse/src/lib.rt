@@ -6,4 +6,5 @@
 mod classes;
 pub mod laws;
 mod parser;
+mod peeking;
 mod reading_tokens;
