@@ -9,3 +9,5 @@ mod Verdicts
 pub mod GrammarLaws
 mod TokenLaws
 pub mod RowsProof
+pub mod CodeLoops
+pub mod CodeLists

@@ -7,4 +7,5 @@ mod classes;
 pub mod laws;
 mod parser;
 mod peeking;
+mod pointers;
 mod reading_tokens;

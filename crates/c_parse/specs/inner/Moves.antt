@@ -1,5 +1,5 @@
 -- How the code stands to the readers.
-use Rattle.std.specs.Prelude.{◌≡◌, ℕ, ◌<◌, List, [], ◌∷◌, length, Option, Some, None, Result, Ok, Err, Bool}
+use Rattle.std.specs.Prelude.{◌≡◌, ℕ, ◌<◌, ◌≤◌, List, [], ◌∷◌, length, Option, Some, None, Result, Ok, Err, Bool}
 use Rattle.c_lex.specs.declared.token.Token.{Token}
 use Rattle.c_lex.specs.declared.refusal.Kind.{Kind}
 use Rattle.c_parse.specs.declared.parser.Parser.{Parser}
@@ -43,3 +43,8 @@ Checks over now (Ok u) = over ≡ None
 Checks over now (Err stops.NoMemory) = ⊥
 Checks over now (Err (stops.Unexpected left)) = ⊥
 Checks over now (Err (stops.Over kind left)) = (over ≡ Some kind) × (left ≡ length now.rest.now)
+
+-- what is read takes no token back
+abbrev pub Keeps : {A : Type 0} → Parser → Parser → Result A Stop → Type 0
+Keeps old new (Ok a) = length new.rest.now ≤ length old.rest.now
+Keeps old new (Err e) = Unit {0}
