@@ -1,25 +1,28 @@
 -- The laws of the grammar, from any lawful reader of files.
-use Rattle.std.proofs.Common.{◌≡◌, ℕ, suc, ◌+◌, ◌<◌, ◌≤◌, List, [], ◌∷◌, ◌++◌, length, Option, Some, None, Result, Ok, Err, refl, sym, ap, subst, ◌∙◌, inl, inr, ◌⊎◌, arith}
+use Rattle.std.proofs.Common.{◌≡◌, ℕ, List, [], ◌∷◌, ◌++◌, length, Option, Some, None, Ok, Err, refl, sym, ap, subst, ◌∙◌, inl, inr, ◌⊎◌, arith}
 use Rattle.std.proofs.lemmas.List.{length-append}
 use Rattle.c_lex.specs.declared.token.Token.{Token}
 use Rattle.c_lex.specs.declared.refusal.Kind.{Kind}
 use Rattle.c_lex.specs.declared.refusal.Refusal.{Refusal}
 use Rattle.c_tree.specs.Syntax.{File}
-use Rattle.c_parse.specs.Leaves.{Leaf, Spelt}
-use Rattle.c_parse.specs.Grammar.{leaves, IsFile}
+use Rattle.c_parse.specs.Leaves.{Leaf}
+use Rattle.c_parse.specs.Grammar.{leaves}
 use Rattle.c_parse.specs.Language.{Parses, IsUnexpected, IsOver, RefusesTokens}
-use Rattle.c_parse.specs.Laws.{SpellOneFile, ParseOrRefuse, RefuseOnce, EachIsJudged}
-use Rattle.c_parse.specs.inner.Readers.{Fault, stop, spent, Reads}
+use Rattle.c_parse.specs.Laws.{SpellOneFile, ParseOrRefuse, RefuseOnce}
+use Rattle.c_parse.specs.inner.Readers.{stop, Reads}
 use Rattle.c_parse.proofs.Runs.{Over}
-use Rattle.c_parse.proofs.FileLaws.{spelt_within, over_join, nothing_more, file_of, ReadsFiles}
-use Rattle.c_parse.proofs.Verdicts.{unexpected_judged, over_judged, failed, same_fault, kind_by, RefusedAt, EndWithEnd, refuses, parses}
-
-pub spell_one_file : SpellOneFile
-spell_one_file ts f g p is s = p.only g is s
+use Rattle.c_parse.proofs.FileLaws.{spelt_within, over_join, file_of, ReadsFiles}
+use Rattle.c_parse.proofs.Verdicts.{unexpected_judged, over_judged, same_fault, kind_by, RefusedAt, parses}
 
 -- what is a file is read
 file_judged : (r : Reads File) → ReadsFiles r → (ts : List Token) (f : File) → Parses ts f → file_of r ts ≡ Ok f
 file_judged r h ts f p = rw (h.whole f p.fits ts (spelt_within (leaves f) ts p.spelt p.within)) refl
+
+-- and is the only one
+pub spell_one_file : (r : Reads File) → ReadsFiles r → SpellOneFile
+spell_one_file r h ts f g fits s w is t =
+    let read : file_of r ts ≡ Ok f = rw (h.whole f fits ts (spelt_within (leaves f) ts s w)) refl in
+    (parses r h ts f read).only g is t
 
 -- what is refused is so by the reader
 pub record Judgement (r : Reads File) (ts : List Token) (x : Refusal) : Type 0 where

@@ -324,7 +324,7 @@ built_from Base Fits front (a ∷ rest) b f =
     let same : pushed front a ++ rest ≡ front ++ a ∷ rest = append_assoc front (a ∷ []) rest in
     subst (Built Base Fits pushed) same (built_from Base Fits (pushed front a) rest more (λ before x behind e. f before x behind (sym same ∙ e)))
 
-all_before : {A : Type 0} (P : A → Type 0) (before : List A) (a : A) (behind : List A) → AllByRecursion P (before ++ a ∷ behind) → AllByRecursion P before × P a
+pub all_before : {A : Type 0} (P : A → Type 0) (before : List A) (a : A) (behind : List A) → AllByRecursion P (before ++ a ∷ behind) → AllByRecursion P before × P a
 all_before P [] a behind p = (tt, p.0)
 all_before P (x ∷ before) a behind p = let q = all_before P before a behind p.1 in ((p.0, q.0), q.1)
 

@@ -1,16 +1,17 @@
 -- Laws of the grammar that any reader of it can rest on.
-use Rattle.std.specs.Prelude.{◌≡◌, ◌⊎◌, List, [], ◌∷◌, ◌++◌, All}
+use Rattle.std.specs.Prelude.{◌≡◌, ◌⊎◌, List, [], ◌∷◌, ◌++◌, All, None}
+use Rattle.std.specs.List.{AllByRecursion}
 use Rattle.c_lex.specs.declared.token.Token.{Token}
 use Rattle.c_lex.specs.declared.token.TokenKind.TheVariants.{End}
 use Rattle.c_lex.specs.declared.refusal.Refusal.{Refusal}
 use Rattle.c_tree.specs.Syntax.{File}
-use Rattle.c_parse.specs.Leaves.{Spelt}
+use Rattle.c_parse.specs.Leaves.{over, Spelt}
 use Rattle.c_parse.specs.Grammar.{leaves, IsFile}
 use Rattle.c_parse.specs.Language.{Parses, RefusesTokens}
 
 -- the grammar isn't ambiguous: tokens within the limits spell one file at most
 abbrev pub SpellOneFile : Type 0
-SpellOneFile = (ts : List Token) (f g : File) → Parses ts f → IsFile g → Spelt (leaves g) ts → g ≡ f
+SpellOneFile = (ts : List Token) (f g : File) → IsFile f → Spelt (leaves f) ts → AllByRecursion (λ l. over l ≡ None) (leaves f) → IsFile g → Spelt (leaves g) ts → g ≡ f
 
 -- no tokens of a file are refused
 abbrev pub ParseOrRefuse : Type 0

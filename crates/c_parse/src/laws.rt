@@ -1,11 +1,26 @@
 //! Laws of the grammar, and worked rows of its definitions, without a function of the code's.
 
-ghost use Rattle.c_parse.specs.Laws.{SpellOneFile};
+ghost use Rattle.c_parse.specs.Laws.{SpellOneFile, ParseOrRefuse, RefuseOnce, EachIsJudged};
 ghost use Rattle.c_parse.specs.Rows.{Rows};
 
 /// Tokens within the limits spell one file at most.
 pub fn one_file()
     ensures { SpellOneFile }
+{}
+
+/// No tokens of a file are refused.
+pub fn exclusive()
+    ensures { ParseOrRefuse }
+{}
+
+/// Tokens are refused at one place, and for one reason.
+pub fn one_refusal()
+    ensures { RefuseOnce }
+{}
+
+/// Tokens with one end, which is the last, are a file or refused.
+pub fn each_is_judged()
+    ensures { EachIsJudged }
 {}
 
 /// The tokens of small files, with their levels and counts, and the limits.
