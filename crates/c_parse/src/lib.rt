@@ -3,6 +3,7 @@
 //! Stands on c_lex's tokens and c_tree's trees.
 #![tactic(auto)]
 
+mod building;
 mod classes;
 pub mod laws;
 mod parser;

@@ -48,3 +48,8 @@ Checks over now (Err (stops.Over kind left)) = (over ≡ Some kind) × (left ≡
 abbrev pub Keeps : {A : Type 0} → Parser → Parser → Result A Stop → Type 0
 Keeps old new (Ok a) = length new.rest.now ≤ length old.rest.now
 Keeps old new (Err e) = Unit {0}
+
+-- a tree is made, unless memory runs out
+abbrev pub Makes : {A B : Type 0} → (A → B) → B → Result A Stop → Type 0
+Makes view b (Ok a) = view a ≡ b
+Makes view b (Err e) = e ≡ stops.NoMemory
