@@ -11,3 +11,5 @@ mod TokenLaws
 pub mod RowsProof
 pub mod CodeLoops
 pub mod CodeLists
+pub mod CodeLevels
+pub mod CodeReads
