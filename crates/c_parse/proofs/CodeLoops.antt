@@ -1,7 +1,7 @@
 -- How the code's steps and loops follow the readers'.
 use Rattle.std.proofs.Common.{◌≡◌, ℕ, zero, suc, ◌+◌, ◌<◌, ◌≤◌, List, [], ◌∷◌, ◌++◌, length, Option, Some, None, Result, Ok, Err, Bool, true, false, refl, sym, ap, subst, ◌∙◌, arith, add-one}
 use Rattle.c_lex.specs.declared.token.Token.{Token}
-use Rattle.c_parse.specs.inner.Readers.{Fault, stop, spent, Got, Reading, got, Reads, ◌>>=◌, Sort, sort, nothing, made, choice_turn, choice, maybe_by, maybe, refused, too_deep, Turn, again, last, turn_next, turns, repeat, link_by, link_turn, links, chain, pushed, row, row_from}
+use Rattle.c_parse.specs.inner.Readers.{Fault, stop, spent, Got, Reading, got, Reads, ◌>>=◌, Sort, sort, nothing, ◌▸◌, ◌&◌, made, choice_turn, choice, maybe_by, maybe, refused, too_deep, Turn, again, last, turn_next, turns, repeat, link_by, link_turn, links, chain, pushed, row, row_from}
 use Rattle.c_parse.specs.inner.Reading.{either_by, either}
 use Rattle.c_parse.specs.declared.parser.Stop.{Stop}
 use Rattle.c_parse.specs.declared.parser.Stop.TheVariants as stops
@@ -95,3 +95,43 @@ end_stops start link join whole a c ts e g = passes e (ahead start c ts) whole (
 
 pub link_stops : {A X : Type 0} (start : Sort → Bool) (link : A → Reads X) (join : A → X → A) (whole : Reading A) (a : A) (c : ℕ) (ts : List Token) (e : Stop) → Going start link join whole a c ts → ahead start c ts ≡ got true c ts → Fails e (link a c ts) → Fails e whole
 link_stops start link join whole a c ts e g p = passes e (link a c ts) whole (λ f q. link_fails start link join whole a c ts f g p q)
+
+-- ---- parts joined
+
+-- a part behind one that leaves nothing in the tree, or that it depends on
+pub behind_reads : {A B : Type 0} (r : Reads A) (q : A → Reads B) (c : ℕ) (ts : List Token) (a : A) (d : ℕ) (us : List Token) (b : B) (e : ℕ) (vs : List Token) → r c ts ≡ got a d us → q a d us ≡ got b e vs → made (λ (_, b). b) (r ▸ q) c ts ≡ got b e vs
+behind_reads r q c ts a d us b e vs p h = rw p (rw h refl)
+
+pub pair_reads : {A B : Type 0} (r : Reads A) (q : Reads B) (c : ℕ) (ts : List Token) (a : A) (d : ℕ) (us : List Token) (b : B) (e : ℕ) (vs : List Token) → r c ts ≡ got a d us → q d us ≡ got b e vs → (r & q) c ts ≡ got (a, b) e vs
+pair_reads r q c ts a d us b e vs p h = rw p (rw h refl)
+
+-- links behind a part
+pub begins_behind : {A X : Type 0} (r : Reads A) (start : Sort → Bool) (link : A → Reads X) (join : A → X → A) (c : ℕ) (ts : List Token) (a : A) (d : ℕ) (us : List Token) → r c ts ≡ got a d us → Going start link join (chain r start link join c ts) a d us
+begins_behind r start link join c ts a d us p = record { turns_left = length us; enough = omega arith; same = rw p refl }
+
+made_again : {A X : Type 0} (f : X → A) (o : Reading X) (b : A) (d : ℕ) (us : List Token) → (o >>= λ x. got (f x.tree) x.count x.rest) ≡ got b d us → (o >>= λ x. got (again (f x.tree)) x.count x.rest) ≡ got (again b) d us
+made_again f (Ok x) b d us e = ap (λ (r : Reading _). r >>= λ g. got (again g.tree) g.count g.rest) e
+made_again f (Err g) b d us e = ap (λ (r : Reading _). r >>= λ g. got (again g.tree) g.count g.rest) e
+
+-- one more link, which is joined already
+pub goes_joined : {A X : Type 0} (start : Sort → Bool) (link : A → Reads X) (join : A → X → A) (whole : Reading A) (a : A) (c : ℕ) (ts : List Token) (b : A) (d : ℕ) (us : List Token) → Going start link join whole a c ts
+    → ahead start c ts ≡ got true c ts → made (join a) (link a) c ts ≡ got b d us → length us < length ts → Going start link join whole b d us
+unfolding turns
+goes_joined start link join whole a c ts b d us g p q h = by_turns g.turns_left g.enough g.same
+  where
+    turn : link_turn start link join a c ts ≡ got (again b) d us
+    turn = chooses (λ s. Some (start s)) (link_by join a (link a)) c ts true p ∙ made_again (join a) (link a c ts) b d us q
+
+    go : (n : ℕ) → turns (link_turn start link join) (suc n) a c ts ≡ turns (link_turn start link join) n b d us
+    go n = ap (λ (r : Reading (Turn _)). r >>= λ t. turn_next (turns (link_turn start link join) n) t.tree t.count t.rest) turn
+
+    by_turns : (n : ℕ) → length ts ≤ n → turns (link_turn start link join) (suc n) a c ts ≡ whole → Going start link join whole b d us
+    by_turns zero e s = absurd (omega arith)
+    by_turns (suc n) e s = record { turns_left = n; enough = omega arith; same = sym (go (suc n)) ∙ s }
+
+made_fails : {A X : Type 0} (f : X → A) (o : Reading X) (g : Fault) → (o >>= λ x. got (f x.tree) x.count x.rest) ≡ Err g → o ≡ Err g
+made_fails f (Ok x) g e = cc
+made_fails f (Err h) g e = cc
+
+pub joined_stops : {A X : Type 0} (start : Sort → Bool) (link : A → Reads X) (join : A → X → A) (whole : Reading A) (a : A) (c : ℕ) (ts : List Token) (e : Stop) → Going start link join whole a c ts → ahead start c ts ≡ got true c ts → Fails e (made (join a) (link a) c ts) → Fails e whole
+joined_stops start link join whole a c ts e g p = passes e (made (join a) (link a) c ts) whole (λ f q. link_fails start link join whole a c ts f g p (made_fails (join a) (link a c ts) f q))

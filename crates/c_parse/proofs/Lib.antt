@@ -47,3 +47,5 @@ mod EndLaws
 mod NoEnds
 mod WholeLaws
 pub mod FileReading
+pub mod CodeLevels
+pub mod CodeReads

@@ -1,12 +1,12 @@
 //! Trees in boxes.
 
-ghost use Rattle.std.specs.Prelude.{◌≡◌};
+ghost use Rattle.std.specs.Prelude.{◌≡◌, map};
 ghost use Rattle.c_tree.specs.Syntax as trees;
-ghost use Rattle.c_tree.specs.SyntaxViews.{expr_view, type_name_view};
+ghost use Rattle.c_tree.specs.SyntaxViews.{expr_view, type_name_view, spec_view, declarator_view, member_view};
 ghost use Rattle.c_parse.specs.inner.Moves.{Makes};
 
 use crate::parser::Stop;
-use c_tree::syntax::{BinaryOp, Expr, Name, PrefixOp, TypeName};
+use c_tree::syntax::{BinaryOp, Declarator, Expr, Member, Name, Pointer, PrefixOp, Spec, TypeName};
 use std::alloc::Global;
 
 /// `"(" expr ")"`
@@ -14,6 +14,20 @@ pub fn group(alloc: Global, inside: Expr) -> Result<Expr, Stop>
     ensures { Makes expr_view (trees.group (expr_view inside)) result }
 {
     Ok(Expr::Group(Box::new(alloc, inside)?))
+}
+
+/// `specs ptr`
+pub fn type_name_of(specs: Vec<Spec>, pointers: Vec<Pointer>) -> TypeName
+    ensures { type_name_view result ≡ trees.type_name (trees.specs_of (map spec_view specs.items)) pointers.items }
+{
+    TypeName { specs, pointers }
+}
+
+/// `specs ptr NAME dims { "," ptr NAME dims } ";"`
+pub fn member_of(specs: Vec<Spec>, declarators: Vec<Declarator>) -> Member
+    ensures { member_view result ≡ trees.members_of (trees.specs_of (map spec_view specs.items)) (trees.declarators_of (map declarator_view declarators.items)) }
+{
+    Member { specs, declarators }
 }
 
 /// A prefix operator and its operand.
@@ -82,7 +96,13 @@ pub fn arrow(alloc: Global, place: u32, base: Expr, member: Name) -> Result<Expr
 }
 
 /// A binary operator and its operands.
-pub fn binary(alloc: Global, place: u32, op: BinaryOp, left: Expr, right: Expr) -> Result<Expr, Stop>
+pub fn binary(
+    alloc: Global,
+    place: u32,
+    op: BinaryOp,
+    left: Expr,
+    right: Expr,
+) -> Result<Expr, Stop>
     ensures { Makes expr_view (trees.binary place op (expr_view left) (expr_view right)) result }
 {
     let left = Box::new(alloc, left)?;
@@ -96,7 +116,13 @@ pub fn binary(alloc: Global, place: u32, op: BinaryOp, left: Expr, right: Expr) 
 }
 
 /// `or "?" expr ":" expr`
-pub fn conditional(alloc: Global, place: u32, condition: Expr, then: Expr, otherwise: Expr) -> Result<Expr, Stop>
+pub fn conditional(
+    alloc: Global,
+    place: u32,
+    condition: Expr,
+    then: Expr,
+    otherwise: Expr,
+) -> Result<Expr, Stop>
     ensures { Makes expr_view (trees.conditional place (expr_view condition) (expr_view then) (expr_view otherwise)) result }
 {
     let condition = Box::new(alloc, condition)?;

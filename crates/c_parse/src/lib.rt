@@ -5,8 +5,10 @@
 
 mod building;
 mod classes;
+mod expressions;
 pub mod laws;
 mod parser;
 mod peeking;
 mod pointers;
 mod reading_tokens;
+mod types;

@@ -1,7 +1,7 @@
 //! What the next token begins, by which the parser chooses.
 
 ghost use Rattle.std.specs.Prelude.{◌≡◌, Some};
-ghost use Rattle.c_parse.specs.inner.Readers.{sort_of_kind};
+ghost use Rattle.c_parse.specs.inner.Readers.{sort_of_kind, too_deep};
 
 use crate::classes::{
     begins_expr, begins_simple, begins_type, binary_of, prefix_of, step_of, storage_of, type_of,
@@ -46,9 +46,9 @@ pub enum SpecStart {
 
 // The next token, which is left.
 impl Parser<'_> {
-    ghost use Rattle.c_parse.specs.inner.Moves.{Moves, peek, ahead};
+    ghost use Rattle.c_parse.specs.inner.Moves.{Moves, Fails, peek, ahead};
     ghost use Rattle.c_parse.specs.inner.Tokens.{is_mark, is_word, is_text, is_binary, begins_type, begins_expr, begins_simple, is_storage, is_pointer};
-    ghost use Rattle.c_parse.specs.inner.Reading.{operand_start, post_start, unary_start, spec_start, pointer_start, is_name, is_step};
+    ghost use Rattle.c_parse.specs.inner.Reading.{operand_start, post_start, begins_post, unary_start, spec_start, pointer_start, is_name, is_step};
     ghost use Rattle.c_parse.specs.inner.Starts.{operand_view, post_view, unary_view, spec_view};
 
     /// The kind of the next token.
@@ -166,6 +166,37 @@ impl Parser<'_> {
     {
         let kind = self.next()?;
         Ok(begins_simple(kind))
+    }
+
+    /// Whether a postfix operator is next.
+    pub fn is_post_next(&self) -> Result<bool, Stop>
+        ensures { Moves (λ b. b) (ahead begins_post) self.now self.now result }
+    {
+        let kind = self.next()?;
+        Ok(matches!(
+            kind,
+            TokenKind::Mark(Mark::OpenBracket | Mark::Dot | Mark::Arrow)
+        ))
+    }
+
+    /// The refusal of an expression where no room is left.
+    pub fn no_room_for_expr(&self) -> Stop
+        ensures { Fails {A = Unit {0}} result (too_deep begins_expr self.now.count self.now.rest.now) }
+    {
+        match self.rest {
+            [token, ..] if begins_expr(token.kind) => self.too_deep(),
+            _ => self.unexpected(),
+        }
+    }
+
+    /// The refusal of a type where no room is left.
+    pub fn no_room_for_type(&self) -> Stop
+        ensures { Fails {A = Unit {0}} result (too_deep begins_type self.now.count self.now.rest.now) }
+    {
+        match self.rest {
+            [token, ..] if begins_type(token.kind) => self.too_deep(),
+            _ => self.unexpected(),
+        }
     }
 
     /// What operand is next.

@@ -1,6 +1,6 @@
 //! The parser's readers of one token, at the level that leaves so much room; 0 is too deep.
 
-ghost use Rattle.std.specs.Prelude.{◌≡◌, ◌+◌, length, Some, None};
+ghost use Rattle.std.specs.Prelude.{◌≡◌, ◌+◌, ◌<◌, length, Some, None, IfOk};
 ghost use Rattle.c_lex.specs.declared.refusal.Kind.TheVariants.{TooDeep};
 ghost use Rattle.c_parse.specs.Leaves.{operator, derivation, beyond, first_of};
 ghost use Rattle.c_parse.specs.inner.Readers.{deep};
@@ -52,7 +52,8 @@ impl Parser<'_> {
 
     /// That there is room for the next token, a star or a dimension, and that behind so many there may be one more.
     pub fn within_derivations(&self, before: usize, room: u32) -> Result<(), Stop>
-        ensures { Checks (first_of (deep room) (beyond (derivation (before + 1)))) self.now result }
+        ensures checks { Checks (first_of (deep room) (beyond (derivation (before + 1)))) self.now result }
+        ensures few { IfOk result (λ _. before < 64) }
     {
         self.within(room)?;
         if before >= 64 {
@@ -139,6 +140,7 @@ impl Parser<'_> {
     pub fn dimension(&mut self, mark: Mark, before: usize, room: u32) -> Result<(), Stop>
         ensures reads { Moves (λ _. tt) (derived_tok room before (mark_is mark)) self.old self.new result }
         ensures takes { Takes self.old self.new result }
+        ensures few { IfOk result (λ _. before < 64) }
     {
         let [token, rest @ ..] = self.rest else {
             return Err(self.unexpected());
@@ -156,6 +158,7 @@ impl Parser<'_> {
     pub fn place_of_dimension(&mut self, mark: Mark, before: usize, room: u32) -> Result<u32, Stop>
         ensures reads { Moves (λ a. a) (derived_tok room before (mark_place mark)) self.old self.new result }
         ensures takes { Takes self.old self.new result }
+        ensures few { IfOk result (λ _. before < 64) }
     {
         let [token, rest @ ..] = self.rest else {
             return Err(self.unexpected());

@@ -7,6 +7,9 @@ use Rattle.c_parse.specs.declared.peeking.UnaryStart.{UnaryStart}
 use Rattle.c_parse.specs.declared.peeking.UnaryStart.TheVariants as unaries
 use Rattle.c_parse.specs.declared.peeking.SpecStart.{SpecStart}
 use Rattle.c_parse.specs.declared.peeking.SpecStart.TheVariants as specs
+use Rattle.c_tree.specs.SyntaxViews.{expr_view, type_name_view}
+use Rattle.c_parse.specs.declared.expressions.Sized.{Sized}
+use Rattle.c_parse.specs.declared.expressions.Sized.TheVariants as sizeds
 use Rattle.c_parse.specs.inner.Reading as reading
 
 abbrev pub operand_view : OperandStart → reading.Operand
@@ -30,3 +33,7 @@ unary_view unaries.Sizeof = reading.Sizeof
 abbrev pub spec_view : SpecStart → reading.SpecStart
 spec_view specs.Word = reading.TypeWords
 spec_view specs.Struct = reading.StructWord
+
+abbrev pub sized_view : Sized → reading.Sized
+sized_view (sizeds.Type t) = reading.a_type (type_name_view t)
+sized_view (sizeds.Expr e) = reading.an_expr (expr_view e)
