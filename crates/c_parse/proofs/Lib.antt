@@ -15,7 +15,7 @@ pub mod CodeLists
 mod MoreJoints
 mod Forks
 mod Respelling
-mod Classes
+mod TreeClasses
 mod ArgumentLaws
 mod PostfixLaws
 mod OperandLaws
