@@ -14,7 +14,7 @@ use Rattle.c_parse.proofs.Lawful.{Class, Info, Lawful, both}
 use Rattle.c_parse.proofs.Joints.{known, nothing_lawful}
 use Rattle.c_parse.proofs.Loops.{row_leaves, row_after, from_leaves, FromIs}
 use Rattle.c_parse.proofs.TokenLaws.{Room, plain_class, mark_sign, mark_lawful}
-use Rattle.c_parse.proofs.Classes.{expr_class, LevelLawful}
+use Rattle.c_parse.proofs.TreeClasses.{expr_class, LevelLawful}
 use Rattle.c_parse.proofs.MoreJoints.{joined, Forms, formed, either_lawful, behind_comma, commas_lawful}
 
 -- ---- ranks

@@ -14,7 +14,7 @@ use Rattle.c_parse.proofs.Runs.{Within, Met, Over, Stopped}
 use Rattle.c_parse.proofs.Lawful.{Class, Info, sort_of_sign, HeadIn, Headed, Lawful, both, before}
 use Rattle.c_parse.proofs.Joints.{Makes, tree, known, narrow}
 use Rattle.c_parse.proofs.TokenLaws.{Room, plain_class, mark_sign, mark_place_sign, mark_lawful, mark_place_lawful}
-use Rattle.c_parse.proofs.Classes.{none_less, goes_postfix, postfix_info, expr_class, type_class, LevelLawful}
+use Rattle.c_parse.proofs.TreeClasses.{none_less, goes_postfix, postfix_info, expr_class, type_class, LevelLawful}
 use Rattle.c_parse.proofs.MoreJoints.{joined, either_lawful}
 use Rattle.c_parse.proofs.Respelling.{retold, Respells, respelt, Picks, picked}
 use Rattle.c_parse.proofs.ArgumentLaws.{room_deeper}

@@ -14,7 +14,7 @@ use Rattle.c_parse.proofs.Lawful.{Class, Info, Lawful, starts, both, if_empty}
 use Rattle.c_parse.proofs.Joints.{TooDeepFor, Makes, tree, known, full_class, full_lawful, narrow, too_deep_lawful}
 use Rattle.c_parse.proofs.Loops.{OptionIs, option_class, maybe_lawful, FromIs, from_class}
 use Rattle.c_parse.proofs.TokenLaws.{Room, plain_class, mark_sign, mark_lawful}
-use Rattle.c_parse.proofs.Classes.{expr_class, goes_expr, LevelLawful}
+use Rattle.c_parse.proofs.TreeClasses.{expr_class, goes_expr, LevelLawful}
 use Rattle.c_parse.proofs.StatementClasses.{declaration_class}
 use Rattle.c_parse.proofs.MemberLaws.{BeginsDeep, spec_deep, spec_at, deep_behind, at_behind}
 use Rattle.c_parse.proofs.ArgumentLaws.{rank_most}

@@ -15,7 +15,7 @@ use Rattle.c_parse.proofs.Lawful.{Class, Info, Lawful, starts, both, before}
 use Rattle.c_parse.proofs.Joints.{Makes, tree, known, full_class, full_lawful, narrow, empty_info, nothing_lawful}
 use Rattle.c_parse.proofs.Loops.{Link, base, Linked, chained, built_from, all_before}
 use Rattle.c_parse.proofs.TokenLaws.{Room, plain_class, derived_class, mark_sign, name_lawful, mark_lawful, derived_mark_lawful}
-use Rattle.c_parse.proofs.Classes.{expr_class, LevelLawful}
+use Rattle.c_parse.proofs.TreeClasses.{expr_class, LevelLawful}
 use Rattle.c_parse.proofs.MoreJoints.{joined, Forms, formed}
 use Rattle.c_parse.proofs.ArgumentLaws.{rank_most, listed}
 use Rattle.c_parse.proofs.SpecLaws.{no_name}

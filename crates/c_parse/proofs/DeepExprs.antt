@@ -22,7 +22,7 @@ use Rattle.c_parse.specs.inner.Reading.{Sized, a_type, an_expr}
 use Rattle.c_parse.proofs.Lawful.{sort_of_sign}
 use Rattle.c_parse.proofs.Joints.{TooDeepFor}
 use Rattle.c_parse.proofs.TokenLaws.{Room}
-use Rattle.c_parse.proofs.Classes.{none_less, expr_class, on_sized, IsSized, sized_class}
+use Rattle.c_parse.proofs.TreeClasses.{none_less, expr_class, on_sized, IsSized, sized_class}
 
 -- ---- the first leaf
 

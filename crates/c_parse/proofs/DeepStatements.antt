@@ -21,7 +21,7 @@ use Rattle.c_parse.proofs.Sorts.{is_inside}
 use Rattle.c_parse.proofs.Lawful.{sort_of_sign, Lawful}
 use Rattle.c_parse.proofs.Joints.{TooDeepFor, too_deep_lawful}
 use Rattle.c_parse.proofs.TokenLaws.{Room}
-use Rattle.c_parse.proofs.Classes.{none_less}
+use Rattle.c_parse.proofs.TreeClasses.{none_less}
 use Rattle.c_parse.proofs.ArgumentLaws.{rank_most}
 use Rattle.c_parse.proofs.SimpleLaws.{simply_there}
 use Rattle.c_parse.proofs.StatementClasses.{simple_class, goes_simple, simple_info, stmt_class, Parts}

@@ -11,7 +11,7 @@ use Rattle.c_parse.proofs.Lawful.{Class, Lawful, both}
 use Rattle.c_parse.proofs.Joints.{known}
 use Rattle.c_parse.proofs.Loops.{option_class, maybe_lawful}
 use Rattle.c_parse.proofs.TokenLaws.{Room, plain_class, mark_sign, mark_place_sign, mark_lawful, mark_place_lawful}
-use Rattle.c_parse.proofs.Classes.{expr_class, expr_info, LevelLawful}
+use Rattle.c_parse.proofs.TreeClasses.{expr_class, expr_info, LevelLawful}
 use Rattle.c_parse.proofs.MoreJoints.{joined, Forms, formed}
 use Rattle.c_parse.proofs.ArgumentLaws.{height_most, rank_most}
 use Rattle.c_parse.proofs.CastLaws.{casted_lawful}

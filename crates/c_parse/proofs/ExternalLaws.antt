@@ -14,7 +14,7 @@ use Rattle.c_parse.proofs.Lawful.{Class, Info, Lawful, starts, both}
 use Rattle.c_parse.proofs.Joints.{Makes, tree, known}
 use Rattle.c_parse.proofs.Loops.{row_class, row_lawful}
 use Rattle.c_parse.proofs.TokenLaws.{plain_class, storage_sign, storage_lawful, end_sign, is_end, end_lawful}
-use Rattle.c_parse.proofs.Classes.{LevelLawful}
+use Rattle.c_parse.proofs.TreeClasses.{LevelLawful}
 use Rattle.c_parse.proofs.FileLaws.{file_class}
 use Rattle.c_parse.proofs.MoreJoints.{joined, flat_after, each_spelt, some_spelt}
 use Rattle.c_parse.proofs.SpecLaws.{specs_class, specs_lawful, specs_some, some_specs}

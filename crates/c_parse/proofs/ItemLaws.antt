@@ -14,7 +14,7 @@ use Rattle.c_parse.proofs.Lawful.{Class, Info, Lawful, starts, both}
 use Rattle.c_parse.proofs.Joints.{Makes, tree, known, full_class, full_lawful, narrow, chosen}
 use Rattle.c_parse.proofs.Loops.{row_class, row_lawful}
 use Rattle.c_parse.proofs.TokenLaws.{Room, plain_class, mark_sign, mark_place_sign, mark_lawful, mark_place_lawful}
-use Rattle.c_parse.proofs.Classes.{expr_class}
+use Rattle.c_parse.proofs.TreeClasses.{expr_class}
 use Rattle.c_parse.proofs.Forks.{by_which, Forks, forked}
 use Rattle.c_parse.proofs.MoreJoints.{joined, flat_after, each_spelt}
 use Rattle.c_parse.proofs.StatementClasses.{declaration_class, simple_class, first_class, begins_first, stmt_class, stmt_info, items_class, Parts}

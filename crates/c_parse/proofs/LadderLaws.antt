@@ -13,7 +13,7 @@ use Rattle.c_parse.proofs.Joints.{Less, known}
 use Rattle.c_parse.proofs.Loops.{Link, Built, base, step, Linked, chain_info, chained}
 use Rattle.c_parse.proofs.TokenLaws.{Room}
 use Rattle.c_parse.proofs.BinaryLaws.{binary_class, binary_lawful, some_binary}
-use Rattle.c_parse.proofs.Classes.{none_less, goes_postfix, postfix_info, expr_class}
+use Rattle.c_parse.proofs.TreeClasses.{none_less, goes_postfix, postfix_info, expr_class}
 use Rattle.c_parse.proofs.MoreJoints.{joined}
 
 -- ---- what may not follow

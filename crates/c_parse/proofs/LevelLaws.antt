@@ -4,7 +4,7 @@ use Rattle.c_parse.specs.inner.Tokens.{begins_type, begins_expr}
 use Rattle.c_parse.specs.inner.Reading.{Level, no_level, level_by, level_at}
 use Rattle.c_parse.proofs.Joints.{too_deep_lawful}
 use Rattle.c_parse.proofs.TokenLaws.{Room}
-use Rattle.c_parse.proofs.Classes.{goes_postfix, goes_expr, goes_type, expr_class, sized_class, type_class, member_class, LevelLawful}
+use Rattle.c_parse.proofs.TreeClasses.{goes_postfix, goes_expr, goes_type, expr_class, sized_class, type_class, member_class, LevelLawful}
 use Rattle.c_parse.proofs.UnaryLaws.{unary_lawful}
 use Rattle.c_parse.proofs.CastLaws.{casted_lawful}
 use Rattle.c_parse.proofs.SizedLaws.{sized_lawful}

@@ -10,10 +10,12 @@ pub mod GrammarLaws
 mod TokenLaws
 mod BinaryLaws
 pub mod RowsProof
+pub mod CodeLoops
+pub mod CodeLists
 mod MoreJoints
 mod Forks
 mod Respelling
-mod Classes
+mod TreeClasses
 mod ArgumentLaws
 mod PostfixLaws
 mod OperandLaws
@@ -45,3 +47,5 @@ mod EndLaws
 mod NoEnds
 mod WholeLaws
 pub mod FileReading
+pub mod CodeLevels
+pub mod CodeReads

@@ -22,7 +22,7 @@ use Rattle.c_parse.proofs.Lawful.{Class, Lawful, both, sort_of_sign}
 use Rattle.c_parse.proofs.Joints.{Makes, tree, known, TooDeepFor}
 use Rattle.c_parse.proofs.Loops.{row_leaves, FromIs, from_class}
 use Rattle.c_parse.proofs.TokenLaws.{Room, plain_class, mark_sign, mark_lawful, type_back, type_forth}
-use Rattle.c_parse.proofs.Classes.{LevelLawful, type_class, member_class, member_info}
+use Rattle.c_parse.proofs.TreeClasses.{LevelLawful, type_class, member_class, member_info}
 use Rattle.c_parse.proofs.MoreJoints.{joined, flat_after, behind_comma, comma_rows, commas_lawful}
 use Rattle.c_parse.proofs.SpecLaws.{no_name, specs_class, specs_lawful, specs_row, row_specs, specs_list, list_specs, specs_spelt}
 use Rattle.c_parse.proofs.DeclaratorLaws.{bare_declarator_class, IsBareDeclarator, bare_declared_lawful, declared_lawful}

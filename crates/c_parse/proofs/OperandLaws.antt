@@ -19,7 +19,7 @@ use Rattle.c_parse.proofs.Lawful.{Class, Info, Lawful, both, starts}
 use Rattle.c_parse.proofs.Joints.{Makes, tree, known, narrow}
 use Rattle.c_parse.proofs.Loops.{Rows, from_class, row_leaves, from_leaves, FromIs, option_class, maybe_lawful, row_from_lawful}
 use Rattle.c_parse.proofs.TokenLaws.{Room, plain_class, int_sign, char_sign, word_place_sign, is_int, is_char, name_lawful, text_lawful, int_lawful, char_lawful, word_place_lawful}
-use Rattle.c_parse.proofs.Classes.{none_less, goes_postfix, expr_class, LevelLawful}
+use Rattle.c_parse.proofs.TreeClasses.{none_less, goes_postfix, expr_class, LevelLawful}
 use Rattle.c_parse.proofs.MoreJoints.{joined, Forms, formed, flat_after}
 use Rattle.c_parse.proofs.Respelling.{Picks, picked}
 use Rattle.c_parse.proofs.ArgumentLaws.{listed, args_class, arguments_lawful}

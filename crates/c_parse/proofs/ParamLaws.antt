@@ -16,7 +16,7 @@ use Rattle.c_parse.proofs.Lawful.{Class, Info, Lawful, starts, both, before}
 use Rattle.c_parse.proofs.Joints.{Makes, tree, known, full_class, full_lawful, empty_info, nothing_lawful}
 use Rattle.c_parse.proofs.Loops.{Link, base, Linked, chained, built_from, all_pushed, all_before, option_class, maybe_lawful, from_class}
 use Rattle.c_parse.proofs.TokenLaws.{Room, plain_class, derived_class, mark_sign, mark_place_sign, name_lawful, mark_lawful, derived_place_lawful}
-use Rattle.c_parse.proofs.Classes.{expr_class, LevelLawful}
+use Rattle.c_parse.proofs.TreeClasses.{expr_class, LevelLawful}
 use Rattle.c_parse.proofs.MoreJoints.{joined, either_lawful, comma_rows, commas_lawful, flat_after, some_spelt, commas_spelt}
 use Rattle.c_parse.proofs.SpecLaws.{no_name, specs_class, specs_lawful, specs_some, some_specs, goes_specs}
 use Rattle.c_parse.proofs.PointerLaws.{bare_class, bare_lawful}

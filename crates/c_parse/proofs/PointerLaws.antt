@@ -25,7 +25,7 @@ use Rattle.c_parse.proofs.Lawful.{Class, Info, Begun, SoundAt, Follows, spelt_so
 use Rattle.c_parse.proofs.Joints.{Makes, tree, known, narrow, empty_info, chosen, nothing_lawful}
 use Rattle.c_parse.proofs.Loops.{Link, base, Linked, chained, built_from}
 use Rattle.c_parse.proofs.TokenLaws.{Room, word_lawful, derived_mark_lawful}
-use Rattle.c_parse.proofs.Classes.{LevelLawful, type_class, type_info}
+use Rattle.c_parse.proofs.TreeClasses.{LevelLawful, type_class, type_info}
 use Rattle.c_parse.proofs.MoreJoints.{either_false, joined, flat_after}
 use Rattle.c_parse.proofs.SpecLaws.{specs_class, specs_lawful, specs_row, row_specs, specs_list, list_specs, specs_spelt}
 

@@ -13,7 +13,7 @@ use Rattle.c_parse.proofs.Lawful.{Class, Info, Lawful, both}
 use Rattle.c_parse.proofs.Joints.{Makes, tree, known, narrow}
 use Rattle.c_parse.proofs.Loops.{Link, Built, base, step, Linked, chain_info, chained}
 use Rattle.c_parse.proofs.TokenLaws.{Room, plain_class, counted_class, mark_sign, mark_place_sign, name_lawful, mark_lawful, post_mark_lawful}
-use Rattle.c_parse.proofs.Classes.{none_less, expr_class, LevelLawful}
+use Rattle.c_parse.proofs.TreeClasses.{none_less, expr_class, LevelLawful}
 use Rattle.c_parse.proofs.MoreJoints.{joined}
 use Rattle.c_parse.proofs.Respelling.{Picks, picked}
 use Rattle.c_parse.proofs.ArgumentLaws.{rank_most, room_deeper}

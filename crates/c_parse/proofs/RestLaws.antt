@@ -15,7 +15,7 @@ use Rattle.c_parse.proofs.Lawful.{Class, Lawful, starts, both, before}
 use Rattle.c_parse.proofs.Joints.{Makes, tree, known, narrow}
 use Rattle.c_parse.proofs.Loops.{option_class, row_class, row_lawful}
 use Rattle.c_parse.proofs.TokenLaws.{plain_class, mark_sign, name_lawful, mark_lawful}
-use Rattle.c_parse.proofs.Classes.{LevelLawful}
+use Rattle.c_parse.proofs.TreeClasses.{LevelLawful}
 use Rattle.c_parse.proofs.MoreJoints.{joined, Forms, formed, either_lawful, behind_comma, flat_after, more_spelt}
 use Rattle.c_parse.proofs.ArgumentLaws.{listed}
 use Rattle.c_parse.proofs.SpecLaws.{no_name}

@@ -17,7 +17,7 @@ use Rattle.c_parse.proofs.Lawful.{Class, Info, Lawful, starts, both, both_info}
 use Rattle.c_parse.proofs.Lawful as laws
 use Rattle.c_parse.proofs.Joints.{Makes, tree, known, full_class, full_lawful, empty_info, narrow, nothing_lawful, chosen}
 use Rattle.c_parse.proofs.TokenLaws.{Room, plain_class, marked, is_assign, step_lawful, assign_lawful}
-use Rattle.c_parse.proofs.Classes.{none_less, goes_expr, expr_info, postfix_info, expr_class, LevelLawful}
+use Rattle.c_parse.proofs.TreeClasses.{none_less, goes_expr, expr_info, postfix_info, expr_class, LevelLawful}
 use Rattle.c_parse.proofs.ArgumentLaws.{rank_most}
 use Rattle.c_parse.proofs.Forks.{alike, by_which, Forks, forked}
 use Rattle.c_parse.proofs.MoreJoints.{joined}

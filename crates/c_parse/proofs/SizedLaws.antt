@@ -13,7 +13,7 @@ use Rattle.c_parse.proofs.Sorts.{is_inside}
 use Rattle.c_parse.proofs.Lawful.{Class, Info, Lawful, both}
 use Rattle.c_parse.proofs.Joints.{Makes, tree, known, narrow}
 use Rattle.c_parse.proofs.TokenLaws.{Room, plain_class, mark_sign, mark_lawful}
-use Rattle.c_parse.proofs.Classes.{none_less, goes_postfix, postfix_info, on_sized, counted_sized, IsSized, sized_class, type_class, LevelLawful}
+use Rattle.c_parse.proofs.TreeClasses.{none_less, goes_postfix, postfix_info, on_sized, counted_sized, IsSized, sized_class, type_class, LevelLawful}
 use Rattle.c_parse.proofs.MoreJoints.{joined, Forms, formed, either_lawful}
 use Rattle.c_parse.proofs.Respelling.{alike, Picks, picked}
 use Rattle.c_parse.proofs.ArgumentLaws.{room_deeper}

@@ -20,7 +20,7 @@ use Rattle.c_parse.proofs.Joints.{Makes, tree, known, narrow, chosen, nothing_la
 use Rattle.c_parse.proofs.Loops.{row_leaves, from_leaves, FromIs, Rows, from_class, row_from_lawful, OptionIs, option_class, maybe_lawful}
 use Rattle.c_parse.proofs.TokenLaws.{Room, plain_class, word_place_sign, word_place_lawful, name_lawful, mark_lawful, mark_sign, is_type_word, type_word_sign, type_word_lawful}
 use Rattle.c_parse.proofs.Sorts.{is_inside}
-use Rattle.c_parse.proofs.Classes.{member_class, member_info, LevelLawful}
+use Rattle.c_parse.proofs.TreeClasses.{member_class, member_info, LevelLawful}
 use Rattle.c_parse.proofs.MoreJoints.{joined, flat_after}
 
 -- ---- members between braces

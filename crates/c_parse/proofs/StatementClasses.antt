@@ -14,7 +14,7 @@ use Rattle.c_parse.specs.inner.Reading.{level_at, declaration, first_start, begi
 use Rattle.c_parse.proofs.Lawful.{Class, Info, Lawful, starts}
 use Rattle.c_parse.proofs.Joints.{TooDeepFor}
 use Rattle.c_parse.proofs.TokenLaws.{Room, is_assign}
-use Rattle.c_parse.proofs.Classes.{goes_expr, expr_class, LevelLawful}
+use Rattle.c_parse.proofs.TreeClasses.{goes_expr, expr_class, LevelLawful}
 
 -- ---- declarations in a body
 

@@ -16,7 +16,7 @@ use Rattle.c_parse.proofs.Lawful.{Class, Info, Lawful, starts, both}
 use Rattle.c_parse.proofs.Joints.{Makes, tree, known, full_class, full_lawful, narrow, Chosen}
 use Rattle.c_parse.proofs.Loops.{option_class, maybe_info, maybe_lawful}
 use Rattle.c_parse.proofs.TokenLaws.{Room, plain_class, word_place_sign, mark_sign, mark_place_sign, word_place_lawful, mark_lawful, mark_place_lawful}
-use Rattle.c_parse.proofs.Classes.{expr_info, expr_class}
+use Rattle.c_parse.proofs.TreeClasses.{expr_info, expr_class}
 use Rattle.c_parse.proofs.MoreJoints.{joined}
 use Rattle.c_parse.proofs.StatementClasses.{simple_class, stmt_class, stmt_info, items_class, Parts}
 use Rattle.c_parse.proofs.ArgumentLaws.{rank_most}

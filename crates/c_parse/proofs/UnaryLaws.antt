@@ -13,7 +13,7 @@ use Rattle.c_parse.specs.inner.Reading.{Sized, a_type, an_expr, Level, an_index,
 use Rattle.c_parse.proofs.Lawful.{Class, Info, Lawful, both}
 use Rattle.c_parse.proofs.Joints.{Makes, tree, known, narrow}
 use Rattle.c_parse.proofs.TokenLaws.{Room, plain_class, mark_sign, word_place_sign, marked, is_prefix, mark_lawful, word_place_lawful, prefix_lawful}
-use Rattle.c_parse.proofs.Classes.{none_less, goes_postfix, postfix_info, expr_class, on_sized, counted_sized, IsSized, sized_class, LevelLawful}
+use Rattle.c_parse.proofs.TreeClasses.{none_less, goes_postfix, postfix_info, expr_class, on_sized, counted_sized, IsSized, sized_class, LevelLawful}
 use Rattle.c_parse.proofs.MoreJoints.{joined, Forms, formed}
 use Rattle.c_parse.proofs.Respelling.{retold, Picks, picked}
 use Rattle.c_parse.proofs.ArgumentLaws.{room_deeper}

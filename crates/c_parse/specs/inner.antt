@@ -1,3 +1,5 @@
 pub mod Readers
 pub mod Tokens
 pub mod Reading
+pub mod Moves
+pub mod Starts

@@ -3,4 +3,12 @@
 //! Stands on c_lex's tokens and c_tree's trees.
 #![tactic(auto)]
 
+mod building;
+mod classes;
+mod expressions;
 pub mod laws;
+mod parser;
+mod peeking;
+mod pointers;
+mod reading_tokens;
+mod types;

@@ -1,0 +1,108 @@
+use Rattle.std.proofs.Common.{◌≡◌, ℕ, ◌+◌, ◌-◌, ◌*◌, ◌<◌, ◌≤◌, [], ◌∷◌, map, length, true, sym, ◌∙◌, ap, refl, arith}
+use Rattle.std.proofs.lemmas.List.{map-append, length-append, length-map}
+use Rattle.c_lex.specs.declared.token.Mark.TheVariants.{Comma, OpenBracket}
+use Rattle.c_tree.specs.Syntax.{binary}
+use Rattle.c_tree.specs.SyntaxViews.{expr_view, type_name_view, spec_view, member_view, declarator_view}
+use Rattle.c_parse.specs.inner.Readers.{◌&◌, ◌▸◌, made, links, nothing, row_from, pushed}
+use Rattle.c_parse.specs.inner.Tokens.{tok, counted_tok, text_of, is_text, mark_is, is_mark, binary_of, is_binary, begins_type, begins_expr}
+use Rattle.c_parse.specs.inner.Reading.{Level, level_at, commas, either, group_rest, post, posted, begins_post, casted, ladder, spec, specs, declared, bare_declared, dim, dims}
+use Rattle.c_parse.proofs.CodeLoops.{Going, goes, goes_joined, behind_reads, pair_reads, joined_stops, begins_behind}
+use Rattle.c_parse.proofs.CodeReads.{specs_begins, exprs_begin, ladder_begins, declared_reads, bare_declared_reads, group_reads, then_moves, type_name_reads, member_reads}
+use Rattle.c_parse.proofs.parser.Parser.+expressions.Goals as goal
+
+pub exprs-exprs-preserved : goal.exprs-exprs-preserved
+exprs-exprs-preserved t c =
+    let open_ = rw c.if-branch.true at c.in_ok-is_next.ensures in
+    record {
+      going = rw (c.in_ok-push-2.ensures.items, map-append) (goes _ _ _ _ _ _ _ _ _ _ c.exprs.invariant.going open_ (behind_reads (tok (c.args.room - 1) (mark_is Comma)) (λ _. (level_at c.args.braces (c.args.room - 1)).expr) c.exprs.self.count c.exprs.self.rest.now _ _ _ _ _ _ c.in_ok-expected.ensures.reads c.in_ok-more.ensures.reads) (omega (arith, c.in_ok-expected.ensures.takes, c.in_ok-more.ensures.takes)));
+      takes = omega (arith, c.exprs.invariant.takes, c.in_ok-expected.ensures.takes, c.in_ok-more.ensures.takes);
+    }
+
+pub specs-specs-preserved : goal.specs-specs-preserved
+specs-specs-preserved t c =
+    let open_ = rw c.if-branch.true at c.in_ok-is_type_next.ensures in
+    record {
+      going = rw (c.in_ok-push-2.ensures.items, map-append) (goes _ _ _ _ _ _ _ _ _ _ c.specs.invariant.going open_ c.in_ok-more.ensures.reads c.in_ok-more.ensures.takes);
+      takes = omega (arith, c.specs.invariant.takes, c.in_ok-more.ensures.takes);
+    }
+
+pub member_row-members-preserved : goal.member_row-members-preserved
+member_row-members-preserved t c =
+    let open_ = rw c.if-branch.true at c.in_ok-is_type_next.ensures in
+    record {
+      going = rw (c.in_ok-push-2.ensures.items, map-append) (goes _ _ _ _ _ _ _ _ _ _ c.members.invariant.going open_ c.in_ok-more.ensures.reads c.in_ok-more.ensures.takes);
+      takes = omega (arith, c.members.invariant.takes, c.in_ok-more.ensures.takes);
+    }
+
+pub declarators-declarators-preserved : goal.declarators-declarators-preserved
+declarators-declarators-preserved t c =
+    let open_ = rw c.if-branch.true at c.in_ok-is_next.ensures in
+    record {
+      going = rw (c.in_ok-push-2.ensures.items, map-append) (goes _ _ _ _ _ _ _ _ _ _ c.declarators.invariant.going open_ (behind_reads (tok c.args.room (mark_is Comma)) (λ _. declared c.args.room (c.args.room - 1) (level_at true (c.args.room - 1))) c.declarators.self.count c.declarators.self.rest.now _ _ _ _ _ _ c.in_ok-expected.ensures.reads (declared_reads _ _ _ _ _ _ _ _ _ _ _ c.in_ok-pointers-2.ensures.reads c.in_ok-more.ensures.reads)) (omega (arith, c.in_ok-expected.ensures.takes, c.in_ok-pointers-2.ensures.keeps, c.in_ok-more.ensures.takes)));
+      takes = omega (arith, c.declarators.invariant.takes, c.in_ok-expected.ensures.takes, c.in_ok-pointers-2.ensures.keeps, c.in_ok-more.ensures.takes);
+    }
+
+pub member_row-members-init : goal.member_row-members-init
+member_row-members-init t c = record {
+  going = rw (c.in_ok-push.ensures.items, c.new-all.ensures.items) (begins_behind (made (λ a. a ∷ []) ((level_at true (c.args.room - 1)).member)) begins_type (λ _. (level_at true (c.args.room - 1)).member) pushed _ _ _ _ _ (rw c.in_ok-first.ensures.reads refl));
+  takes = c.in_ok-first.ensures.takes;
+}
+
+pub exprs-exprs-init : goal.exprs-exprs-init
+exprs-exprs-init t c =
+    let open_ = rw c.if-not-branch.false at c.in_ok-is_expr_next.ensures in
+    record {
+      going = rw (c.in_ok-push.ensures.items, c.new-all.ensures.items) (exprs_begin (c.args.room - 1) (level_at c.args.braces (c.args.room - 1)) _ _ _ _ _ open_ c.in_ok-first.ensures.reads);
+      takes = c.in_ok-first.ensures.takes;
+    }
+
+pub specs-specs-init : goal.specs-specs-init
+specs-specs-init t c = record {
+  going = rw (c.in_ok-push.ensures.items, c.new-all.ensures.items) (specs_begins _ _ _ _ _ _ _ _ _ c.in_ok-first.ensures.reads);
+  takes = c.in_ok-first.ensures.takes;
+}
+
+pub posted-posts-preserved : goal.posted-posts-preserved
+posted-posts-preserved t c =
+    let open_ = rw c.if-branch.true at c.in_ok-is_post_next.ensures in
+    record {
+      going = goes_joined _ _ _ _ _ _ _ _ _ _ c.posts.invariant.going open_ c.in_ok-base.ensures.reads c.in_ok-base.ensures.takes;
+      keeps = omega (arith, c.posts.invariant.keeps, c.in_ok-base.ensures.takes);
+    }
+
+pub dims-dims-preserved : goal.dims-dims-preserved
+dims-dims-preserved t c =
+    let open_ = rw c.if-branch.true at c.in_ok-is_next.ensures in
+    let before : c.dims.count ≡ c.args.before + length (map expr_view c.dims.all.items) = c.dims.invariant.count ∙ ap (λ n. c.args.before + n) (sym (length-map c.dims.all.items expr_view)) in
+    let read = rw before at c.in_ok-dim.ensures.reads in
+    record {
+      going = rw (c.in_ok-push.ensures.items, map-append) (goes _ _ _ _ _ _ _ _ _ _ c.dims.invariant.going open_ read c.in_ok-dim.ensures.takes);
+      count = omega (arith, simp length-append at (ap length c.in_ok-push.ensures.items), c.dims.invariant.count);
+      keeps = omega (arith, c.dims.invariant.keeps, c.in_ok-dim.ensures.takes);
+    }
+
+pub ladder-operators-preserved : goal.ladder-operators-preserved
+ladder-operators-preserved t c =
+    let open_ = rw c.if-branch.true at c.in_ok-is_binary_next.ensures in
+    record {
+      going = rw c.in_ok-left.ensures (goes _ _ _ _ _ _ _ _ _ _ c.operators.invariant.going open_ (pair_reads (counted_tok c.args.room (binary_of (c.args.heights - 1))) (ladder c.args.room (casted c.args.room (c.args.room - 1) (level_at c.args.braces (c.args.room - 1))) (c.args.heights - 1)) c.operators.self.count c.operators.self.rest.now _ _ _ _ _ _ c.in_ok-place.ensures.reads c.in_ok-right.ensures.reads) (omega (arith, c.in_ok-place.ensures.takes, c.in_ok-right.ensures.takes)));
+      takes = omega (arith, c.operators.invariant.takes, c.in_ok-place.ensures.takes, c.in_ok-right.ensures.takes);
+    }
+
+pub ladder-operators-init : goal.ladder-operators-init
+ladder-operators-init t c =
+    let some : 0 < c.args.heights = omega arith in
+    record { going = ladder_begins _ _ _ some _ _ _ _ _ c.in_ok-first.ensures.reads; takes = c.in_ok-first.ensures.takes }
+
+pub group_rest-returns-clause-reads : goal.group_rest-returns-clause-reads
+group_rest-returns-clause-reads t c = then_moves expr_view (group_rest c.args.room (c.args.room - 1) (level_at c.args.braces (c.args.room - 1))) (links begins_post (λ _. post c.args.room (c.args.room - 1) (level_at c.args.braces (c.args.room - 1))) posted (expr_view c.in_ok-first.first)) c.args.self.now c.expected.new.self c.posted.new.self c.posted.result (group_reads c.args.room (c.args.room - 1) (level_at c.args.braces (c.args.room - 1)) _ _ _ _ _ _ _ _ c.in_ok-inside.ensures.reads c.in_ok-expected.ensures.reads c.in_ok-first.ensures) c.posted.ensures.reads
+
+pub type_name-returns-clause-reads : goal.type_name-returns-clause-reads
+type_name-returns-clause-reads t c =
+    let some : 0 < c.args.room = omega arith in
+    rw c.type_name_of.ensures (type_name_reads _ _ some _ _ _ _ _ _ _ _ c.in_ok-specs.ensures.reads c.in_ok-pointers.ensures.reads)
+
+pub member-returns-clause-reads : goal.member-returns-clause-reads
+member-returns-clause-reads t c =
+    let some : 0 < c.args.room = omega arith in
+    rw c.member_of.ensures (member_reads _ _ some _ _ _ _ _ _ _ _ _ _ c.in_ok-specs.ensures.reads c.in_ok-declarators.ensures.reads c.in_ok-expected.ensures.reads)

@@ -1,0 +1,39 @@
+-- What the code chooses by, as the readers have it.
+use Rattle.c_parse.specs.declared.peeking.OperandStart.{OperandStart}
+use Rattle.c_parse.specs.declared.peeking.OperandStart.TheVariants as operands
+use Rattle.c_parse.specs.declared.peeking.PostStart.{PostStart}
+use Rattle.c_parse.specs.declared.peeking.PostStart.TheVariants as posts
+use Rattle.c_parse.specs.declared.peeking.UnaryStart.{UnaryStart}
+use Rattle.c_parse.specs.declared.peeking.UnaryStart.TheVariants as unaries
+use Rattle.c_parse.specs.declared.peeking.SpecStart.{SpecStart}
+use Rattle.c_parse.specs.declared.peeking.SpecStart.TheVariants as specs
+use Rattle.c_tree.specs.SyntaxViews.{expr_view, type_name_view}
+use Rattle.c_parse.specs.declared.expressions.Sized.{Sized}
+use Rattle.c_parse.specs.declared.expressions.Sized.TheVariants as sizeds
+use Rattle.c_parse.specs.inner.Reading as reading
+
+abbrev pub operand_view : OperandStart → reading.Operand
+operand_view operands.Name = reading.Named
+operand_view operands.Int = reading.AnInt
+operand_view operands.Char = reading.AChar
+operand_view operands.Text = reading.Texts
+operand_view operands.Null = reading.NullWord
+
+abbrev pub post_view : PostStart → reading.PostStart
+post_view posts.Bracket = reading.Bracket
+post_view posts.Dot = reading.Dot
+post_view posts.Arrow = reading.Arrow
+
+abbrev pub unary_view : UnaryStart → reading.UnaryStart
+unary_view unaries.Primary = reading.Primary
+unary_view unaries.Paren = reading.Paren
+unary_view unaries.Prefix = reading.Prefix
+unary_view unaries.Sizeof = reading.Sizeof
+
+abbrev pub spec_view : SpecStart → reading.SpecStart
+spec_view specs.Word = reading.TypeWords
+spec_view specs.Struct = reading.StructWord
+
+abbrev pub sized_view : Sized → reading.Sized
+sized_view (sizeds.Type t) = reading.a_type (type_name_view t)
+sized_view (sizeds.Expr e) = reading.an_expr (expr_view e)
