@@ -1,11 +1,11 @@
 -- The levels, by the room that the code counts.
-use Rattle.std.proofs.Common.{◌≡◌, ℕ, zero, suc, ◌+◌, ◌-◌, ◌<◌, ◌≤◌, List, [], ◌∷◌, length, Option, Some, None, Result, Ok, Err, Bool, true, false, refl, sym, ap, subst, ◌∙◌, arith}
+use Rattle.std.proofs.Common.{◌≡◌, ℕ, zero, suc, ◌-◌, ◌<◌, List, [], ◌∷◌, length, Some, None, Err, Bool, true, false, refl, sym, ap, subst, ◌∙◌, arith}
 use Rattle.c_lex.specs.declared.token.Token.{Token}
 use Rattle.c_lex.specs.declared.refusal.Kind.TheVariants.{TooDeep}
 use Rattle.c_tree.specs.Syntax.{Expr, TypeName, Member}
 use Rattle.c_parse.specs.declared.parser.Stop.{Stop}
 use Rattle.c_parse.specs.declared.parser.Stop.TheVariants as stops
-use Rattle.c_parse.specs.inner.Readers.{Fault, stop, Reading, got, Reads, Sort, sort, refused, too_deep}
+use Rattle.c_parse.specs.inner.Readers.{Fault, stop, Reads, Sort, sort, refused, too_deep}
 use Rattle.c_parse.specs.inner.Tokens.{begins_type, begins_expr}
 use Rattle.c_parse.specs.inner.Reading.{Level, Sized, level_by, no_level, level_at, expr, casted, unary, sized, type_named, membered}
 use Rattle.c_parse.specs.inner.Moves.{Fails}

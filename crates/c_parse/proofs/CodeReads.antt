@@ -1,18 +1,16 @@
 -- What the parts of a production read, joined.
-use Rattle.std.proofs.Common.{◌≡◌, ℕ, zero, suc, ◌+◌, ◌-◌, ◌<◌, ◌≤◌, List, [], ◌∷◌, length, Option, Some, None, Result, Ok, Err, Bool, true, false, refl, sym, ap, subst, ◌∙◌, arith}
-use Rattle.ak_words.specs.declared.number.Num.{Num}
+use Rattle.std.proofs.Common.{◌≡◌, ℕ, zero, suc, ◌-◌, ◌<◌, List, [], ◌∷◌, Some, Result, Ok, Err, Bool, true, refl, sym, ap, subst, ◌∙◌, arith}
 use Rattle.c_lex.specs.declared.token.Token.{Token}
 use Rattle.c_lex.specs.declared.token.Mark.TheVariants.{CloseParen, Semicolon, Comma}
 use Rattle.c_tree.specs.declared.syntax.Pointer.{Pointer}
-use Rattle.c_tree.specs.declared.syntax.BinaryOp.{BinaryOp}
 use Rattle.c_tree.specs.Syntax.{Expr, group, binary, TypeName, type_name, Spec, Member, members_of, Declarator, specs_of, declarators_of}
 use Rattle.c_parse.specs.declared.parser.Parser.{Parser}
 use Rattle.c_parse.specs.declared.parser.Stop.{Stop}
 use Rattle.c_parse.specs.declared.parser.Stop.TheVariants as stops
-use Rattle.c_parse.specs.inner.Readers.{Fault, stop, Reading, got, Reads, ◌>>=◌, Sort, sort, ◌▸◌, ◌&◌, made, nothing, pushed, chain, links}
+use Rattle.c_parse.specs.inner.Readers.{Reading, got, Reads, ◌&◌, made, nothing, pushed, chain, links}
 use Rattle.c_parse.specs.inner.Tokens.{tok, counted_tok, mark_is, is_mark, binary_of, is_binary, begins_type, begins_expr}
 use Rattle.c_parse.specs.inner.Reading.{Level, level_at, commas, either_by, either, spec, post, posted, begins_post, group_rest, ladder, specs, bare_pointers, type_named, pointers, bare_declared, declarator_behind, declared, membered}
-use Rattle.c_parse.specs.inner.Moves.{Fails, Moves, ahead}
+use Rattle.c_parse.specs.inner.Moves.{Moves, ahead}
 use Rattle.c_parse.proofs.CodeLoops.{Going, begins_behind, behind_reads, chooses}
 use Rattle.c_parse.proofs.CodeLevels.{type_name_at, member_at}
 

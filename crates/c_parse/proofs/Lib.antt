@@ -49,3 +49,7 @@ mod WholeLaws
 pub mod FileReading
 pub mod CodeLevels
 pub mod CodeReads
+pub mod CodeStatements
+pub mod CodeRows
+pub mod CodeVariables
+pub mod CodeFiles

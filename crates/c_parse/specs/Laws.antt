@@ -1,8 +1,9 @@
 -- Laws of the grammar that any reader of it can rest on.
-use Rattle.std.specs.Prelude.{◌≡◌, ◌⊎◌, List, [], ◌∷◌, ◌++◌, All, None}
+use Rattle.std.specs.Prelude.{◌≡◌, ℕ, ◌⊎◌, List, [], ◌∷◌, ◌++◌, All, None}
 use Rattle.std.specs.List.{AllByRecursion}
 use Rattle.c_lex.specs.declared.token.Token.{Token}
 use Rattle.c_lex.specs.declared.token.TokenKind.TheVariants.{End}
+use Rattle.c_lex.specs.Tokens.{AreTokens}
 use Rattle.c_lex.specs.declared.refusal.Refusal.{Refusal}
 use Rattle.c_tree.specs.Syntax.{File}
 use Rattle.c_parse.specs.Leaves.{over, Spelt}
@@ -28,3 +29,7 @@ EndOnce ts = (front : List Token) × (e : Token) × (ts ≡ front ++ e ∷ []) �
 -- tokens with one end, which is the last, are a file or refused
 abbrev pub EachIsJudged : Type 0
 EachIsJudged = (ts : List Token) → EndOnce ts → ((f : File) × Parses ts f) ⊎ ((r : Refusal) × RefusesTokens ts r)
+
+-- the tokens of a text end once
+abbrev pub TokensEndOnce : Type 0
+TokensEndOnce = (text : List ℕ) (ts : List Token) → AreTokens text ts → EndOnce ts

@@ -3,3 +3,4 @@ pub mod Tokens
 pub mod Reading
 pub mod Moves
 pub mod Starts
+pub mod Parts

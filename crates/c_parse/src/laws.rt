@@ -1,6 +1,6 @@
-//! Laws of the grammar, and worked rows of its definitions, without a function of the code's.
+//! Laws of the grammar, and worked rows of its definitions.
 
-ghost use Rattle.c_parse.specs.Laws.{SpellOneFile, ParseOrRefuse, RefuseOnce, EachIsJudged};
+ghost use Rattle.c_parse.specs.Laws.{SpellOneFile, ParseOrRefuse, RefuseOnce, EachIsJudged, TokensEndOnce};
 ghost use Rattle.c_parse.specs.Rows.{Rows};
 
 /// Tokens within the limits spell one file at most.
@@ -22,6 +22,13 @@ pub fn one_refusal()
 pub fn each_is_judged()
     ensures { EachIsJudged }
 {}
+
+/// The tokens of a text are such as can be parsed: the last of them, and no other, is its end.
+pub fn tokens_end_once()
+    ensures { TokensEndOnce }
+{
+    c_lex::laws::one_end();
+}
 
 /// The tokens of small files, with their levels and counts, and the limits.
 pub fn rows_hold()

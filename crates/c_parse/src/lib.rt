@@ -1,14 +1,22 @@
 //! The grammar of the whole language.
-//! Promises upward: what it is for tokens to be a file, and where they cease to be one, as definitions; joints of readers that keep their laws.
+//! Promises upward: the one file that the tokens of a text are, or the first refusal.
 //! Stands on c_lex's tokens and c_tree's trees.
 #![tactic(auto)]
 
 mod building;
 mod classes;
+mod declarations;
 mod expressions;
+mod files;
 pub mod laws;
 mod parser;
+mod parts;
 mod peeking;
 mod pointers;
 mod reading_tokens;
+mod starts;
+mod statements;
 mod types;
+mod whole;
+
+pub use whole::parse;

@@ -1,10 +1,5 @@
-use Rattle.std.proofs.Common.{◌≡◌, ◌+◌, ◌≤◌, ◌++◌, ◌∷◌, [], length, sym, ◌∙◌, ap, refl, arith}
-use Rattle.c_tree.specs.declared.syntax.Pointer.TheVariants.{Star, Const, Restrict}
-use Rattle.c_parse.specs.Grammar.{stars}
-use Rattle.c_parse.specs.inner.Readers.{choice, pushed}
-use Rattle.c_parse.specs.inner.Tokens.{is_pointer}
-use Rattle.c_parse.specs.inner.Reading.{pointer_start, pointer_by, pointers}
-use Rattle.c_parse.proofs.CodeLoops.{Going, goes}
+use Rattle.std.proofs.Common.{◌+◌, sym, ◌∙◌, ap, arith}
+use Rattle.c_parse.proofs.CodeLoops.{goes}
 use Rattle.c_parse.proofs.CodeLists.{star_pushed, other_pushed}
 use Rattle.c_parse.proofs.parser.Parser.pointers.Goals as goal
 use Rattle.c_parse.proofs.parser.Parser.pointers.Goals.{in-Star, in_default}

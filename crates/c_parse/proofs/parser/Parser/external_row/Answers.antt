@@ -1,0 +1,20 @@
+use Rattle.std.proofs.Common.{◌≡◌, ◌≤◌, [], length, map, arith}
+use Rattle.std.proofs.lemmas.List.{map-append}
+use Rattle.c_parse.specs.inner.Readers.{pushed}
+use Rattle.c_parse.specs.inner.Reading.{begins_external, external}
+use Rattle.c_parse.proofs.CodeLoops.{Going, begins, goes}
+use Rattle.c_parse.proofs.parser.Parser.external_row.Goals as goal
+
+pub externals-init : goal.externals-init
+externals-init c = record {
+  going = rw c.new-all.ensures.items (begins begins_external (λ _. external) pushed [] c.args.self.now.count c.args.self.now.rest.now);
+  keeps = omega arith;
+}
+
+pub externals-preserved : goal.externals-preserved
+externals-preserved c =
+    let open_ = rw c.if-branch.true at c.in_ok-is_external_next.ensures in
+    record {
+      going = rw (c.in_ok-push.ensures.items, map-append) (goes _ _ _ _ _ _ _ _ _ _ c.externals.invariant.going open_ c.in_ok-external.ensures.reads c.in_ok-external.ensures.takes);
+      keeps = omega (arith, c.in_ok-external.ensures.takes, c.externals.invariant.keeps);
+    }

@@ -1,0 +1,16 @@
+use Rattle.std.proofs.Common.{◌≡◌, ◌≤◌, map, length}
+use Rattle.c_tree.specs.SyntaxViews.{external_view}
+use Rattle.c_parse.specs.inner.Readers.{pushed}
+use Rattle.c_parse.specs.inner.Reading.{begins_external, external}
+use Rattle.c_parse.specs.inner.Parts.{external_row}
+use Rattle.c_parse.proofs.CodeLoops.{Going}
+use Rattle.c_parse.proofs.parser.Parser.external_row.Given as goal
+
+abbrev pub invariant-externals : goal.invariant-externals
+invariant-externals l = record {
+  going : Going begins_external (λ _. external) pushed (external_row l.fn.self.count l.fn.self.rest.now) (map external_view l.all.items) l.self.count l.self.rest.now;
+  keeps : length l.self.rest.now ≤ length l.fn.self.rest.now;
+}
+
+abbrev pub decreases-externals : goal.decreases-externals
+decreases-externals l = length l.self.rest.now

@@ -1,0 +1,18 @@
+use Rattle.std.proofs.Common.{◌≡◌, ◌+◌, ◌≤◌, map, length}
+use Rattle.c_lex.specs.declared.token.Mark.TheVariants.{OpenBracket}
+use Rattle.c_tree.specs.SyntaxViews.{param_dim_view}
+use Rattle.c_parse.specs.inner.Readers.{pushed}
+use Rattle.c_parse.specs.inner.Tokens.{is_mark}
+use Rattle.c_parse.specs.inner.Reading.{param_dim}
+use Rattle.c_parse.specs.inner.Parts.{param_dims}
+use Rattle.c_parse.proofs.CodeLoops.{Going}
+use Rattle.c_parse.proofs.parser.Parser.param_dims.Given as goal
+
+abbrev pub invariant-dims : goal.invariant-dims
+invariant-dims l = record {
+  going : Going (is_mark OpenBracket) (λ front. param_dim 127 (l.before + length front)) pushed (param_dims 127 l.before l.fn.self.count l.fn.self.rest.now) (map param_dim_view l.all.items) l.self.count l.self.rest.now;
+  keeps : length l.self.rest.now ≤ length l.fn.self.rest.now;
+}
+
+abbrev pub decreases-dims : goal.decreases-dims
+decreases-dims l = length l.self.rest.now

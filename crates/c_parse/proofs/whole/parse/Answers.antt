@@ -1,0 +1,47 @@
+use Rattle.std.proofs.Common.{◌≡◌, length, Some, None, sym, subst, arith}
+use Rattle.c_lex.specs.declared.token.Token.{Token}
+use Rattle.c_parse.specs.Language.{refusal_of, RefusesTokens}
+use Rattle.c_parse.proofs.CodeFiles.{whole_parses, whole_within, whole_refuses}
+use Rattle.c_parse.proofs.whole.parse.Goals as goal
+
+pub overflow_sub-token : goal.overflow_sub-token
+overflow_sub-token c =
+    let read = rw c.in-Err-Unexpected.field-0-is at c.in-Err-Unexpected.ensures in
+    (whole_within c.args.tokens.now c.requires None c.in-Err-Unexpected.left read).1
+
+pub bounds-tokens-tokens : goal.bounds-tokens-tokens
+bounds-tokens-tokens c =
+    let read = rw c.in-Err-Unexpected.field-0-is at c.in-Err-Unexpected.ensures in
+    let within = whole_within c.args.tokens.now c.requires None c.in-Err-Unexpected.left read in
+    omega (arith, within.0, within.1)
+
+pub overflow_sub-place : goal.overflow_sub-place
+overflow_sub-place c =
+    let read = rw c.in-Err-Over.field-0-is at c.in-Err-Over.ensures in
+    (whole_within c.args.tokens.now c.requires (Some c.in-Err-Over.kind) c.in-Err-Over.left read).1
+
+pub bounds-tokens-tokens-in-Err-Over : goal.bounds-tokens-tokens-in-Err-Over
+bounds-tokens-tokens-in-Err-Over c =
+    let read = rw c.in-Err-Over.field-0-is at c.in-Err-Over.ensures in
+    let within = whole_within c.args.tokens.now c.requires (Some c.in-Err-Over.kind) c.in-Err-Over.left read in
+    omega (arith, within.0, within.1)
+
+pub bounds-tokens-tokens-in-Err-Over-2 : goal.bounds-tokens-tokens-in-Err-Over-2
+bounds-tokens-tokens-in-Err-Over-2 c =
+    let read = rw c.in-Err-Over.field-0-is at c.in-Err-Over.ensures in
+    let within = whole_within c.args.tokens.now c.requires (Some c.in-Err-Over.kind) c.in-Err-Over.left read in
+    omega (arith, within.0, within.1)
+
+pub returns-in-Ok-clause-found : goal.returns-in-Ok-clause-found
+returns-in-Ok-clause-found c = whole_parses c.args.tokens.now _ _ _ c.in-Ok.ensures
+
+pub returns-in-Err-Unexpected-clause-refused : goal.returns-in-Err-Unexpected-clause-refused
+returns-in-Err-Unexpected-clause-refused c =
+    let read = rw c.in-Err-Unexpected.field-0-is at c.in-Err-Unexpected.ensures in
+    let P : Token → Type 0 = λ t. RefusesTokens c.args.tokens.now (record { place = t.from; kind = refusal_of t.kind }) in
+    rw c.refusal_of.ensures (subst P (sym c.index-tokens-tokens.is) (whole_refuses c.args.tokens.now c.requires None c.in-Err-Unexpected.left read c.index-tokens-tokens.result))
+
+pub returns-in-Err-Over-clause-refused : goal.returns-in-Err-Over-clause-refused
+returns-in-Err-Over-clause-refused c =
+    let read = rw c.in-Err-Over.field-0-is at c.in-Err-Over.ensures in
+    whole_refuses c.args.tokens.now c.requires (Some c.in-Err-Over.kind) c.in-Err-Over.left read c.index-tokens-tokens-in-Err-Over.result

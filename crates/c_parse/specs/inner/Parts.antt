@@ -1,0 +1,195 @@
+-- Parts of productions, each of which the code reads by a function of its own, and what it chooses by.
+use Rattle.std.specs.Prelude.{ℕ, ◌+◌, length, List, [], ◌∷◌, Option, Some, None, Err, Bool, true, false, map}
+use Rattle.std.specs.Option.{option_map}
+use Rattle.c_lex.specs.declared.token.Token.{Token}
+use Rattle.c_lex.specs.declared.token.Word.TheVariants as words
+use Rattle.c_lex.specs.declared.token.Mark.TheVariants as marks
+use Rattle.c_tree.specs.declared.syntax.Block.{Block}
+use Rattle.c_tree.specs.declared.syntax.Name.{Name}
+use Rattle.c_tree.specs.declared.syntax.Pointer.{Pointer}
+use Rattle.c_tree.specs.declared.syntax.Storage.{Storage}
+use Rattle.c_tree.specs.Syntax.{Expr, InitDeclarator, Declaration, ParamDim, Param, Simple, before, ForFirst, first_simple, Stmt, declare, empty, break, continue, return, simple, declarator, exprs_of, Rest, function, variables, External, File}
+use Rattle.c_tree.specs.SyntaxViews.{expr_view, simple_view, for_first_view, stmt_view}
+use Rattle.c_parse.specs.declared.statements.ForHead.{ForHead}
+use Rattle.c_parse.specs.declared.starts.TailStart.{TailStart}
+use Rattle.c_parse.specs.declared.starts.TailStart.TheVariants as tails
+use Rattle.c_parse.specs.declared.starts.FirstStart.{FirstStart}
+use Rattle.c_parse.specs.declared.starts.FirstStart.TheVariants as firsts
+use Rattle.c_parse.specs.declared.starts.StmtStart.{StmtStart}
+use Rattle.c_parse.specs.declared.starts.StmtStart.TheVariants as stmts
+use Rattle.c_parse.specs.Grammar.{stars}
+use Rattle.c_parse.specs.inner.Readers.{Reading, stop, got, Reads, ◌>>=◌, nothing, ◌▸◌, ◌&◌, made, full, maybe, links, chain, pushed, row}
+use Rattle.c_parse.specs.inner.Tokens.{tok, mark_is, word_is, mark_place, word_place, name_of, step_of, storage_of, is_mark, is_word, begins_type, begins_expr, begins_simple, is_storage}
+use Rattle.c_parse.specs.inner.Reading.{level_at, commas, either, specs, dims, init_by, bare_pointers, declared, bare_declared, value, initialised, declaration, simple_of, simple_tail, is_step, simply, first, stmt_at, begins_item, is_name, param_dim, param, params, body, named_rest, begins_external, external, file}
+use Rattle.c_parse.specs.inner.Reading as reading
+
+-- ---- declarations
+
+-- [ "=" expr ]
+abbrev pub initialiser : Bool → ℕ → Reads (Option Expr)
+initialiser braces room = maybe (is_mark marks.Assign) (value room (level_at braces room))
+
+-- ptr NAME dims [ "=" expr ], behind specifiers
+abbrev pub first_initialised : Bool → ℕ → ℕ → Reads InitDeclarator
+first_initialised braces room deeper = initialised room (level_at braces room) (bare_declared room deeper (level_at braces deeper))
+
+-- "," ptr NAME dims [ "=" expr ]
+abbrev pub next_initialised : Bool → ℕ → ℕ → Reads InitDeclarator
+next_initialised braces room deeper = made (λ (_, a). a) (tok room (mark_is marks.Comma) & initialised room (level_at braces room) (declared room deeper (level_at braces deeper)))
+
+-- these, behind the ones that were read
+abbrev pub more_initialised : Bool → ℕ → ℕ → List InitDeclarator → Reads (List InitDeclarator)
+more_initialised braces room deeper = links (is_mark marks.Comma) (λ _. next_initialised braces room deeper) pushed
+
+-- specs ptr NAME dims rest, where there is room
+abbrev pub declaration_by : ℕ → ℕ → Reads Declaration
+declaration_by room deeper = made (λ (ss, (ds, _)). record { specs = ss; declarators = ds })
+    (specs false room deeper (level_at false deeper)
+    & commas room (first_initialised false room deeper) (initialised room (level_at false room) (declared room deeper (level_at false deeper)))
+    & tok room (mark_is marks.Semicolon))
+
+-- ---- statements
+
+-- what a simple statement is, by what stands behind its expression
+abbrev pub behind : ℕ → Expr → Reads Simple
+behind room e = made (simple_of e) (simple_tail room (level_at false room) e)
+
+-- a simple statement that begins with an expression
+abbrev pub assigned : ℕ → Reads Simple
+assigned room = full (made (λ (e, t). simple_of e t) ((level_at false room).expr ▸ simple_tail room (level_at false room)))
+
+-- simple, where there is room
+abbrev pub simple_by : ℕ → ℕ → Reads Simple
+simple_by room deeper = either is_step
+    (made (λ ((place, op), e). before place op e) (tok room step_of & full (level_at false deeper).unary))
+    (assigned room)
+
+-- simple ";", first between the brackets of a for
+abbrev pub simple_first_at : ℕ → Reads ForFirst
+simple_first_at room = made (λ (s, _). first_simple s) (simply room & tok room (mark_is marks.Semicolon))
+
+-- [ expr ] ";", second between the brackets of a for
+abbrev pub for_condition : ℕ → Reads (Option Expr)
+for_condition room = made (λ (e, _). e) (maybe begins_expr (full (level_at false room).expr) & tok room (mark_is marks.Semicolon))
+
+-- [ simple ] ")", last in them
+abbrev pub for_step : ℕ → Reads (Option Simple)
+for_step room = made (λ (s, _). s) (maybe begins_simple (simply room) & tok room (mark_is marks.CloseParen))
+
+-- all of them
+abbrev pub for_head : ℕ → Reads (ForFirst × (Option Expr × Option Simple))
+for_head room = made (λ (_, (f, (e, s))). (f, (e, s))) (tok room (mark_is marks.OpenParen) & first room & for_condition room & for_step room)
+
+abbrev pub head_view : ForHead → ForFirst × (Option Expr × Option Simple)
+head_view h = (for_first_view h.first, (option_map expr_view h.condition, option_map simple_view h.step))
+
+-- statements with no statement in them
+abbrev pub empty_at : ℕ → Reads Stmt
+empty_at room = made empty (tok room (mark_place marks.Semicolon))
+
+abbrev pub break_at : ℕ → Reads Stmt
+break_at room = made (λ (place, _). break place) (tok room (word_place words.Break) & tok room (mark_is marks.Semicolon))
+
+abbrev pub continue_at : ℕ → Reads Stmt
+continue_at room = made (λ (place, _). continue place) (tok room (word_place words.Continue) & tok room (mark_is marks.Semicolon))
+
+abbrev pub return_at : ℕ → Reads Stmt
+return_at room = made (λ (place, (e, _)). return place e)
+    (tok room (word_place words.Return) & maybe begins_expr (full (level_at false room).expr) & tok room (mark_is marks.Semicolon))
+
+abbrev pub simple_stmt_at : ℕ → Reads Stmt
+simple_stmt_at room = made (λ (s, _). simple s) (simply room & tok room (mark_is marks.Semicolon))
+
+-- decl | stmt
+abbrev pub item_at : ℕ → Reads Stmt
+item_at room = either begins_type (made declare (declaration room)) (stmt_at room)
+
+-- { decl | stmt }
+abbrev pub item_row : ℕ → Reads (List Stmt)
+item_row room = row begins_item (item_at room)
+
+-- [ "else" stmt ]
+abbrev pub otherwise : ℕ → Reads Stmt → Reads (Option Stmt)
+otherwise room inner = maybe (is_word words.Else) (made (λ (_, t). t) (tok room (word_is words.Else) & inner))
+
+-- the place of the opening brace, and what stands between the braces
+abbrev pub block_view : Block → ℕ × List Stmt
+block_view b = (b.place, map stmt_view b.items.items)
+
+-- ---- what the code chooses by
+
+abbrev pub tail_view : TailStart → reading.TailStart
+tail_view tails.Step = reading.Stepped
+tail_view tails.Assign = reading.Assigned
+tail_view tails.Nothing = reading.Nothing
+
+abbrev pub first_view : FirstStart → reading.FirstStart
+first_view firsts.Declaration = reading.Declared
+first_view firsts.Nothing = reading.Empty
+first_view firsts.Simple = reading.Simply
+
+abbrev pub stmt_start_view : StmtStart → reading.StmtStart
+stmt_start_view stmts.Block = reading.ABlock
+stmt_start_view stmts.Empty = reading.AnEmpty
+stmt_start_view stmts.If = reading.AnIf
+stmt_start_view stmts.While = reading.AWhile
+stmt_start_view stmts.For = reading.AFor
+stmt_start_view stmts.Break = reading.ABreak
+stmt_start_view stmts.Continue = reading.AContinue
+stmt_start_view stmts.Return = reading.AReturn
+stmt_start_view stmts.Simple = reading.ASimple
+
+-- ---- files
+
+-- { "[" [ expr ] "]" }, behind n stars
+unfoldable pub param_dims : ℕ → ℕ → Reads (List ParamDim)
+param_dims deeper n = chain (nothing []) (is_mark marks.OpenBracket) (λ front. param_dim deeper (n + length front)) pushed
+
+-- specs ptr [ NAME ] { "[" [ expr ] "]" }
+abbrev pub param_by : ℕ → ℕ → Reads Param
+param_by room deeper = made (λ (ss, (ps, (n, ds))). record { specs = ss; pointers = ps; name = n; dims = ds })
+    (specs false room deeper (level_at false deeper) & bare_pointers room ▸ λ ps. maybe is_name (tok room name_of) & param_dims deeper (stars 0 ps))
+
+-- "," param
+abbrev pub next_param : Reads Param
+next_param = made (λ (_, a). a) (tok 128 (mark_is marks.Comma) & param 128 127)
+
+-- param { "," param }
+abbrev pub param_row : Reads (List Param)
+param_row = commas 128 (param 128 127) (param 128 127)
+
+-- [ params ]
+abbrev pub maybe_params : Reads (List Param)
+maybe_params = either begins_type param_row (nothing [])
+
+-- dims [ "=" expr ], behind the name
+abbrev pub first_variable : List Pointer → Name → Reads InitDeclarator
+first_variable ps n = made (λ (es, v). init_by (declarator ps n (exprs_of es)) v) (dims 128 (level_at true 128) (stars 0 ps) & initialiser true 129)
+
+-- dims rest, behind the name: the first declarator, and then the rest
+abbrev pub variable_by : List Pointer → Name → Reads Rest
+variable_by ps n = made (λ (_, (ds, _)). variables ds) (first_variable ps n ▸ λ i. more_initialised true 129 128 (i ∷ []) & tok 129 (mark_is marks.Semicolon))
+
+-- "(" [ params ] ")" ( body | ";" ), behind the name
+abbrev pub function_rest : List Pointer → Name → Reads Rest
+function_rest ps n = made (λ (all, b). function ps n all b) (params & body)
+
+-- ptr NAME ( "(" [ params ] ")" ( body | ";" ) | dims rest )
+abbrev pub declared_rest : Reads Rest
+declared_rest = made (λ (_, (_, r)). r) (bare_pointers 129 ▸ λ ps. tok 129 name_of ▸ λ n. named_rest ps n)
+
+-- { "static" | "inline" }
+abbrev pub storage_row : Reads (List Storage)
+storage_row = row is_storage (tok 129 storage_of)
+
+-- { external }
+abbrev pub external_row : Reads (List External)
+external_row = row begins_external external
+
+-- a file, and nothing behind it
+abbrev pub nothing_behind : File → ℕ → List Token → Reading File
+nothing_behind f c [] = got f c []
+nothing_behind f c (t ∷ ts) = Err (stop None (length (t ∷ ts)))
+
+abbrev pub whole_file : Reads File
+whole_file c ts = file c ts >>= λ x. nothing_behind x.tree x.count x.rest

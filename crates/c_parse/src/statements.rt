@@ -1,0 +1,416 @@
+//! Statements (C11 6.8).
+
+ghost use Rattle.std.specs.Prelude.{◌≡◌, ℕ, ◌-◌, ◌<◌, ◌==◌, map, IfOk};
+ghost use Rattle.std.specs.Option.{option_map};
+ghost use Rattle.c_tree.specs.SyntaxViews.{expr_view, simple_view, for_first_view, stmt_view};
+ghost use Rattle.c_parse.specs.Grammar.{rank};
+
+use crate::parser::{Parser, Stop};
+use crate::starts::{FirstStart, StmtStart, TailStart};
+use c_lex::{Mark, Word};
+use c_tree::syntax::{Block, Expr, ForFirst, Simple, Stmt};
+
+/// Whether an expression is a postfix one, behind which alone `++` and `--` may stand (C11 6.5.2).
+fn is_postfix(expr: &Expr) -> bool
+    ensures { result ≡ (rank (expr_view expr.now) == 0) }
+{
+    !matches!(
+        expr,
+        Expr::Prefix { .. }
+            | Expr::SizeofType { .. }
+            | Expr::SizeofExpr { .. }
+            | Expr::Cast { .. }
+            | Expr::Binary { .. }
+            | Expr::Conditional { .. }
+    )
+}
+
+// Simple statements.
+impl Parser<'_> {
+    ghost use Rattle.c_parse.specs.inner.Readers.{full, made, maybe};
+    ghost use Rattle.c_parse.specs.inner.Tokens.{begins_simple};
+    ghost use Rattle.c_parse.specs.inner.Moves.{Moves, Takes, Keeps};
+    ghost use Rattle.c_parse.specs.inner.Reading.{level_at, simply, simple_of, simple_tail, condition, first};
+    ghost use Rattle.c_parse.specs.inner.Parts.{behind, assigned, simple_first_at};
+
+    /// `assign expr | "++" | "--"` behind an expression, or nothing.
+    #[tactic(auto, using(crate::proofs::CodeLoops::chooses, crate::proofs::CodeLoops::choice_fails))]
+    fn behind(&mut self, target: Expr, room: u32) -> Result<Simple, Stop>
+        ensures reads { Moves simple_view (behind room (expr_view target)) self.old self.new result }
+        ensures keeps { Keeps self.old self.new result }
+    {
+        match self.tail_start(is_postfix(&target))? {
+            TailStart::Step => {
+                let (place, op) = self.step_op(room)?;
+                Ok(Simple::After { place, op, target })
+            }
+            TailStart::Assign => {
+                let (place, op) = self.assign_op(room)?;
+                let value = self.expr(room, false)?;
+                Ok(Simple::Assign {
+                    place,
+                    op,
+                    target,
+                    value,
+                })
+            }
+            TailStart::Nothing => Ok(Simple::Eval(target)),
+        }
+    }
+
+    /// `expr [ assign expr ] | postfix ( "++" | "--" )`: one full expression.
+    fn assigned(&mut self, room: u32) -> Result<Simple, Stop>
+        ensures reads { Moves simple_view (assigned room) self.old self.new result }
+        ensures takes { Takes self.old self.new result }
+    {
+        let count = self.count;
+        self.count = 0;
+        let target = self.expr(room, false)?;
+        let simple = self.behind(target, room)?;
+        self.count = count;
+        Ok(simple)
+    }
+
+    /// `simple`
+    #[tactic(auto, using(crate::proofs::CodeLoops::chooses, crate::proofs::CodeLoops::choice_fails, crate::proofs::CodeStatements::simple_at, crate::proofs::CodeStatements::no_simple))]
+    pub fn simply(&mut self, room: u32) -> Result<Simple, Stop>
+        ensures reads { Moves simple_view (simply room) self.old self.new result }
+        ensures takes { Takes self.old self.new result }
+    {
+        if room == 0 {
+            return Err(self.no_room_for_simple());
+        }
+        if !self.is_step_next()? {
+            return self.assigned(room);
+        }
+        let (place, op) = self.step_op(room)?;
+        let target = self.full_unary(room - 1, false)?;
+        Ok(Simple::Before { place, op, target })
+    }
+
+    /// `[ simple ]`
+    #[tactic(auto, using(crate::proofs::CodeLoops::chooses, crate::proofs::CodeLoops::choice_fails))]
+    fn maybe_simple(&mut self, room: u32) -> Result<Option<Simple>, Stop>
+        ensures reads { Moves (option_map simple_view) (maybe begins_simple (simply room)) self.old self.new result }
+        ensures keeps { Keeps self.old self.new result }
+    {
+        if !self.is_simple_next()? {
+            return Ok(None);
+        }
+        let simple = self.simply(room)?;
+        Ok(Some(simple))
+    }
+
+    /// `"(" expr ")"` behind a word.
+    #[tactic(auto, unfolding(crate::specs::inner::Reading::condition))]
+    fn condition(&mut self, room: u32) -> Result<Expr, Stop>
+        ensures reads { Moves expr_view (condition room) self.old self.new result }
+        ensures takes { Takes self.old self.new result }
+    {
+        self.expected(Mark::OpenParen, room)?;
+        let condition = self.full_expr(room, false)?;
+        self.marked(condition, Mark::CloseParen, room)
+    }
+
+    /// `simple ";"`, first between the brackets of a `for`.
+    fn simple_first(&mut self, room: u32) -> Result<ForFirst, Stop>
+        ensures reads { Moves for_first_view (simple_first_at room) self.old self.new result }
+        ensures takes { Takes self.old self.new result }
+    {
+        let simple = self.simply(room)?;
+        let simple = self.marked(simple, Mark::Semicolon, room)?;
+        Ok(ForFirst::Simple(simple))
+    }
+
+    /// `decl | [ simple ] ";"`, first between the brackets of a `for`.
+    #[tactic(auto, unfolding(crate::specs::inner::Reading::first), using(crate::proofs::CodeLoops::chooses, crate::proofs::CodeLoops::choice_fails))]
+    fn first(&mut self, room: u32) -> Result<ForFirst, Stop>
+        ensures reads { Moves for_first_view (first room) self.old self.new result }
+        ensures takes { Takes self.old self.new result }
+    {
+        match self.first_start()? {
+            FirstStart::Declaration => {
+                let declaration = self.declaration(room)?;
+                Ok(ForFirst::Declare(declaration))
+            }
+            FirstStart::Nothing => {
+                self.expected(Mark::Semicolon, room)?;
+                Ok(ForFirst::Nothing)
+            }
+            FirstStart::Simple => self.simple_first(room),
+        }
+    }
+}
+
+/// What stands between the brackets of a `for`.
+#[derive(Drop)]
+struct ForHead {
+    first: ForFirst,
+    condition: Option<Expr>,
+    step: Option<Simple>,
+}
+
+// What stands between the brackets of a `for`.
+impl Parser<'_> {
+    ghost use Rattle.c_parse.specs.inner.Moves.{Moves, Takes};
+    ghost use Rattle.c_parse.specs.inner.Parts.{for_condition, for_step, for_head, head_view};
+
+    /// `[ expr ] ";"`, behind what was read.
+    fn for_condition<T: Drop>(&mut self, before: T, room: u32) -> Result<(T, Option<Expr>), Stop>
+        ensures reads { Moves (λ (_, e). option_map expr_view e) (for_condition room) self.old self.new result }
+        ensures takes { Takes self.old self.new result }
+        ensures same { IfOk result (λ (b, _). b ≡ before) }
+    {
+        let condition = self.maybe_expr(room)?;
+        let condition = self.marked(condition, Mark::Semicolon, room)?;
+        Ok((before, condition))
+    }
+
+    /// `[ simple ] ")"`, behind what was read.
+    fn for_step<T: Drop>(&mut self, before: T, room: u32) -> Result<(T, Option<Simple>), Stop>
+        ensures reads { Moves (λ (_, s). option_map simple_view s) (for_step room) self.old self.new result }
+        ensures takes { Takes self.old self.new result }
+        ensures same { IfOk result (λ (b, _). b ≡ before) }
+    {
+        let step = self.maybe_simple(room)?;
+        let step = self.marked(step, Mark::CloseParen, room)?;
+        Ok((before, step))
+    }
+
+    /// `"(" ( decl | [ simple ] ";" ) [ expr ] ";" [ simple ] ")"`
+    fn for_head(&mut self, room: u32) -> Result<ForHead, Stop>
+        ensures reads { Moves head_view (for_head room) self.old self.new result }
+        ensures takes { Takes self.old self.new result }
+    {
+        self.expected(Mark::OpenParen, room)?;
+        let first = self.first(room)?;
+        let (first, condition) = self.for_condition(first, room)?;
+        let ((first, condition), step) = self.for_step((first, condition), room)?;
+        Ok(ForHead {
+            first,
+            condition,
+            step,
+        })
+    }
+}
+
+// Statements with no statement in them.
+impl Parser<'_> {
+    ghost use Rattle.c_parse.specs.inner.Moves.{Moves, Takes};
+    ghost use Rattle.c_parse.specs.inner.Parts.{empty_at, break_at, continue_at, return_at, simple_stmt_at};
+
+    /// `";"`
+    fn empty(&mut self, room: u32) -> Result<Stmt, Stop>
+        ensures reads { Moves stmt_view (empty_at room) self.old self.new result }
+        ensures takes { Takes self.old self.new result }
+    {
+        let place = self.place_of(Mark::Semicolon, room)?;
+        Ok(Stmt::Empty { place })
+    }
+
+    /// `"break" ";"`
+    fn break_off(&mut self, room: u32) -> Result<Stmt, Stop>
+        ensures reads { Moves stmt_view (break_at room) self.old self.new result }
+        ensures takes { Takes self.old self.new result }
+    {
+        let place = self.place_of_word(Word::Break, room)?;
+        self.expected(Mark::Semicolon, room)?;
+        Ok(Stmt::Break { place })
+    }
+
+    /// `"continue" ";"`
+    fn go_on(&mut self, room: u32) -> Result<Stmt, Stop>
+        ensures reads { Moves stmt_view (continue_at room) self.old self.new result }
+        ensures takes { Takes self.old self.new result }
+    {
+        let place = self.place_of_word(Word::Continue, room)?;
+        self.expected(Mark::Semicolon, room)?;
+        Ok(Stmt::Continue { place })
+    }
+
+    /// `"return" [ expr ] ";"`
+    fn return_back(&mut self, room: u32) -> Result<Stmt, Stop>
+        ensures reads { Moves stmt_view (return_at room) self.old self.new result }
+        ensures takes { Takes self.old self.new result }
+    {
+        let place = self.place_of_word(Word::Return, room)?;
+        let value = self.maybe_expr(room)?;
+        let value = self.marked(value, Mark::Semicolon, room)?;
+        Ok(Stmt::Return { place, value })
+    }
+
+    /// `simple ";"`
+    fn simple_stmt(&mut self, room: u32) -> Result<Stmt, Stop>
+        ensures reads { Moves stmt_view (simple_stmt_at room) self.old self.new result }
+        ensures takes { Takes self.old self.new result }
+    {
+        let simple = self.simply(room)?;
+        let simple = self.marked(simple, Mark::Semicolon, room)?;
+        Ok(Stmt::Simple(simple))
+    }
+}
+
+// Statements with statements in them, which lie one level deeper.
+impl Parser<'_> {
+    ghost use Rattle.c_parse.specs.inner.Moves.{Moves, Takes, Keeps};
+    ghost use Rattle.c_parse.specs.inner.Reading.{items, stmt_at, stmt_by, ABlock, AnIf, AWhile, AFor};
+    ghost use Rattle.c_parse.specs.inner.Parts.{block_view, item_at, item_row, otherwise};
+
+    /// `stmt`
+    #[cycle(statements)]
+    #[tactic(auto, using(crate::proofs::CodeLoops::chooses, crate::proofs::CodeLoops::choice_fails, crate::proofs::CodeStatements::stmt_is, crate::proofs::CodeStatements::no_stmt))]
+    fn stmt(&mut self, room: u32) -> Result<Stmt, Stop>
+        ensures reads { Moves stmt_view (stmt_at room) self.old self.new result }
+        ensures takes { Takes self.old self.new result }
+    {
+        if room == 0 {
+            return Err(self.no_room_for_stmt());
+        }
+        match self.stmt_start()? {
+            StmtStart::Block => self.block_stmt(room),
+            StmtStart::Empty => self.empty(room),
+            StmtStart::If => self.if_stmt(room),
+            StmtStart::While => self.while_stmt(room),
+            StmtStart::For => self.for_stmt(room),
+            StmtStart::Break => self.break_off(room),
+            StmtStart::Continue => self.go_on(room),
+            StmtStart::Return => self.return_back(room),
+            StmtStart::Simple => self.simple_stmt(room),
+        }
+    }
+
+    /// `decl | stmt`
+    #[cycle(statements)]
+    #[tactic(auto, using(crate::proofs::CodeLoops::chooses, crate::proofs::CodeLoops::choice_fails))]
+    fn item(&mut self, room: u32) -> Result<Stmt, Stop>
+        ensures reads { Moves stmt_view (item_at room) self.old self.new result }
+        ensures takes { Takes self.old self.new result }
+    {
+        if !self.is_type_next()? {
+            return self.stmt(room);
+        }
+        let declaration = self.declaration(room)?;
+        Ok(Stmt::Declare(declaration))
+    }
+
+    /// `{ decl | stmt }`
+    #[cycle(statements)]
+    #[tactic(auto, using(crate::proofs::CodeLoops::chooses, crate::proofs::CodeLoops::choice_fails), unfolding(crate::specs::inner::Readers::turns))]
+    fn item_row(&mut self, room: u32) -> Result<Vec<Stmt>, Stop>
+        ensures reads { Moves (λ all. map stmt_view all.items) (item_row room) self.old self.new result }
+        ensures keeps { Keeps self.old self.new result }
+    {
+        let mut all = Vec::new(self.alloc);
+        'items: while self.is_item_next()? {
+            let item = self.item(room)?;
+            all.push(item)?;
+        }
+        Ok(all)
+    }
+
+    /// `body`
+    #[cycle(statements)]
+    #[tactic(auto, unfolding(crate::specs::inner::Reading::items))]
+    pub fn block(&mut self, room: u32) -> Result<Block, Stop>
+        ensures reads { Moves block_view (items room (stmt_at room)) self.old self.new result }
+        ensures takes { Takes self.old self.new result }
+    {
+        let place = self.place_of(Mark::OpenBrace, room)?;
+        let items = self.item_row(room)?;
+        self.expected(Mark::CloseBrace, room)?;
+        Ok(Block { place, items })
+    }
+
+    /// A `body` that is a statement.
+    #[cycle(statements)]
+    fn block_stmt(&mut self, room: u32) -> Result<Stmt, Stop>
+        requires { 0 < room }
+        ensures reads { Moves stmt_view (stmt_by room (room - 1) (stmt_at (room - 1)) ABlock) self.old self.new result }
+        ensures takes { Takes self.old self.new result }
+    {
+        let Block { place, items } = self.block(room - 1)?;
+        Ok(Stmt::Block { place, items })
+    }
+
+    /// A statement in another one.
+    #[cycle(statements)]
+    fn inner(&mut self, room: u32) -> Result<Box<Stmt>, Stop>
+        ensures reads { Moves (λ b. stmt_view b.value) (stmt_at room) self.old self.new result }
+        ensures takes { Takes self.old self.new result }
+    {
+        let stmt = self.stmt(room)?;
+        let inner = Box::new(self.alloc, stmt)?;
+        Ok(inner)
+    }
+
+    /// `[ "else" stmt ]`
+    #[cycle(statements)]
+    #[tactic(auto, using(crate::proofs::CodeLoops::chooses, crate::proofs::CodeLoops::choice_fails))]
+    fn otherwise(&mut self, room: u32) -> Result<Option<Box<Stmt>>, Stop>
+        requires { 0 < room }
+        ensures reads { Moves (option_map (λ b. stmt_view b.value)) (otherwise room (stmt_at (room - 1))) self.old self.new result }
+        ensures keeps { Keeps self.old self.new result }
+    {
+        if !self.is_word_next(Word::Else)? {
+            return Ok(None);
+        }
+        self.expected_word(Word::Else, room)?;
+        let otherwise = self.inner(room - 1)?;
+        Ok(Some(otherwise))
+    }
+
+    /// `"if" "(" expr ")" stmt [ "else" stmt ]`
+    #[cycle(statements)]
+    fn if_stmt(&mut self, room: u32) -> Result<Stmt, Stop>
+        requires { 0 < room }
+        ensures reads { Moves stmt_view (stmt_by room (room - 1) (stmt_at (room - 1)) AnIf) self.old self.new result }
+        ensures takes { Takes self.old self.new result }
+    {
+        let place = self.place_of_word(Word::If, room)?;
+        let condition = self.condition(room - 1)?;
+        let then = self.inner(room - 1)?;
+        let otherwise = self.otherwise(room)?;
+        Ok(Stmt::If {
+            place,
+            condition,
+            then,
+            otherwise,
+        })
+    }
+
+    /// `"while" "(" expr ")" stmt`
+    #[cycle(statements)]
+    fn while_stmt(&mut self, room: u32) -> Result<Stmt, Stop>
+        requires { 0 < room }
+        ensures reads { Moves stmt_view (stmt_by room (room - 1) (stmt_at (room - 1)) AWhile) self.old self.new result }
+        ensures takes { Takes self.old self.new result }
+    {
+        let place = self.place_of_word(Word::While, room)?;
+        let condition = self.condition(room - 1)?;
+        let body = self.inner(room - 1)?;
+        Ok(Stmt::While {
+            place,
+            condition,
+            body,
+        })
+    }
+
+    /// `"for" "(" ( decl | [ simple ] ";" ) [ expr ] ";" [ simple ] ")" stmt`
+    #[cycle(statements)]
+    fn for_stmt(&mut self, room: u32) -> Result<Stmt, Stop>
+        requires { 0 < room }
+        ensures reads { Moves stmt_view (stmt_by room (room - 1) (stmt_at (room - 1)) AFor) self.old self.new result }
+        ensures takes { Takes self.old self.new result }
+    {
+        let place = self.place_of_word(Word::For, room)?;
+        let head = self.for_head(room - 1)?;
+        let body = self.inner(room - 1)?;
+        Ok(Stmt::For {
+            place,
+            first: head.first,
+            condition: head.condition,
+            step: head.step,
+            body,
+        })
+    }
+}
