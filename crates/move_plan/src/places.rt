@@ -1,5 +1,4 @@
 ghost use Rattle.std.specs.Prelude.{◌≡◌, ◌+◌, ◌<◌, ◌≤◌, ◌↔◌, IsTrue};
-ghost use Rattle.std.specs.List.{All};
 ghost use Rattle.std.specs.Vec.{vec_len, vec_capacity};
 ghost use Rattle.sub_heaps.specs.ByPlace.{object_at, with_object};
 ghost use Rattle.move_plan.specs.inner.Spans.{AreSorted, AreInOrder};
