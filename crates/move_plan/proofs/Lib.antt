@@ -1,9 +1,12 @@
+pub mod Clearing
 pub mod Judged
 pub mod Longest
 pub mod Numbered
+pub mod Passing
 pub mod PinSets
 pub mod Plans
 pub mod Rest
+pub mod Spans
 pub mod Sweep
 pub mod Slid
 pub mod Slides

@@ -1,50 +1,57 @@
-ghost use Rattle.std.specs.Prelude.{◌≡◌, ◌+◌, ◌<◌, ◌↔◌, IsTrue, IsSomeAnd, length, take};
+ghost use Rattle.std.specs.Prelude.{◌≡◌, ◌+◌, ◌*◌, ◌<◌, ◌≤◌, ◌⊎◌, ◌↔◌, IsTrue, IsSome, IfSome, IsSomeAnd};
 ghost use Rattle.std.specs.List.{All};
-ghost use Rattle.sub_heaps.specs.ByPlace.{object_at};
-ghost use Rattle.sub_heaps.specs.SubHeaps.{LiesInOne};
+ghost use Rattle.sub_heaps.specs.ByPlace.{end_of, object_at};
+ghost use Rattle.sub_heaps.specs.SubHeaps.{LiesInOne, IsApartFrom, IsSound};
 ghost use Rattle.move_plan.specs.Holding.{is_pinned};
 ghost use Rattle.move_plan.specs.Moving.{AreLegal};
-ghost use Rattle.move_plan.specs.inner.Following.{AreApart, KeepsClearOf, MayFollow, StaysClearOf};
+ghost use Rattle.move_plan.specs.inner.Spans.{AreSorted, AreInOrder, IsClearOf, IsWithin, origins_of, targets_of};
 
 use crate::moves::{Move, Plan};
 use crate::pinned::Pins;
+use crate::places::{are_in_order, span_at};
 use sub_heaps::{Heaps, Object};
 
 /// Whether each move, at its turn, is of an unpinned object of its size that starts at `from`, and ends in
 /// one sub-heap without overlapping another object, and no object is moved twice. It takes time in
-/// proportion to the number of moves times that of moves and objects.
+/// proportion to n log n, of n moves and objects.
 pub fn is_legal(heaps: &Heaps, pins: &Pins, plan: &Plan) -> bool
     ensures { IsTrue result ↔ AreLegal (is_pinned pins.now) heaps.now plan.now.moves }
 {
-    for turn in 0..plan.len() {
-        if !is_allowed(heaps, pins, plan, turn) {
+    if !are_within(heaps, pins, plan.moves()) {
+        return false;
+    }
+    keep_apart(plan) && are_clear(heaps, plan.origins(), plan.targets())
+}
+
+// Whether no two moves are of one object, and none goes where another goes.
+fn keep_apart(plan: &Plan) -> bool
+    ensures { IsTrue result ↔ (AreInOrder 0 (origins_of plan.now.moves) × AreInOrder 0 (targets_of plan.now.moves)) }
+{
+    are_in_order(plan.origins()) && are_in_order(plan.targets())
+}
+
+// Whether each move is of an unpinned object of its size, and ends in one sub-heap.
+fn are_within(heaps: &Heaps, pins: &Pins, moves: &[Move]) -> bool
+    ensures within { IsTrue result ↔ All (IsWithin (is_pinned pins.now) heaps.now) moves.now }
+    ensures sound { IsSound heaps.now }
+{
+    let (count, size) = (heaps.count(), heaps.size());
+    for m in moves {
+        if !is_within(heaps, pins, count, size, *m) {
             return false;
         }
     }
     true
 }
 
-// Whether the move at this turn is legal after those before it, which are.
-fn is_allowed(heaps: &Heaps, pins: &Pins, plan: &Plan, turn: u32) -> bool
-    requires turn { turn < length plan.now.moves }
-    requires legal { AreLegal (is_pinned pins.now) heaps.now (take turn plan.now.moves) }
-    ensures { IsTrue result ↔ AreLegal (is_pinned pins.now) heaps.now (take (turn + 1) plan.now.moves) }
+// Whether a move is of an unpinned object of its size, and ends in one of so many sub-heaps of this size.
+fn is_within(heaps: &Heaps, pins: &Pins, count: u32, size: u32, m: Move) -> bool
+    requires some { 0 < size }
+    requires whole { count * size ≤ 268435456 }
+    requires shape { (count ≡ heaps.now.count) × (size ≡ heaps.now.size) }
+    ensures { IsTrue result ↔ IsWithin (is_pinned pins.now) heaps.now m }
 {
-    let Some(next) = plan.get(turn) else {
-        return false;
-    };
-    may_follow(heaps, pins, &plan.moves()[..turn as usize], next)
-}
-
-// Whether a move may follow earlier ones, told from the sub-heaps as they stood before all.
-fn may_follow(heaps: &Heaps, pins: &Pins, earlier: &[Move], next: Move) -> bool
-    ensures { IsTrue result ↔ MayFollow (is_pinned pins.now) heaps.now earlier.now next }
-{
-    is_of_object(heaps, next)
-        && !pins.has(next.from)
-        && lies_in_one(heaps, next)
-        && keeps_clear_of_moved(earlier, next)
-        && stays_clear_of_others(heaps, earlier, next)
+    is_of_object(heaps, m) && !pins.has(m.from) && lies_in_one(count, size, m)
 }
 
 // Whether an object of the move's size starts where the move does.
@@ -57,50 +64,66 @@ fn is_of_object(heaps: &Heaps, next: Move) -> bool
     }
 }
 
-// Whether the object lies in one sub-heap after the move.
-fn lies_in_one(heaps: &Heaps, next: Move) -> bool
-    ensures { IsTrue result ↔ LiesInOne heaps.now.count heaps.now.size next.size next.to }
+// Whether the object lies in one of so many sub-heaps of this size after the move.
+fn lies_in_one(count: u32, size: u32, next: Move) -> bool
+    requires size { 0 < size }
+    requires whole { count * size ≤ 268435456 }
+    ensures { IsTrue result ↔ LiesInOne count size next.size next.to }
 {
-    let size = heaps.size();
-    next.to < heaps.count() * size && next.size <= size && next.to % size <= size - next.size
+    next.to < count * size && next.size <= size && next.to % size <= size - next.size
 }
 
-// Whether the move is of no object that an earlier one moved, and keeps clear of those.
-fn keeps_clear_of_moved(earlier: &[Move], next: Move) -> bool
-    ensures { IsTrue result ↔ All (KeepsClearOf next) earlier.now }
-{
-    earlier.iter().all(|m| {
-        m.from != next.from && m.to != next.from && are_apart(m.to, m.size, next)
-    })
-}
-
-// Whether the moved object overlaps none of the others that no earlier move took away.
-fn stays_clear_of_others(heaps: &Heaps, earlier: &[Move], next: Move) -> bool
-    ensures { IsTrue result ↔ All (StaysClearOf next earlier.now) heaps.now.objects }
+// Whether the objects keep clear of each target, or are moved away no later than it is reached.
+fn are_clear(heaps: &Heaps, origins: &[Object], targets: &[Object]) -> bool
+    requires sorted { AreSorted 0 origins.now }
+    requires order { AreInOrder 0 targets.now }
+    ensures { IsTrue result ↔ All (λ to. All (IsClearOf origins.now to) heaps.now.objects) targets.now }
 {
     let mut from = 0;
-    while let Some(object) = heaps.next_object(from) {
-        if !stays_clear_of(object, earlier, next) {
-            return false;
+    for target in targets {
+        match pass(heaps, origins, *target, from) {
+            Some(next) => from = next,
+            None => return false,
         }
-        from = object.at + object.size;
     }
     true
 }
 
-// Whether it overlaps this one nowhere, or it is this one, or an earlier move took this one away.
-fn stays_clear_of(object: Object, earlier: &[Move], next: Move) -> bool
-    ensures { IsTrue result ↔ StaysClearOf next earlier.now object }
+// Where the objects all keep clear of a target, or are moved away, the place from which a walk has to go on
+// for what starts above it. Those that start below `start` end at or below the target.
+fn pass(heaps: &Heaps, origins: &[Object], target: Object, start: u32) -> Option<u32>
+    requires sorted { AreSorted 0 origins.now }
+    requires below { All (λ o. (start ≤ o.at) ⊎ (end_of o ≤ target.at)) heaps.now.objects }
+    ensures clear { IsSome result ↔ All (IsClearOf origins.now target) heaps.now.objects }
+    ensures next { IfSome result (λ next. All (λ o. (next ≤ o.at) ⊎ (end_of o ≤ end_of target)) heaps.now.objects) }
 {
-    are_apart(object.at, object.size, next)
-        || object.at == next.from
-        || earlier.iter().any(|m| m.from == object.at)
+    let mut from = start;
+    while let Some(object) = heaps.next_object(from) {
+        if !is_clear_of(origins, target, object) {
+            return None;
+        }
+        let end = object.at + object.size;
+        if u64::from(end) > u64::from(target.at) + u64::from(target.size) {
+            return Some(from);
+        }
+        from = end;
+    }
+    Some(from)
 }
 
-// Whether so many bytes from a place on have none in common with the moved object.
-fn are_apart(at: u32, size: u32, next: Move) -> bool
-    ensures { IsTrue result ↔ AreApart next at size }
+// Whether the object overlaps the target nowhere, or a move takes it away no later than the target is reached.
+fn is_clear_of(origins: &[Object], target: Object, object: Object) -> bool
+    requires { AreSorted 0 origins.now }
+    ensures { IsTrue result ↔ IsClearOf origins.now target object }
 {
-    u64::from(at) + u64::from(size) <= u64::from(next.to)
-        || u64::from(next.to) + u64::from(next.size) <= u64::from(at)
+    are_apart(target, object)
+        || span_at(origins, object.at).is_some_and(|from| from.owner <= target.owner)
+}
+
+// Whether an object has no byte in common with a target.
+fn are_apart(target: Object, object: Object) -> bool
+    ensures { IsTrue result ↔ IsApartFrom target.size target.at object }
+{
+    u64::from(object.at) + u64::from(object.size) <= u64::from(target.at)
+        || u64::from(target.at) + u64::from(target.size) <= u64::from(object.at)
 }

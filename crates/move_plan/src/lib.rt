@@ -6,6 +6,7 @@
 mod legality;
 mod moves;
 mod pinned;
+mod places;
 mod rooms;
 mod sliding;
 

@@ -252,3 +252,71 @@ fn tells_legal_plans(rt: HostRuntime) -> Result<(), Fail> {
     assert_eq!(rt; plan.len(), 0);
     Ok(())
 }
+
+// Places as many objects of 16 bytes as may live, one behind the other.
+fn place_each(heaps: &mut Heaps, objects: u32)
+    requires { heaps.old.most ≡ objects }
+    ensures { heaps.new.most ≡ objects }
+{
+    for _number in 0..objects {
+        if heaps.live().0 < objects {
+            heaps.place(16, 0);
+        }
+    }
+}
+
+// Frees every second one of so many objects of 16 bytes, from the first on.
+fn take_half(heaps: &mut Heaps, objects: u32)
+    ensures { heaps.new.most ≡ heaps.old.most }
+{
+    for number in 0..objects / 2 {
+        take_away(heaps, number.wrapping_mul(32));
+    }
+}
+
+// Forty thousand moves are judged at once: a walk over all earlier ones and all objects at each would take minutes.
+#[test]
+fn judges_many_moves(rt: HostRuntime) -> Result<(), Fail> {
+    let mut heaps = Heaps::new(rt.alloc(), 1, 2_097_152, 80_000)?;
+    place_each(&mut heaps, 80_000);
+    take_half(&mut heaps, 80_000);
+    let pins = Pins::with_room(rt.alloc(), 1)?;
+    let mut plan = Plan::with_room(rt.alloc(), 80_000)?;
+    assert_eq!(rt; heaps.live(), (40_000, 640_000));
+    slide(&heaps, &pins, &mut plan);
+    assert_eq!(rt; plan.len(), 40_000);
+    assert!(rt; is_legal(&heaps, &pins, &plan));
+    make_moves(&mut heaps, &pins, &plan);
+    assert!(rt; !is_legal(&heaps, &pins, &plan));
+    Ok(())
+}
+
+// A move of an object of 16 bytes up by as many.
+fn up(from: u32) -> Move
+    requires { from ≤ 100 }
+{
+    Move {
+        from,
+        to: from + 16,
+        size: 16,
+    }
+}
+
+// Each object goes up to where the one above it stood: that one has to go first.
+#[test]
+fn judges_moves_in_their_order(rt: HostRuntime) -> Result<(), Fail> {
+    let mut heaps = Heaps::new(rt.alloc(), 1, 64, 3)?;
+    place_each(&mut heaps, 3);
+    let pins = Pins::with_room(rt.alloc(), 1)?;
+    let mut plan = Plan::with_room(rt.alloc(), 3)?;
+    plan.push(up(32));
+    plan.push(up(16));
+    plan.push(up(0));
+    assert!(rt; is_legal(&heaps, &pins, &plan));
+    plan.clear();
+    plan.push(up(0));
+    plan.push(up(16));
+    plan.push(up(32));
+    assert!(rt; !is_legal(&heaps, &pins, &plan));
+    Ok(())
+}

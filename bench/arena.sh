@@ -1,0 +1,82 @@
+#!/usr/bin/env bash
+# How fast the arena places and slides: so many objects of 16 to 256 bytes are placed, every second one is freed, and the others slide down.
+# Use: bench/arena.sh      for 10000, 100000 and 1000000 objects: seconds for all places, for the plan, for judging it and for its moves
+# Then MiB a second: of the moves, of their copies alone, and of the C library's memmove on the same bytes, in the same run of this script.
+# It proves and builds the program arena_bench first, and compiles the program of memmove with gcc.
+set -eu
+cd "$(dirname "$0")/../crates/arena_bench"
+rt run >/dev/null 2>&1 || { echo "arena_bench was not proved or not built" >&2; exit 1; }
+work=$(mktemp -d)
+trap 'rm -rf "$work"' EXIT
+
+# The same sizes, places and moves, told again in C.
+cat >"$work/moves.c" <<'C'
+#include <stdint.h>
+#include <stdio.h>
+#include <stdlib.h>
+#include <string.h>
+#include <time.h>
+
+enum { HEAP_BYTES = 16777216, HEAPS = 16 };
+
+struct object { uint32_t at, size, id; };
+
+static int by_place(const void *a, const void *b) {
+  uint32_t x = ((const struct object *)a)->at, y = ((const struct object *)b)->at;
+  return (x > y) - (x < y);
+}
+
+static double now(void) {
+  struct timespec t;
+  clock_gettime(CLOCK_MONOTONIC, &t);
+  return t.tv_sec + t.tv_nsec / 1e9;
+}
+
+int main(int argc, char **argv) {
+  uint32_t objects = argc > 1 ? strtoul(argv[1], 0, 10) : 1000;
+  struct object *all = malloc(sizeof *all * objects);
+  uint32_t *from = malloc(4 * objects), *to = malloc(4 * objects), *size = malloc(4 * objects);
+  char *bytes = malloc((size_t)HEAPS * HEAP_BYTES);
+  if (!all || !from || !to || !size || !bytes) return 1;
+  memset(bytes, 1, (size_t)HEAPS * HEAP_BYTES);
+  uint32_t used[HEAPS] = {0}, seed = 1, below = 0, moves = 0;
+  uint64_t taken = 0;
+  for (uint32_t k = 0; k < objects; k++) {
+    seed = seed * 1103515245u + 12345u;
+    uint32_t n = (seed / 65536 % 241 + 16 + 15) / 16 * 16, heap = 0;
+    while (heap < HEAPS && used[heap] + n > HEAP_BYTES) heap++;
+    if (heap == HEAPS) return 1;
+    all[k] = (struct object){heap * HEAP_BYTES + used[heap], n, k};
+    used[heap] += n;
+  }
+  qsort(all, objects, sizeof *all, by_place);
+  for (uint32_t k = 0; k < objects; k++) {
+    uint32_t at = all[k].at, n = all[k].size, start = at - at % HEAP_BYTES;
+    if (all[k].id % 2 == 0 && all[k].id < objects / 2 * 2) continue;
+    uint32_t slid = start > below ? start : below;
+    below = slid + n;
+    if (slid == at) continue;
+    from[moves] = at, to[moves] = slid, size[moves] = n;
+    moves++, taken += n;
+  }
+  double begin = now();
+  for (uint32_t k = 0; k < moves; k++) memmove(bytes + to[k], bytes + from[k], size[k]);
+  double seconds = now() - begin;
+  uint32_t sum = 0;
+  for (uint32_t k = 0; k < below; k += 4096) sum += bytes[k];
+  fprintf(stderr, "%u\n", sum);
+  printf("%u %llu %.0f\n", moves, (unsigned long long)taken, seconds * 1e6);
+  return 0;
+}
+C
+gcc -O2 -o "$work/moves" "$work/moves.c"
+
+printf '%9s %9s %9s %9s %9s %12s %12s %12s\n' objects places plan judged moves 'moves MiB/s' 'copies MiB/s' memmove
+for objects in 10000 100000 1000000; do
+  out/arena_bench "$objects" >"$work/out" 2>"$work/times"
+  read -r moves taken micros < <("$work/moves" "$objects" 2>/dev/null)
+  grep -qx "$moves moves of $taken bytes, legal: true" "$work/out" || { echo "the two programs don't move the same bytes" >&2; cat "$work/out" >&2; exit 1; }
+  tr -d '\na-z:,' <"$work/times" | awk -v n="$objects" -v b="$taken" -v m="$micros" '
+    function rate(t) { return t > 0 ? b / t * 1e6 / 1048576 : 0 }
+    { printf "%9d %9.3f %9.3f %9.3f %9.3f %12.0f %12.0f %12.0f\n", n, $1 / 1e6, $2 / 1e6, $3 / 1e6, $4 / 1e6, rate($4), rate($5), rate(m) }'
+done
