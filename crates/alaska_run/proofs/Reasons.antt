@@ -1,8 +1,11 @@
 -- A text is a program or is refused, not both, and is refused for one reason: from the laws of its tokens, of the files of the subset that they are, and of what they spell.
-use Rattle.std.proofs.Common.{◌≡◌, ℕ, List, ◌⊎◌, sym, subst, inl, inr}
+use Rattle.std.proofs.Common.{◌≡◌, ℕ, zero, suc, ◌<◌, List, [], ◌∷◌, ◌++◌, length, ◌⊎◌, refl, subst, inl, inr, arith}
+use Rattle.std.specs.Prelude.{All}
+use Rattle.std.specs.List.{AllByRecursion}
 use Rattle.c_lex.specs.declared.token.Token.{Token}
 use Rattle.c_lex.specs.declared.refusal.Refusal.{Refusal}
-use Rattle.c_lex.specs.Tokens.{AreTokens}
+use Rattle.c_lex.specs.declared.token.TokenKind.TheVariants as kinds
+use Rattle.c_lex.specs.Tokens.{end_of, AreTokens}
 use Rattle.c_lex.specs.Refusals.{RefusesText}
 use Rattle.c_lex.specs.Laws as lexed
 use Rattle.c_tree.specs.Syntax as whole
@@ -50,6 +53,17 @@ module _ (only : lexed.OneTokenList) where
   one_reason fault either once apart one text r s (inr a) (inl b) = let t = has_tokens text r a in absurd (either text t.0 s t.1 b)
   one_reason fault either once apart one text r s (inr a) (inr b) = one_there once apart one text r s a b
 
+-- ---- the end of the tokens
+
+all_by_place : {A : Type 0} (P : A → Type 0) (xs : List A) → AllByRecursion P xs → All P xs
+all_by_place P [] a k d lt = absurd (omega (arith, lt))
+all_by_place P (x ∷ xs) a zero d lt = a.0
+all_by_place P (x ∷ xs) a (suc k) d lt = all_by_place P xs a.1 k d (omega (arith, lt))
+
+-- the tokens of a text have one end, as the grammar asks
+pub ended_once : (text : List ℕ) (ts : List Token) → lexed.EndsOnce text ts → read.EndOnce ts
+ended_once text ts e = (e.0, end_of text, e.1, refl, all_by_place (λ (t : Token). t.kind ≡ kinds.End → ⊥) e.0 e.2)
+
 -- ---- each text
 
 -- tokens that are a file of the subset: a program, or refused
@@ -64,9 +78,9 @@ judged_tokens : parsed.EachIsJudged → (text : List ℕ) (ts : List Token) → 
 judged_tokens judged text ts are (inl (tree, is)) = judged_file text ts tree are is (judged text ts are)
 judged_tokens judged text ts are (inr (r, refused)) = inr (r, inr (inl (record { tokens = ts; lexed = are; refused = refused })))
 
-pub each_judged : lexed.EachTextIsRead → read.TokensEndOnce → read.EachIsJudged → parsed.EachIsJudged → EachIsJudged
+pub each_judged : lexed.EachTextIsRead → lexed.OneEnd → read.EachIsJudged → parsed.EachIsJudged → EachIsJudged
 each_judged has ends reads judged text = by (has text)
   where
     by : ((ts : List Token) × AreTokens text ts) ⊎ ((r : Refusal) × RefusesText text r) → InLanguage text ⊎ ((r : Refusal) × Refuses text r)
-    by (inl (ts, are)) = judged_tokens judged text ts are (reads ts (ends text ts are))
+    by (inl (ts, are)) = judged_tokens judged text ts are (reads ts (ended_once text ts (ends text ts are)))
     by (inr (r, fault)) = inr (r, inl fault)

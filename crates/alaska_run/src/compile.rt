@@ -17,8 +17,8 @@ pub fn compile(alloc: Global, text: &[u8]) -> Result<Program, CompileFault>
     ensures placed { IfOk result (λ program. StandInOrder text.now (view program).items) }
     ensures refused { IfRefused result (λ r. Refuses text.now r) }
 {
+    c_lex::laws::one_end();
     let tokens = lex(alloc, text)?;
-    c_parse::laws::tokens_end_once();
     c_parse::parse(alloc, &tokens)?;
     second_language::parse(alloc, text, &tokens)
 }

@@ -21,10 +21,10 @@ pub fn judge_each_text_once()
     c_lex::laws::exclusive();
     c_lex::laws::only();
     c_lex::laws::one_refusal();
+    c_lex::laws::one_end();
     c_parse::laws::exclusive();
     c_parse::laws::one_refusal();
     c_parse::laws::each_is_judged();
-    c_parse::laws::tokens_end_once();
     second_language::laws::judge_once();
 }
 

@@ -2,7 +2,7 @@ use Rattle.alaska_run.proofs.Reasons.{one_program, not_both, one_reason, each_ju
 use Rattle.alaska_run.proofs.laws.judge_each_text_once.Goals as goal
 
 pub returns-clause-either : goal.returns-clause-either
-returns-clause-either c = each_judged c.each_is_read.ensures c.tokens_end_once.ensures c.each_is_judged.ensures c.judge_once.ensures.either
+returns-clause-either c = each_judged c.each_is_read.ensures c.one_end.ensures c.each_is_judged.ensures c.judge_once.ensures.either
 
 pub returns-clause-not_both : goal.returns-clause-not_both
 returns-clause-not_both c = not_both c.only.ensures c.exclusive.ensures c.exclusive-2.ensures c.judge_once.ensures.not_both
