@@ -1,5 +1,5 @@
 -- What the reader of files, and nothing behind, says of tokens.
-use Rattle.std.proofs.Common.{◌≡◌, ℕ, ◌-◌, ◌<◌, ◌≤◌, List, [], ◌∷◌, ◌++◌, length, get_or, Option, Some, None, Result, Ok, Err, refl, sym, ap, subst, ◌∙◌, arith}
+use Rattle.std.proofs.Common.{◌≡◌, ℕ, ◌-◌, ◌<◌, ◌≤◌, List, [], ◌∷◌, length, get_or, Option, Ok, Err, sym, ap, subst, ◌∙◌, arith}
 use Rattle.std.proofs.lemmas.List.{length-append}
 use Rattle.std.proofs.Math.Seq.{get_or-append_seam}
 use Rattle.c_lex.specs.declared.token.Token.{Token}
@@ -7,10 +7,10 @@ use Rattle.c_lex.specs.declared.refusal.Kind.{Kind}
 use Rattle.c_tree.specs.Syntax.{File}
 use Rattle.c_parse.specs.Language.{Parses, RefusesTokens}
 use Rattle.c_parse.specs.Laws.{EndOnce}
-use Rattle.c_parse.specs.inner.Readers.{Fault, stop, Got, Reading, got, ◌>>=◌}
+use Rattle.c_parse.specs.inner.Readers.{Fault, stop, Reading, got, ◌>>=◌}
 use Rattle.c_parse.specs.inner.Reading.{file}
 use Rattle.c_parse.specs.inner.Parts.{nothing_behind, whole_file}
-use Rattle.c_parse.proofs.FileLaws.{nothing_more, file_of}
+use Rattle.c_parse.proofs.FileLaws.{nothing_more}
 use Rattle.c_parse.proofs.Verdicts.{kind_by, refuses}
 use Rattle.c_parse.proofs.GrammarLaws.{refusal_at}
 use Rattle.c_parse.proofs.FileReading.{reads_files, file_parses}

@@ -1,12 +1,11 @@
 -- Variables at file scope, as the code reads them: the first declarator, and then the rest.
-use Rattle.std.proofs.Common.{◌≡◌, ℕ, List, [], ◌∷◌, true}
+use Rattle.std.proofs.Common.{◌≡◌, ℕ, List, true}
 use Rattle.c_lex.specs.declared.token.Token.{Token}
 use Rattle.c_lex.specs.declared.token.Mark.TheVariants.{Comma, Semicolon}
 use Rattle.c_tree.specs.declared.syntax.Name.{Name}
 use Rattle.c_tree.specs.declared.syntax.Pointer.{Pointer}
 use Rattle.c_tree.specs.Syntax.{declarator, variables, exprs_of}
 use Rattle.c_parse.specs.Grammar.{stars}
-use Rattle.c_parse.specs.inner.Readers.{◌▸◌, ◌&◌, made}
 use Rattle.c_parse.specs.inner.Tokens.{tok, mark_is, is_mark}
 use Rattle.c_parse.specs.inner.Reading.{level_at, dims, init_by, variable_rest}
 use Rattle.c_parse.specs.inner.Parts.{initialiser, next_initialised, variable_by}

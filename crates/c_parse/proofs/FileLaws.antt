@@ -1,21 +1,18 @@
 -- The laws of a whole file, of any lawful reader of files: what is read is the one file that is spelled so, and what is refused is refused
 -- at the first token up to which no file begins so, or the first that is over a limit.
-use Rattle.std.proofs.Common.{◌≡◌, ℕ, zero, suc, ◌+◌, ◌<◌, ◌≤◌, List, [], ◌∷◌, ◌++◌, length, Option, Some, None, Result, Ok, Err, refl, sym, ap, subst, ◌∙◌, inl, inr, ◌⊎◌, arith, append_assoc}
-use Rattle.std.proofs.lemmas.List.{length-append, append-nil}
-use Rattle.std.proofs.lemmas.Bool.{cases_lt}
+use Rattle.std.proofs.Common.{◌≡◌, ℕ, zero, suc, ◌+◌, ◌<◌, ◌≤◌, List, [], ◌∷◌, ◌++◌, length, Option, Some, None, Result, Ok, Err, refl, sym, ap, subst, ◌∙◌, inl, inr, ◌⊎◌, arith}
+use Rattle.std.proofs.lemmas.List.{length-append}
 use Rattle.std.specs.List.{AllByRecursion}
 use Rattle.c_lex.specs.declared.token.TokenKind.TheVariants as kinds
 use Rattle.c_lex.specs.declared.token.Token.{Token}
 use Rattle.c_lex.specs.declared.refusal.Kind.{Kind}
-use Rattle.c_lex.specs.declared.refusal.Refusal.{Refusal}
 use Rattle.c_tree.specs.Syntax.{File}
 use Rattle.c_parse.specs.Leaves.{Sign, name_at, int_at, char_at, text_at, word_at, some_word, mark_at, some_mark, the_end, IsSpelt, Leaf, over, Spelt, Begins, BeginsWithin}
 use Rattle.c_parse.specs.Grammar.{leaves, IsFile}
-use Rattle.c_parse.specs.Language.{refusal_of, Parses, BeginsFile, BeginsFileWithin, IsUnexpected, IsOver, RefusesTokens}
-use Rattle.c_parse.specs.inner.Readers.{Fault, stop, spent, Got, Reading, got, Reads, ◌>>=◌}
-use Rattle.c_parse.proofs.Runs.{Within, Met, Over, Stopped, within_shorter}
-use Rattle.c_parse.proofs.Steadiness.{Left, with_behind, Stays}
-use Rattle.c_parse.proofs.Lawful.{Class, Info, Took, Begun, SoundAt, Lawful}
+use Rattle.c_parse.specs.inner.Readers.{Fault, stop, spent, Reading, got, Reads, ◌>>=◌}
+use Rattle.c_parse.proofs.Runs.{Within, Met, Over}
+use Rattle.c_parse.proofs.Steadiness.{Left, Stays}
+use Rattle.c_parse.proofs.Lawful.{Class, Info, Lawful}
 
 -- ---- leaves that tokens spell, with no limit
 

@@ -1,15 +1,15 @@
 -- More joints that keep the laws: the same trees said otherwise, trees whose leaves are asked for more loosely, and one of two parts.
-use Rattle.std.proofs.Common.{◌≡◌, ℕ, List, [], ◌∷◌, Option, Some, None, Result, Ok, Err, Bool, true, false, refl, sym, ap, subst, ◌∙◌, inl, inr, ◌⊎◌}
+use Rattle.std.proofs.Common.{◌≡◌, ℕ, List, Option, Some, Ok, Err, Bool, true, false, refl, sym, ap, subst, ◌∙◌}
 use Rattle.c_lex.specs.declared.token.Token.{Token}
 use Rattle.c_lex.specs.declared.refusal.Kind.{Kind}
 use Rattle.c_parse.specs.Leaves.{Leaf}
-use Rattle.c_parse.specs.inner.Readers.{Fault, stop, spent, Got, Reading, got, Reads, ◌>>=◌, Sort, made}
+use Rattle.c_parse.specs.inner.Readers.{stop, spent, Reading, got, Reads, ◌>>=◌, Sort, made}
 use Rattle.c_parse.specs.inner.Reading.{either_by, either}
-use Rattle.c_parse.proofs.Sorts.{implied, apart, are_apart, inside, is_inside}
+use Rattle.c_parse.proofs.Sorts.{apart, are_apart, inside, is_inside}
 use Rattle.c_parse.proofs.Runs.{Within, Over, Stopped}
 use Rattle.c_parse.proofs.Steadiness.{made_steady}
-use Rattle.c_parse.proofs.Lawful.{Class, Info, Took, Begun, SoundAt, Follows, HeadIn, Headed, Lawful}
-use Rattle.c_parse.proofs.Joints.{narrow, Chosen, chosen}
+use Rattle.c_parse.proofs.Lawful.{Class, Info, SoundAt, Follows, HeadIn, Headed, Lawful}
+use Rattle.c_parse.proofs.Joints.{narrow, chosen}
 
 -- ---- the same trees, said otherwise
 

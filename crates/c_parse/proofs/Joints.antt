@@ -1,15 +1,14 @@
 -- Ways to join readers that keep the five laws: trees made of parts, full expressions, choices, and what lies too deep.
-use Rattle.std.proofs.Common.{◌≡◌, ℕ, suc, List, [], ◌∷◌, ◌++◌, length, Option, Some, None, Result, Ok, Err, Bool, true, false, refl, sym, ap, subst, ◌∙◌, inl, inr, arith}
-use Rattle.std.specs.Prelude.{◌||◌}
+use Rattle.std.proofs.Common.{◌≡◌, ℕ, List, [], ◌∷◌, Option, Some, None, Ok, Err, Bool, true, false, refl, sym, subst, ◌∙◌, inl, inr}
 use Rattle.c_lex.specs.declared.token.Token.{Token}
 use Rattle.c_lex.specs.declared.refusal.Kind.{Kind}
 use Rattle.c_lex.specs.declared.refusal.Kind.TheVariants.{TooDeep}
-use Rattle.c_parse.specs.Leaves.{Sign, IsSpelt, Leaf, over}
-use Rattle.c_parse.specs.inner.Readers.{Fault, stop, spent, Got, Reading, got, Reads, ◌>>=◌, Sort, sort, nothing, made, full, choice_turn, choice, maybe_by, maybe, refused, too_deep}
-use Rattle.c_parse.proofs.Sorts.{apart, are_apart, inside, is_inside}
-use Rattle.c_parse.proofs.Runs.{Within, Met, Over, Stopped, met_none, within_append, within_split, stopped_more, stopped_behind, over_split}
-use Rattle.c_parse.proofs.Steadiness.{Steady, too_deep_steady, nothing_steady, made_steady, full_steady, choice_steady}
-use Rattle.c_parse.proofs.Lawful.{Class, Info, Took, Begun, SoundAt, Sound, Follows, Complete, Limited, sort_of_sign, spelt_sort, HeadIn, Headed, Lawful, none_begun}
+use Rattle.c_parse.specs.Leaves.{IsSpelt, Leaf, over}
+use Rattle.c_parse.specs.inner.Readers.{stop, spent, Reading, got, Reads, ◌>>=◌, Sort, sort, nothing, made, full, choice_turn, choice, refused, too_deep}
+use Rattle.c_parse.proofs.Sorts.{inside, is_inside}
+use Rattle.c_parse.proofs.Runs.{Within, Over}
+use Rattle.c_parse.proofs.Steadiness.{too_deep_steady, nothing_steady, made_steady, full_steady, choice_steady}
+use Rattle.c_parse.proofs.Lawful.{Class, Info, SoundAt, Sound, Follows, sort_of_sign, spelt_sort, HeadIn, Lawful, none_begun}
 
 -- ---- the trees that the parts make
 

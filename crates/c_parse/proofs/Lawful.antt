@@ -1,15 +1,13 @@
 -- The five laws of a reader together, and ways to join readers that keep them.
-use Rattle.std.proofs.Common.{◌≡◌, ℕ, suc, ◌<◌, ◌≤◌, List, [], ◌∷◌, ◌++◌, length, Option, Some, None, Result, Ok, Err, Bool, true, false, refl, sym, ap, subst, ◌∙◌, inl, inr, arith, not}
+use Rattle.std.proofs.Common.{◌≡◌, ℕ, List, [], ◌∷◌, ◌++◌, length, Option, Some, None, Ok, Err, Bool, true, false, refl, sym, ap, subst, ◌∙◌, inl, inr}
 use Rattle.std.specs.Prelude.{◌&&◌, ◌||◌}
 use Rattle.c_lex.specs.declared.token.Token.{Token}
-use Rattle.c_lex.specs.declared.token.TokenKind.{TokenKind}
 use Rattle.c_lex.specs.declared.refusal.Kind.{Kind}
-use Rattle.c_lex.specs.declared.refusal.Kind.TheVariants.{TooDeep}
 use Rattle.c_parse.specs.Leaves.{Sign, name_at, int_at, char_at, text_at, word_at, some_word, mark_at, some_mark, the_end, IsSpelt, Count, Leaf, over}
-use Rattle.c_parse.specs.inner.Readers.{Fault, stop, spent, Got, Reading, got, Reads, ◌>>=◌, Sort, a_name, an_int, a_char, a_text, a_word, a_mark, an_end, sort_of_kind, sort, allowed, take_turn, take, nothing, ◌▸◌, made, full, choice_turn, choice, maybe_by, maybe, refused, too_deep}
-use Rattle.c_parse.proofs.Sorts.{apart, are_apart, inside, is_inside}
-use Rattle.c_parse.proofs.Runs.{Within, Met, Over, Stopped, met_none, within_append, within_split, stopped_more, stopped_behind, over_split}
-use Rattle.c_parse.proofs.Steadiness.{Steady, take_steady, too_deep_steady, nothing_steady, both_steady, made_steady, full_steady, choice_steady}
+use Rattle.c_parse.specs.inner.Readers.{stop, spent, Got, Reading, got, Reads, ◌>>=◌, Sort, a_name, an_int, a_char, a_text, a_word, a_mark, an_end, sort_of_kind, sort, allowed, take_turn, take, ◌▸◌}
+use Rattle.c_parse.proofs.Sorts.{apart, are_apart}
+use Rattle.c_parse.proofs.Runs.{Within, Over, Stopped, met_none, within_append, within_split, stopped_more, stopped_behind, over_split}
+use Rattle.c_parse.proofs.Steadiness.{Steady, take_steady, both_steady}
 
 -- ---- the trees of a part of the grammar, of which there is one at least
 

@@ -1,17 +1,17 @@
 -- Loops keep the five laws: a part and links behind it, rows, and parts that may be left out.
-use Rattle.std.proofs.Common.{◌≡◌, ℕ, zero, suc, ◌+◌, ◌<◌, ◌≤◌, List, [], ◌∷◌, ◌++◌, length, Option, Some, None, Result, Ok, Err, Bool, true, false, refl, sym, ap, subst, ◌∙◌, inl, inr, arith, append_assoc}
+use Rattle.std.proofs.Common.{◌≡◌, ℕ, zero, suc, ◌<◌, List, [], ◌∷◌, ◌++◌, length, Option, Some, None, Ok, Err, Bool, true, false, refl, sym, ap, subst, ◌∙◌, inl, inr, arith, append_assoc}
 use Rattle.std.proofs.lemmas.List.{append-nil}
-use Rattle.std.specs.Prelude.{◌||◌, ◌&&◌}
+use Rattle.std.specs.Prelude.{◌||◌}
 use Rattle.std.specs.List.{AllByRecursion}
 use Rattle.c_lex.specs.declared.token.Token.{Token}
 use Rattle.c_lex.specs.declared.refusal.Kind.{Kind}
-use Rattle.c_parse.specs.Leaves.{Leaf, over}
-use Rattle.c_parse.specs.inner.Readers.{Fault, stop, spent, Got, Reading, got, Reads, ◌>>=◌, Sort, sort, nothing, made, choice, maybe_by, maybe, Turn, again, last, turn_next, turns, repeat, link_by, link_turn, links, chain, pushed, row, row_from}
+use Rattle.c_parse.specs.Leaves.{Leaf}
+use Rattle.c_parse.specs.inner.Readers.{stop, spent, Got, Reading, got, Reads, ◌>>=◌, Sort, sort, nothing, made, maybe_by, maybe, Turn, again, last, turn_next, turns, link_by, link_turn, links, chain, pushed, row, row_from}
 use Rattle.c_parse.proofs.Sorts.{apart, are_apart, inside, is_inside}
-use Rattle.c_parse.proofs.Runs.{Within, Met, Over, Stopped, met_none, within_append, within_split, within_shorter, stopped_more, stopped_behind, over_split}
-use Rattle.c_parse.proofs.Steadiness.{Steady, Takes, nothing_steady, made_steady, chain_steady, link_turn_advances, repeat_goes, repeat_ends, repeat_fails}
-use Rattle.c_parse.proofs.Lawful.{Class, Info, Took, Begun, SoundAt, Sound, Follows, Complete, Limited, sort_of_sign, spelt_sort, HeadIn, Headed, Lawful, none_begun, if_empty}
-use Rattle.c_parse.proofs.Joints.{narrow, empty_info, nothing_lawful, Makes, tree, Chosen, chosen}
+use Rattle.c_parse.proofs.Runs.{Within, Met, Over, within_append, within_split, within_shorter, stopped_behind, over_split}
+use Rattle.c_parse.proofs.Steadiness.{Takes, chain_steady, link_turn_advances, repeat_goes, repeat_ends, repeat_fails}
+use Rattle.c_parse.proofs.Lawful.{Class, Info, Took, Begun, SoundAt, Follows, sort_of_sign, spelt_sort, HeadIn, Headed, Lawful, if_empty}
+use Rattle.c_parse.proofs.Joints.{narrow, empty_info, nothing_lawful, Makes, tree, chosen}
 
 -- ---- the links behind a tree
 

@@ -1,10 +1,10 @@
 -- More tokens behind change nothing but the rest: for each way to join readers.
-use Rattle.std.proofs.Common.{◌≡◌, ℕ, zero, suc, ◌+◌, ◌<◌, ◌≤◌, List, [], ◌∷◌, ◌++◌, length, Option, Some, None, Result, Ok, Err, Bool, true, false, refl, sym, ap, subst, ◌∙◌, arith}
+use Rattle.std.proofs.Common.{◌≡◌, ℕ, zero, suc, ◌+◌, ◌<◌, ◌≤◌, List, [], ◌∷◌, ◌++◌, length, Option, Some, None, Ok, Err, Bool, true, false, refl, sym, ap, ◌∙◌, arith}
 use Rattle.std.proofs.lemmas.List.{length-append}
 use Rattle.c_lex.specs.declared.token.Token.{Token}
 use Rattle.c_lex.specs.declared.refusal.Kind.{Kind}
 use Rattle.c_lex.specs.declared.refusal.Kind.TheVariants.{TooDeep}
-use Rattle.c_parse.specs.inner.Readers.{Fault, stop, spent, Got, Reading, got, Reads, ◌>>=◌, Sort, sort, allowed, take_turn, take, nothing, ◌▸◌, ◌&◌, made, full, choice_turn, choice, maybe_by, maybe, refused, too_deep, Turn, again, last, turn_next, turns, repeat, link_by, link_turn, links, chain, pushed, row, row_from}
+use Rattle.c_parse.specs.inner.Readers.{Fault, stop, spent, Got, Reading, got, Reads, ◌>>=◌, Sort, sort, allowed, take_turn, take, nothing, ◌▸◌, made, full, choice_turn, choice, maybe_by, maybe, refused, too_deep, Turn, again, last, turn_next, turns, repeat, link_by, link_turn, links, chain}
 
 -- no more than m tokens are left, and the turns of no loop are spent
 abbrev pub Left : {A : Type 0} → ℕ → Reading A → Type 0

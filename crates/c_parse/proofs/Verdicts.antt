@@ -5,16 +5,15 @@ use Rattle.std.proofs.lemmas.Bool.{cases_lt}
 use Rattle.c_lex.specs.declared.token.TokenKind.TheVariants as kinds
 use Rattle.c_lex.specs.declared.token.Token.{Token}
 use Rattle.c_lex.specs.declared.refusal.Kind.{Kind}
-use Rattle.c_lex.specs.declared.refusal.Refusal.{Refusal}
 use Rattle.c_tree.specs.Syntax.{File}
 use Rattle.c_parse.specs.Leaves.{Leaf, Spelt, Begins, BeginsWithin}
 use Rattle.c_parse.specs.Grammar.{leaves, IsFile}
-use Rattle.c_parse.specs.Language.{refusal_of, Parses, BeginsFile, BeginsFileWithin, IsUnexpected, IsOver, RefusesTokens}
+use Rattle.c_parse.specs.Language.{refusal_of, Parses, BeginsFile, BeginsFileWithin, IsUnexpected, IsOver}
 use Rattle.c_parse.specs.inner.Readers.{Fault, stop, spent, Got, Reading, got, Reads, ◌>>=◌}
 use Rattle.c_parse.proofs.Runs.{Within, Met, Over, Stopped, within_shorter}
-use Rattle.c_parse.proofs.Steadiness.{Left, Stays, rest_of}
-use Rattle.c_parse.proofs.Lawful.{Took, Begun, SoundAt, Lawful}
-use Rattle.c_parse.proofs.FileLaws.{Outcome, spelt_outcome, within_spelt, within_all, spelt_within, met_begins, within_begins, over_begins_within, over_begins, begins_more, complete, complete_within, Cut, over_cut, over_join, file_class, nothing_more, file_of, ReadsFiles, read_on, spelt_read, stuck}
+use Rattle.c_parse.proofs.Steadiness.{Left, rest_of}
+use Rattle.c_parse.proofs.Lawful.{Took, Begun, SoundAt}
+use Rattle.c_parse.proofs.FileLaws.{spelt_outcome, within_spelt, within_all, met_begins, within_begins, over_begins_within, over_begins, begins_more, complete, complete_within, over_cut, file_class, nothing_more, file_of, ReadsFiles, read_on, spelt_read, stuck}
 
 -- ---- lists of tokens, cut
 

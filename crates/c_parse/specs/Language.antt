@@ -1,5 +1,5 @@
 -- What it is for tokens to be a file of the language, and where they cease to be one.
-use Rattle.std.specs.Prelude.{◌≡◌, ℕ, ◌+◌, ◌⊎◌, List, [], ◌∷◌, ◌++◌, take, slice_get, Some, None}
+use Rattle.std.specs.Prelude.{◌≡◌, ◌⊎◌, List, [], ◌∷◌, ◌++◌, Some, None}
 use Rattle.std.specs.List.{AllByRecursion}
 use Rattle.c_lex.specs.declared.token.Word.{Word}
 use Rattle.c_lex.specs.declared.token.Word.TheVariants as words
@@ -11,7 +11,7 @@ use Rattle.c_lex.specs.declared.refusal.Refusal.{Refusal}
 use Rattle.c_lex.specs.declared.refusal.Kind.{Kind}
 use Rattle.c_lex.specs.declared.refusal.Kind.TheVariants.{UnexpectedToken, OutsideSubset}
 use Rattle.c_tree.specs.Syntax.{File}
-use Rattle.c_parse.specs.Leaves.{IsSpelt, Leaf, over, Spelt, Begins, BeginsWithin}
+use Rattle.c_parse.specs.Leaves.{Leaf, over, Spelt, Begins, BeginsWithin}
 use Rattle.c_parse.specs.Grammar.{leaves, IsFile}
 
 -- ---- features that are left out

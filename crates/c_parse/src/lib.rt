@@ -20,3 +20,6 @@ mod types;
 mod whole;
 
 pub use whole::parse;
+
+#[cfg(test)]
+mod tests;

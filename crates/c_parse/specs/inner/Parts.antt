@@ -1,5 +1,5 @@
 -- Parts of productions, each of which the code reads by a function of its own, and what it chooses by.
-use Rattle.std.specs.Prelude.{ℕ, ◌+◌, length, List, [], ◌∷◌, Option, Some, None, Err, Bool, true, false, map}
+use Rattle.std.specs.Prelude.{ℕ, ◌+◌, length, List, [], ◌∷◌, Option, None, Err, Bool, true, false, map}
 use Rattle.std.specs.Option.{option_map}
 use Rattle.c_lex.specs.declared.token.Token.{Token}
 use Rattle.c_lex.specs.declared.token.Word.TheVariants as words

@@ -1,7 +1,6 @@
 -- The grammar's productions as readers. Each is of a level with so much room: the level is 129 less the room.
-use Rattle.std.specs.Prelude.{ℕ, zero, suc, ◌+◌, ◌||◌, List, [], ◌∷◌, length, Option, Some, None, Result, Ok, Err, Bool, true, false, ◌==◌}
+use Rattle.std.specs.Prelude.{ℕ, zero, suc, ◌+◌, ◌||◌, List, [], ◌∷◌, length, Option, Some, None, Bool, true, false, ◌==◌}
 use denote.Enum.Bare.{sameb}
-use Rattle.c_lex.specs.declared.token.Token.{Token}
 use Rattle.c_lex.specs.declared.token.Word.TheVariants as words
 use Rattle.c_lex.specs.declared.token.Mark.TheVariants as marks
 use Rattle.c_lex.specs.contracts.token.Word.{the_type as word_type}
@@ -15,7 +14,7 @@ use Rattle.c_tree.specs.declared.syntax.AssignOp.{AssignOp}
 use Rattle.c_tree.specs.Syntax.{Expr, name, call, int, char, text, null, group, prefix, sizeof_type, sizeof_expr, cast, index, member, arrow, binary, conditional, TypeName, type_name, Spec, word, struct, struct_body, Member, members_of, Declarator, declarator, InitDeclarator, Declaration, ParamDim, Param, Simple, before, after, assign, eval, ForFirst, first_declare, first_simple, first_nothing, Stmt, block, declare, empty, if_then, if_else, while, for, break, continue, return, simple, Body, Rest, function, variables, External, File, exprs_of, specs_of, members_row, declarators_of, stmts_of}
 use Rattle.c_tree.specs.Syntax as trees
 use Rattle.c_parse.specs.Grammar.{stars, rank}
-use Rattle.c_parse.specs.inner.Readers.{Fault, stop, Got, got, Reads, ◌>>=◌, Sort, a_name, an_int, a_char, a_text, a_word, a_mark, nothing, ◌▸◌, ◌&◌, made, full, choice, maybe, too_deep, chain, pushed, row, row_from}
+use Rattle.c_parse.specs.inner.Readers.{Reads, Sort, a_name, an_int, a_char, a_text, a_word, a_mark, nothing, ◌▸◌, ◌&◌, made, full, choice, maybe, too_deep, chain, pushed, row, row_from}
 use Rattle.c_parse.specs.inner.Tokens.{tok, counted_tok, derived_tok, name_of, int_of, char_of, text_of, word_is, mark_is, word_place, mark_place, prefix_of, prefix_of_mark, step_of, step_of_mark, assign_of, assign_of_mark, binary_of, type_word_of, type_of_word, storage_of, end_of, is_some, is_mark, is_word, is_text, is_binary, begins_type, begins_expr, begins_simple, is_storage, is_pointer}
 
 -- ---- what a level offers to the one before it

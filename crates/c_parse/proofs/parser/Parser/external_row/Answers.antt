@@ -1,8 +1,8 @@
-use Rattle.std.proofs.Common.{◌≡◌, ◌≤◌, [], length, map, arith}
+use Rattle.std.proofs.Common.{[], arith}
 use Rattle.std.proofs.lemmas.List.{map-append}
 use Rattle.c_parse.specs.inner.Readers.{pushed}
 use Rattle.c_parse.specs.inner.Reading.{begins_external, external}
-use Rattle.c_parse.proofs.CodeLoops.{Going, begins, goes}
+use Rattle.c_parse.proofs.CodeLoops.{begins, goes}
 use Rattle.c_parse.proofs.parser.Parser.external_row.Goals as goal
 
 pub externals-init : goal.externals-init

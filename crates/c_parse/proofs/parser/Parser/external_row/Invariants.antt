@@ -1,4 +1,4 @@
-use Rattle.std.proofs.Common.{◌≡◌, ◌≤◌, map, length}
+use Rattle.std.proofs.Common.{◌≤◌, map, length}
 use Rattle.c_tree.specs.SyntaxViews.{external_view}
 use Rattle.c_parse.specs.inner.Readers.{pushed}
 use Rattle.c_parse.specs.inner.Reading.{begins_external, external}

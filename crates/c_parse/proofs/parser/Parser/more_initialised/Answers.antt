@@ -1,6 +1,6 @@
-use Rattle.std.proofs.Common.{◌≡◌, ◌-◌, ◌≤◌, length, map, arith}
+use Rattle.std.proofs.Common.{arith}
 use Rattle.std.proofs.lemmas.List.{map-append}
-use Rattle.c_parse.proofs.CodeLoops.{Going, goes, ends, end_stops, link_stops}
+use Rattle.c_parse.proofs.CodeLoops.{goes}
 use Rattle.c_parse.proofs.parser.Parser.more_initialised.Goals as goal
 
 pub declarators-preserved : goal.declarators-preserved

@@ -1,7 +1,7 @@
-use Rattle.std.proofs.Common.{◌≡◌, ◌≤◌, length, map, vec_len, arith}
+use Rattle.std.proofs.Common.{◌≡◌, length, map, vec_len, arith}
 use Rattle.std.proofs.lemmas.List.{map-append, length-map}
 use Rattle.c_tree.specs.SyntaxViews.{param_dim_view}
-use Rattle.c_parse.proofs.CodeLoops.{Going, goes}
+use Rattle.c_parse.proofs.CodeLoops.{goes}
 use Rattle.c_parse.proofs.parser.Parser.param_dims.Goals as goal
 
 pub dims-preserved : goal.dims-preserved

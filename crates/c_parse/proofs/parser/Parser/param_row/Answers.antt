@@ -1,6 +1,6 @@
-use Rattle.std.proofs.Common.{◌≡◌, ◌<◌, length, map, arith}
+use Rattle.std.proofs.Common.{arith}
 use Rattle.std.proofs.lemmas.List.{map-append}
-use Rattle.c_parse.proofs.CodeLoops.{Going, goes}
+use Rattle.c_parse.proofs.CodeLoops.{goes}
 use Rattle.c_parse.proofs.parser.Parser.param_row.Goals as goal
 
 pub params-preserved : goal.params-preserved

@@ -1,4 +1,4 @@
-use Rattle.std.proofs.Common.{◌≡◌, ◌<◌, map, length}
+use Rattle.std.proofs.Common.{◌<◌, map, length}
 use Rattle.c_lex.specs.declared.token.Mark.TheVariants.{Comma}
 use Rattle.c_tree.specs.SyntaxViews.{param_view}
 use Rattle.c_parse.specs.inner.Readers.{pushed}

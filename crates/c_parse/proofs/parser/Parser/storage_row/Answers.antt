@@ -1,5 +1,5 @@
-use Rattle.std.proofs.Common.{◌≡◌, ◌≤◌, length, arith}
-use Rattle.c_parse.proofs.CodeLoops.{Going, goes}
+use Rattle.std.proofs.Common.{arith}
+use Rattle.c_parse.proofs.CodeLoops.{goes}
 use Rattle.c_parse.proofs.parser.Parser.storage_row.Goals as goal
 
 pub storages-preserved : goal.storages-preserved

@@ -1,4 +1,4 @@
-use Rattle.std.proofs.Common.{◌≡◌, ◌≤◌, length}
+use Rattle.std.proofs.Common.{◌≤◌, length}
 use Rattle.c_parse.specs.inner.Readers.{pushed}
 use Rattle.c_parse.specs.inner.Tokens.{tok, storage_of, is_storage}
 use Rattle.c_parse.specs.inner.Parts.{storage_row}

@@ -1,0 +1,6 @@
+use Rattle.c_parse.proofs.tests.program_of.Goals as goal
+
+pub parse-requires : goal.parse-requires
+parse-requires c =
+    let once = c.tokens_end_once.ensures c.args.text.now c.in_ok-tokens.tokens.items c.in_ok-tokens.ensures.found in
+    rw c.deref.ensures.value once
