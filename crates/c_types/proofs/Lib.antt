@@ -15,5 +15,8 @@ pub mod StatedWell
 pub mod WalkedWell
 pub mod RenumberedWell
 pub mod FunctionWell
+pub mod ParamsWell
 pub mod GlobalsWell
 pub mod HeadsWell
+pub mod FilesWell
+pub mod WellFormed

@@ -4,6 +4,7 @@ use Rattle.std.specs.List.{AllByRecursion}
 use Rattle.c_lex.specs.declared.refusal.Refusal.{Refusal}
 use Rattle.c_tree.specs.Syntax as source
 use Rattle.c_tree.specs.Typed.{Typed}
+use Rattle.c_tree.specs.TypedForm.{IsWellFormed}
 use Rattle.c_types.specs.Faults.{typed, faults, first, comes_before}
 use Rattle.c_types.specs.Programs.{judged_file}
 
@@ -47,3 +48,7 @@ IsBodyWritten rest = Unit {0}
 
 abbrev pub IsFileWritten : source.File → Type 0
 IsFileWritten f = AllByRecursion (λ (x : source.External). IsBodyWritten x.rest) f.externals
+
+-- the typed tree that a program has is well formed
+abbrev pub GivesWellFormed : Type 0
+GivesWellFormed = (text : List ℕ) (f : source.File) (t : Typed) → IsFileWritten f → judged_file text f ≡ typed t → IsWellFormed t
