@@ -4,6 +4,7 @@ use Rattle.std.specs.List.{AllByRecursion}
 use Rattle.c_lex.specs.declared.refusal.Refusal.{Refusal}
 use Rattle.c_tree.specs.Syntax as source
 use Rattle.c_tree.specs.Typed.{Typed}
+use Rattle.c_tree.specs.TypedForm.{IsWellFormed}
 use Rattle.c_types.specs.Faults.{typed, faults, first, comes_before}
 use Rattle.c_types.specs.Programs.{judged_file}
 
@@ -21,3 +22,33 @@ abbrev pub TypedOrRefused : Type 0
 TypedOrRefused = (text : List ℕ) (f : source.File) →
     ((t : Typed) × (judged_file text f ≡ typed t) × (faults (judged_file text f) ≡ [])) ⊎
     ((r : Refusal) × (first (judged_file text f) ≡ Some r) × (faults (judged_file text f) ≢ []))
+
+-- ---- as the grammar has it: no declaration stands under an if or a loop (6.8.4, 6.8.5)
+
+abbrev pub IsAlone : source.Stmt → Type 0
+IsAlone (source.declare d) = ⊥
+IsAlone s = Unit {0}
+
+abbrev mutual
+  pub IsWritten : source.Stmt → Type 0
+  IsWritten (source.block place items) = AreWritten items
+  IsWritten (source.if_then place e s) = IsAlone s × IsWritten s
+  IsWritten (source.if_else place e s t) = IsAlone s × IsWritten s × IsAlone t × IsWritten t
+  IsWritten (source.while place e s) = IsAlone s × IsWritten s
+  IsWritten (source.for place first e step s) = IsAlone s × IsWritten s
+  IsWritten s = Unit {0}
+
+  pub AreWritten : source.Stmts → Type 0
+  AreWritten source.no_stmts = Unit {0}
+  AreWritten (source.more_stmts s rest) = IsWritten s × AreWritten rest
+
+abbrev pub IsBodyWritten : source.Rest → Type 0
+IsBodyWritten (source.function pointers n params (Some body)) = AreWritten (source.stmts_of body.items)
+IsBodyWritten rest = Unit {0}
+
+abbrev pub IsFileWritten : source.File → Type 0
+IsFileWritten f = AllByRecursion (λ (x : source.External). IsBodyWritten x.rest) f.externals
+
+-- the typed tree that a program has is well formed
+abbrev pub GivesWellFormed : Type 0
+GivesWellFormed = (text : List ℕ) (f : source.File) (t : Typed) → IsFileWritten f → judged_file text f ≡ typed t → IsWellFormed t

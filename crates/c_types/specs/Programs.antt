@@ -16,11 +16,11 @@ use Rattle.c_tree.specs.Typed.{Ty, void, integer, pointer, structure, mutex, Ini
 use Rattle.c_tree.specs.Typed as trees
 use Rattle.c_tree.specs.TypedLayout.{size_in}
 use Rattle.c_types.specs.Faults.{Judged, typed, faulty, refuse, unless, both, mapped, ◌>>=◌}
-use Rattle.c_types.specs.Types.{same_int, same_type, same_types, is_void, is_struct_or_mutex, has_size, is_small, behind_pointers, arrays_of}
+use Rattle.c_types.specs.Types.{same_int, same_type, same_types, is_void, is_struct_or_mutex, has_size, behind_pointers, arrays_of}
 use Rattle.c_types.specs.Scope.{Meaning, global_name, function_name, Context, at_start, bytes_of, library, fresh, declared, inside, back_to, within, taken, fits_plain}
 use Rattle.c_types.specs.Rules.{is_zero}
 use Rattle.c_types.specs.Constants.{constant_value}
-use Rattle.c_types.specs.Judgement.{Judging, lone, in_turn, ruled, valued, judged, judged_specs, place_of_specs, dimension, object_declared}
+use Rattle.c_types.specs.Judgement.{Judging, lone, in_turn, ruled, valued, judged, judged_specs, place_of_specs, dimension, object_type, object_declared}
 use Rattle.c_types.specs.Statements.{or_int, most_locals, with_local, judged_declarator, name_of, stmts_of, judged_stmts}
 use Rattle.c_types.specs.Numbering.{Param, func_of}
 
@@ -104,12 +104,10 @@ abbrev pub judged_sizes : (outermost : Bool) → List source.ParamDim → Judgin
 judged_sizes outermost [] c = (typed [], c)
 judged_sizes outermost (d ∷ ds) c = ruled (in_turn (judged_size outermost d d.size) (judged_sizes false ds)) (λ x p. typed (p.0 ∷ p.1)) c
 
--- an array becomes a pointer to its elements, which are not judged but for their size (6.7.6.3 p7)
+-- an array becomes a pointer to its elements, which have a size (6.7.6.3 p7, 6.7.6.2 p1)
 abbrev pub adjusted : Context → (place : ℕ) → Ty → List (Option ℕ) → Judged Ty
 adjusted c place t [] = typed t
-adjusted c place t (outermost ∷ inner) =
-    let element = arrays_of t (known inner) in
-    unless place BadSize (is_small c.structs element) >>= λ u. typed (pointer element)
+adjusted c place t (outermost ∷ inner) = object_type c place (arrays_of t (known inner)) >>= λ element. typed (pointer element)
 
 -- no void and no undeclared struct; other structs and mutexes are outside the language
 abbrev pub param_type : Context → (place : ℕ) → Ty → Judged Ty

@@ -147,6 +147,10 @@ declared_before_tree = record { externals = ((record { storage = []; specs = ((s
 abbrev mutex_kind_tree : source.File
 mutex_kind_tree = record { externals = ((record { storage = []; specs = ((source.word 0 words.MtxT) ∷ []); rest = (source.variables ((record { declarator = (source.declarator [] (name 6 7) source.no_exprs); value = None }) ∷ [])) }) ∷ (record { storage = []; specs = ((source.word 8 words.Int) ∷ []); rest = (source.function [] (name 12 16) ((record { specs = ((source.word 17 words.Void) ∷ []); pointers = []; name = None; dims = [] }) ∷ []) (Some (record { place = 22; items = ((source.simple (source.eval (source.call (name 23 31) (source.more_exprs (source.prefix 32 prefixes.AddressOf (source.name (name 33 34))) (source.more_exprs (source.int 35 (num int (pos 1))) source.no_exprs))))) ∷ (source.return 38 (Some (source.int 45 (num int (pos 0))))) ∷ []) }))) }) ∷ []) }
 
+-- int f(struct s a[][2]){return 0;}int main(void){return 0;}
+abbrev elements_without_size_tree : source.File
+elements_without_size_tree = record { externals = ((record { storage = []; specs = ((source.word 0 words.Int) ∷ []); rest = (source.function [] (name 4 5) ((record { specs = ((source.struct 6 (name 13 14)) ∷ []); pointers = []; name = (Some (name 15 16)); dims = ((record { place = 16; size = None }) ∷ (record { place = 18; size = (Some (source.int 19 (num int (pos 2)))) }) ∷ []) }) ∷ []) (Some (record { place = 22; items = ((source.return 23 (Some (source.int 30 (num int (pos 0))))) ∷ []) }))) }) ∷ (record { storage = []; specs = ((source.word 33 words.Int) ∷ []); rest = (source.function [] (name 37 41) ((record { specs = ((source.word 42 words.Void) ∷ []); pointers = []; name = None; dims = [] }) ∷ []) (Some (record { place = 47; items = ((source.return 48 (Some (source.int 55 (num int (pos 0))))) ∷ []) }))) }) ∷ []) }
+
 pub record Rows : Type 0 where
   pub unknown_name : refusal_of (codes "int main(void){return b;}") unknown_name_tree ≡ at 22 kinds.UnknownName
   pub double_name : refusal_of (codes "int main(void){int a;int a;return 0;}") double_name_tree ≡ at 25 kinds.DoubleName
@@ -177,3 +181,4 @@ pub record Rows : Type 0 where
   pub declared_only : refusal_of (codes "int f(int x);int main(void){return 0;}") declared_only_tree ≡ at 4 kinds.UnknownName
   pub declared_before : refusal_of (codes "int f(int x);int main(void){return f(1);}int f(int y){return y;}") declared_before_tree ≡ None
   pub mutex_kind : refusal_of (codes "mtx_t m;int main(void){mtx_init(&m,1);return 0;}") mutex_kind_tree ≡ at 35 (kinds.OutsideSubset 14)
+  pub elements_without_size : refusal_of (codes "int f(struct s a[][2]){return 0;}int main(void){return 0;}") elements_without_size_tree ≡ at 15 kinds.BadSize

@@ -1,6 +1,6 @@
 //! Laws of the judgement, and worked rows, without a function of the code's.
 
-ghost use Rattle.c_types.specs.Laws.{RefusesLeast, TypedOrRefused};
+ghost use Rattle.c_types.specs.Laws.{RefusesLeast, TypedOrRefused, GivesWellFormed};
 ghost use Rattle.c_types.specs.Rows.{Rows};
 
 /// The refusal of a program is the least of its faults, by place and then by number.
@@ -16,4 +16,9 @@ pub fn exclusive()
 /// Small programs, each with its first refusal or none.
 pub fn rows_hold()
     ensures { Rows }
+{}
+
+/// The typed tree that a program has is well formed.
+pub fn well_formed()
+    ensures { GivesWellFormed }
 {}
