@@ -1,12 +1,14 @@
 -- A text is a program or is refused, not both, and is refused for one reason: from the laws of its tokens, of the files of the subset that they are, and of what they spell.
-use Rattle.std.proofs.Common.{◌≡◌, ℕ, zero, suc, ◌<◌, List, [], ◌∷◌, ◌++◌, length, ◌⊎◌, refl, subst, inl, inr, arith}
+use Rattle.std.proofs.Common.{◌≡◌, ℕ, zero, suc, ◌<◌, List, [], ◌∷◌, ◌++◌, length, Result, Ok, Err, ◌⊎◌, refl, subst, inl, inr, arith}
 use Rattle.std.specs.Prelude.{All}
 use Rattle.std.specs.List.{AllByRecursion}
 use Rattle.c_lex.specs.declared.token.Token.{Token}
 use Rattle.c_lex.specs.declared.refusal.Refusal.{Refusal}
+use Rattle.c_lex.specs.declared.refusal.CompileFault.{CompileFault}
+use Rattle.c_lex.specs.declared.refusal.CompileFault.TheVariants as faults
 use Rattle.c_lex.specs.declared.token.TokenKind.TheVariants as kinds
 use Rattle.c_lex.specs.Tokens.{end_of, AreTokens}
-use Rattle.c_lex.specs.Refusals.{RefusesText}
+use Rattle.c_lex.specs.Refusals.{IfRefused, RefusesText}
 use Rattle.c_lex.specs.Laws as lexed
 use Rattle.c_tree.specs.Syntax as whole
 use Rattle.c_parse.specs.Language as grammar
@@ -63,6 +65,12 @@ all_by_place P (x ∷ xs) a (suc k) d lt = all_by_place P xs a.1 k d (omega (ari
 -- the tokens of a text have one end, as the grammar asks
 pub ended_once : (text : List ℕ) (ts : List Token) → lexed.EndsOnce text ts → read.EndOnce ts
 ended_once text ts e = (e.0, end_of text, e.1, refl, all_by_place (λ (t : Token). t.kind ≡ kinds.End → ⊥) e.0 e.2)
+
+-- what is refused for one reason is refused for another that follows from it
+pub refused_for : {X : Type 0} (o : Result X CompileFault) (P Q : Refusal → Type 0) → ((r : Refusal) → P r → Q r) → IfRefused o P → IfRefused o Q
+refused_for (Ok x) P Q h p = tt
+refused_for (Err (faults.Refused r)) P Q h p = h r p
+refused_for (Err faults.NoMemory) P Q h p = tt
 
 -- ---- each text
 
