@@ -8,7 +8,6 @@ mod classes;
 mod declarations;
 mod expressions;
 mod files;
-pub mod laws;
 mod parser;
 mod parts;
 mod peeking;

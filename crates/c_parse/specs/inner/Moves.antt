@@ -5,7 +5,7 @@ use Rattle.c_lex.specs.declared.refusal.Kind.{Kind}
 use Rattle.c_parse.specs.declared.parser.Parser.{Parser}
 use Rattle.c_parse.specs.declared.parser.Stop.{Stop}
 use Rattle.c_parse.specs.declared.parser.Stop.TheVariants as stops
-use Rattle.c_parse.specs.inner.Readers.{stop, Reading, got, Reads, Sort, sort}
+use Rattle.c_grammar.specs.inner.Readers.{stop, Reading, got, Reads, Sort, sort}
 
 -- what the code gives up with is the fault of reading, unless memory ran out
 abbrev pub Fails : {A : Type 0} → Stop → Reading A → Type 0

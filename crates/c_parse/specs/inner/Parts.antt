@@ -17,11 +17,11 @@ use Rattle.c_parse.specs.declared.starts.FirstStart.{FirstStart}
 use Rattle.c_parse.specs.declared.starts.FirstStart.TheVariants as firsts
 use Rattle.c_parse.specs.declared.starts.StmtStart.{StmtStart}
 use Rattle.c_parse.specs.declared.starts.StmtStart.TheVariants as stmts
-use Rattle.c_parse.specs.Grammar.{stars}
-use Rattle.c_parse.specs.inner.Readers.{Reading, stop, got, Reads, ◌>>=◌, nothing, ◌▸◌, ◌&◌, made, full, maybe, links, chain, pushed, row}
-use Rattle.c_parse.specs.inner.Tokens.{tok, mark_is, word_is, mark_place, word_place, name_of, step_of, storage_of, is_mark, is_word, begins_type, begins_expr, begins_simple, is_storage}
-use Rattle.c_parse.specs.inner.Reading.{level_at, commas, either, specs, dims, init_by, bare_pointers, declared, bare_declared, value, initialised, declaration, simple_of, simple_tail, is_step, simply, first, stmt_at, begins_item, is_name, param_dim, param, params, body, named_rest, begins_external, external, file}
-use Rattle.c_parse.specs.inner.Reading as reading
+use Rattle.c_grammar.specs.Grammar.{stars}
+use Rattle.c_grammar.specs.inner.Readers.{Reading, stop, got, Reads, ◌>>=◌, nothing, ◌▸◌, ◌&◌, made, full, maybe, links, chain, pushed, row}
+use Rattle.c_grammar.specs.inner.Tokens.{tok, mark_is, word_is, mark_place, word_place, name_of, step_of, storage_of, is_mark, is_word, begins_type, begins_expr, begins_simple, is_storage}
+use Rattle.c_grammar.specs.inner.Reading.{level_at, commas, either, specs, dims, init_by, bare_pointers, declared, bare_declared, value, initialised, declaration, simple_of, simple_tail, is_step, simply, first, stmt_at, begins_item, is_name, param_dim, param, params, body, named_rest, begins_external, external, file}
+use Rattle.c_grammar.specs.inner.Reading as reading
 
 -- ---- declarations
 

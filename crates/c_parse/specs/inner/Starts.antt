@@ -10,7 +10,7 @@ use Rattle.c_parse.specs.declared.peeking.SpecStart.TheVariants as specs
 use Rattle.c_tree.specs.SyntaxViews.{expr_view, type_name_view}
 use Rattle.c_parse.specs.declared.expressions.Sized.{Sized}
 use Rattle.c_parse.specs.declared.expressions.Sized.TheVariants as sizeds
-use Rattle.c_parse.specs.inner.Reading as reading
+use Rattle.c_grammar.specs.inner.Reading as reading
 
 abbrev pub operand_view : OperandStart → reading.Operand
 operand_view operands.Name = reading.Named
