@@ -51,7 +51,7 @@ first_world blocks main = record { blocks = blocks; output = []; threads = begin
 abbrev pub with_blocks : World → Blocks → World
 with_blocks w blocks = record { blocks = blocks; output = w.output; threads = w.threads }
 
--- the world after a thread has come to another stage
+-- a thread that has come to this stage
 abbrev pub at_stage : Stage → Thread → Thread
 at_stage stage t = record { function = t.function; argument = t.argument; stage = stage }
 
@@ -180,7 +180,7 @@ abbrev pub all_bytes : Blocks → List Printed → Result (List ℕ) Rule
 all_bytes blocks [] = Ok []
 all_bytes blocks (part ∷ parts) = joined_bytes (printed_bytes blocks part) (all_bytes blocks parts)
 
--- they are printed, all or none, and the value is their number as an int, modulo 2^32 (C11 7.21.6.3; own where it is too great)
+-- they are printed, all or none, and the value is their number as an int, modulo 2^32 (C11 7.21.6.3; this project's profile where it is too great)
 abbrev pub prints : World → Result (List ℕ) Rule → Done
 prints w (Err rule) = broke rule
 prints w (Ok all) = went (int_value (pos (length all))) (record { blocks = w.blocks; output = w.output ++ all; threads = w.threads })

@@ -62,7 +62,7 @@ tested blocks p = if is_usable blocks p then Ok (is_other_than_null p) else Err 
 
 -- ---- equality, order and difference
 
--- the same pointer; pointers into different blocks differ (own, where one points behind a block's end)
+-- the same pointer; pointers into different blocks differ (C11 6.5.9p6; this project's profile where one points behind a block's end)
 abbrev pub is_same : (p q : Ptr) → Bool
 is_same Null Null = true
 is_same Null (To name offset) = false

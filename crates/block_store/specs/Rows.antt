@@ -77,7 +77,7 @@ if_got = acted (world 0) 0 answers.Got
 abbrev pub if_none : Action → Done
 if_none = acted (world 0) 0 answers.None
 
--- the heap block, and the int in it
+-- the int at the start of the heap block
 abbrev pub at_int : Ptr
 at_int = To 4 8
 

@@ -157,7 +157,7 @@ made_local h number x = with_block number (size_of_local h (local_at h number)) 
 abbrev pub declared_local : Here → (number : ℕ) → Now → Now
 declared_local h number x = if is_block (local_at h number) then made_local h number x else with_variable number unset x
 
--- the world without the blocks of these locals
+-- the world without the block of this local
 abbrev pub without_block : Variable → World → World
 without_block unset w = w
 without_block (holds v) w = w
@@ -208,7 +208,7 @@ abbrev pub calls : Here → (place : ℕ) → Callee → List Value → Wait →
 calls h place (function number) args k x = enters h number args k x (slice_get h.typed.funcs number)
 calls h place (library which) args k x = calls_library h place which args k (action_of which args) x
 
--- the value that a function ends with: main gives 0 where it has none (C11 5.1.2.2.3; own where the program calls it)
+-- the value that a function ends with: main gives 0 where it has none (C11 5.1.2.2.3; this project's profile where the program calls it)
 abbrev pub result_of_call : Here → Option Value → Option Value
 result_of_call h (Some v) = Some v
 result_of_call h None = if h.function == h.typed.main then Some (values.Num (num int (pos 0))) else None
@@ -297,7 +297,7 @@ finds_variable place w (lies block) x = w.go (values.Pointer (To block 0)) x
 abbrev pub literal_block : Here → (number : ℕ) → ℕ
 literal_block h number = length h.typed.globals + number
 
--- how two operands of a type are moved apart, or compared
+-- the size of the elements that a pointer points to (C11 6.5.6)
 abbrev pub size_of_elements : Here → tree.Expr → ℕ
 size_of_elements h p = element_size h.typed.structs (tree.type_of p)
 

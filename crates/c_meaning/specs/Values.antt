@@ -39,7 +39,7 @@ abbrev pub element_size : List tree.Layout → tree.Ty → ℕ
 element_size structs (tree.pointer t) = size_in structs t
 element_size structs t = 0
 
--- where a member of a struct begins
+-- the offset that was found, or 0
 abbrev pub offset_or_0 : Option ℕ → ℕ
 offset_or_0 (Some offset) = offset
 offset_or_0 None = 0
