@@ -20,6 +20,7 @@ abbrev pub is_constant_name : Option Meaning → Bool
 is_constant_name (Some (library_name (constant value))) = true
 is_constant_name m = false
 
+-- the operators - + ~ and !, which may stand in an integer constant expression
 abbrev pub is_constant_prefix : PrefixOp → Bool
 is_constant_prefix prefixes.Minus = true
 is_constant_prefix prefixes.Plus = true
@@ -28,6 +29,7 @@ is_constant_prefix prefixes.Complement = true
 is_constant_prefix prefixes.Deref = false
 is_constant_prefix prefixes.AddressOf = false
 
+-- the operators on two numbers, which may stand in an integer constant expression; && and || may not (this project's profile)
 abbrev pub is_constant_binary : BinaryOp → Bool
 is_constant_binary (binaries.Value op) = true
 is_constant_binary binaries.AndAnd = false
@@ -50,23 +52,28 @@ abbrev pub at_type : Ty → Option Num → Option Num
 at_type (integer t) (Some n) = Some (number t n.value)
 at_type t n = None
 
+-- the number that an operation gives, or none where it breaks a rule
 abbrev pub if_unbroken : Result Num Rule → Option Num
 if_unbroken (Ok n) = Some n
 if_unbroken (Err rule) = None
 
+-- the value of an operation on two values, if both are known and it breaks no rule
 abbrev pub both_values : Op → Option Num → Option Num → Option Num
 both_values op (Some a) (Some b) = if_unbroken (result_of op a b)
 both_values op None b = None
 both_values op (Some a) None = None
 
+-- the value of !e, an int: 1 where e is 0, and else 0 (C11 6.5.3.3 p5)
 abbrev pub is_zero_value : Option Num → Option Num
 is_zero_value (Some n) = Some (number int (truth (int_eq n.value (pos 0))))
 is_zero_value None = None
 
 abbrev mutual
+  -- the value of a typed expression, if it is made of numbers, conversions and operations alone
   pub value : Expr → Option Num
   value (at place ty node) = value_in ty node
 
+  -- the value of what an expression of this type does, if it is made of those alone
   pub value_in : Ty → ExprNode → Option Num
   value_in ty (num t z) = Some (number t z)
   value_in ty (convert e) = at_type ty (value e)

@@ -53,6 +53,7 @@ both (faulty r rs) (faulty s ss) = faulty r (rs ++ s ∷ ss)
 
 -- a node is judged only where all its parts are typed
 infixl 10 ◌>>=◌
+-- what a rule makes of a part that is typed; where the part is at fault, its faults alone
 abbrev pub ◌>>=◌ : {A B : Type 0} → Judged A → (A → Judged B) → Judged B
 (typed x) >>= f = f x
 (faulty r rs) >>= f = faulty r rs
@@ -81,6 +82,7 @@ abbrev pub Fails : {B : Type 0} → CompileFault → Judged B → Type 0
 Fails outcomes.NoMemory j = Unit {0}
 Fails (outcomes.Refused r) j = first j ≡ Some r
 
+-- what a function returned is what judging gives: the same typed form, or the fault that is named, unless memory ran out
 abbrev pub Gives : {A B : Type 0} → (A → B) → Result A CompileFault → Judged B → Type 0
 Gives view (Ok x) j = j ≡ typed (view x)
 Gives view (Err e) j = Fails e j

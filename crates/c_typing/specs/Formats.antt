@@ -42,6 +42,7 @@ pieces_from zero (byte ∷ rest) =
     else (if nat_eq byte 37 then with_conversion (conversion_at (byte ∷ rest)) (λ n. pieces_from n rest)
     else option_map (before_pieces (bytes (byte ∷ []))) (pieces_from 0 rest))
 
+-- the pieces of a whole format, if each `%` in it begins a conversion
 abbrev pub pieces_of : List ℕ → Option (List Piece)
 pieces_of all = pieces_from 0 all
 
@@ -66,6 +67,7 @@ argument_for (hexadecimal bits) e = number_for bits (type_of e) e
 argument_for character e = number_for 32 (type_of e) e
 argument_for text e = text_for (type_of e) e
 
+-- an argument before those behind it, if all of them fit their pieces
 abbrev pub before_argument : Option Expr → Option (List Expr) → Option (List Expr)
 before_argument (Some e) (Some es) = Some (e ∷ es)
 before_argument None es = None

@@ -52,6 +52,7 @@ abbrev pub named_by_library : ℕ → Library → Judged Expr
 named_by_library place (constant value) = typed (at place (integer int) (num int value))
 named_by_library place which = refuse place (OutsideSubset 12)
 
+-- a name where an expression stands, by what it means
 abbrev pub named : ℕ → Option Meaning → Judged Expr
 named place (Some (global_name n t)) = typed (at place t (global n))
 named place (Some (local_name n t)) = typed (at place t (local n))
@@ -63,6 +64,7 @@ named place None = refuse place UnknownName
 abbrev pub with_literal : Context → List ℕ → Context
 with_literal c all = record c { literals = c.literals ++ all ∷ []; plain = c.plain + taken (length all) }
 
+-- a string literal at its place: the next literal of the program, an array of char with an element for each of its bytes
 abbrev pub spelled : ℕ → List ℕ → Judging Expr
 spelled place all c =
     (mapped (λ u. at place (array (integer char) (length all)) (literal (length c.literals))) (fits_plain c place (length all)), with_literal c all)
@@ -103,6 +105,7 @@ abbrev pub with_addressed : Context → Option Meaning → Context
 with_addressed c (Some (local_name n t)) = record c { addressed = c.addressed ++ n ∷ [] }
 with_addressed c m = c
 
+-- what a name means, if there is a name
 abbrev pub meaning_in : Context → Option Name → Option Meaning
 meaning_in c None = None
 meaning_in c (Some n) = meaning_of c n
@@ -123,6 +126,7 @@ combined c place binaries.OrOr a b = both (tested place a) (tested place b) >>= 
 abbrev pub addressing : ℕ → Option Name → Judging Expr → Judging Expr
 addressing place n e c = let x = e c in (x.0 >>= address place, with_addressed x.1 (meaning_in x.1 n))
 
+-- a prefix operator on an expression: `&` takes it as an object, and the others take its value (C11 6.5.3.2, 6.5.3.3)
 abbrev pub prefixed : ℕ → PrefixOp → Option Name → Judging Expr → Judging Expr
 prefixed place prefixes.Minus n e = ruled (valued e) (λ c x. minus_by place (type_of x) x)
 prefixed place prefixes.Plus n e = ruled (valued e) (λ c x. plus_by place (type_of x) x)
@@ -133,10 +137,12 @@ prefixed place prefixes.AddressOf n e = addressing place n e
 
 -- ---- calls (6.5.2.2)
 
+-- expressions of a list, in a row
 abbrev pub exprs_of : List Expr → Exprs
 exprs_of [] = no_exprs
 exprs_of (e ∷ es) = more_exprs e (exprs_of es)
 
+-- an argument before those behind it, if all of them fit their parameters
 abbrev pub before_fitted : Option Expr → Option (List Expr) → Option (List Expr)
 before_fitted (Some e) (Some es) = Some (e ∷ es)
 before_fitted None es = None
@@ -163,6 +169,8 @@ abbrev pub format_by : ℕ → Option (List Piece) → Judged (List Piece)
 format_by place (Some pieces) = typed pieces
 format_by place None = refuse place (OutsideSubset 15)
 
+-- the first argument of printf: the pieces of a string literal; anything else is judged for its faults, and is outside the
+-- language (this project's profile)
 abbrev pub format_or : Option (List Span) → (place : ℕ) → Judging Expr → Judging (List Piece)
 format_or (Some parts) place e c = (format_by place (pieces_of (joined_bytes c.text parts)), c)
 format_or None place e c = ruled e (λ d x. refuse place (OutsideSubset 15)) c
@@ -173,6 +181,7 @@ place_past most source.no_exprs = None
 place_past zero (source.more_exprs e rest) = Some (node_place e)
 place_past (suc n) (source.more_exprs e rest) = place_past n rest
 
+-- nothing is wrong where no argument stands past the limit; where one does, it is one too many, at its place
 abbrev pub none_past : (count : ℕ) → Option ℕ → Judged (Unit {0})
 none_past count None = typed tt
 none_past count (Some place) = refuse place (TooMany count)
@@ -185,6 +194,8 @@ printed place p = or_mismatch place (arguments_for p.0 p.1) >>= λ es. typed (at
 abbrev pub starting_by : (n : ℕ) → Bool → Option ℕ
 starting_by n fits = if fits then Some n else None
 
+-- the second argument of thrd_create, by what it means: the number of a function that a thread may begin with, or none; what
+-- isn't the name of a function is judged for its faults
 abbrev pub starting_or : Option Meaning → Judging Expr → Judging (Option ℕ)
 starting_or (Some (function_name n params result)) e c =
     (typed (starting_by n (same_type result (integer int) && same_types params (pointer void ∷ []))), c)
@@ -206,6 +217,7 @@ started place before f behind = started_by place f (fitted_all (pointer (integer
 abbrev pub plain_kind : Expr → Judged (Unit {0})
 plain_kind e = unless (place_of e) (OutsideSubset 14) (is_zero (node_of e))
 
+-- a call of mtx_init: two arguments, a pointer to the mutex and the kind (C11 7.26.4.2)
 abbrev pub init_by : (place : ℕ) → List Expr → Judged Expr
 init_by place (m ∷ kind ∷ []) = both (called_lib place trees.mutex_init (pointer mutex ∷ []) (integer int) (m ∷ [])) (plain_kind kind) >>= λ p. typed p.0
 init_by place args = refuse place TypeMismatch
@@ -242,11 +254,13 @@ pub data Part : Type 0 where
   word : (w : TypeWord) → Part
   tag : (number : ℕ) → Part
 
+-- the words among specifiers, without those that say nothing of the type
 abbrev pub words_of : List Part → List TypeWord
 words_of [] = []
 words_of (word w ∷ rest) = if says_nothing w then words_of rest else w ∷ words_of rest
 words_of (tag n ∷ rest) = words_of rest
 
+-- the structs among specifiers, by their numbers
 abbrev pub tags_of : List Part → List ℕ
 tags_of [] = []
 tags_of (word w ∷ rest) = tags_of rest
@@ -258,6 +272,7 @@ type_by [] ws = named_by ws
 type_by (n ∷ []) [] = Some (structure n)
 type_by tags ws = None
 
+-- the type that specifiers name; where they name none, a mismatch at this place (C11 6.7.2 p2)
 abbrev pub specified : (place : ℕ) → List Part → Judged Ty
 specified place parts = or_mismatch place (type_by (tags_of parts) (words_of parts))
 
@@ -267,6 +282,7 @@ place_of_spec (source.word place w) = place
 place_of_spec (source.struct place t) = place
 place_of_spec (source.struct_body place t inside) = place
 
+-- the place of a row of specifiers, that of its first
 abbrev pub place_of_specs : source.Specs → ℕ
 place_of_specs source.no_specs = 0
 place_of_specs (source.more_specs s rest) = place_of_spec s
@@ -293,6 +309,7 @@ dimension_by place None = refuse place BadSize
 dimension_by place (Some n) =
     if int_le (pos 1) n.value && int_le n.value (pos greatest_object) then typed (unsigned_abs n.value) else refuse place BadSize
 
+-- the size of an array, by what is written between the brackets and its typed form
 abbrev pub dimension : source.Expr → Context → Expr → Judged ℕ
 dimension e c x = dimension_by (node_place e) (constant_value c e x)
 
@@ -300,6 +317,7 @@ dimension e c x = dimension_by (node_place e) (constant_value c e x)
 abbrev pub object_type : Context → (place : ℕ) → Ty → Judged Ty
 object_type c place t = unless place BadSize (has_size c.structs t && is_small c.structs t) >>= λ u. typed t
 
+-- the type of the object that a declarator declares; where it has no size or too great a one, a fault at its name
 abbrev pub object_declared : Context → Ty → Declarator → Judged Ty
 object_declared c t d = object_type c d.name.from (declared_type t d.pointers d.sizes)
 
@@ -310,6 +328,7 @@ abbrev pub names_in : source.Declarators → List Name
 names_in source.no_declarators = []
 names_in (source.more_declarators (source.declarator pointers n dims) rest) = n ∷ names_in rest
 
+-- the names that one declaration of members declares
 abbrev pub names_of_member : source.Member → List Name
 names_of_member (source.members_of specs declarators) = names_in declarators
 
@@ -319,6 +338,7 @@ fresh_member c before n =
     both (unless n.from DoubleName (not (list_any (λ m. bytes_eq (bytes_of c.text n) (bytes_of c.text m)) before))) (within n.from 4 256 (length before))
     >>= λ u. typed tt
 
+-- the members that declarators declare: the bytes of each name, and its type
 abbrev pub member_objects : Context → Ty → List Declarator → Judged (List (List ℕ × Ty))
 member_objects c t [] = typed []
 member_objects c t (d ∷ ds) = both (object_declared c t d) (member_objects c t ds) >>= λ p. typed ((bytes_of c.text d.name, p.0) ∷ p.1)
@@ -388,6 +408,7 @@ abbrev mutual
   judged_start place (source.more_exprs e rest) c =
       ruled (in_turn (valued (judged e)) (judged_started rest)) (λ d p. started place (p.0 ∷ []) p.1.0 p.1.1) c
 
+  -- thrd_create behind its first argument: the function, and the arguments behind that
   pub judged_started : source.Exprs → Judging (Option ℕ × List Expr)
   judged_started source.no_exprs c = (typed (None, []), c)
   judged_started (source.more_exprs e rest) c = in_turn (starting_or (meaning_in c (name_in e)) (judged e)) (judged_all rest) c
@@ -401,6 +422,7 @@ abbrev mutual
   judged_parts source.no_specs c = (typed [], c)
   judged_parts (source.more_specs s rest) c = ruled (in_turn (judged_spec s) (judged_parts rest)) (λ d p. typed (p.0 ∷ p.1)) c
 
+  -- a specifier: a word, or a struct by its tag, with its members between braces or without (C11 6.7.2.3)
   pub judged_spec : source.Spec → Judging Part
   judged_spec (source.word place w) c = (typed (word w), c)
   judged_spec (source.struct place t) c = let d = with_tag c t in (typed (tag (tag_number d t)), d)
@@ -412,10 +434,12 @@ abbrev mutual
   judged_members before (source.more_members m rest) c =
       ruled (in_turn (judged_member before m) (judged_members (before ++ names_of_member m) rest)) (λ d p. typed (p.0 ++ p.1)) c
 
+  -- members that are declared together, behind those of these names
   pub judged_member : (before : List Name) → source.Member → Judging (List (List ℕ × Ty))
   judged_member before (source.members_of specs declarators) c =
       ruled (in_turn (specs_by specs (judged_parts specs)) (judged_declarators before declarators)) (λ d p. member_objects d p.0 p.1) c
 
+  -- the declarators of such members, each of a name that none before it has
   pub judged_declarators : (before : List Name) → source.Declarators → Judging (List Declarator)
   judged_declarators before source.no_declarators c = (typed [], c)
   judged_declarators before (source.more_declarators (source.declarator pointers n dims) rest) c =

@@ -25,11 +25,13 @@ TypedOrRefused = (text : List ℕ) (f : source.File) →
 
 -- ---- as the grammar has it: no declaration stands under an if or a loop (6.8.4, 6.8.5)
 
+-- a statement that is no declaration
 abbrev pub IsAlone : source.Stmt → Type 0
 IsAlone (source.declare d) = ⊥
 IsAlone s = Unit {0}
 
 abbrev mutual
+  -- no declaration stands under an if or a loop anywhere in this statement
   pub IsWritten : source.Stmt → Type 0
   IsWritten (source.block place items) = AreWritten items
   IsWritten (source.if_then place e s) = IsAlone s × IsWritten s
@@ -38,14 +40,17 @@ abbrev mutual
   IsWritten (source.for place first e step s) = IsAlone s × IsWritten s
   IsWritten s = Unit {0}
 
+  -- no declaration stands under an if or a loop anywhere in these statements
   pub AreWritten : source.Stmts → Type 0
   AreWritten source.no_stmts = Unit {0}
   AreWritten (source.more_stmts s rest) = IsWritten s × AreWritten rest
 
+-- no declaration stands under an if or a loop in the body of a function, where there is one
 abbrev pub IsBodyWritten : source.Rest → Type 0
 IsBodyWritten (source.function pointers n params (Some body)) = AreWritten (source.stmts_of body.items)
 IsBodyWritten rest = Unit {0}
 
+-- no declaration stands under an if or a loop in any function of a file
 abbrev pub IsFileWritten : source.File → Type 0
 IsFileWritten f = AllByRecursion (λ (x : source.External). IsBodyWritten x.rest) f.externals
 

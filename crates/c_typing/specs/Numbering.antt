@@ -7,9 +7,11 @@ use Rattle.c_tree.specs.Typed.{Ty, array, structure, mutex, Local, Func, Expr, a
 -- ---- other numbers for the locals of a tree
 
 abbrev mutual
+  -- an expression, each of its locals with the number that f gives it
   pub renumbered : (ℕ → ℕ) → Expr → Expr
   renumbered f (at place ty node) = at place ty (renumbered_node f node)
 
+  -- what an expression does, each of its locals with the number that f gives it
   pub renumbered_node : (ℕ → ℕ) → ExprNode → ExprNode
   renumbered_node f (num t value) = num t value
   renumbered_node f null = null
@@ -34,18 +36,22 @@ abbrev mutual
   renumbered_node f (call n args) = call n (renumbered_all f args)
   renumbered_node f (lib which args) = lib which (renumbered_all f args)
 
+  -- the arguments of a call, each of their locals with the number that f gives it
   pub renumbered_all : (ℕ → ℕ) → Exprs → Exprs
   renumbered_all f no_exprs = no_exprs
   renumbered_all f (more_exprs e rest) = more_exprs (renumbered f e) (renumbered_all f rest)
 
+-- an expression, if there is one, each of its locals with the number that f gives it
 abbrev pub renumbered_if : (ℕ → ℕ) → Option Expr → Option Expr
 renumbered_if f None = None
 renumbered_if f (Some e) = Some (renumbered f e)
 
 abbrev mutual
+  -- a statement, each of its locals with the number that f gives it
   pub renumbered_stmt : (ℕ → ℕ) → Stmt → Stmt
   renumbered_stmt f (at_stmt place node) = at_stmt place (renumbered_stmt_node f node)
 
+  -- what a statement does, each of its locals with the number that f gives it
   pub renumbered_stmt_node : (ℕ → ℕ) → StmtNode → StmtNode
   renumbered_stmt_node f (block body) = block (renumbered_stmts f body)
   renumbered_stmt_node f (declare n init) = declare (f n) (renumbered_if f init)
@@ -61,6 +67,7 @@ abbrev mutual
   renumbered_stmt_node f (evaluate e) = evaluate (renumbered f e)
   renumbered_stmt_node f empty = empty
 
+  -- statements in a row, each of their locals with the number that f gives it
   pub renumbered_stmts : (ℕ → ℕ) → Stmts → Stmts
   renumbered_stmts f no_stmts = no_stmts
   renumbered_stmts f (more_stmts s rest) = more_stmts (renumbered_stmt f s) (renumbered_stmts f rest)
@@ -72,6 +79,7 @@ pub record Param : Type 0 where
   pub place : ℕ
   pub ty : Ty
 
+-- a number is one of these
 abbrev pub is_in : ℕ → List ℕ → Bool
 is_in n ns = list_any (λ m. n == m) ns
 
@@ -91,6 +99,7 @@ abbrev pub or_number : (params further n : ℕ) → Option ℕ → ℕ
 or_number params further n (Some i) = params + i
 or_number params further n None = if nat_lt n params then n else n + further
 
+-- the number that local n gets, in a function of so many parameters of which these have their address taken
 abbrev pub number_of : (params : ℕ) → List (ℕ × Param) → ℕ → ℕ
 number_of params further n = or_number params (length further) n (place_among n further)
 
@@ -101,6 +110,7 @@ is_block (structure n) = true
 is_block mutex = true
 is_block t = false
 
+-- locals of these types, by number from k on: each is in memory if its type makes it a block, or its address is taken
 abbrev pub locals_from : (k : ℕ) → (addressed : List ℕ) → List Ty → List Local
 locals_from k addressed [] = []
 locals_from k addressed (t ∷ ts) = record { ty = t; in_memory = is_block t || is_in k addressed } ∷ locals_from (1 + k) addressed ts

@@ -43,26 +43,33 @@ abbrev pub number_at : IntType → Option Num → Option Init
 number_at t None = None
 number_at t (Some n) = Some (trees.number t (number t n.value).value)
 
+-- what a pointer to this type starts with where its initialiser is a literal: the literal, if the type is char
 abbrev pub string_at : Ty → Option ℕ → Option Init
 string_at (integer t) (Some n) = if same_int t char then Some (literal_at n) else None
 string_at t n = None
 
+-- what a pointer to this type starts with: null for NULL and the constant 0, or a literal (C11 6.7.9 p4)
 abbrev pub pointer_at : Context → Ty → source.Expr → Expr → Option Init
 pointer_at c t e x = if is_null_word e || is_zero (node_of x) then Some zero_bytes else string_at t (literal_of (node_of x))
 
+-- what a global of this type starts with, by its initialiser as it is written and as it is typed; arrays, structs and mutexes
+-- have none (this project's profile)
 abbrev pub init_at : Context → Ty → source.Expr → Expr → Option Init
 init_at c (integer t) e x = number_at t (constant_value c e x)
 init_at c (pointer t) e x = pointer_at c t e x
 init_at c t e x = None
 
+-- what a global starts with; a mismatch at its name where it can't start so
 abbrev pub started_with : (place : ℕ) → Option Init → Judged Init
 started_with place (Some i) = typed i
 started_with place None = refuse place TypeMismatch
 
+-- the initialiser of a global; where there is none it starts with zero bytes (C11 6.7.9 p10)
 abbrev pub judged_global_init : (place : ℕ) → Judged Ty → Option source.Expr → Judging Init
 judged_global_init place t None c = (typed zero_bytes, c)
 judged_global_init place t (Some e) c = ruled (in_turn (lone t) (valued (judged e))) (λ d p. started_with place (init_at d p.0 e p.1)) c
 
+-- behind a global's declarator: it is the last of the globals, its name is in scope, and its bytes are counted
 abbrev pub with_global : Context → Name → Ty → Context
 with_global c n t = record (declared c n (global_name (length c.globals) t)) { globals = c.globals ++ t ∷ []; plain = c.plain + taken (size_in c.structs t) }
 
@@ -76,6 +83,7 @@ judged_global base x around =
     let i = judged_global_init n.from t x.value (with_global d.1 n (or_int t)) in
     (both (both fine t) i.0 >>= λ p. typed (record { ty = p.0.1; init = p.1 }), i.1)
 
+-- globals that are declared together, in order
 abbrev pub judged_globals : Judged Ty → List source.InitDeclarator → Judging (List GlobalVar)
 judged_globals base [] c = (typed [], c)
 judged_globals base (x ∷ xs) c = ruled (in_turn (judged_global base x) (judged_globals base xs)) (λ d p. typed (p.0 ∷ p.1)) c
@@ -87,6 +95,7 @@ abbrev pub place_or : Option Name → ℕ → ℕ
 place_or (Some n) place = n.from
 place_or None place = place
 
+-- the place of a parameter as it is written
 abbrev pub param_place : source.Param → ℕ
 param_place p = place_or p.name (place_of_specs (source.specs_of p.specs))
 
@@ -95,11 +104,13 @@ abbrev pub judged_size : (outermost : Bool) → source.ParamDim → Option sourc
 judged_size outermost d None c = (if outermost then typed None else refuse d.place BadSize, c)
 judged_size outermost d (Some e) c = ruled (ruled (valued (judged e)) (dimension e)) (λ x n. typed (Some n)) c
 
+-- the sizes that are written, in order, without the one that lacks
 abbrev pub known : List (Option ℕ) → List ℕ
 known [] = []
 known (None ∷ rest) = known rest
 known (Some n ∷ rest) = n ∷ known rest
 
+-- the sizes between the brackets behind a parameter, the outermost first
 abbrev pub judged_sizes : (outermost : Bool) → List source.ParamDim → Judging (List (Option ℕ))
 judged_sizes outermost [] c = (typed [], c)
 judged_sizes outermost (d ∷ ds) c = ruled (in_turn (judged_size outermost d d.size) (judged_sizes false ds)) (λ x p. typed (p.0 ∷ p.1)) c
@@ -113,10 +124,12 @@ adjusted c place t (outermost ∷ inner) = object_type c place (arrays_of t (kno
 abbrev pub param_type : Context → (place : ℕ) → Ty → Judged Ty
 param_type c place t = unless place BadSize (has_size c.structs t) >>= λ u. unless place (OutsideSubset 13) (not (is_struct_or_mutex t)) >>= λ v. typed t
 
+-- the name of a parameter, if it has one, is new among the parameters (C11 6.7 p3) and none of the library's
 abbrev pub fresh_if : Context → Option Name → Judged (Unit {0})
 fresh_if c None = typed tt
 fresh_if c (Some n) = fresh c n
 
+-- behind a parameter: it is the last of the locals, and its name, if it has one, is in scope
 abbrev pub with_param : Context → Option Name → Ty → Context
 with_param c None t = record c { locals = c.locals ++ t ∷ [] }
 with_param c (Some n) t = with_local c n t
@@ -131,6 +144,7 @@ judged_param p around =
     let fine = both (fresh_if z.1 p.name) (both (within place 6 16 (length z.1.locals)) (within place 5 most_locals (length z.1.locals))) in
     (both fine t >>= λ x. typed (record { place = place; ty = x.1 }), with_param z.1 p.name (or_int t))
 
+-- parameters, from left to right
 abbrev pub judged_params : List source.Param → Judging (List Param)
 judged_params [] c = (typed [], c)
 judged_params (p ∷ ps) c = ruled (in_turn (judged_param p) (judged_params ps)) (λ d x. typed (x.0 ∷ x.1)) c
@@ -140,17 +154,21 @@ abbrev pub is_bare_by : Option Name → List source.ParamDim → Bool
 is_bare_by None [] = true
 is_bare_by n dims = false
 
+-- a parameter without a name and without brackets behind it
 abbrev pub is_bare : source.Param → Bool
 is_bare p = is_bare_by p.name p.dims
 
+-- the type that was judged is void
 abbrev pub void_by : Judged Ty → Bool
 void_by (typed t) = is_void t
 void_by (faulty r rs) = false
 
+-- no parameter at all where that is what is written, and else these
 abbrev pub none_if : Context → source.Param → (is_none : Bool) → Judging (List Param) → Judging (List Param)
 none_if around p true params c = (typed [], (judged_specs (source.specs_of p.specs) c).1)
 none_if around p false params c = params c
 
+-- what stands between the brackets of a function's declarator: `void` alone, or parameters
 abbrev pub judged_param_list : List source.Param → Judging (List Param)
 judged_param_list (p ∷ []) c =
     none_if c p (is_bare p && void_by (mapped (λ t. behind_pointers t p.pointers) (judged_specs (source.specs_of p.specs) c).0)) (judged_params (p ∷ [])) c
@@ -163,10 +181,12 @@ abbrev pub defined_name : List ℕ → source.Rest → List (List ℕ)
 defined_name text (source.function pointers n params (Some body)) = bytes_of text n ∷ []
 defined_name text rest = []
 
+-- the names of the functions of a file that have a body, in the order of the text
 abbrev pub defined_names : List ℕ → List source.External → List (List ℕ)
 defined_names text [] = []
 defined_names text (x ∷ xs) = defined_name text x.rest ++ defined_names text xs
 
+-- how many names stand before this one: a function's number among those that have a body
 abbrev pub place_of_name : List ℕ → List (List ℕ) → ℕ
 place_of_name q [] = 0
 place_of_name q (name ∷ names) = if bytes_eq q name then 0 else 1 + place_of_name q names
@@ -178,14 +198,18 @@ once place (Some (function_name n ps r)) = typed tt
 once place (Some m) = refuse place DoubleName
 once place None = typed tt
 
+-- the type of a function is the one that its name was declared with before, if it was (C11 6.7 p4)
 abbrev pub agrees : (place : ℕ) → (params : List Ty) → (result : Ty) → Option Meaning → Judged (Unit {0})
 agrees place params result (Some (function_name n ps r)) = unless place TypeMismatch (same_types params ps && same_type result r)
 agrees place params result m = typed tt
 
+-- the name was not declared as a function before
 abbrev pub is_new : Option Meaning → Bool
 is_new (Some (function_name n ps r)) = false
 is_new m = true
 
+-- a function's name where it is first declared: a body for it stands somewhere in the file, and it is within the limit of names
+-- (this project's profile)
 abbrev pub first_time : Context → (names : List (List ℕ)) → Name → Bool → Judged (Unit {0})
 first_time c names n false = typed tt
 first_time c names n true =
@@ -213,6 +237,7 @@ abbrev pub name_fine : Context → (names : List (List ℕ)) → Name → Option
 name_fine c names n body =
     both (both (not_library c n) (once n.from (before_name c n))) (both (first_time c names n (is_new (before_name c n))) (one_body c n body)) >>= λ u. typed tt
 
+-- a function that is declared again has the type that it had
 abbrev pub type_fine : Context → Name → List Param → Ty → Judged (Unit {0})
 type_fine c n params result = agrees n.from (map (λ (p : Param). p.ty) params) result (before_name c n)
 
@@ -225,9 +250,11 @@ types_or (faulty r rs) = []
 abbrev pub with_name : Context → Name → Context
 with_name c n = record c { functions = if list_any (bytes_eq (bytes_of c.text n)) c.functions then c.functions else c.functions ++ bytes_of c.text n ∷ [] }
 
+-- behind a function's declarator: its name is in scope with this type
 abbrev pub with_function : Context → (names : List (List ℕ)) → Name → List Ty → Ty → Context
 with_function c names n params result = declared (with_name c n) n (function_name (place_of_name (bytes_of c.text n) names) params result)
 
+-- behind a function's body: its name has one
 abbrev pub with_body : Context → Name → Context
 with_body c n = record c { bodies = c.bodies ++ bytes_of c.text n ∷ [] }
 
@@ -235,6 +262,7 @@ with_body c n = record c { bodies = c.bodies ++ bytes_of c.text n ∷ [] }
 abbrev pub in_scope_of : Context → Context → Context
 in_scope_of params c = record c { inner = params.inner; outer = c.outer ++ c.inner ∷ [] }
 
+-- the one function that a definition makes, of its parameters, its result and its body
 abbrev pub func_by : Judged (List Param) → Judged Ty → Context → Judged (List Stmt) → Judged (List Func)
 func_by params result c body = both (both params result) body >>= λ p. typed (func_of p.0.0 c.locals c.addressed p.0.1 (stmts_of p.1) ∷ [])
 
@@ -267,21 +295,25 @@ pub record Made : Type 0 where
   pub globals : List GlobalVar
   pub funcs : List Func
 
+-- what two parts of a file make, one behind the other
 abbrev pub joined : Made → Made → Made
 joined m n = record { globals = m.globals ++ n.globals; funcs = m.funcs ++ n.funcs }
 
+-- what stands behind the specifiers of an external declaration: nothing, a function, or globals
 abbrev pub judged_rest : (names : List (List ℕ)) → Judged Ty → source.Rest → Judging Made
 judged_rest names base source.nothing c = (typed (record { globals = []; funcs = [] }), c)
 judged_rest names base (source.function pointers n params body) c =
     ruled (judged_function names base pointers n params body) (λ d fs. typed (record { globals = []; funcs = fs })) c
 judged_rest names base (source.variables declarators) c = ruled (judged_globals base declarators) (λ d gs. typed (record { globals = gs; funcs = [] })) c
 
+-- an external declaration: its specifiers, and what stands behind them
 abbrev pub judged_external : (names : List (List ℕ)) → source.External → Judging Made
 judged_external names x around =
     let base = judged_specs (source.specs_of x.specs) around in
     let rest = judged_rest names base.0 x.rest base.1 in
     (both base.0 rest.0 >>= λ p. typed p.1, rest.1)
 
+-- external declarations, in the order of the text
 abbrev pub judged_externals : (names : List (List ℕ)) → List source.External → Judging Made
 judged_externals names [] c = (typed (record { globals = []; funcs = [] }), c)
 judged_externals names (x ∷ xs) c = ruled (in_turn (judged_external names x) (judged_externals names xs)) (λ d p. typed (joined p.0 p.1)) c
@@ -291,6 +323,7 @@ abbrev pub is_main : Option Meaning → Bool
 is_main (Some (function_name n [] (integer t))) = same_int t int
 is_main m = false
 
+-- the number of main, if the file has it
 abbrev pub has_main : Context → (names : List (List ℕ)) → Judged ℕ
 has_main c names =
     unless (length c.text) UnknownName (is_main (lookup (bytes_eq (codes "main")) c.inner) && list_any (bytes_eq (codes "main")) names)
@@ -300,6 +333,7 @@ has_main c names =
 abbrev pub program_of : Context → Made → ℕ → Typed
 program_of c made main = record { structs = c.structs; globals = made.globals; literals = c.literals; funcs = made.funcs; main = main }
 
+-- a file of this text, judged from its first declaration on, with main asked for at its end
 abbrev pub judged_file : List ℕ → source.File → Judged Typed
 judged_file text f =
     let names = defined_names text f.externals in

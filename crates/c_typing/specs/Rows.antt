@@ -21,6 +21,7 @@ use Rattle.c_typing.specs.Programs.{judged_file}
 abbrev name : ℕ → ℕ → Name
 name from to = record { from = from; to = to }
 
+-- where a string literal stands, from its first byte to behind its last
 abbrev span : ℕ → ℕ → Span
 span from to = record { from = from; to = to }
 
@@ -28,6 +29,7 @@ span from to = record { from = from; to = to }
 abbrev refusal_of : List ℕ → source.File → Option Refusal
 refusal_of text f = first (judged_file text f)
 
+-- one fault, of this kind at this place
 abbrev at : ℕ → Kind → Option Refusal
 at place kind = Some (record { place = place; kind = kind })
 
@@ -151,6 +153,7 @@ mutex_kind_tree = record { externals = ((record { storage = []; specs = ((source
 abbrev elements_without_size_tree : source.File
 elements_without_size_tree = record { externals = ((record { storage = []; specs = ((source.word 0 words.Int) ∷ []); rest = (source.function [] (name 4 5) ((record { specs = ((source.struct 6 (name 13 14)) ∷ []); pointers = []; name = (Some (name 15 16)); dims = ((record { place = 16; size = None }) ∷ (record { place = 18; size = (Some (source.int 19 (num int (pos 2)))) }) ∷ []) }) ∷ []) (Some (record { place = 22; items = ((source.return 23 (Some (source.int 30 (num int (pos 0))))) ∷ []) }))) }) ∷ (record { storage = []; specs = ((source.word 33 words.Int) ∷ []); rest = (source.function [] (name 37 41) ((record { specs = ((source.word 42 words.Void) ∷ []); pointers = []; name = None; dims = [] }) ∷ []) (Some (record { place = 47; items = ((source.return 48 (Some (source.int 55 (num int (pos 0))))) ∷ []) }))) }) ∷ []) }
 
+-- the rows: a text with its tree, and the fault that is named, at its place, or none where the program is accepted
 pub record Rows : Type 0 where
   pub unknown_name : refusal_of (codes "int main(void){return b;}") unknown_name_tree ≡ at 22 kinds.UnknownName
   pub double_name : refusal_of (codes "int main(void){int a;int a;return 0;}") double_name_tree ≡ at 25 kinds.DoubleName

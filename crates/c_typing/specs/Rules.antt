@@ -22,6 +22,7 @@ abbrev pub value_by : Ty → Expr → Expr
 value_by (array t n) e = at (place_of e) (pointer t) (decay e)
 value_by t e = e
 
+-- the value of a typed operand
 abbrev pub value_of : Expr → Expr
 value_of e = value_by (type_of e) e
 
@@ -39,11 +40,13 @@ is_zero node = false
 abbrev pub fitted_if : Expr → Bool → Option Expr
 fitted_if e fine = if fine then Some e else None
 
+-- a pointer to s where one to t is wanted: the same type, or void on one of the two sides
 abbrev pub pointer_fitted : (s t : Ty) → Expr → Option Expr
 pointer_fitted s t e =
     if same_type s t then Some e
     else fitted_if (at (place_of e) (pointer t) (convert e)) (is_void s || is_void t)
 
+-- an expression of type s where type t is wanted, converted, or none where it doesn't fit
 abbrev pub fitted_by : (s t : Ty) → Expr → Option Expr
 fitted_by (integer s) (integer t) e = Some (converted s t e)
 fitted_by (integer s) (pointer t) e = fitted_if (at (place_of e) (pointer t) null) (is_zero (node_of e))
@@ -51,6 +54,7 @@ fitted_by (pointer s) (pointer t) e = pointer_fitted s t e
 fitted_by (structure m) (structure n) e = fitted_if e (nat_eq m n)
 fitted_by s t e = None
 
+-- an expression where this type is wanted, by the type that it has
 abbrev pub fitted : Ty → Expr → Option Expr
 fitted t e = fitted_by (type_of e) t e
 
@@ -65,6 +69,7 @@ tested_by place (integer t) e = typed e
 tested_by place (pointer t) e = typed (at (place_of e) (integer int) (pointer_test e))
 tested_by place t e = refuse place TypeMismatch
 
+-- an expression as a condition, by the type that it has
 abbrev pub tested : (place : ℕ) → Expr → Judged Expr
 tested place e = tested_by place (type_of e) e
 
@@ -84,6 +89,7 @@ abbrev pub target_by : ℕ → Ty → Expr → Judged Expr
 target_by place (pointer t) p = typed (at place t (deref p))
 target_by place t p = refuse place TypeMismatch
 
+-- the object that an expression points to, by the type that it has
 abbrev pub target : ℕ → Expr → Judged Expr
 target place p = target_by place (type_of p) p
 
@@ -96,10 +102,12 @@ abbrev pub member_found : ℕ → Expr → Option (ℕ × Ty) → Judged Expr
 member_found place e None = refuse place UnknownName
 member_found place e (Some (m, t)) = typed (at place t (member e m))
 
+-- e.m where e has this type: a mismatch where that is no struct
 abbrev pub selected_by : Context → ℕ → Ty → Expr → Name → Judged Expr
 selected_by c place (structure number) e m = member_found place e (member_of c number m)
 selected_by c place t e m = refuse place TypeMismatch
 
+-- e.m, by the type of e
 abbrev pub selected : Context → ℕ → Expr → Name → Judged Expr
 selected c place e m = selected_by c place (type_of e) e m
 
@@ -155,6 +163,7 @@ pub data Operands : Type 0 where
   pointers : (s t : Ty) → Operands
   others : Operands
 
+-- what operands of these two types are
 abbrev pub operands : Ty → Ty → Operands
 operands (integer s) (integer t) = numbers s t
 operands (integer s) (pointer t) = number_pointer s t
@@ -166,6 +175,7 @@ operands s t = others
 abbrev pub moved_up : Context → ℕ → Ty → Expr → Expr → Judged Expr
 moved_up c place target p n = sized c place target >>= λ u. typed (at place (pointer target) (pointer_add p n))
 
+-- a pointer moved down by a number of elements (C11 6.5.6 p8)
 abbrev pub moved_down : Context → ℕ → Ty → Expr → Expr → Judged Expr
 moved_down c place target p n = sized c place target >>= λ u. typed (at place (pointer target) (pointer_sub p n))
 
@@ -252,6 +262,7 @@ chosen_by place (numbers s t) e a b =
     typed (at place (integer (common_type s t)) (choose e (converted s (common_type s t) a) (converted t (common_type s t) b)))
 chosen_by place what e a b = refuse place TypeMismatch
 
+-- condition ? a : b, by the types of a and b
 abbrev pub chosen : ℕ → Expr → Expr → Expr → Judged Expr
 chosen place e a b = chosen_by place (operands (type_of a) (type_of b)) e a b
 
@@ -262,6 +273,7 @@ chosen place e a b = chosen_by place (operands (type_of a) (type_of b)) e a b
 abbrev pub cast_number_by : ℕ → Ty → Bool → Expr → Judged Expr
 cast_number_by place t zero_constant e = if zero_constant then typed (null_for t e) else refuse place (OutsideSubset 11)
 
+-- (t)e where e has type s
 abbrev pub cast_by : ℕ → (s t : Ty) → Expr → Judged Expr
 cast_by place s void e = typed (at place void (convert e))
 cast_by place (integer s) (integer t) e = typed (at place (integer t) (convert e))
@@ -270,6 +282,7 @@ cast_by place (integer s) (pointer t) e = cast_number_by place t (is_zero (node_
 cast_by place (pointer s) (integer t) e = refuse place (OutsideSubset 11)
 cast_by place s t e = refuse place TypeMismatch
 
+-- (t)e, by the type of e
 abbrev pub cast : ℕ → Ty → Expr → Judged Expr
 cast place t e = cast_by place (type_of e) t e
 

@@ -127,6 +127,7 @@ declared c n m = if is_double c n then c else record c { inner = c.inner ++ (byt
 abbrev pub inside : Context → Context
 inside c = record c { inner = []; outer = c.outer ++ c.inner ∷ [] }
 
+-- the scopes are those around again; all else stays as the text has shown it
 abbrev pub back_to : Context → Context → Context
 back_to around c = record c { inner = around.inner; outer = around.outer }
 
@@ -155,6 +156,7 @@ abbrev pub tag_among : List ℕ → List (List ℕ) → ℕ
 tag_among q [] = 0
 tag_among q (tag ∷ tags) = if bytes_eq q tag then 0 else 1 + tag_among q tags
 
+-- the number of a tag in a context: its struct's number
 abbrev pub tag_number : Context → Name → ℕ
 tag_number c n = tag_among (bytes_of c.text n) c.tags
 
@@ -168,6 +170,7 @@ with_tag c n =
 abbrev pub is_begun : Context → ℕ → Bool
 is_begun c number = list_any (λ other. other == number) c.begun
 
+-- after a struct's opening brace: its braces are begun
 abbrev pub with_begun : Context → ℕ → Context
 with_begun c number = record c { begun = c.begun ++ number ∷ [] }
 
@@ -188,11 +191,13 @@ abbrev pub member_typed : ℕ → Option Ty → Option (ℕ × Ty)
 member_typed m None = None
 member_typed m (Some t) = Some (m, t)
 
+-- the member of this number of a struct, and its type, if there are such a struct and such a member
 abbrev pub member_numbered : Option Layout → Option ℕ → Option (ℕ × Ty)
 member_numbered (Some l) (Some m) = member_typed m (slice_get l.types m)
 member_numbered None m = None
 member_numbered (Some l) None = None
 
+-- the number of the member of this name, if there are such a struct and such a member
 abbrev pub member_in : Option (List (List ℕ)) → List ℕ → Option ℕ
 member_in None q = None
 member_in (Some names) q = member_among 0 q names

@@ -50,6 +50,7 @@ abbrev pub step_op : StepOp → Op
 step_op steps.Increment = ops.Add
 step_op steps.Decrement = ops.Sub
 
+-- ++ or -- of an object: a compound assignment of 1 to it (C11 6.5.2.4, 6.5.3.1)
 abbrev pub stepped : Context → (place : ℕ) → StepOp → Expr → Judged Stmt
 stepped c place op e = updated c place (step_op op) e (at place (integer int) (num int (pos 1)))
 
@@ -67,6 +68,7 @@ assign_op assigns.Xor = Some ops.Xor
 assign_op assigns.Shl = Some ops.Shl
 assign_op assigns.Shr = Some ops.Shr
 
+-- left = right where there is no other operator, and else left op= right
 abbrev pub assigned_by : Context → (place : ℕ) → Option Op → Expr → Expr → Judged Stmt
 assigned_by c place None left right = assigned place left right
 assigned_by c place (Some op) left right = updated c place op left (value_of right)
@@ -90,6 +92,7 @@ or_int (faulty r rs) = integer int
 abbrev pub most_locals : ℕ
 most_locals = 1024
 
+-- behind a local's declarator: it is the last of the locals, and its name is in scope
 abbrev pub with_local : Context → Name → Ty → Context
 with_local c n t = record (declared c n (local_name (length c.locals) t)) { locals = c.locals ++ t ∷ [] }
 
@@ -97,6 +100,7 @@ with_local c n t = record (declared c n (local_name (length c.locals) t)) { loca
 abbrev pub initialised : (place : ℕ) → Ty → Expr → Judged Expr
 initialised place t x = unless place TypeMismatch (is_scalar t) >>= λ u. or_mismatch place (fitted t x)
 
+-- the initialiser of a local, if it has one
 abbrev pub judged_init : (place : ℕ) → Judged Ty → Option source.Expr → Judging (Option Expr)
 judged_init place t None c = (typed None, c)
 judged_init place t (Some e) c = ruled (in_turn (lone t) (valued (judged e))) (λ d p. initialised place p.0 p.1 >>= λ x. typed (Some x)) c
@@ -105,9 +109,11 @@ judged_init place t (Some e) c = ruled (in_turn (lone t) (valued (judged e))) (�
 abbrev pub judged_declarator : source.Declarator → Judging Declarator
 judged_declarator (source.declarator pointers n dims) = ruled (judged_dims dims) (λ c sizes. typed (record { name = n; pointers = pointers; sizes = sizes }))
 
+-- the name that a declarator declares
 abbrev pub name_of : source.Declarator → Name
 name_of (source.declarator pointers n dims) = n
 
+-- a local, at its name, which is in scope in its own initialiser already (C11 6.2.1 p7)
 abbrev pub judged_local : Judged Ty → source.InitDeclarator → Judging Stmt
 judged_local base x around =
     let n = name_of x.declarator in
@@ -117,6 +123,7 @@ judged_local base x around =
     let i = judged_init n.from t x.value (with_local d.1 n (or_int t)) in
     (both (both fine t) i.0 >>= λ p. typed (at_stmt n.from (declare (length d.1.locals) p.1)), i.1)
 
+-- locals that are declared together, in order
 abbrev pub judged_locals : Judged Ty → List source.InitDeclarator → Judging (List Stmt)
 judged_locals base [] c = (typed [], c)
 judged_locals base (x ∷ xs) c = ruled (in_turn (judged_local base x) (judged_locals base xs)) (λ d p. typed (p.0 ∷ p.1)) c
@@ -130,6 +137,7 @@ judged_declaration d around =
 
 -- ---- statements (6.8)
 
+-- statements of a list, in a row
 abbrev pub stmts_of : List Stmt → Stmts
 stmts_of [] = no_stmts
 stmts_of (s ∷ ss) = more_stmts s (stmts_of ss)
@@ -147,6 +155,7 @@ abbrev pub only : List Stmt → Stmt
 only [] = at_stmt 0 empty
 only (s ∷ rest) = s
 
+-- the statement under an if or a loop: the only one that judging it gives
 abbrev pub one_of : Judging (List Stmt) → Judging Stmt
 one_of j = ruled j (λ c ss. typed (only ss))
 
@@ -155,6 +164,7 @@ abbrev pub returned_by : (place : ℕ) → Ty → Expr → Judged Stmt
 returned_by place result x =
     unless place TypeMismatch (not (is_void result)) >>= λ u. or_mismatch place (fitted result x) >>= λ y. typed (at_stmt place (return_ (Some y)))
 
+-- a return at its word, with a value or without, in a function of this result
 abbrev pub returned : (place : ℕ) → (result : Ty) → Option source.Expr → Judging Stmt
 returned place result None c = (unless place TypeMismatch (is_void result) >>= λ u. typed (at_stmt place (return_ None)), c)
 returned place result (Some e) c = ruled (valued (judged e)) (λ d x. returned_by place result x) c
@@ -165,15 +175,18 @@ headed place [] loop = loop (at_stmt place empty)
 headed place (s ∷ []) loop = loop s
 headed place (s ∷ t ∷ rest) loop = at_stmt place (block (more_stmts s (more_stmts (headed place (t ∷ rest) loop) no_stmts)))
 
+-- what stands first in a for: a declaration, an assignment or other expression, or nothing (C11 6.8.5.3)
 abbrev pub judged_first : (place : ℕ) → source.ForFirst → Judging (List Stmt)
 judged_first place (source.first_declare d) = judged_declaration d
 judged_first place (source.first_simple s) = ruled (judged_simple s) (λ c x. typed (x ∷ []))
 judged_first place source.first_nothing = lone (typed [])
 
+-- the condition of a for, if it has one (C11 6.8.5.3 p2)
 abbrev pub judged_condition : (place : ℕ) → Option source.Expr → Judging (Option Expr)
 judged_condition place None = lone (typed None)
 judged_condition place (Some e) = ruled (condition place e) (λ c x. typed (Some x))
 
+-- what a for does behind each turn: an assignment or other expression, or nothing
 abbrev pub judged_step : (place : ℕ) → Option source.Simple → Judging Stmt
 judged_step place None = lone (typed (at_stmt place empty))
 judged_step place (Some s) = judged_simple s
@@ -186,6 +199,7 @@ looped place first test step body =
 
 -- a statement, in a function of this result, in a loop or not; and the items of a body: a declaration may give several
 abbrev mutual
+  -- a statement where it stands: what it makes, which for a declaration is one statement for each declarator
   pub judged_stmt : (result : Ty) → (in_loop : Bool) → source.Stmt → Judging (List Stmt)
   judged_stmt result in_loop (source.block place items) c =
       ruled (scoped (judged_stmts result in_loop items)) (λ d ss. typed (at_stmt place (block (stmts_of ss)) ∷ [])) c
@@ -205,6 +219,7 @@ abbrev mutual
   judged_stmt result in_loop (source.return place value) c = ruled (returned place result value) (λ d x. typed (x ∷ [])) c
   judged_stmt result in_loop (source.simple s) c = ruled (judged_simple s) (λ d x. typed (x ∷ [])) c
 
+  -- the items of a body, from first to last
   pub judged_stmts : (result : Ty) → (in_loop : Bool) → source.Stmts → Judging (List Stmt)
   judged_stmts result in_loop source.no_stmts c = (typed [], c)
   judged_stmts result in_loop (source.more_stmts s rest) c =

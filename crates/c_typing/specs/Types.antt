@@ -33,10 +33,12 @@ same_types (s ∷ ss) (t ∷ ts) = same_type s t && same_types ss ts
 same_types [] (t ∷ ts) = false
 same_types (s ∷ ss) [] = false
 
+-- the type void (C11 6.2.5 p19)
 abbrev pub is_void : Ty → Bool
 is_void void = true
 is_void t = false
 
+-- an array type (C11 6.2.5 p20)
 abbrev pub is_array : Ty → Bool
 is_array (array t n) = true
 is_array t = false
@@ -108,9 +110,11 @@ same_words ws vs = list_all (λ w. nat_eq (times w ws) (times w vs)) naming_word
 abbrev pub unsigned_char : IntType
 unsigned_char = record { signed = false; bits = 8; known_width = refl }
 
+-- short has 16 bits, with a sign (this project's profile)
 abbrev pub short : IntType
 short = record { signed = true; bits = 16; known_width = refl }
 
+-- unsigned short has 16 bits, without a sign (this project's profile)
 abbrev pub unsigned_short : IntType
 unsigned_short = record { signed = false; bits = 16; known_width = refl }
 

@@ -13,9 +13,11 @@ use Rattle.type_context.specs.declared.names.Meaning.TheVariants as meanings
 use Rattle.c_typing.specs.Scope.{Library, printf, malloc, free, memcpy, thrd_create, thrd_join, mtx_init, mtx_lock, mtx_unlock, mtx_destroy, constant}
 use Rattle.c_typing.specs.Scope.{Meaning, global_name, local_name, function_name, library_name, Frame, Context}
 
+-- the types that those of the code stand for
 abbrev pub types_view : List CType → List Ty
 types_view ts = map type_view ts
 
+-- the name of the library that one of the code stands for
 abbrev pub library_view : CodeLibrary → Library
 library_view codes.Printf = printf
 library_view codes.Malloc = malloc
@@ -33,6 +35,7 @@ library_view (codes.Constant value) = constant value
 abbrev pub library_entry : Bor (List ℕ) × CodeLibrary → List ℕ × Library
 library_entry e = (e.0.now, library_view e.1)
 
+-- what a name means, by what the code holds
 abbrev pub meaning_view : CodeMeaning → Meaning
 meaning_view (meanings.Global n t) = global_name n (type_view t)
 meaning_view (meanings.Local n t) = local_name n (type_view t)
@@ -48,6 +51,7 @@ seen (Some b) = Some (meaning_view b.now)
 abbrev pub meaning_entry : Bor (List ℕ) × CodeMeaning → List ℕ × Meaning
 meaning_entry e = (e.0.now, meaning_view e.1)
 
+-- one scope: its names in order, each with what it means
 abbrev pub frame_view : List (Bor (List ℕ) × CodeMeaning) → Frame
 frame_view es = map meaning_entry es
 
@@ -55,6 +59,7 @@ frame_view es = map meaning_entry es
 abbrev pub bytes_view : List (Bor (List ℕ)) → List (List ℕ)
 bytes_view bs = map (λ b. b.now) bs
 
+-- what stands before a node, by what the code holds
 abbrev pub context_view : CodeContext → Context
 context_view c = record {
   text = c.text.now;
@@ -77,8 +82,10 @@ context_view c = record {
 abbrev pub member_type_view : MemberType → List ℕ × Ty
 member_type_view m = (m.name.now, type_view m.ty)
 
+-- the members of a struct, as they are declared
 abbrev pub members_view : List MemberType → List (List ℕ × Ty)
 members_view ms = map member_type_view ms
 
+-- the number of a member that was found, and its type
 abbrev pub member_view : ℕ × CType → ℕ × Ty
 member_view m = (m.0, type_view m.1)

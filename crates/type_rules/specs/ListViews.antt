@@ -6,8 +6,10 @@ use Rattle.c_tree.specs.declared.typed.Piece.{Piece as CodePiece}
 use Rattle.c_tree.specs.Typed as trees
 use Rattle.c_tree.specs.TypedViews.{expr_view, piece_view}
 
+-- the expressions that those of a list of the code stand for
 abbrev pub exprs_view : Vec CodeExpr Global → List trees.Expr
 exprs_view v = map expr_view v.items
 
+-- the pieces of a format that those of a list of the code stand for
 abbrev pub pieces_view : Vec CodePiece Global → List trees.Piece
 pieces_view v = map piece_view v.items

@@ -10,6 +10,7 @@ joined_fault NoMemory e = NoMemory
 joined_fault (Refused r) NoMemory = NoMemory
 joined_fault (Refused r) (Refused s) = Refused (earlier r s)
 
+-- both values where there are two, the one fault where there is one, and else the fault that both come to
 unfoldable pub joined : {A B : Type 0} → Result A CompileFault → Result B CompileFault → Result (A × B) CompileFault
 joined (Ok x) (Ok y) = Ok (x, y)
 joined (Ok x) (Err e) = Err e

@@ -8,6 +8,7 @@ use Rattle.type_context.specs.declared.words.Named.{Named}
 use Rattle.type_context.specs.declared.words.Named.TheVariants as codes
 use Rattle.c_typing.specs.Types.{unsigned_char, short, unsigned_short}
 
+-- the type that one of the code's names for types stands for
 abbrev pub named_view : Named → Ty
 named_view codes.Void = void
 named_view codes.Char = integer char
