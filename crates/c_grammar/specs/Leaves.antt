@@ -62,10 +62,12 @@ derivation_at level n sign = record { level = level; count = derivation n; sign 
 
 -- ---- limits
 
+-- a thing where the condition holds, and none where it doesn't
 abbrev pub if_so : {A : Type 0} → Bool → A → Option A
 if_so true a = Some a
 if_so false a = None
 
+-- the first of two where it is there, and else the second
 abbrev pub first_of : {A : Type 0} → Option A → Option A → Option A
 first_of (Some a) o = Some a
 first_of None o = o

@@ -48,6 +48,7 @@ statement_leaves = at 0 (word_at 0 reserved.Struct) ∷ at 0 (name_at (name 7 8)
     ∷ at 2 (name_at (name 36 37)) ∷ operator_at 2 1 (mark_at 37 marks.Arrow) ∷ at 2 (name_at (name 39 40)) ∷ at 2 (mark_at 40 marks.Assign)
     ∷ at 2 (int_at 41 (num int (pos 1))) ∷ at 2 (some_mark marks.Semicolon) ∷ at 1 (some_mark marks.CloseBrace) ∷ at 0 the_end ∷ []
 
+-- both files have these tokens, and each limit allows its last and refuses the next
 pub record Rows : Type 0 where
   pub expression : leaves expression_tree ≡ expression_leaves
   pub statement : leaves statement_tree ≡ statement_leaves

@@ -20,9 +20,11 @@ pub record Got (A : Type 0) : Type 0 where
   pub count : ℕ
   pub rest : List Token
 
+-- what comes of reading: a tree and what is left behind it, or why there is none
 abbrev pub Reading : Type 0 → Type 0
 Reading A = Result (Got A) Fault
 
+-- this tree was read, with so many operators of the full expression up to its end, and these tokens are behind it
 abbrev pub got : {A : Type 0} → A → ℕ → List Token → Reading A
 got a c ts = Ok (record { tree = a; count = c; rest = ts })
 
@@ -38,6 +40,7 @@ abbrev pub ◌>>=◌ : {A B : Type 0} → Result A Fault → (A → Result B Fau
 
 -- ---- sorts of tokens, by which readers choose
 
+-- a token without its place and its value: a name, a constant, a string literal, which word, which mark, or the end
 pub data Sort : Type 0 where
   a_name : Sort
   an_int : Sort
@@ -47,6 +50,7 @@ pub data Sort : Type 0 where
   a_mark : (m : Mark) → Sort
   an_end : Sort
 
+-- the sort of a token of this kind
 abbrev pub sort_of_kind : TokenKind → Sort
 sort_of_kind kinds.Name = a_name
 sort_of_kind (kinds.Int n) = an_int
@@ -56,6 +60,7 @@ sort_of_kind (kinds.Word w) = a_word w
 sort_of_kind (kinds.Mark m) = a_mark m
 sort_of_kind kinds.End = an_end
 
+-- the sort of a token
 abbrev pub sort : Token → Sort
 sort t = sort_of_kind t.kind
 
@@ -66,6 +71,7 @@ abbrev pub allowed : {A : Type 0} → A → ℕ → Token → List Token → Opt
 allowed a c t ts None = got a c ts
 allowed a c t ts (Some k) = Err (stop (Some k) (length (t ∷ ts)))
 
+-- the next token as what it is in the class, unless it is over a limit; a token that isn't in the class may not stand there
 abbrev pub take_turn : {A : Type 0} → (ℕ → Option Kind) → (ℕ → ℕ) → ℕ → Token → List Token → Option A → Reading A
 take_turn check next c t ts None = Err (stop None (length (t ∷ ts)))
 take_turn check next c t ts (Some a) = allowed a (next c) t ts (check c)
@@ -115,6 +121,7 @@ full r c ts = do
   a ← r 0 ts
   Ok (record { tree = a.tree; count = c; rest = a.rest })
 
+-- the part that the next token begins; a token that begins none may not stand there
 abbrev pub choice_turn : {S A : Type 0} → (S → Reads A) → ℕ → Token → List Token → Option S → Reading A
 choice_turn part c t ts None = Err (stop None (length (t ∷ ts)))
 choice_turn part c t ts (Some s) = part s c (t ∷ ts)
@@ -124,6 +131,7 @@ abbrev pub choice : {S A : Type 0} → (Sort → Option S) → (S → Reads A) �
 choice start part c [] = Err (stop None 0)
 choice start part c (t ∷ ts) = choice_turn part c t ts (start (sort t))
 
+-- the part where it stands, and nothing where it doesn't
 abbrev pub maybe_by : {A : Type 0} → Reads A → Bool → Reads (Option A)
 maybe_by r true = made Some r
 maybe_by r false = nothing None
@@ -132,6 +140,7 @@ maybe_by r false = nothing None
 abbrev pub maybe : {A : Type 0} → (Sort → Bool) → Reads A → Reads (Option A)
 maybe start r = choice (λ s. Some (start s)) (maybe_by r)
 
+-- the token is refused: as too deep where it would begin the part, and else because it may not stand there
 abbrev pub refused : {A : Type 0} → Token → List Token → Bool → Reading A
 refused t ts true = Err (stop (Some TooDeep) (length (t ∷ ts)))
 refused t ts false = Err (stop None (length (t ∷ ts)))
@@ -164,6 +173,7 @@ turns turn (suc n) a c ts = do
 abbrev pub repeat : {A : Type 0} → (A → Reads (Turn A)) → A → Reads A
 repeat turn a c ts = turns turn (suc (length ts)) a c ts
 
+-- where a link stands, it is joined to what was read, and the loop goes on; where none does, the loop ends
 abbrev pub link_by : {A X : Type 0} → (A → X → A) → A → Reads X → Bool → Reads (Turn A)
 link_by join a link true = made (λ x. again (join a x)) link
 link_by join a link false = nothing (last a)

@@ -24,6 +24,7 @@ pub data Sized : Type 0 where
   a_type : (t : TypeName) → Sized
   an_expr : (e : Expr) → Sized
 
+-- the parts of the grammar that are nested in others, each as it is read at one level
 pub record Level : Type 0 where
   pub expr : Reads Expr
   pub cast : Reads Expr
@@ -41,6 +42,7 @@ abbrev pub either_by : {A : Type 0} → Reads A → Reads A → Bool → Reads A
 either_by r q true = r
 either_by r q false = q
 
+-- one of two parts: the first where the next token begins it, and else the second
 abbrev pub either : {A : Type 0} → (Sort → Bool) → Reads A → Reads A → Reads A
 either start r q = choice (λ s. Some (start s)) (either_by r q)
 
@@ -51,6 +53,7 @@ unfoldable pub arguments : ℕ → Level → Reads (List Expr)
 arguments deeper inner = made (λ (_, (all, _)). all)
     (tok deeper (mark_is marks.OpenParen) & either begins_expr (commas deeper inner.expr inner.expr) (nothing []) & tok deeper (mark_is marks.CloseParen))
 
+-- a name alone, or the call of it with the arguments behind it (C11 6.5.2.2)
 abbrev pub name_or_call : Name → Option (List Expr) → Expr
 name_or_call n None = name n
 name_or_call n (Some all) = call n (exprs_of all)
@@ -71,6 +74,7 @@ pub data Operand : Type 0 where
   Texts : Operand
   NullWord : Operand
 
+-- the primary that begins so (C11 6.5.1)
 abbrev pub operand_by : ℕ → ℕ → Level → Operand → Reads Expr
 operand_by room deeper inner Named = named room deeper inner
 operand_by room deeper inner AnInt = made (λ (place, value). int place value) (tok room int_of)
@@ -78,6 +82,7 @@ operand_by room deeper inner AChar = made (λ (place, value). char place value) 
 operand_by room deeper inner Texts = texts room
 operand_by room deeper inner NullWord = made null (tok room (word_place words.Null))
 
+-- which primary the token begins, if it begins one that isn't in brackets
 abbrev pub operand_start : Sort → Option Operand
 operand_start a_name = Some Named
 operand_start an_int = Some AnInt
@@ -96,25 +101,30 @@ pub data Post : Type 0 where
   a_member : (place : ℕ) (m : Name) → Post
   an_arrow : (place : ℕ) (m : Name) → Post
 
+-- the expression with the postfix operator behind it (C11 6.5.2)
 abbrev pub posted : Expr → Post → Expr
 posted a (an_index place at) = index place a at
 posted a (a_member place m) = member place a m
 posted a (an_arrow place m) = arrow place a m
 
+-- what a postfix operator begins with
 pub data PostStart : Type 0 where
   Bracket : PostStart
   Dot : PostStart
   Arrow : PostStart
 
+-- which postfix operator the token begins, if it begins one
 abbrev pub post_start : Sort → Option PostStart
 post_start (a_mark marks.OpenBracket) = Some Bracket
 post_start (a_mark marks.Dot) = Some Dot
 post_start (a_mark marks.Arrow) = Some Arrow
 post_start _ = None
 
+-- a token that a postfix operator begins with
 abbrev pub begins_post : Sort → Bool
 begins_post s = is_some (post_start s)
 
+-- the postfix operator that begins so, and what belongs to it; it is counted
 abbrev pub post_by : ℕ → ℕ → Level → PostStart → Reads Post
 post_by room deeper inner Bracket = made (λ (place, (e, _)). an_index place e) (counted_tok deeper (mark_place marks.OpenBracket) & inner.expr & tok deeper (mark_is marks.CloseBracket))
 post_by room deeper inner Dot = made (λ (place, m). a_member place m) (counted_tok room (mark_place marks.Dot) & tok room name_of)
@@ -132,17 +142,20 @@ posts room deeper inner primary = chain primary begins_post (λ _. post room dee
 unfoldable pub group_rest : ℕ → ℕ → Level → Reads Expr
 group_rest room deeper inner = posts room deeper inner (made (λ (e, _). group e) (inner.expr & tok deeper (mark_is marks.CloseParen)))
 
+-- what a unary expression or a cast begins with
 pub data UnaryStart : Type 0 where
   Primary : UnaryStart
   Paren : UnaryStart
   Prefix : UnaryStart
   Sizeof : UnaryStart
 
+-- what a mark begins: a prefix operator where it is one, and else a bracketed part where it opens one
 abbrev pub if_mark : Bool → Bool → Option UnaryStart
 if_mark true b = Some Prefix
 if_mark false true = Some Paren
 if_mark false false = None
 
+-- which unary expression or cast the token begins, if it begins one
 abbrev pub unary_start : Sort → Option UnaryStart
 unary_start a_name = Some Primary
 unary_start an_int = Some Primary
@@ -153,10 +166,12 @@ unary_start (a_word words.Sizeof) = Some Sizeof
 unary_start (a_mark m) = if_mark (is_some (prefix_of_mark m)) (sameb mark_type m marks.OpenParen)
 unary_start _ = None
 
+-- the sizeof at the place, of a type or of an expression (C11 6.5.3.4)
 abbrev pub sizeof_by : ℕ → Sized → Expr
 sizeof_by place (a_type t) = sizeof_type place t
 sizeof_by place (an_expr e) = sizeof_expr place e
 
+-- the unary expression that begins so (C11 6.5.3); behind an opening bracket stands an expression
 abbrev pub unary_by : ℕ → ℕ → Level → UnaryStart → Reads Expr
 unary_by room deeper inner Primary = posts room deeper inner (operand room deeper inner)
 unary_by room deeper inner Paren = made (λ (_, e). e) (tok deeper (mark_is marks.OpenParen) & group_rest room deeper inner)
@@ -173,6 +188,7 @@ paren_rest room deeper inner place = either begins_type
     (made (λ (t, (_, e)). cast place t e) (inner.type_name & tok deeper (mark_is marks.CloseParen) & inner.cast))
     (group_rest room deeper inner)
 
+-- the cast expression that begins so (C11 6.5.4); behind an opening bracket stands the name of a type or an expression
 abbrev pub cast_by : ℕ → ℕ → Level → UnaryStart → Reads Expr
 cast_by room deeper inner Paren = made (λ (place, e). e) (tok deeper (mark_place marks.OpenParen) ▸ paren_rest room deeper inner)
 cast_by room deeper inner s = unary_by room deeper inner s
@@ -194,6 +210,7 @@ unfoldable pub ladder : ℕ → Reads Expr → ℕ → Reads Expr
 ladder room operand zero = operand
 ladder room operand (suc h) = chain (ladder room operand h) (is_binary h) (λ _. counted_tok room (binary_of h) & ladder room operand h) (λ a ((place, op), b). binary place op a b)
 
+-- the expression alone, or the conditional of which it is the condition (C11 6.5.15)
 abbrev pub conditional_by : Expr → Option (ℕ × (Expr × (Unit {0} × Expr))) → Expr
 conditional_by a None = a
 conditional_by a (Some (place, (t, (_, e)))) = conditional place a t e
@@ -205,15 +222,18 @@ expr room deeper inner = made (λ (a, o). conditional_by a o)
 
 -- ---- types, where the braces of a struct may stand or not (C11 6.7.2, 6.7.6)
 
+-- what a specifier begins with
 pub data SpecStart : Type 0 where
   TypeWords : SpecStart
   StructWord : SpecStart
 
+-- what a word begins: the specifier that it is by itself, if it is one, and else a struct if it is that word
 abbrev pub if_spec : Bool → Bool → Option SpecStart
 if_spec true b = Some TypeWords
 if_spec false true = Some StructWord
 if_spec false false = None
 
+-- which specifier the token begins, if it begins one
 abbrev pub spec_start : Sort → Option SpecStart
 spec_start (a_word w) = if_spec (is_some (type_of_word w)) (sameb word_type w words.Struct)
 spec_start _ = None
@@ -223,14 +243,17 @@ unfoldable pub members : ℕ → Level → Reads (List Member)
 members deeper inner = made (λ (_, (all, _)). all)
     (tok deeper (mark_is marks.OpenBrace) & row_from inner.member begins_type inner.member & tok deeper (mark_is marks.CloseBrace))
 
+-- the members of a struct between its braces, if these stand there; none where braces may not stand
 abbrev pub members_where : Bool → ℕ → Level → Reads (Option (List Member))
 members_where true deeper inner = maybe (is_mark marks.OpenBrace) (members deeper inner)
 members_where false deeper inner = nothing None
 
+-- a struct by its tag alone, or with its members (C11 6.7.2.1, 6.7.2.3)
 abbrev pub struct_by : ℕ → Name → Option (List Member) → Spec
 struct_by place tag None = struct place tag
 struct_by place tag (Some all) = struct_body place tag (members_row all)
 
+-- the specifier that begins so (C11 6.7.2)
 abbrev pub spec_by : Bool → ℕ → ℕ → Level → SpecStart → Reads Spec
 spec_by braces room deeper inner TypeWords = made (λ (place, w). word place w) (tok room type_word_of)
 spec_by braces room deeper inner StructWord = made (λ (place, (tag, all)). struct_by place tag all) (tok room (word_place words.Struct) & tok room name_of & members_where braces deeper inner)
@@ -243,16 +266,19 @@ spec braces room deeper inner = choice spec_start (spec_by braces room deeper in
 unfoldable pub specs : Bool → ℕ → ℕ → Level → Reads (List Spec)
 specs braces room deeper inner = row_from (spec braces room deeper inner) begins_type (spec braces room deeper inner)
 
+-- const or restrict, if the word is one of them
 abbrev pub if_pointer : Bool → Bool → Option Pointer
 if_pointer true b = Some Const
 if_pointer false true = Some Restrict
 if_pointer false false = None
 
+-- which of star, const and restrict the token is, if it is one of them (C11 6.7.6.1)
 abbrev pub pointer_start : Sort → Option Pointer
 pointer_start (a_mark marks.Star) = Some Star
 pointer_start (a_word w) = if_pointer (sameb word_type w words.Const) (sameb word_type w words.Restrict)
 pointer_start _ = None
 
+-- a star, const or restrict behind n stars; stars alone are counted
 abbrev pub pointer_by : ℕ → ℕ → Pointer → Reads Pointer
 pointer_by room n Star = made (λ _. Star) (derived_tok room n (mark_is marks.Star))
 pointer_by room n Const = made (λ _. Const) (tok room (word_is words.Const))
@@ -262,6 +288,7 @@ pointer_by room n Restrict = made (λ _. Restrict) (tok room (word_is words.Rest
 unfoldable pub pointers : ℕ → Reads (List Pointer)
 pointers room = chain (nothing []) is_pointer (λ front. choice pointer_start (pointer_by room (stars 0 front))) pushed
 
+-- a part may stand there, unless the condition holds
 abbrev pub unless : Bool → Option (Unit {0})
 unless true = None
 unless false = Some tt
@@ -323,6 +350,7 @@ no_level = record {
   member = too_deep begins_type;
 }
 
+-- all that the level with so much room offers, where the braces of a struct may stand or not
 unfoldable pub level_at : Bool → ℕ → Level
 level_at braces zero = no_level
 level_at braces (suc deeper) = level_by braces deeper (level_at braces deeper)
@@ -333,6 +361,7 @@ level_at braces (suc deeper) = level_by braces deeper (level_at braces deeper)
 unfoldable pub value : ℕ → Level → Reads Expr
 value room here = made (λ (_, e). e) (tok room (mark_is marks.Assign) & full here.expr)
 
+-- the declarator with its initialiser, if it has one
 abbrev pub init_by : Declarator → Option Expr → InitDeclarator
 init_by d v = record { declarator = d; value = v }
 
@@ -357,16 +386,19 @@ pub data Tail : Type 0 where
   a_value : (place : ℕ) (op : AssignOp) (e : Expr) → Tail
   no_tail : Tail
 
+-- the simple statement that an expression is with what is behind it
 abbrev pub simple_of : Expr → Tail → Simple
 simple_of e (a_step place op) = after place op e
 simple_of e (a_value place op v) = assign place op e v
 simple_of e no_tail = eval e
 
+-- what stands behind the expression of a simple statement: an increment or decrement, an assignment, or nothing of the kind
 pub data TailStart : Type 0 where
   Stepped : TailStart
   Assigned : TailStart
   Nothing : TailStart
 
+-- what a mark begins behind the expression; an increment or decrement may not stand behind one that isn't a postfix
 abbrev pub if_tail : Bool → Bool → Bool → Option TailStart
 if_tail true step postfix = Some Assigned
 if_tail false true true = Some Stepped
@@ -378,14 +410,17 @@ abbrev pub tail_start : Bool → Sort → Option TailStart
 tail_start postfix (a_mark m) = if_tail (is_some (assign_of_mark m)) (is_some (step_of_mark m)) postfix
 tail_start postfix _ = Some Nothing
 
+-- what begins so behind the expression: the operator, and the value where it assigns
 abbrev pub tail_by : ℕ → Level → TailStart → Reads Tail
 tail_by room here Stepped = made (λ (place, op). a_step place op) (tok room step_of)
 tail_by room here Assigned = made (λ ((place, op), e). a_value place op e) (tok room assign_of & here.expr)
 tail_by room here Nothing = nothing no_tail
 
+-- what is behind the expression of a simple statement, which must be a postfix where it is incremented or decremented
 abbrev pub simple_tail : ℕ → Level → Expr → Reads Tail
 simple_tail room here e = choice (tail_start (rank e == 0)) (tail_by room here)
 
+-- an increment or decrement
 abbrev pub is_step : Sort → Bool
 is_step (a_mark m) = is_some (step_of_mark m)
 is_step _ = false
@@ -401,20 +436,24 @@ simply (suc deeper) = either is_step
 unfoldable pub condition : ℕ → Reads Expr
 condition deeper = made (λ (_, (e, _)). e) (tok deeper (mark_is marks.OpenParen) & full (level_at false deeper).expr & tok deeper (mark_is marks.CloseParen))
 
+-- what stands first between the brackets of a for: a declaration, nothing, or a simple statement
 pub data FirstStart : Type 0 where
   Declared : FirstStart
   Empty : FirstStart
   Simply : FirstStart
 
+-- which of these it is: a declaration where a type begins, nothing at a semicolon, a simple statement where one begins
 abbrev pub if_first : Bool → Bool → Bool → Option FirstStart
 if_first true b c = Some Declared
 if_first false true c = Some Empty
 if_first false false true = Some Simply
 if_first false false false = None
 
+-- what the token begins there, if it begins one of these
 abbrev pub first_start : Sort → Option FirstStart
 first_start s = if_first (begins_type s) (is_mark marks.Semicolon s) (begins_simple s)
 
+-- what begins so between the brackets of a for, with its semicolon (C11 6.8.5.3)
 abbrev pub first_by : ℕ → FirstStart → Reads ForFirst
 first_by room Declared = made first_declare (declaration room)
 first_by room Empty = made (λ _. first_nothing) (tok room (mark_is marks.Semicolon))
@@ -424,6 +463,7 @@ first_by room Simply = made (λ (s, _). first_simple s) (simply room & tok room 
 unfoldable pub first : ℕ → Reads ForFirst
 first room = choice first_start (first_by room)
 
+-- what a statement begins with
 pub data StmtStart : Type 0 where
   ABlock : StmtStart
   AnEmpty : StmtStart
@@ -435,10 +475,12 @@ pub data StmtStart : Type 0 where
   AReturn : StmtStart
   ASimple : StmtStart
 
+-- a simple statement, where the token begins one
 abbrev pub if_simple : Bool → Option StmtStart
 if_simple true = Some ASimple
 if_simple false = None
 
+-- which statement the token begins, if it begins one
 abbrev pub stmt_start : Sort → Option StmtStart
 stmt_start (a_mark marks.OpenBrace) = Some ABlock
 stmt_start (a_mark marks.Semicolon) = Some AnEmpty
@@ -450,9 +492,11 @@ stmt_start (a_word words.Continue) = Some AContinue
 stmt_start (a_word words.Return) = Some AReturn
 stmt_start s = if_simple (begins_simple s)
 
+-- a token that a statement begins with
 abbrev pub begins_stmt : Sort → Bool
 begins_stmt s = is_some (stmt_start s)
 
+-- a token that an item of a body begins with, which is a declaration or a statement (C11 6.8.2)
 abbrev pub begins_item : Sort → Bool
 begins_item s = begins_type s || begins_stmt s
 
@@ -461,10 +505,12 @@ unfoldable pub items : ℕ → Reads Stmt → Reads (ℕ × List Stmt)
 items deeper stmt = made (λ (place, (all, _)). (place, all))
     (tok deeper (mark_place marks.OpenBrace) & row begins_item (either begins_type (made declare (declaration deeper)) stmt) & tok deeper (mark_is marks.CloseBrace))
 
+-- an if, with its else if there is one (C11 6.8.4.1)
 abbrev pub if_by : ℕ → Expr → Stmt → Option Stmt → Stmt
 if_by place e s None = if_then place e s
 if_by place e s (Some t) = if_else place e s t
 
+-- the statement that begins so; an else belongs to the nearest if before it (C11 6.8.4.1)
 abbrev pub stmt_by : ℕ → ℕ → Reads Stmt → StmtStart → Reads Stmt
 stmt_by room deeper inner ABlock = made (λ (place, all). block place (stmts_of all)) (items deeper inner)
 stmt_by room deeper inner AnEmpty = made empty (tok room (mark_place marks.Semicolon))
@@ -487,6 +533,7 @@ stmt_at (suc deeper) = choice stmt_start (stmt_by (suc deeper) deeper (stmt_at d
 
 -- ---- files (C11 6.9): the level 0, whose room is 129
 
+-- a dimension of a parameter, with the place of its bracket and the size in it, if there is one
 abbrev pub param_dim_by : ℕ → Option Expr → ParamDim
 param_dim_by place e = record { place = place; size = e }
 
@@ -495,6 +542,7 @@ unfoldable pub param_dim : ℕ → ℕ → Reads ParamDim
 param_dim deeper n = made (λ (place, (e, _)). param_dim_by place e)
     (derived_tok deeper n (mark_place marks.OpenBracket) & maybe begins_expr (full (level_at false deeper).expr) & tok deeper (mark_is marks.CloseBracket))
 
+-- a name
 abbrev pub is_name : Sort → Bool
 is_name a_name = true
 is_name _ = false
@@ -513,6 +561,7 @@ unfoldable pub params : Reads (List Param)
 params = made (λ (_, (all, _)). all)
     (tok 128 (mark_is marks.OpenParen) & either begins_type (commas 128 (param 128 127) (param 128 127)) (nothing []) & tok 128 (mark_is marks.CloseParen))
 
+-- the body with these items, whose opening brace stands at the place
 abbrev pub body_by : ℕ × List Stmt → Body
 body_by b = record { place = b.0; items = b.1 }
 
@@ -536,6 +585,7 @@ unfoldable pub external_rest : Reads Rest
 external_rest = either (is_mark marks.Semicolon) (made (λ _. trees.nothing) (tok 129 (mark_is marks.Semicolon)))
     (made (λ (_, (_, r)). r) (bare_pointers 129 ▸ λ ps. tok 129 name_of ▸ λ n. named_rest ps n))
 
+-- the external declaration with these parts
 abbrev pub external_by : List Storage → List Spec → Rest → External
 external_by storage ss r = record { storage = storage; specs = ss; rest = r }
 
@@ -544,6 +594,7 @@ unfoldable pub external : Reads External
 external = made (λ (storage, (ss, r)). external_by storage ss r)
     (row is_storage (tok 129 storage_of) & specs true 129 128 (level_at true 128) & external_rest)
 
+-- a token that an external declaration begins with
 abbrev pub begins_external : Sort → Bool
 begins_external s = is_storage s || begins_type s
 
