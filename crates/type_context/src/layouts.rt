@@ -135,11 +135,7 @@ pub fn struct_size(structs: &[Layout], types: &[CType]) -> Result<u64, CompileFa
 }
 
 /// A struct with these members.
-pub fn lay_out(
-    alloc: Global,
-    structs: &[Layout],
-    types: Vec<CType>,
-) -> Result<Layout, CompileFault>
+pub fn lay_out(alloc: Global, structs: &[Layout], types: Vec<CType>) -> Result<Layout, CompileFault>
     ensures laid { IfOk result (λ r. layout_view r ≡ laid_out (map layout_view structs.now) (map type_view types.items)) }
     ensures memory { IfErr result (λ e. e ≡ NoMemory) }
 {

@@ -7,16 +7,16 @@ ghost use Rattle.c_typing.specs.Faults.{Gives};
 ghost use Rattle.c_typing.specs.Statements.{assignable, assigned, moves, updates, updated, step_op, stepped, assign_op, assigned_by, initialised, returned_by};
 ghost use Rattle.type_context.specs.ContextViews.{context_view};
 
-use type_context::context::Context;
 use crate::conversions::{fitted, value_of};
-use type_context::faults::{refused, unless};
-use type_context::kinds::{has_size, is_array, is_scalar, is_void};
 use crate::unary::is_lvalue;
 use ak_words::{IntType, Num, Op};
 use c_lex::{CompileFault, Kind};
 use c_tree::syntax::{AssignOp, StepOp};
 use c_tree::typed::{CType, Expr, ExprNode, Stmt, StmtNode};
 use std::alloc::Global;
+use type_context::context::Context;
+use type_context::faults::{refused, unless};
+use type_context::kinds::{has_size, is_array, is_scalar, is_void};
 
 // Whether it may be assigned: it is an object, and no array.
 fn assignable(place: u32, e: &Expr) -> Result<(), CompileFault>
@@ -109,12 +109,7 @@ fn one(place: u32) -> Expr
 }
 
 /// `e++` and its kin (C11 6.5.2.4, 6.5.3.1).
-pub fn stepped(
-    context: &Context<'_>,
-    place: u32,
-    op: StepOp,
-    e: Expr,
-) -> Result<Stmt, CompileFault>
+pub fn stepped(context: &Context<'_>, place: u32, op: StepOp, e: Expr) -> Result<Stmt, CompileFault>
     ensures { Gives stmt_view result (stepped (context_view context.now) place op (expr_view e)) }
 {
     updated(context, place, step_op(op), e, one(place))
@@ -160,12 +155,7 @@ pub fn assigned_by(
 
 /// An initialiser, of a number or a pointer (C11 6.7.9 p11).
 #[tactic(auto, using(type_context::proofs::Judging::fails_part))]
-pub fn initialised(
-    alloc: Global,
-    place: u32,
-    t: &CType,
-    value: Expr,
-) -> Result<Expr, CompileFault>
+pub fn initialised(alloc: Global, place: u32, t: &CType, value: Expr) -> Result<Expr, CompileFault>
     ensures { Gives expr_view result (initialised place (type_view t.now) (expr_view value)) }
 {
     unless(place, Kind::TypeMismatch, is_scalar(t))?;

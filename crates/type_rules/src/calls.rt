@@ -8,11 +8,11 @@ ghost use Rattle.c_typing.specs.Judgement.{exprs_of, fitted_all, called, called_
 ghost use Rattle.type_rules.specs.ListViews.{exprs_view};
 
 use crate::conversions::fitted;
-use type_context::faults::refused;
-use type_context::kinds::copy_type;
 use c_lex::{CompileFault, Kind};
 use c_tree::typed::{CType, Expr, ExprNode, Lib};
 use std::alloc::Global;
+use type_context::faults::refused;
+use type_context::kinds::copy_type;
 
 /// As many arguments as parameters, each fitted to its own.
 pub fn fitted_all(

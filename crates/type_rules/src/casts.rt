@@ -5,10 +5,10 @@ ghost use Rattle.c_typing.specs.Faults.{Gives, typed};
 ghost use Rattle.c_typing.specs.Rules.{cast};
 
 use crate::conversions::is_zero;
-use type_context::faults::refused;
 use c_lex::{CompileFault, Kind};
 use c_tree::typed::{CType, Expr, ExprNode};
 use std::alloc::Global;
+use type_context::faults::refused;
 
 /// `(t)e`: anything to `void`, a number to a number, a pointer to a pointer, and the constant 0 to
 /// a pointer; between other numbers and pointers there are no casts in the language.

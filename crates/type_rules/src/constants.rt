@@ -5,10 +5,10 @@ ghost use Rattle.c_tree.specs.TypedViews.{type_view, expr_view};
 ghost use Rattle.c_typing.specs.Constants.{is_constant_prefix, is_constant_binary, is_constant, at_type, both_values, is_zero_value, value, constant_value};
 ghost use Rattle.type_context.specs.ContextViews.{context_view};
 
-use type_context::context::Context;
 use ak_words::{Num, Op, apply};
 use c_tree::syntax::{self, BinaryOp, PrefixOp};
 use c_tree::typed::{CType, Expr, ExprNode};
+use type_context::context::Context;
 
 fn is_constant_prefix(op: PrefixOp) -> bool
     ensures { result ≡ is_constant_prefix op }

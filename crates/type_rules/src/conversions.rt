@@ -5,12 +5,12 @@ ghost use Rattle.c_tree.specs.TypedViews.{type_view, expr_view};
 ghost use Rattle.c_typing.specs.Faults.{Gives, typed};
 ghost use Rattle.c_typing.specs.Rules.{value_of, converted, is_zero, null_for, fitted, or_mismatch, tested};
 
-use type_context::faults::refused;
-use type_context::kinds::{copy_type, is_void, same_int, same_type};
 use ak_words::IntType;
 use c_lex::{CompileFault, Kind};
 use c_tree::typed::{CType, Expr, ExprNode};
 use std::alloc::Global;
+use type_context::faults::refused;
+use type_context::kinds::{copy_type, is_void, same_int, same_type};
 
 /// The value of an operand: an array becomes a pointer to its first element (C11 6.3.2.1 p3).
 pub fn value_of(alloc: Global, e: Expr) -> Result<Expr, CompileFault>
@@ -31,12 +31,7 @@ pub fn value_of(alloc: Global, e: Expr) -> Result<Expr, CompileFault>
 }
 
 /// A number of type `s`, converted to type `t` where that is another (C11 6.3.1.3).
-pub fn converted(
-    alloc: Global,
-    s: IntType,
-    t: IntType,
-    e: Expr,
-) -> Result<Expr, CompileFault>
+pub fn converted(alloc: Global, s: IntType, t: IntType, e: Expr) -> Result<Expr, CompileFault>
     ensures { Gives expr_view result (typed (converted s t (expr_view e))) }
 {
     if same_int(s, t) {

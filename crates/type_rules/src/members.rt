@@ -5,15 +5,15 @@ ghost use Rattle.c_typing.specs.Faults.{Gives};
 ghost use Rattle.c_typing.specs.Rules.{selected, pointed, size_number};
 ghost use Rattle.type_context.specs.ContextViews.{context_view};
 
-use type_context::context::Context;
-use type_context::faults::{refused, unless};
-use type_context::kinds::has_size;
-use type_context::layouts::size_in;
 use crate::unary::target;
 use ak_words::{IntType, Num};
 use c_lex::{CompileFault, Kind};
 use c_tree::syntax::Name;
 use c_tree::typed::{CType, Expr, ExprNode};
+use type_context::context::Context;
+use type_context::faults::{refused, unless};
+use type_context::kinds::has_size;
+use type_context::layouts::size_in;
 
 /// `e.m`: of a struct that has the member (C11 6.5.2.3).
 pub fn selected(
@@ -39,12 +39,7 @@ pub fn selected(
 
 /// `p->m` is `(*p).m`.
 #[tactic(auto, using(type_context::proofs::Judging::fails_part))]
-pub fn pointed(
-    context: &Context<'_>,
-    place: u32,
-    p: Expr,
-    name: Name,
-) -> Result<Expr, CompileFault>
+pub fn pointed(context: &Context<'_>, place: u32, p: Expr, name: Name) -> Result<Expr, CompileFault>
     ensures { Gives expr_view result (pointed (context_view context.now) place (expr_view p) name) }
 {
     let e = target(context.alloc, place, p)?;
@@ -54,11 +49,7 @@ pub fn pointed(
 /// `sizeof`, of a type that has a size (C11 6.5.3.4). No type is so large that its size passes 64
 /// bits; there the answer would be want of memory.
 #[tactic(auto, using(type_context::proofs::Judging::fails_part))]
-pub fn size_number(
-    context: &Context<'_>,
-    place: u32,
-    t: &CType,
-) -> Result<Expr, CompileFault>
+pub fn size_number(context: &Context<'_>, place: u32, t: &CType) -> Result<Expr, CompileFault>
     ensures { Gives expr_view result (size_number (context_view context.now) place (type_view t.now)) }
 {
     unless(place, Kind::BadSize, has_size(&context.structs, t))?;

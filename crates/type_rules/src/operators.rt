@@ -9,15 +9,15 @@ ghost use Rattle.c_typing.specs.Faults.{Gives, typed};
 ghost use Rattle.c_typing.specs.Rules.{numbers, operands, arithmetic, shifted, sized, moved_up, moved_down, sum, difference, compared, equality, order, shift, on_numbers, operated, element, chosen_by, chosen};
 ghost use Rattle.type_rules.specs.inner.Operands.{operands_view};
 
-use type_context::context::Context;
 use crate::conversions::{converted, is_zero, null_for};
-use type_context::faults::{refused, unless};
-use type_context::kinds::{copy_type, has_size, is_void, same_type};
 use crate::unary::target;
 use ak_words::{IntType, Op, common, promote};
 use c_lex::{CompileFault, Kind};
 use c_tree::typed::{CType, Expr, ExprNode};
 use std::alloc::Global;
+use type_context::context::Context;
+use type_context::faults::{refused, unless};
+use type_context::kinds::{copy_type, has_size, is_void, same_type};
 
 /// What two operands are.
 #[derive(Clone, Copy)]
@@ -197,12 +197,7 @@ pub fn sum(context: &Context<'_>, place: u32, a: Expr, b: Expr) -> Result<Expr, 
 
 /// `a - b` (C11 6.5.6).
 #[tactic(auto, using(type_context::proofs::Judging::fails_part))]
-pub fn difference(
-    context: &Context<'_>,
-    place: u32,
-    a: Expr,
-    b: Expr,
-) -> Result<Expr, CompileFault>
+pub fn difference(context: &Context<'_>, place: u32, a: Expr, b: Expr) -> Result<Expr, CompileFault>
     ensures { Gives expr_view result (difference (context_view context.now) place (operands (type_view a.ty) (type_view b.ty)) (expr_view a) (expr_view b)) }
 {
     match operands_of(&a.ty, &b.ty) {
@@ -221,13 +216,7 @@ pub fn difference(
 }
 
 /// `a == b` and `a != b` (C11 6.5.9).
-pub fn equality(
-    alloc: Global,
-    place: u32,
-    op: Op,
-    a: Expr,
-    b: Expr,
-) -> Result<Expr, CompileFault>
+pub fn equality(alloc: Global, place: u32, op: Op, a: Expr, b: Expr) -> Result<Expr, CompileFault>
     ensures { Gives expr_view result (equality place op (operands (type_view a.ty) (type_view b.ty)) (expr_view a) (expr_view b)) }
 {
     match operands_of(&a.ty, &b.ty) {
@@ -251,13 +240,7 @@ pub fn equality(
 }
 
 /// `a < b` and its kin (C11 6.5.8).
-pub fn order(
-    alloc: Global,
-    place: u32,
-    op: Op,
-    a: Expr,
-    b: Expr,
-) -> Result<Expr, CompileFault>
+pub fn order(alloc: Global, place: u32, op: Op, a: Expr, b: Expr) -> Result<Expr, CompileFault>
     ensures { Gives expr_view result (order place op (operands (type_view a.ty) (type_view b.ty)) (expr_view a) (expr_view b)) }
 {
     match operands_of(&a.ty, &b.ty) {
@@ -271,13 +254,7 @@ pub fn order(
 }
 
 /// A shift of numbers (C11 6.5.7).
-pub fn shift(
-    alloc: Global,
-    place: u32,
-    op: Op,
-    a: Expr,
-    b: Expr,
-) -> Result<Expr, CompileFault>
+pub fn shift(alloc: Global, place: u32, op: Op, a: Expr, b: Expr) -> Result<Expr, CompileFault>
     ensures { Gives expr_view result (shift place op (operands (type_view a.ty) (type_view b.ty)) (expr_view a) (expr_view b)) }
 {
     match operands_of(&a.ty, &b.ty) {
@@ -287,13 +264,7 @@ pub fn shift(
 }
 
 /// The operators that are for numbers alone (C11 6.5.5, 6.5.10 to 6.5.12).
-pub fn on_numbers(
-    alloc: Global,
-    place: u32,
-    op: Op,
-    a: Expr,
-    b: Expr,
-) -> Result<Expr, CompileFault>
+pub fn on_numbers(alloc: Global, place: u32, op: Op, a: Expr, b: Expr) -> Result<Expr, CompileFault>
     ensures { Gives expr_view result (on_numbers place op (operands (type_view a.ty) (type_view b.ty)) (expr_view a) (expr_view b)) }
 {
     match operands_of(&a.ty, &b.ty) {
@@ -329,13 +300,7 @@ fn choice(
 }
 
 /// `e ? a : b`, where both are numbers (C11 6.5.15).
-pub fn chosen(
-    alloc: Global,
-    place: u32,
-    e: Expr,
-    a: Expr,
-    b: Expr,
-) -> Result<Expr, CompileFault>
+pub fn chosen(alloc: Global, place: u32, e: Expr, a: Expr, b: Expr) -> Result<Expr, CompileFault>
     ensures { Gives expr_view result (chosen place (expr_view e) (expr_view a) (expr_view b)) }
 {
     match operands_of(&a.ty, &b.ty) {
@@ -368,12 +333,7 @@ pub fn operated(
 
 /// `a[b]` is `*(a + b)` (C11 6.5.2.1).
 #[tactic(auto, using(type_context::proofs::Judging::fails_part))]
-pub fn element(
-    context: &Context<'_>,
-    place: u32,
-    a: Expr,
-    b: Expr,
-) -> Result<Expr, CompileFault>
+pub fn element(context: &Context<'_>, place: u32, a: Expr, b: Expr) -> Result<Expr, CompileFault>
     ensures { Gives expr_view result (element (context_view context.now) place (expr_view a) (expr_view b)) }
 {
     let sum = sum(context, place, a, b)?;

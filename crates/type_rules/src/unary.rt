@@ -7,12 +7,12 @@ ghost use Rattle.c_typing.specs.Faults.{Gives};
 ghost use Rattle.c_typing.specs.Rules.{is_lvalue, target, address, minus_by, plus_by, not_by, complement_by};
 
 use crate::conversions::converted;
-use type_context::faults::refused;
-use type_context::kinds::copy_type;
 use ak_words::{IntType, Num, Op, promote};
 use c_lex::{CompileFault, Kind};
 use c_tree::typed::{CType, Expr, ExprNode};
 use std::alloc::Global;
+use type_context::faults::refused;
+use type_context::kinds::copy_type;
 
 /// Whether it designates an object (C11 6.3.2.1 p1).
 pub fn is_lvalue(e: &Expr) -> bool
