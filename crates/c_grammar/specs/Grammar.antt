@@ -345,7 +345,7 @@ abbrev mutual
 
 -- ---- declarations (C11 6.7)
 
--- lists with commas between their parts
+-- the parts of a list behind its first, each with a comma before it
 abbrev pub on_more : {A : Type 0} → ℕ → (A → List Leaf) → List A → List Leaf
 on_more d part [] = []
 on_more d part (a ∷ as_) = at d (some_mark marks.Comma) ∷ part a ++ on_more d part as_

@@ -81,10 +81,6 @@ abbrev pub take : {A : Type 0} → (Token → Option A) → (ℕ → Option Kind
 take class check next c [] = Err (stop None 0)
 take class check next c (t ∷ ts) = take_turn check next c t ts (class t)
 
--- one token of a class
-abbrev pub one : {A : Type 0} → (Token → Option A) → Reads A
-one class = take class (λ c. None) (λ c. c)
-
 -- no room is left for what is nested deeper
 abbrev pub deep : ℕ → Option Kind
 deep zero = Some TooDeep

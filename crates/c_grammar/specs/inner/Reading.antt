@@ -37,7 +37,7 @@ pub record Level : Type 0 where
 abbrev pub commas : {A : Type 0} → ℕ → Reads A → Reads A → Reads (List A)
 commas room first more = row_from first (is_mark marks.Comma) (made (λ (_, a). a) (tok room (mark_is marks.Comma) & more))
 
--- one of two parts: the first, where the next token begins it
+-- the first of two parts, or the second
 abbrev pub either_by : {A : Type 0} → Reads A → Reads A → Bool → Reads A
 either_by r q true = r
 either_by r q false = q
