@@ -5,9 +5,13 @@
 
 pub mod code;
 mod copies;
+pub mod copying;
 pub mod erasing;
 pub mod ir;
 pub mod laws;
+pub mod linear;
+mod linear_facts;
+pub mod linear_laws;
 pub mod listing;
 mod scope;
 mod step;
@@ -20,5 +24,6 @@ pub use code::{
 };
 pub use erasing::erase;
 pub use ir::Ir;
+pub use linear::{CodeFunc, Instr, InstrKind};
 pub use listing::text;
 pub use valid::is_valid;
