@@ -1,0 +1,13 @@
+pub mod Order
+pub mod Sound
+pub mod Real
+pub mod Strip
+pub mod Switch
+pub mod Fresh
+pub mod Live
+pub mod At
+pub mod Covers
+pub mod Marked
+pub mod TableRows
+pub mod SeenRows
+pub mod SlotRows

@@ -1,0 +1,8 @@
+use Rattle.std.proofs.Common.{◌≡◌, map, drop}
+use Rattle.struct_ir.specs.Views.{place_view}
+use Rattle.pin_flow.specs.Live.{has}
+use Rattle.pin_flow.proofs.seen.has_use.Given as goal
+
+-- none so far
+abbrev pub invariant-loop-a : goal.invariant-loop-a
+invariant-loop-a l = has l.slot l.b (map place_view (drop l.a-index l.places)) ≡ has l.slot l.b (map place_view l.places)

@@ -1,0 +1,23 @@
+-- What states by marks say of all paths.
+use Rattle.std.specs.Prelude.{◌≡◌, ◌≢◌, ℕ, true}
+use Rattle.struct_ir.specs.Nodes.{Nodes}
+use Rattle.struct_ir.specs.Structured.{done, then_, structured}
+use Rattle.struct_ir.specs.Pins.{Available}
+use Rattle.pin_flow.specs.Marks.{bad, Each, EveryAct}
+use Rattle.pin_flow.specs.Looks.{act_looks, Uses, Covered}
+use Rattle.pin_flow.specs.Held.{held, fresh}
+use Rattle.pin_flow.specs.Slots.{IsOwn}
+
+-- in covered code no access stands where its slot isn't fresh
+abbrev pub CoveredIsFresh : Type 0
+CoveredIsFresh = (ns : Nodes) → Covered structured (then_ ns done) → (slot b : ℕ) → Each (λ a t. Uses slot b a → t ≢ bad) (fresh slot b) ns bad
+
+-- and code with own slots in which none stands so is covered
+abbrev pub FreshIsCovered : Type 0
+FreshIsCovered = (slot_of : ℕ → ℕ) (ns : Nodes) → IsOwn slot_of ns → ((b : ℕ) → Each (λ a t. Uses (slot_of b) b a → t ≢ bad) (fresh (slot_of b) b) ns bad) → Covered structured (then_ ns done)
+
+-- where b isn't held on each path, no slot is available for it
+abbrev pub UnheldIsUnavailable : Type 0
+UnheldIsUnavailable =
+    (ns : Nodes) (b : ℕ) → Each (λ a t. act_looks b a ≡ true → t ≡ bad) (held b) ns bad
+    → EveryAct (λ act k. act_looks b act ≡ true → (slot : ℕ) → Available structured (then_ ns done) slot b k → ⊥) ns done

@@ -1,0 +1,7 @@
+pub mod Marks
+pub mod Looks
+pub mod Held
+pub mod Live
+pub mod Slots
+pub mod Views
+pub mod Laws

@@ -1,0 +1,16 @@
+//! Laws of marks and lives, as contracts of functions that do nothing.
+
+ghost use Rattle.pin_flow.specs.Laws.{CoveredIsFresh, FreshIsCovered, UnheldIsUnavailable};
+ghost use Rattle.pin_flow.specs.Live.{LiveIsUsed};
+
+/// What is live at a position is just what some path from there uses.
+pub fn live_is_used()
+    ensures { LiveIsUsed }
+{}
+
+/// What states say, by the marks of Looks, holds on each path, and some path shows it.
+pub fn states_speak_of_paths()
+    ensures covered { CoveredIsFresh }
+    ensures fresh { FreshIsCovered }
+    ensures unheld { UnheldIsUnavailable }
+{}
