@@ -12,7 +12,7 @@ use Rattle.struct_ir.specs.Lawful.{IsLawful, AllLawful, LawfulCodeShrinks}
 module _ (code : List Instr) (lawful : IsLawful code) where
   instr_shrinks : (at : ℕ) (c : Bool) (o : Option Instr) → slice_get code at ≡ o → GoesOn (instr_here o) → length code - instr_next at o c < length code - at
   instr_shrinks at c None e g = absurd g
-  instr_shrinks at c (Some (acts place a)) e g = let l = lawful.acts at place a e in omega (arith, l.0, l.1)
+  instr_shrinks at c (Some (acts place a)) e g = let l = lawful.behind_acts at place a e in omega (arith, l.0, l.1)
   instr_shrinks at true (Some (unless place temp to)) e g = let l = (lawful.tests at place temp to e).1 in omega (arith, l.0, l.1)
   instr_shrinks at false (Some (unless place temp to)) e g = let l = (lawful.tests at place temp to e).0 in omega (arith, l.0, l.1)
   instr_shrinks at c (Some (jump place to)) e g = let l = lawful.jumps at place to e in omega (arith, l.0, l.1)

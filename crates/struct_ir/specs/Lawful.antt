@@ -1,32 +1,33 @@
 -- What the instructions of each function keep.
-use Rattle.std.specs.Prelude.{◌≡◌, ℕ, ◌+◌, ◌-◌, ◌<◌, ◌≤◌, List, length, Option, Some, None, Bool, true, false, slice_get}
-use Rattle.struct_ir.specs.Nodes.{Act, set, call, step, look, safepoint, begin_object, end_object}
+use Rattle.std.specs.Prelude.{◌≡◌, ℕ, ◌+◌, ◌-◌, ◌<◌, ◌≤◌, List, length, Option, Some, None, Bool, true, false, slice_get, is_some}
+use Rattle.struct_ir.specs.Nodes.{Call, Act, set, call, step, look, safepoint, begin_object, end_object}
 use Rattle.struct_ir.specs.Flow.{Shrinks}
 use Rattle.struct_ir.specs.Instrs.{Instr, acts, unless, jump, round_to, leave, LinearFunc}
 use Rattle.struct_ir.specs.Linear.{linear}
+use Rattle.struct_ir.specs.Valid.{is_the_list}
 
 -- a later index of the instructions
 abbrev pub IsLater : List Instr → ℕ → ℕ → Type 0
 IsLater code at to = (at < to) × (to < length code)
 
--- a safepoint
-abbrev pub is_safepoint : Act → Bool
-is_safepoint (set to calc) = false
-is_safepoint (call c) = false
-is_safepoint (step s) = false
-is_safepoint (look slot base) = false
-is_safepoint (safepoint slots) = true
-is_safepoint (begin_object i) = false
-is_safepoint (end_object i) = false
+-- the list of an act that is a safepoint
+abbrev pub safepoint_list : Act → Option (List ℕ)
+safepoint_list (set to calc) = None
+safepoint_list (call c) = None
+safepoint_list (step s) = None
+safepoint_list (look slot base) = None
+safepoint_list (safepoint slots) = Some slots
+safepoint_list (begin_object i) = None
+safepoint_list (end_object i) = None
 
--- the instruction is a safepoint
-abbrev pub is_safe : Option Instr → Bool
-is_safe None = false
-is_safe (Some (acts place a)) = is_safepoint a
-is_safe (Some (unless place temp to)) = false
-is_safe (Some (jump place to)) = false
-is_safe (Some (round_to place to)) = false
-is_safe (Some (leave place temp)) = false
+-- the list of an instruction that is a safepoint
+abbrev pub safe_list : Option Instr → Option (List ℕ)
+safe_list None = None
+safe_list (Some (acts place a)) = safepoint_list a
+safe_list (Some (unless place temp to)) = None
+safe_list (Some (jump place to)) = None
+safe_list (Some (round_to place to)) = None
+safe_list (Some (leave place temp)) = None
 
 -- the instruction returns
 abbrev pub is_leave : Option Instr → Bool
@@ -37,16 +38,25 @@ is_leave (Some (jump place to)) = false
 is_leave (Some (round_to place to)) = false
 is_leave (Some (leave place temp)) = true
 
+-- the list of a safepoint at an index
+abbrev pub list_at_index : List Instr → ℕ → Option (List ℕ)
+list_at_index code at = safe_list (slice_get code at)
+
 -- a safepoint stands directly before the index
 abbrev pub IsBehindSafepoint : List Instr → ℕ → Type 0
-IsBehindSafepoint code at = (0 < at) × (is_safe (slice_get code (at - 1)) ≡ true)
+IsBehindSafepoint code at = (0 < at) × (is_some (list_at_index code (at - 1)) ≡ true)
 
--- jumps and tests go on at later instructions, and so do acts; a round goes back from directly behind a safepoint, or stays; the last
--- instruction leaves the call
+-- a safepoint of this list stands directly before the index, and a safepoint directly behind it
+abbrev pub IsBetweenSafepoints : List Instr → ℕ → List ℕ → Type 0
+IsBetweenSafepoints code at slots = (0 < at) × (is_the_list (list_at_index code (at - 1)) slots ≡ true) × (is_some (list_at_index code (at + 1)) ≡ true)
+
+-- jumps, tests and acts go on at later instructions; a round goes back from directly behind a safepoint, or stays; a call stands
+-- directly behind a safepoint, whose list it carries, and directly before another; the last instruction returns
 pub record IsLawful (code : List Instr) : Type 0 where
   pub jumps : (at place to : ℕ) → slice_get code at ≡ Some (jump place to) → IsLater code at to
   pub tests : (at place temp to : ℕ) → slice_get code at ≡ Some (unless place temp to) → IsLater code at to × IsLater code at (at + 1)
-  pub acts : (at place : ℕ) (a : Act) → slice_get code at ≡ Some (acts place a) → IsLater code at (at + 1)
+  pub behind_acts : (at place : ℕ) (a : Act) → slice_get code at ≡ Some (acts place a) → IsLater code at (at + 1)
+  pub calls : (at place : ℕ) (c : Call) → slice_get code at ≡ Some (acts place (call c)) → IsBetweenSafepoints code at c.slots
   pub rounds : (at place to : ℕ) → slice_get code at ≡ Some (round_to place to) → (to ≤ at) × IsBehindSafepoint code at
   pub last : (0 < length code) × (is_leave (slice_get code (length code - 1)) ≡ true)
 

@@ -23,3 +23,4 @@ pub mod InstrViews
 pub mod LinearViews
 pub mod Marks
 pub mod Alike
+pub mod Placed
