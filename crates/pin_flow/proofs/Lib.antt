@@ -11,3 +11,4 @@ pub mod Marked
 pub mod TableRows
 pub mod SeenRows
 pub mod SlotRows
+pub mod Bases

@@ -1,12 +1,13 @@
 -- What states by marks say of all paths.
-use Rattle.std.specs.Prelude.{◌≡◌, ◌≢◌, ℕ, true}
+use Rattle.std.specs.Prelude.{◌≡◌, ◌≢◌, ◌<◌, ℕ, true, List, length}
 use Rattle.struct_ir.specs.Nodes.{Nodes}
 use Rattle.struct_ir.specs.Structured.{done, then_, structured}
 use Rattle.struct_ir.specs.Pins.{Available}
 use Rattle.pin_flow.specs.Marks.{bad, Each, EveryAct}
 use Rattle.pin_flow.specs.Looks.{act_looks, Uses, Covered}
 use Rattle.pin_flow.specs.Held.{held, fresh}
-use Rattle.pin_flow.specs.Slots.{IsOwn}
+use Rattle.struct_ir.specs.Erased.{erased}
+use Rattle.pin_flow.specs.Slots.{IsOwn, bases_below, slot_in, IsIn, AreApart}
 
 -- in covered code no access stands where its slot isn't fresh
 abbrev pub CoveredIsFresh : Type 0
@@ -21,3 +22,11 @@ abbrev pub UnheldIsUnavailable : Type 0
 UnheldIsUnavailable =
     (ns : Nodes) (b : ℕ) → Each (λ a t. act_looks b a ≡ true → t ≡ bad) (held b) ns bad
     → EveryAct (λ act k. act_looks b act ≡ true → (slot : ℕ) → Available structured (then_ ns done) slot b k → ⊥) ns done
+
+-- code that is the same without Looks, safepoints, slots and lists has the same bases
+abbrev pub BasesAreKept : Type 0
+BasesAreKept = (n : ℕ) (ns out : Nodes) → erased out ≡ erased ns → bases_below n out ≡ bases_below n ns
+
+-- each base has a slot of its own, and there are no more slots than bases
+abbrev pub SlotsAreOwn : Type 0
+SlotsAreOwn = (bases : List ℕ) → AreApart (slot_in bases) × ((b : ℕ) → IsIn bases b → slot_in bases b < length bases)

@@ -1,6 +1,6 @@
 //! Laws of marks and lives, as contracts of functions that do nothing.
 
-ghost use Rattle.pin_flow.specs.Laws.{CoveredIsFresh, FreshIsCovered, UnheldIsUnavailable};
+ghost use Rattle.pin_flow.specs.Laws.{BasesAreKept, CoveredIsFresh, FreshIsCovered, SlotsAreOwn, UnheldIsUnavailable};
 ghost use Rattle.pin_flow.specs.Live.{LiveIsUsed};
 
 /// What is live at a position is just what some path from there uses.
@@ -13,4 +13,10 @@ pub fn states_speak_of_paths()
     ensures covered { CoveredIsFresh }
     ensures fresh { FreshIsCovered }
     ensures unheld { UnheldIsUnavailable }
+{}
+
+/// Bases are those of the code without its Looks, and each has a slot of its own.
+pub fn bases_have_own_slots()
+    ensures kept { BasesAreKept }
+    ensures own { SlotsAreOwn }
 {}

@@ -15,7 +15,8 @@ use struct_ir::IrFunc;
 ///
 /// Only want of memory.
 pub fn bases_of(alloc: Global, f: &IrFunc) -> Result<Vec<u32>, NoMemory>
-    ensures { IfOk result (λ v. v.items ≡ bases_of (func_view f.now)) }
+    ensures those { IfOk result (λ v. v.items ≡ bases_of (func_view f.now)) }
+    ensures few { IfOk result (λ v. length v.items ≤ f.now.temps) }
 {
     let mut bases = Vec::new(alloc);
     for b in 0..f.temps {

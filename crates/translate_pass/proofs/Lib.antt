@@ -1,0 +1,3 @@
+pub mod InsertedRows
+pub mod Looked
+pub mod Programs

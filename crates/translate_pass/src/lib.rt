@@ -1,0 +1,8 @@
+//! A Look before each access.
+//! Promises upward: covered code with own slots, whose erasure is the input.
+//! Stands on structured code and its flow.
+#![tactic(auto)]
+
+pub mod inserting;
+
+pub use inserting::insert;
