@@ -33,7 +33,12 @@ fn copy_pieces(alloc: Global, pieces: &[Piece]) -> Result<Vec<Piece>, NoMemory>
     Ok(out)
 }
 
-pub(crate) fn copy_action(alloc: Global, a: &Action) -> Result<Action, NoMemory>
+/// The same action.
+///
+/// # Errors
+///
+/// Only want of memory.
+pub fn copy_action(alloc: Global, a: &Action) -> Result<Action, NoMemory>
     ensures { IfOk result (λ x. action_view x ≡ action_view a.now) }
 {
     match a {

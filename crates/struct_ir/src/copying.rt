@@ -4,8 +4,7 @@ ghost use Rattle.std.specs.Prelude.{◌≡◌, IfOk};
 ghost use Rattle.struct_ir.specs.Views.{step_view, call_view};
 
 use crate::code::{CallNode, StepNode};
-use crate::copies::copy_action;
-pub use crate::copies::copy_literals;
+pub use crate::copies::{copy_action, copy_literals};
 use ak_words::NoMemory;
 use std::alloc::Global;
 
