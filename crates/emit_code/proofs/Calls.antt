@@ -1,5 +1,5 @@
 -- Calls stand between safepoints.
-use Rattle.std.proofs.Common.{◌≡◌, ℕ, zero, suc, ◌+◌, ◌-◌, ◌<◌, List, [], ◌∷◌, ◌++◌, length, Option, Some, None, Bool, true, false, ◌&&◌, refl, sym, ap, ◌∙◌, subst, arith, if◌then◌else◌}
+use Rattle.std.proofs.Common.{◌≡◌, ℕ, zero, suc, ◌+◌, ◌-◌, List, [], ◌∷◌, ◌++◌, Option, Some, None, Bool, true, false, ◌&&◌, refl, sym, ◌∙◌, subst, arith, if◌then◌else◌}
 use Rattle.std.specs.Prelude.{slice_get, is_some}
 use Rattle.struct_ir.specs.Nodes.{Call, Act, set, call, step, look, safepoint, begin_object, end_object, Node, plain, if_, loop, break_, next_, ret, Nodes, no_nodes, more_nodes}
 use Rattle.struct_ir.specs.Valid.{list_at, first_list, last_list, is_the_list, act_is_placed, node_is_placed, are_placed}
@@ -7,17 +7,7 @@ use Rattle.struct_ir.specs.Instrs.{Instr, acts, unless, jump, round_to, leave}
 use Rattle.struct_ir.specs.Lawful.{safe_list, list_at_index, IsBetweenSafepoints}
 use Rattle.struct_ir.specs.Marks.{is_mark}
 use Rattle.emit_code.specs.Layout.{node_long, long, emit_node, emit, code_of}
-
-pub false_true : {A : Type 0} → false ≡ true → A
-false_true e = absurd cc
-
-pub left_of : (a b : Bool) → (a && b) ≡ true → a ≡ true
-left_of true b e = refl
-left_of false b e = false_true e
-
-pub right_of : (a b : Bool) → (a && b) ≡ true → b ≡ true
-right_of true b e = e
-right_of false b e = false_true e
+use Rattle.emit_code.proofs.Safepoints.{false_true, left_of, right_of, last_in, Tells, node_tells, tells_none}
 
 -- ---- lists of instructions
 
@@ -25,11 +15,6 @@ right_of false b e = false_true e
 abbrev head_safe : List Instr → Bool → Bool
 head_safe [] after = after
 head_safe (i ∷ is) after = is_some (safe_list (Some i))
-
--- the list of a safepoint that stands last; before: that of one directly before
-abbrev last_in : Option (List ℕ) → List Instr → Option (List ℕ)
-last_in before [] = before
-last_in before (i ∷ is) = last_in (safe_list (Some i)) is
 
 -- a call, between these
 abbrev CallIs : Option (List ℕ) → Instr → Bool → Type 0
@@ -59,32 +44,7 @@ calls_append before [] b after h k = k
 calls_append before (i ∷ a) b after h k =
     (subst (λ (x : Bool). CallIs before i x) (sym (head_append a b after)) h.0, calls_append (safe_list (Some i)) a b after h.1 k)
 
-last_append : (before : Option (List ℕ)) (a b : List Instr) → last_in before (a ++ b) ≡ last_in (last_in before a) b
-last_append before [] b = refl
-last_append before (i ∷ a) b = last_append (safe_list (Some i)) a b
-
 -- ---- rows
-
--- a list that the nodes tell stands in the code too
-abbrev Tells : Option (List ℕ) → Option (List ℕ) → Type 0
-Tells list before = (slots : List ℕ) → list ≡ Some slots → before ≡ Some slots
-
-no_list : {A : Type 0} (slots : List ℕ) → None ≡ Some slots → A
-no_list slots e = absurd cc
-
-node_tells : (n : Node) (before : Option (List ℕ)) (at out next : ℕ) → Tells (list_at n) (last_in before (emit_node at out next n))
-node_tells (plain place (set to calc)) before at out next slots e = no_list slots e
-node_tells (plain place (call c)) before at out next slots e = no_list slots e
-node_tells (plain place (step s)) before at out next slots e = no_list slots e
-node_tells (plain place (look slot base)) before at out next slots e = no_list slots e
-node_tells (plain place (safepoint list)) before at out next slots e = e
-node_tells (plain place (begin_object i)) before at out next slots e = no_list slots e
-node_tells (plain place (end_object i)) before at out next slots e = no_list slots e
-node_tells (if_ place temp one other) before at out next slots e = no_list slots e
-node_tells (loop place body latch) before at out next slots e = no_list slots e
-node_tells (break_ place) before at out next slots e = no_list slots e
-node_tells (next_ place) before at out next slots e = no_list slots e
-node_tells (ret place temp) before at out next slots e = no_list slots e
 
 the_list : (list before : Option (List ℕ)) (slots : List ℕ) → Tells list before → is_the_list list slots ≡ true → is_the_list before slots ≡ true
 the_list None before slots t e = false_true e
@@ -119,9 +79,6 @@ act_calls place (look slot base) list rest p before after t f = (tt, tt)
 act_calls place (safepoint slots) list rest p before after t f = (tt, tt)
 act_calls place (begin_object i) list rest p before after t f = tt
 act_calls place (end_object i) list rest p before after t f = tt
-
-tells_none : (before : Option (List ℕ)) → Tells None before
-tells_none before slots e = no_list slots e
 
 mutual
   node_calls : (n : Node) (list : Option (List ℕ)) (rest : Nodes) → node_is_placed list n rest ≡ true → (before : Option (List ℕ)) (after : Bool) (at out next : ℕ) → Tells list before → (is_some (first_list rest) ≡ true → after ≡ true)

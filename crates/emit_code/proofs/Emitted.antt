@@ -1,12 +1,10 @@
 -- The linear code of a program means what the program means.
-use Rattle.std.proofs.Common.{◌≡◌, ℕ, zero, suc, ◌+◌, ◌*◌, ◌≤◌, List, [], ◌∷◌, ◌++◌, length, map, Option, Some, None, refl, sym, ap, ◌∙◌, subst, arith, append-nil, inl}
-use Rattle.std.specs.Prelude.{slice_get, sum_by}
+use Rattle.std.proofs.Common.{◌≡◌, ℕ, zero, suc, ◌+◌, ◌*◌, ◌≤◌, List, [], ◌∷◌, length, map, Option, None, refl, ap, subst, arith, append-nil, inl}
+use Rattle.std.specs.Prelude.{slice_get}
 use Rattle.std.proofs.lemmas.List.Sums.{sum_by-cons}
 use Rattle.struct_ir.specs.Nodes.{Nodes, no_nodes, Func, Ir}
-use Rattle.struct_ir.specs.Flow.{Shrinks}
 use Rattle.struct_ir.specs.Structured.{done, then_, structured}
-use Rattle.struct_ir.specs.Pins.{PinSafe}
-use Rattle.struct_ir.specs.Instrs.{Instr, leave, LinearFunc, LinearCode, instrs_if, instr_count}
+use Rattle.struct_ir.specs.Instrs.{Instr, leave, LinearFunc, instrs_if, instr_count}
 use Rattle.struct_ir.specs.Linear.{instr_here, linear, entry_of}
 use Rattle.struct_ir.proofs.Sizes.{structured_shrinks}
 use Rattle.struct_ir.proofs.Follows.{follows_mirrors, follows_safe}
@@ -16,7 +14,7 @@ use Rattle.struct_ir.proofs.Mirrors.{mirrors_runs}
 use Rattle.emit_code.specs.Layout.{long, emit, code_of, func_linear, linear_of}
 use Rattle.emit_code.specs.Stands.{Holds, StandsAt, StandsIn, nodes_if, start_of}
 use Rattle.emit_code.specs.Emitted.{row_count, nodes_count, SameFrames, IsEmitted, LinearCodeKeepsRuns, LinearCodeKeepsEvents}
-use Rattle.emit_code.proofs.Holding.{has_all, has_front, row_length}
+use Rattle.emit_code.proofs.Holding.{has_all, has_front}
 use Rattle.emit_code.proofs.Short.{code_short}
 use Rattle.emit_code.proofs.Lawful.{last_leaves}
 use Rattle.emit_code.proofs.Keeps.{follows}

@@ -1,7 +1,7 @@
 -- Where jumps and ends of rounds lead.
-use Rattle.std.proofs.Common.{◌≡◌, ℕ, zero, suc, ◌+◌, ◌-◌, ◌<◌, ◌≤◌, List, [], ◌∷◌, ◌++◌, length, Option, Some, None, Bool, true, false, ◌&&◌, refl, sym, ap, ◌∙◌, subst, arith, append-nil, ◌⊎◌, inl, inr, if◌then◌else◌}
+use Rattle.std.proofs.Common.{◌≡◌, ℕ, zero, suc, ◌+◌, ◌-◌, ◌<◌, ◌≤◌, List, [], ◌∷◌, ◌++◌, length, Option, Some, None, Bool, true, false, ◌&&◌, refl, ap, subst, arith, append-nil, ◌⊎◌, inl, inr, if◌then◌else◌}
 use Rattle.std.specs.Prelude.{slice_get, is_some}
-use Rattle.struct_ir.specs.Nodes.{Act, set, call, step, look, safepoint, begin_object, end_object, Node, plain, if_, loop, break_, next_, ret, Nodes, no_nodes, more_nodes}
+use Rattle.struct_ir.specs.Nodes.{Act, Node, plain, if_, loop, break_, next_, ret, Nodes, no_nodes, more_nodes}
 use Rattle.struct_ir.specs.Valid.{list_at, last_list, node_is_placed, are_placed}
 use Rattle.struct_ir.specs.Instrs.{Instr, acts, unless, jump, round_to, leave}
 use Rattle.struct_ir.specs.Lawful.{safe_list, is_leave, list_at_index, IsLater, IsBehindSafepoint, IsLawful}
@@ -10,77 +10,43 @@ use Rattle.emit_code.specs.Layout.{node_long, long, emit_node, emit, code_of}
 use Rattle.emit_code.specs.Stands.{Holds}
 use Rattle.emit_code.proofs.Holding.{has_all, has_back, row_length, node_length}
 use Rattle.emit_code.proofs.Short.{code_length}
-use Rattle.emit_code.proofs.Calls.{left_of, right_of, false_true, between}
-
--- ---- safepoints
-
-abbrev pub safe_instr : Instr → Bool
-safe_instr i = is_some (safe_list (Some i))
-
--- the last of these is a safepoint; before: one stands before them
-abbrev pub last_safe : Bool → List Instr → Bool
-last_safe before [] = before
-last_safe before (i ∷ is) = last_safe (safe_instr i) is
-
-last_append : (before : Bool) (a b : List Instr) → last_safe before (a ++ b) ≡ last_safe (last_safe before a) b
-last_append before [] b = refl
-last_append before (i ∷ a) b = last_append (safe_instr i) a b
-
--- a row that ends in a safepoint
-safe_node : (n : Node) (before : Bool) (at out next : ℕ) → is_some (list_at n) ≡ true → last_safe before (emit_node at out next n) ≡ true
-safe_node (plain place (set to calc)) before at out next e = e
-safe_node (plain place (call c)) before at out next e = e
-safe_node (plain place (step s)) before at out next e = e
-safe_node (plain place (look slot base)) before at out next e = e
-safe_node (plain place (safepoint slots)) before at out next e = refl
-safe_node (plain place (begin_object i)) before at out next e = false_true e
-safe_node (plain place (end_object i)) before at out next e = false_true e
-safe_node (if_ place temp one other) before at out next e = false_true e
-safe_node (loop place body latch) before at out next e = false_true e
-safe_node (break_ place) before at out next e = e
-safe_node (next_ place) before at out next e = e
-safe_node (ret place temp) before at out next e = e
-
-safe_row : (nodes : Nodes) (before : Option (List ℕ)) (b : Bool) (at out next : ℕ) → (is_some before ≡ true → b ≡ true) → is_some (last_list before nodes) ≡ true → last_safe b (emit at out next nodes) ≡ true
-safe_row no_nodes before b at out next f e = f e
-safe_row (more_nodes n rest) before b at out next f e =
-    last_append b (emit_node at out next n) (emit (at + node_long n) out next rest)
-    ∙ safe_row rest (list_at n) (last_safe b (emit_node at out next n)) (at + node_long n) out next (safe_node n b at out next) e
+use Rattle.emit_code.proofs.Safepoints.{false_true, left_of, right_of, last_in, tells_none, row_tells, some_told}
+use Rattle.emit_code.proofs.Calls.{between}
 
 -- ---- every instruction
 
 -- the instruction at an index is lawful in a code that ends at limit
-abbrev Fine : ℕ → Bool → ℕ → Instr → Type 0
+abbrev Fine : ℕ → Option (List ℕ) → ℕ → Instr → Type 0
 Fine limit before at (acts place a) = at + 1 ≤ limit
 Fine limit before at (unless place temp to) = (at < to) × (to ≤ limit)
 Fine limit before at (jump place to) = (at < to) × (to ≤ limit)
-Fine limit before at (round_to place to) = (to ≤ at) × (before ≡ true)
+Fine limit before at (round_to place to) = (to ≤ at) × (is_some before ≡ true)
 Fine limit before at (leave place temp) = Unit {0}
 
-abbrev AllFine : ℕ → Bool → ℕ → List Instr → Type 0
+abbrev AllFine : ℕ → Option (List ℕ) → ℕ → List Instr → Type 0
 AllFine limit before at [] = Unit {0}
-AllFine limit before at (i ∷ is) = Fine limit before at i × AllFine limit (safe_instr i) (at + 1) is
+AllFine limit before at (i ∷ is) = Fine limit before at i × AllFine limit (safe_list (Some i)) (at + 1) is
 
-fine_append : (limit : ℕ) (before : Bool) (at to : ℕ) (a b : List Instr) → at + length a ≡ to → AllFine limit before at a → AllFine limit (last_safe before a) to b → AllFine limit before at (a ++ b)
+fine_append : (limit : ℕ) (before : Option (List ℕ)) (at to : ℕ) (a b : List Instr) → at + length a ≡ to → AllFine limit before at a → AllFine limit (last_in before a) to b → AllFine limit before at (a ++ b)
 fine_append limit before at to [] b e h k = let e' : to ≡ at = omega (arith, e) in subst (λ n. AllFine limit before n b) e' k
-fine_append limit before at to (i ∷ a) b e h k = (h.0, fine_append limit (safe_instr i) (at + 1) to a b (omega (arith, e)) h.1 k)
+fine_append limit before at to (i ∷ a) b e h k = (h.0, fine_append limit (safe_list (Some i)) (at + 1) to a b (omega (arith, e)) h.1 k)
 
-act_fine : (place : ℕ) (a : Act) (limit : ℕ) (before : Bool) (at : ℕ) (b : Bool) → at + (if b then 0 else 1) ≤ limit → AllFine limit before at (if b then [] else (acts place a ∷ []))
+act_fine : (place : ℕ) (a : Act) (limit : ℕ) (before : Option (List ℕ)) (at : ℕ) (b : Bool) → at + (if b then 0 else 1) ≤ limit → AllFine limit before at (if b then [] else (acts place a ∷ []))
 act_fine place a limit before at true l = tt
 act_fine place a limit before at false l = (l, tt)
 
 mutual
-  node_fine : (n : Node) (list : Option (List ℕ)) (rest : Nodes) → node_is_placed list n rest ≡ true → (limit : ℕ) (before : Bool) (at out next : ℕ) → at + node_long n ≤ out → at + node_long n ≤ next → out ≤ limit → next ≤ limit → AllFine limit before at (emit_node at out next n)
+  node_fine : (n : Node) (list : Option (List ℕ)) (rest : Nodes) → node_is_placed list n rest ≡ true → (limit : ℕ) (before : Option (List ℕ)) (at out next : ℕ) → at + node_long n ≤ out → at + node_long n ≤ next → out ≤ limit → next ≤ limit → AllFine limit before at (emit_node at out next n)
   node_fine (plain place a) list rest c limit before at out next o x ol xl = act_fine place a limit before at (is_mark a) (omega (arith, o, ol))
   node_fine (if_ place temp one other) list rest c limit before at out next o x ol xl =
       let other_at = at + 1 + long one + 1 in
       let end = other_at + long other in
-      let a = row_fine one None (left_of (are_placed None one) (are_placed None other) c) limit false (at + 1) out next (omega (arith, o)) (omega (arith, x)) ol xl in
-      let b = row_fine other None (right_of (are_placed None one) (are_placed None other) c) limit false other_at out next (omega (arith, o)) (omega (arith, x)) ol xl in
+      let a = row_fine one None (left_of (are_placed None one) (are_placed None other) c) limit None (at + 1) out next (omega (arith, o)) (omega (arith, x)) ol xl in
+      let b = row_fine other None (right_of (are_placed None one) (are_placed None other) c) limit None other_at out next (omega (arith, o)) (omega (arith, x)) ol xl in
       let l = row_length (at + 1) out next one in
-      let tail : AllFine limit (last_safe false (emit (at + 1) out next one)) (at + 1 + long one) (jump place end ∷ emit other_at out next other) =
+      let tail : AllFine limit (last_in None (emit (at + 1) out next one)) (at + 1 + long one) (jump place end ∷ emit other_at out next other) =
       ((omega arith, omega (arith, o, ol)), b) in
-      ((omega arith, omega (arith, o, ol)), fine_append limit false (at + 1) (at + 1 + long one) (emit (at + 1) out next one) _ (omega (arith, l)) a tail)
+      ((omega arith, omega (arith, o, ol)), fine_append limit None (at + 1) (at + 1 + long one) (emit (at + 1) out next one) _ (omega (arith, l)) a tail)
   node_fine (loop place body latch) list rest c limit before at out next o x ol xl =
       let latch_at = at + long body in
       let round_at = latch_at + long latch in
@@ -90,28 +56,29 @@ mutual
       let m = row_length latch_at (round_at + 1) round_at latch in
       let c1 = right_of (are_placed None body) (are_placed None latch && is_some (last_list None latch)) c in
       let a = row_fine body None (left_of (are_placed None body) (are_placed None latch && is_some (last_list None latch)) c) limit before at (round_at + 1) latch_at (omega arith) (omega arith) (omega (arith, o, ol)) (omega (arith, o, ol)) in
-      let b = row_fine latch None (left_of (are_placed None latch) (is_some (last_list None latch)) c1) limit (last_safe before bodies) latch_at (round_at + 1) round_at (omega arith) (omega arith) (omega (arith, o, ol)) (omega (arith, o, ol)) in
-      let s = safe_row latch None (last_safe before bodies) latch_at (round_at + 1) round_at (λ e. false_true e) (right_of (are_placed None latch) (is_some (last_list None latch)) c1) in
-      let r : AllFine limit (last_safe (last_safe before bodies) latches) round_at (round_to place at ∷ []) = ((omega arith, s), tt) in
-      fine_append limit before at latch_at bodies _ (omega (arith, l)) a (fine_append limit (last_safe before bodies) latch_at round_at latches (round_to place at ∷ []) (omega (arith, m)) b r)
+      let b = row_fine latch None (left_of (are_placed None latch) (is_some (last_list None latch)) c1) limit (last_in before bodies) latch_at (round_at + 1) round_at (omega arith) (omega arith) (omega (arith, o, ol)) (omega (arith, o, ol)) in
+      let told = row_tells latch None (last_in before bodies) (tells_none (last_in before bodies)) latch_at (round_at + 1) round_at in
+      let s = some_told (last_list None latch) (last_in (last_in before bodies) latches) told (right_of (are_placed None latch) (is_some (last_list None latch)) c1) in
+      let r : AllFine limit (last_in (last_in before bodies) latches) round_at (round_to place at ∷ []) = ((omega arith, s), tt) in
+      fine_append limit before at latch_at bodies _ (omega (arith, l)) a (fine_append limit (last_in before bodies) latch_at round_at latches (round_to place at ∷ []) (omega (arith, m)) b r)
   node_fine (break_ place) list rest c limit before at out next o x ol xl = ((omega (arith, o), ol), tt)
   node_fine (next_ place) list rest c limit before at out next o x ol xl = ((omega (arith, x), xl), tt)
   node_fine (ret place temp) list rest c limit before at out next o x ol xl = (tt, tt)
 
-  row_fine : (nodes : Nodes) (list : Option (List ℕ)) → are_placed list nodes ≡ true → (limit : ℕ) (before : Bool) (at out next : ℕ) → at + long nodes ≤ out → at + long nodes ≤ next → out ≤ limit → next ≤ limit → AllFine limit before at (emit at out next nodes)
+  row_fine : (nodes : Nodes) (list : Option (List ℕ)) → are_placed list nodes ≡ true → (limit : ℕ) (before : Option (List ℕ)) (at out next : ℕ) → at + long nodes ≤ out → at + long nodes ≤ next → out ≤ limit → next ≤ limit → AllFine limit before at (emit at out next nodes)
   row_fine no_nodes list c limit before at out next o x ol xl = tt
   row_fine (more_nodes n rest) list c limit before at out next o x ol xl =
       let l = node_length at out next n in
       let a = node_fine n list rest (left_of (node_is_placed list n rest) (are_placed (list_at n) rest) c) limit before at out next (omega (arith, o)) (omega (arith, x)) ol xl in
-      let b = row_fine rest (list_at n) (right_of (node_is_placed list n rest) (are_placed (list_at n) rest) c) limit (last_safe before (emit_node at out next n)) (at + node_long n) out next (omega (arith, o)) (omega (arith, x)) ol xl in
+      let b = row_fine rest (list_at n) (right_of (node_is_placed list n rest) (are_placed (list_at n) rest) c) limit (last_in before (emit_node at out next n)) (at + node_long n) out next (omega (arith, o)) (omega (arith, x)) ol xl in
       fine_append limit before at (at + node_long n) (emit_node at out next n) (emit (at + node_long n) out next rest) (omega (arith, l)) a b
 
 -- ---- from the list to its indices
 
-abbrev Told : Bool → List Instr → ℕ → Type 0
-Told before is k = ((k ≡ 0) × (before ≡ true)) ⊎ IsBehindSafepoint is k
+abbrev Told : Option (List ℕ) → List Instr → ℕ → Type 0
+Told before is k = ((k ≡ 0) × (is_some before ≡ true)) ⊎ IsBehindSafepoint is k
 
-told_on : (i : Instr) (is : List Instr) (before : Bool) (k : ℕ) → Told (safe_instr i) is k → Told before (i ∷ is) (suc k)
+told_on : (i : Instr) (is : List Instr) (before : Option (List ℕ)) (k : ℕ) → Told (safe_list (Some i)) is k → Told before (i ∷ is) (suc k)
 told_on i is before k (inl h) =
     let z : 0 ≡ suc k - 1 = omega (arith, h.0) in
     inr (omega arith, subst (λ (n : ℕ). is_some (list_at_index (i ∷ is) n) ≡ true) z h.1)
@@ -125,31 +92,31 @@ same_some x y e = cc
 no_some : {A : Type 0} (x : Instr) → None ≡ Some x → A
 no_some x e = absurd cc
 
-found : (is : List Instr) (limit : ℕ) (before : Bool) (at : ℕ) → AllFine limit before at is → (k : ℕ) (i : Instr) → slice_get is k ≡ Some i → (b : Bool) × Fine limit b (at + k) i × (b ≡ true → Told before is k)
+found : (is : List Instr) (limit : ℕ) (before : Option (List ℕ)) (at : ℕ) → AllFine limit before at is → (k : ℕ) (i : Instr) → slice_get is k ≡ Some i → (b : Option (List ℕ)) × Fine limit b (at + k) i × (is_some b ≡ true → Told before is k)
 found [] limit before at h k i e = no_some i e
 found (x ∷ is) limit before at h zero i e =
     let z : at ≡ at + 0 = omega arith in
     let f = subst (λ n. Fine limit before n x) z h.0 in
     (before, subst (λ y. Fine limit before (at + 0) y) (same_some x i e) f, λ t. inl (refl, t))
 found (x ∷ is) limit before at h (suc k) i e =
-    let r = found is limit (safe_instr x) (at + 1) h.1 k i e in
+    let r = found is limit (safe_list (Some x)) (at + 1) h.1 k i e in
     let z : at + 1 + k ≡ at + suc k = omega arith in
     (r.0, subst (λ n. Fine limit r.0 n i) z r.1, λ t. told_on x is before k (r.2 t))
 
-behind : (is : List Instr) (k : ℕ) → Told false is k → IsBehindSafepoint is k
+behind : (is : List Instr) (k : ℕ) → Told None is k → IsBehindSafepoint is k
 behind is k (inl h) = false_true h.1
 behind is k (inr h) = h
 
 module _ (nodes : Nodes) (c : are_placed None nodes ≡ true) where
-  all_fine : AllFine (long nodes) false 0 (code_of nodes)
+  all_fine : AllFine (long nodes) None 0 (code_of nodes)
   all_fine =
       let n = long nodes in
-      let a = row_fine nodes None c n false 0 n n (omega arith) (omega arith) (omega arith) (omega arith) in
-      fine_append n false 0 n (emit 0 n n nodes) (leave 0 None ∷ []) (omega (arith, row_length 0 n n nodes)) a (tt, tt)
+      let a = row_fine nodes None c n None 0 n n (omega arith) (omega arith) (omega arith) (omega arith) in
+      fine_append n None 0 n (emit 0 n n nodes) (leave 0 None ∷ []) (omega (arith, row_length 0 n n nodes)) a (tt, tt)
 
-  fine_at : (at : ℕ) (i : Instr) → slice_get (code_of nodes) at ≡ Some i → (b : Bool) × Fine (long nodes) b at i × (b ≡ true → Told false (code_of nodes) at)
+  fine_at : (at : ℕ) (i : Instr) → slice_get (code_of nodes) at ≡ Some i → (b : Option (List ℕ)) × Fine (long nodes) b at i × (is_some b ≡ true → Told None (code_of nodes) at)
   fine_at at i e =
-      let r = found (code_of nodes) (long nodes) false 0 all_fine at i e in
+      let r = found (code_of nodes) (long nodes) None 0 all_fine at i e in
       let z : 0 + at ≡ at = omega arith in
       (r.0, subst (λ n. Fine (long nodes) r.0 n i) z r.1, r.2)
 

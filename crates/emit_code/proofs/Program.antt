@@ -1,5 +1,5 @@
 -- Functions of a program, one by one.
-use Rattle.std.proofs.Common.{◌≡◌, ℕ, zero, suc, ◌<◌, ◌≤◌, List, [], ◌∷◌, length, map, get_or, Bool, true, Option, Some, None, ◌==◌, refl, sym, ap, ◌∙◌, subst, arith}
+use Rattle.std.proofs.Common.{◌≡◌, ℕ, zero, suc, ◌<◌, ◌≤◌, List, [], ◌∷◌, length, map, get_or, Bool, true, None, refl, sym, ap, ◌∙◌, subst, arith}
 use Rattle.std.specs.Prelude.{slice_get}
 use Rattle.std.specs.List.{list_all}
 use Rattle.c_tree.specs.declared.typed.Literal.{Literal}
@@ -14,7 +14,7 @@ use Rattle.struct_ir.specs.Valid.{has_params, are_placed}
 use Rattle.struct_ir.specs.Views.{global_view, func_view}
 use Rattle.struct_ir.specs.Whole.{takes_nothing, is_init_in, plain_bytes}
 use Rattle.emit_code.specs.Layout.{func_linear}
-use Rattle.emit_code.proofs.Calls.{left_of, right_of}
+use Rattle.emit_code.proofs.Safepoints.{left_of, right_of}
 
 abbrev pub is_placed : Func → Bool
 is_placed f = are_placed None f.nodes

@@ -1,5 +1,5 @@
 -- How many instructions there are.
-use Rattle.std.proofs.Common.{◌≡◌, ℕ, ◌+◌, ◌*◌, ◌≤◌, List, [], ◌∷◌, length, None, Bool, true, false, arith, length-append, if◌then◌else◌}
+use Rattle.std.proofs.Common.{◌≡◌, ◌+◌, ◌*◌, ◌≤◌, [], ◌∷◌, length, None, Bool, true, false, arith, length-append, if◌then◌else◌}
 use Rattle.struct_ir.specs.Nodes.{Node, plain, if_, loop, break_, next_, ret, Nodes, no_nodes, more_nodes}
 use Rattle.struct_ir.specs.Instrs.{leave}
 use Rattle.struct_ir.specs.Marks.{is_mark}

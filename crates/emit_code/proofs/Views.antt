@@ -1,11 +1,10 @@
 -- What a node is, by its kind; and rows, taken from their ends.
 use Rattle.std.proofs.lemmas.Grind.{common_steps}
 use Rattle.std.proofs.lemmas.List.{take_more}
-use Rattle.std.proofs.Common.{◌≡◌, ℕ, ◌+◌, ◌-◌, ◌<◌, ◌≤◌, List, [], ◌∷◌, ◌++◌, length, take, get_or, take_all, refl, sym, ap, ◌∙◌, append_assoc, rules, arith}
+use Rattle.std.proofs.Common.{◌≡◌, ℕ, ◌+◌, ◌-◌, ◌<◌, ◌≤◌, List, [], ◌∷◌, ◌++◌, length, take, get_or, take_all, sym, ap, ◌∙◌, append_assoc, arith}
 use Rattle.std.specs.Global.{Vec}
 use Rattle.struct_ir.specs.declared.code.Node.{Node as CodeNode}
 use Rattle.struct_ir.specs.declared.code.NodeKind.TheViews as views
-use Rattle.struct_ir.specs.Nodes.{if_, loop}
 use Rattle.struct_ir.specs.Structured.{node_size, row_size}
 use Rattle.struct_ir.specs.Views.{node_view, nodes_view}
 use Rattle.struct_ir.proofs.Views.{if_is, loop_is}

@@ -1,7 +1,7 @@
 //! Linear code from structured code. Each function is written from its end, so that where a jump
 //! leads is known when it is written; only the end of a round waits for its loop's start.
 
-ghost use Rattle.std.specs.Prelude.{◌≡◌, ◌≤◌, ◌+◌, [], ◌∷◌, ◌++◌, IfOk, IsTrue, None, reverse, map};
+ghost use Rattle.std.specs.Prelude.{◌≡◌, ◌≤◌, ◌+◌, ◌++◌, IfOk, IsTrue, None, reverse, map};
 ghost use Rattle.struct_ir.specs.InstrViews.{instr_view};
 ghost use Rattle.struct_ir.specs.LinearViews.{linear_func_view, code_view};
 ghost use Rattle.struct_ir.specs.Nodes.{if_, loop as loop_};

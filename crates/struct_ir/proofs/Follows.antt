@@ -1,8 +1,8 @@
 -- Code that follows another, but for marks, mirrors it on each machine for which marks are idle, and is as safe for moves.
-use Rattle.std.proofs.Common.{◌≡◌, ℕ, zero, suc, ◌<◌, List, [], ◌∷◌, Bool, true, false, refl, sym, ap, subst, ◌∙◌, arith}
+use Rattle.std.proofs.Common.{◌≡◌, ℕ, zero, suc, ◌<◌, List, [], ◌∷◌, Bool, true, refl, sym, ap, subst, ◌∙◌, arith}
 use Rattle.struct_ir.specs.Nodes.{Act, set, call, step, look, safepoint, begin_object, end_object}
 use Rattle.struct_ir.specs.Flow.{Here, does, tests, passes, round, returns, GoesOn, Stays, Flow, Shrinks, Path, entry, on}
-use Rattle.struct_ir.specs.Machine.{Machine, Point, goes, stopped_or, acted, ahead_at, ahead}
+use Rattle.struct_ir.specs.Machine.{Machine, goes, stopped_or, acted, ahead_at}
 use Rattle.struct_ir.specs.Mirrors.{Both, IsIdle, Match, both, first, IsMirror}
 use Rattle.struct_ir.specs.Marks.{is_mark, MarksAreIdle, IsUnseen, FollowsAt, both_go, first_goes, Follows}
 use Rattle.struct_ir.specs.Pins.{passing, doing, facts, IsPinned, PinSafe}

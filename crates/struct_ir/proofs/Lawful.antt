@@ -1,11 +1,11 @@
 -- In lawful linear code what is left to do gets less.
-use Rattle.std.proofs.Common.{◌≡◌, ℕ, zero, suc, ◌+◌, ◌-◌, ◌<◌, List, [], ◌∷◌, length, Option, Some, None, Bool, true, false, refl, sym, ap, subst, arith, map}
+use Rattle.std.proofs.Common.{◌≡◌, ℕ, zero, suc, ◌-◌, ◌<◌, List, [], ◌∷◌, length, Option, Some, None, Bool, true, false, refl, subst, arith, map}
 use Rattle.std.specs.Prelude.{slice_get}
 use Rattle.struct_ir.specs.declared.linear.CodeFunc.{CodeFunc}
 use Rattle.struct_ir.specs.declared.linear.Code.{Code}
-use Rattle.struct_ir.specs.Flow.{GoesOn, Shrinks}
-use Rattle.struct_ir.specs.Instrs.{Instr, acts, unless, jump, round_to, leave, LinearFunc, instrs_if, instrs_of}
-use Rattle.struct_ir.specs.Linear.{instr_here, instr_next, here_in, next_in, linear}
+use Rattle.struct_ir.specs.Flow.{GoesOn}
+use Rattle.struct_ir.specs.Instrs.{Instr, acts, unless, jump, round_to, leave, LinearFunc, instrs_if}
+use Rattle.struct_ir.specs.Linear.{instr_here, instr_next, here_in, next_in}
 use Rattle.struct_ir.specs.LinearViews.{linear_func_view, code_view}
 use Rattle.struct_ir.specs.Lawful.{IsLawful, AllLawful, LawfulCodeShrinks}
 

@@ -1,11 +1,11 @@
 -- Where one code mirrors another, threads do the same in both.
-use Rattle.std.proofs.Common.{◌≡◌, ℕ, List, [], ◌∷◌, Bool, true, false, Option, Result, Ok, Err, refl, sym, ap, subst, ◌∙◌}
+use Rattle.std.proofs.Common.{◌≡◌, ℕ, List, [], ◌∷◌, Bool, true, false, Option, Result, Ok, Err, refl, sym, ap, subst}
 use Rattle.struct_ir.specs.Nodes.{Act, set, call, step, look, safepoint, begin_object, end_object}
 use Rattle.struct_ir.specs.Flow.{Here, does, tests, passes, round, returns, Flow, Stays, Shrinks}
 use Rattle.struct_ir.specs.Machine.{Machine, Point, run}
 use Rattle.struct_ir.specs.Mirrors.{Both, IsMirror, EndAlike}
-use Rattle.struct_ir.specs.Threads.{World, Thread, Outcome, went, ended, blocked, broke, unfit, Served, serves, waits, refuses, fails, result_to, alone, served, finished, if_fits, entered_or_served, left_call, stop_at, local_event, stop_event, and_then, turn}
-use Rattle.struct_ir.specs.Alike.{LevelPoints, SamePoints, SameCalls, SameCallers, LevelThreads, SameThreads, SameOutcomes, SameEvents}
+use Rattle.struct_ir.specs.Threads.{World, Thread, Outcome, went, ended, blocked, broke, unfit, Served, serves, waits, refuses, fails, result_to, alone, served, finished, if_fits, entered_or_served, left_call, stop_at, local_event, stop_event, and_then}
+use Rattle.struct_ir.specs.Alike.{SameCallers, LevelThreads, SameThreads, SameOutcomes, SameEvents}
 use Rattle.struct_ir.proofs.Mirrors.{mirrors_runs}
 
 module _ {P Q L F S A : Type 0} (C : Flow P) (D : Flow Q) (c_shrinks : Shrinks C) (d_shrinks : Shrinks D) (M : Machine L F) (W : World L F S A) (R : P → Q → Type 0) (mirror : IsMirror C D M R)

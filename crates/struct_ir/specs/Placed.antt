@@ -1,5 +1,5 @@
 -- Where safepoints stand in a whole program, and the list that may stand before a node.
-use Rattle.std.specs.Prelude.{ℕ, Bool, List, Option, Some, None}
+use Rattle.std.specs.Prelude.{Bool, None}
 use Rattle.std.specs.List.{list_all}
 use Rattle.struct_ir.specs.Nodes.{Ir}
 use Rattle.struct_ir.specs.Valid.{are_placed}

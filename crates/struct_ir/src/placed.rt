@@ -1,6 +1,6 @@
 //! Where safepoints stand.
 
-ghost use Rattle.std.specs.Prelude.{◌≡◌, ◌&&◌, is_some, None, Some, option_map};
+ghost use Rattle.std.specs.Prelude.{◌≡◌, ◌&&◌, is_some, None, option_map};
 ghost use Rattle.struct_ir.specs.Placed.{all_placed};
 ghost use Rattle.struct_ir.specs.Valid.{list_at, first_list, last_list, same_slots, is_the_list, node_is_placed, are_placed};
 ghost use Rattle.struct_ir.specs.Views.{call_view, node_view, nodes_view};

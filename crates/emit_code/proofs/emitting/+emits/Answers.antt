@@ -1,4 +1,4 @@
-use Rattle.std.proofs.Common.{arith, ap, sym, ◌∙◌}
+use Rattle.std.proofs.Common.{arith, sym, ◌∙◌}
 use Rattle.std.proofs.lemmas.List.{map-set, length-map}
 use Rattle.struct_ir.specs.InstrViews.{instr_view}
 use Rattle.struct_ir.specs.Views.{nodes_view}

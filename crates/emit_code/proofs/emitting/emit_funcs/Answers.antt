@@ -1,4 +1,4 @@
-use Rattle.std.proofs.Common.{◌≡◌, true, ap, subst, sym, ◌∙◌}
+use Rattle.std.proofs.Common.{ap, ◌∙◌}
 use Rattle.struct_ir.specs.Views.{func_view}
 use Rattle.emit_code.proofs.Program.{is_placed, placed_at}
 use Rattle.emit_code.proofs.emitting.emit_funcs.Goals as goal

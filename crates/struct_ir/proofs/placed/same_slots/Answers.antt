@@ -1,4 +1,4 @@
-use Rattle.std.proofs.Common.{◌≡◌, ℕ, ◌==◌, List, [], ◌∷◌, length, Bool, true, false, ◌&&◌, refl, ap, arith}
+use Rattle.std.proofs.Common.{◌≡◌, ℕ, ◌==◌, List, [], ◌∷◌, length, Bool, true, false, ◌&&◌, refl, arith}
 use Rattle.struct_ir.specs.Valid.{same_slots}
 use Rattle.struct_ir.proofs.placed.same_slots.Goals as goal
 
