@@ -10,5 +10,6 @@ pub mod Covers
 pub mod Marked
 pub mod TableRows
 pub mod SeenRows
+pub mod CopiedRows
 pub mod SlotRows
 pub mod Bases

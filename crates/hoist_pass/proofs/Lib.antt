@@ -1,0 +1,9 @@
+pub mod Drop
+pub mod Lift
+pub mod Quiet
+pub mod Same
+pub mod Done
+pub mod Hoisted
+pub mod DropRows
+pub mod LiftRows
+pub mod Programs

@@ -1,0 +1,100 @@
+ghost use Rattle.std.specs.Prelude.{◌≡◌, ◌<◌, ◌^◌, length, map, IfOk};
+ghost use Rattle.struct_ir.specs.Erased.{ir_erased};
+ghost use Rattle.struct_ir.specs.Views.{nodes_view, func_view};
+ghost use Rattle.struct_ir.specs.WholeViews.{ir_view};
+ghost use Rattle.pin_flow.specs.Funcs.{EveryFunc, IsCovered, IsHoisted};
+ghost use Rattle.pin_flow.specs.Slots.{HasOwnSlots, slot_if};
+ghost use Rattle.hoist_pass.specs.inner.Hoist.{hoisted_one, hoisted_for, hoisted_each, func_hoisted, ir_hoisted};
+
+use crate::dropping::drop_row;
+use crate::lifting::lift_row;
+use ak_words::NoMemory;
+use pin_flow::copies::copy_literals;
+use pin_flow::rows::copy_row;
+use pin_flow::slots::{bases_of, slot_of};
+use pin_flow::state::State;
+use std::alloc::Global;
+use struct_ir::{Ir, IrFunc, Node};
+
+/// The code with each Look before the outermost loop that doesn't assign its register, and without
+/// the Looks of registers for which a slot is available there.
+///
+/// # Errors
+///
+/// Only want of memory.
+pub fn hoist(alloc: Global, ir: &Ir) -> Result<Ir, NoMemory>
+    requires covered { EveryFunc IsCovered (ir_view ir.now) }
+    requires slots { EveryFunc HasOwnSlots (ir_view ir.now) }
+    ensures erased { IfOk result (λ x. ir_erased (ir_view x) ≡ ir_erased (ir_view ir.now)) }
+    ensures covered { IfOk result (λ x. EveryFunc IsCovered (ir_view x)) }
+    ensures slots { IfOk result (λ x. EveryFunc HasOwnSlots (ir_view x)) }
+    ensures hoisted { IfOk result (λ x. EveryFunc IsHoisted (ir_view x)) }
+{
+    hoist_all(alloc, ir)
+}
+
+fn hoist_all(alloc: Global, ir: &Ir) -> Result<Ir, NoMemory>
+    ensures { IfOk result (λ x. ir_view x ≡ ir_hoisted (ir_view ir.now)) }
+{
+    let literals = copy_literals(alloc, &ir.literals)?;
+    let funcs = hoist_funcs(alloc, &ir.funcs)?;
+    Ok(Ir {
+        globals: ir.globals.to_vec(alloc)?,
+        literals,
+        funcs,
+        main: ir.main,
+    })
+}
+
+fn hoist_funcs(alloc: Global, funcs: &[IrFunc]) -> Result<Vec<IrFunc>, NoMemory>
+    ensures { IfOk result (λ v. map func_view v.items ≡ map func_hoisted (map func_view funcs.now)) }
+{
+    let mut out = Vec::new(alloc);
+    for f in funcs {
+        out.push(hoist_func(alloc, f)?)?;
+    }
+    Ok(out)
+}
+
+fn hoist_func(alloc: Global, f: &IrFunc) -> Result<IrFunc, NoMemory>
+    ensures { IfOk result (λ x. func_view x ≡ func_hoisted (func_view f.now)) }
+{
+    let temps = f.temps;
+    let bases = bases_of(alloc, f)?;
+    let nodes = hoist_bases(alloc, &bases, &f.nodes)?;
+    Ok(IrFunc {
+        params: f.params,
+        temps,
+        slots: f.slots,
+        objects: f.objects.to_vec(alloc)?,
+        nodes,
+    })
+}
+
+fn hoist_bases(alloc: Global, bases: &[u32], rows: &[Node]) -> Result<Vec<Node>, NoMemory>
+    requires { length bases.now < 2 ^ 32 }
+    ensures { IfOk result (λ v. nodes_view v.items ≡ hoisted_each (slot_if bases.now) bases.now (nodes_view rows.now)) }
+{
+    let mut code = copy_row(alloc, rows)?;
+    for b in bases {
+        code = hoist_base(alloc, bases, *b, code)?;
+    }
+    Ok(code)
+}
+
+fn hoist_base(alloc: Global, bases: &[u32], b: u32, code: Vec<Node>) -> Result<Vec<Node>, NoMemory>
+    requires { length bases.now < 2 ^ 32 }
+    ensures { IfOk result (λ v. nodes_view v.items ≡ hoisted_for (slot_if bases.now b) b (nodes_view code.items)) }
+{
+    match slot_of(bases, b) {
+        Some(slot) => hoist_one(alloc, slot, b, &code),
+        None => Ok(code),
+    }
+}
+
+fn hoist_one(alloc: Global, slot: u32, b: u32, code: &[Node]) -> Result<Vec<Node>, NoMemory>
+    ensures { IfOk result (λ v. nodes_view v.items ≡ hoisted_one slot b (nodes_view code.now)) }
+{
+    let first = lift_row(alloc, slot, b, code)?;
+    drop_row(alloc, b, &first, State::Bad)
+}

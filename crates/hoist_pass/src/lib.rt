@@ -1,0 +1,10 @@
+//! Looks go out of loops.
+//! Promises upward: hoisted code, covered where the input is, with the same erasure and own slots.
+//! Stands on structured code and its flow.
+#![tactic(auto)]
+
+pub mod dropping;
+pub mod hoisting;
+pub mod lifting;
+
+pub use hoisting::hoist;

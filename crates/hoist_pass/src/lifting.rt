@@ -1,0 +1,87 @@
+//! A Look before each loop that has one and doesn't assign its register.
+
+ghost use Rattle.std.specs.Prelude.{◌≡◌, ◌||◌, ◌&&◌, not, IfOk};
+ghost use Rattle.struct_ir.specs.Views.{node_view, nodes_view, followed};
+ghost use Rattle.hoist_pass.specs.inner.Hoist.{wants, lifted, lifted_in};
+
+use ak_words::NoMemory;
+use pin_flow::copies::{add, branches, copy_call, copy_step, node, rounds};
+use pin_flow::seen::{Test, some};
+use std::alloc::Global;
+use struct_ir::{Node, NodeKind};
+
+fn is_wanted(looks: bool, assigns: bool) -> bool
+    ensures { result ≡ (looks && not assigns) }
+{
+    looks && !assigns
+}
+
+fn either(a: bool, b: bool) -> bool
+    ensures { result ≡ (a || b) }
+{
+    a || b
+}
+
+// Whether the node is a loop that has a Look of the register and doesn't assign it.
+fn wants(b: u32, n: &Node) -> bool
+    ensures { result ≡ wants b (node_view n.now) }
+{
+    match &n.kind {
+        NodeKind::Loop(body, step) => {
+            let in_body = some(Test::Looks(b), body);
+            let looks = either(in_body, some(Test::Looks(b), step));
+            let set_in_body = some(Test::Assigns(b), body);
+            is_wanted(looks, either(set_in_body, some(Test::Assigns(b), step)))
+        }
+        _ => false,
+    }
+}
+
+/// The row with a Look of the register before each loop that has one and doesn't assign it.
+///
+/// # Errors
+///
+/// Only want of memory.
+#[cycle(lifts)]
+pub fn lift_row(alloc: Global, slot: u32, b: u32, rows: &[Node]) -> Result<Vec<Node>, NoMemory>
+    ensures { IfOk result (λ v. nodes_view v.items ≡ lifted slot b (nodes_view rows.now)) }
+{
+    let mut out = Vec::new(alloc);
+    for n in rows {
+        if wants(b, n) {
+            add(&mut out, node(n.place, NodeKind::Look(slot, b)))?;
+        }
+        add(&mut out, lift_node(alloc, slot, b, n)?)?;
+    }
+    Ok(out)
+}
+
+#[cycle(lifts)]
+fn lift_node(alloc: Global, slot: u32, b: u32, n: &Node) -> Result<Node, NoMemory>
+    ensures { IfOk result (λ x. node_view x ≡ lifted_in slot b (node_view n.now)) }
+{
+    match &n.kind {
+        NodeKind::Set(to, calc) => Ok(node(n.place, NodeKind::Set(*to, *calc))),
+        NodeKind::If(temp, one, other) => {
+            let yes = lift_row(alloc, slot, b, one)?;
+            let no = lift_row(alloc, slot, b, other)?;
+            Ok(branches(n.place, *temp, yes, no))
+        }
+        NodeKind::Loop(body, step) => {
+            let first = lift_row(alloc, slot, b, body)?;
+            let second = lift_row(alloc, slot, b, step)?;
+            Ok(rounds(n.place, first, second))
+        }
+        NodeKind::Break => Ok(node(n.place, NodeKind::Break)),
+        NodeKind::Next => Ok(node(n.place, NodeKind::Next)),
+        NodeKind::Call(c) => Ok(node(n.place, NodeKind::Call(copy_call(alloc, c)?))),
+        NodeKind::Ret(temp) => Ok(node(n.place, NodeKind::Ret(*temp))),
+        NodeKind::Step(s) => Ok(node(n.place, NodeKind::Step(copy_step(alloc, s)?))),
+        NodeKind::Look(s, base) => Ok(node(n.place, NodeKind::Look(*s, *base))),
+        NodeKind::Safepoint(slots) => {
+            Ok(node(n.place, NodeKind::Safepoint(slots.to_vec(alloc)?)))
+        }
+        NodeKind::Begin(i) => Ok(node(n.place, NodeKind::Begin(*i))),
+        NodeKind::End(i) => Ok(node(n.place, NodeKind::End(*i))),
+    }
+}
