@@ -13,7 +13,7 @@ pub mod linear;
 mod linear_facts;
 pub mod linear_laws;
 pub mod listing;
-mod scope;
+pub mod scope;
 mod step;
 #[cfg(test)]
 mod tests;
