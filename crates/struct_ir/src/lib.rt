@@ -15,7 +15,7 @@ pub mod linear_laws;
 pub mod linear_listing;
 pub mod listing;
 pub mod placed;
-mod scope;
+pub mod scope;
 mod step;
 #[cfg(test)]
 mod tests;
