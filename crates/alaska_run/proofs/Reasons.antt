@@ -11,8 +11,8 @@ use Rattle.c_lex.specs.Tokens.{end_of, AreTokens}
 use Rattle.c_lex.specs.Refusals.{IfRefused, RefusesText}
 use Rattle.c_lex.specs.Laws as lexed
 use Rattle.c_tree.specs.Syntax as whole
-use Rattle.c_parse.specs.Language as grammar
-use Rattle.c_parse.specs.Laws as read
+use Rattle.c_grammar.specs.Language as grammar
+use Rattle.c_grammar.specs.Laws as read
 use Rattle.second_language.specs.Trees.{File}
 use Rattle.second_language.specs.Language.{Spell, RefusesTokens}
 use Rattle.second_language.specs.Laws as parsed

@@ -5,7 +5,7 @@ use Rattle.c_lex.specs.declared.refusal.Refusal.{Refusal}
 use Rattle.c_lex.specs.Tokens.{AreTokens}
 use Rattle.c_lex.specs.Refusals.{RefusesText}
 use Rattle.c_tree.specs.Syntax as whole
-use Rattle.c_parse.specs.Language as grammar
+use Rattle.c_grammar.specs.Language as grammar
 use Rattle.second_language.specs.Trees.{File}
 use Rattle.second_language.specs.Language.{Spell, RefusesTokens}
 

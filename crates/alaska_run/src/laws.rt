@@ -22,9 +22,9 @@ pub fn judge_each_text_once()
     c_lex::laws::only();
     c_lex::laws::one_refusal();
     c_lex::laws::one_end();
-    c_parse::laws::exclusive();
-    c_parse::laws::one_refusal();
-    c_parse::laws::each_is_judged();
+    c_grammar::laws::exclusive();
+    c_grammar::laws::one_refusal();
+    c_grammar::laws::each_is_judged();
     second_language::laws::judge_once();
 }
 

@@ -47,17 +47,20 @@ beginning function argument = record { function = function; argument = argument;
 abbrev pub first_world : Blocks → (main : ℕ) → World
 first_world blocks main = record { blocks = blocks; output = []; threads = beginning main Null ∷ [] }
 
+-- the world with these blocks in place of its own
 abbrev pub with_blocks : World → Blocks → World
 with_blocks w blocks = record { blocks = blocks; output = w.output; threads = w.threads }
 
--- the world after a thread has come to another stage
+-- a thread that has come to this stage
 abbrev pub at_stage : Stage → Thread → Thread
 at_stage stage t = record { function = t.function; argument = t.argument; stage = stage }
 
+-- the world with this thread, which has that number, at the stage; where there is no such thread, nothing changes
 abbrev pub staged_if : World → ℕ → Stage → Option Thread → World
 staged_if w number stage None = w
 staged_if w number stage (Some t) = record { blocks = w.blocks; output = w.output; threads = set w.threads number (at_stage stage t) }
 
+-- the world after the thread of this number has come to the stage
 abbrev pub staged : World → (number : ℕ) → Stage → World
 staged w number stage = staged_if w number stage (slice_get w.threads number)
 
@@ -111,6 +114,7 @@ pub record Outcomes : Type 0 where
   pub got : Done
   pub none : Done
 
+-- what comes of an action under this answer
 abbrev pub under : Answer → Outcomes → Done
 under answers.Plain o = o.plain
 under answers.Got o = o.got
@@ -176,7 +180,7 @@ abbrev pub all_bytes : Blocks → List Printed → Result (List ℕ) Rule
 all_bytes blocks [] = Ok []
 all_bytes blocks (part ∷ parts) = joined_bytes (printed_bytes blocks part) (all_bytes blocks parts)
 
--- they are printed, all or none, and the value is their number as an int, modulo 2^32 (C11 7.21.6.3; own where it is too great)
+-- they are printed, all or none, and the value is their number as an int, modulo 2^32 (C11 7.21.6.3; this project's profile where it is too great)
 abbrev pub prints : World → Result (List ℕ) Rule → Done
 prints w (Err rule) = broke rule
 prints w (Ok all) = went (int_value (pos (length all))) (record { blocks = w.blocks; output = w.output ++ all; threads = w.threads })
@@ -227,6 +231,7 @@ result_of None = pos 0
 
 -- ---- the table of the actions: which answers each takes, and what it then does, in the world w, for this thread
 
+-- what comes of an action under each answer; only an allocation and a new thread leave a choice (this project's profile)
 abbrev pub outcomes : World → (thread : ℕ) → Action → Outcomes
 outcomes w thread (load at how) = settled (gives w (loaded w.blocks at how))
 outcomes w thread (store at value) = settled (changes w (stored w.blocks at value))

@@ -5,5 +5,6 @@ pub mod Pointers
 pub mod Mutexes
 pub mod Texts
 pub mod Actions
+pub mod Undo
 pub mod Runs
 pub mod Rows

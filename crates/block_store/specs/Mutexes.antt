@@ -40,6 +40,7 @@ lock_by blocks thread (Err rule) = Err rule
 lock_by blocks thread (Ok m) =
     if m.number == 0 then Ok (Some (renumbered blocks m (thread + 1))) else (if m.number == thread + 1 then Err C13 else Ok None)
 
+-- a thread locks the mutex that a pointer points to: the next store, or none where it would wait (C11 7.26.4.3)
 abbrev pub locked : Blocks → Ptr → (thread : ℕ) → Result (Option Blocks) Rule
 locked blocks at thread = lock_by blocks thread (mutex_at blocks at)
 
@@ -48,6 +49,7 @@ abbrev pub unlock_by : Blocks → (thread : ℕ) → Result Mutex Rule → Resul
 unlock_by blocks thread (Err rule) = Err rule
 unlock_by blocks thread (Ok m) = if m.number == thread + 1 then Ok (renumbered blocks m 0) else Err C13
 
+-- a thread unlocks the mutex that a pointer points to (C11 7.26.4.6)
 abbrev pub unlocked : Blocks → Ptr → (thread : ℕ) → Result Blocks Rule
 unlocked blocks at thread = unlock_by blocks thread (mutex_at blocks at)
 
@@ -56,6 +58,7 @@ abbrev pub destroy_of : Result Mutex Rule → Result (Unit {0}) Rule
 destroy_of (Err rule) = Err rule
 destroy_of (Ok m) = if m.number == 0 then Ok tt else Err C13
 
+-- the mutex that a pointer points to is destroyed (C11 7.26.4.1)
 abbrev pub destroyed : Blocks → Ptr → Result (Unit {0}) Rule
 destroyed blocks at = destroy_of (mutex_at blocks at)
 

@@ -56,12 +56,13 @@ abbrev pub is_other_than_null : Ptr → Bool
 is_other_than_null Null = false
 is_other_than_null (To name offset) = true
 
+-- whether a pointer counts as true, as one other than null does; C9 of a dead block
 abbrev pub tested : Blocks → Ptr → Result Bool Rule
 tested blocks p = if is_usable blocks p then Ok (is_other_than_null p) else Err C9
 
 -- ---- equality, order and difference
 
--- the same pointer; pointers into different blocks differ (own, where one points behind a block's end)
+-- the same pointer; pointers into different blocks differ (C11 6.5.9p6; this project's profile where one points behind a block's end)
 abbrev pub is_same : (p q : Ptr) → Bool
 is_same Null Null = true
 is_same Null (To name offset) = false
@@ -80,10 +81,12 @@ abbrev pub by_distance : (ℤ → Bool) → Result ℤ Rule → Result Bool Rule
 by_distance test (Ok z) = Ok (test z)
 by_distance test (Err rule) = Err rule
 
+-- the distance is below 0: the first pointer stands before the second
 abbrev pub is_below_0 : ℤ → Bool
 is_below_0 (pos n) = false
 is_below_0 (negsuc n) = true
 
+-- the number is 0
 abbrev pub is_0 : ℤ → Bool
 is_0 (pos n) = n == 0
 is_0 (negsuc n) = false

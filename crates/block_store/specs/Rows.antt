@@ -33,6 +33,7 @@ blocks mutex heap =
 abbrev pub mutex : ℕ → List Cell
 mutex n = Byte n ∷ replicate 7 (Byte 0)
 
+-- the cells of a pointer to the start of the heap block
 abbrev pub pointer : List Cell
 pointer = cells_of (values.Pointer (To 4 0))
 
@@ -40,12 +41,15 @@ pointer = cells_of (values.Pointer (To 4 0))
 abbrev pub pointer_half : List Cell
 pointer_half = take 4 pointer
 
+-- the value n, an int
 abbrev pub an_int : ℕ → Value
 an_int n = values.Num (num int (pos n))
 
+-- the cells of the heap block: the pointer to its own start, and the int 41
 abbrev pub heap : List Cell
 heap = pointer ++ cells_of (an_int 41)
 
+-- a thread that runs, and began with function n and a null argument
 abbrev pub thread : ℕ → Thread
 thread n = record { function = n; argument = Null; stage = running }
 
@@ -65,19 +69,23 @@ world n = record { blocks = blocks (mutex n) heap; output = codes "> "; threads 
 abbrev pub plainly : (mutex thread : ℕ) → Action → Done
 plainly mutex thread = acted (world mutex) thread answers.Plain
 
+-- an action of thread 0 in the world with the free mutex, where it gets what it asks for
 abbrev pub if_got : Action → Done
 if_got = acted (world 0) 0 answers.Got
 
+-- the same where it doesn't get it
 abbrev pub if_none : Action → Done
 if_none = acted (world 0) 0 answers.None
 
--- the heap block, and the int in it
+-- the int at the start of the heap block
 abbrev pub at_int : Ptr
 at_int = To 4 8
 
+-- the world with the free mutex, and with these cells in its heap block
 abbrev pub with_heap : List Cell → World
 with_heap cells = record { blocks = blocks (mutex 0) cells; output = codes "> "; threads = threads }
 
+-- what each action makes of that world, row by row
 pub record ActionsStand : Type 0 where
   -- what is read, and what can't be
   pub an_int_is_read : plainly 0 0 (load at_int (accesses.Number int)) ≡ went (Some (an_int 41)) (world 0)
@@ -151,6 +159,7 @@ pub record ActionsStand : Type 0 where
 abbrev pub here : Blocks
 here = blocks (mutex 0) heap
 
+-- what arithmetic, tests and comparisons of pointers give in those blocks, row by row
 pub record PointersStand : Type 0 where
   -- up to just behind the end, and not below the start; null moves by 0 alone; a dead block's pointer not at all
   pub to_the_end : indexed here (To 4 8) (pos 1) 4 ≡ Ok (To 4 12)

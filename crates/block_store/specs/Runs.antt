@@ -55,6 +55,7 @@ turn_if P s p None own = None
 turn_if P s p (Some main) None = None
 turn_if P s p (Some main) (Some own) = Some (P.turn p.thread p.answer own s.world)
 
+-- what comes of a pick in this state: a turn of its thread, or none where that thread or main doesn't run
 abbrev pub picked : {A : Type 0} → Program A → State A → Pick → Option (Turn A)
 picked P s p = turn_if P s p (own_at s.own 0) (own_at s.own p.thread)
 
@@ -66,6 +67,8 @@ pub data Run (A : Type 0) : Type 0 where
   breaks : (rule : Rule) (k : ℕ) → Run A
   no_run : (k : ℕ) → Run A
 
+-- how a run goes on behind a pick before which k turns were done: from the next state, where the turn went or ended its thread; a
+-- broken rule ends the run; and where there is no turn, or it waits or doesn't take its answer, the order has no run
 abbrev pub goes_on : {A : Type 0} → Program A → (State A → Run A) → State A → (thread k : ℕ) → Option (Turn A) → Run A
 goes_on P go s thread k None = no_run k
 goes_on P go s thread k (Some (went own w)) = go (next_state P s thread (Some own) w)
@@ -85,6 +88,8 @@ run P w order = run_from P order 0 (first_state P w)
 
 -- ---- what an order shows, turn by turn
 
+-- what a pick shows: the world after a turn that went, or that ended its thread; that the turn waits, or doesn't take the answer;
+-- the rule that it breaks, and where; or that there is no such turn
 pub data Shown : Type 0 where
   it_went : (w : World) → Shown
   it_ended : (w : World) → Shown
@@ -102,9 +107,11 @@ shown_then P go s thread (Some blocked) = it_blocked ∷ go s
 shown_then P go s thread (Some unfit) = it_was_unfit ∷ go s
 shown_then P go s thread (Some (broke rule place)) = it_broke rule place ∷ []
 
+-- what an order shows from a state on
 abbrev pub shown_from : {A : Type 0} → Program A → List Pick → State A → List Shown
 shown_from P [] s = []
 shown_from P (p ∷ order) s = shown_then P (shown_from P order) s p.thread (picked P s p)
 
+-- what an order shows where the run begins in this world
 abbrev pub shown : {A : Type 0} → Program A → World → List Pick → List Shown
 shown P w order = shown_from P order (first_state P w)

@@ -37,5 +37,6 @@ abbrev pub length_of : Result (List ℕ) Rule → Result ℕ Rule
 length_of (Err rule) = Err rule
 length_of (Ok bytes) = Ok (length bytes)
 
+-- the length of the text that a pointer points to, without the zero byte at its end
 abbrev pub text_len : Blocks → Ptr → Result ℕ Rule
 text_len blocks at = length_of (text_at blocks at)

@@ -8,8 +8,9 @@ mod laws;
 mod store;
 #[cfg(test)]
 mod tests;
+mod texts;
 mod values;
 
 pub use laws::rows_of_the_definitions;
-pub use store::Store;
+pub use store::{EndedBlock, Store};
 pub use values::{Access, Answer, BlockKind, Cell, LockEnd, Ptr, Value};

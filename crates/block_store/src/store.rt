@@ -1,12 +1,15 @@
-ghost use Rattle.std.specs.Prelude.{◌≡◌, ◌≢◌, ◌<◌, ◌≤◌, ◌+◌, ◌-◌, ◌^◌, [], ◌∷◌, ◌++◌, length, false, Ok, Err, Some, IfOk, OnOk, OnErr, MatchResult, IsSome, IsSomeAnd, IfSome};
+ghost use Rattle.std.specs.Prelude.{◌≡◌, ◌≢◌, ◌<◌, ◌≤◌, ◌+◌, ◌-◌, ◌^◌, [], ◌∷◌, ◌++◌, length, take, set, false, Ok, Err, Some, IfOk, OnOk, OnErr, MatchResult, IsSome, IsSomeAnd, IfSome};
 ghost use Rattle.block_store.specs.inner.Copying.{is_read_late, overwritten, held};
 ghost use Rattle.std.specs.Option.{option_copied};
 ghost use Rattle.block_store.specs.Cells.{size_of, access_of};
 ghost use Rattle.block_store.specs.Blocks.{is_freeable, is_heap, is_literal, live, range_at, live_size, made, made_literal, ended, freed, loaded, stored, copied, answer_of, store_after};
 ghost use Rattle.block_store.specs.Mutexes.{mutex_at, locked, unlocked, destroyed, lock_end, store_after_lock};
-ghost use Rattle.block_store.specs.Texts.{text_len};
+ghost use Rattle.block_store.specs.Texts.{text_len, text_at};
+ghost use Rattle.block_store.specs.Actions.{joined_bytes};
+ghost use Rattle.block_store.specs.Undo.{appended};
 
 use crate::cells::{byte_cells, cells_of, copy_inside, literal_cells, read, read_number, text_len};
+use crate::texts::append_text;
 use crate::values::{Access, BlockKind, Cell, LockEnd, Ptr, Value};
 use ak_words::{NoMemory, Rule};
 use std::alloc::Global;
@@ -105,6 +108,21 @@ impl Block {
     {
         self.cells[offset..offset + new.len()].copy_from_slice(new);
     }
+}
+
+/// A block that was taken out of a store under its name, or none where none lived.
+#[derive(Drop)]
+pub struct EndedBlock {
+    name: u64,
+    block: Option<Block>,
+}
+
+impl Model for EndedBlock {
+    ghost use Rattle.block_store.specs.Undo.{Ended};
+
+    ghost Value = { Ended };
+
+    ghost view = { λ e. record { name = e.name; block = e.block } };
 }
 
 impl<'a> Spot<'a> {
@@ -365,6 +383,63 @@ impl Store {
             Some(block) => text_len(block.cells_from(offset)),
             None => Err(Rule::C5),
         }
+    }
+
+    /// Appends the bytes of the text at `at`, or names the first rule that reading it breaks, as `text_len` does; what was
+    /// appended before that stays.
+    pub fn append_text(&self, at: Ptr, out: &mut Vec<u8>) -> Result<Result<(), Rule>, NoMemory>
+        ensures { IfOk result (λ answer. appended answer out.new.items ≡ joined_bytes (Ok out.old.items) (text_at self.now at)) }
+    {
+        let Ptr::To { block, offset } = at else {
+            return Ok(Err(Rule::C5));
+        };
+        match self.live(block) {
+            Some(block) => append_text(block.cells_from(offset), out),
+            None => Ok(Err(Rule::C5)),
+        }
+    }
+
+    /// How many names were given.
+    pub fn names(&self) -> u64
+        ensures { result ≡ length self.now }
+    {
+        self.blocks.len() as u64
+    }
+
+    /// Ends the block of a name, if one lives, and gives it away, so that it can be put back (C11 6.2.4).
+    pub fn take(&mut self, block: u64) -> EndedBlock
+        ensures taken { result ≡ record { name = block; block = live self.old block } }
+        ensures after { self.new ≡ ended self.old block }
+    {
+        let at = block as usize;
+        if at < self.blocks.len() {
+            EndedBlock {
+                name: block,
+                block: self.blocks[at].take(),
+            }
+        } else {
+            EndedBlock {
+                name: block,
+                block: None,
+            }
+        }
+    }
+
+    /// Puts a block back under its name, where that was given.
+    pub fn put_back(&mut self, ended: EndedBlock)
+        ensures { self.new ≡ set self.old ended.name ended.block }
+    {
+        let at = ended.name as usize;
+        if at < self.blocks.len() {
+            self.blocks[at] = ended.block;
+        }
+    }
+
+    /// Takes the newest name back, with its block.
+    pub fn unmake(&mut self)
+        ensures { self.new ≡ take (length self.old - 1) self.old }
+    {
+        let _newest = self.blocks.pop();
     }
 
     // Gives a new block the next name.

@@ -74,11 +74,13 @@ characters_of zero (byte ∷ bytes) =
 
 -- ---- what the literal stands for
 
+-- an octal or hexadecimal escape with a value that no byte has (C11 6.4.4.4p9)
 abbrev pub is_too_wide : Character → Bool
 is_too_wide (characters.Byte byte) = false
 is_too_wide characters.TooWide = true
 is_too_wide characters.Unknown = false
 
+-- an escape that is none of C11 6.4.4.4p1
 abbrev pub is_unknown : Character → Bool
 is_unknown (characters.Byte byte) = false
 is_unknown characters.TooWide = false

@@ -30,6 +30,7 @@ IsConstant text t value len = HasTokens text (token (tokens.Int (num t (pos valu
 abbrev IsRefused : String → ℕ → Kind → Type 0
 IsRefused text place kind = reading_of (codes text) ≡ Err (refusal place kind)
 
+-- small texts, each with its tokens or its refusal, worked out by hand
 pub record Rows : Type 0 where
   pub nothing : HasTokens "" []
   pub names_and_marks : HasTokens "int a+++b..." (token (tokens.Word words.Int) 0 3 ∷ token tokens.Name 4 5 ∷ token (tokens.Mark marks.PlusPlus) 5 7

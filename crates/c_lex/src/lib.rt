@@ -15,6 +15,7 @@ mod spelling;
 pub mod token;
 
 pub use lexer::{lex, literal};
+pub use quoted::string_bytes;
 pub use refusal::{CompileFault, Kind, Refusal};
 pub use token::{Mark, Token, TokenKind, Word};
 

@@ -1,6 +1,7 @@
 ghost use Rattle.std.specs.Prelude.{◌≡◌, ◌+◌, ◌<◌, ◌≤◌, ◌^◌, ◌==◌, length, false, IfOk, IfSome};
+ghost use Rattle.std.specs.Option.{option_map};
 ghost use Rattle.std.specs.Map.{lookup};
-ghost use Rattle.std.specs.Result.{result_err};
+ghost use Rattle.std.specs.Result.{result_ok, result_err};
 ghost use Rattle.std.specs.Str.Parse.{digits_value};
 ghost use Rattle.c_lex.specs.Quoted.{closing, simple_escapes, byte_of_value, octal_escape, hex_escape, escape, character_at, characters_of, is_too_wide, is_unknown, bytes_of, string_of, char_value, char_of};
 
@@ -247,4 +248,17 @@ pub(crate) fn bytes_of(alloc: Global, body: &[u8]) -> Result<Vec<u8>, NoMemory>
         place += next.len;
     }
     Ok(bytes)
+}
+
+/// The bytes that a string stands for, by the bytes between its quotes (C11 6.4.5); none where it is
+/// refused.
+#[tactic(auto, unfolding(crate::specs::Quoted::string_of))]
+pub fn string_bytes(alloc: Global, body: &[u8]) -> Result<Option<Vec<u8>>, NoMemory>
+    requires { length body.now < 2 ^ 63 }
+    ensures { IfOk result (λ bytes. option_map (λ v. v.items) bytes ≡ result_ok (string_of body.now)) }
+{
+    if fault_of(body).is_some() {
+        return Ok(None);
+    }
+    Ok(Some(bytes_of(alloc, body)?))
 }

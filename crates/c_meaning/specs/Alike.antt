@@ -25,6 +25,7 @@ pub data Reached : Type 0 where
   at_break : (rule : Rule) (k : ℕ) → Reached
   at_no_run : (k : ℕ) → Reached
 
+-- where this run comes to: a world, a rule that is broken after k turns, or no run after k turns
 abbrev pub reached_by : {A : Type 0} → Run A → Reached
 reached_by (reaches s) = in_world s.world
 reached_by (breaks rule k) = at_break rule k

@@ -16,6 +16,7 @@ numbers_of [] = []
 numbers_of (values.Num n ∷ vs) = n.value ∷ numbers_of vs
 numbers_of (values.Pointer p ∷ vs) = numbers_of vs
 
+-- the pointers among the arguments, in order
 abbrev pub pointers_of : List Value → List Ptr
 pointers_of [] = []
 pointers_of (values.Num n ∷ vs) = pointers_of vs
@@ -39,6 +40,7 @@ action_of tree.mutex_unlock (values.Pointer p ∷ []) = Some (unlock p)
 action_of tree.mutex_destroy (values.Pointer p ∷ []) = Some (destroy p)
 action_of which args = None
 
+-- the first of the arguments, if there are any
 abbrev pub first_of_all : List Value → Option Value
 first_of_all [] = None
 first_of_all (v ∷ vs) = Some v

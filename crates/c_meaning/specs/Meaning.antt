@@ -23,9 +23,11 @@ first_cells globals size tree.zero_bytes = replicate size (Byte 0)
 first_cells globals size (tree.number t z) = cells_of (values.Num (num t z))
 first_cells globals size (tree.literal_at number) = cells_of (values.Pointer (To (globals + number) 0))
 
+-- the block of a global at the start, of the size of its type
 abbrev pub global_block : tree.Typed → tree.GlobalVar → Option Block
 global_block t g = Some (record { kind = kinds.Global; cells = first_cells (length t.globals) (size_in t.structs g.ty) g.init })
 
+-- the block of a string literal, whose cells are its bytes (C11 6.4.5 p6)
 abbrev pub literal_block : List ℕ → Option Block
 literal_block bytes = Some (record { kind = kinds.Literal; cells = map Byte bytes })
 
@@ -51,6 +53,7 @@ program t = record {
   turn = turn t;
 }
 
+-- the world in which a program begins: its first blocks, nothing printed, and one thread, in main (C11 5.1.2)
 abbrev pub start : tree.Typed → World
 start t = first_world (first_blocks t) t.main
 

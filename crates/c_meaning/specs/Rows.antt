@@ -17,9 +17,11 @@ use Rattle.c_meaning.specs.Meaning.{run, shown}
 
 -- ---- programs, in few words: a place is the number of a node where a row speaks of it, and else 0
 
+-- the type int
 abbrev pub int_ty : Ty
 int_ty = integer int
 
+-- the type int *
 abbrev pub int_star : Ty
 int_star = pointer int_ty
 
@@ -27,32 +29,41 @@ int_star = pointer int_ty
 abbrev pub k : ℕ → Expr
 k n = at 0 int_ty (num int (pos n))
 
+-- the int local of number n
 abbrev pub v : ℕ → Expr
 v n = at 0 int_ty (local n)
 
+-- an expression of this type and form
 abbrev pub of_type : Ty → ExprNode → Expr
 of_type t node = at 0 t node
 
+-- these arguments of a call
 abbrev pub arguments : List Expr → Exprs
 arguments [] = no_exprs
 arguments (e ∷ es) = more_exprs e (arguments es)
 
+-- these statements, one after another
 abbrev pub row : List StmtNode → Stmts
 row [] = no_stmts
 row (s ∷ ss) = more_stmts (at_stmt 0 s) (row ss)
 
+-- this statement alone
 abbrev pub one : StmtNode → Stmt
 one s = at_stmt 0 s
 
+-- a call of a library function, whose value is of this type
 abbrev pub lib_call : Ty → Lib → List Expr → Expr
 lib_call t which args = of_type t (lib which (arguments args))
 
+-- printf("%d\n",e);
 abbrev pub printf_int : Expr → StmtNode
 printf_int e = evaluate (lib_call int_ty (print (signed 32 ∷ bytes (10 ∷ []) ∷ [])) (e ∷ []))
 
+-- a op b, an int
 abbrev pub op_of : Op → Expr → Expr → Expr
 op_of op a b = of_type int_ty (binary op a b)
 
+-- *p, an int
 abbrev pub at_star : Expr → Expr
 at_star p = of_type int_ty (deref p)
 
@@ -60,12 +71,15 @@ at_star p = of_type int_ty (deref p)
 abbrev pub in_register : Ty → Local
 in_register t = record { ty = t; in_memory = false }
 
+-- a local that is a block
 abbrev pub in_memory : Ty → Local
 in_memory t = record { ty = t; in_memory = true }
 
+-- a function that returns an int: the first of its locals are its parameters
 abbrev pub func : (params : ℕ) → List Local → List StmtNode → Func
 func params locals body = record { params = params; locals = locals; result = int_ty; body = row body }
 
+-- a program without structs, whose first function is main
 abbrev pub whole : List GlobalVar → List (List ℕ) → List Func → Typed.Typed
 whole globals literals funcs = record { structs = []; globals = globals; literals = literals; funcs = funcs; main = 0 }
 
@@ -75,12 +89,14 @@ main_only locals body = whole [] [] (func 0 locals body ∷ [])
 
 -- ---- what is told of a run
 
+-- what is told of a run: what it reaches; or after how many turns it breaks a rule, or there is no run
 pub data Told : Type 0 where
   -- the output, and how far the threads are
   reached : (output : List ℕ) (stages : List Stage) → Told
   broken : (rule : Rule) (after : ℕ) → Told
   no_turn : (after : ℕ) → Told
 
+-- what is told of this run
 abbrev pub told : Run Control → Told
 told (reaches s) = reached s.world.output (map (λ (t : Thread). t.stage) s.world.threads)
 told (breaks rule n) = broken rule n
@@ -90,9 +106,11 @@ told (no_run n) = no_turn n
 abbrev pub turns : (thread n : ℕ) → List Pick
 turns thread n = replicate n (record { thread = thread; answer = answers.Plain })
 
+-- one turn of a thread, which gets what it asks for
 abbrev pub got : (thread : ℕ) → List Pick
 got thread = record { thread = thread; answer = answers.Got } ∷ []
 
+-- one turn of a thread, which doesn't get what it asks for
 abbrev pub none : (thread : ℕ) → List Pick
 none thread = record { thread = thread; answer = answers.None } ∷ []
 
@@ -117,12 +135,15 @@ loop = of_main (in_register int_ty ∷ in_register int_ty ∷ [])
 abbrev pub p0 : Expr
 p0 = of_type int_star (local 0)
 
+-- malloc(n), as an int *
 abbrev pub malloc_of : ℕ → Expr
 malloc_of n = of_type int_star (convert (lib_call (pointer void) malloc (of_type (integer unsigned_long) (num unsigned_long (pos n)) ∷ [])))
 
+-- free(p);
 abbrev pub free_of : Expr → StmtNode
 free_of p = evaluate (lib_call void free (of_type (pointer void) (convert p) ∷ []))
 
+-- what is told of that program, which takes a block, writes and prints an int in it, and frees it
 abbrev pub heap : List Pick → Told
 heap = of_main (in_register int_star ∷ [])
     (declare 0 (Some (malloc_of 4)) ∷ assign (at_star p0) (k 41) ∷ update (at_star p0) ops.Add (k 1) ∷ printf_int (at_star p0) ∷ free_of p0 ∷ return_ (Some (k 0)) ∷ [])
@@ -131,6 +152,7 @@ heap = of_main (in_register int_star ∷ [])
 abbrev pub call_of : ℕ → List Expr → Expr
 call_of f args = of_type int_ty (call f (arguments args))
 
+-- what is told of that program, in which f calls itself
 abbrev pub recursion : List Pick → Told
 recursion order = told (run (whole [] []
     (func 0 [] (return_ (Some (call_of 1 (k 2 ∷ []))) ∷ [])
@@ -142,9 +164,11 @@ recursion order = told (run (whole [] []
 abbrev pub g0 : Expr
 g0 = of_type int_star (global 0)
 
+-- the type thrd_t, an unsigned long (this project's profile)
 abbrev pub thread_ty : Ty
 thread_ty = integer unsigned_long
 
+-- that program, in which a thread frees the block that main reads; the read stands at place 77
 abbrev pub shared_block : Typed.Typed
 shared_block = whole (record { ty = int_star; init = zero_bytes } ∷ []) []
     (func 0 (in_memory thread_ty ∷ [])
@@ -166,12 +190,15 @@ first_turns n = got 0 ++ turns 0 3 ++ got 0 ++ turns 0 n
 abbrev pub breaks_at_once : List Local → List StmtNode → Told
 breaks_at_once locals body = of_main locals body (turns 0 1)
 
+-- n int locals without blocks
 abbrev pub ints : ℕ → List Local
 ints n = replicate n (in_register int_ty)
 
+-- return e;
 abbrev pub returns : Expr → StmtNode
 returns e = return_ (Some e)
 
+-- the type char *
 abbrev pub char_star : Ty
 char_star = pointer (integer char)
 
@@ -183,9 +210,11 @@ decayed t n of = of_type (pointer t) (decay (of_type (array t n) of))
 abbrev pub at_index : Ty → Expr → Expr → Expr
 at_index t p i = of_type t (deref (of_type (pointer t) (pointer_add p i)))
 
+-- (void *)p
 abbrev pub as_void_star : Expr → Expr
 as_void_star p = of_type (pointer void) (convert p)
 
+-- the constant n, a size_t
 abbrev pub size : ℕ → Expr
 size n = of_type (integer unsigned_long) (num unsigned_long (pos n))
 
@@ -193,6 +222,7 @@ size n = of_type (integer unsigned_long) (num unsigned_long (pos n))
 abbrev pub the_mutex : Expr
 the_mutex = of_type (pointer mutex) (address_of (of_type mutex (local 0)))
 
+-- a call that takes that mutex, like mtx_lock(&m);
 abbrev pub mutex_call : Lib → StmtNode
 mutex_call which = evaluate (lib_call int_ty which (the_mutex ∷ []))
 
@@ -229,6 +259,7 @@ joined_twice = whole [] []
 abbrev pub prints_and_gives : ℕ → Func
 prints_and_gives n = func 0 [] (printf_int (k n) ∷ returns (k n) ∷ [])
 
+-- what is told of that program, which prints f()-g()
 abbrev pub left_to_right : List Pick → Told
 left_to_right order = told (run (whole [] []
     (func 0 [] (printf_int (op_of ops.Sub (call_of 1 []) (call_of 2 [])) ∷ returns (k 0) ∷ []) ∷ prints_and_gives 1 ∷ prints_and_gives 2 ∷ [])) order)
@@ -237,6 +268,7 @@ left_to_right order = told (run (whole [] []
 abbrev pub x0 : Expr
 x0 = of_type int_ty (global 0)
 
+-- what is told of that program, in which f changes x while x+=f() is under way
 abbrev pub update_last : List Pick → Told
 update_last order = told (run (whole (record { ty = int_ty; init = number int (pos 1) } ∷ []) []
     (func 0 [] (update x0 ops.Add (call_of 1 []) ∷ returns x0 ∷ []) ∷ func 0 [] (assign x0 (k 10) ∷ returns (k 1) ∷ []) ∷ [])) order)
@@ -256,9 +288,11 @@ left_block = of_main (in_register int_star ∷ in_memory int_ty ∷ [])
 abbrev pub pair : Layout
 pair = record { offsets = 0 ∷ 4 ∷ []; types = integer char ∷ int_ty ∷ []; size = 8; align = 4 }
 
+-- the local of number n, a struct s
 abbrev pub struct_local : ℕ → Expr
 struct_local n = of_type (structure 0) (local n)
 
+-- what is told of that program, which assigns one struct to another, and a struct to itself
 abbrev pub structs : List Pick → Told
 structs order = told (run (record {
   structs = pair ∷ [];
@@ -287,12 +321,15 @@ end_and_start order = told (run (whole (record { ty = array int_ty 2; init = zer
 abbrev pub unsigned_char : Ty
 unsigned_char = integer (record { signed = false; bits = 8; known_width = refl })
 
+-- the constant n, an unsigned int
 abbrev pub u : ℕ → Expr
 u n = of_type (integer unsigned_int) (num unsigned_int (pos n))
 
+-- the int -n, as 0-n
 abbrev pub minus : ℕ → Expr
 minus n = op_of ops.Sub (k 0) (k n)
 
+-- what is told of that program, which prints numbers of several types
 abbrev pub number_formats : List Pick → Told
 number_formats = of_main (in_register unsigned_char ∷ [])
     (declare 0 (Some (of_type unsigned_char (convert (k 300))))
@@ -306,18 +343,23 @@ number_formats = of_main (in_register unsigned_char ∷ [])
 abbrev pub thread_of : ℕ → Expr
 thread_of n = of_type thread_ty (local n)
 
+-- thrd_create(&x,f,NULL); where x is the local of number n
 abbrev pub starts_f : ℕ → StmtNode
 starts_f n = evaluate (lib_call int_ty (start 1) (of_type (pointer thread_ty) (address_of (thread_of n)) ∷ of_type (pointer void) null ∷ []))
 
+-- thrd_join(x,NULL); where x is the local of number n
 abbrev pub joins_f : ℕ → StmtNode
 joins_f n = evaluate (lib_call int_ty join (thread_of n ∷ of_type int_star null ∷ []))
 
+-- a call that takes the mutex m, like mtx_lock(&m);
 abbrev pub global_mutex_call : Lib → StmtNode
 global_mutex_call which = evaluate (lib_call int_ty which (of_type (pointer mutex) (address_of (of_type mutex (global 0))) ∷ []))
 
+-- n, the second of the globals
 abbrev pub n1 : Expr
 n1 = of_type int_ty (global 1)
 
+-- that program, in which two threads count under a mutex
 abbrev pub counted : Typed.Typed
 counted = whole (record { ty = mutex; init = zero_bytes } ∷ record { ty = int_ty; init = zero_bytes } ∷ []) []
     (func 0 (in_memory thread_ty ∷ in_memory thread_ty ∷ []) (declare 0 None ∷ declare 1 None ∷ starts_f 0 ∷ starts_f 1 ∷ joins_f 0 ∷ joins_f 1 ∷ returns n1 ∷ [])
@@ -341,6 +383,7 @@ pub data Went : Type 0 where
   breaks_at : (rule : Rule) (place : ℕ) → Went
   is_none : Went
 
+-- how a turn went, without the world after it
 abbrev pub went_of : Shown → Went
 went_of (it_went w) = goes
 went_of (it_ended w) = ends
@@ -349,9 +392,11 @@ went_of it_was_unfit = misfits
 went_of (it_broke rule place) = breaks_at rule place
 went_of no_such_turn = is_none
 
+-- how each turn of an order went
 abbrev pub seen : Typed.Typed → List Pick → List Went
 seen t order = map went_of (shown t order)
 
+-- what a product, a loop, a block of malloc, a recursion and a block of two threads come to, order by order
 pub record RowsStand : Type 0 where
   -- a print and the end; a turn more there is none; and it takes no other answer
   pub product_is : product (turns 0 2) ≡ reached (codes "42\n") (returned (pos 6) ∷ [])
@@ -407,6 +452,7 @@ pub record RulesStand : Type 0 where
   pub c16 : of_main (in_memory int_star ∷ [])
       (declare 0 (Some (of_type int_star (convert (of_type (pointer int_star) (address_of p0))))) ∷ returns (of_type (integer long) (deref (of_type (pointer (integer long)) (convert (of_type (pointer int_star) (address_of p0)))))) ∷ []) (turns 0 2) ≡ broken rules.C16 1
 
+-- what comes first where several things are to be done, and what small programs come to
 pub record OrdersStand : Type 0 where
   -- f is entered, prints and is left, then g, then main prints and ends
   pub left_to_right_is : left_to_right (turns 0 8) ≡ reached (codes "1\n2\n-1\n") (returned (pos 0) ∷ [])

@@ -94,20 +94,25 @@ after_call (dropped k) v = begins k
 
 -- ---- locals
 
+-- the function of the call under way
 abbrev pub func_at : Here → Option tree.Func
 func_at h = slice_get h.typed.funcs h.function
 
+-- what a function says of its local of this number: the type, and whether it lies in memory
 abbrev pub declared_in : Option tree.Func → (number : ℕ) → Option tree.Local
 declared_in None number = None
 declared_in (Some f) number = slice_get f.locals number
 
+-- what the function of the call under way says of its local of this number
 abbrev pub local_at : Here → (number : ℕ) → Option tree.Local
 local_at h number = declared_in (func_at h) number
 
+-- the local lies in memory, in a block of its own
 abbrev pub is_block : Option tree.Local → Bool
 is_block None = false
 is_block (Some l) = l.in_memory
 
+-- the size of a local's type
 abbrev pub size_of_local : Here → Option tree.Local → ℕ
 size_of_local h None = 0
 size_of_local h (Some l) = size_in h.typed.structs l.ty
@@ -117,9 +122,11 @@ abbrev pub variable_or_unset : Option Variable → Variable
 variable_or_unset None = unset
 variable_or_unset (Some v) = v
 
+-- what the local of this number holds in the call under way
 abbrev pub variable_at : Now → (number : ℕ) → Variable
 variable_at x number = variable_or_unset (slice_get x.locals number)
 
+-- the local of this number holds this from now on
 abbrev pub with_variable : (number : ℕ) → Variable → Now → Now
 with_variable number v x = record { locals = set x.locals number v; world = x.world }
 
@@ -129,9 +136,11 @@ ended_if number unset x = x
 ended_if number (holds v) x = x
 ended_if number (lies block) x = record { locals = set x.locals number unset; world = without_local x.world block }
 
+-- the block of the local of this number ends, if it has one
 abbrev pub ended_local : (number : ℕ) → Now → Now
 ended_local number x = ended_if number (variable_at x number) x
 
+-- the blocks of these locals end, in order (C11 6.2.4 p6)
 abbrev pub ended_locals : List ℕ → Now → Now
 ended_locals [] x = x
 ended_locals (number ∷ numbers) x = ended_locals numbers (ended_local number x)
@@ -140,6 +149,7 @@ ended_locals (number ∷ numbers) x = ended_locals numbers (ended_local number x
 abbrev pub with_block : (number size : ℕ) → Now → Now
 with_block number size x = record { locals = set x.locals number (lies (length x.world.blocks)); world = with_local x.world size }
 
+-- the block that a local had ends, if it had one, and it gets a new one of its type's size
 abbrev pub made_local : Here → (number : ℕ) → Now → Now
 made_local h number x = with_block number (size_of_local h (local_at h number)) (ended_local number x)
 
@@ -147,12 +157,13 @@ made_local h number x = with_block number (size_of_local h (local_at h number)) 
 abbrev pub declared_local : Here → (number : ℕ) → Now → Now
 declared_local h number x = if is_block (local_at h number) then made_local h number x else with_variable number unset x
 
--- the world without the blocks of these locals
+-- the world without the block of this local
 abbrev pub without_block : Variable → World → World
 without_block unset w = w
 without_block (holds v) w = w
 without_block (lies block) w = without_local w block
 
+-- the world in which the blocks of all these locals have ended
 abbrev pub without_blocks : List Variable → World → World
 without_blocks [] w = w
 without_blocks (v ∷ vs) w = without_blocks vs (without_block v w)
@@ -162,9 +173,11 @@ abbrev pub with_declared : tree.StmtNode → List ℕ → List ℕ
 with_declared (tree.declare number init) numbers = number ∷ numbers
 with_declared node numbers = numbers
 
+-- the local that this statement declares, if it is a declaration, and then those already found
 abbrev pub declared_by : tree.Stmt → List ℕ → List ℕ
 declared_by (tree.at_stmt place node) numbers = with_declared node numbers
 
+-- the locals that these statements declare, in order
 abbrev pub declared : tree.Stmts → List ℕ
 declared tree.no_stmts = []
 declared (tree.more_stmts s rest) = declared_by s (declared rest)
@@ -175,6 +188,7 @@ declared (tree.more_stmts s rest) = declared_by s (declared rest)
 abbrev pub first_locals : tree.Func → List Value → List Variable
 first_locals f args = map holds args ++ replicate (length f.locals - length args) unset
 
+-- where a thread stands that has just entered a function: before the first statement of its body, above these callers
 abbrev pub begins_in : (function : ℕ) → tree.Func → List Value → (callers : List Caller) → Control
 begins_in number f args callers = record { function = number; locals = first_locals f args; point = begins (then_row f.body leaves); callers = callers }
 
@@ -194,7 +208,7 @@ abbrev pub calls : Here → (place : ℕ) → Callee → List Value → Wait →
 calls h place (function number) args k x = enters h number args k x (slice_get h.typed.funcs number)
 calls h place (library which) args k x = calls_library h place which args k (action_of which args) x
 
--- the value that a function ends with: main gives 0 where it has none (C11 5.1.2.2.3; own where the program calls it)
+-- the value that a function ends with: main gives 0 where it has none (C11 5.1.2.2.3; this project's profile where the program calls it)
 abbrev pub result_of_call : Here → Option Value → Option Value
 result_of_call h (Some v) = Some v
 result_of_call h None = if h.function == h.typed.main then Some (values.Num (num int (pos 0))) else None
@@ -232,9 +246,11 @@ read_way h place how w = record {
 abbrev pub only_way : (place : ℕ) → Unary → WayOfUse → WayOfUse
 only_way place op w = record { k = only_of place op w.k; go = λ v x. on_ok place (λ r. w.go r x) (of_one x.world.blocks op v) }
 
+-- once the right operand has its value: the operator is applied to both
 abbrev pub second_way : (place : ℕ) → Binary → (left : Value) → WayOfUse → WayOfUse
 second_way place op left w = record { k = second_of place op left w.k; go = λ v x. on_ok place (λ r. w.go r x) (of_two x.world.blocks op left v) }
 
+-- once the left operand has its value: the right one is evaluated
 abbrev pub first_way : (place : ℕ) → Binary → tree.Expr → (WayOfUse → Does) → WayOfUse → WayOfUse
 first_way place op right run_right w = record { k = first_of place op right w.k; go = λ v. run_right (second_way place op v w) }
 
@@ -242,10 +258,12 @@ first_way place op right run_right w = record { k = first_of place op right w.k;
 abbrev pub second_test_way : (place : ℕ) → WayOfUse → WayOfUse
 second_test_way place w = record { k = second_test place w.k; go = λ v x. on_ok place (λ b. w.go (int_of b) x) (truth_of x.world.blocks v) }
 
+-- two truth values are the same
 abbrev pub is_same : (a b : Bool) → Bool
 is_same true b = b
 is_same false b = not b
 
+-- once the left operand of && or || has its value: that decides, and the result is 0 or 1, or else the right one is evaluated
 abbrev pub first_test_way : (place : ℕ) → (decides : Bool) → tree.Expr → (WayOfUse → Does) → WayOfUse → WayOfUse
 first_test_way place decides right run_right w = record {
   k = first_test place decides right w.k;
@@ -279,16 +297,18 @@ finds_variable place w (lies block) x = w.go (values.Pointer (To block 0)) x
 abbrev pub literal_block : Here → (number : ℕ) → ℕ
 literal_block h number = length h.typed.globals + number
 
--- how two operands of a type are moved apart, or compared
+-- the size of the elements that a pointer points to (C11 6.5.6)
 abbrev pub size_of_elements : Here → tree.Expr → ℕ
 size_of_elements h p = element_size h.typed.structs (tree.type_of p)
 
 -- `run` evaluates an expression to its value, `run_place` an lvalue to the pointer to its object, and `run_arguments` the arguments of
 -- a call, which it then makes
 abbrev mutual
+  -- an expression is evaluated to its value, by its form, its type and its place in the text
   pub run : Here → tree.Expr → WayOfUse → Does
   run h (tree.at place ty node) w x = run_node h place ty node w x
 
+  -- the same for each form: a constant is its value, an lvalue is read (C11 6.3.2.1 p2), and operands are evaluated from left to right
   pub run_node : Here → (place : ℕ) → tree.Ty → tree.ExprNode → WayOfUse → Does
   run_node h place ty (tree.num t z) w x = w.go (values.Num (num t z)) x
   run_node h place ty tree.null w x = w.go (values.Pointer Null) x
@@ -314,9 +334,11 @@ abbrev mutual
   run_node h place ty (tree.call number args) w x = run_arguments h place (function number) args [] (wanted place w.k) x
   run_node h place ty (tree.lib which args) w x = run_arguments h place (library which) args [] (wanted place w.k) x
 
+  -- an lvalue is evaluated to the pointer to its object, which isn't read
   pub run_place : Here → tree.Expr → WayOfUse → Does
   run_place h (tree.at place ty node) w x = run_place_node h place node w x
 
+  -- the same for each form that is an lvalue; in a well typed program no other stands here
   pub run_place_node : Here → (place : ℕ) → tree.ExprNode → WayOfUse → Does
   run_place_node h place (tree.literal number) w x = w.go (values.Pointer (To (literal_block h number) 0)) x
   run_place_node h place (tree.global number) w x = w.go (values.Pointer (To number 0)) x
@@ -326,6 +348,7 @@ abbrev mutual
       run_place h e (only_way place (selects (member_offset h.typed.structs (tree.type_of e) number)) w) x
   run_place_node h place node w x = unfit
 
+  -- the arguments that are left are evaluated from left to right, behind those whose values are known, and then the call is made
   pub run_arguments : Here → (place : ℕ) → Callee → tree.Exprs → List Value → Wait → Does
   run_arguments h place callee tree.no_exprs before k x = calls h place callee before k x
   run_arguments h place callee (tree.more_exprs e rest) before k x = run h e (argument_way place callee before rest (run_arguments h place callee rest) k) x
@@ -336,14 +359,17 @@ abbrev mutual
 abbrev pub nowhere_way : Way → WayOfUse
 nowhere_way w = record { k = to_nowhere w.k; go = λ v x. w.end x }
 
+-- an object whose value is dropped: a number or a pointer is read all the same, and any other object is only found
 abbrev pub drops_object : Here → (place : ℕ) → tree.Ty → tree.ExprNode → Way → Does
 drops_object h place ty node w x = if is_scalar ty then run_node h place ty node (nowhere_way w) x else run_place_node h place node (nowhere_way w) x
 
 -- an expression whose value is dropped: a call's isn't missed; a struct, an array or an object of type void is found and not read
 abbrev mutual
+  -- an expression is evaluated, and its value is dropped (C11 6.8.3 p2)
   pub run_dropped : Here → tree.Expr → Way → Does
   run_dropped h (tree.at place ty node) w x = run_dropped_node h place ty node w x
 
+  -- the same for each form; a cast to void drops its operand's value (C11 6.3.2.2)
   pub run_dropped_node : Here → (place : ℕ) → tree.Ty → tree.ExprNode → Way → Does
   run_dropped_node h place ty (tree.call number args) w x = run_arguments h place (function number) args [] (dropped w.k) x
   run_dropped_node h place ty (tree.lib which args) w x = run_arguments h place (library which) args [] (dropped w.k) x
@@ -359,6 +385,7 @@ abbrev mutual
 abbrev pub local_way : (number : ℕ) → Way → WayOfUse
 local_way number w = record { k = to_local number w.k; go = λ v x. w.end (with_variable number (holds v) x) }
 
+-- once the value is there: it is stored in the object that was found before, one action
 abbrev pub place_way : Here → (place : ℕ) → (to : Value) → Way → WayOfUse
 place_way h place to w = record {
   k = to_place place to w.k;
@@ -376,9 +403,11 @@ struct_right_way h place ty to w = record {
   go = λ v x. acts h place (actions.copy (pointer_in to) (pointer_in v) (size_in h.typed.structs ty) (align_in h.typed.structs ty) true) (λ u next. stays h x.locals (begins w.k) next) x;
 }
 
+-- once the struct of the left side is found: the one of the right side is found
 abbrev pub struct_left_way : Here → (place : ℕ) → tree.Ty → tree.Expr → Way → WayOfUse
 struct_left_way h place ty right w = record { k = struct_left place ty right w.k; go = λ v. run_place h right (struct_right_way h place ty v w) }
 
+-- the type of a struct
 abbrev pub is_struct : tree.Ty → Bool
 is_struct (tree.structure number) = true
 is_struct ty = false
@@ -402,12 +431,14 @@ update_read_way h u at by w = record {
   go = λ v x. on_ok u.operator (λ r. (place_way h u.place at w).go r x) (updated h.typed.structs x.world.blocks u.ty u.op v by);
 }
 
+-- once b has its value: a is read, one action
 abbrev pub update_right_way : Here → Update → (at : Value) → Way → WayOfUse
 update_right_way h u at w = record {
   k = update_right u at w.k;
   go = λ v x. acts h u.place (actions.load (pointer_in at) (access_of_type u.ty)) (λ read next. stays h x.locals (after_call (wanted u.place (update_read u at v w.k)) read) next) x;
 }
 
+-- once the place of a is found: b is evaluated
 abbrev pub update_left_way : Here → Update → tree.Expr → Way → WayOfUse
 update_left_way h u right w = record { k = update_left u right w.k; go = λ v. run h right (update_right_way h u v w) }
 
@@ -417,9 +448,11 @@ updates_variable h u number by w (holds v) x =
     on_ok u.operator (λ r. w.end (with_variable number (holds r) x)) (updated h.typed.structs x.world.blocks u.ty u.op v by)
 updates_variable h u number by w v x = broke C4 u.place
 
+-- once b has its value, where a is a local without a block
 abbrev pub update_local_way : Here → Update → (number : ℕ) → Way → WayOfUse
 update_local_way h u number w = record { k = update_local u number w.k; go = λ v x. updates_variable h u number v w (variable_at x number) x }
 
+-- a compound assignment, by its left side: a local without a block, or an object
 abbrev pub updates : Here → Update → tree.ExprNode → (left right : tree.Expr) → Way → Does
 updates h u (tree.local number) left right w =
     if is_block (local_at h number) then run_place h left (update_left_way h u right w) else run h right (update_local_way h u number w)
@@ -431,6 +464,7 @@ initialises h place number init w x =
     if is_block (local_at h number) then run h init (place_way h place (values.Pointer (To (length (ended_local number x).world.blocks) 0)) w) (made_local h number x)
     else run h init (local_way number w) (with_variable number unset x)
 
+-- a declaration, with an initial value, or without one, where the value is indeterminate (C11 6.7.9 p10)
 abbrev pub declares : Here → (place number : ℕ) → Option tree.Expr → Way → Does
 declares h place number None w x = w.end (declared_local h number x)
 declares h place number (Some init) w x = initialises h place number init w x
@@ -439,6 +473,7 @@ declares h place number (Some init) w x = initialises h place number init w x
 abbrev pub caller_way : Here → WayOfUse
 caller_way h = record { k = to_caller; go = λ v x. leaves_call h (Some v) x }
 
+-- return, without a value or with one (C11 6.8.6.4)
 abbrev pub returns : Here → Option tree.Expr → Does
 returns h None x = leaves_call h None x
 returns h (Some e) x = run h e (caller_way h) x
@@ -450,6 +485,7 @@ if_way place one other run_one run_other w = record {
   go = λ v x. on_ok place (λ b. if b then run_one w x else run_other w x) (truth_of x.world.blocks v);
 }
 
+-- the empty statement: an else that isn't there, or the step of a while (C11 6.8.3 p3)
 abbrev pub nothing : (place : ℕ) → tree.Stmt
 nothing place = tree.at_stmt place tree.empty
 
@@ -457,6 +493,7 @@ nothing place = tree.at_stmt place tree.empty
 abbrev pub leave_way : Here → Way
 leave_way h = record { k = leaves; end = leaves_call h None; breaks = leaves_call h None; continues = leaves_call h None }
 
+-- behind a statement of a block: the rest of the block follows, and a break or a continue passes over it
 abbrev pub row_way : tree.Stmts → (Way → Does) → Way → Way
 row_way rest run_rest w = record { k = then_row rest w.k; end = run_rest w; breaks = w.breaks; continues = w.continues }
 
@@ -472,25 +509,31 @@ end_way numbers w = record {
 -- ---- loops (C11 6.8.5): the condition, the body, the step, and the round is over, which ends the turn. A continue goes to the step, and a
 -- break, or a condition that doesn't hold, leaves the loop
 
+-- a round is over, and the turn ends: the thread's next turn begins with the next round
 abbrev pub round_over : Here → Loop → Todo → Does
 round_over h l k x = plainly h.answer (stays h x.locals (round l k) x.world)
 
+-- behind a loop's step: the round is over
 abbrev pub step_way : Here → Loop → Way → Way
 step_way h l w = record { k = in_step l w.k; end = round_over h l w.k; breaks = w.end; continues = round_over h l w.k }
 
+-- behind the body: the step follows, also from a continue; a break leaves the loop (C11 6.8.6.2, 6.8.6.3)
 abbrev pub body_way : Here → Loop → (run_step : Way → Does) → Way → Way
 body_way h l run_step w = record { k = in_body l w.k; end = run_step (step_way h l w); breaks = w.end; continues = run_step (step_way h l w) }
 
+-- once the condition has its value: the body follows where that counts as true, and else the loop is left (C11 6.8.5 p4)
 abbrev pub loop_test_way : Here → (place : ℕ) → Loop → (run_body run_step : Way → Does) → Way → WayOfUse
 loop_test_way h place l run_body run_step w = record {
   k = loop_test place l w.k;
   go = λ v x. on_ok place (λ b. if b then run_body (body_way h l run_step w) x else w.end x) (truth_of x.world.blocks v);
 }
 
+-- a round under this condition; without one the body follows at once (C11 6.8.5.3 p2)
 abbrev pub rounds_if : Here → Loop → (run_body run_step : Way → Does) → Way → Option tree.Expr → Does
 rounds_if h l run_body run_step w None x = run_body (body_way h l run_step w) x
 rounds_if h l run_body run_step w (Some e) x = run h e (loop_test_way h (tree.place_of e) l run_body run_step w) x
 
+-- a round of a loop: its condition is evaluated, and where it holds the body and the step follow
 abbrev pub rounds : Here → Loop → (run_body run_step : Way → Does) → Way → Does
 rounds h l run_body run_step w x = rounds_if h l run_body run_step w l.condition x
 
@@ -502,16 +545,20 @@ loop_way h l run_body run_step w = record { k = then_loop l w.k; end = rounds h 
 abbrev pub while_loop : (place : ℕ) → tree.Expr → tree.Stmt → Loop
 while_loop place e body = record { condition = Some e; step = nothing place; body = body }
 
+-- the loop of a for, which begins behind its first clause (C11 6.8.5.3)
 abbrev pub for_loop : Option tree.Expr → (step body : tree.Stmt) → Loop
 for_loop e step body = record { condition = e; step = step; body = body }
 
+-- a compound assignment of this operator to this left side, and where both stand in the text
 abbrev pub update_of : (operator : ℕ) → tree.Expr → Op → Update
 update_of operator left op = record { place = tree.place_of left; operator = operator; op = op; ty = tree.type_of left }
 
 abbrev mutual
+  -- a statement is executed, by its form and its place in the text
   pub run_stmt : Here → tree.Stmt → Way → Does
   run_stmt h (tree.at_stmt place node) w x = run_stmt_node h place node w x
 
+  -- the same for each form (C11 6.8; an assignment is a statement in this project's profile)
   pub run_stmt_node : Here → (place : ℕ) → tree.StmtNode → Way → Does
   run_stmt_node h place (tree.block body) w x = run_row h body (end_way (declared body) w) x
   run_stmt_node h place (tree.declare number init) w x = declares h place number init w x
@@ -528,12 +575,14 @@ abbrev mutual
   run_stmt_node h place (tree.evaluate e) w x = run_dropped h e w x
   run_stmt_node h place tree.empty w x = w.end x
 
+  -- the statements of a block are executed in order (C11 6.8.2)
   pub run_row : Here → tree.Stmts → Way → Does
   run_row h tree.no_stmts w x = w.end x
   run_row h (tree.more_stmts s rest) w x = run_stmt h s (row_way rest (run_row h rest) w) x
 
 -- ---- what is left to do, carried out
 
+-- what is left to do in a call, as the way that does it
 abbrev pub way_of : Here → Todo → Way
 way_of h leaves = leave_way h
 way_of h (then_row rest k) = row_way rest (run_row h rest) (way_of h k)
@@ -542,6 +591,7 @@ way_of h (then_loop l k) = loop_way h l (run_stmt h l.body) (run_stmt h l.step) 
 way_of h (in_body l k) = body_way h l (run_stmt h l.step) (way_of h k)
 way_of h (in_step l k) = step_way h l (way_of h k)
 
+-- what a value is used for, as the way that does it
 abbrev pub use_of : Here → Use → WayOfUse
 use_of h (first_of place op right k) = first_way place op right (run h right) (use_of h k)
 use_of h (second_of place op left k) = second_way place op left (use_of h k)
@@ -572,6 +622,7 @@ from_point h (lacks place) x = broke C15 place
 from_point h (begins k) x = (way_of h k).end x
 from_point h (round l k) x = rounds h l (run_stmt h l.body) (run_stmt h l.step) (way_of h k) x
 
+-- what stays the same in this turn of a thread
 abbrev pub here : tree.Typed → (thread : ℕ) → Answer → Control → Here
 here typed thread answer c = record { typed = typed; thread = thread; answer = answer; function = c.function; callers = c.callers }
 

@@ -39,36 +39,43 @@ abbrev pub element_size : List tree.Layout → tree.Ty → ℕ
 element_size structs (tree.pointer t) = size_in structs t
 element_size structs t = 0
 
--- where a member of a struct begins
+-- the offset that was found, or 0
 abbrev pub offset_or_0 : Option ℕ → ℕ
 offset_or_0 (Some offset) = offset
 offset_or_0 None = 0
 
+-- where a member begins in a struct of this layout, in bytes from the struct's start
 abbrev pub offset_in : Option tree.Layout → (member : ℕ) → ℕ
 offset_in None member = 0
 offset_in (Some l) member = offset_or_0 (slice_get l.offsets member)
 
+-- where a member begins in an object of this type, which is that of a struct (C11 6.7.2.1)
 abbrev pub member_offset : List tree.Layout → tree.Ty → (member : ℕ) → ℕ
 member_offset structs (tree.structure number) member = offset_in (slice_get structs number) member
 member_offset structs t member = 0
 
 -- ---- values
 
+-- a truth value as an int, 0 or 1 (C11 6.5.3.3 p5, 6.5.8 p6, 6.5.9 p3)
 abbrev pub int_of : Bool → Value
 int_of b = values.Num (num int (truth b))
 
+-- the result of an operator on numbers, as a value
 abbrev pub value_of : Result Num Rule → Result Value Rule
 value_of (Ok n) = Ok (values.Num n)
 value_of (Err rule) = Err rule
 
+-- the result of a pointer's move, as a value
 abbrev pub pointer_of : Result Ptr Rule → Result Value Rule
 pointer_of (Ok p) = Ok (values.Pointer p)
 pointer_of (Err rule) = Err rule
 
+-- the answer of a test or a comparison, as an int
 abbrev pub int_result : Result Bool Rule → Result Value Rule
 int_result (Ok b) = Ok (int_of b)
 int_result (Err rule) = Err rule
 
+-- the difference of two pointers, as a long (C11 6.5.6 p9; its type is this project's profile)
 abbrev pub long_result : Result ℤ Rule → Result Value Rule
 long_result (Ok z) = Ok (values.Num (num long z))
 long_result (Err rule) = Err rule
@@ -78,6 +85,7 @@ abbrev pub truth_of : Blocks → Value → Result Bool Rule
 truth_of blocks (values.Num n) = Ok (not (int_eq n.value (pos 0)))
 truth_of blocks (values.Pointer p) = tested blocks p
 
+-- the opposite answer of a test, as ! gives it (C11 6.5.3.3 p5)
 abbrev pub opposite : Result Bool Rule → Result Bool Rule
 opposite (Ok b) = Ok (not b)
 opposite (Err rule) = Err rule
@@ -105,16 +113,19 @@ pub data Binary : Type 0 where
   distance : (size : ℕ) → Binary
   on_pointers : (op : Op) → Binary
 
+-- the pointer to a member, at this offset in the struct that a pointer points to (C11 6.5.2.3)
 abbrev pub selected : Blocks → (offset : ℕ) → Value → Result Value Rule
 selected blocks offset (values.Pointer p) = pointer_of (moved blocks p (pos offset))
 selected blocks offset (values.Num n) = Err C16
 
+-- what an operation on one value gives, or the rule that it breaks
 abbrev pub of_one : Blocks → Unary → Value → Result Value Rule
 of_one blocks (converts ty) v = Ok (converted ty v)
 of_one blocks negates v = int_result (opposite (truth_of blocks v))
 of_one blocks tests v = int_result (truth_of blocks v)
 of_one blocks (selects offset) v = selected blocks offset v
 
+-- what an operation on two values gives, or the rule that it breaks
 abbrev pub of_two : Blocks → Binary → Value → Value → Result Value Rule
 of_two blocks (on_numbers op) (values.Num a) (values.Num b) = value_of (result_of op a b)
 of_two blocks (forward size) (values.Pointer p) (values.Num n) = pointer_of (indexed blocks p n.value size)
@@ -131,9 +142,11 @@ operand_types ops.Shl a b = (promoted_type a, promoted_type b)
 operand_types ops.Shr a b = (promoted_type a, promoted_type b)
 operand_types op a b = (common_type a b, common_type a b)
 
+-- a op b, once each operand is converted to its type of these two
 abbrev pub computed : Op → IntType × IntType → Num → Num → Result Value Rule
 computed op types a b = value_of (result_of op (num types.0 a.value) (num types.1 b.value))
 
+-- a result, converted to the type of the left side (C11 6.5.16.1 p2)
 abbrev pub converted_result : tree.Ty → Result Value Rule → Result Value Rule
 converted_result ty (Ok v) = Ok (converted ty v)
 converted_result ty (Err rule) = Err rule

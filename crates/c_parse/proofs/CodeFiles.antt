@@ -5,15 +5,15 @@ use Rattle.std.proofs.Math.Seq.{get_or-append_seam}
 use Rattle.c_lex.specs.declared.token.Token.{Token}
 use Rattle.c_lex.specs.declared.refusal.Kind.{Kind}
 use Rattle.c_tree.specs.Syntax.{File}
-use Rattle.c_parse.specs.Language.{Parses, RefusesTokens}
-use Rattle.c_parse.specs.Laws.{EndOnce}
-use Rattle.c_parse.specs.inner.Readers.{Fault, stop, Reading, got, ◌>>=◌}
-use Rattle.c_parse.specs.inner.Reading.{file}
+use Rattle.c_grammar.specs.Language.{Parses, RefusesTokens}
+use Rattle.c_grammar.specs.Laws.{EndOnce}
+use Rattle.c_grammar.specs.inner.Readers.{Fault, stop, Reading, got, ◌>>=◌}
+use Rattle.c_grammar.specs.inner.Reading.{file}
 use Rattle.c_parse.specs.inner.Parts.{nothing_behind, whole_file}
-use Rattle.c_parse.proofs.FileLaws.{nothing_more}
-use Rattle.c_parse.proofs.Verdicts.{kind_by, refuses}
-use Rattle.c_parse.proofs.GrammarLaws.{refusal_at}
-use Rattle.c_parse.proofs.FileReading.{reads_files, file_parses}
+use Rattle.c_grammar.proofs.FileLaws.{nothing_more}
+use Rattle.c_grammar.proofs.Verdicts.{kind_by, refuses}
+use Rattle.c_grammar.proofs.GrammarLaws.{refusal_at}
+use Rattle.c_grammar.proofs.FileReading.{reads_files, file_parses}
 
 -- what is read whole is what the laws speak of
 behind_is : (f : File) (c : ℕ) (rest : List Token) (g : File) (d : ℕ) (us : List Token) → nothing_behind f c rest ≡ got g d us → nothing_more f rest ≡ Ok g

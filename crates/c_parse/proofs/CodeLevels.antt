@@ -5,9 +5,9 @@ use Rattle.c_lex.specs.declared.refusal.Kind.TheVariants.{TooDeep}
 use Rattle.c_tree.specs.Syntax.{Expr, TypeName, Member}
 use Rattle.c_parse.specs.declared.parser.Stop.{Stop}
 use Rattle.c_parse.specs.declared.parser.Stop.TheVariants as stops
-use Rattle.c_parse.specs.inner.Readers.{Fault, stop, Reads, Sort, sort, refused, too_deep}
-use Rattle.c_parse.specs.inner.Tokens.{begins_type, begins_expr}
-use Rattle.c_parse.specs.inner.Reading.{Level, Sized, level_by, no_level, level_at, expr, casted, unary, sized, type_named, membered}
+use Rattle.c_grammar.specs.inner.Readers.{Fault, stop, Reads, Sort, sort, refused, too_deep}
+use Rattle.c_grammar.specs.inner.Tokens.{begins_type, begins_expr}
+use Rattle.c_grammar.specs.inner.Reading.{Level, Sized, level_by, no_level, level_at, expr, casted, unary, sized, type_named, membered}
 use Rattle.c_parse.specs.inner.Moves.{Fails}
 
 level_suc : (b : Bool) (n : ℕ) → level_at b (suc n) ≡ level_by b n (level_at b n)

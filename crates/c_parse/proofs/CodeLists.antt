@@ -6,7 +6,7 @@ use denote.Enum.Bare.{sameb}
 use Rattle.c_tree.specs.declared.syntax.Pointer.{Pointer}
 use Rattle.c_tree.specs.declared.syntax.Pointer.TheVariants.{Star, Const, Restrict}
 use Rattle.c_tree.specs.contracts.syntax.Pointer.{the_type as pointer_type}
-use Rattle.c_parse.specs.Grammar.{stars}
+use Rattle.c_grammar.specs.Grammar.{stars}
 
 abbrev pub is_star : Pointer → Bool
 is_star p = sameb pointer_type p Star

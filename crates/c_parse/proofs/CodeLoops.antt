@@ -1,7 +1,7 @@
 -- How the code's steps and loops follow the readers'.
 use Rattle.std.proofs.Common.{◌≡◌, ℕ, zero, suc, ◌<◌, ◌≤◌, List, [], ◌∷◌, length, Option, Some, None, Ok, Err, Bool, true, false, refl, sym, ap, ◌∙◌, arith}
 use Rattle.c_lex.specs.declared.token.Token.{Token}
-use Rattle.c_parse.specs.inner.Readers.{Fault, stop, Reading, got, Reads, ◌>>=◌, Sort, sort, ◌▸◌, ◌&◌, made, choice_turn, choice, Turn, again, turn_next, turns, link_by, link_turn, links, chain}
+use Rattle.c_grammar.specs.inner.Readers.{Fault, stop, Reading, got, Reads, ◌>>=◌, Sort, sort, ◌▸◌, ◌&◌, made, choice_turn, choice, Turn, again, turn_next, turns, link_by, link_turn, links, chain}
 use Rattle.c_parse.specs.declared.parser.Stop.{Stop}
 use Rattle.c_parse.specs.declared.parser.Stop.TheVariants as stops
 use Rattle.c_parse.specs.inner.Moves.{Fails, peek_turn, peek, ahead}

@@ -7,9 +7,9 @@ use Rattle.c_tree.specs.Syntax.{Expr, group, binary, TypeName, type_name, Spec, 
 use Rattle.c_parse.specs.declared.parser.Parser.{Parser}
 use Rattle.c_parse.specs.declared.parser.Stop.{Stop}
 use Rattle.c_parse.specs.declared.parser.Stop.TheVariants as stops
-use Rattle.c_parse.specs.inner.Readers.{Reading, got, Reads, ◌&◌, made, nothing, pushed, chain, links}
-use Rattle.c_parse.specs.inner.Tokens.{tok, counted_tok, mark_is, is_mark, binary_of, is_binary, begins_type, begins_expr}
-use Rattle.c_parse.specs.inner.Reading.{Level, level_at, commas, either_by, either, spec, post, posted, begins_post, group_rest, ladder, specs, bare_pointers, type_named, pointers, bare_declared, declarator_behind, declared, membered}
+use Rattle.c_grammar.specs.inner.Readers.{Reading, got, Reads, ◌&◌, made, nothing, pushed, chain, links}
+use Rattle.c_grammar.specs.inner.Tokens.{tok, counted_tok, mark_is, is_mark, binary_of, is_binary, begins_type, begins_expr}
+use Rattle.c_grammar.specs.inner.Reading.{Level, level_at, commas, either_by, either, spec, post, posted, begins_post, group_rest, ladder, specs, bare_pointers, type_named, pointers, bare_declared, declarator_behind, declared, membered}
 use Rattle.c_parse.specs.inner.Moves.{Moves, ahead}
 use Rattle.c_parse.proofs.CodeLoops.{Going, begins_behind, behind_reads, chooses}
 use Rattle.c_parse.proofs.CodeLevels.{type_name_at, member_at}

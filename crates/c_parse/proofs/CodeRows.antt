@@ -1,7 +1,7 @@
 -- Rows that are read behind a first part.
 use Rattle.std.proofs.Common.{◌≡◌, ℕ, zero, suc, List, [], ◌∷◌, length, Ok, Err, Bool, true, false, refl, ap, ◌∙◌}
 use Rattle.c_lex.specs.declared.token.Token.{Token}
-use Rattle.c_parse.specs.inner.Readers.{Got, Reading, got, Reads, ◌>>=◌, ◌▸◌, ◌&◌, Sort, sort, made, again, turn_next, turns, link_by, link_turn, links, pushed, row}
+use Rattle.c_grammar.specs.inner.Readers.{Got, Reading, got, Reads, ◌>>=◌, ◌▸◌, ◌&◌, Sort, sort, made, again, turn_next, turns, link_by, link_turn, links, pushed, row}
 
 -- a reading, with one more before what was read
 abbrev headed : {A : Type 0} → A → Reading (List A) → Reading (List A)

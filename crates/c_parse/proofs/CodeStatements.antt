@@ -6,9 +6,9 @@ use Rattle.c_tree.specs.Syntax.{Declaration, Simple, Stmt}
 use Rattle.c_parse.specs.declared.parser.Parser.{Parser}
 use Rattle.c_parse.specs.declared.parser.Stop.{Stop}
 use Rattle.c_parse.specs.declared.parser.Stop.TheVariants as stops
-use Rattle.c_parse.specs.inner.Readers.{Fault, stop, got, Reads, Sort, sort, refused, choice, too_deep}
-use Rattle.c_parse.specs.inner.Tokens.{begins_type, begins_simple}
-use Rattle.c_parse.specs.inner.Reading.{declaration, simply, begins_stmt, StmtStart, stmt_start, stmt_by, stmt_at, param, param_behind}
+use Rattle.c_grammar.specs.inner.Readers.{Fault, stop, got, Reads, Sort, sort, refused, choice, too_deep}
+use Rattle.c_grammar.specs.inner.Tokens.{begins_type, begins_simple}
+use Rattle.c_grammar.specs.inner.Reading.{declaration, simply, begins_stmt, StmtStart, stmt_start, stmt_by, stmt_at, param, param_behind}
 use Rattle.c_parse.specs.inner.Parts.{declaration_by, simple_by, param_dims, param_by}
 use Rattle.c_parse.specs.inner.Moves.{Fails, Moves, peek}
 use Rattle.c_parse.proofs.CodeLoops.{chooses}

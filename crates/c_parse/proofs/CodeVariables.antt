@@ -5,9 +5,9 @@ use Rattle.c_lex.specs.declared.token.Mark.TheVariants.{Comma, Semicolon}
 use Rattle.c_tree.specs.declared.syntax.Name.{Name}
 use Rattle.c_tree.specs.declared.syntax.Pointer.{Pointer}
 use Rattle.c_tree.specs.Syntax.{declarator, variables, exprs_of}
-use Rattle.c_parse.specs.Grammar.{stars}
-use Rattle.c_parse.specs.inner.Tokens.{tok, mark_is, is_mark}
-use Rattle.c_parse.specs.inner.Reading.{level_at, dims, init_by, variable_rest}
+use Rattle.c_grammar.specs.Grammar.{stars}
+use Rattle.c_grammar.specs.inner.Tokens.{tok, mark_is, is_mark}
+use Rattle.c_grammar.specs.inner.Reading.{level_at, dims, init_by, variable_rest}
 use Rattle.c_parse.specs.inner.Parts.{initialiser, next_initialised, variable_by}
 use Rattle.c_parse.proofs.CodeRows.{rest_behind}
 

@@ -1,52 +1,5 @@
-mod Sorts
-mod Runs
-mod Steadiness
-mod Lawful
-mod Joints
-mod Loops
-mod FileLaws
-mod Verdicts
-pub mod GrammarLaws
-mod TokenLaws
-mod BinaryLaws
-pub mod RowsProof
 pub mod CodeLoops
 pub mod CodeLists
-mod MoreJoints
-mod Forks
-mod Respelling
-mod TreeClasses
-mod ArgumentLaws
-mod PostfixLaws
-mod OperandLaws
-mod UnaryLaws
-mod CastLaws
-mod SizedLaws
-mod LadderLaws
-mod ExprLaws
-mod DeepExprs
-mod SpecLaws
-mod PointerLaws
-mod DeclaratorLaws
-mod MemberLaws
-mod LevelLaws
-mod StatementClasses
-mod SimpleLaws
-mod DeepStatements
-mod ItemLaws
-mod ElseLaws
-mod StmtParts
-mod ForLaws
-mod StmtLaws
-mod DeclarationLaws
-mod ParamLaws
-mod BodyLaws
-mod RestLaws
-mod ExternalLaws
-mod EndLaws
-mod NoEnds
-mod WholeLaws
-pub mod FileReading
 pub mod CodeLevels
 pub mod CodeReads
 pub mod CodeStatements

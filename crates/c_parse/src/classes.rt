@@ -1,9 +1,9 @@
 //! Classes of tokens.
 
 ghost use Rattle.std.specs.Prelude.{◌≡◌};
-ghost use Rattle.c_parse.specs.Grammar.{height};
-ghost use Rattle.c_parse.specs.inner.Readers.{sort_of_kind};
-ghost use Rattle.c_parse.specs.inner.Tokens.{prefix_of_mark, step_of_mark, assign_of_mark, op_of_mark, binary_of_mark, type_of_word, storage_of_word, begins_type, begins_expr, begins_simple};
+ghost use Rattle.c_grammar.specs.Grammar.{height};
+ghost use Rattle.c_grammar.specs.inner.Readers.{sort_of_kind};
+ghost use Rattle.c_grammar.specs.inner.Tokens.{prefix_of_mark, step_of_mark, assign_of_mark, op_of_mark, binary_of_mark, type_of_word, storage_of_word, begins_type, begins_expr, begins_simple};
 
 use ak_words::Op;
 use c_lex::{Mark, TokenKind, Word};

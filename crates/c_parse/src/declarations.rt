@@ -10,11 +10,11 @@ use c_tree::syntax::{Declaration, Expr, InitDeclarator};
 
 impl Parser<'_> {
     ghost use Rattle.c_parse.specs.inner.Moves.{Moves, Takes, Keeps};
-    ghost use Rattle.c_parse.specs.inner.Reading.{level_at, value, declaration};
+    ghost use Rattle.c_grammar.specs.inner.Reading.{level_at, value, declaration};
     ghost use Rattle.c_parse.specs.inner.Parts.{initialiser, first_initialised, next_initialised, more_initialised};
 
     /// `"=" expr`
-    #[tactic(auto, unfolding(crate::specs::inner::Reading::value))]
+    #[tactic(auto, unfolding(c_grammar::specs::inner::Reading::value))]
     fn value(&mut self, room: u32, braces: bool) -> Result<Expr, Stop>
         ensures reads { Moves expr_view (value room (level_at braces room)) self.old self.new result }
         ensures takes { Takes self.old self.new result }
@@ -37,7 +37,7 @@ impl Parser<'_> {
     }
 
     /// `ptr NAME dims [ "=" expr ]`, behind specifiers.
-    #[tactic(auto, unfolding(crate::specs::inner::Reading::initialised))]
+    #[tactic(auto, unfolding(c_grammar::specs::inner::Reading::initialised))]
     fn first_initialised(&mut self, room: u32, braces: bool) -> Result<InitDeclarator, Stop>
         requires { 0 < room }
         ensures reads { Moves init_declarator_view (first_initialised braces room (room - 1)) self.old self.new result }
@@ -49,7 +49,7 @@ impl Parser<'_> {
     }
 
     /// `"," ptr NAME dims [ "=" expr ]`
-    #[tactic(auto, unfolding(crate::specs::inner::Reading::initialised))]
+    #[tactic(auto, unfolding(c_grammar::specs::inner::Reading::initialised))]
     fn next_initialised(&mut self, room: u32, braces: bool) -> Result<InitDeclarator, Stop>
         requires { 0 < room }
         ensures reads { Moves init_declarator_view (next_initialised braces room (room - 1)) self.old self.new result }
@@ -62,7 +62,7 @@ impl Parser<'_> {
     }
 
     /// `{ "," ptr NAME dims [ "=" expr ] }`, behind the first declarator.
-    #[tactic(auto, using(crate::proofs::CodeLoops::chooses, crate::proofs::CodeLoops::choice_fails), unfolding(crate::specs::inner::Readers::turns))]
+    #[tactic(auto, using(crate::proofs::CodeLoops::chooses, crate::proofs::CodeLoops::choice_fails), unfolding(c_grammar::specs::inner::Readers::turns))]
     pub fn more_initialised(
         &mut self,
         first: InitDeclarator,

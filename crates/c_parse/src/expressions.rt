@@ -19,15 +19,15 @@ pub enum Sized {
 }
 
 impl Parser<'_> {
-    ghost use Rattle.c_parse.specs.inner.Readers.{links, made, nothing, full, row_from};
+    ghost use Rattle.c_grammar.specs.inner.Readers.{links, made, nothing, full, row_from};
     ghost use Rattle.c_parse.specs.inner.Moves.{Moves, Takes, Keeps};
-    ghost use Rattle.c_parse.specs.inner.Reading.{Level, level_at, arguments, operand, post, posted, begins_post, group_rest, unary_by, paren_rest, ladder, casted, either, commas};
-    ghost use Rattle.c_parse.specs.inner.Tokens.{tok, text_of, is_text, begins_expr};
+    ghost use Rattle.c_grammar.specs.inner.Reading.{Level, level_at, arguments, operand, post, posted, begins_post, group_rest, unary_by, paren_rest, ladder, casted, either, commas};
+    ghost use Rattle.c_grammar.specs.inner.Tokens.{tok, text_of, is_text, begins_expr};
     ghost use Rattle.c_parse.specs.inner.Starts.{unary_view, sized_view};
 
     /// expr
     #[cycle(expressions)]
-    #[tactic(auto, using(crate::proofs::CodeLoops::chooses, crate::proofs::CodeLoops::choice_fails, crate::proofs::CodeLevels::expr_at, crate::proofs::CodeLevels::no_expr), unfolding(crate::specs::inner::Reading::expr))]
+    #[tactic(auto, using(crate::proofs::CodeLoops::chooses, crate::proofs::CodeLoops::choice_fails, crate::proofs::CodeLevels::expr_at, crate::proofs::CodeLevels::no_expr), unfolding(c_grammar::specs::inner::Reading::expr))]
     pub fn expr(&mut self, room: u32, braces: bool) -> Result<Expr, Stop>
         ensures reads { Moves expr_view (level_at braces room).expr self.old self.new result }
         ensures takes { Takes self.old self.new result }
@@ -48,7 +48,7 @@ impl Parser<'_> {
 
     /// An expression of so many heights of binary operators.
     #[cycle(expressions)]
-    #[tactic(auto, using(crate::proofs::CodeLoops::chooses, crate::proofs::CodeLoops::choice_fails), unfolding(crate::specs::inner::Reading::ladder, crate::specs::inner::Readers::turns))]
+    #[tactic(auto, using(crate::proofs::CodeLoops::chooses, crate::proofs::CodeLoops::choice_fails), unfolding(c_grammar::specs::inner::Reading::ladder, c_grammar::specs::inner::Readers::turns))]
     fn ladder(&mut self, heights: u32, room: u32, braces: bool) -> Result<Expr, Stop>
         requires { 0 < room }
         ensures reads { Moves expr_view (ladder room (casted room (room - 1) (level_at braces (room - 1))) heights) self.old self.new result }
@@ -69,7 +69,7 @@ impl Parser<'_> {
 
     /// cast, where there is room
     #[cycle(expressions)]
-    #[tactic(auto, using(crate::proofs::CodeLoops::chooses, crate::proofs::CodeLoops::choice_fails), unfolding(crate::specs::inner::Reading::casted))]
+    #[tactic(auto, using(crate::proofs::CodeLoops::chooses, crate::proofs::CodeLoops::choice_fails), unfolding(c_grammar::specs::inner::Reading::casted))]
     fn casted(&mut self, room: u32, braces: bool) -> Result<Expr, Stop>
         requires { 0 < room }
         ensures reads { Moves expr_view (casted room (room - 1) (level_at braces (room - 1))) self.old self.new result }
@@ -99,7 +99,7 @@ impl Parser<'_> {
 
     /// `specs ptr ")" cast | expr ")"` with postfix operators, behind the opening bracket at the place
     #[cycle(expressions)]
-    #[tactic(auto, using(crate::proofs::CodeLoops::chooses, crate::proofs::CodeLoops::choice_fails), unfolding(crate::specs::inner::Reading::paren_rest))]
+    #[tactic(auto, using(crate::proofs::CodeLoops::chooses, crate::proofs::CodeLoops::choice_fails), unfolding(c_grammar::specs::inner::Reading::paren_rest))]
     fn paren_rest(&mut self, place: u32, room: u32, braces: bool) -> Result<Expr, Stop>
         requires { 0 < room }
         ensures reads { Moves expr_view (paren_rest room (room - 1) (level_at braces (room - 1)) place) self.old self.new result }
@@ -116,7 +116,7 @@ impl Parser<'_> {
 
     /// `expr ")"`, behind the opening bracket, with the postfix operators behind it
     #[cycle(expressions)]
-    #[tactic(auto, unfolding(crate::specs::inner::Reading::group_rest))]
+    #[tactic(auto, unfolding(c_grammar::specs::inner::Reading::group_rest))]
     fn group_rest(&mut self, room: u32, braces: bool) -> Result<Expr, Stop>
         requires { 0 < room }
         ensures reads { Moves expr_view (group_rest room (room - 1) (level_at braces (room - 1))) self.old self.new result }
@@ -130,7 +130,7 @@ impl Parser<'_> {
 
     /// Postfix operators behind a primary
     #[cycle(expressions)]
-    #[tactic(auto, using(crate::proofs::CodeLoops::chooses, crate::proofs::CodeLoops::choice_fails), unfolding(crate::specs::inner::Readers::turns))]
+    #[tactic(auto, using(crate::proofs::CodeLoops::chooses, crate::proofs::CodeLoops::choice_fails), unfolding(c_grammar::specs::inner::Readers::turns))]
     fn posted(&mut self, first: Expr, room: u32, braces: bool) -> Result<Expr, Stop>
         requires { 0 < room }
         ensures reads { Moves expr_view (links begins_post (λ _. post room (room - 1) (level_at braces (room - 1))) posted (expr_view first)) self.old self.new result }
@@ -145,7 +145,7 @@ impl Parser<'_> {
 
     /// `"[" expr "]" | "." NAME | "->" NAME`, behind its base
     #[cycle(expressions)]
-    #[tactic(auto, using(crate::proofs::CodeLoops::chooses, crate::proofs::CodeLoops::choice_fails), unfolding(crate::specs::inner::Reading::post))]
+    #[tactic(auto, using(crate::proofs::CodeLoops::chooses, crate::proofs::CodeLoops::choice_fails), unfolding(c_grammar::specs::inner::Reading::post))]
     fn post(&mut self, base: Expr, room: u32, braces: bool) -> Result<Expr, Stop>
         requires { 0 < room }
         ensures reads { Moves expr_view (made (posted (expr_view base)) (post room (room - 1) (level_at braces (room - 1)))) self.old self.new result }
@@ -205,7 +205,7 @@ impl Parser<'_> {
 
     /// `"(" specs ptr ")" | unary`, behind `sizeof`
     #[cycle(expressions)]
-    #[tactic(auto, using(crate::proofs::CodeLoops::chooses, crate::proofs::CodeLoops::choice_fails, crate::proofs::CodeLevels::sized_at, crate::proofs::CodeLevels::no_sized), unfolding(crate::specs::inner::Reading::sized, crate::specs::inner::Reading::unary))]
+    #[tactic(auto, using(crate::proofs::CodeLoops::chooses, crate::proofs::CodeLoops::choice_fails, crate::proofs::CodeLevels::sized_at, crate::proofs::CodeLevels::no_sized), unfolding(c_grammar::specs::inner::Reading::sized, c_grammar::specs::inner::Reading::unary))]
     fn sized(&mut self, room: u32, braces: bool) -> Result<Sized, Stop>
         ensures reads { Moves sized_view (level_at braces room).sized self.old self.new result }
         ensures takes { Takes self.old self.new result }
@@ -230,7 +230,7 @@ impl Parser<'_> {
 
     /// A primary that isn't in brackets
     #[cycle(expressions)]
-    #[tactic(auto, using(crate::proofs::CodeLoops::chooses, crate::proofs::CodeLoops::choice_fails), unfolding(crate::specs::inner::Reading::operand, crate::specs::inner::Reading::named, crate::specs::inner::Reading::texts))]
+    #[tactic(auto, using(crate::proofs::CodeLoops::chooses, crate::proofs::CodeLoops::choice_fails), unfolding(c_grammar::specs::inner::Reading::operand, c_grammar::specs::inner::Reading::named, c_grammar::specs::inner::Reading::texts))]
     fn operand(&mut self, room: u32, braces: bool) -> Result<Expr, Stop>
         requires { 0 < room }
         ensures reads { Moves expr_view (operand room (room - 1) (level_at braces (room - 1))) self.old self.new result }
@@ -266,7 +266,7 @@ impl Parser<'_> {
 
     /// `"(" [ expr { "," expr } ] ")"`
     #[cycle(expressions)]
-    #[tactic(auto, using(crate::proofs::CodeLoops::chooses, crate::proofs::CodeLoops::choice_fails), unfolding(crate::specs::inner::Reading::arguments, crate::specs::inner::Readers::turns))]
+    #[tactic(auto, using(crate::proofs::CodeLoops::chooses, crate::proofs::CodeLoops::choice_fails), unfolding(c_grammar::specs::inner::Reading::arguments, c_grammar::specs::inner::Readers::turns))]
     fn arguments(&mut self, room: u32, braces: bool) -> Result<Vec<Expr>, Stop>
         requires { 0 < room }
         ensures reads { Moves (λ all. map expr_view all.items) (arguments (room - 1) (level_at braces (room - 1))) self.old self.new result }
@@ -280,7 +280,7 @@ impl Parser<'_> {
 
     /// `[ expr { "," expr } ]`
     #[cycle(expressions)]
-    #[tactic(auto, using(crate::proofs::CodeLoops::chooses, crate::proofs::CodeLoops::choice_fails), unfolding(crate::specs::inner::Readers::turns))]
+    #[tactic(auto, using(crate::proofs::CodeLoops::chooses, crate::proofs::CodeLoops::choice_fails), unfolding(c_grammar::specs::inner::Readers::turns))]
     fn exprs(&mut self, room: u32, braces: bool) -> Result<Vec<Expr>, Stop>
         requires { 0 < room }
         ensures reads { Moves (λ all. map expr_view all.items) (either begins_expr (commas (room - 1) (level_at braces (room - 1)).expr (level_at braces (room - 1)).expr) (nothing [])) self.old self.new result }
@@ -301,7 +301,7 @@ impl Parser<'_> {
     }
 
     /// unary
-    #[tactic(auto, using(crate::proofs::CodeLoops::chooses, crate::proofs::CodeLoops::choice_fails, crate::proofs::CodeLevels::unary_at, crate::proofs::CodeLevels::no_unary), unfolding(crate::specs::inner::Reading::unary))]
+    #[tactic(auto, using(crate::proofs::CodeLoops::chooses, crate::proofs::CodeLoops::choice_fails, crate::proofs::CodeLevels::unary_at, crate::proofs::CodeLevels::no_unary), unfolding(c_grammar::specs::inner::Reading::unary))]
     fn unary(&mut self, room: u32, braces: bool) -> Result<Expr, Stop>
         ensures reads { Moves expr_view (level_at braces room).unary self.old self.new result }
         ensures takes { Takes self.old self.new result }
@@ -338,7 +338,7 @@ impl Parser<'_> {
     }
 
     /// `STRING { STRING }`
-    #[tactic(auto, using(crate::proofs::CodeLoops::chooses, crate::proofs::CodeLoops::choice_fails), unfolding(crate::specs::inner::Readers::turns))]
+    #[tactic(auto, using(crate::proofs::CodeLoops::chooses, crate::proofs::CodeLoops::choice_fails), unfolding(c_grammar::specs::inner::Readers::turns))]
     fn texts(&mut self, room: u32) -> Result<Vec<Span>, Stop>
         ensures reads { Moves (λ all. all.items) (row_from (tok room text_of) is_text (tok room text_of)) self.old self.new result }
         ensures takes { Takes self.old self.new result }

@@ -22,13 +22,13 @@ const INMOST: u32 = 127;
 // Parameters (C11 6.7.6.3).
 impl Parser<'_> {
     ghost use Rattle.c_parse.specs.inner.Moves.{Moves, Takes, Keeps};
-    ghost use Rattle.c_parse.specs.inner.Readers.{maybe};
-    ghost use Rattle.c_parse.specs.inner.Tokens.{tok, name_of};
-    ghost use Rattle.c_parse.specs.inner.Reading.{is_name, param_dim, param, params};
+    ghost use Rattle.c_grammar.specs.inner.Readers.{maybe};
+    ghost use Rattle.c_grammar.specs.inner.Tokens.{tok, name_of};
+    ghost use Rattle.c_grammar.specs.inner.Reading.{is_name, param_dim, param, params};
     ghost use Rattle.c_parse.specs.inner.Parts.{param_dims, next_param, param_row, maybe_params};
 
     /// `"[" [ expr ] "]"`, behind so many stars and dimensions
-    #[tactic(auto, unfolding(crate::specs::inner::Reading::param_dim))]
+    #[tactic(auto, unfolding(c_grammar::specs::inner::Reading::param_dim))]
     fn param_dim(&mut self, before: usize) -> Result<ParamDim, Stop>
         ensures reads { Moves param_dim_view (param_dim 127 before) self.old self.new result }
         ensures takes { Takes self.old self.new result }
@@ -40,7 +40,7 @@ impl Parser<'_> {
     }
 
     /// `{ "[" [ expr ] "]" }`, behind so many stars
-    #[tactic(auto, using(crate::proofs::CodeLoops::chooses, crate::proofs::CodeLoops::choice_fails), unfolding(crate::specs::inner::Readers::turns, crate::specs::inner::Parts::param_dims))]
+    #[tactic(auto, using(crate::proofs::CodeLoops::chooses, crate::proofs::CodeLoops::choice_fails), unfolding(c_grammar::specs::inner::Readers::turns, crate::specs::inner::Parts::param_dims))]
     fn param_dims(&mut self, before: usize) -> Result<Vec<ParamDim>, Stop>
         requires { before < 2 ^ 63 }
         ensures reads { Moves (λ all. map param_dim_view all.items) (param_dims 127 before) self.old self.new result }
@@ -96,7 +96,7 @@ impl Parser<'_> {
     }
 
     /// `param { "," param }`
-    #[tactic(auto, using(crate::proofs::CodeLoops::chooses, crate::proofs::CodeLoops::choice_fails), unfolding(crate::specs::inner::Readers::turns))]
+    #[tactic(auto, using(crate::proofs::CodeLoops::chooses, crate::proofs::CodeLoops::choice_fails), unfolding(c_grammar::specs::inner::Readers::turns))]
     fn param_row(&mut self) -> Result<Vec<Param>, Stop>
         ensures reads { Moves (λ all. map param_view all.items) param_row self.old self.new result }
         ensures takes { Takes self.old self.new result }
@@ -124,7 +124,7 @@ impl Parser<'_> {
     }
 
     /// `"(" [ params ] ")"`
-    #[tactic(auto, unfolding(crate::specs::inner::Reading::params))]
+    #[tactic(auto, unfolding(c_grammar::specs::inner::Reading::params))]
     fn params(&mut self) -> Result<Vec<Param>, Stop>
         ensures reads { Moves (λ all. map param_view all.items) params self.old self.new result }
         ensures takes { Takes self.old self.new result }
@@ -139,11 +139,11 @@ impl Parser<'_> {
 // External declarations.
 impl Parser<'_> {
     ghost use Rattle.c_parse.specs.inner.Moves.{Moves, Takes, Keeps};
-    ghost use Rattle.c_parse.specs.inner.Reading.{params, body, variable_rest, named_rest, external_rest, external, file};
+    ghost use Rattle.c_grammar.specs.inner.Reading.{params, body, variable_rest, named_rest, external_rest, external, file};
     ghost use Rattle.c_parse.specs.inner.Parts.{storage_row, first_variable, function_rest, declared_rest, external_row, whole_file};
 
     /// `body | ";"`
-    #[tactic(auto, unfolding(crate::specs::inner::Reading::body), using(crate::proofs::CodeLoops::chooses, crate::proofs::CodeLoops::choice_fails))]
+    #[tactic(auto, unfolding(c_grammar::specs::inner::Reading::body), using(crate::proofs::CodeLoops::chooses, crate::proofs::CodeLoops::choice_fails))]
     fn body(&mut self) -> Result<Option<Block>, Stop>
         ensures reads { Moves (option_map body_view) body self.old self.new result }
         ensures takes { Takes self.old self.new result }
@@ -200,7 +200,7 @@ impl Parser<'_> {
     }
 
     /// What is behind the name at file scope.
-    #[tactic(auto, unfolding(crate::specs::inner::Reading::named_rest), using(crate::proofs::CodeLoops::chooses, crate::proofs::CodeLoops::choice_fails))]
+    #[tactic(auto, unfolding(c_grammar::specs::inner::Reading::named_rest), using(crate::proofs::CodeLoops::chooses, crate::proofs::CodeLoops::choice_fails))]
     fn named_rest(&mut self, pointers: Vec<Pointer>, name: Name) -> Result<Rest, Stop>
         ensures reads { Moves rest_view (named_rest pointers.items name) self.old self.new result }
         ensures takes { Takes self.old self.new result }
@@ -222,7 +222,7 @@ impl Parser<'_> {
     }
 
     /// What is behind the specifiers at file scope.
-    #[tactic(auto, unfolding(crate::specs::inner::Reading::external_rest), using(crate::proofs::CodeLoops::chooses, crate::proofs::CodeLoops::choice_fails))]
+    #[tactic(auto, unfolding(c_grammar::specs::inner::Reading::external_rest), using(crate::proofs::CodeLoops::chooses, crate::proofs::CodeLoops::choice_fails))]
     fn external_rest(&mut self) -> Result<Rest, Stop>
         ensures reads { Moves rest_view external_rest self.old self.new result }
         ensures takes { Takes self.old self.new result }
@@ -235,7 +235,7 @@ impl Parser<'_> {
     }
 
     /// `{ "static" | "inline" }`
-    #[tactic(auto, using(crate::proofs::CodeLoops::chooses, crate::proofs::CodeLoops::choice_fails), unfolding(crate::specs::inner::Readers::turns))]
+    #[tactic(auto, using(crate::proofs::CodeLoops::chooses, crate::proofs::CodeLoops::choice_fails), unfolding(c_grammar::specs::inner::Readers::turns))]
     fn storage_row(&mut self) -> Result<Vec<Storage>, Stop>
         ensures reads { Moves (λ all. all.items) storage_row self.old self.new result }
         ensures keeps { Keeps self.old self.new result }
@@ -249,7 +249,7 @@ impl Parser<'_> {
     }
 
     /// `external`
-    #[tactic(auto, unfolding(crate::specs::inner::Reading::external))]
+    #[tactic(auto, unfolding(c_grammar::specs::inner::Reading::external))]
     fn external(&mut self) -> Result<External, Stop>
         ensures reads { Moves external_view external self.old self.new result }
         ensures takes { Takes self.old self.new result }
@@ -265,7 +265,7 @@ impl Parser<'_> {
     }
 
     /// `{ external }`
-    #[tactic(auto, using(crate::proofs::CodeLoops::chooses, crate::proofs::CodeLoops::choice_fails), unfolding(crate::specs::inner::Readers::turns))]
+    #[tactic(auto, using(crate::proofs::CodeLoops::chooses, crate::proofs::CodeLoops::choice_fails), unfolding(c_grammar::specs::inner::Readers::turns))]
     fn external_row(&mut self) -> Result<Vec<External>, Stop>
         ensures reads { Moves (λ all. map external_view all.items) external_row self.old self.new result }
         ensures keeps { Keeps self.old self.new result }
@@ -279,7 +279,7 @@ impl Parser<'_> {
     }
 
     /// `file`
-    #[tactic(auto, unfolding(crate::specs::inner::Reading::file))]
+    #[tactic(auto, unfolding(c_grammar::specs::inner::Reading::file))]
     fn file(&mut self) -> Result<Program, Stop>
         ensures { Moves view file self.old self.new result }
     {

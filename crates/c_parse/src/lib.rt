@@ -1,6 +1,6 @@
-//! The grammar of the whole language.
+//! The parser of the whole language.
 //! Promises upward: the one file that the tokens of a text are, or the first refusal.
-//! Stands on c_lex's tokens and c_tree's trees.
+//! Stands on c_grammar's definition, c_lex's tokens and c_tree's trees.
 #![tactic(auto)]
 
 mod building;
@@ -8,7 +8,6 @@ mod classes;
 mod declarations;
 mod expressions;
 mod files;
-pub mod laws;
 mod parser;
 mod parts;
 mod peeking;

@@ -10,9 +10,9 @@ use c_tree::syntax::Expr;
 
 impl Parser<'_> {
     ghost use Rattle.c_parse.specs.inner.Moves.{Moves, Takes, Keeps};
-    ghost use Rattle.c_parse.specs.inner.Readers.{full, maybe};
-    ghost use Rattle.c_parse.specs.inner.Tokens.{tok, mark_is, begins_expr};
-    ghost use Rattle.c_parse.specs.inner.Reading.{level_at};
+    ghost use Rattle.c_grammar.specs.inner.Readers.{full, maybe};
+    ghost use Rattle.c_grammar.specs.inner.Tokens.{tok, mark_is, begins_expr};
+    ghost use Rattle.c_grammar.specs.inner.Reading.{level_at};
 
     /// A mark behind what was read.
     pub fn marked<T: Drop>(&mut self, value: T, mark: Mark, room: u32) -> Result<T, Stop>

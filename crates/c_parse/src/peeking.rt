@@ -1,7 +1,7 @@
 //! What the next token begins, by which the parser chooses.
 
 ghost use Rattle.std.specs.Prelude.{◌≡◌, Some};
-ghost use Rattle.c_parse.specs.inner.Readers.{sort_of_kind, too_deep};
+ghost use Rattle.c_grammar.specs.inner.Readers.{sort_of_kind, too_deep};
 
 use crate::classes::{
     begins_expr, begins_simple, begins_type, binary_of, prefix_of, step_of, storage_of, type_of,
@@ -47,8 +47,8 @@ pub enum SpecStart {
 // The next token, which is left.
 impl Parser<'_> {
     ghost use Rattle.c_parse.specs.inner.Moves.{Moves, Fails, peek, ahead};
-    ghost use Rattle.c_parse.specs.inner.Tokens.{is_mark, is_word, is_text, is_binary, begins_type, begins_expr, begins_simple, is_storage, is_pointer};
-    ghost use Rattle.c_parse.specs.inner.Reading.{operand_start, post_start, begins_post, unary_start, spec_start, pointer_start, is_name, is_step};
+    ghost use Rattle.c_grammar.specs.inner.Tokens.{is_mark, is_word, is_text, is_binary, begins_type, begins_expr, begins_simple, is_storage, is_pointer};
+    ghost use Rattle.c_grammar.specs.inner.Reading.{operand_start, post_start, begins_post, unary_start, spec_start, pointer_start, is_name, is_step};
     ghost use Rattle.c_parse.specs.inner.Starts.{operand_view, post_view, unary_view, spec_view};
 
     /// The kind of the next token.

@@ -1,7 +1,7 @@
 //! What stands before a declared name: stars, `const` and `restrict`.
 
 ghost use Rattle.std.specs.Prelude.{◌≡◌};
-ghost use Rattle.c_parse.specs.Grammar.{stars};
+ghost use Rattle.c_grammar.specs.Grammar.{stars};
 
 use crate::parser::{Parser, Stop};
 use c_lex::{Mark, Word};
@@ -17,8 +17,8 @@ pub fn stars(pointers: &[Pointer]) -> usize
 
 impl Parser<'_> {
     ghost use Rattle.c_parse.specs.inner.Moves.{Moves, Takes, Keeps};
-    ghost use Rattle.c_parse.specs.inner.Reading.{pointer_start, pointer_by, pointers, bare_pointers};
-    ghost use Rattle.c_parse.specs.inner.Readers.{choice};
+    ghost use Rattle.c_grammar.specs.inner.Reading.{pointer_start, pointer_by, pointers, bare_pointers};
+    ghost use Rattle.c_grammar.specs.inner.Readers.{choice};
 
     /// `"*" | "const" | "restrict"`, behind so many stars
     #[tactic(auto, using(crate::proofs::CodeLoops::chooses, crate::proofs::CodeLoops::choice_fails))]
@@ -36,7 +36,7 @@ impl Parser<'_> {
     }
 
     /// `{ "*" | "const" | "restrict" }`
-    #[tactic(auto, using(crate::proofs::CodeLoops::chooses, crate::proofs::CodeLoops::choice_fails), unfolding(crate::specs::inner::Reading::pointers, crate::specs::inner::Readers::turns))]
+    #[tactic(auto, using(crate::proofs::CodeLoops::chooses, crate::proofs::CodeLoops::choice_fails), unfolding(c_grammar::specs::inner::Reading::pointers, c_grammar::specs::inner::Readers::turns))]
     pub fn pointers(&mut self, room: u32) -> Result<Vec<Pointer>, Stop>
         ensures reads { Moves (λ all. all.items) (pointers room) self.old self.new result }
         ensures keeps { Keeps self.old self.new result }
@@ -54,7 +54,7 @@ impl Parser<'_> {
     }
 
     /// The same behind specifiers, to which each `const` would belong.
-    #[tactic(auto, unfolding(crate::specs::inner::Reading::bare_pointers), using(crate::proofs::CodeLoops::chooses, crate::proofs::CodeLoops::choice_fails))]
+    #[tactic(auto, unfolding(c_grammar::specs::inner::Reading::bare_pointers), using(crate::proofs::CodeLoops::chooses, crate::proofs::CodeLoops::choice_fails))]
     pub fn bare_pointers(&mut self, room: u32) -> Result<Vec<Pointer>, Stop>
         ensures reads { Moves (λ all. all.items) (bare_pointers room) self.old self.new result }
         ensures keeps { Keeps self.old self.new result }

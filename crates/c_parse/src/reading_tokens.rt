@@ -2,8 +2,8 @@
 
 ghost use Rattle.std.specs.Prelude.{◌≡◌, ◌+◌, ◌<◌, length, Some, None, IfOk};
 ghost use Rattle.c_lex.specs.declared.refusal.Kind.TheVariants.{TooDeep};
-ghost use Rattle.c_parse.specs.Leaves.{operator, derivation, beyond, first_of};
-ghost use Rattle.c_parse.specs.inner.Readers.{deep};
+ghost use Rattle.c_grammar.specs.Leaves.{operator, derivation, beyond, first_of};
+ghost use Rattle.c_grammar.specs.inner.Readers.{deep};
 
 use crate::classes::{assign_of, binary_of, prefix_of, step_of, storage_of, type_of};
 use crate::parser::{Parser, Stop};
@@ -66,7 +66,7 @@ impl Parser<'_> {
 // One token each.
 impl Parser<'_> {
     ghost use Rattle.c_parse.specs.inner.Moves.{Moves, Takes};
-    ghost use Rattle.c_parse.specs.inner.Tokens.{tok, counted_tok, derived_tok, name_of, int_of, char_of, text_of, word_is, mark_is, word_place, mark_place, prefix_of, step_of, assign_of, binary_of, type_word_of, storage_of, end_of};
+    ghost use Rattle.c_grammar.specs.inner.Tokens.{tok, counted_tok, derived_tok, name_of, int_of, char_of, text_of, word_is, mark_is, word_place, mark_place, prefix_of, step_of, assign_of, binary_of, type_word_of, storage_of, end_of};
 
     /// A mark.
     pub fn expected(&mut self, mark: Mark, room: u32) -> Result<(), Stop>

@@ -2,8 +2,8 @@
 
 ghost use Rattle.std.specs.Prelude.{◌≡◌};
 ghost use Rattle.std.specs.Option.{option_map};
-ghost use Rattle.c_parse.specs.inner.Readers.{sort_of_kind};
-ghost use Rattle.c_parse.specs.inner.Reading.{stmt_start};
+ghost use Rattle.c_grammar.specs.inner.Readers.{sort_of_kind};
+ghost use Rattle.c_grammar.specs.inner.Reading.{stmt_start};
 ghost use Rattle.c_parse.specs.inner.Parts.{stmt_start_view};
 
 use crate::classes::{assign_of, begins_simple, begins_type, step_of, storage_of};
@@ -61,9 +61,9 @@ pub fn stmt_of(kind: TokenKind) -> Option<StmtStart>
 // The next token, which is left.
 impl Parser<'_> {
     ghost use Rattle.c_parse.specs.inner.Moves.{Moves, Fails, peek, ahead};
-    ghost use Rattle.c_parse.specs.inner.Readers.{too_deep};
-    ghost use Rattle.c_parse.specs.inner.Tokens.{begins_simple};
-    ghost use Rattle.c_parse.specs.inner.Reading.{tail_start, first_start, begins_stmt, begins_item, begins_external};
+    ghost use Rattle.c_grammar.specs.inner.Readers.{too_deep};
+    ghost use Rattle.c_grammar.specs.inner.Tokens.{begins_simple};
+    ghost use Rattle.c_grammar.specs.inner.Reading.{tail_start, first_start, begins_stmt, begins_item, begins_external};
     ghost use Rattle.c_parse.specs.inner.Parts.{tail_view, first_view};
 
     /// What is next behind an expression, which is a postfix or not.

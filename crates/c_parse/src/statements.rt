@@ -3,7 +3,7 @@
 ghost use Rattle.std.specs.Prelude.{◌≡◌, ℕ, ◌-◌, ◌<◌, ◌==◌, map, IfOk};
 ghost use Rattle.std.specs.Option.{option_map};
 ghost use Rattle.c_tree.specs.SyntaxViews.{expr_view, simple_view, for_first_view, stmt_view};
-ghost use Rattle.c_parse.specs.Grammar.{rank};
+ghost use Rattle.c_grammar.specs.Grammar.{rank};
 
 use crate::parser::{Parser, Stop};
 use crate::starts::{FirstStart, StmtStart, TailStart};
@@ -27,10 +27,10 @@ fn is_postfix(expr: &Expr) -> bool
 
 // Simple statements.
 impl Parser<'_> {
-    ghost use Rattle.c_parse.specs.inner.Readers.{full, made, maybe};
-    ghost use Rattle.c_parse.specs.inner.Tokens.{begins_simple};
+    ghost use Rattle.c_grammar.specs.inner.Readers.{full, made, maybe};
+    ghost use Rattle.c_grammar.specs.inner.Tokens.{begins_simple};
     ghost use Rattle.c_parse.specs.inner.Moves.{Moves, Takes, Keeps};
-    ghost use Rattle.c_parse.specs.inner.Reading.{level_at, simply, simple_of, simple_tail, condition, first};
+    ghost use Rattle.c_grammar.specs.inner.Reading.{level_at, simply, simple_of, simple_tail, condition, first};
     ghost use Rattle.c_parse.specs.inner.Parts.{behind, assigned, simple_first_at};
 
     /// `assign expr | "++" | "--"` behind an expression, or nothing.
@@ -102,7 +102,7 @@ impl Parser<'_> {
     }
 
     /// `"(" expr ")"` behind a word.
-    #[tactic(auto, unfolding(crate::specs::inner::Reading::condition))]
+    #[tactic(auto, unfolding(c_grammar::specs::inner::Reading::condition))]
     fn condition(&mut self, room: u32) -> Result<Expr, Stop>
         ensures reads { Moves expr_view (condition room) self.old self.new result }
         ensures takes { Takes self.old self.new result }
@@ -123,7 +123,7 @@ impl Parser<'_> {
     }
 
     /// `decl | [ simple ] ";"`, first between the brackets of a `for`.
-    #[tactic(auto, unfolding(crate::specs::inner::Reading::first), using(crate::proofs::CodeLoops::chooses, crate::proofs::CodeLoops::choice_fails))]
+    #[tactic(auto, unfolding(c_grammar::specs::inner::Reading::first), using(crate::proofs::CodeLoops::chooses, crate::proofs::CodeLoops::choice_fails))]
     fn first(&mut self, room: u32) -> Result<ForFirst, Stop>
         ensures reads { Moves for_first_view (first room) self.old self.new result }
         ensures takes { Takes self.old self.new result }
@@ -253,7 +253,7 @@ impl Parser<'_> {
 // Statements with statements in them, which lie one level deeper.
 impl Parser<'_> {
     ghost use Rattle.c_parse.specs.inner.Moves.{Moves, Takes, Keeps};
-    ghost use Rattle.c_parse.specs.inner.Reading.{items, stmt_at, stmt_by, ABlock, AnIf, AWhile, AFor};
+    ghost use Rattle.c_grammar.specs.inner.Reading.{items, stmt_at, stmt_by, ABlock, AnIf, AWhile, AFor};
     ghost use Rattle.c_parse.specs.inner.Parts.{block_view, item_at, item_row, otherwise};
 
     /// `stmt`
@@ -295,7 +295,7 @@ impl Parser<'_> {
 
     /// `{ decl | stmt }`
     #[cycle(statements)]
-    #[tactic(auto, using(crate::proofs::CodeLoops::chooses, crate::proofs::CodeLoops::choice_fails), unfolding(crate::specs::inner::Readers::turns))]
+    #[tactic(auto, using(crate::proofs::CodeLoops::chooses, crate::proofs::CodeLoops::choice_fails), unfolding(c_grammar::specs::inner::Readers::turns))]
     fn item_row(&mut self, room: u32) -> Result<Vec<Stmt>, Stop>
         ensures reads { Moves (λ all. map stmt_view all.items) (item_row room) self.old self.new result }
         ensures keeps { Keeps self.old self.new result }
@@ -310,7 +310,7 @@ impl Parser<'_> {
 
     /// `body`
     #[cycle(statements)]
-    #[tactic(auto, unfolding(crate::specs::inner::Reading::items))]
+    #[tactic(auto, unfolding(c_grammar::specs::inner::Reading::items))]
     pub fn block(&mut self, room: u32) -> Result<Block, Stop>
         ensures reads { Moves block_view (items room (stmt_at room)) self.old self.new result }
         ensures takes { Takes self.old self.new result }

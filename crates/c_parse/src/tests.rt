@@ -1,8 +1,8 @@
 //! Texts that are read and texts that are refused, with their places.
 ghost use Rattle.std.specs.Prelude.{◌≤◌, length};
 
-use crate::laws::tokens_end_once;
 use crate::parse;
+use c_grammar::laws::tokens_end_once;
 use c_lex::{CompileFault, Kind, Refusal, lex};
 use c_tree::syntax::Program;
 use std::alloc::{AllocError, Global};

@@ -2,7 +2,7 @@
 
 ghost use Rattle.std.specs.Prelude.{◌≡◌, ℕ, ◌+◌, ◌-◌, ◌<◌, ◌≤◌, map, true, IfOk};
 ghost use Rattle.std.specs.Option.{option_map};
-ghost use Rattle.c_parse.specs.Grammar.{stars};
+ghost use Rattle.c_grammar.specs.Grammar.{stars};
 ghost use Rattle.c_tree.specs.SyntaxViews.{expr_view, type_name_view, spec_view, member_view, declarator_view};
 
 use crate::building::{member_of, type_name_of};
@@ -14,13 +14,13 @@ use c_tree::syntax::{Declarator, Expr, Member, Pointer, Spec, TypeName};
 
 impl Parser<'_> {
     ghost use Rattle.c_parse.specs.inner.Moves.{Moves, Takes, Keeps};
-    ghost use Rattle.c_parse.specs.inner.Readers.{row_from};
-    ghost use Rattle.c_parse.specs.inner.Tokens.{begins_type};
-    ghost use Rattle.c_parse.specs.inner.Reading.{Level, level_at, commas, type_named, spec, specs, members, membered, dim, dims, declarator_behind, declared, bare_declared};
+    ghost use Rattle.c_grammar.specs.inner.Readers.{row_from};
+    ghost use Rattle.c_grammar.specs.inner.Tokens.{begins_type};
+    ghost use Rattle.c_grammar.specs.inner.Reading.{Level, level_at, commas, type_named, spec, specs, members, membered, dim, dims, declarator_behind, declared, bare_declared};
 
     /// `specs ptr`
     #[cycle(expressions)]
-    #[tactic(auto, using(crate::proofs::CodeLevels::type_name_at, crate::proofs::CodeLevels::no_type_name), unfolding(crate::specs::inner::Reading::type_named))]
+    #[tactic(auto, using(crate::proofs::CodeLevels::type_name_at, crate::proofs::CodeLevels::no_type_name), unfolding(c_grammar::specs::inner::Reading::type_named))]
     pub fn type_name(&mut self, room: u32, braces: bool) -> Result<TypeName, Stop>
         ensures reads { Moves type_name_view (level_at braces room).type_name self.old self.new result }
         ensures takes { Takes self.old self.new result }
@@ -35,7 +35,7 @@ impl Parser<'_> {
 
     /// `spec { spec }`
     #[cycle(expressions)]
-    #[tactic(auto, using(crate::proofs::CodeLoops::chooses, crate::proofs::CodeLoops::choice_fails), unfolding(crate::specs::inner::Reading::specs, crate::specs::inner::Readers::turns))]
+    #[tactic(auto, using(crate::proofs::CodeLoops::chooses, crate::proofs::CodeLoops::choice_fails), unfolding(c_grammar::specs::inner::Reading::specs, c_grammar::specs::inner::Readers::turns))]
     pub fn specs(&mut self, room: u32, braces: bool) -> Result<Vec<Spec>, Stop>
         requires { 0 < room }
         ensures reads { Moves (λ all. map spec_view all.items) (specs braces room (room - 1) (level_at braces (room - 1))) self.old self.new result }
@@ -53,7 +53,7 @@ impl Parser<'_> {
 
     /// spec
     #[cycle(expressions)]
-    #[tactic(auto, using(crate::proofs::CodeLoops::chooses, crate::proofs::CodeLoops::choice_fails), unfolding(crate::specs::inner::Reading::spec))]
+    #[tactic(auto, using(crate::proofs::CodeLoops::chooses, crate::proofs::CodeLoops::choice_fails), unfolding(c_grammar::specs::inner::Reading::spec))]
     fn spec(&mut self, room: u32, braces: bool) -> Result<Spec, Stop>
         requires { 0 < room }
         ensures reads { Moves spec_view (spec braces room (room - 1) (level_at braces (room - 1))) self.old self.new result }
@@ -82,7 +82,7 @@ impl Parser<'_> {
 
     /// `"{" member { member } "}"`
     #[cycle(expressions)]
-    #[tactic(auto, using(crate::proofs::CodeLoops::chooses, crate::proofs::CodeLoops::choice_fails), unfolding(crate::specs::inner::Reading::members))]
+    #[tactic(auto, using(crate::proofs::CodeLoops::chooses, crate::proofs::CodeLoops::choice_fails), unfolding(c_grammar::specs::inner::Reading::members))]
     fn members(&mut self, room: u32) -> Result<Vec<Member>, Stop>
         requires { 0 < room }
         ensures reads { Moves (λ all. map member_view all.items) (members (room - 1) (level_at true (room - 1))) self.old self.new result }
@@ -96,7 +96,7 @@ impl Parser<'_> {
 
     /// `member { member }`
     #[cycle(expressions)]
-    #[tactic(auto, using(crate::proofs::CodeLoops::chooses, crate::proofs::CodeLoops::choice_fails), unfolding(crate::specs::inner::Readers::turns))]
+    #[tactic(auto, using(crate::proofs::CodeLoops::chooses, crate::proofs::CodeLoops::choice_fails), unfolding(c_grammar::specs::inner::Readers::turns))]
     fn member_row(&mut self, room: u32) -> Result<Vec<Member>, Stop>
         requires { 0 < room }
         ensures reads { Moves (λ all. map member_view all.items) (row_from (level_at true (room - 1)).member begins_type (level_at true (room - 1)).member) self.old self.new result }
@@ -114,7 +114,7 @@ impl Parser<'_> {
 
     /// member
     #[cycle(expressions)]
-    #[tactic(auto, using(crate::proofs::CodeLevels::member_at, crate::proofs::CodeLevels::no_member), unfolding(crate::specs::inner::Reading::membered))]
+    #[tactic(auto, using(crate::proofs::CodeLevels::member_at, crate::proofs::CodeLevels::no_member), unfolding(c_grammar::specs::inner::Reading::membered))]
     fn member(&mut self, room: u32) -> Result<Member, Stop>
         ensures reads { Moves member_view (level_at true room).member self.old self.new result }
         ensures takes { Takes self.old self.new result }
@@ -130,7 +130,7 @@ impl Parser<'_> {
 
     /// `ptr NAME dims { "," ptr NAME dims }`
     #[cycle(expressions)]
-    #[tactic(auto, using(crate::proofs::CodeLoops::chooses, crate::proofs::CodeLoops::choice_fails), unfolding(crate::specs::inner::Reading::declared, crate::specs::inner::Reading::bare_declared, crate::specs::inner::Readers::turns))]
+    #[tactic(auto, using(crate::proofs::CodeLoops::chooses, crate::proofs::CodeLoops::choice_fails), unfolding(c_grammar::specs::inner::Reading::declared, c_grammar::specs::inner::Reading::bare_declared, c_grammar::specs::inner::Readers::turns))]
     fn declarators(&mut self, room: u32) -> Result<Vec<Declarator>, Stop>
         requires { 0 < room }
         ensures reads { Moves (λ all. map declarator_view all.items) (commas room (bare_declared room (room - 1) (level_at true (room - 1))) (declared room (room - 1) (level_at true (room - 1)))) self.old self.new result }
@@ -150,7 +150,7 @@ impl Parser<'_> {
     }
 
     /// `ptr NAME dims`
-    #[tactic(auto, unfolding(crate::specs::inner::Reading::declared))]
+    #[tactic(auto, unfolding(c_grammar::specs::inner::Reading::declared))]
     pub fn declared(&mut self, room: u32, braces: bool) -> Result<Declarator, Stop>
         requires { 0 < room }
         ensures reads { Moves declarator_view (declared room (room - 1) (level_at braces (room - 1))) self.old self.new result }
@@ -161,7 +161,7 @@ impl Parser<'_> {
     }
 
     /// The same behind specifiers.
-    #[tactic(auto, unfolding(crate::specs::inner::Reading::bare_declared))]
+    #[tactic(auto, unfolding(c_grammar::specs::inner::Reading::bare_declared))]
     pub fn bare_declared(&mut self, room: u32, braces: bool) -> Result<Declarator, Stop>
         requires { 0 < room }
         ensures reads { Moves declarator_view (bare_declared room (room - 1) (level_at braces (room - 1))) self.old self.new result }
@@ -173,7 +173,7 @@ impl Parser<'_> {
 
     /// `NAME dims`, behind what stands before the name
     #[cycle(expressions)]
-    #[tactic(auto, unfolding(crate::specs::inner::Reading::declarator_behind))]
+    #[tactic(auto, unfolding(c_grammar::specs::inner::Reading::declarator_behind))]
     fn declarator_behind(
         &mut self,
         pointers: Vec<Pointer>,
@@ -196,7 +196,7 @@ impl Parser<'_> {
 
     /// `{ "[" expr "]" }`, behind so many stars
     #[cycle(expressions)]
-    #[tactic(auto, using(crate::proofs::CodeLoops::chooses, crate::proofs::CodeLoops::choice_fails), unfolding(crate::specs::inner::Reading::dims, crate::specs::inner::Readers::turns))]
+    #[tactic(auto, using(crate::proofs::CodeLoops::chooses, crate::proofs::CodeLoops::choice_fails), unfolding(c_grammar::specs::inner::Reading::dims, c_grammar::specs::inner::Readers::turns))]
     pub fn dims(&mut self, before: usize, room: u32, braces: bool) -> Result<Vec<Expr>, Stop>
         requires { 0 < room }
         ensures reads { Moves (λ all. map expr_view all.items) (dims (room - 1) (level_at braces (room - 1)) before) self.old self.new result }
@@ -214,7 +214,7 @@ impl Parser<'_> {
 
     /// `"[" expr "]"`, behind so many stars and dimensions
     #[cycle(expressions)]
-    #[tactic(auto, unfolding(crate::specs::inner::Reading::dim))]
+    #[tactic(auto, unfolding(c_grammar::specs::inner::Reading::dim))]
     fn dim(&mut self, before: usize, room: u32, braces: bool) -> Result<Expr, Stop>
         requires { 0 < room }
         ensures reads { Moves expr_view (dim (room - 1) (level_at braces (room - 1)) before) self.old self.new result }

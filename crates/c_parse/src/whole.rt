@@ -3,8 +3,8 @@
 ghost use Rattle.std.specs.Prelude.{◌≡◌, IfOk};
 ghost use Rattle.c_lex.specs.Refusals.{IfRefused};
 ghost use Rattle.c_tree.specs.SyntaxViews.{view};
-ghost use Rattle.c_parse.specs.Laws.{EndOnce};
-ghost use Rattle.c_parse.specs.Language.{refusal_of_word, refusal_of, Parses, RefusesTokens};
+ghost use Rattle.c_grammar.specs.Laws.{EndOnce};
+ghost use Rattle.c_grammar.specs.Language.{refusal_of_word, refusal_of, Parses, RefusesTokens};
 
 use crate::parser::{Parser, Stop};
 use c_lex::{CompileFault, Kind, Mark, Refusal, Token, TokenKind, Word};

@@ -48,6 +48,7 @@ mutual
     struct : (place : ℕ) (tag : Name) → Spec
     struct_body : (place : ℕ) (tag : Name) (members : Members) → Spec
 
+  -- specifiers in a row
   pub data Specs : Type 0 where
     no_specs : Specs
     more_specs : (s : Spec) (rest : Specs) → Specs
@@ -56,6 +57,7 @@ mutual
   pub data Member : Type 0 where
     members_of : (specs : Specs) (declarators : Declarators) → Member
 
+  -- declarations of members in a row: what stands between the braces of a struct (C11 6.7.2.1)
   pub data Members : Type 0 where
     no_members : Members
     more_members : (m : Member) (rest : Members) → Members
@@ -64,6 +66,7 @@ mutual
   pub data Declarator : Type 0 where
     declarator : (pointers : List Pointer) (n : Name) (dims : Exprs) → Declarator
 
+  -- declarators in a row, those of one declaration of members (C11 6.7.2.1)
   pub data Declarators : Type 0 where
     no_declarators : Declarators
     more_declarators : (d : Declarator) (rest : Declarators) → Declarators
@@ -122,6 +125,7 @@ mutual
     return : (place : ℕ) (value : Option Expr) → Stmt
     simple : (s : Simple) → Stmt
 
+  -- statements and declarations in a row: the items of a body (C11 6.8.2)
   pub data Stmts : Type 0 where
     no_stmts : Stmts
     more_stmts : (s : Stmt) (rest : Stmts) → Stmts
@@ -151,22 +155,27 @@ pub record File : Type 0 where
 
 -- ---- rows and lists
 
+-- expressions of a list, in a row
 abbrev pub exprs_of : List Expr → Exprs
 exprs_of [] = no_exprs
 exprs_of (e ∷ es) = more_exprs e (exprs_of es)
 
+-- specifiers of a list, in a row
 abbrev pub specs_of : List Spec → Specs
 specs_of [] = no_specs
 specs_of (s ∷ ss) = more_specs s (specs_of ss)
 
+-- declarations of members of a list, in a row
 abbrev pub members_row : List Member → Members
 members_row [] = no_members
 members_row (m ∷ ms) = more_members m (members_row ms)
 
+-- declarators of a list, in a row
 abbrev pub declarators_of : List Declarator → Declarators
 declarators_of [] = no_declarators
 declarators_of (d ∷ ds) = more_declarators d (declarators_of ds)
 
+-- statements of a list, in a row
 abbrev pub stmts_of : List Stmt → Stmts
 stmts_of [] = no_stmts
 stmts_of (s ∷ ss) = more_stmts s (stmts_of ss)

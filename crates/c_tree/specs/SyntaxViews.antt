@@ -25,6 +25,7 @@ use Rattle.c_tree.specs.declared.syntax.External.{External as CodeExternal}
 use Rattle.c_tree.specs.declared.syntax.Program.{Program}
 use Rattle.c_tree.specs.Syntax as trees
 
+-- one node of the code's tree, the trees in it seen already
 abbrev pub LayerOf : (Type 0 → Type 0 → Type 0 → Type 0 → Type 0 → Type 0) → Type 0
 LayerOf F = F trees.Expr trees.Spec trees.Declarator trees.Member trees.TypeName
 
@@ -47,46 +48,59 @@ expr_layer (Expr-F.Arrow place a m) = trees.arrow place a.value m
 expr_layer (Expr-F.Binary place op a b) = trees.binary place op a.value b.value
 expr_layer (Expr-F.Conditional place a b c) = trees.conditional place a.value b.value c.value
 
+-- one layer of a specifier, the trees in it seen already
 abbrev pub spec_layer : LayerOf Spec-F → trees.Spec
 spec_layer (Spec-F.Word place w) = trees.word place w
 spec_layer (Spec-F.Struct place tag) = trees.struct place tag
 spec_layer (Spec-F.StructBody place tag members) = trees.struct_body place tag (trees.members_row members.items)
 
+-- one layer of a declarator, the trees in it seen already
 abbrev pub declarator_layer : LayerOf Declarator-F → trees.Declarator
 declarator_layer d = trees.declarator d.pointers.items d.name (trees.exprs_of d.dims.items)
 
+-- one layer of a declaration of members, the trees in it seen already
 abbrev pub member_layer : LayerOf Member-F → trees.Member
 member_layer m = trees.members_of (trees.specs_of m.specs.items) (trees.declarators_of m.declarators.items)
 
+-- one layer of a type's name, the trees in it seen already
 abbrev pub type_name_layer : LayerOf TypeName-F → trees.TypeName
 type_name_layer t = trees.type_name (trees.specs_of t.specs.items) t.pointers.items
 
+-- the expression that one of the code stands for
 abbrev pub expr_view : CodeExpr → trees.Expr
 expr_view = fold-Expr trees.Expr trees.Spec trees.Declarator trees.Member trees.TypeName expr_layer spec_layer declarator_layer member_layer type_name_layer
 
+-- the specifier that one of the code stands for
 abbrev pub spec_view : CodeSpec → trees.Spec
 spec_view = fold-Spec trees.Expr trees.Spec trees.Declarator trees.Member trees.TypeName expr_layer spec_layer declarator_layer member_layer type_name_layer
 
+-- the declarator that one of the code stands for
 abbrev pub declarator_view : CodeDeclarator → trees.Declarator
 declarator_view = fold-Declarator trees.Expr trees.Spec trees.Declarator trees.Member trees.TypeName expr_layer spec_layer declarator_layer member_layer type_name_layer
 
+-- the declaration of members that one of the code stands for
 abbrev pub member_view : CodeMember → trees.Member
 member_view = fold-Member trees.Expr trees.Spec trees.Declarator trees.Member trees.TypeName expr_layer spec_layer declarator_layer member_layer type_name_layer
 
+-- the name of a type that one of the code stands for
 abbrev pub type_name_view : CodeTypeName → trees.TypeName
 type_name_view = fold-TypeName trees.Expr trees.Spec trees.Declarator trees.Member trees.TypeName expr_layer spec_layer declarator_layer member_layer type_name_layer
 
 -- ---- declarations
 
+-- a declarator, and its initialiser
 abbrev pub init_declarator_view : CodeInitDeclarator → trees.InitDeclarator
 init_declarator_view d = record { declarator = declarator_view d.declarator; value = option_map expr_view d.value }
 
+-- a declaration
 abbrev pub declaration_view : CodeDeclaration → trees.Declaration
 declaration_view d = record { specs = map spec_view d.specs.items; declarators = map init_declarator_view d.declarators.items }
 
+-- the size between the brackets behind a parameter
 abbrev pub param_dim_view : CodeParamDim → trees.ParamDim
 param_dim_view d = record { place = d.place; size = option_map expr_view d.size }
 
+-- a parameter
 abbrev pub param_view : CodeParam → trees.Param
 param_view p = record {
   specs = map spec_view p.specs.items;
@@ -97,12 +111,14 @@ param_view p = record {
 
 -- ---- statements
 
+-- an assignment, an increment or decrement, or an expression
 abbrev pub simple_view : CodeSimple → trees.Simple
 simple_view (simples.Before place op target) = trees.before place op (expr_view target)
 simple_view (simples.After place op target) = trees.after place op (expr_view target)
 simple_view (simples.Assign place op target value) = trees.assign place op (expr_view target) (expr_view value)
 simple_view (simples.Eval e) = trees.eval (expr_view e)
 
+-- what stands first between the brackets of a for
 abbrev pub for_first_view : CodeForFirst → trees.ForFirst
 for_first_view (firsts.Declare d) = trees.first_declare (declaration_view d)
 for_first_view (firsts.Simple s) = trees.first_simple (simple_view s)
@@ -127,20 +143,24 @@ stmt_layer (Stmt-F.Continue place) = trees.continue place
 stmt_layer (Stmt-F.Return place value) = trees.return place (option_map expr_view value)
 stmt_layer (Stmt-F.Simple s) = trees.simple (simple_view s)
 
+-- the statement that one of the code stands for
 abbrev pub stmt_view : CodeStmt → trees.Stmt
 stmt_view = fold-Stmt trees.Stmt stmt_layer
 
 -- ---- files
 
+-- a body: its items, and the place of the opening brace
 abbrev pub body_view : CodeBlock → trees.Body
 body_view b = record { place = b.place; items = map stmt_view b.items.items }
 
+-- what stands behind the specifiers of an external declaration
 abbrev pub rest_view : CodeRest → trees.Rest
 rest_view rests.Nothing = trees.nothing
 rest_view (rests.Function pointers n params body) =
     trees.function pointers.items n (map param_view params.items) (option_map body_view body)
 rest_view (rests.Variables declarators) = trees.variables (map init_declarator_view declarators.items)
 
+-- an external declaration
 abbrev pub external_view : CodeExternal → trees.External
 external_view e = record { storage = e.storage.items; specs = map spec_view e.specs.items; rest = rest_view e.rest }
 

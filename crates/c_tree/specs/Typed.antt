@@ -5,6 +5,7 @@ use Rattle.ak_words.specs.declared.operation.Op.{Op}
 
 -- ---- types (C11 6.2.5)
 
+-- a type: void, an integer type, mtx_t, a pointer to a type, an array of so many elements of a type, or the struct of this number
 pub data Ty : Type 0 where
   void : Ty
   integer : (t : IntType) → Ty
@@ -50,9 +51,11 @@ pub data Lib : Type 0 where
 -- an expression has a place in the text, a type, and what it does. Of these literal, global, local, deref and member are
 -- lvalues; decay is the pointer to the first element of an array; test says whether a pointer is not null
 mutual
+  -- an expression: its place in the text, its type, and what it does
   pub data Expr : Type 0 where
     at : (place : ℕ) (ty : Ty) (node : ExprNode) → Expr
 
+  -- what an expression does; objects, functions and members are known by their numbers
   pub data ExprNode : Type 0 where
     num : (t : IntType) (value : ℤ) → ExprNode
     null : ExprNode
@@ -77,16 +80,20 @@ mutual
     call : (function : ℕ) (args : Exprs) → ExprNode
     lib : (which : Lib) (args : Exprs) → ExprNode
 
+  -- expressions in a row: the arguments of a call
   pub data Exprs : Type 0 where
     no_exprs : Exprs
     more_exprs : (e : Expr) (rest : Exprs) → Exprs
 
+-- the place of an expression in the text
 abbrev pub place_of : Expr → ℕ
 place_of (at place ty node) = place
 
+-- the type of an expression
 abbrev pub type_of : Expr → Ty
 type_of (at place ty node) = ty
 
+-- what an expression does
 abbrev pub node_of : Expr → ExprNode
 node_of (at place ty node) = node
 
@@ -94,9 +101,11 @@ node_of (at place ty node) = node
 
 -- a statement has a place in the text and what it does; update is a compound assignment, ++ or --
 mutual
+  -- a statement: its place in the text, and what it does
   pub data Stmt : Type 0 where
     at_stmt : (place : ℕ) (node : StmtNode) → Stmt
 
+  -- what a statement does; a local is known by its number
   pub data StmtNode : Type 0 where
     block : (body : Stmts) → StmtNode
     declare : (number : ℕ) (init : Option Expr) → StmtNode
@@ -112,6 +121,7 @@ mutual
     evaluate : (e : Expr) → StmtNode
     empty : StmtNode
 
+  -- statements in a row: the items of a body (C11 6.8.2)
   pub data Stmts : Type 0 where
     no_stmts : Stmts
     more_stmts : (s : Stmt) (rest : Stmts) → Stmts
@@ -124,10 +134,12 @@ pub data Init : Type 0 where
   number : (t : IntType) (value : ℤ) → Init
   literal_at : (number : ℕ) → Init
 
+-- an object of file scope: its type, and what it holds at the start
 pub record GlobalVar : Type 0 where
   pub ty : Ty
   pub init : Init
 
+-- a local or parameter of a function: its type, and whether it is in memory and so has an address
 pub record Local : Type 0 where
   pub ty : Ty
   pub in_memory : Bool

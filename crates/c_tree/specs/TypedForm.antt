@@ -16,10 +16,12 @@ use Rattle.c_tree.specs.TypedLayout.{greatest_object, size_in, IsSized, laid_out
 
 -- ---- types
 
+-- an integer type (C11 6.2.5 p17)
 abbrev pub IsInteger : Ty → Type 0
 IsInteger (integer t) = Unit {0}
 IsInteger t = ⊥
 
+-- a pointer type (C11 6.2.5 p20)
 abbrev pub IsPointer : Ty → Type 0
 IsPointer (pointer t) = Unit {0}
 IsPointer t = ⊥
@@ -53,10 +55,12 @@ AreOperands ops.Shr (integer s) (integer t) = IsPromoted s × IsPromoted t
 AreOperands op (integer s) (integer t) = IsPromoted s × (s ≡ t)
 AreOperands op s t = ⊥
 
+-- the type of an operation's result, by that of its left operand: int for a comparison, and else the same type
 abbrev pub type_of_result : Op → Ty → Ty
 type_of_result op (integer t) = integer (result_type op t)
 type_of_result op t = t
 
+-- the operators == != < <= > >=, whose result is an int that is 0 or 1 (C11 6.5.8, 6.5.9)
 abbrev pub is_comparison : Op → Bool
 is_comparison ops.Eq = true
 is_comparison ops.Ne = true
@@ -95,6 +99,7 @@ pub record Context : Type 0 where
   pub funcs : List Signature
   pub locals : List Local
 
+-- the list has one at this number, counted from 0, and that one has this property
 abbrev pub IsNth : {A : Type 0} → List A → ℕ → (A → Type 0) → Type 0
 IsNth xs n P = (x : _) × (slice_get xs n ≡ Some x) × P x
 
@@ -166,9 +171,11 @@ IsLibCall c mutex_destroy es t = AreArguments (pointer mutex ∷ []) es × (t �
 
 -- an expression of its type, whose parts are well formed
 abbrev mutual
+  -- an expression is well formed if what it does is, at its type
   pub IsTyped : Context → Expr → Type 0
   IsTyped c (at place ty node) = IsTypedNode c ty node
 
+  -- what an expression of this type does is well formed: its parts are, and their types are those that it needs (C11 6.5)
   pub IsTypedNode : Context → Ty → ExprNode → Type 0
   IsTypedNode c ty (num t value) = (ty ≡ integer t) × IsInRange t value
   IsTypedNode c ty null = IsPointer ty
@@ -193,6 +200,7 @@ abbrev mutual
   IsTypedNode c ty (call f args) = AreTyped c args × IsNth c.funcs f (λ s. AreArguments s.params args × (ty ≡ s.result))
   IsTypedNode c ty (lib which args) = AreTyped c args × IsLibCall c which args ty
 
+  -- each expression of a row is well formed
   pub AreTyped : Context → Exprs → Type 0
   AreTyped c no_exprs = Unit {0}
   AreTyped c (more_exprs e rest) = IsTyped c e × AreTyped c rest
@@ -235,9 +243,11 @@ pub record Inside : Type 0 where
 
 -- a statement is well formed, in a loop or not
 abbrev mutual
+  -- a statement is well formed if what it does is
   pub IsWell : Inside → (in_loop : Bool) → Stmt → Type 0
   IsWell f in_loop (at_stmt place node) = IsWellNode f in_loop node
 
+  -- what a statement does is well formed: its parts are, of the types that it needs, and a break or continue is in a loop (C11 6.8)
   pub IsWellNode : Inside → Bool → StmtNode → Type 0
   IsWellNode f in_loop (block body) = AreWell f in_loop body
   IsWellNode f in_loop (declare n init) = (f.params ≤ n) × IsNth f.context.locals n (λ l. IfTyped f.context (λ t. Fits t l.ty × IsScalar t) init)
@@ -256,6 +266,7 @@ abbrev mutual
   IsWellNode f in_loop (evaluate e) = IsTyped f.context e
   IsWellNode f in_loop empty = Unit {0}
 
+  -- each statement of a row is well formed
   pub AreWell : Inside → Bool → Stmts → Type 0
   AreWell f in_loop no_stmts = Unit {0}
   AreWell f in_loop (more_stmts s rest) = IsWell f in_loop s × AreWell f in_loop rest
@@ -272,12 +283,16 @@ abbrev pub IsResult : Ty → Type 0
 IsResult void = Unit {0}
 IsResult t = IsScalar t
 
+-- a function as its calls see it: the types of its parameters, and its result
 abbrev pub signature_of : Func → Signature
 signature_of f = record { params = map (λ l. l.ty) (take f.params f.locals); result = f.result }
 
+-- what is in scope in the body of a function of a program
 abbrev pub context_of : Typed → Func → Context
 context_of t f = record { structs = t.structs; globals = map (λ g. g.ty) t.globals; literals = t.literals; funcs = map signature_of t.funcs; locals = f.locals }
 
+-- a function of a program is well formed: its first locals are its parameters, its locals, its result and its body are well
+-- formed, and neither count passes its limit (this project's profile)
 pub record IsFunc (t : Typed) (f : Func) : Type 0 where
   pub few_params : f.params ≤ 16
   pub params : f.params ≤ length f.locals
@@ -302,6 +317,7 @@ IsInit literals t zero_bytes = Unit {0}
 IsInit literals t (number s value) = (t ≡ integer s) × IsInRange s value
 IsInit literals t (literal_at n) = (t ≡ pointer (integer char)) × (n < length literals)
 
+-- a global of a program is well formed: its type has a size, and it may hold what it holds at the start
 pub record IsGlobal (t : Typed) (g : GlobalVar) : Type 0 where
   pub sized : IsSized t.structs g.ty
   pub init : IsInit t.literals g.ty g.init
@@ -318,6 +334,7 @@ plain_bytes t = sum_by (λ g. taken (size_in t.structs g.ty)) t.globals + sum_by
 abbrev pub IsMain : Func → Type 0
 IsMain f = (f.params ≡ 0) × (f.result ≡ integer int)
 
+-- a program is well formed: each part of it is, main is there, and no count passes its limit (this project's profile)
 pub record IsWellFormed (t : Typed) : Type 0 where
   pub structs : AllByRecursion (IsLayout t.structs) t.structs
   pub globals : AllByRecursion (IsGlobal t) t.globals

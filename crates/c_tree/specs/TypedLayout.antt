@@ -6,10 +6,12 @@ use Rattle.c_tree.specs.Typed.{Ty, void, integer, mutex, pointer, array, structu
 abbrev pub greatest_object : ℕ
 greatest_object = 16777216
 
+-- the size of a struct; 0 where there is no such struct
 abbrev pub layout_size : Option Layout → ℕ
 layout_size None = 0
 layout_size (Some l) = l.size
 
+-- the alignment of a struct; 1 where there is no such struct
 abbrev pub layout_align : Option Layout → ℕ
 layout_align None = 1
 layout_align (Some l) = l.align
@@ -58,6 +60,7 @@ abbrev pub end_from : List Layout → (from : ℕ) → List Ty → ℕ
 end_from structs from [] = from
 end_from structs from (t ∷ ts) = end_from structs (rounded_up from (align_in structs t) + size_in structs t) ts
 
+-- the greatest alignment among members of these types, and at least 1
 abbrev pub greatest_align : List Layout → List Ty → ℕ
 greatest_align structs [] = 1
 greatest_align structs (t ∷ ts) = max (align_in structs t) (greatest_align structs ts)

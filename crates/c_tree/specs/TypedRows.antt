@@ -21,6 +21,7 @@ abbrev pub joined : List (List ℕ) → List ℕ
 joined [] = []
 joined (bs ∷ rest) = bs ++ joined rest
 
+-- what these pieces print of the numbers -1, -1, 4294967295, -1 and 321, and the text "of"
 abbrev pub printed : List Piece → List ℕ
 printed pieces = joined (parts (λ bs. bs) (λ bs. bs) pieces (negsuc 0 ∷ negsuc 0 ∷ pos 4294967295 ∷ negsuc 0 ∷ pos 321 ∷ []) (codes "of" ∷ []))
 
@@ -34,9 +35,11 @@ func e = record {
       (more_stmts (at_stmt 24 (return_ (Some (at 32 (integer int) (binary Add e (at 33 (integer int) (num int (pos 1)))))))) no_stmts);
 }
 
+-- the program of that function alone, with this expression in it
 abbrev pub program : (e : Expr) → Typed
 program e = record { structs = []; globals = []; literals = []; funcs = func e ∷ []; main = 0 }
 
+-- the rows: what each layout, each print and each small program comes to
 pub record TypedRowsHold : Type 0 where
   -- the padding between members, and behind the last one
   pub node_offsets : node.offsets ≡ 0 ∷ 8 ∷ 16 ∷ 24 ∷ []

@@ -22,6 +22,7 @@ use Rattle.c_tree.specs.declared.typed.Func.{Func as CodeFunc}
 use Rattle.c_tree.specs.declared.typed.Typed.{Typed as CodeTyped}
 use Rattle.c_tree.specs.Typed as trees
 
+-- the type that one of the code stands for
 abbrev pub type_view : CType → trees.Ty
 type_view types.Void = trees.void
 type_view (types.Int t) = trees.integer t
@@ -30,9 +31,11 @@ type_view (types.Pointer' p t) = trees.pointer (type_view t)
 type_view (types.Array' p t n) = trees.array (type_view t) n
 type_view (types.Struct n) = trees.structure n
 
+-- the struct's layout that one of the code stands for
 abbrev pub layout_view : CodeLayout → trees.Layout
 layout_view l = record { offsets = l.offsets.items; types = map type_view l.types.items; size = l.size; align = l.align }
 
+-- the piece of a format that one of the code stands for
 abbrev pub piece_view : CodePiece → trees.Piece
 piece_view (pieces.Bytes all) = trees.bytes all.items
 piece_view (pieces.Signed bits) = trees.signed bits
@@ -41,6 +44,7 @@ piece_view (pieces.Hex bits) = trees.hexadecimal bits
 piece_view pieces.Char = trees.character
 piece_view pieces.Text = trees.text
 
+-- the library function that one of the code stands for
 abbrev pub lib_view : CodeLib → trees.Lib
 lib_view (libs.Print all) = trees.print (map piece_view all.items)
 lib_view libs.Malloc = trees.malloc
@@ -54,6 +58,7 @@ lib_view libs.MutexUnlock = trees.mutex_unlock
 lib_view libs.MutexDestroy = trees.mutex_destroy
 
 abbrev mutual
+  -- what an expression of the code does
   pub expr_node_view : CodeExprNode → trees.ExprNode
   expr_node_view (exprs.Num n) = trees.num n.ty n.value
   expr_node_view exprs.Null = trees.null
@@ -86,10 +91,12 @@ abbrev mutual
   expr_node_view (exprs.Call' f shape args) = trees.call f (expr_row_view args)
   expr_node_view (exprs.Lib' which shape args) = trees.lib (lib_view which) (expr_row_view args)
 
+  -- the arguments of a call, as the code holds them
   pub expr_row_view : {m : _} → Row_of-Expr m → trees.Exprs
   expr_row_view end_of-Expr = trees.no_exprs
   expr_row_view (more_of-Expr place ty node rest) = trees.more_exprs (trees.at place (type_view ty) (expr_node_view node)) (expr_row_view rest)
 
+-- the expression that one of the code stands for
 abbrev pub expr_view : CodeExpr → trees.Expr
 expr_view e = trees.at e.place (type_view e.ty) (expr_node_view e.node)
 
@@ -98,12 +105,14 @@ abbrev pub exprs_of : List trees.Expr → trees.Exprs
 exprs_of [] = trees.no_exprs
 exprs_of (e ∷ es) = trees.more_exprs e (exprs_of es)
 
+-- the expression, if the code has one there
 abbrev pub optional_expr_view : Option CodeExpr → Option trees.Expr
 optional_expr_view None = None
 optional_expr_view (Some e) = Some (expr_view e)
 
 -- an `if`, with an `else` or without
 abbrev mutual
+  -- what a statement of the code does
   pub stmt_node_view : CodeStmtNode → trees.StmtNode
   stmt_node_view (stmts.Block' shape body) = trees.block (stmt_row_view body)
   stmt_node_view (stmts.Declare n init) = trees.declare n (optional_expr_view init)
@@ -119,14 +128,17 @@ abbrev mutual
   stmt_node_view (stmts.Eval e) = trees.evaluate (expr_view e)
   stmt_node_view stmts.Empty = trees.empty
 
+  -- an if of this condition and this first branch, with what the code holds as its else
   pub if_view : trees.Expr → trees.Stmt → Held-StmtNode-If-2 → trees.StmtNode
   if_view condition then_ None' = trees.if_ condition then_
   if_view condition then_ (Some' p place node) = trees.if_else condition then_ (trees.at_stmt place (stmt_node_view node))
 
+  -- the items of a block, as the code holds them
   pub stmt_row_view : {m : _} → Row_of-Stmt m → trees.Stmts
   stmt_row_view end_of-Stmt = trees.no_stmts
   stmt_row_view (more_of-Stmt place node rest) = trees.more_stmts (trees.at_stmt place (stmt_node_view node)) (stmt_row_view rest)
 
+-- the statement that one of the code stands for
 abbrev pub stmt_view : CodeStmt → trees.Stmt
 stmt_view s = trees.at_stmt s.place (stmt_node_view s.node)
 
@@ -135,23 +147,29 @@ abbrev pub stmts_of : List trees.Stmt → trees.Stmts
 stmts_of [] = trees.no_stmts
 stmts_of (s ∷ rest) = trees.more_stmts s (stmts_of rest)
 
+-- what a global of the code holds at the start
 abbrev pub init_view : CodeInit → trees.Init
 init_view inits.Zero = trees.zero_bytes
 init_view (inits.Num n) = trees.number n.ty n.value
 init_view (inits.Literal n) = trees.literal_at n
 
+-- the global that one of the code stands for
 abbrev pub global_view : CodeGlobal → trees.GlobalVar
 global_view g = record { ty = type_view g.ty; init = init_view g.init }
 
+-- the bytes of a string literal of the code
 abbrev pub literal_view : CodeLiteral → List ℕ
 literal_view l = l.bytes.items
 
+-- the local that one of the code stands for
 abbrev pub local_view : CodeLocal → trees.Local
 local_view l = record { ty = type_view l.ty; in_memory = l.in_memory }
 
+-- the function that one of the code stands for
 abbrev pub func_view : CodeFunc → trees.Func
 func_view f = record { params = f.params; locals = map local_view f.locals.items; result = type_view f.result; body = stmts_of (map stmt_view f.body.items) }
 
+-- the typed tree that one of the code stands for
 abbrev pub typed_view : CodeTyped → trees.Typed
 typed_view t = record {
   structs = map layout_view t.structs.items;

@@ -9,6 +9,7 @@ use Rattle.flat_store.specs.Flat.{first_address}
 use Rattle.sub_heaps.specs.declared.objects.Object.{Object}
 use Rattle.sub_heaps.specs.SubHeaps.{SubHeaps, IsSound}
 
+-- objects behind handles: the sub-heaps with their addresses and bytes, and where each id leads
 pub record Storage : Type 0 where
   -- the address of place 0, with which the sub-heaps begin
   pub start : ℕ

@@ -18,6 +18,7 @@ moved_with (Some o) m s = record s {
   bytes = with_bytes s.bytes (s.start + m.to) (bytes_from s.bytes (s.start + m.from) o.size);
 }
 
+-- the storage after the move of the object that stands where the move begins
 abbrev pub moved : Move → Storage → Storage
 moved m s = moved_with (object_at m.from s.heaps.objects) m s
 

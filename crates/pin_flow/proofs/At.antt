@@ -7,23 +7,8 @@ use Rattle.struct_ir.specs.Structured.{Position, then_, in_body, in_latch, here}
 use Rattle.pin_flow.specs.Marks.{Mark, IsFair, State, Ways, head_of, end_state, flow, flow_node, Each, EachIn, EveryAct, EveryActIn}
 use Rattle.pin_flow.specs.Looks.{some_act, some_in}
 use Rattle.pin_flow.proofs.Switch.{flow_agree, node_agree}
+pub use Rattle.pin_flow.proofs.EachAt.{EachAt, EachAtIn}
 use Rattle.pin_flow.proofs.Real.{Seen, row_seen, node_seen, seen_on, loop_seen}
-
--- E holds of each act with its state at its position
-abbrev mutual
-  pub EachAt : (Act → State → Position → Type 0) → Mark → Nodes → Position → State → Type 0
-  EachAt E m no_nodes k t = Unit {0}
-  EachAt E m (more_nodes n rest) k t = EachAtIn E m n rest k t × EachAt E m rest k (flow_node m n t).on
-
-  pub EachAtIn : (Act → State → Position → Type 0) → Mark → Node → Nodes → Position → State → Type 0
-  EachAtIn E m (plain p a) rest k t = E a t (then_ (more_nodes (plain p a) rest) k)
-  EachAtIn E m (if_ p x one other) rest k t = EachAt E m one (then_ rest k) t × EachAt E m other (then_ rest k) t
-  EachAtIn E m (loop p body latch) rest k t =
-      EachAt E m body (in_body body latch (then_ rest k)) (head_of (flow m body) (flow m latch) t)
-      × EachAt E m latch (in_latch body latch (then_ rest k)) (end_state (flow m body (head_of (flow m body) (flow m latch) t)))
-  EachAtIn E m (break_ p) rest k t = Unit {0}
-  EachAtIn E m (next_ p) rest k t = Unit {0}
-  EachAtIn E m (ret p x) rest k t = Unit {0}
 
 module _ (E : Act → State → Position → Type 0) (m : Mark) where
   -- without the positions
@@ -42,21 +27,21 @@ module _ (E : Act → State → Position → Type 0) (m : Mark) where
       in_of (ret p x) rest k t e = tt
 
   -- without the states, for what paths show
-  module _ (fair : IsFair m) (start : Position) (R : Act → Position → Type 0) (shows : (p : ℕ) (a : Act) (t : State) (k : Position) → here k ≡ does p a → Seen m fair start k t → E a t k → R a k) where
+  module _ (fair : IsFair m) (start : Position) (R : Act → Position → Type 0) (shows : (p : ℕ) (a : Act) (t : State) (k : Position) → here k ≡ does p a → Seen false m fair start k t → E a t k → R a k) where
     mutual
-      pub every_at : (ns : Nodes) (k : Position) (t : State) → Seen m fair start (then_ ns k) t → EachAt E m ns k t → EveryAct R ns k
+      pub every_at : (ns : Nodes) (k : Position) (t : State) → Seen false m fair start (then_ ns k) t → EachAt E m ns k t → EveryAct R ns k
       every_at no_nodes k t s e = tt
-      every_at (more_nodes n rest) k t s e = (in_at n rest k t s e.0, every_at rest k _ ((node_seen m fair start n rest k t s).on) e.1)
+      every_at (more_nodes n rest) k t s e = (in_at n rest k t s e.0, every_at rest k _ ((node_seen false m fair start n rest k t s).on) e.1)
 
-      in_at : (n : Node) (rest : Nodes) (k : Position) (t : State) → Seen m fair start (then_ (more_nodes n rest) k) t → EachAtIn E m n rest k t → EveryActIn R n rest k
+      in_at : (n : Node) (rest : Nodes) (k : Position) (t : State) → Seen false m fair start (then_ (more_nodes n rest) k) t → EachAtIn E m n rest k t → EveryActIn R n rest k
       in_at (plain p a) rest k t s e = shows p a t (then_ (more_nodes (plain p a) rest) k) refl s e
       in_at (if_ p x one other) rest k t s e =
           let n = if_ p x one other in (
-            every_at one (then_ rest k) t (seen_on m fair start (then_ (more_nodes n rest) k) true tt (λ v. refl) t s) e.0,
-            every_at other (then_ rest k) t (seen_on m fair start (then_ (more_nodes n rest) k) false tt (λ v. refl) t s) e.1,
+            every_at one (then_ rest k) t (seen_on false m fair start (then_ (more_nodes n rest) k) true tt (λ v. refl) t s) e.0,
+            every_at other (then_ rest k) t (seen_on false m fair start (then_ (more_nodes n rest) k) false tt (λ v. refl) t s) e.1,
           )
       in_at (loop p body latch) rest k t s e =
-          let l = loop_seen m fair start body latch (then_ rest k) (row_seen m fair start body _) (row_seen m fair start latch _) t (seen_on m fair start (then_ (more_nodes (loop p body latch) rest) k) true tt (λ v. refl) t s) in
+          let l = loop_seen false m fair start body latch (then_ rest k) (row_seen false m fair start body _) (row_seen false m fair start latch _) t (seen_on false m fair start (then_ (more_nodes (loop p body latch) rest) k) true tt (λ v. refl) t s) in
           (every_at body _ _ l.head e.0, every_at latch _ _ l.end e.1)
       in_at (break_ p) rest k t s e = tt
       in_at (next_ p) rest k t s e = tt

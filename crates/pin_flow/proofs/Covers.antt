@@ -38,9 +38,9 @@ some_same s r e = cc
 
 pub covered_each : (ns : Nodes) → Covered structured (then_ ns done) → (s c : ℕ) → Each (Serves s c) (fresh s c) ns bad
 covered_each ns covered s c =
-    each_seen (fresh s c) (fresh_fair s c) (then_ ns done) (Serves s c)
+    each_seen false (fresh s c) (fresh_fair s c) (then_ ns done) (Serves s c)
     (λ p a t k here seen u e.
-    let x : Seen (fresh s c) (fresh_fair s c) (then_ ns done) k bad = subst (λ v. Seen (fresh s c) (fresh_fair s c) (then_ ns done) k v) e seen in
+    let x : Seen false (fresh s c) (fresh_fair s c) (then_ ns done) k bad = subst (λ v. Seen false (fresh s c) (fresh_fair s c) (then_ ns done) k v) e seen in
     let q = covered x.0 k x.1 p a here u.0 u.1 in
     let slots : q.0 ≡ s = some_same q.0 s (sym q.1 ∙ u.3) in
     let available : Available structured (then_ ns done) s c k = subst (λ r. Available structured (then_ ns done) r c k) slots (subst (λ r. Available structured (then_ ns done) q.0 r k) u.2 q.2) in
@@ -80,9 +80,9 @@ each_covered slot_of ns o serves w k path p act here x i =
 
 pub due_needed : (ns : Nodes) (b : ℕ) → Each (IsDue b) (held b) ns bad → EveryAct (λ act k. act_looks b act ≡ true → (slot : ℕ) → Available structured (then_ ns done) slot b k → ⊥) ns done
 due_needed ns b due =
-    every_shown (held b) (held_fair b) (then_ ns done) (IsDue b) (λ act k. act_looks b act ≡ true → (slot : ℕ) → Available structured (then_ ns done) slot b k → ⊥)
+    every_shown false (held b) (held_fair b) (then_ ns done) (IsDue b) (λ act k. act_looks b act ≡ true → (slot : ℕ) → Available structured (then_ ns done) slot b k → ⊥)
     (λ p a t k here seen q looks slot available.
-    let x : Seen (held b) (held_fair b) (then_ ns done) k bad = subst (λ u. Seen (held b) (held_fair b) (then_ ns done) k u) (q looks) seen in
+    let x : Seen false (held b) (held_fair b) (then_ ns done) k bad = subst (λ u. Seen false (held b) (held_fair b) (then_ ns done) k u) (q looks) seen in
     let yes = held_answer structured slot b x.0 (sym (fresh_answer structured slot b x.0) ∙ available x.0 x.1) in
     both_ways (answer structured (held b) x.0) x.2 yes)
     ns done bad ([], entry, refl) due

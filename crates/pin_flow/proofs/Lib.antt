@@ -1,4 +1,5 @@
 pub mod Order
+pub mod EachAt
 pub mod Sound
 pub mod Real
 pub mod Strip

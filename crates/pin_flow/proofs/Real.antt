@@ -1,17 +1,17 @@
--- What a state says, some path shows.
+-- What a state says, some path shows. v: the answer before the code.
 use Rattle.std.proofs.Common.{◌≡◌, ℕ, List, ◌∷◌, Bool, true, false, refl, ap, subst, ◌∙◌}
 use Rattle.struct_ir.specs.Nodes.{Act, Node, plain, if_, loop, break_, next_, ret, Nodes, no_nodes, more_nodes}
 use Rattle.struct_ir.specs.Flow.{Here, does, Stays, Path, entry, on}
 use Rattle.struct_ir.specs.Structured.{Position, then_, in_body, in_latch, out_of, end_of, here, next, structured}
-use Rattle.pin_flow.specs.Marks.{Mark, IsFair, marked, answer, State, unreached, good, bad, join, state_of, after, Ways, at, either, in_turn, end_state, round_of, head_of, flow, flow_node, Each, EachIn, EveryAct, EveryActIn}
+use Rattle.pin_flow.specs.Marks.{Mark, IsFair, marked, answer_from, State, unreached, good, bad, join, state_of, after, Ways, at, either, in_turn, end_state, round_of, head_of, flow, flow_node, Each, EachIn, EveryAct, EveryActIn}
 use Rattle.pin_flow.proofs.Sound.{after_same}
 
-module _ (m : Mark) (fair : IsFair m) (start : Position) where
+module _ (v : Bool) (m : Mark) (fair : IsFair m) (start : Position) where
   -- a path comes to k, and where the state is bad, one that says no
   abbrev pub Seen : Position → State → Type 0
   Seen k unreached = Unit {0}
   Seen k good = (w : List Position) × Path structured start w k
-  Seen k bad = (w : List Position) × Path structured start w k × (answer structured m w ≡ false)
+  Seen k bad = (w : List Position) × Path structured start w k × (answer_from structured m v w ≡ false)
 
   seen_join : (k : Position) (t u : State) → Seen k t → Seen k u → Seen k (join t u)
   seen_join k unreached u a b = b
@@ -27,7 +27,7 @@ module _ (m : Mark) (fair : IsFair m) (start : Position) where
   fair_here Rattle.struct_ir.specs.Flow.round e = absurd cc
   fair_here (Rattle.struct_ir.specs.Flow.returns x) e = absurd cc
 
-  no_too : (f : Bool → Bool) → (f false ≡ true → f true ≡ true) → f true ≡ false → (v : Bool) → f v ≡ false
+  no_too : (f : Bool → Bool) → (f false ≡ true → f true ≡ true) → f true ≡ false → (x : Bool) → f x ≡ false
   no_too f h e true = e
   no_too f h e false = elim (f false) as (λ x. f false ≡ x → x ≡ false) [ true ↦ (λ g. absurd (let t = h g in cc)) | false ↦ (λ g. refl) ] refl
 
@@ -38,7 +38,7 @@ module _ (m : Mark) (fair : IsFair m) (start : Position) where
       let p : Path structured start (k ∷ s.0) (next k c) = on s.0 k c st s.1 in
       elim (f true) as (λ x. f true ≡ x → Seen (next k c) (state_of x)) [
         | true ↦ (λ e. (k ∷ s.0, p))
-        | false ↦ (λ e. (k ∷ s.0, p, no_too f (fair_here (here k)) e (answer structured m s.0)))
+        | false ↦ (λ e. (k ∷ s.0, p, no_too f (fair_here (here k)) e (answer_from structured m v s.0)))
       ] refl
   seen_next k c st bad s =
       let f = marked m (here k) in
@@ -49,8 +49,8 @@ module _ (m : Mark) (fair : IsFair m) (start : Position) where
       ] refl
 
   -- where nothing is done
-  pub seen_on : (k : Position) (c : Bool) → Stays (here k) → ((v : Bool) → marked m (here k) v ≡ v) → (t : State) → Seen k t → Seen (next k c) t
-  seen_on k c st e t s = subst (λ (u : State). Seen (next k c) u) ((λ i. after (λ v. e v i) t) ∙ after_same t) (seen_next k c st t s)
+  pub seen_on : (k : Position) (c : Bool) → Stays (here k) → ((x : Bool) → marked m (here k) x ≡ x) → (t : State) → Seen k t → Seen (next k c) t
+  seen_on k c st e t s = subst (λ (u : State). Seen (next k c) u) ((λ i. after (λ x. e x i) t) ∙ after_same t) (seen_next k c st t s)
 
   pub record Out (k : Position) (o : Ways) : Type 0 where
     pub on : Seen k o.on
@@ -77,13 +77,13 @@ module _ (m : Mark) (fair : IsFair m) (start : Position) where
     end_seen : (t : State) → Seen (then_ body (in_body body latch k)) t → Seen (then_ latch (in_latch body latch k)) (end_state (flow m body t))
     end_seen t s =
         let o = of_body t s in
-        seen_on (in_body body latch k) true tt (λ v. refl) _ (seen_join _ _ _ o.on o.next)
+        seen_on (in_body body latch k) true tt (λ x. refl) _ (seen_join _ _ _ o.on o.next)
 
     again_seen : (t : State) → Seen (then_ body (in_body body latch k)) t → Seen (then_ body (in_body body latch k)) (round_of (flow m body) (flow m latch) t).on
     unfolding round_of
     again_seen t s =
         let o = of_turn _ (end_seen t s) in
-        seen_on (in_latch body latch k) true tt (λ v. refl) _ (seen_join _ _ _ o.on o.next)
+        seen_on (in_latch body latch k) true tt (λ x. refl) _ (seen_join _ _ _ o.on o.next)
 
     pub loop_seen : (t : State) → Seen (then_ body (in_body body latch k)) t → Loops body latch k t
     unfolding round_of head_of
@@ -96,7 +96,7 @@ module _ (m : Mark) (fair : IsFair m) (start : Position) where
     unfolding flow
 
     pub row_seen : (ns : Nodes) (k : Position) (t : State) → Seen (then_ ns k) t → Out k (flow m ns t)
-    row_seen no_nodes k t s = out_at k t (seen_on (then_ no_nodes k) true tt (λ v. refl) t s)
+    row_seen no_nodes k t s = out_at k t (seen_on (then_ no_nodes k) true tt (λ x. refl) t s)
     row_seen (more_nodes n rest) k t s = let a = node_seen n rest k t s in out_turn rest k _ _ a (row_seen rest k _ a.on)
 
     pub node_seen : (n : Node) (rest : Nodes) (k : Position) (t : State) → Seen (then_ (more_nodes n rest) k) t → Out (then_ rest k) (flow_node m n t)
@@ -104,11 +104,11 @@ module _ (m : Mark) (fair : IsFair m) (start : Position) where
     node_seen (if_ p x one other) rest k t s =
         let n = if_ p x one other in
         out_either (then_ rest k) _ _
-        (row_seen one (then_ rest k) t (seen_on (then_ (more_nodes n rest) k) true tt (λ v. refl) t s))
-        (row_seen other (then_ rest k) t (seen_on (then_ (more_nodes n rest) k) false tt (λ v. refl) t s))
-    node_seen (loop p body latch) rest k t s = out_at (then_ rest k) _ (loop_seen body latch (then_ rest k) (row_seen body (in_body body latch (then_ rest k))) (row_seen latch (in_latch body latch (then_ rest k))) t (seen_on (then_ (more_nodes (loop p body latch) rest) k) true tt (λ v. refl) t s)).broken
-    node_seen (break_ p) rest k t s = record { on = tt; broken = seen_on (then_ (more_nodes (break_ p) rest) k) true tt (λ v. refl) t s; next = tt }
-    node_seen (next_ p) rest k t s = record { on = tt; broken = tt; next = seen_on (then_ (more_nodes (next_ p) rest) k) true tt (λ v. refl) t s }
+        (row_seen one (then_ rest k) t (seen_on (then_ (more_nodes n rest) k) true tt (λ x. refl) t s))
+        (row_seen other (then_ rest k) t (seen_on (then_ (more_nodes n rest) k) false tt (λ x. refl) t s))
+    node_seen (loop p body latch) rest k t s = out_at (then_ rest k) _ (loop_seen body latch (then_ rest k) (row_seen body (in_body body latch (then_ rest k))) (row_seen latch (in_latch body latch (then_ rest k))) t (seen_on (then_ (more_nodes (loop p body latch) rest) k) true tt (λ x. refl) t s)).broken
+    node_seen (break_ p) rest k t s = record { on = tt; broken = seen_on (then_ (more_nodes (break_ p) rest) k) true tt (λ x. refl) t s; next = tt }
+    node_seen (next_ p) rest k t s = record { on = tt; broken = tt; next = seen_on (then_ (more_nodes (next_ p) rest) k) true tt (λ x. refl) t s }
     node_seen (ret p x) rest k t s = out_at (then_ rest k) unreached tt
 
   -- with what their acts' states say, R is shown of each act; Q is what is known of them
@@ -122,11 +122,11 @@ module _ (m : Mark) (fair : IsFair m) (start : Position) where
       in_shown (plain p a) rest k t s e = shows p a t (then_ (more_nodes (plain p a) rest) k) refl s e
       in_shown (if_ p x one other) rest k t s e =
           let n = if_ p x one other in (
-            every_shown one (then_ rest k) t (seen_on (then_ (more_nodes n rest) k) true tt (λ v. refl) t s) e.0,
-            every_shown other (then_ rest k) t (seen_on (then_ (more_nodes n rest) k) false tt (λ v. refl) t s) e.1,
+            every_shown one (then_ rest k) t (seen_on (then_ (more_nodes n rest) k) true tt (λ x. refl) t s) e.0,
+            every_shown other (then_ rest k) t (seen_on (then_ (more_nodes n rest) k) false tt (λ x. refl) t s) e.1,
           )
       in_shown (loop p body latch) rest k t s e =
-          let l = loop_seen body latch (then_ rest k) (row_seen body _) (row_seen latch _) t (seen_on (then_ (more_nodes (loop p body latch) rest) k) true tt (λ v. refl) t s) in
+          let l = loop_seen body latch (then_ rest k) (row_seen body _) (row_seen latch _) t (seen_on (then_ (more_nodes (loop p body latch) rest) k) true tt (λ x. refl) t s) in
           (every_shown body _ _ l.head e.0, every_shown latch _ _ l.end e.1)
       in_shown (break_ p) rest k t s e = tt
       in_shown (next_ p) rest k t s e = tt
@@ -143,11 +143,11 @@ module _ (m : Mark) (fair : IsFair m) (start : Position) where
       in_seen (plain p a) rest k t s = has p a t (then_ (more_nodes (plain p a) rest) k) refl s
       in_seen (if_ p x one other) rest k t s =
           let n = if_ p x one other in (
-            each_seen one (then_ rest k) t (seen_on (then_ (more_nodes n rest) k) true tt (λ v. refl) t s),
-            each_seen other (then_ rest k) t (seen_on (then_ (more_nodes n rest) k) false tt (λ v. refl) t s),
+            each_seen one (then_ rest k) t (seen_on (then_ (more_nodes n rest) k) true tt (λ x. refl) t s),
+            each_seen other (then_ rest k) t (seen_on (then_ (more_nodes n rest) k) false tt (λ x. refl) t s),
           )
       in_seen (loop p body latch) rest k t s =
-          let l = loop_seen body latch (then_ rest k) (row_seen body _) (row_seen latch _) t (seen_on (then_ (more_nodes (loop p body latch) rest) k) true tt (λ v. refl) t s) in
+          let l = loop_seen body latch (then_ rest k) (row_seen body _) (row_seen latch _) t (seen_on (then_ (more_nodes (loop p body latch) rest) k) true tt (λ x. refl) t s) in
           (each_seen body _ _ l.head, each_seen latch _ _ l.end)
       in_seen (break_ p) rest k t s = tt
       in_seen (next_ p) rest k t s = tt

@@ -3,39 +3,44 @@ use Rattle.std.proofs.Common.{◌≡◌, ℕ, ◌≤◌, List, Bool, true, false
 use Rattle.struct_ir.specs.Nodes.{Act, Node, plain, if_, loop, break_, next_, ret, Nodes, no_nodes, more_nodes}
 use Rattle.struct_ir.specs.Flow.{does, Path, entry, on}
 use Rattle.struct_ir.specs.Structured.{Position, done, then_, in_body, in_latch, out_of, end_of, kind, leads, here, next, structured}
-use Rattle.pin_flow.specs.Marks.{Mark, IsFair, marked, answer, State, unreached, good, bad, join, state_of, after, Ways, ways, at, either, in_turn, end_state, round_of, head_of, flow, flow_node, Each, EachIn}
+use Rattle.pin_flow.specs.Marks.{Mark, IsFair, marked, answer, answer_from, State, unreached, good, bad, join, state_of, after, Ways, ways, at, either, in_turn, end_state, round_of, head_of, flow, flow_node, Each, EachIn}
+use Rattle.pin_flow.proofs.EachAt.{EachAt, EachAtIn}
 use Rattle.pin_flow.proofs.Order.{rank, rank_join, Below, join_mono, in_turn_mono, at_mono, end_mono, head_mono, flow_mono, node_mono, flow_idle, head_closed, head_covers}
 
 -- less of a state keeps it
 abbrev pub IsDown : (Act → State → Type 0) → Type 0
 IsDown Q = (a : Act) (t u : State) → rank t ≤ rank u → Q a u → Q a t
 
+-- at each position
+abbrev pub IsDownAt : (Act → State → Position → Type 0) → Type 0
+IsDownAt E = (a : Act) (k : Position) (t u : State) → rank t ≤ rank u → E a u k → E a t k
+
 pub after_same : (t : State) → after (λ v. v) t ≡ t
 after_same unreached = refl
 after_same good = refl
 after_same bad = refl
 
-module _ (Q : Act → State → Type 0) (m : Mark) (fair : IsFair m) (down : IsDown Q) where
+module _ (E : Act → State → Position → Type 0) (m : Mark) (fair : IsFair m) (down : IsDownAt E) where
   mutual
-    pub each_down : (ns : Nodes) (t u : State) → rank t ≤ rank u → Each Q m ns u → Each Q m ns t
-    each_down no_nodes t u h e = tt
-    each_down (more_nodes n rest) t u h e = (in_down n t u h e.0, each_down rest _ _ ((node_mono m fair n t u h).on) e.1)
+    at_down : (ns : Nodes) (k : Position) (t u : State) → rank t ≤ rank u → EachAt E m ns k u → EachAt E m ns k t
+    at_down no_nodes k t u h e = tt
+    at_down (more_nodes n rest) k t u h e = (in_down n rest k t u h e.0, at_down rest k _ _ ((node_mono m fair n t u h).on) e.1)
 
-    in_down : (n : Node) (t u : State) → rank t ≤ rank u → EachIn Q m n u → EachIn Q m n t
-    in_down (plain p a) t u h e = down a t u h e
-    in_down (if_ p x one other) t u h e = (each_down one t u h e.0, each_down other t u h e.1)
-    in_down (loop p body latch) t u h e =
+    in_down : (n : Node) (rest : Nodes) (k : Position) (t u : State) → rank t ≤ rank u → EachAtIn E m n rest k u → EachAtIn E m n rest k t
+    in_down (plain p a) rest k t u h e = down a _ t u h e
+    in_down (if_ p x one other) rest k t u h e = (at_down one _ t u h e.0, at_down other _ t u h e.1)
+    in_down (loop p body latch) rest k t u h e =
         let mf = flow_mono m fair body in
         let g = head_mono _ _ mf (flow_mono m fair latch) t u h in
-        (each_down body _ _ g e.0, each_down latch _ _ (end_mono _ _ (mf _ _ g)) e.1)
-    in_down (break_ p) t u h e = tt
-    in_down (next_ p) t u h e = tt
-    in_down (ret p x) t u h e = tt
+        (at_down body _ _ _ g e.0, at_down latch _ _ _ (end_mono _ _ (mf _ _ g)) e.1)
+    in_down (break_ p) rest k t u h e = tt
+    in_down (next_ p) rest k t u h e = tt
+    in_down (ret p x) rest k t u h e = tt
 
   -- a loop whose rounds start with h at most
-  record Rounds (body latch : Nodes) (h : State) : Type 0 where
-    in_body : Each Q m body h
-    in_turn : Each Q m latch (end_state (flow m body h))
+  record Rounds (body latch : Nodes) (k : Position) (h : State) : Type 0 where
+    in_body : EachAt E m body (in_body body latch k) h
+    in_turn : EachAt E m latch (in_latch body latch k) (end_state (flow m body h))
     closed : rank (round_of (flow m body) (flow m latch) h).on ≤ rank h
 
   abbrev rounds : Nodes → Nodes → State → Ways
@@ -44,16 +49,16 @@ module _ (Q : Act → State → Type 0) (m : Mark) (fair : IsFair m) (down : IsD
   -- all is well where control goes on, breaks and goes to the next round with these
   abbrev Fine : Position → Ways → Type 0
   Fine done o = Unit {0}
-  Fine (then_ ns k) o = Each Q m ns o.on × Fine k (in_turn o (flow m ns o.on))
+  Fine (then_ ns k) o = EachAt E m ns k o.on × Fine k (in_turn o (flow m ns o.on))
   Fine (in_body body latch k) o =
-      (h : State) × Rounds body latch h × (rank (end_state o) ≤ rank (end_state (flow m body h))) × Fine k (at (join o.broken (rounds body latch h).broken))
+      (h : State) × Rounds body latch k h × (rank (end_state o) ≤ rank (end_state (flow m body h))) × Fine k (at (join o.broken (rounds body latch h).broken))
   Fine (in_latch body latch k) o =
-      (h : State) × Rounds body latch h × (rank (end_state o) ≤ rank h) × Fine k (at (join o.broken (rounds body latch h).broken))
+      (h : State) × Rounds body latch k h × (rank (end_state o) ≤ rank h) × Fine k (at (join o.broken (rounds body latch h).broken))
 
   fine_down : (k : Position) (o o' : Ways) → Below o o' → Fine k o' → Fine k o
   fine_down done o o' b f = tt
   fine_down (then_ ns k) o o' b f =
-      (each_down ns _ _ b.on f.0, fine_down k _ _ (in_turn_mono _ _ _ _ b (flow_mono m fair ns _ _ b.on)) f.1)
+      (at_down ns k _ _ b.on f.0, fine_down k _ _ (in_turn_mono _ _ _ _ b (flow_mono m fair ns _ _ b.on)) f.1)
   fine_down (in_body body latch k) o o' b f =
       let e = end_mono _ _ b in
       (f.0, f.1, omega (arith, e, f.2), fine_down k _ _ (at_mono _ _ (join_mono _ _ _ _ b.broken (omega arith))) f.3)
@@ -100,17 +105,17 @@ module _ (Q : Act → State → Type 0) (m : Mark) (fair : IsFair m) (down : IsD
       )
 
   -- a row whose ways are no more than these
-  fine_row : (ns : Nodes) (k : Position) (t : State) (o : Ways) → Each Q m ns t → Below (flow m ns t) o → Fine k o → Fine (then_ ns k) (at t)
+  fine_row : (ns : Nodes) (k : Position) (t : State) (o : Ways) → EachAt E m ns k t → Below (flow m ns t) o → Fine k o → Fine (then_ ns k) (at t)
   fine_row ns k t o e b f = (e, fine_down k _ _ b f)
 
-  fine_loop : (body latch : Nodes) (k : Position) (h t : State) → Rounds body latch h → rank t ≤ rank h → Fine k (at (rounds body latch h).broken) → Fine (then_ body (in_body body latch k)) (at t)
+  fine_loop : (body latch : Nodes) (k : Position) (h t : State) → Rounds body latch k h → rank t ≤ rank h → Fine k (at (rounds body latch h).broken) → Fine (then_ body (in_body body latch k)) (at t)
   unfolding round_of
   fine_loop body latch k h t r le f =
       let b = flow_mono m fair body t h le in
       let o = flow m body t in
       let o' = flow m body h in
       let o2 = flow m latch (end_state o') in (
-        each_down body t h le r.in_body,
+        at_down body _ t h le r.in_body,
         (
           h,
           r,
@@ -128,7 +133,7 @@ module _ (Q : Act → State → Type 0) (m : Mark) (fair : IsFair m) (down : IsD
       let b = flow_mono m fair latch t (end_state o') le in
       let o = flow m latch t in
       let o2 = flow m latch (end_state o') in (
-        each_down latch t _ le f.1.in_turn,
+        at_down latch _ t _ le f.1.in_turn,
         (
           h,
           f.1,
@@ -164,7 +169,7 @@ module _ (Q : Act → State → Type 0) (m : Mark) (fair : IsFair m) (down : IsD
       let b = flow m body in
       let u = flow m latch in
       let h = head_of b u t in
-      let r : Rounds body latch h = record { in_body = f.0.0.0; in_turn = f.0.0.1; closed = head_closed b u (flow_idle m body) (flow_idle m latch) t } in
+      let r : Rounds body latch (then_ rest k) h = record { in_body = f.0.0.0; in_turn = f.0.0.1; closed = head_closed b u (flow_idle m body) (flow_idle m latch) t } in
       subst (λ (u : State). Fine (then_ body (in_body body latch (then_ rest k))) (at u)) (sym (after_same t))
       (fine_loop body latch (then_ rest k) h t r (head_covers b u t) (fine_rest (loop p body latch) rest k (at t) f))
   fine_leads (break_ p) rest k c t f = subst (λ (u : State). Fine (out_of k) (at u)) (sym (after_same t)) (fine_out (then_ rest k) (ways unreached t unreached) (fine_rest (break_ p) rest k (at t) f))
@@ -185,15 +190,15 @@ module _ (Q : Act → State → Type 0) (m : Mark) (fair : IsFair m) (down : IsD
   of_state true f = refl
   of_state false f = refl
 
-  fine_path : (all : Nodes) → Each Q m all bad → (w : List Position) (k : Position) → Path structured (then_ all done) w k → Fine k (at (state_of (answer structured m w)))
-  fine_path all e _ _ entry = (e, tt)
-  fine_path all e _ _ (on w k c stays before) =
-      subst (λ (u : State). Fine (next k c) (at u)) (of_state (answer structured m w) (marked m (here k))) (fine_next k c (state_of (answer structured m w)) (fine_path all e w k before))
+  fine_path : (v : Bool) (all : Nodes) → EachAt E m all done (state_of v) → (w : List Position) (k : Position) → Path structured (then_ all done) w k → Fine k (at (state_of (answer_from structured m v w)))
+  fine_path v all e _ _ entry = (e, tt)
+  fine_path v all e _ _ (on w k c stays before) =
+      subst (λ (u : State). Fine (next k c) (at u)) (of_state (answer_from structured m v w) (marked m (here k))) (fine_next k c (state_of (answer_from structured m v w)) (fine_path v all e w k before))
 
-  at_act : (k : Position) (t : State) → Fine k (at t) → (p : ℕ) (a : Act) → here k ≡ does p a → Q a t
+  at_act : (k : Position) (t : State) → Fine k (at t) → (p : ℕ) (a : Act) → here k ≡ does p a → E a t k
   at_act done t f p' a e = absurd cc
   at_act (then_ no_nodes k) t f p' a e = absurd cc
-  at_act (then_ (more_nodes (plain p b) rest) k) t f p' a e = let same : b ≡ a = cc in subst (λ (x : Act). Q x t) same f.0.0
+  at_act (then_ (more_nodes (plain p b) rest) k) t f p' a e = let same : b ≡ a = cc in subst (λ (x : Act). E x t (then_ (more_nodes (plain p b) rest) k)) same f.0.0
   at_act (then_ (more_nodes (if_ p x one other) rest) k) t f p' a e = absurd cc
   at_act (then_ (more_nodes (loop p body latch) rest) k) t f p' a e = absurd cc
   at_act (then_ (more_nodes (break_ p) rest) k) t f p' a e = absurd cc
@@ -202,6 +207,25 @@ module _ (Q : Act → State → Type 0) (m : Mark) (fair : IsFair m) (down : IsD
   at_act (in_body body latch k) t f p' a e = absurd cc
   at_act (in_latch body latch k) t f p' a e = absurd cc
 
+  -- what holds of each act with its state at its position, holds on each path; v: the answer before the code
+  pub each_holds_at : (v : Bool) (all : Nodes) → EachAt E m all done (state_of v) → (w : List Position) (k : Position) → Path structured (then_ all done) w k → (p : ℕ) (a : Act) → here k ≡ does p a → E a (state_of (answer_from structured m v w)) k
+  each_holds_at v all e w k path p a h = at_act k (state_of (answer_from structured m v w)) (fine_path v all e w k path) p a h
+
+-- what holds wherever it stands
+mutual
+  pub at_each : (Q : Act → State → Type 0) (m : Mark) (ns : Nodes) (k : Position) (t : State) → Each Q m ns t → EachAt (λ a u j. Q a u) m ns k t
+  at_each Q m no_nodes k t e = tt
+  at_each Q m (more_nodes n rest) k t e = (at_each_in Q m n rest k t e.0, at_each Q m rest k _ e.1)
+
+  at_each_in : (Q : Act → State → Type 0) (m : Mark) (n : Node) (rest : Nodes) (k : Position) (t : State) → EachIn Q m n t → EachAtIn (λ a u j. Q a u) m n rest k t
+  at_each_in Q m (plain p a) rest k t e = e
+  at_each_in Q m (if_ p x one other) rest k t e = (at_each Q m one _ t e.0, at_each Q m other _ t e.1)
+  at_each_in Q m (loop p body latch) rest k t e = (at_each Q m body _ _ e.0, at_each Q m latch _ _ e.1)
+  at_each_in Q m (break_ p) rest k t e = tt
+  at_each_in Q m (next_ p) rest k t e = tt
+  at_each_in Q m (ret p x) rest k t e = tt
+
+module _ (Q : Act → State → Type 0) (m : Mark) (fair : IsFair m) (down : IsDown Q) where
   -- what holds of each act with its state, holds on each path
   pub each_holds : (all : Nodes) → Each Q m all bad → (w : List Position) (k : Position) → Path structured (then_ all done) w k → (p : ℕ) (a : Act) → here k ≡ does p a → Q a (state_of (answer structured m w))
-  each_holds all e w k path p a h = at_act k (state_of (answer structured m w)) (fine_path all e w k path) p a h
+  each_holds all e w k path p a h = each_holds_at (λ b t j. Q b t) m fair (λ b j t u. down b t u) false all (at_each Q m all done bad e) w k path p a h

@@ -19,10 +19,14 @@ marked m passes v = v
 marked m round v = v
 marked m (returns temp) v = v
 
--- the answer of a path, by the positions passed, the last one first
+-- the answer of a path, by the positions passed, the last one first; v: the answer before the code
+abbrev pub answer_from : {P : Type 0} → Flow P → Mark → (v : Bool) → List P → Bool
+answer_from C m v [] = v
+answer_from C m v (k ∷ w) = marked m (C.here k) (answer_from C m v w)
+
+-- from a no
 abbrev pub answer : {P : Type 0} → Flow P → Mark → List P → Bool
-answer C m [] = false
-answer C m (k ∷ w) = marked m (C.here k) (answer C m w)
+answer C m w = answer_from C m false w
 
 -- ---- all paths to a point: none comes there, each says yes, or some says no
 pub data State : Type 0 where

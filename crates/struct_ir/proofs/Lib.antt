@@ -10,3 +10,6 @@ pub mod Mirrors
 pub mod Pins
 pub mod Views
 pub mod ErasedRows
+pub mod Lawful
+pub mod Follows
+pub mod Level

@@ -5,7 +5,7 @@ use Rattle.struct_ir.specs.Machine.{Machine, Point, Ahead, goes, stops, breaks, 
 use Rattle.struct_ir.specs.Mirrors.{SameAt, both_on, first_on, second_on, IsSame, IsIdle, Both, Match, both, first, second, IsMirror, EndAlike, MirrorsRuns}
 use Rattle.struct_ir.proofs.Runs.{unfolds, smaller}
 
-module _ {P Q L F : Type 0} (C : Flow P) (D : Flow Q) (M : Machine L F) (R : P → Q → Type 0) (k : P) (j : Q) (b : Both C D R k j) where
+module _ {P Q L F : Type 0} (C : Flow P) (D : Flow Q) (M : Machine L F) (R : P → Q → Type 0) (k : P) (j : Q) (r : R k j) (b : Both C D R k j) where
   -- what is ahead of the two
   abbrev Alike : Ahead P L F → Ahead Q L F → Type 0
   Alike (goes p) (goes q) = (q.own ≡ p.own) × R p.at q.at
@@ -16,12 +16,12 @@ module _ {P Q L F : Type 0} (C : Flow P) (D : Flow Q) (M : Machine L F) (R : P �
   abbrev Nexts : Type 0
   Nexts = (c : Bool) → R (C.next k c) (D.next j c)
 
-  acted_alike : Nexts → (s : Bool) (r : Result L F) → Alike (stopped_or s (acted (C.next k true) r)) (stopped_or s (acted (D.next j true) r))
-  acted_alike on true r = tt
+  acted_alike : Nexts → (s : Bool) (x : Result L F) → Alike (stopped_or s (acted (C.next k true) x)) (stopped_or s (acted (D.next j true) x))
+  acted_alike on true x = tt
   acted_alike on false (Ok l) = (refl, on true)
   acted_alike on false (Err f) = refl
 
-  tested_alike : Nexts → (l : L) (r : Result Bool F) → Alike (tested C (record { at = k; own = l }) r) (tested D (record { at = j; own = l }) r)
+  tested_alike : Nexts → (l : L) (x : Result Bool F) → Alike (tested C (record { at = k; own = l }) x) (tested D (record { at = j; own = l }) x)
   tested_alike on l (Ok c) = (refl, on c)
   tested_alike on l (Err f) = refl
 
@@ -39,7 +39,7 @@ module _ {P Q L F : Type 0} (C : Flow P) (D : Flow Q) (M : Machine L F) (R : P �
       → ((p : Point P L) (q : Point Q L) → x ≡ goes p → y ≡ goes q → q.own ≡ p.own → R p.at q.at → EndAlike C D R (go p) (go' q))
       → EndAlike C D R (further go (record { at = k; own = l }) x) (further go' (record { at = j; own = l }) y)
   further_alike go go' l (goes p) (goes q) a h = h p q refl refl a.0 a.1
-  further_alike go go' l stops stops a h = (refl, b)
+  further_alike go go' l stops stops a h = (refl, r, b)
   further_alike go go' l (breaks f) (breaks g) a h = a
   further_alike go go' l (goes p) stops a h = absurd a
   further_alike go go' l (goes p) (breaks g) a h = absurd a
@@ -49,30 +49,30 @@ module _ {P Q L F : Type 0} (C : Flow P) (D : Flow Q) (M : Machine L F) (R : P �
   further_alike go go' l (breaks f) stops a h = absurd a
 
 module _ {P Q L F : Type 0} (C : Flow P) (D : Flow Q) (c_shrinks : Shrinks C) (d_shrinks : Shrinks D) (M : Machine L F) (R : P → Q → Type 0) (mirror : IsMirror C D M R) where
-  within : (n : ℕ) (k : P) (j : Q) (l : L) → C.size k + D.size j < n → Match C D M R k j → EndAlike C D R (run C M (record { at = k; own = l })) (run D M (record { at = j; own = l }))
-  within zero k j l le m = absurd (omega arith)
-  within (suc n) k j l le (both b) =
+  within : (n : ℕ) (k : P) (j : Q) (l : L) → C.size k + D.size j < n → R k j → Match C D M R k j → EndAlike C D R (run C M (record { at = k; own = l })) (run D M (record { at = j; own = l }))
+  within zero k j l le r m = absurd (omega arith)
+  within (suc n) k j l le r (both b) =
       let p : Point P L = record { at = k; own = l } in
       let q : Point Q L = record { at = j; own = l } in
       let on : EndAlike C D R (further (run C M) p (ahead C M p)) (further (run D M) q (ahead D M q))
-      = further_alike C D M R k j b (run C M) (run D M) l (ahead C M p) (ahead D M q) (ahead_alike C D M R k j b l) (λ p' q' e e' same r.
+      = further_alike C D M R k j r b (run C M) (run D M) l (ahead C M p) (ahead D M q) (ahead_alike C D M R k j r b l) (λ p' q' e e' same r'.
       let h = smaller C c_shrinks M p p' e in
       let h' = smaller D d_shrinks M q q' e' in
-      subst (λ (x : L). EndAlike C D R (run C M p') (run D M (record { at = q'.at; own = x }))) (sym same) (within n p'.at q'.at p'.own (omega arith) (mirror p'.at q'.at r))) in
+      subst (λ (x : L). EndAlike C D R (run C M p') (run D M (record { at = q'.at; own = x }))) (sym same) (within n p'.at q'.at p'.own (omega arith) r' (mirror p'.at q'.at r'))) in
       subst (λ x. EndAlike C D R x (run D M q)) (sym (unfolds C c_shrinks M p)) (subst (λ x. EndAlike C D R (further (run C M) p (ahead C M p)) x) (sym (unfolds D d_shrinks M q)) on)
-  within (suc n) k j l le (first idle r) =
+  within (suc n) k j l le r (first idle r') =
       let p : Point P L = record { at = k; own = l } in
       let h = smaller C c_shrinks M p (record { at = C.next k true; own = l }) (idle l) in
       subst (λ x. EndAlike C D R x (run D M (record { at = j; own = l }))) (sym (unfolds C c_shrinks M p ∙ ap (further (run C M) p) (idle l)))
-      (within n (C.next k true) j l (omega arith) (mirror _ _ r))
-  within (suc n) k j l le (second idle r) =
+      (within n (C.next k true) j l (omega arith) r' (mirror _ _ r'))
+  within (suc n) k j l le r (second idle r') =
       let q : Point Q L = record { at = j; own = l } in
       let h = smaller D d_shrinks M q (record { at = D.next j true; own = l }) (idle l) in
       subst (λ x. EndAlike C D R (run C M (record { at = k; own = l })) x) (sym (unfolds D d_shrinks M q ∙ ap (further (run D M) q) (idle l)))
-      (within n k (D.next j true) l (omega arith) (mirror _ _ r))
+      (within n k (D.next j true) l (omega arith) r' (mirror _ _ r'))
 
   pub mirrors_runs : MirrorsRuns C D M R
-  mirrors_runs k j l r = within (suc (C.size k + D.size j)) k j l (omega arith) (mirror k j r)
+  mirrors_runs k j l r = within (suc (C.size k + D.size j)) k j l (omega arith) r (mirror k j r)
 
 -- ---- the same control
 

@@ -16,3 +16,11 @@ pub mod Whole
 pub mod WholeViews
 pub mod Valid
 pub mod ValidViews
+pub mod Instrs
+pub mod Linear
+pub mod Lawful
+pub mod InstrViews
+pub mod LinearViews
+pub mod Marks
+pub mod Alike
+pub mod Placed

@@ -32,9 +32,9 @@ pub data SameAt {P Q : Type 0} (C : Flow P) (D : Flow Q) (R : P → Q → Type 0
 abbrev pub IsSame : {P Q : Type 0} → Flow P → Flow Q → (P → Q → Type 0) → Type 0
 IsSame {P} {Q} C D R = (k : P) (j : Q) → R k j → SameAt C D R k j
 
--- the two runs end before the same, with the same, or in the same fault
+-- the two runs end at positions that correspond, before the same, with the same, or in the same fault
 abbrev pub EndAlike : {P Q L F : Type 0} → Flow P → Flow Q → (P → Q → Type 0) → Result (Point P L) F → Result (Point Q L) F → Type 0
-EndAlike C D R (Ok p) (Ok q) = (q.own ≡ p.own) × Both C D R p.at q.at
+EndAlike C D R (Ok p) (Ok q) = (q.own ≡ p.own) × R p.at q.at × Both C D R p.at q.at
 EndAlike C D R (Ok p) (Err f) = ⊥
 EndAlike C D R (Err f) (Ok q) = ⊥
 EndAlike C D R (Err f) (Err g) = g ≡ f

@@ -33,7 +33,12 @@ fn copy_pieces(alloc: Global, pieces: &[Piece]) -> Result<Vec<Piece>, NoMemory>
     Ok(out)
 }
 
-fn copy_action(alloc: Global, a: &Action) -> Result<Action, NoMemory>
+/// The same action.
+///
+/// # Errors
+///
+/// Only want of memory.
+pub fn copy_action(alloc: Global, a: &Action) -> Result<Action, NoMemory>
     ensures { IfOk result (λ x. action_view x ≡ action_view a.now) }
 {
     match a {
@@ -109,7 +114,12 @@ fn copy_literal(alloc: Global, l: &Literal) -> Result<Literal, NoMemory>
     })
 }
 
-pub(crate) fn copy_literals(alloc: Global, literals: &[Literal]) -> Result<Vec<Literal>, NoMemory>
+/// The same literals.
+///
+/// # Errors
+///
+/// Only want of memory.
+pub fn copy_literals(alloc: Global, literals: &[Literal]) -> Result<Vec<Literal>, NoMemory>
     ensures { IfOk result (λ v. map literal_view v.items ≡ map literal_view literals.now) }
 {
     let mut out = Vec::new(alloc);

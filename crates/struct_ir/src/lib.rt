@@ -5,11 +5,17 @@
 
 pub mod code;
 mod copies;
+pub mod copying;
 pub mod erasing;
 pub mod ir;
 pub mod laws;
+pub mod linear;
+mod linear_facts;
+pub mod linear_laws;
+pub mod linear_listing;
 pub mod listing;
-mod scope;
+pub mod placed;
+pub mod scope;
 mod step;
 #[cfg(test)]
 mod tests;
@@ -20,5 +26,8 @@ pub use code::{
 };
 pub use erasing::erase;
 pub use ir::Ir;
+pub use linear::{CodeFunc, Instr, InstrKind};
+pub use linear_listing::code_text;
 pub use listing::text;
+pub use placed::is_placed;
 pub use valid::is_valid;

@@ -85,7 +85,7 @@ fn write_plain(out: &mut String, kind: &NodeKind) -> Result<(), NoMemory> {
     Ok(out.push_str("\n")?)
 }
 
-fn write_list(out: &mut String, letter: &str, list: &[u32]) -> Result<(), NoMemory> {
+pub(crate) fn write_list(out: &mut String, letter: &str, list: &[u32]) -> Result<(), NoMemory> {
     for x in list {
         write!(out, " {letter}{x}")?;
     }
@@ -99,7 +99,7 @@ fn write_to(out: &mut String, to: Option<u32>) -> Result<(), NoMemory> {
     Ok(())
 }
 
-fn write_calc(out: &mut String, calc: &Calc) -> Result<(), NoMemory> {
+pub(crate) fn write_calc(out: &mut String, calc: &Calc) -> Result<(), NoMemory> {
     match calc {
         Calc::Num(n) => write!(out, "{}", n.value)?,
         Calc::Null => write!(out, "null")?,
@@ -151,7 +151,7 @@ fn symbol(op: Op) -> &'static str {
     }
 }
 
-fn write_call(out: &mut String, c: &CallNode) -> Result<(), NoMemory> {
+pub(crate) fn write_call(out: &mut String, c: &CallNode) -> Result<(), NoMemory> {
     write_to(out, c.to)?;
     write!(out, "call {}", c.function)?;
     write_list(out, "t", &c.temps)?;
@@ -165,7 +165,7 @@ fn write_held(out: &mut String, slots: &[u32]) -> Result<(), NoMemory> {
     write_list(out, "s", slots)
 }
 
-fn write_step(out: &mut String, s: &StepNode) -> Result<(), NoMemory> {
+pub(crate) fn write_step(out: &mut String, s: &StepNode) -> Result<(), NoMemory> {
     write_to(out, s.to)?;
     write_action(out, &s.action)?;
     for a in &s.places {

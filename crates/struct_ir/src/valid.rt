@@ -42,7 +42,8 @@ fn is_func(ir: &Ir, f: &IrFunc) -> bool
     are_nodes(&x, outside, &f.nodes)
 }
 
-fn scope<'a>(ir: &'a Ir, f: &IrFunc) -> Scope<'a>
+/// What the nodes of a function of the program may name.
+pub fn scope<'a>(ir: &'a Ir, f: &IrFunc) -> Scope<'a>
     ensures { scope_view result ≡ scope_of (ir_view ir.now) (func_view f.now) }
 {
     Scope {
@@ -67,8 +68,9 @@ fn are_nodes(x: &Scope, around: Around, nodes: &[Node]) -> bool
     true
 }
 
+/// Whether a node is valid there, with all nodes inside it.
 #[cycle(valid)]
-fn is_node(x: &Scope, around: Around, n: &Node) -> bool
+pub fn is_node(x: &Scope, around: Around, n: &Node) -> bool
     ensures { result ≡ is_node (scope_view x.now) (around_view around) (node_view n.now) }
 {
     match &n.kind {
@@ -99,8 +101,8 @@ fn all_of(a: bool, b: bool, c: bool) -> bool
     a && (b && c)
 }
 
-// In a loop's body, where both a Break and a Next may stand.
-fn in_body() -> Around
+/// In a loop's body, where both a Break and a Next may stand.
+pub fn in_body() -> Around
     ensures { around_view result ≡ body_of }
 {
     Around {
@@ -109,8 +111,8 @@ fn in_body() -> Around
     }
 }
 
-// In a loop's step, where a Break may stand.
-fn in_latch() -> Around
+/// In a loop's step, where a Break may stand.
+pub fn in_latch() -> Around
     ensures { around_view result ≡ latch_of }
 {
     Around {

@@ -13,6 +13,7 @@ abbrev pub overwritten_if : Blocks → (name offset : ℕ) → List Cell → Opt
 overwritten_if blocks name offset new None = blocks
 overwritten_if blocks name offset new (Some b) = with_cells_at blocks new (record { name = name; block = b; offset = offset })
 
+-- the store with new cells in the block of this name, from an offset on; where that block is dead, nothing changes
 abbrev pub overwritten : Blocks → (name offset : ℕ) → List Cell → Blocks
 overwritten blocks name offset new = overwritten_if blocks name offset new (live blocks name)
 

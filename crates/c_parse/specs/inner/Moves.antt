@@ -5,7 +5,7 @@ use Rattle.c_lex.specs.declared.refusal.Kind.{Kind}
 use Rattle.c_parse.specs.declared.parser.Parser.{Parser}
 use Rattle.c_parse.specs.declared.parser.Stop.{Stop}
 use Rattle.c_parse.specs.declared.parser.Stop.TheVariants as stops
-use Rattle.c_parse.specs.inner.Readers.{stop, Reading, got, Reads, Sort, sort}
+use Rattle.c_grammar.specs.inner.Readers.{stop, Reading, got, Reads, Sort, sort}
 
 -- what the code gives up with is the fault of reading, unless memory ran out
 abbrev pub Fails : {A : Type 0} → Stop → Reading A → Type 0
@@ -24,6 +24,7 @@ abbrev pub Takes : {A : Type 0} → Parser → Parser → Result A Stop → Type
 Takes old new (Ok a) = length new.rest.now < length old.rest.now
 Takes old new (Err e) = Unit {0}
 
+-- what the next token begins, with all tokens left; a token that begins nothing may not stand there
 abbrev pub peek_turn : {S : Type 0} → ℕ → Token → List Token → Option S → Reading S
 peek_turn c t ts None = Err (stop None (length (t ∷ ts)))
 peek_turn c t ts (Some s) = got s c (t ∷ ts)

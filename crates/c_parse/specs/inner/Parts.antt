@@ -17,11 +17,11 @@ use Rattle.c_parse.specs.declared.starts.FirstStart.{FirstStart}
 use Rattle.c_parse.specs.declared.starts.FirstStart.TheVariants as firsts
 use Rattle.c_parse.specs.declared.starts.StmtStart.{StmtStart}
 use Rattle.c_parse.specs.declared.starts.StmtStart.TheVariants as stmts
-use Rattle.c_parse.specs.Grammar.{stars}
-use Rattle.c_parse.specs.inner.Readers.{Reading, stop, got, Reads, ◌>>=◌, nothing, ◌▸◌, ◌&◌, made, full, maybe, links, chain, pushed, row}
-use Rattle.c_parse.specs.inner.Tokens.{tok, mark_is, word_is, mark_place, word_place, name_of, step_of, storage_of, is_mark, is_word, begins_type, begins_expr, begins_simple, is_storage}
-use Rattle.c_parse.specs.inner.Reading.{level_at, commas, either, specs, dims, init_by, bare_pointers, declared, bare_declared, value, initialised, declaration, simple_of, simple_tail, is_step, simply, first, stmt_at, begins_item, is_name, param_dim, param, params, body, named_rest, begins_external, external, file}
-use Rattle.c_parse.specs.inner.Reading as reading
+use Rattle.c_grammar.specs.Grammar.{stars}
+use Rattle.c_grammar.specs.inner.Readers.{Reading, stop, got, Reads, ◌>>=◌, nothing, ◌▸◌, ◌&◌, made, full, maybe, links, chain, pushed, row}
+use Rattle.c_grammar.specs.inner.Tokens.{tok, mark_is, word_is, mark_place, word_place, name_of, step_of, storage_of, is_mark, is_word, begins_type, begins_expr, begins_simple, is_storage}
+use Rattle.c_grammar.specs.inner.Reading.{level_at, commas, either, specs, dims, init_by, bare_pointers, declared, bare_declared, value, initialised, declaration, simple_of, simple_tail, is_step, simply, first, stmt_at, begins_item, is_name, param_dim, param, params, body, named_rest, begins_external, external, file}
+use Rattle.c_grammar.specs.inner.Reading as reading
 
 -- ---- declarations
 
@@ -80,6 +80,7 @@ for_step room = made (λ (s, _). s) (maybe begins_simple (simply room) & tok roo
 abbrev pub for_head : ℕ → Reads (ForFirst × (Option Expr × Option Simple))
 for_head room = made (λ (_, (f, (e, s))). (f, (e, s))) (tok room (mark_is marks.OpenParen) & first room & for_condition room & for_step room)
 
+-- what the code read between the brackets of a for, as the trees of the grammar
 abbrev pub head_view : ForHead → ForFirst × (Option Expr × Option Simple)
 head_view h = (for_first_view h.first, (option_map expr_view h.condition, option_map simple_view h.step))
 
@@ -87,16 +88,20 @@ head_view h = (for_first_view h.first, (option_map expr_view h.condition, option
 abbrev pub empty_at : ℕ → Reads Stmt
 empty_at room = made empty (tok room (mark_place marks.Semicolon))
 
+-- "break" ";" (C11 6.8.6.3)
 abbrev pub break_at : ℕ → Reads Stmt
 break_at room = made (λ (place, _). break place) (tok room (word_place words.Break) & tok room (mark_is marks.Semicolon))
 
+-- "continue" ";" (C11 6.8.6.2)
 abbrev pub continue_at : ℕ → Reads Stmt
 continue_at room = made (λ (place, _). continue place) (tok room (word_place words.Continue) & tok room (mark_is marks.Semicolon))
 
+-- "return" [ expr ] ";" (C11 6.8.6.4)
 abbrev pub return_at : ℕ → Reads Stmt
 return_at room = made (λ (place, (e, _)). return place e)
     (tok room (word_place words.Return) & maybe begins_expr (full (level_at false room).expr) & tok room (mark_is marks.Semicolon))
 
+-- simple ";" (C11 6.8.3)
 abbrev pub simple_stmt_at : ℕ → Reads Stmt
 simple_stmt_at room = made (λ (s, _). simple s) (simply room & tok room (mark_is marks.Semicolon))
 
@@ -118,16 +123,19 @@ block_view b = (b.place, map stmt_view b.items.items)
 
 -- ---- what the code chooses by
 
+-- what stands behind the expression of a simple statement: the code's answer, as the readers have it
 abbrev pub tail_view : TailStart → reading.TailStart
 tail_view tails.Step = reading.Stepped
 tail_view tails.Assign = reading.Assigned
 tail_view tails.Nothing = reading.Nothing
 
+-- what stands first between the brackets of a for: the code's answer, as the readers have it
 abbrev pub first_view : FirstStart → reading.FirstStart
 first_view firsts.Declaration = reading.Declared
 first_view firsts.Nothing = reading.Empty
 first_view firsts.Simple = reading.Simply
 
+-- which statement is next: the code's answer, as the readers have it
 abbrev pub stmt_start_view : StmtStart → reading.StmtStart
 stmt_start_view stmts.Block = reading.ABlock
 stmt_start_view stmts.Empty = reading.AnEmpty
@@ -191,5 +199,6 @@ abbrev pub nothing_behind : File → ℕ → List Token → Reading File
 nothing_behind f c [] = got f c []
 nothing_behind f c (t ∷ ts) = Err (stop None (length (t ∷ ts)))
 
+-- one file, which takes all of the tokens
 abbrev pub whole_file : Reads File
 whole_file c ts = file c ts >>= λ x. nothing_behind x.tree x.count x.rest

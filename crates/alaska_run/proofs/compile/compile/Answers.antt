@@ -1,7 +1,7 @@
 use Rattle.std.proofs.Common.{List, subst, inr}
 use Rattle.c_lex.specs.declared.token.Token.{Token}
 use Rattle.c_tree.specs.SyntaxViews.{view}
-use Rattle.c_parse.specs.Language.{Parses}
+use Rattle.c_grammar.specs.Language.{Parses}
 use Rattle.second_language.specs.Language.{RefusesTokens}
 use Rattle.alaska_run.specs.Language.{Refuses}
 use Rattle.alaska_run.proofs.Reasons.{ended_once, refused_for}

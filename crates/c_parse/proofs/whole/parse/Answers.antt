@@ -1,6 +1,6 @@
 use Rattle.std.proofs.Common.{Some, None, sym, subst, arith}
 use Rattle.c_lex.specs.declared.token.Token.{Token}
-use Rattle.c_parse.specs.Language.{refusal_of, RefusesTokens}
+use Rattle.c_grammar.specs.Language.{refusal_of, RefusesTokens}
 use Rattle.c_parse.proofs.CodeFiles.{whole_parses, whole_within, whole_refuses}
 use Rattle.c_parse.proofs.whole.parse.Goals as goal
 

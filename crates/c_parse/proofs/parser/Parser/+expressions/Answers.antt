@@ -2,9 +2,9 @@ use Rattle.std.proofs.Common.{◌≡◌, ◌+◌, ◌-◌, ◌<◌, [], ◌∷�
 use Rattle.std.proofs.lemmas.List.{map-append, length-append, length-map}
 use Rattle.c_lex.specs.declared.token.Mark.TheVariants.{Comma}
 use Rattle.c_tree.specs.SyntaxViews.{expr_view}
-use Rattle.c_parse.specs.inner.Readers.{made, links, pushed}
-use Rattle.c_parse.specs.inner.Tokens.{tok, counted_tok, mark_is, binary_of, begins_type}
-use Rattle.c_parse.specs.inner.Reading.{level_at, group_rest, post, posted, begins_post, casted, ladder, declared}
+use Rattle.c_grammar.specs.inner.Readers.{made, links, pushed}
+use Rattle.c_grammar.specs.inner.Tokens.{tok, counted_tok, mark_is, binary_of, begins_type}
+use Rattle.c_grammar.specs.inner.Reading.{level_at, group_rest, post, posted, begins_post, casted, ladder, declared}
 use Rattle.c_parse.proofs.CodeLoops.{goes, goes_joined, behind_reads, pair_reads, begins_behind}
 use Rattle.c_parse.proofs.CodeReads.{specs_begins, exprs_begin, ladder_begins, declared_reads, group_reads, then_moves, type_name_reads, member_reads}
 use Rattle.c_parse.proofs.parser.Parser.+expressions.Goals as goal

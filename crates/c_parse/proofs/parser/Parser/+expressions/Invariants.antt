@@ -2,9 +2,9 @@ use Rattle.std.proofs.Common.{◌≡◌, ◌+◌, ◌-◌, ◌*◌, ◌<◌, ◌
 use Rattle.c_lex.specs.declared.token.Mark.TheVariants.{Comma, OpenBracket}
 use Rattle.c_tree.specs.Syntax.{binary}
 use Rattle.c_tree.specs.SyntaxViews.{expr_view, spec_view, member_view, declarator_view}
-use Rattle.c_parse.specs.inner.Readers.{◌&◌, made, links, nothing, row_from, pushed}
-use Rattle.c_parse.specs.inner.Tokens.{tok, counted_tok, mark_is, is_mark, binary_of, is_binary, begins_type, begins_expr}
-use Rattle.c_parse.specs.inner.Reading.{level_at, commas, either, post, posted, begins_post, casted, ladder, spec, specs, declared, bare_declared, dim, dims}
+use Rattle.c_grammar.specs.inner.Readers.{◌&◌, made, links, nothing, row_from, pushed}
+use Rattle.c_grammar.specs.inner.Tokens.{tok, counted_tok, mark_is, is_mark, binary_of, is_binary, begins_type, begins_expr}
+use Rattle.c_grammar.specs.inner.Reading.{level_at, commas, either, post, posted, begins_post, casted, ladder, spec, specs, declared, bare_declared, dim, dims}
 use Rattle.c_parse.proofs.CodeLoops.{Going}
 use Rattle.c_parse.proofs.parser.Parser.+expressions.Given as goal
 

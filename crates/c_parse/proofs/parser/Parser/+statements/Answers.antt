@@ -1,8 +1,8 @@
 use Rattle.std.proofs.Common.{[], arith}
 use Rattle.std.proofs.lemmas.List.{map-append}
 use Rattle.c_tree.specs.SyntaxViews.{stmt_view}
-use Rattle.c_parse.specs.inner.Readers.{pushed}
-use Rattle.c_parse.specs.inner.Reading.{begins_item, ASimple, stmt_at}
+use Rattle.c_grammar.specs.inner.Readers.{pushed}
+use Rattle.c_grammar.specs.inner.Reading.{begins_item, ASimple, stmt_at}
 use Rattle.c_parse.specs.inner.Parts.{item_at, simple_stmt_at}
 use Rattle.c_parse.proofs.CodeLoops.{begins, goes}
 use Rattle.c_parse.proofs.CodeStatements.{moves_as, stmt_begins}

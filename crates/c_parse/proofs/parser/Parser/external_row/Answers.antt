@@ -1,7 +1,7 @@
 use Rattle.std.proofs.Common.{[], arith}
 use Rattle.std.proofs.lemmas.List.{map-append}
-use Rattle.c_parse.specs.inner.Readers.{pushed}
-use Rattle.c_parse.specs.inner.Reading.{begins_external, external}
+use Rattle.c_grammar.specs.inner.Readers.{pushed}
+use Rattle.c_grammar.specs.inner.Reading.{begins_external, external}
 use Rattle.c_parse.proofs.CodeLoops.{begins, goes}
 use Rattle.c_parse.proofs.parser.Parser.external_row.Goals as goal
 

@@ -1,7 +1,7 @@
 use Rattle.std.proofs.Common.{◌≤◌, map, length}
 use Rattle.c_tree.specs.SyntaxViews.{external_view}
-use Rattle.c_parse.specs.inner.Readers.{pushed}
-use Rattle.c_parse.specs.inner.Reading.{begins_external, external}
+use Rattle.c_grammar.specs.inner.Readers.{pushed}
+use Rattle.c_grammar.specs.inner.Reading.{begins_external, external}
 use Rattle.c_parse.specs.inner.Parts.{external_row}
 use Rattle.c_parse.proofs.CodeLoops.{Going}
 use Rattle.c_parse.proofs.parser.Parser.external_row.Given as goal

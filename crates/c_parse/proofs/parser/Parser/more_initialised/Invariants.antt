@@ -1,8 +1,8 @@
 use Rattle.std.proofs.Common.{◌-◌, ◌≤◌, [], ◌∷◌, map, length}
 use Rattle.c_lex.specs.declared.token.Mark.TheVariants.{Comma}
 use Rattle.c_tree.specs.SyntaxViews.{init_declarator_view}
-use Rattle.c_parse.specs.inner.Readers.{pushed}
-use Rattle.c_parse.specs.inner.Tokens.{is_mark}
+use Rattle.c_grammar.specs.inner.Readers.{pushed}
+use Rattle.c_grammar.specs.inner.Tokens.{is_mark}
 use Rattle.c_parse.specs.inner.Parts.{next_initialised, more_initialised}
 use Rattle.c_parse.proofs.CodeLoops.{Going}
 use Rattle.c_parse.proofs.parser.Parser.more_initialised.Given as goal

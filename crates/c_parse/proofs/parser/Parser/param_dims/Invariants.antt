@@ -1,9 +1,9 @@
 use Rattle.std.proofs.Common.{◌+◌, ◌≤◌, map, length}
 use Rattle.c_lex.specs.declared.token.Mark.TheVariants.{OpenBracket}
 use Rattle.c_tree.specs.SyntaxViews.{param_dim_view}
-use Rattle.c_parse.specs.inner.Readers.{pushed}
-use Rattle.c_parse.specs.inner.Tokens.{is_mark}
-use Rattle.c_parse.specs.inner.Reading.{param_dim}
+use Rattle.c_grammar.specs.inner.Readers.{pushed}
+use Rattle.c_grammar.specs.inner.Tokens.{is_mark}
+use Rattle.c_grammar.specs.inner.Reading.{param_dim}
 use Rattle.c_parse.specs.inner.Parts.{param_dims}
 use Rattle.c_parse.proofs.CodeLoops.{Going}
 use Rattle.c_parse.proofs.parser.Parser.param_dims.Given as goal

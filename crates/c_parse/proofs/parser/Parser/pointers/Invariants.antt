@@ -1,8 +1,8 @@
 use Rattle.std.proofs.Common.{◌≡◌, ◌≤◌, length}
-use Rattle.c_parse.specs.Grammar.{stars}
-use Rattle.c_parse.specs.inner.Readers.{choice, pushed}
-use Rattle.c_parse.specs.inner.Tokens.{is_pointer}
-use Rattle.c_parse.specs.inner.Reading.{pointer_start, pointer_by, pointers}
+use Rattle.c_grammar.specs.Grammar.{stars}
+use Rattle.c_grammar.specs.inner.Readers.{choice, pushed}
+use Rattle.c_grammar.specs.inner.Tokens.{is_pointer}
+use Rattle.c_grammar.specs.inner.Reading.{pointer_start, pointer_by, pointers}
 use Rattle.c_parse.proofs.CodeLoops.{Going}
 use Rattle.c_parse.proofs.parser.Parser.pointers.Given as goal
 

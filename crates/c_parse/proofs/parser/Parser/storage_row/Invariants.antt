@@ -1,6 +1,6 @@
 use Rattle.std.proofs.Common.{◌≤◌, length}
-use Rattle.c_parse.specs.inner.Readers.{pushed}
-use Rattle.c_parse.specs.inner.Tokens.{tok, storage_of, is_storage}
+use Rattle.c_grammar.specs.inner.Readers.{pushed}
+use Rattle.c_grammar.specs.inner.Tokens.{tok, storage_of, is_storage}
 use Rattle.c_parse.specs.inner.Parts.{storage_row}
 use Rattle.c_parse.proofs.CodeLoops.{Going}
 use Rattle.c_parse.proofs.parser.Parser.storage_row.Given as goal

@@ -1,6 +1,6 @@
 use Rattle.std.proofs.Common.{◌<◌, length}
-use Rattle.c_parse.specs.inner.Readers.{row_from, pushed}
-use Rattle.c_parse.specs.inner.Tokens.{tok, text_of, is_text}
+use Rattle.c_grammar.specs.inner.Readers.{row_from, pushed}
+use Rattle.c_grammar.specs.inner.Tokens.{tok, text_of, is_text}
 use Rattle.c_parse.proofs.CodeLoops.{Going}
 use Rattle.c_parse.proofs.parser.Parser.texts.Given as goal
 

@@ -1,0 +1,5 @@
+use Rattle.c_grammar.proofs.FileReading.{each_is_judged}
+use Rattle.c_grammar.proofs.laws.each_is_judged.Goals as goal
+
+pub returns : goal.returns
+returns c = each_is_judged

@@ -1,0 +1,5 @@
+use Rattle.c_grammar.proofs.FileReading.{exclusive}
+use Rattle.c_grammar.proofs.laws.exclusive.Goals as goal
+
+pub returns : goal.returns
+returns c = exclusive

@@ -1,5 +1,0 @@
-use Rattle.c_types.proofs.Least.{typed_or_refused}
-use Rattle.c_types.proofs.laws.exclusive.Goals as goal
-
-pub returns : goal.returns
-returns c = typed_or_refused

@@ -1,0 +1,220 @@
+-- Names, and calls of functions and of the library, give well formed nodes.
+use Rattle.std.proofs.Common.{◌≡◌, ℕ, ◌⊎◌, inl, Bool, true, false, refl, sym, subst, arith, List, [], ◌∷◌, ◌++◌, Option, Some, None, slice_get, nat_lt, nat_eq, if◌then◌else◌, IsTrue}
+use Rattle.std.specs.List.{AllByRecursion}
+use Rattle.std.specs.Map.{lookup}
+use Rattle.std.specs.Str.{bytes_eq}
+use Rattle.std.proofs.lemmas.Bool.Decides.{nat_tests}
+use Rattle.std.proofs.lemmas.Int.{ints}
+use Rattle.ak_words.specs.declared.int_type.IntType.{IntType}
+use Rattle.ak_words.specs.Width.{is_width}
+use Rattle.ak_words.specs.IntType.{int, unsigned_long, promoted_type}
+use Rattle.c_tree.specs.declared.syntax.Name.{Name}
+use Rattle.c_tree.specs.Typed.{Ty, void, integer, mutex, pointer, array, structure, Piece, bytes, signed, unsigned, hexadecimal, character, text, Expr, at, num, global, local, call, lib, Exprs, no_exprs, more_exprs, type_of, node_of, place_of}
+use Rattle.c_tree.specs.Typed as trees
+use Rattle.c_tree.specs.TypedForm.{IsScalar, IsResult, IsPointer, IsPromoted, Fits, IsNth, Signature, HasBits, ArePrinted, CanStart, AreArguments, IsLibCall, IsTyped, AreTyped}
+use Rattle.c_tree.specs.TypedForm as form
+use Rattle.c_typing.specs.Faults.{Judged, typed, faulty, both}
+use Rattle.c_typing.specs.Scope.{Library, printf, malloc, free, memcpy, thrd_create, thrd_join, mtx_init, mtx_lock, mtx_unlock, mtx_destroy, constant, library}
+use Rattle.c_typing.specs.Scope.{Meaning, global_name, local_name, function_name, library_name, Context, bytes_of, meaning_of, or_else, found, of_library}
+use Rattle.c_typing.specs.Rules.{converted, fitted, or_mismatch}
+use Rattle.c_typing.specs.Formats.{number_for, text_for, before_argument, arguments_for}
+use Rattle.c_typing.specs.Judgement.{named, exprs_of, before_fitted, fitted_all, called, called_lib, printed, started_by, started, plain_kind, init_by, called_library}
+use Rattle.c_typing.proofs.Extending.{Ready}
+use Rattle.c_typing.proofs.Carried.{OnTyped, OnSome, on_bind, on_both, on_mismatch, Plain, World, Good, Sound, Over, IsNamed, InLibrary}
+use Rattle.c_typing.proofs.RuledWell.{Fine, Made, plain_ready, same_number, Fitting, fits, converted_has, Has}
+
+-- ---- names
+
+find_all : {X : Type 0} (P : X → Type 0) (q : List ℕ → Bool) (es : List (List ℕ × X)) → AllByRecursion (λ (x : List ℕ × X). P x.1) es → OnSome P (lookup q es)
+find_all P q [] h = tt
+find_all {X} P q (x ∷ es) h = by (q x.0) (find_all P q es h.1)
+  where
+    by : (b : Bool) → OnSome P (lookup q es) → OnSome P (if b then Some x.1 else lookup q es)
+    by true r = h.0
+    by false r = r
+
+library_fine : AllByRecursion (λ (x : List ℕ × Library). InLibrary x.1) library
+unfolding library
+library_fine = (tt, (tt, (tt, (tt, (tt, (tt, (tt, (tt, (tt, (tt, ((omega (arith, ints), omega (arith, ints)), ((omega (arith, ints), omega (arith, ints)), ((omega (arith, ints), omega (arith, ints)), tt)))))))))))))
+
+-- what a name means is as it must be
+pub meaning_named : (w : World) (c : Context) → Good w c → (n : Name) → OnSome (IsNamed w c) (meaning_of c n)
+meaning_named w c g n = by (lookup (bytes_eq q) c.inner) (found c.outer q) (lookup (bytes_eq q) library) (λ m h. g.names q m h) (find_all InLibrary (bytes_eq q) library library_fine)
+  where
+    q : List ℕ
+    q = bytes_of c.text n
+
+    by : (i f : Option Meaning) (l : Option Library) → ((m : Meaning) → or_else i f ≡ Some m → IsNamed w c m) → OnSome InLibrary l → OnSome (IsNamed w c) (or_else i (or_else f (of_library l)))
+    by (Some m) f l h k = h m refl
+    by None (Some m) l h k = h m refl
+    by None None (Some which) h k = k
+    by None None None h k = tt
+
+pub named_made : (w : World) (d : Context) (e : form.Context) → Over w d e → (place : ℕ) (o : Option Meaning) → OnSome (IsNamed w d) o → OnTyped (Fine e) (named place o)
+named_made w d e o place None h = tt
+named_made w d e o place (Some (global_name n t)) h = (o.globals n t h, o.sound.globals n t (o.globals n t h))
+named_made w d e o place (Some (local_name n t)) h =
+    let k = o.locals n t h in (k, subst (Ready e.structs) k.2 (o.sound.locals n k.0 k.1))
+named_made w d e o place (Some (function_name n params result)) h = tt
+named_made w d e o place (Some (library_name (constant value))) h = ((refl, h), tt)
+named_made w d e o place (Some (library_name printf)) h = tt
+named_made w d e o place (Some (library_name malloc)) h = tt
+named_made w d e o place (Some (library_name free)) h = tt
+named_made w d e o place (Some (library_name memcpy)) h = tt
+named_made w d e o place (Some (library_name thrd_create)) h = tt
+named_made w d e o place (Some (library_name thrd_join)) h = tt
+named_made w d e o place (Some (library_name mtx_init)) h = tt
+named_made w d e o place (Some (library_name mtx_lock)) h = tt
+named_made w d e o place (Some (library_name mtx_unlock)) h = tt
+named_made w d e o place (Some (library_name mtx_destroy)) h = tt
+
+-- ---- arguments
+
+abbrev pub AreFine : form.Context → List Expr → Type 0
+AreFine e es = AllByRecursion (λ x. IsTyped e x) es
+
+abbrev Passed : form.Context → List Ty → List Expr → Type 0
+Passed e ts es = AreTyped e (exprs_of es) × AreArguments ts (exprs_of es)
+
+before_passed : (e : form.Context) (t : Ty) (ts : List Ty) (o : Option Expr) (os : Option (List Expr)) → OnSome (Fitting e t) o → OnSome (Passed e ts) os → OnSome (Passed e (t ∷ ts)) (before_fitted o os)
+before_passed e t ts (Some x) (Some es) h k = ((h.0, k.0), (h.1, k.1))
+before_passed e t ts None os h k = tt
+before_passed e t ts (Some x) None h k = tt
+
+passed : (e : form.Context) (ts : List Ty) (es : List Expr) → AreFine e es → OnSome (Passed e ts) (fitted_all ts es)
+passed e [] [] h = (tt, tt)
+passed e (t ∷ ts) (x ∷ es) h = before_passed e t ts (fitted t x) (fitted_all ts es) (fits e t x h.0) (passed e ts es h.1)
+passed e [] (x ∷ es) h = tt
+passed e (t ∷ ts) [] h = tt
+
+pub called_made : (e : form.Context) (place n : ℕ) (params : List Ty) (result : Ty) (args : List Expr) → Sound e → slice_get e.funcs n ≡ Some (record { params = params; result = result }) → AreFine e args
+    → OnTyped (Made e) (called place n params result args)
+called_made e place n params result args s f h =
+    on_bind (Passed e params) (Made e) (or_mismatch place (fitted_all params args)) (λ es. typed (at place result (call n (exprs_of es))))
+    (on_mismatch (Passed e params) place (fitted_all params args) (passed e params args h))
+    (λ es p. (((p.0, (record { params = params; result = result }, f, (p.1, refl))), plain_ready e.structs result (s.results n (record { params = params; result = result }) f).1), tt))
+
+lib_made : (e : form.Context) (place : ℕ) (which : trees.Lib) (params : List Ty) (result : Ty) (args : List Expr)
+    → ((es : Exprs) → AreArguments params es → IsLibCall e which es result) → Plain result → AreFine e args → OnTyped (Made e) (called_lib place which params result args)
+lib_made e place which params result args f r h =
+    on_bind (Passed e params) (Made e) (or_mismatch place (fitted_all params args)) (λ es. typed (at place result (lib which (exprs_of es))))
+    (on_mismatch (Passed e params) place (fitted_all params args) (passed e params args h))
+    (λ es p. (((p.0, f (exprs_of es) p.1), plain_ready e.structs result r), tt))
+
+init_made : (e : form.Context) (place : ℕ) (args : List Expr) → AreFine e args → OnTyped (Made e) (init_by place args)
+init_made e place [] h = tt
+init_made e place (m ∷ []) h = tt
+init_made e place (m ∷ kind ∷ []) h =
+    on_bind (λ (p : Expr × Unit {0}). Made e p.0 × Unit {0}) (Made e) (both (called_lib place trees.mutex_init (pointer mutex ∷ []) (integer int) (m ∷ [])) (plain_kind kind)) (λ p. typed p.0)
+    (on_both (Made e) (λ u. Unit {0}) (called_lib place trees.mutex_init (pointer mutex ∷ []) (integer int) (m ∷ [])) (plain_kind kind)
+    (lib_made e place trees.mutex_init (pointer mutex ∷ []) (integer int) (m ∷ []) (λ es p. (p, refl)) tt (h.0, tt)) (any (plain_kind kind)))
+    (λ p k. k.0)
+  where
+    any : (j : Judged (Unit {0})) → OnTyped (λ u. Unit {0}) j
+    any (typed u) = tt
+    any (faulty r rs) = tt
+init_made e place (m ∷ kind ∷ other ∷ rest) h = tt
+
+pub library_made : (e : form.Context) (place : ℕ) (which : Library) (args : List Expr) → AreFine e args → OnTyped (Made e) (called_library place which args)
+library_made e place malloc args h = lib_made e place trees.malloc (integer unsigned_long ∷ []) (pointer void) args (λ es p. (p, refl)) tt h
+library_made e place free args h = lib_made e place trees.free (pointer void ∷ []) void args (λ es p. (p, refl)) tt h
+library_made e place memcpy args h = lib_made e place trees.copy (pointer void ∷ pointer void ∷ integer unsigned_long ∷ []) (pointer void) args (λ es p. (p, refl)) tt h
+library_made e place thrd_join args h = lib_made e place trees.join (integer unsigned_long ∷ pointer (integer int) ∷ []) (integer int) args (λ es p. (p, refl)) tt h
+library_made e place mtx_init args h = init_made e place args h
+library_made e place mtx_lock args h = lib_made e place trees.mutex_lock (pointer mutex ∷ []) (integer int) args (λ es p. (p, refl)) tt h
+library_made e place mtx_unlock args h = lib_made e place trees.mutex_unlock (pointer mutex ∷ []) (integer int) args (λ es p. (p, refl)) tt h
+library_made e place mtx_destroy args h = lib_made e place trees.mutex_destroy (pointer mutex ∷ []) void args (λ es p. (p, refl)) tt h
+library_made e place printf args h = tt
+library_made e place thrd_create args h = tt
+library_made e place (constant value) args h = tt
+
+-- ---- printf
+
+wide : (n : ℕ) → IsTrue (is_width n) → nat_lt n 32 ≡ false → (n ≡ 32) ⊎ (n ≡ 64)
+wide n h k = grind (arith, nat_tests)
+
+promoted_width : (t : IntType) → ((promoted_type t).bits ≡ 32) ⊎ ((promoted_type t).bits ≡ 64)
+promoted_width t = by (nat_lt t.bits 32) refl
+  where
+    by : (b : Bool) → nat_lt t.bits 32 ≡ b → ((if b then int else t).bits ≡ 32) ⊎ ((if b then int else t).bits ≡ 64)
+    by true h = inl refl
+    by false h = wide t.bits t.known_width h
+
+abbrev Numbered : form.Context → ℕ → Expr → Type 0
+Numbered e bits x = IsTyped e x × HasBits bits (type_of x)
+
+number_fits : (e : form.Context) (bits : ℕ) (s : Ty) (x : Expr) → Has e x s → OnSome (Numbered e bits) (number_for bits s x)
+number_fits e bits (integer t) x h = by (nat_eq (promoted_type t).bits bits) refl
+  where
+    p : IntType
+    p = promoted_type t
+
+    by : (b : Bool) → nat_eq (promoted_type t).bits bits ≡ b → OnSome (Numbered e bits) (if b then Some (converted t (promoted_type t) x) else None)
+    by true k =
+        let c = converted_has e t (promoted_type t) x h in
+        let is : (promoted_type t).bits ≡ bits = same_number (promoted_type t).bits bits k in
+        (c.0, subst (HasBits bits) (sym c.1) (is, subst (λ n. (n ≡ 32) ⊎ (n ≡ 64)) is (promoted_width t)))
+    by false k = tt
+number_fits e bits void x h = tt
+number_fits e bits mutex x h = tt
+number_fits e bits (pointer t) x h = tt
+number_fits e bits (array t n) x h = tt
+number_fits e bits (structure n) x h = tt
+
+abbrev Texted : form.Context → Expr → Type 0
+Texted e x = IsTyped e x × IsPointer (type_of x)
+
+text_fits : (e : form.Context) (s : Ty) (x : Expr) → Has e x s → OnSome (Texted e) (text_for s x)
+text_fits e (pointer (integer t)) x h = by (nat_eq t.bits 8)
+  where
+    by : (b : Bool) → OnSome (Texted e) (if b then Some x else None)
+    by true = (h.0, subst IsPointer (sym h.1) tt)
+    by false = tt
+text_fits e _ x h = tt
+
+abbrev Written : form.Context → List Piece → List Expr → Type 0
+Written e pieces es = AreTyped e (exprs_of es) × ArePrinted pieces (exprs_of es)
+
+before_written : (e : form.Context) (piece : Piece) (pieces : List Piece) (P : Expr → Type 0) (o : Option Expr) (os : Option (List Expr)) → OnSome (λ x. IsTyped e x × P x) o → OnSome (Written e pieces) os
+    → ((x : Expr) (es : Exprs) → P x → ArePrinted pieces es → ArePrinted (piece ∷ pieces) (more_exprs x es)) → OnSome (Written e (piece ∷ pieces)) (before_argument o os)
+before_written e piece pieces P (Some x) (Some es) h k f = ((h.0, k.0), f x (exprs_of es) h.1 k.1)
+before_written e piece pieces P None os h k f = tt
+before_written e piece pieces P (Some x) None h k f = tt
+
+arguments_fit : (e : form.Context) (pieces : List Piece) (es : List Expr) → AreFine e es → OnSome (Written e pieces) (arguments_for pieces es)
+arguments_fit e [] [] h = (tt, tt)
+arguments_fit e [] (x ∷ es) h = tt
+arguments_fit e (bytes all ∷ pieces) es h = arguments_fit e pieces es h
+arguments_fit e (signed bits ∷ pieces) [] h = tt
+arguments_fit e (unsigned bits ∷ pieces) [] h = tt
+arguments_fit e (hexadecimal bits ∷ pieces) [] h = tt
+arguments_fit e (character ∷ pieces) [] h = tt
+arguments_fit e (text ∷ pieces) [] h = tt
+arguments_fit e (signed bits ∷ pieces) (x ∷ es) h = before_written e (signed bits) pieces (λ y. HasBits bits (type_of y)) (number_for bits (type_of x) x) (arguments_for pieces es) (number_fits e bits (type_of x) x (h.0, refl)) (arguments_fit e pieces es h.1) (λ y ys p q. (p, q))
+arguments_fit e (unsigned bits ∷ pieces) (x ∷ es) h = before_written e (unsigned bits) pieces (λ y. HasBits bits (type_of y)) (number_for bits (type_of x) x) (arguments_for pieces es) (number_fits e bits (type_of x) x (h.0, refl)) (arguments_fit e pieces es h.1) (λ y ys p q. (p, q))
+arguments_fit e (hexadecimal bits ∷ pieces) (x ∷ es) h = before_written e (hexadecimal bits) pieces (λ y. HasBits bits (type_of y)) (number_for bits (type_of x) x) (arguments_for pieces es) (number_fits e bits (type_of x) x (h.0, refl)) (arguments_fit e pieces es h.1) (λ y ys p q. (p, q))
+arguments_fit e (character ∷ pieces) (x ∷ es) h = before_written e character pieces (λ y. HasBits 32 (type_of y)) (number_for 32 (type_of x) x) (arguments_for pieces es) (number_fits e 32 (type_of x) x (h.0, refl)) (arguments_fit e pieces es h.1) (λ y ys p q. (p, q))
+arguments_fit e (text ∷ pieces) (x ∷ es) h = before_written e text pieces (λ y. IsPointer (type_of y)) (text_for (type_of x) x) (arguments_for pieces es) (text_fits e (type_of x) x (h.0, refl)) (arguments_fit e pieces es h.1) (λ y ys p q. (p, q))
+
+pub printed_made : (e : form.Context) (place : ℕ) (p : List Piece × List Expr) → AreFine e p.1 → OnTyped (Made e) (printed place p)
+printed_made e place p h =
+    on_bind (Written e p.0) (Made e) (or_mismatch place (arguments_for p.0 p.1)) (λ es. typed (at place (integer int) (lib (trees.print p.0) (exprs_of es))))
+    (on_mismatch (Written e p.0) place (arguments_for p.0 p.1) (arguments_fit e p.0 p.1 h)) (λ es k. (((k.0, (k.1, refl)), tt), tt))
+
+-- ---- thrd_create
+
+abbrev pub Starting : form.Context → Option ℕ → Type 0
+Starting e o = OnSome (λ f. IsNth e.funcs f CanStart) o
+
+append_fine : (e : form.Context) (a b : List Expr) → AreFine e a → AreFine e b → AreFine e (a ++ b)
+append_fine e [] b h k = k
+append_fine e (x ∷ a) b h k = (h.0, append_fine e a b h.1 k)
+
+started_well : (e : form.Context) (place : ℕ) (f : Option ℕ) (es : Option (List Expr)) → Starting e f → OnSome (Passed e (pointer (integer unsigned_long) ∷ pointer void ∷ [])) es → OnTyped (Made e) (started_by place f es)
+started_well e place (Some f) (Some es) h k = (((k.0, (h, k.1, refl)), tt), tt)
+started_well e place None es h k = tt
+started_well e place (Some f) None h k = tt
+
+pub started_made : (e : form.Context) (place : ℕ) (before : List Expr) (f : Option ℕ) (behind : List Expr) → AreFine e before → Starting e f → AreFine e behind → OnTyped (Made e) (started place before f behind)
+started_made e place before f behind h s k =
+    started_well e place f (fitted_all (pointer (integer unsigned_long) ∷ pointer void ∷ []) (before ++ behind)) s (passed e (pointer (integer unsigned_long) ∷ pointer void ∷ []) (before ++ behind) (append_fine e before behind h k))

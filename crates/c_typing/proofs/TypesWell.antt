@@ -1,0 +1,192 @@
+-- Types that specifiers and declarators name.
+use Rattle.std.proofs.Common.{◌≡◌, ℕ, zero, suc, ◌*◌, ◌<◌, ◌≤◌, Bool, true, false, ◌&&◌, not, refl, ap, subst, arith, ℤ, pos, negsuc, List, [], ◌∷◌, length, Option, Some, None, slice_get, nat_lt, nat_eq, if◌then◌else◌, int_le, unsigned_abs}
+use Rattle.std.specs.List.{AllByRecursion, list_any}
+use Rattle.std.specs.Map.{lookup}
+use Rattle.std.specs.Str.{bytes_eq}
+use Rattle.std.proofs.lemmas.Bool.Decides.{nat_tests}
+use Rattle.std.proofs.lemmas.Int.{ints}
+use Rattle.ak_words.specs.declared.number.Num.{Num}
+use Rattle.ak_words.specs.IntType.{unsigned_long, IsInRange}
+use Rattle.ak_words.proofs.Types.{width_bounds}
+use Rattle.c_lex.specs.declared.refusal.Kind.TheVariants.{DoubleName, TooMany, BadSize}
+use Rattle.c_tree.specs.declared.syntax.Name.{Name}
+use Rattle.c_tree.specs.declared.syntax.TypeWord.{TypeWord}
+use Rattle.c_tree.specs.declared.syntax.Pointer.{Pointer}
+use Rattle.c_tree.specs.declared.syntax.Pointer.TheVariants as stars
+use Rattle.c_tree.specs.Syntax as source
+use Rattle.c_tree.specs.Typed.{Ty, void, integer, mutex, pointer, array, structure, Layout, Expr, at, num}
+use Rattle.c_tree.specs.TypedLayout.{greatest_object, layout_size, size_in, IsSized}
+use Rattle.c_tree.specs.TypedForm as form
+use Rattle.c_typing.specs.Faults.{typed, refuse, unless, both, ◌>>=◌}
+use Rattle.c_typing.specs.Types.{same_type, same_types, has_size, is_small, same_words, type_words, behind_pointers, arrays_of}
+use Rattle.c_typing.specs.Scope.{Context, bytes_of}
+use Rattle.c_typing.specs.Constants.{constant_value}
+use Rattle.c_typing.specs.Rules.{size_number}
+use Rattle.c_typing.specs.Judgement.{Part, type_by, specified, tags_of, words_of, Declarator, dimension_by, dimension, object_type, object_declared, fresh_member, member_objects, node_place}
+use Rattle.c_typing.proofs.Extending.{Extends, Ready, AreSmall, sized_of, has_size_kept, struct_kept, below, at_most}
+use Rattle.c_typing.proofs.Carried.{OnTyped, OnSome, on_bind, on_both, on_unless, on_mismatch, on_weaker, Plain, World, Good, IsObject, Over}
+use Rattle.c_typing.proofs.RuledWell.{Made, plain_ready, same_number, same_int_is, both_hold}
+use Rattle.c_typing.proofs.Shown.{object_kept}
+use Rattle.c_typing.proofs.Braced.{AreObjects}
+
+-- ---- one type
+
+pub same_type_is : (s t : Ty) → same_type s t ≡ true → s ≡ t
+same_type_is void void h = refl
+same_type_is (integer s) (integer t) h = ap integer (same_int_is s t h)
+same_type_is mutex mutex h = refl
+same_type_is (pointer s) (pointer t) h = ap pointer (same_type_is s t h)
+same_type_is (array s m) (array t n) h =
+    let p = both_hold (same_type s t) (nat_eq m n) h in
+    let a : s ≡ t = same_type_is s t p.0 in
+    let b : m ≡ n = same_number m n p.1 in
+    cc
+same_type_is (structure m) (structure n) h = ap structure (same_number m n h)
+same_type_is _ _ h = absurd cc
+
+pub same_types_are : (ss ts : List Ty) → same_types ss ts ≡ true → ss ≡ ts
+same_types_are [] [] h = refl
+same_types_are (s ∷ ss) (t ∷ ts) h =
+    let p = both_hold (same_type s t) (same_types ss ts) h in
+    let a : s ≡ t = same_type_is s t p.0 in
+    let b : ss ≡ ts = same_types_are ss ts p.1 in
+    cc
+same_types_are [] (t ∷ ts) h = absurd cc
+same_types_are (s ∷ ss) [] h = absurd cc
+
+-- ---- specifiers
+
+find_any : {K X : Type 0} (P : X → Type 0) (q : K → Bool) (es : List (K × X)) → AllByRecursion (λ (x : K × X). P x.1) es → OnSome P (lookup q es)
+find_any P q [] h = tt
+find_any {K} {X} P q (x ∷ es) h = by (q x.0) (find_any P q es h.1)
+  where
+    by : (b : Bool) → OnSome P (lookup q es) → OnSome P (if b then Some x.1 else lookup q es)
+    by true r = h.0
+    by false r = r
+
+words_plain : AllByRecursion (λ (x : List TypeWord × Ty). Plain x.1) type_words
+unfolding type_words
+words_plain = (tt, (tt, (tt, (tt, (tt, (tt, (tt, (tt, (tt, (tt, (tt, (tt, (tt, (tt, (tt, (tt, (tt, (tt, (tt, (tt, (tt, (tt, (tt, (tt, (tt, (tt, (tt, (tt, (tt, (tt, tt))))))))))))))))))))))))))))))
+
+pub specified_plain : (place : ℕ) (parts : List Part) → OnTyped Plain (specified place parts)
+specified_plain place parts = on_mismatch Plain place (type_by (tags_of parts) (words_of parts)) (by (tags_of parts) (words_of parts))
+  where
+    by : (ns : List ℕ) (ws : List TypeWord) → OnSome Plain (type_by ns ws)
+    by [] ws = find_any Plain (same_words ws) type_words words_plain
+    by (n ∷ []) [] = tt
+    by (n ∷ []) (w ∷ ws) = tt
+    by (n ∷ m ∷ ns) ws = tt
+
+pub behind_plain : (t : Ty) (ps : List Pointer) → Plain t → Plain (behind_pointers t ps)
+behind_plain t [] h = h
+behind_plain t (stars.Star ∷ ps) h = behind_plain (pointer t) ps h
+behind_plain t (stars.Const ∷ ps) h = behind_plain t ps h
+behind_plain t (stars.Restrict ∷ ps) h = behind_plain t ps h
+
+-- ---- sizes
+
+abbrev pub ArePositive : List ℕ → Type 0
+ArePositive ns = AllByRecursion (λ n. 0 < n) ns
+
+positive : (v : ℤ) → int_le (pos 1) v ≡ true → 0 < unsigned_abs v
+positive (pos n) h = grind (arith, nat_tests)
+positive (negsuc n) h = absurd cc
+
+dimension_positive : (place : ℕ) (o : Option Num) → OnTyped (λ n. 0 < n) (dimension_by place o)
+dimension_positive place None = tt
+dimension_positive place (Some n) = by (int_le (pos 1) n.value && int_le n.value (pos greatest_object)) refl
+  where
+    by : (b : Bool) → (int_le (pos 1) n.value && int_le n.value (pos greatest_object)) ≡ b → OnTyped (λ k. 0 < k) (if b then typed (unsigned_abs n.value) else refuse place BadSize)
+    by true h = positive n.value (both_hold (int_le (pos 1) n.value) (int_le n.value (pos greatest_object)) h).0
+    by false h = tt
+
+pub dimension_well : (s : source.Expr) (d : Context) (x : Expr) → OnTyped (λ n. 0 < n) (dimension s d x)
+dimension_well s d x = dimension_positive (node_place s) (constant_value d s x)
+
+-- ---- objects
+
+pub arrays_sized : (s : List Layout) → AreSmall s → (t : Ty) → Ready s t → (ns : List ℕ) → ArePositive ns → has_size s (arrays_of t ns) ≡ true → size_in s (arrays_of t ns) ≤ greatest_object → IsObject s (arrays_of t ns)
+arrays_sized s f t r [] p h k = (sized_of s f t r h, r)
+arrays_sized s f t r (n ∷ ns) p h k =
+    let one = p.0 in
+    let le : size_in s (arrays_of t ns) ≤ greatest_object = smaller (size_in s (arrays_of t ns)) n one k in
+    let i = arrays_sized s f t r ns p.1 h le in
+    ((i.0, one, k), ((i.0, one, k), i.1))
+  where
+    smaller : (a b : ℕ) → 0 < b → a * b ≤ greatest_object → a ≤ greatest_object
+    smaller a zero h k = absurd (omega arith)
+    smaller a (suc b) h k = omega (arith, k)
+
+small_structs : (w : World) (c : Context) → Good w c → AreSmall c.structs
+small_structs w c g n l h = (g.layouts n l h).small
+
+pub object_type_well : (w : World) (c : Context) → Good w c → (place : ℕ) (t : Ty) (ns : List ℕ) → Ready c.structs t → ArePositive ns → OnTyped (IsObject c.structs) (object_type c place (arrays_of t ns))
+object_type_well w c g place t ns r p =
+    on_bind (λ u. (has_size c.structs (arrays_of t ns) && is_small c.structs (arrays_of t ns)) ≡ true) (IsObject c.structs) (unless place BadSize (has_size c.structs (arrays_of t ns) && is_small c.structs (arrays_of t ns))) (λ u. typed (arrays_of t ns))
+    (on_unless place BadSize (has_size c.structs (arrays_of t ns) && is_small c.structs (arrays_of t ns)))
+    (λ u h.
+    let k = both_hold (has_size c.structs (arrays_of t ns)) (is_small c.structs (arrays_of t ns)) h in
+    arrays_sized c.structs (small_structs w c g) t r ns p k.0 (at_most (size_in c.structs (arrays_of t ns)) greatest_object k.1))
+
+pub object_well : (w : World) (c : Context) → Good w c → (t : Ty) (d : Declarator) → Plain t → ArePositive d.sizes → OnTyped (IsObject c.structs) (object_declared c t d)
+object_well w c g t d h p =
+    object_type_well w c g d.name.from (behind_pointers t d.pointers) d.sizes (plain_ready c.structs (behind_pointers t d.pointers) (behind_plain t d.pointers h)) p
+
+abbrev pub AreDeclarators : List Declarator → Type 0
+AreDeclarators ds = AllByRecursion (λ (d : Declarator). ArePositive d.sizes) ds
+
+abbrev AreAll : List Layout → ℕ → List (List ℕ × Ty) → Type 0
+AreAll s n all = AreObjects s all × (length all ≡ n)
+
+members_well : (w : World) (c : Context) → Good w c → (t : Ty) → Plain t → (ds : List Declarator) → AreDeclarators ds → OnTyped (AreAll c.structs (length ds)) (member_objects c t ds)
+members_well w c g t h [] p = (tt, refl)
+members_well w c g t h (d ∷ ds) p =
+    on_bind (λ (x : Ty × List (List ℕ × Ty)). IsObject c.structs x.0 × AreAll c.structs (length ds) x.1) (AreAll c.structs (length (d ∷ ds))) (both (object_declared c t d) (member_objects c t ds)) (λ x. typed ((bytes_of c.text d.name, x.0) ∷ x.1))
+    (on_both (IsObject c.structs) (AreAll c.structs (length ds)) (object_declared c t d) (member_objects c t ds) (object_well w c g t d h p.0) (members_well w c g t h ds p.1))
+    (λ x k. ((k.0, k.1.0), ap suc k.1.1))
+
+pub objects_kept : (old new : List Layout) → Extends old new → (all : List (List ℕ × Ty)) → AreObjects old all → AreObjects new all
+objects_kept old new f [] h = tt
+objects_kept old new f (m ∷ all) h = (object_kept old new f m.1 h.0, objects_kept old new f all h.1)
+
+pub member_objects_well : (w : World) (d : Context) (e : form.Context) → Good w d → Over w d e → (t : Ty) → Plain t → (ds : List Declarator) → AreDeclarators ds → OnTyped (AreAll e.structs (length ds)) (member_objects d t ds)
+member_objects_well w d e g o t h ds p = on_weaker (AreAll d.structs (length ds)) (AreAll e.structs (length ds)) (member_objects d t ds) (members_well w d g t h ds p) (λ all k. (objects_kept d.structs e.structs o.structs all k.0, k.1))
+
+pub fresh_few : (c : Context) (before : List Name) (n : Name) → OnTyped (λ u. length before < 256) (fresh_member c before n)
+fresh_few c before n = by (list_any (λ m. bytes_eq (bytes_of c.text n) (bytes_of c.text m)) before) (nat_lt (length before) 256) refl
+  where
+    by : (b f : Bool) → nat_lt (length before) 256 ≡ f → OnTyped (λ (u : Unit {0}). length before < 256) (both (unless n.from DoubleName (not b)) (unless n.from (TooMany 4) f) >>= λ u. typed tt)
+    by true true h = tt
+    by true false h = tt
+    by false true h = below (length before) 256 h
+    by false false h = tt
+
+-- ---- sizeof
+
+size_there : (old new : List Layout) → Extends old new → (t : Ty) → has_size old t ≡ true → size_in new t ≡ size_in old t
+size_there old new f void h = absurd cc
+size_there old new f (integer t) h = refl
+size_there old new f mutex h = refl
+size_there old new f (pointer t) h = refl
+size_there old new f (array t n) h = ap (λ k. k * n) (size_there old new f t h)
+size_there old new f (structure n) h = ap layout_size (struct_kept old new n f (below 0 (layout_size (slice_get old n)) h))
+
+size_bound : (s : List Layout) (t : Ty) → IsSized s t → size_in s t ≤ greatest_object
+size_bound s void h = absurd h
+size_bound s (integer t) h = let b = width_bounds t.bits t.known_width in let c = b.1 in omega (arith, c)
+size_bound s mutex h = omega arith
+size_bound s (pointer t) h = omega arith
+size_bound s (array t n) h = h.2
+size_bound s (structure n) h = h.2
+
+size_fits : (n : ℕ) → n ≤ greatest_object → IsInRange unsigned_long (pos n)
+size_fits n h = (omega (arith, ints), omega (arith, ints))
+
+pub size_made : (w : World) (d : Context) (e : form.Context) → Over w d e → (place : ℕ) (t : Ty) → Ready e.structs t → OnTyped (Made e) (size_number d place t)
+size_made w d e o place t r =
+    on_bind (λ u. has_size d.structs t ≡ true) (Made e) (unless place BadSize (has_size d.structs t)) (λ u. typed (at place (integer unsigned_long) (num unsigned_long (pos (size_in d.structs t)))))
+    (on_unless place BadSize (has_size d.structs t))
+    (λ u h.
+    let same : size_in e.structs t ≡ size_in d.structs t = size_there d.structs e.structs o.structs t h in
+    let bound = size_bound e.structs t (sized_of e.structs o.sound.small t r (has_size_kept d.structs e.structs o.structs t h)) in
+    (((refl, size_fits (size_in d.structs t) (subst (λ k. k ≤ greatest_object) same bound)), tt), tt))

@@ -1,0 +1,457 @@
+-- Judging expressions, types and declarators where they stand, from left to right: the typed form, or all the faults (C11 6.5 to 6.7).
+use Rattle.std.specs.Prelude.{ℕ, zero, suc, ◌+◌, nat_le, Bool, ◌&&◌, not, if◌then◌else◌, List, [], ◌∷◌, ◌++◌, length, map, Option, Some, None, pos, unsigned_abs, int_le}
+use Rattle.std.specs.List.{list_any}
+use Rattle.std.specs.Str.{bytes_eq}
+use Rattle.ak_words.specs.declared.number.Num.{Num}
+use Rattle.ak_words.specs.IntType.{char, int, unsigned_long}
+use Rattle.c_lex.specs.declared.refusal.Kind.{Kind}
+use Rattle.c_lex.specs.declared.refusal.Kind.TheVariants.{UnknownName, DoubleName, TypeMismatch, BadSize, OutsideSubset, TooMany}
+use Rattle.c_tree.specs.declared.syntax.Name.{Name}
+use Rattle.c_tree.specs.declared.syntax.Span.{Span}
+use Rattle.c_tree.specs.declared.syntax.TypeWord.{TypeWord}
+use Rattle.c_tree.specs.declared.syntax.Pointer.{Pointer}
+use Rattle.c_tree.specs.declared.syntax.PrefixOp.{PrefixOp}
+use Rattle.c_tree.specs.declared.syntax.PrefixOp.TheVariants as prefixes
+use Rattle.c_tree.specs.declared.syntax.BinaryOp.{BinaryOp}
+use Rattle.c_tree.specs.declared.syntax.BinaryOp.TheVariants as binaries
+use Rattle.c_tree.specs.Syntax as source
+use Rattle.c_tree.specs.Typed.{Ty, void, integer, mutex, pointer, array, structure, Piece, Expr, at, num, null, literal, global, local, and_also, or_else, call, lib, Exprs, no_exprs, more_exprs, type_of, node_of, place_of}
+use Rattle.c_tree.specs.Typed as trees
+use Rattle.c_tree.specs.TypedLayout.{laid_out, greatest_object}
+use Rattle.c_typing.specs.Faults.{Judged, typed, faulty, refuse, unless, both, mapped, ◌>>=◌}
+use Rattle.c_typing.specs.Types.{same_type, same_types, has_size, is_small, says_nothing, named_by, behind_pointers, arrays_of}
+use Rattle.c_typing.specs.Scope.{Library, printf, malloc, free, memcpy, thrd_create, thrd_join, mtx_init, mtx_lock, mtx_unlock, mtx_destroy, constant}
+use Rattle.c_typing.specs.Scope.{Meaning, global_name, local_name, function_name, library_name, Context, bytes_of, meaning_of, within, taken, fits_plain, tag_number, with_tag, is_begun, with_begun, with_struct}
+use Rattle.c_typing.specs.Rules.{value_of, is_zero, fitted, or_mismatch, tested, target, address, selected, pointed, minus_by, plus_by, not_by, complement_by, operated, element, chosen, cast, size_number}
+use Rattle.c_typing.specs.Constants.{constant_value}
+use Rattle.c_typing.specs.Formats.{pieces_of, arguments_for}
+use Rattle.c_typing.specs.Literals.{joined_bytes, place_of_parts}
+
+-- ---- judging in the order of the text
+
+-- a node is judged where it stands, and leaves what the text has shown up to its end
+abbrev pub Judging : Type 0 → Type 0
+Judging A = Context → Judged A × Context
+
+-- what shows nothing new
+abbrev pub lone : {A : Type 0} → Judged A → Judging A
+lone j c = (j, c)
+
+-- two parts, one behind the other
+abbrev pub in_turn : {A B : Type 0} → Judging A → Judging B → Judging (A × B)
+in_turn a b c = let x = a c in let y = b x.1 in (both x.0 y.0, y.1)
+
+-- a node by a rule on its typed parts
+abbrev pub ruled : {A B : Type 0} → Judging A → (Context → A → Judged B) → Judging B
+ruled a rule c = let x = a c in (x.0 >>= rule x.1, x.1)
+
+-- ---- names and literals
+
+-- a name is an object or a constant; a function's name is called only, or begins a thread (6.5.1)
+abbrev pub named_by_library : ℕ → Library → Judged Expr
+named_by_library place (constant value) = typed (at place (integer int) (num int value))
+named_by_library place which = refuse place (OutsideSubset 12)
+
+-- a name where an expression stands, by what it means
+abbrev pub named : ℕ → Option Meaning → Judged Expr
+named place (Some (global_name n t)) = typed (at place t (global n))
+named place (Some (local_name n t)) = typed (at place t (local n))
+named place (Some (function_name n params result)) = refuse place (OutsideSubset 12)
+named place (Some (library_name which)) = named_by_library place which
+named place None = refuse place UnknownName
+
+-- a literal is an array of char (6.4.5 p6), and a block of its own
+abbrev pub with_literal : Context → List ℕ → Context
+with_literal c all = record c { literals = c.literals ++ all ∷ []; plain = c.plain + taken (length all) }
+
+-- a string literal at its place: the next literal of the program, an array of char with an element for each of its bytes
+abbrev pub spelled : ℕ → List ℕ → Judging Expr
+spelled place all c =
+    (mapped (λ u. at place (array (integer char) (length all)) (literal (length c.literals))) (fits_plain c place (length all)), with_literal c all)
+
+-- a name in brackets or not
+abbrev pub name_in : source.Expr → Option Name
+name_in (source.name n) = Some n
+name_in (source.group e) = name_in e
+name_in e = None
+
+-- a string literal in brackets or not
+abbrev pub text_in : source.Expr → Option (List Span)
+text_in (source.text parts) = Some parts
+text_in (source.group e) = text_in e
+text_in e = None
+
+-- the place of a node: that of its operator, name or first token, in brackets or not
+abbrev pub node_place : source.Expr → ℕ
+node_place (source.name n) = n.from
+node_place (source.call callee args) = callee.from
+node_place (source.int place value) = place
+node_place (source.char place value) = place
+node_place (source.text parts) = place_of_parts parts
+node_place (source.null place) = place
+node_place (source.group e) = node_place e
+node_place (source.prefix place op e) = place
+node_place (source.sizeof_type place t) = place
+node_place (source.sizeof_expr place e) = place
+node_place (source.cast place t e) = place
+node_place (source.index place a b) = place
+node_place (source.member place e m) = place
+node_place (source.arrow place e m) = place
+node_place (source.binary place op a b) = place
+node_place (source.conditional place e a b) = place
+
+-- the local whose address `&` takes is in memory (6.5.3.2 p1)
+abbrev pub with_addressed : Context → Option Meaning → Context
+with_addressed c (Some (local_name n t)) = record c { addressed = c.addressed ++ n ∷ [] }
+with_addressed c m = c
+
+-- what a name means, if there is a name
+abbrev pub meaning_in : Context → Option Name → Option Meaning
+meaning_in c None = None
+meaning_in c (Some n) = meaning_of c n
+
+-- ---- operators
+
+-- an operand's value
+abbrev pub valued : Judging Expr → Judging Expr
+valued e = ruled e (λ c x. typed (value_of x))
+
+-- a binary operator on two values (6.5.13, 6.5.14 for && and ||, whose operands are conditions)
+abbrev pub combined : Context → ℕ → BinaryOp → Expr → Expr → Judged Expr
+combined c place (binaries.Value op) a b = operated c place op a b
+combined c place binaries.AndAnd a b = both (tested place a) (tested place b) >>= λ p. typed (at place (integer int) (and_also p.0 p.1))
+combined c place binaries.OrOr a b = both (tested place a) (tested place b) >>= λ p. typed (at place (integer int) (or_else p.0 p.1))
+
+-- a prefix operator on an expression, which may be a name
+abbrev pub addressing : ℕ → Option Name → Judging Expr → Judging Expr
+addressing place n e c = let x = e c in (x.0 >>= address place, with_addressed x.1 (meaning_in x.1 n))
+
+-- a prefix operator on an expression: `&` takes it as an object, and the others take its value (C11 6.5.3.2, 6.5.3.3)
+abbrev pub prefixed : ℕ → PrefixOp → Option Name → Judging Expr → Judging Expr
+prefixed place prefixes.Minus n e = ruled (valued e) (λ c x. minus_by place (type_of x) x)
+prefixed place prefixes.Plus n e = ruled (valued e) (λ c x. plus_by place (type_of x) x)
+prefixed place prefixes.Not n e = ruled (valued e) (λ c x. not_by place (type_of x) x)
+prefixed place prefixes.Complement n e = ruled (valued e) (λ c x. complement_by place (type_of x) x)
+prefixed place prefixes.Deref n e = ruled (valued e) (λ c x. target place x)
+prefixed place prefixes.AddressOf n e = addressing place n e
+
+-- ---- calls (6.5.2.2)
+
+-- expressions of a list, in a row
+abbrev pub exprs_of : List Expr → Exprs
+exprs_of [] = no_exprs
+exprs_of (e ∷ es) = more_exprs e (exprs_of es)
+
+-- an argument before those behind it, if all of them fit their parameters
+abbrev pub before_fitted : Option Expr → Option (List Expr) → Option (List Expr)
+before_fitted (Some e) (Some es) = Some (e ∷ es)
+before_fitted None es = None
+before_fitted (Some e) None = None
+
+-- as many arguments as parameters, each fitted to its own
+abbrev pub fitted_all : List Ty → List Expr → Option (List Expr)
+fitted_all [] [] = Some []
+fitted_all (t ∷ ts) (e ∷ es) = before_fitted (fitted t e) (fitted_all ts es)
+fitted_all [] (e ∷ es) = None
+fitted_all (t ∷ ts) [] = None
+
+-- a call of a function, at its name
+abbrev pub called : (place n : ℕ) → (params : List Ty) → (result : Ty) → List Expr → Judged Expr
+called place n params result args = or_mismatch place (fitted_all params args) >>= λ es. typed (at place result (call n (exprs_of es)))
+
+-- a call of a name of the library, at its name
+abbrev pub called_lib : (place : ℕ) → trees.Lib → (params : List Ty) → (result : Ty) → List Expr → Judged Expr
+called_lib place which params result args =
+    or_mismatch place (fitted_all params args) >>= λ es. typed (at place result (lib which (exprs_of es)))
+
+-- a format, which is a string literal and makes no block, and so is one of the language
+abbrev pub format_by : ℕ → Option (List Piece) → Judged (List Piece)
+format_by place (Some pieces) = typed pieces
+format_by place None = refuse place (OutsideSubset 15)
+
+-- the first argument of printf: the pieces of a string literal; anything else is judged for its faults, and is outside the
+-- language (this project's profile)
+abbrev pub format_or : Option (List Span) → (place : ℕ) → Judging Expr → Judging (List Piece)
+format_or (Some parts) place e c = (format_by place (pieces_of (joined_bytes c.text parts)), c)
+format_or None place e c = ruled e (λ d x. refuse place (OutsideSubset 15)) c
+
+-- at most 16 arguments behind it
+abbrev pub place_past : (most : ℕ) → source.Exprs → Option ℕ
+place_past most source.no_exprs = None
+place_past zero (source.more_exprs e rest) = Some (node_place e)
+place_past (suc n) (source.more_exprs e rest) = place_past n rest
+
+-- nothing is wrong where no argument stands past the limit; where one does, it is one too many, at its place
+abbrev pub none_past : (count : ℕ) → Option ℕ → Judged (Unit {0})
+none_past count None = typed tt
+none_past count (Some place) = refuse place (TooMany count)
+
+-- printf, at its name: an argument for each piece that takes one
+abbrev pub printed : (place : ℕ) → (List Piece × List Expr) → Judged Expr
+printed place p = or_mismatch place (arguments_for p.0 p.1) >>= λ es. typed (at place (integer int) (lib (trees.print p.0) (exprs_of es)))
+
+-- a thread begins with a function `int f(void *)`, which is named
+abbrev pub starting_by : (n : ℕ) → Bool → Option ℕ
+starting_by n fits = if fits then Some n else None
+
+-- the second argument of thrd_create, by what it means: the number of a function that a thread may begin with, or none; what
+-- isn't the name of a function is judged for its faults
+abbrev pub starting_or : Option Meaning → Judging Expr → Judging (Option ℕ)
+starting_or (Some (function_name n params result)) e c =
+    (typed (starting_by n (same_type result (integer int) && same_types params (pointer void ∷ []))), c)
+starting_or (Some (library_name (constant value))) e c = ruled e (λ d x. typed None) c
+starting_or (Some (library_name which)) e c = (typed None, c)
+starting_or m e c = ruled e (λ d x. typed None) c
+
+-- thrd_create, at its name: the place of the number, the function and its argument
+abbrev pub started_by : (place : ℕ) → Option ℕ → Option (List Expr) → Judged Expr
+started_by place (Some f) (Some es) = typed (at place (integer int) (lib (trees.start f) (exprs_of es)))
+started_by place None es = refuse place TypeMismatch
+started_by place (Some f) None = refuse place TypeMismatch
+
+-- by its arguments: those before the function, the function if there is one, those behind it
+abbrev pub started : (place : ℕ) → (before : List Expr) → Option ℕ → (behind : List Expr) → Judged Expr
+started place before f behind = started_by place f (fitted_all (pointer (integer unsigned_long) ∷ pointer void ∷ []) (before ++ behind))
+
+-- mtx_init, at its name: the mutex, and the constant 0 as its kind, which is no operand
+abbrev pub plain_kind : Expr → Judged (Unit {0})
+plain_kind e = unless (place_of e) (OutsideSubset 14) (is_zero (node_of e))
+
+-- a call of mtx_init: two arguments, a pointer to the mutex and the kind (C11 7.26.4.2)
+abbrev pub init_by : (place : ℕ) → List Expr → Judged Expr
+init_by place (m ∷ kind ∷ []) = both (called_lib place trees.mutex_init (pointer mutex ∷ []) (integer int) (m ∷ [])) (plain_kind kind) >>= λ p. typed p.0
+init_by place args = refuse place TypeMismatch
+
+-- a name of the library, called with typed arguments
+abbrev pub called_library : (place : ℕ) → Library → List Expr → Judged Expr
+called_library place malloc args = called_lib place trees.malloc (integer unsigned_long ∷ []) (pointer void) args
+called_library place free args = called_lib place trees.free (pointer void ∷ []) void args
+called_library place memcpy args = called_lib place trees.copy (pointer void ∷ pointer void ∷ integer unsigned_long ∷ []) (pointer void) args
+called_library place thrd_join args = called_lib place trees.join (integer unsigned_long ∷ pointer (integer int) ∷ []) (integer int) args
+called_library place mtx_init args = init_by place args
+called_library place mtx_lock args = called_lib place trees.mutex_lock (pointer mutex ∷ []) (integer int) args
+called_library place mtx_unlock args = called_lib place trees.mutex_unlock (pointer mutex ∷ []) (integer int) args
+called_library place mtx_destroy args = called_lib place trees.mutex_destroy (pointer mutex ∷ []) void args
+called_library place which args = refuse place TypeMismatch
+
+-- a fault at a place, whatever the arguments are
+abbrev pub no_call : (place : ℕ) → Kind → Judging (List Expr) → Judging Expr
+no_call place kind args = ruled (in_turn (lone (refuse {A = Unit {0}} place kind)) args) (λ c p. refuse place kind)
+
+-- a call, by what its name means; a name is looked up whether or not the arguments are typed
+abbrev pub called_by : Option Meaning → (place : ℕ) → (args : Judging (List Expr)) → (print start : Judging Expr) → Judging Expr
+called_by (Some (function_name n params result)) place args print start = ruled args (λ c es. called place n params result es)
+called_by (Some (library_name printf)) place args print start = print
+called_by (Some (library_name thrd_create)) place args print start = start
+called_by (Some (library_name which)) place args print start = ruled args (λ c es. called_library place which es)
+called_by (Some m) place args print start = no_call place TypeMismatch args
+called_by None place args print start = no_call place UnknownName args
+
+-- ---- specifiers (6.7.2)
+
+-- a word, or the struct of a number
+pub data Part : Type 0 where
+  word : (w : TypeWord) → Part
+  tag : (number : ℕ) → Part
+
+-- the words among specifiers, without those that say nothing of the type
+abbrev pub words_of : List Part → List TypeWord
+words_of [] = []
+words_of (word w ∷ rest) = if says_nothing w then words_of rest else w ∷ words_of rest
+words_of (tag n ∷ rest) = words_of rest
+
+-- the structs among specifiers, by their numbers
+abbrev pub tags_of : List Part → List ℕ
+tags_of [] = []
+tags_of (word w ∷ rest) = tags_of rest
+tags_of (tag n ∷ rest) = n ∷ tags_of rest
+
+-- the type that specifiers name: words that name one, or one struct
+abbrev pub type_by : List ℕ → List TypeWord → Option Ty
+type_by [] ws = named_by ws
+type_by (n ∷ []) [] = Some (structure n)
+type_by tags ws = None
+
+-- the type that specifiers name; where they name none, a mismatch at this place (C11 6.7.2 p2)
+abbrev pub specified : (place : ℕ) → List Part → Judged Ty
+specified place parts = or_mismatch place (type_by (tags_of parts) (words_of parts))
+
+-- the place of the first specifier
+abbrev pub place_of_spec : source.Spec → ℕ
+place_of_spec (source.word place w) = place
+place_of_spec (source.struct place t) = place
+place_of_spec (source.struct_body place t inside) = place
+
+-- the place of a row of specifiers, that of its first
+abbrev pub place_of_specs : source.Specs → ℕ
+place_of_specs source.no_specs = 0
+place_of_specs (source.more_specs s rest) = place_of_spec s
+
+-- the type that they name, at the place of the first
+abbrev pub specs_by : source.Specs → Judging (List Part) → Judging Ty
+specs_by specs parts = ruled parts (λ c all. specified (place_of_specs specs) all)
+
+-- ---- declarators (6.7.6)
+
+-- a declarator, once its sizes are known
+pub record Declarator : Type 0 where
+  pub name : Name
+  pub pointers : List Pointer
+  pub sizes : List ℕ
+
+-- the type that a declarator makes of another
+abbrev pub declared_type : Ty → List Pointer → List ℕ → Ty
+declared_type t pointers sizes = arrays_of (behind_pointers t pointers) sizes
+
+-- the size of an array: an integer constant expression from 1 to the greatest object's size, at its own place
+abbrev pub dimension_by : ℕ → Option Num → Judged ℕ
+dimension_by place None = refuse place BadSize
+dimension_by place (Some n) =
+    if int_le (pos 1) n.value && int_le n.value (pos greatest_object) then typed (unsigned_abs n.value) else refuse place BadSize
+
+-- the size of an array, by what is written between the brackets and its typed form
+abbrev pub dimension : source.Expr → Context → Expr → Judged ℕ
+dimension e c x = dimension_by (node_place e) (constant_value c e x)
+
+-- an object has a size, and at most the greatest object's
+abbrev pub object_type : Context → (place : ℕ) → Ty → Judged Ty
+object_type c place t = unless place BadSize (has_size c.structs t && is_small c.structs t) >>= λ u. typed t
+
+-- the type of the object that a declarator declares; where it has no size or too great a one, a fault at its name
+abbrev pub object_declared : Context → Ty → Declarator → Judged Ty
+object_declared c t d = object_type c d.name.from (declared_type t d.pointers d.sizes)
+
+-- ---- members of a struct (6.7.2.1)
+
+-- the names that declarators declare
+abbrev pub names_in : source.Declarators → List Name
+names_in source.no_declarators = []
+names_in (source.more_declarators (source.declarator pointers n dims) rest) = n ∷ names_in rest
+
+-- the names that one declaration of members declares
+abbrev pub names_of_member : source.Member → List Name
+names_of_member (source.members_of specs declarators) = names_in declarators
+
+-- a member's name is declared once in its struct, and there are 256 at most
+abbrev pub fresh_member : Context → (before : List Name) → Name → Judged (Unit {0})
+fresh_member c before n =
+    both (unless n.from DoubleName (not (list_any (λ m. bytes_eq (bytes_of c.text n) (bytes_of c.text m)) before))) (within n.from 4 256 (length before))
+    >>= λ u. typed tt
+
+-- the members that declarators declare: the bytes of each name, and its type
+abbrev pub member_objects : Context → Ty → List Declarator → Judged (List (List ℕ × Ty))
+member_objects c t [] = typed []
+member_objects c t (d ∷ ds) = both (object_declared c t d) (member_objects c t ds) >>= λ p. typed ((bytes_of c.text d.name, p.0) ∷ p.1)
+
+-- a struct's size is at most the greatest object's
+abbrev pub struct_fits : Context → (place : ℕ) → List (List ℕ × Ty) → Judged (List (List ℕ × Ty))
+struct_fits c place all =
+    unless place BadSize (nat_le (laid_out c.structs (map (λ (m : List ℕ × Ty). m.1) all)).size greatest_object) >>= λ u. typed all
+
+-- behind the closing brace the struct is declared
+abbrev pub closed : Context → (number : ℕ) → Judged (List (List ℕ × Ty)) → Context
+closed c number (typed all) = with_struct c number all
+closed c number (faulty r rs) = c
+
+-- a tag's braces: once (6.7.2.3 p1), and 256 of them at most
+abbrev pub opened : Context → Name → Judged (Unit {0})
+opened c t = both (unless t.from DoubleName (not (is_begun c (tag_number c t)))) (within t.from 3 256 (length c.begun)) >>= λ u. typed tt
+
+-- the braces of a struct, the second ones of a tag declare nothing
+abbrev pub braced : Name → Judging (List (List ℕ × Ty)) → Judging Part
+braced t members around =
+    let c = with_tag around t in
+    let number = tag_number c t in
+    let x = members (with_begun c number) in
+    let all = x.0 >>= struct_fits x.1 t.from in
+    (both (opened c t) all >>= λ p. typed (tag number), if is_begun c number then x.1 else closed x.1 number all)
+
+-- ---- the judgement
+
+abbrev mutual
+  -- an expression
+  pub judged : source.Expr → Judging Expr
+  judged (source.name n) c = (named n.from (meaning_of c n), c)
+  judged (source.call callee args) c =
+      called_by (meaning_of c callee) callee.from (judged_all args) (judged_print callee.from args) (judged_start callee.from args) c
+  judged (source.int place n) c = (typed (at place (integer n.ty) (num n.ty n.value)), c)
+  judged (source.char place n) c = (typed (at place (integer n.ty) (num n.ty n.value)), c)
+  judged (source.text parts) c = spelled (place_of_parts parts) (joined_bytes c.text parts) c
+  judged (source.null place) c = (typed (at place (pointer void) null), c)
+  judged (source.group e) c = judged e c
+  judged (source.prefix place op e) c = prefixed place op (name_in e) (judged e) c
+  judged (source.sizeof_type place t) c = ruled (judged_type t) (λ d s. size_number d place s) c
+  judged (source.sizeof_expr place e) c = ruled (judged e) (λ d x. size_number d place (type_of x)) c
+  judged (source.cast place t e) c = ruled (in_turn (judged_type t) (valued (judged e))) (λ d p. cast place p.0 p.1) c
+  judged (source.index place a b) c = ruled (in_turn (valued (judged a)) (valued (judged b))) (λ d p. element d place p.0 p.1) c
+  judged (source.member place e m) c = ruled (judged e) (λ d x. selected d place x m) c
+  judged (source.arrow place e m) c = ruled (valued (judged e)) (λ d x. pointed d place x m) c
+  judged (source.binary place op a b) c = ruled (in_turn (valued (judged a)) (valued (judged b))) (λ d p. combined d place op p.0 p.1) c
+  judged (source.conditional place e a b) c =
+      ruled (in_turn (valued (judged e)) (in_turn (valued (judged a)) (valued (judged b)))) (λ d p. tested place p.0 >>= λ t. chosen place t p.1.0 p.1.1) c
+
+  -- arguments, from left to right
+  pub judged_all : source.Exprs → Judging (List Expr)
+  judged_all source.no_exprs c = (typed [], c)
+  judged_all (source.more_exprs e rest) c = ruled (in_turn (valued (judged e)) (judged_all rest)) (λ d p. typed (p.0 ∷ p.1)) c
+
+  -- printf: its format, and then the arguments behind it
+  pub judged_print : (place : ℕ) → source.Exprs → Judging Expr
+  judged_print place source.no_exprs c = (refuse place TypeMismatch, c)
+  judged_print place (source.more_exprs e rest) c =
+      ruled (in_turn (lone (none_past 7 (place_past 16 rest))) (in_turn (format_or (text_in e) (node_place e) (judged e)) (judged_all rest)))
+      (λ d p. printed place p.1) c
+
+  -- thrd_create: the function is its second argument
+  pub judged_start : (place : ℕ) → source.Exprs → Judging Expr
+  judged_start place source.no_exprs c = (refuse place TypeMismatch, c)
+  judged_start place (source.more_exprs e rest) c =
+      ruled (in_turn (valued (judged e)) (judged_started rest)) (λ d p. started place (p.0 ∷ []) p.1.0 p.1.1) c
+
+  -- thrd_create behind its first argument: the function, and the arguments behind that
+  pub judged_started : source.Exprs → Judging (Option ℕ × List Expr)
+  judged_started source.no_exprs c = (typed (None, []), c)
+  judged_started (source.more_exprs e rest) c = in_turn (starting_or (meaning_in c (name_in e)) (judged e)) (judged_all rest) c
+
+  -- the name of a type (6.7.7)
+  pub judged_type : source.TypeName → Judging Ty
+  judged_type (source.type_name specs pointers) c = ruled (specs_by specs (judged_parts specs)) (λ d t. typed (behind_pointers t pointers)) c
+
+  -- specifiers
+  pub judged_parts : source.Specs → Judging (List Part)
+  judged_parts source.no_specs c = (typed [], c)
+  judged_parts (source.more_specs s rest) c = ruled (in_turn (judged_spec s) (judged_parts rest)) (λ d p. typed (p.0 ∷ p.1)) c
+
+  -- a specifier: a word, or a struct by its tag, with its members between braces or without (C11 6.7.2.3)
+  pub judged_spec : source.Spec → Judging Part
+  judged_spec (source.word place w) c = (typed (word w), c)
+  judged_spec (source.struct place t) c = let d = with_tag c t in (typed (tag (tag_number d t)), d)
+  judged_spec (source.struct_body place t members) c = braced t (judged_members [] members) c
+
+  -- the members of a struct, behind those of these names
+  pub judged_members : (before : List Name) → source.Members → Judging (List (List ℕ × Ty))
+  judged_members before source.no_members c = (typed [], c)
+  judged_members before (source.more_members m rest) c =
+      ruled (in_turn (judged_member before m) (judged_members (before ++ names_of_member m) rest)) (λ d p. typed (p.0 ++ p.1)) c
+
+  -- members that are declared together, behind those of these names
+  pub judged_member : (before : List Name) → source.Member → Judging (List (List ℕ × Ty))
+  judged_member before (source.members_of specs declarators) c =
+      ruled (in_turn (specs_by specs (judged_parts specs)) (judged_declarators before declarators)) (λ d p. member_objects d p.0 p.1) c
+
+  -- the declarators of such members, each of a name that none before it has
+  pub judged_declarators : (before : List Name) → source.Declarators → Judging (List Declarator)
+  judged_declarators before source.no_declarators c = (typed [], c)
+  judged_declarators before (source.more_declarators (source.declarator pointers n dims) rest) c =
+      ruled (in_turn (lone (fresh_member c before n)) (in_turn (judged_dims dims) (judged_declarators (before ++ n ∷ []) rest)))
+      (λ d p. typed (record { name = n; pointers = pointers; sizes = p.1.0 } ∷ p.1.1)) c
+
+  -- the sizes of an array
+  pub judged_dims : source.Exprs → Judging (List ℕ)
+  judged_dims source.no_exprs c = (typed [], c)
+  judged_dims (source.more_exprs e rest) c =
+      ruled (in_turn (ruled (valued (judged e)) (dimension e)) (judged_dims rest)) (λ d p. typed (p.0 ∷ p.1)) c
+
+-- the type that specifiers name
+abbrev pub judged_specs : source.Specs → Judging Ty
+judged_specs specs = specs_by specs (judged_parts specs)

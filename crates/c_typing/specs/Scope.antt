@@ -1,0 +1,207 @@
+-- What names mean where a node stands, and what the text has shown before it (C11 6.2.1, 6.2.3, 7.1.3).
+use Rattle.std.specs.Prelude.{ℕ, ◌+◌, ◌*◌, ◌/◌, ◌==◌, nat_le, nat_lt, Bool, ◌&&◌, ◌||◌, not, if◌then◌else◌, List, [], ◌∷◌, ◌++◌, length, map, set, codes, slice_get, Option, Some, None, ℤ, pos}
+use Rattle.std.specs.List.{slice_range, list_any}
+use Rattle.std.specs.Map.{lookup}
+use Rattle.std.specs.Option.{is_some}
+use Rattle.std.specs.Str.{bytes_eq}
+use Rattle.c_lex.specs.declared.refusal.Kind.TheVariants.{DoubleName, TooMany}
+use Rattle.c_tree.specs.declared.syntax.Name.{Name}
+use Rattle.c_tree.specs.Typed.{Ty, Layout}
+use Rattle.c_tree.specs.TypedLayout.{laid_out}
+use Rattle.c_typing.specs.Faults.{Judged, unless}
+
+-- ---- the library
+
+-- a name of the library: a call, or an int
+pub data Library : Type 0 where
+  printf : Library
+  malloc : Library
+  free : Library
+  memcpy : Library
+  thrd_create : Library
+  thrd_join : Library
+  mtx_init : Library
+  mtx_lock : Library
+  mtx_unlock : Library
+  mtx_destroy : Library
+  constant : (value : ℤ) → Library
+
+-- the names of the library that the language has (7.21, 7.22, 7.24, 7.26)
+unfoldable pub library : List (List ℕ × Library)
+library = (codes "printf", printf) ∷ (codes "malloc", malloc) ∷ (codes "free", free) ∷ (codes "memcpy", memcpy)
+    ∷ (codes "thrd_create", thrd_create) ∷ (codes "thrd_join", thrd_join)
+    ∷ (codes "mtx_init", mtx_init) ∷ (codes "mtx_lock", mtx_lock) ∷ (codes "mtx_unlock", mtx_unlock) ∷ (codes "mtx_destroy", mtx_destroy)
+    ∷ (codes "mtx_plain", constant (pos 0)) ∷ (codes "thrd_success", constant (pos 0)) ∷ (codes "thrd_error", constant (pos 1)) ∷ []
+
+-- ---- names
+
+-- what a name means: an object of file scope or a local by its number, a function by its number, or a name of the library
+pub data Meaning : Type 0 where
+  global_name : (n : ℕ) (t : Ty) → Meaning
+  local_name : (n : ℕ) (t : Ty) → Meaning
+  function_name : (n : ℕ) (params : List Ty) (result : Ty) → Meaning
+  library_name : (which : Library) → Meaning
+
+-- one scope: the bytes of each name, and what it means, in order of declaration
+abbrev pub Frame : Type 0
+Frame = List (List ℕ × Meaning)
+
+-- what stands before a node: the text; the tags in the order in which they were first named, each with its struct's layout and
+-- the names of its members, which has no member where the struct isn't declared yet, and whether its braces were begun; how many
+-- braces were begun; the literals that make a block; the bytes that globals and literals take; the names of the functions, and of
+-- those that have a body; the scopes, the innermost first and then those around it from the outermost on; the types of the function's locals, and the numbers of those
+-- whose address is taken
+pub record Context : Type 0 where
+  pub text : List ℕ
+  pub tags : List (List ℕ)
+  pub structs : List Layout
+  pub members : List (List (List ℕ))
+  pub begun : List ℕ
+  pub literals : List (List ℕ)
+  pub plain : ℕ
+  pub globals : List Ty
+  pub functions : List (List ℕ)
+  pub bodies : List (List ℕ)
+  pub inner : Frame
+  pub outer : List Frame
+  pub locals : List Ty
+  pub addressed : List ℕ
+
+-- before the first token
+abbrev pub at_start : List ℕ → Context
+at_start text = record {
+  text = text;
+  tags = [];
+  structs = [];
+  members = [];
+  begun = [];
+  literals = [];
+  plain = 0;
+  globals = [];
+  functions = [];
+  bodies = [];
+  inner = [];
+  outer = [];
+  locals = [];
+  addressed = [];
+}
+
+-- the bytes of a name
+unfoldable pub bytes_of : List ℕ → Name → List ℕ
+bytes_of text n = if nat_le n.from n.to && nat_le n.to (length text) then slice_range text n.from n.to else []
+
+-- the first where there is one, and else the second
+abbrev pub or_else : {A : Type 0} → Option A → Option A → Option A
+or_else (Some x) o = Some x
+or_else None o = o
+
+-- what the innermost scope that declares it says
+abbrev pub found : List Frame → List ℕ → Option Meaning
+found [] q = None
+found (around ∷ inner) q = or_else (found inner q) (lookup (bytes_eq q) around)
+
+-- a name of the library
+abbrev pub of_library : Option Library → Option Meaning
+of_library None = None
+of_library (Some which) = Some (library_name which)
+
+-- what a name means in a context; the library's names are declared around all else
+abbrev pub meaning_of : Context → Name → Option Meaning
+meaning_of c n =
+    let q = bytes_of c.text n in
+    or_else (lookup (bytes_eq q) c.inner) (or_else (found c.outer q) (of_library (lookup (bytes_eq q) library)))
+
+-- the innermost scope has the name, or the library
+abbrev pub is_double : Context → Name → Bool
+is_double c n = is_some (lookup (bytes_eq (bytes_of c.text n)) c.inner) || is_some (lookup (bytes_eq (bytes_of c.text n)) library)
+
+-- a name is declared once in its scope, and one of the library not at all (6.7 p3; for a global this project's profile)
+abbrev pub fresh : Context → Name → Judged (Unit {0})
+fresh c n = unless n.from DoubleName (not (is_double c n))
+
+-- after a declaration: the innermost scope has the name, and what it first meant there
+abbrev pub declared : Context → Name → Meaning → Context
+declared c n m = if is_double c n then c else record c { inner = c.inner ++ (bytes_of c.text n, m) ∷ [] }
+
+-- into a scope of its own (6.8.2, 6.8.5), and back to those around, with all that the text has shown there
+abbrev pub inside : Context → Context
+inside c = record c { inner = []; outer = c.outer ++ c.inner ∷ [] }
+
+-- the scopes are those around again; all else stays as the text has shown it
+abbrev pub back_to : Context → Context → Context
+back_to around c = record c { inner = around.inner; outer = around.outer }
+
+-- ---- counts
+
+-- fewer than so many were there before
+abbrev pub within : (place count : ℕ) → (most before : ℕ) → Judged (Unit {0})
+within place count most before = unless place (TooMany count) (nat_lt before most)
+
+-- the bytes that a plain object takes, with one of padding behind it at least
+abbrev pub taken : ℕ → ℕ
+taken size = 16 * (size / 16 + 1)
+
+-- what globals and literals may take
+abbrev pub most_plain : ℕ
+most_plain = 1048576
+
+-- an object of so many bytes more, at a place: where it passes what they may take, it is one too many
+abbrev pub fits_plain : Context → (place size : ℕ) → Judged (Unit {0})
+fits_plain c place size = unless place (TooMany 9) (nat_le (c.plain + taken size) most_plain)
+
+-- ---- tags
+
+-- the number of a tag among these: how many were named before it
+abbrev pub tag_among : List ℕ → List (List ℕ) → ℕ
+tag_among q [] = 0
+tag_among q (tag ∷ tags) = if bytes_eq q tag then 0 else 1 + tag_among q tags
+
+-- the number of a tag in a context: its struct's number
+abbrev pub tag_number : Context → Name → ℕ
+tag_number c n = tag_among (bytes_of c.text n) c.tags
+
+-- after a tag was named: where it wasn't before, it's a struct that isn't declared
+abbrev pub with_tag : Context → Name → Context
+with_tag c n =
+    if list_any (bytes_eq (bytes_of c.text n)) c.tags then c
+    else record c { tags = c.tags ++ bytes_of c.text n ∷ []; structs = c.structs ++ laid_out [] [] ∷ []; members = c.members ++ [] ∷ [] }
+
+-- a struct's braces were begun
+abbrev pub is_begun : Context → ℕ → Bool
+is_begun c number = list_any (λ other. other == number) c.begun
+
+-- after a struct's opening brace: its braces are begun
+abbrev pub with_begun : Context → ℕ → Context
+with_begun c number = record c { begun = c.begun ++ number ∷ [] }
+
+-- a struct is declared with these members
+abbrev pub with_struct : Context → ℕ → List (List ℕ × Ty) → Context
+with_struct c number all = record c {
+  structs = set c.structs number (laid_out c.structs (map (λ (m : List ℕ × Ty). m.1) all));
+  members = set c.members number (map (λ (m : List ℕ × Ty). m.0) all);
+}
+
+-- the number of a member among names
+abbrev pub member_among : ℕ → List ℕ → List (List ℕ) → Option ℕ
+member_among before q [] = None
+member_among before q (name ∷ names) = if bytes_eq q name then Some before else member_among (before + 1) q names
+
+-- the number of a member, and its type
+abbrev pub member_typed : ℕ → Option Ty → Option (ℕ × Ty)
+member_typed m None = None
+member_typed m (Some t) = Some (m, t)
+
+-- the member of this number of a struct, and its type, if there are such a struct and such a member
+abbrev pub member_numbered : Option Layout → Option ℕ → Option (ℕ × Ty)
+member_numbered (Some l) (Some m) = member_typed m (slice_get l.types m)
+member_numbered None m = None
+member_numbered (Some l) None = None
+
+-- the number of the member of this name, if there are such a struct and such a member
+abbrev pub member_in : Option (List (List ℕ)) → List ℕ → Option ℕ
+member_in None q = None
+member_in (Some names) q = member_among 0 q names
+
+-- the member of this name of a struct, if it is declared and has one
+abbrev pub member_of : Context → (number : ℕ) → Name → Option (ℕ × Ty)
+member_of c number n = member_numbered (slice_get c.structs number) (member_in (slice_get c.members number) (bytes_of c.text n))

@@ -1,0 +1,226 @@
+-- Judging declarations and statements where they stand (C11 6.7, 6.8).
+use Rattle.std.specs.Prelude.{ℕ, Bool, true, false, not, if◌then◌else◌, List, [], ◌∷◌, ◌++◌, length, Option, Some, None, pos}
+use Rattle.ak_words.specs.declared.operation.Op.{Op}
+use Rattle.ak_words.specs.declared.operation.Op.TheVariants as ops
+use Rattle.ak_words.specs.IntType.{int}
+use Rattle.c_lex.specs.declared.refusal.Kind.TheVariants.{TypeMismatch, NotAnLvalue, BadSize}
+use Rattle.c_tree.specs.declared.syntax.Name.{Name}
+use Rattle.c_tree.specs.declared.syntax.StepOp.{StepOp}
+use Rattle.c_tree.specs.declared.syntax.StepOp.TheVariants as steps
+use Rattle.c_tree.specs.declared.syntax.AssignOp.{AssignOp}
+use Rattle.c_tree.specs.declared.syntax.AssignOp.TheVariants as assigns
+use Rattle.c_tree.specs.Syntax as source
+use Rattle.c_tree.specs.Typed.{Ty, integer, pointer, Expr, at, num, type_of, node_of, Stmt, at_stmt, block, declare, if_, if_else, while_, for_, break_, continue_, return_, assign, update, evaluate, empty, Stmts, no_stmts, more_stmts}
+use Rattle.c_typing.specs.Faults.{Judged, typed, faulty, refuse, unless, both, ◌>>=◌}
+use Rattle.c_typing.specs.Types.{is_void, is_array, is_scalar, has_size}
+use Rattle.c_typing.specs.Scope.{Context, local_name, fresh, declared, inside, back_to, within}
+use Rattle.c_typing.specs.Rules.{value_of, fitted, or_mismatch, tested, is_lvalue}
+use Rattle.c_typing.specs.Judgement.{Judging, lone, in_turn, ruled, valued, Declarator, object_declared, node_place, judged, judged_specs, judged_dims}
+
+-- ---- assignments (6.5.16, 6.5.2.4, 6.5.3.1)
+
+-- what may be assigned: an object that is no array
+abbrev pub assignable : (place : ℕ) → Expr → Judged (Unit {0})
+assignable place e = unless place NotAnLvalue (if is_array (type_of e) then false else is_lvalue (node_of e))
+
+-- left = right
+abbrev pub assigned : (place : ℕ) → Expr → Expr → Judged Stmt
+assigned place left right =
+    assignable place left >>= λ u. or_mismatch place (fitted (type_of left) (value_of right)) >>= λ x. typed (at_stmt place (assign left x))
+
+-- + and - also move a pointer to elements that have a size
+abbrev pub moves : Op → Bool
+moves ops.Add = true
+moves ops.Sub = true
+moves op = false
+
+-- what a compound assignment takes: two numbers, or a pointer and a number (6.5.16.2)
+abbrev pub updates : Context → (place : ℕ) → Op → (s t : Ty) → Judged (Unit {0})
+updates c place op (integer s) (integer t) = typed tt
+updates c place op (pointer s) (integer t) = unless place TypeMismatch (moves op) >>= λ u. unless place BadSize (has_size c.structs s)
+updates c place op s t = refuse place TypeMismatch
+
+-- left op= right
+abbrev pub updated : Context → (place : ℕ) → Op → Expr → Expr → Judged Stmt
+updated c place op left right =
+    assignable place left >>= λ u. updates c place op (type_of left) (type_of right) >>= λ v. typed (at_stmt place (update left op right))
+
+-- ++ and -- add and subtract 1
+abbrev pub step_op : StepOp → Op
+step_op steps.Increment = ops.Add
+step_op steps.Decrement = ops.Sub
+
+-- ++ or -- of an object: a compound assignment of 1 to it (C11 6.5.2.4, 6.5.3.1)
+abbrev pub stepped : Context → (place : ℕ) → StepOp → Expr → Judged Stmt
+stepped c place op e = updated c place (step_op op) e (at place (integer int) (num int (pos 1)))
+
+-- = assigns, and each other operator updates
+abbrev pub assign_op : AssignOp → Option Op
+assign_op assigns.Plain = None
+assign_op assigns.Add = Some ops.Add
+assign_op assigns.Sub = Some ops.Sub
+assign_op assigns.Mul = Some ops.Mul
+assign_op assigns.Div = Some ops.Div
+assign_op assigns.Rem = Some ops.Rem
+assign_op assigns.And = Some ops.And
+assign_op assigns.Or = Some ops.Or
+assign_op assigns.Xor = Some ops.Xor
+assign_op assigns.Shl = Some ops.Shl
+assign_op assigns.Shr = Some ops.Shr
+
+-- left = right where there is no other operator, and else left op= right
+abbrev pub assigned_by : Context → (place : ℕ) → Option Op → Expr → Expr → Judged Stmt
+assigned_by c place None left right = assigned place left right
+assigned_by c place (Some op) left right = updated c place op left (value_of right)
+
+-- an expression statement, an assignment, ++ or --
+abbrev pub judged_simple : source.Simple → Judging Stmt
+judged_simple (source.before place op e) = ruled (judged e) (λ c x. stepped c place op x)
+judged_simple (source.after place op e) = ruled (judged e) (λ c x. stepped c place op x)
+judged_simple (source.assign place op left right) = ruled (in_turn (judged left) (judged right)) (λ c p. assigned_by c place (assign_op op) p.0 p.1)
+judged_simple (source.eval e) = ruled (valued (judged e)) (λ c x. typed (at_stmt (node_place e) (evaluate x)))
+
+-- ---- declarations of locals (6.7)
+
+-- the type that a declarator declares, or int where it is at fault: no name is used before its declarator, so what it means
+-- then is nowhere seen
+abbrev pub or_int : Judged Ty → Ty
+or_int (typed t) = t
+or_int (faulty r rs) = integer int
+
+-- a function's locals and parameters, of which there are 1,024 at most
+abbrev pub most_locals : ℕ
+most_locals = 1024
+
+-- behind a local's declarator: it is the last of the locals, and its name is in scope
+abbrev pub with_local : Context → Name → Ty → Context
+with_local c n t = record (declared c n (local_name (length c.locals) t)) { locals = c.locals ++ t ∷ [] }
+
+-- an initialiser: of a number or a pointer, at the declarator's name (6.7.9 p11; arrays and structs have none in the language)
+abbrev pub initialised : (place : ℕ) → Ty → Expr → Judged Expr
+initialised place t x = unless place TypeMismatch (is_scalar t) >>= λ u. or_mismatch place (fitted t x)
+
+-- the initialiser of a local, if it has one
+abbrev pub judged_init : (place : ℕ) → Judged Ty → Option source.Expr → Judging (Option Expr)
+judged_init place t None c = (typed None, c)
+judged_init place t (Some e) c = ruled (in_turn (lone t) (valued (judged e))) (λ d p. initialised place p.0 p.1 >>= λ x. typed (Some x)) c
+
+-- a declarator: its name is in scope directly behind it (6.2.1 p7)
+abbrev pub judged_declarator : source.Declarator → Judging Declarator
+judged_declarator (source.declarator pointers n dims) = ruled (judged_dims dims) (λ c sizes. typed (record { name = n; pointers = pointers; sizes = sizes }))
+
+-- the name that a declarator declares
+abbrev pub name_of : source.Declarator → Name
+name_of (source.declarator pointers n dims) = n
+
+-- a local, at its name, which is in scope in its own initialiser already (C11 6.2.1 p7)
+abbrev pub judged_local : Judged Ty → source.InitDeclarator → Judging Stmt
+judged_local base x around =
+    let n = name_of x.declarator in
+    let d = judged_declarator x.declarator around in
+    let t = both base d.0 >>= λ p. object_declared d.1 p.0 p.1 in
+    let fine = both (fresh d.1 n) (within n.from 5 most_locals (length d.1.locals)) in
+    let i = judged_init n.from t x.value (with_local d.1 n (or_int t)) in
+    (both (both fine t) i.0 >>= λ p. typed (at_stmt n.from (declare (length d.1.locals) p.1)), i.1)
+
+-- locals that are declared together, in order
+abbrev pub judged_locals : Judged Ty → List source.InitDeclarator → Judging (List Stmt)
+judged_locals base [] c = (typed [], c)
+judged_locals base (x ∷ xs) c = ruled (in_turn (judged_local base x) (judged_locals base xs)) (λ d p. typed (p.0 ∷ p.1)) c
+
+-- a declaration: a statement for each declarator
+abbrev pub judged_declaration : source.Declaration → Judging (List Stmt)
+judged_declaration d around =
+    let base = judged_specs (source.specs_of d.specs) around in
+    let all = judged_locals base.0 d.declarators base.1 in
+    (both base.0 all.0 >>= λ p. typed p.1, all.1)
+
+-- ---- statements (6.8)
+
+-- statements of a list, in a row
+abbrev pub stmts_of : List Stmt → Stmts
+stmts_of [] = no_stmts
+stmts_of (s ∷ ss) = more_stmts s (stmts_of ss)
+
+-- a condition, at the place of a word
+abbrev pub condition : (place : ℕ) → source.Expr → Judging Expr
+condition place e = ruled (valued (judged e)) (λ c x. tested place x)
+
+-- in a scope of its own
+abbrev pub scoped : {A : Type 0} → Judging A → Judging A
+scoped j c = let x = j (inside c) in (x.0, back_to c x.1)
+
+-- the statement under an if or a loop: it is one, and no declaration
+abbrev pub only : List Stmt → Stmt
+only [] = at_stmt 0 empty
+only (s ∷ rest) = s
+
+-- the statement under an if or a loop: the only one that judging it gives
+abbrev pub one_of : Judging (List Stmt) → Judging Stmt
+one_of j = ruled j (λ c ss. typed (only ss))
+
+-- what a function returns, at the word (6.8.6.4 p1)
+abbrev pub returned_by : (place : ℕ) → Ty → Expr → Judged Stmt
+returned_by place result x =
+    unless place TypeMismatch (not (is_void result)) >>= λ u. or_mismatch place (fitted result x) >>= λ y. typed (at_stmt place (return_ (Some y)))
+
+-- a return at its word, with a value or without, in a function of this result
+abbrev pub returned : (place : ℕ) → (result : Ty) → Option source.Expr → Judging Stmt
+returned place result None c = (unless place TypeMismatch (is_void result) >>= λ u. typed (at_stmt place (return_ None)), c)
+returned place result (Some e) c = ruled (valued (judged e)) (λ d x. returned_by place result x) c
+
+-- a for with its header: where that declares several locals, all but the last stand in a block around
+abbrev pub headed : (place : ℕ) → List Stmt → (Stmt → Stmt) → Stmt
+headed place [] loop = loop (at_stmt place empty)
+headed place (s ∷ []) loop = loop s
+headed place (s ∷ t ∷ rest) loop = at_stmt place (block (more_stmts s (more_stmts (headed place (t ∷ rest) loop) no_stmts)))
+
+-- what stands first in a for: a declaration, an assignment or other expression, or nothing (C11 6.8.5.3)
+abbrev pub judged_first : (place : ℕ) → source.ForFirst → Judging (List Stmt)
+judged_first place (source.first_declare d) = judged_declaration d
+judged_first place (source.first_simple s) = ruled (judged_simple s) (λ c x. typed (x ∷ []))
+judged_first place source.first_nothing = lone (typed [])
+
+-- the condition of a for, if it has one (C11 6.8.5.3 p2)
+abbrev pub judged_condition : (place : ℕ) → Option source.Expr → Judging (Option Expr)
+judged_condition place None = lone (typed None)
+judged_condition place (Some e) = ruled (condition place e) (λ c x. typed (Some x))
+
+-- what a for does behind each turn: an assignment or other expression, or nothing
+abbrev pub judged_step : (place : ℕ) → Option source.Simple → Judging Stmt
+judged_step place None = lone (typed (at_stmt place empty))
+judged_step place (Some s) = judged_simple s
+
+-- the parts of a for, in the order of the text
+abbrev pub looped : (place : ℕ) → Judging (List Stmt) → Judging (Option Expr) → Judging Stmt → Judging Stmt → Judging Stmt
+looped place first test step body =
+    scoped (ruled (in_turn first (in_turn test (in_turn step body)))
+    (λ c p. typed (headed place p.0 (λ s. at_stmt place (for_ s p.1.0 p.1.1.0 p.1.1.1)))))
+
+-- a statement, in a function of this result, in a loop or not; and the items of a body: a declaration may give several
+abbrev mutual
+  -- a statement where it stands: what it makes, which for a declaration is one statement for each declarator
+  pub judged_stmt : (result : Ty) → (in_loop : Bool) → source.Stmt → Judging (List Stmt)
+  judged_stmt result in_loop (source.block place items) c =
+      ruled (scoped (judged_stmts result in_loop items)) (λ d ss. typed (at_stmt place (block (stmts_of ss)) ∷ [])) c
+  judged_stmt result in_loop (source.declare d) c = judged_declaration d c
+  judged_stmt result in_loop (source.empty place) c = (typed (at_stmt place empty ∷ []), c)
+  judged_stmt result in_loop (source.if_then place e s) c =
+      ruled (in_turn (condition place e) (one_of (judged_stmt result in_loop s))) (λ d p. typed (at_stmt place (if_ p.0 p.1) ∷ [])) c
+  judged_stmt result in_loop (source.if_else place e s t) c =
+      ruled (in_turn (condition place e) (in_turn (one_of (judged_stmt result in_loop s)) (one_of (judged_stmt result in_loop t))))
+      (λ d p. typed (at_stmt place (if_else p.0 p.1.0 p.1.1) ∷ [])) c
+  judged_stmt result in_loop (source.while place e s) c =
+      ruled (in_turn (condition place e) (one_of (judged_stmt result true s))) (λ d p. typed (at_stmt place (while_ p.0 p.1) ∷ [])) c
+  judged_stmt result in_loop (source.for place first e step s) c =
+      ruled (looped place (judged_first place first) (judged_condition place e) (judged_step place step) (one_of (judged_stmt result true s))) (λ d x. typed (x ∷ [])) c
+  judged_stmt result in_loop (source.break place) c = (unless place TypeMismatch in_loop >>= λ u. typed (at_stmt place break_ ∷ []), c)
+  judged_stmt result in_loop (source.continue place) c = (unless place TypeMismatch in_loop >>= λ u. typed (at_stmt place continue_ ∷ []), c)
+  judged_stmt result in_loop (source.return place value) c = ruled (returned place result value) (λ d x. typed (x ∷ [])) c
+  judged_stmt result in_loop (source.simple s) c = ruled (judged_simple s) (λ d x. typed (x ∷ [])) c
+
+  -- the items of a body, from first to last
+  pub judged_stmts : (result : Ty) → (in_loop : Bool) → source.Stmts → Judging (List Stmt)
+  judged_stmts result in_loop source.no_stmts c = (typed [], c)
+  judged_stmts result in_loop (source.more_stmts s rest) c =
+      ruled (in_turn (judged_stmt result in_loop s) (judged_stmts result in_loop rest)) (λ d p. typed (p.0 ++ p.1)) c

@@ -1,0 +1,12 @@
+pub mod Holding
+pub mod Keeps
+pub mod Short
+pub mod Safepoints
+pub mod Calls
+pub mod Lawful
+pub mod Emitted
+pub mod Views
+pub mod Patch
+pub mod Turned
+pub mod Program
+pub mod WorkedRows

@@ -1,0 +1,4 @@
+pub mod Layout
+pub mod Stands
+pub mod Emitted
+pub mod Rows

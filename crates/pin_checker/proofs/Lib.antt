@@ -1,0 +1,9 @@
+pub mod Facts
+pub mod Order
+pub mod ReportRows
+pub mod Least
+pub mod Pairs
+pub mod Sound
+pub mod Shown
+pub mod Main
+pub mod WorkedRows

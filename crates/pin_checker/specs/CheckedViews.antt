@@ -1,0 +1,8 @@
+-- What checked code is.
+use Rattle.struct_ir.specs.Nodes as nodes
+use Rattle.struct_ir.specs.WholeViews.{ir_view}
+use Rattle.pin_checker.specs.declared.checked.Checked.{Checked}
+
+-- the program
+abbrev pub code_of : Checked → nodes.Ir
+code_of c = ir_view c.ir

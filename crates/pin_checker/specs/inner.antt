@@ -1,0 +1,3 @@
+-- What only the bodies of this crate stand on.
+pub mod Reports
+pub mod SearchViews

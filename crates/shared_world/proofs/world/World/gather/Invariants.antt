@@ -1,0 +1,9 @@
+use Rattle.std.proofs.Common.{◌≡◌, drop, map, Ok}
+use Rattle.block_store.specs.Actions.{joined_bytes, all_bytes}
+use Rattle.shared_world.specs.Worlds.{world_of, printed_of}
+use Rattle.shared_world.proofs.world.World.gather.Given as goal
+
+abbrev pub invariant-parts : goal.invariant-parts
+invariant-parts l =
+    joined_bytes (Ok l.text.items) (all_bytes (world_of l.self).blocks (map printed_of (drop l.part-index l.parts)))
+    ≡ joined_bytes (Ok l.initial.text.items) (all_bytes (world_of l.self).blocks (map printed_of l.parts))

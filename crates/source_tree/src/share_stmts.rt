@@ -1,0 +1,156 @@
+//! Statements, functions and programs with shared parts.
+
+ghost use Rattle.std.specs.Prelude.{◌≡◌, IfOk, map};
+ghost use Rattle.c_tree.specs.Typed as tree;
+ghost use Rattle.c_tree.specs.TypedViews.{stmt_view, stmt_node_view, stmts_of, func_view, typed_view};
+ghost use Rattle.source_tree.specs.SharedViews.{stmt_of, row_of, these, func_of, program_of};
+
+use crate::share_exprs::{share_expr, share_optional};
+use crate::tree::{SharedFunc, SharedProgram, SharedRow, SharedStmt};
+use ak_words::NoMemory;
+use c_tree::typed::{Func, Stmt, StmtNode, Typed};
+use std::alloc::Global;
+use std::rc::Rc;
+
+// A statement.
+#[cycle(share_stmts)]
+fn share_stmt(alloc: Global, s: &Stmt) -> Result<Rc<SharedStmt>, NoMemory>
+    ensures { IfOk result (λ shared. stmt_of shared.value ≡ stmt_view s.now) }
+{
+    let shared = share_node(alloc, s.place, &s.node)?;
+    Ok(Rc::new(alloc, shared)?)
+}
+
+// What a statement does, at its place.
+#[cycle(share_stmts)]
+#[tactic(auto, using(crate::proofs::Views::block_view))]
+fn share_node(alloc: Global, place: u32, node: &StmtNode) -> Result<SharedStmt, NoMemory>
+    ensures { IfOk result (λ shared. stmt_of shared ≡ tree.at_stmt place (stmt_node_view node.now)) }
+{
+    match node {
+        StmtNode::Block(body) => {
+            let body = share_row(alloc, body)?;
+            Ok(shared_block(place, body))
+        }
+        StmtNode::Declare(n, init) => Ok(SharedStmt::Declare(
+            place,
+            *n,
+            share_optional(alloc, init)?,
+        )),
+        StmtNode::If(e, one, None) => {
+            let e = share_expr(alloc, e)?;
+            let one = share_stmt(alloc, one)?;
+            Ok(SharedStmt::If(place, e, one))
+        }
+        StmtNode::If(e, one, Some(other)) => {
+            let e = share_expr(alloc, e)?;
+            let one = share_stmt(alloc, one)?;
+            let other = share_stmt(alloc, other)?;
+            Ok(SharedStmt::IfElse(place, e, one, other))
+        }
+        StmtNode::While(e, body) => {
+            let e = share_expr(alloc, e)?;
+            let body = share_stmt(alloc, body)?;
+            Ok(SharedStmt::While(place, e, body))
+        }
+        StmtNode::For(first, e, step, body) => {
+            let first = share_stmt(alloc, first)?;
+            let e = share_optional(alloc, e)?;
+            let step = share_stmt(alloc, step)?;
+            let body = share_stmt(alloc, body)?;
+            Ok(SharedStmt::For(place, first, e, step, body))
+        }
+        StmtNode::Break => Ok(SharedStmt::Break(place)),
+        StmtNode::Continue => Ok(SharedStmt::Continue(place)),
+        StmtNode::Return(value) => Ok(SharedStmt::Return(place, share_optional(alloc, value)?)),
+        StmtNode::Assign(left, right) => {
+            let left = share_expr(alloc, left)?;
+            let right = share_expr(alloc, right)?;
+            Ok(SharedStmt::Assign(place, left, right))
+        }
+        StmtNode::Update(left, op, right) => {
+            let left = share_expr(alloc, left)?;
+            let right = share_expr(alloc, right)?;
+            Ok(SharedStmt::Update(place, left, *op, right))
+        }
+        StmtNode::Eval(e) => Ok(SharedStmt::Eval(place, share_expr(alloc, e)?)),
+        StmtNode::Empty => Ok(SharedStmt::Empty(place)),
+    }
+}
+
+// A block.
+fn shared_block(place: u32, body: Rc<SharedRow>) -> SharedStmt
+    ensures { stmt_of result ≡ tree.at_stmt place (tree.block (row_of body.value)) }
+{
+    SharedStmt::Block(place, body)
+}
+
+// Statements in a row.
+#[cycle(share_stmts)]
+fn share_row(alloc: Global, all: &[Stmt]) -> Result<Rc<SharedRow>, NoMemory>
+    ensures { IfOk result (λ shared. row_of shared.value ≡ stmts_of (map stmt_view all.now)) }
+{
+    let mut stmts = Vec::new(alloc);
+    'each: for s in all {
+        let shared = share_stmt(alloc, s)?;
+        stmts.push(shared)?;
+    }
+    boxed_row(alloc, stmts)
+}
+
+fn boxed_row(alloc: Global, stmts: Vec<Rc<SharedStmt>>) -> Result<Rc<SharedRow>, NoMemory>
+    ensures { IfOk result (λ shared. row_of shared.value ≡ these stmts.items) }
+{
+    Ok(Rc::new(alloc, SharedRow { stmts })?)
+}
+
+// A function.
+fn share_func(alloc: Global, f: Func) -> Result<SharedFunc, NoMemory>
+    ensures { IfOk result (λ shared. func_of shared ≡ func_view f) }
+{
+    let Func {
+        params,
+        locals,
+        result,
+        body,
+    } = f;
+    let body = share_row(alloc, &body)?;
+    Ok(SharedFunc {
+        params,
+        locals,
+        result,
+        body,
+    })
+}
+
+fn share_funcs(alloc: Global, funcs: Vec<Func>) -> Result<Vec<SharedFunc>, NoMemory>
+    ensures { IfOk result (λ shared. map func_of shared.items ≡ map func_view funcs.items) }
+{
+    let mut all = Vec::new(alloc);
+    'each: for f in funcs {
+        let shared = share_func(alloc, f)?;
+        all.push(shared)?;
+    }
+    Ok(all)
+}
+
+/// The program with shared parts.
+pub fn share(alloc: Global, typed: Typed) -> Result<SharedProgram, NoMemory>
+    ensures { IfOk result (λ shared. program_of shared ≡ typed_view typed) }
+{
+    let Typed {
+        structs,
+        globals,
+        literals,
+        funcs,
+        main,
+    } = typed;
+    let funcs = share_funcs(alloc, funcs)?;
+    Ok(SharedProgram {
+        structs,
+        globals,
+        literals,
+        funcs,
+        main,
+    })
+}

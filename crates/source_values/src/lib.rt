@@ -1,0 +1,13 @@
+//! What the operators of C give of values, over named blocks, and the sizes of types.
+//! Promises upward: each operation gives the value, or names the rule, that the meaning of the source says.
+//! Stands on c_meaning's definitions, on block_store, and on c_tree for types.
+#![tactic(auto)]
+
+mod operations;
+mod pointers;
+mod types;
+
+pub use operations::{Binary, Unary, converted, int_of, of_one, of_two, truth_of, updated};
+pub use types::{
+    access_of_type, align_of, element_size, is_scalar, is_struct, member_offset, size_of,
+};

@@ -1,0 +1,226 @@
+//! Operators on values (C11 6.3, 6.5).
+
+ghost use Rattle.std.specs.Prelude.{◌≡◌, IfOk, map, Ok};
+ghost use Rattle.ak_words.specs.IntType.{long};
+ghost use Rattle.ak_words.specs.Num.{num};
+ghost use Rattle.block_store.specs.declared.values.Value.TheVariants as values;
+ghost use Rattle.c_tree.specs.TypedViews.{type_view, layout_view};
+ghost use Rattle.c_meaning.specs.Values.{int_of, truth_of, opposite, int_result, long_result, pointer_of, value_of, selected, converted, of_one, of_two, updated, operand_types, computed, converted_result};
+ghost use Rattle.source_values.specs.Operations.{unary_of, binary_of};
+
+use crate::pointers::{backward, compared, difference, forward, moved, tested};
+use crate::types::element_size;
+use ak_words::{IntType, NoMemory, Num, Op, Rule, apply, common, convert, promote};
+use block_store::{Ptr, Store, Value};
+use c_tree::typed::{CType, Layout};
+use std::rc::Rc;
+
+/// An operation on one value.
+#[derive(Drop)]
+pub enum Unary {
+    /// A conversion to a type.
+    Converts(Rc<CType>),
+    /// Whether it's 0 or null.
+    Negates,
+    /// Whether it isn't.
+    Tests,
+    /// The pointer to a member at this offset.
+    Selects(u32),
+}
+
+/// An operation on two values.
+#[derive(Clone, Copy, Debug, PartialEq, Eq)]
+pub enum Binary {
+    /// An operator on numbers.
+    Numbers(Op),
+    /// A pointer plus a number of elements of this size.
+    Forward(u32),
+    /// A pointer minus a number of elements of this size.
+    Backward(u32),
+    /// The elements of this size between two pointers.
+    Distance(u32),
+    /// A comparison of two pointers.
+    Pointers(Op),
+}
+
+/// The int that a test gives.
+pub fn int_of(holds: bool) -> Value
+    ensures { result ≡ int_of holds }
+{
+    Value::Num(Num::int(i32::from(holds)))
+}
+
+/// Whether a value counts as true, or C9 of a dead block.
+pub fn truth_of(store: &Store, v: Value) -> Result<bool, Rule>
+    ensures { result ≡ truth_of store.now v }
+{
+    match v {
+        Value::Num(n) => Ok(n.value != 0),
+        Value::Pointer(p) => tested(store, p),
+    }
+}
+
+/// A conversion to a type.
+pub fn converted(t: &CType, v: Value) -> Value
+    ensures { result ≡ converted (type_view t.now) v }
+{
+    match (t, v) {
+        (CType::Int(t), Value::Num(n)) => Value::Num(convert(n, *t)),
+        (_, v) => v,
+    }
+}
+
+// A pointer as a value.
+fn pointer_of(p: Result<Ptr, Rule>) -> Result<Value, Rule>
+    ensures { result ≡ pointer_of p }
+{
+    match p {
+        Ok(p) => Ok(Value::Pointer(p)),
+        Err(rule) => Err(rule),
+    }
+}
+
+// A number as a value.
+fn value_of(n: Result<Num, Rule>) -> Result<Value, Rule>
+    ensures { result ≡ value_of n }
+{
+    match n {
+        Ok(n) => Ok(Value::Num(n)),
+        Err(rule) => Err(rule),
+    }
+}
+
+// A test's answer as a value.
+fn int_result(answer: Result<bool, Rule>) -> Result<Value, Rule>
+    ensures { result ≡ int_result answer }
+{
+    match answer {
+        Ok(holds) => Ok(int_of(holds)),
+        Err(rule) => Err(rule),
+    }
+}
+
+// A long.
+fn long_value(z: i64) -> Value
+    ensures { result ≡ values.Num (num long z) }
+{
+    Value::Num(Num::wrapping(IntType::long(), i128::from(z)))
+}
+
+// A whole number as a value.
+fn long_result(answer: Result<i64, Rule>) -> Result<Value, Rule>
+    ensures { result ≡ long_result answer }
+{
+    match answer {
+        Ok(z) => Ok(long_value(z)),
+        Err(rule) => Err(rule),
+    }
+}
+
+// The opposite of a test's answer.
+fn opposite(answer: Result<bool, Rule>) -> Result<bool, Rule>
+    ensures { result ≡ opposite answer }
+{
+    match answer {
+        Ok(holds) => Ok(!holds),
+        Err(rule) => Err(rule),
+    }
+}
+
+// The pointer to a member.
+fn selected(store: &Store, offset: u32, v: Value) -> Result<Value, Rule>
+    ensures { result ≡ selected store.now offset v }
+{
+    match v {
+        Value::Pointer(p) => pointer_of(moved(store, p, i128::from(offset))),
+        Value::Num(_) => Err(Rule::C16),
+    }
+}
+
+/// An operation on one value.
+pub fn of_one(store: &Store, op: &Unary, v: Value) -> Result<Value, Rule>
+    ensures { result ≡ of_one store.now (unary_of op.now) v }
+{
+    match op {
+        Unary::Converts(t) => Ok(converted(t, v)),
+        Unary::Negates => int_result(opposite(truth_of(store, v))),
+        Unary::Tests => int_result(truth_of(store, v)),
+        Unary::Selects(offset) => selected(store, *offset, v),
+    }
+}
+
+/// An operation on two values. The elements of size 0 between two pointers, which no program asks for, are answered as
+/// want of memory.
+pub fn of_two(
+    store: &Store,
+    op: Binary,
+    a: Value,
+    b: Value,
+) -> Result<Result<Value, Rule>, NoMemory>
+    ensures { IfOk result (λ answer. answer ≡ of_two store.now (binary_of op) a b) }
+{
+    match (op, a, b) {
+        (Binary::Numbers(op), Value::Num(a), Value::Num(b)) => Ok(value_of(apply(op, a, b))),
+        (Binary::Forward(size), Value::Pointer(p), Value::Num(n)) => {
+            Ok(pointer_of(forward(store, p, n, size)))
+        }
+        (Binary::Backward(size), Value::Pointer(p), Value::Num(n)) => {
+            Ok(pointer_of(backward(store, p, n, size)))
+        }
+        (Binary::Distance(size), Value::Pointer(p), Value::Pointer(q)) => {
+            let distance = difference(store, p, q, size)?;
+            Ok(long_result(distance))
+        }
+        (Binary::Pointers(op), Value::Pointer(p), Value::Pointer(q)) => {
+            Ok(int_result(compared(store, op, p, q)))
+        }
+        (_, _, _) => Ok(Err(Rule::C16)),
+    }
+}
+
+// The types in which an operation on operands of these types is done.
+fn operand_types(op: Op, a: IntType, b: IntType) -> (IntType, IntType)
+    ensures { result ≡ operand_types op a b }
+{
+    match op {
+        Op::Shl => (promote(a), promote(b)),
+        Op::Shr => (promote(a), promote(b)),
+        _ => (common(a, b), common(a, b)),
+    }
+}
+
+// The same operation, and its result converted to a type.
+fn computed(t: &CType, op: Op, a: Num, b: Num) -> Result<Value, Rule>
+    ensures { result ≡ converted_result (type_view t.now) (computed op (operand_types op a.ty b.ty) a b) }
+{
+    let (left, right) = operand_types(op, a.ty, b.ty);
+    match apply(op, convert(a, left), convert(b, right)) {
+        Ok(n) => Ok(converted(t, Value::Num(n))),
+        Err(rule) => Err(rule),
+    }
+}
+
+/// What `a op= b` stores in an object of this type.
+pub fn updated(
+    structs: &[Layout],
+    store: &Store,
+    t: &CType,
+    op: Op,
+    a: Value,
+    b: Value,
+) -> Result<Result<Value, Rule>, NoMemory>
+    ensures { IfOk result (λ answer. answer ≡ updated (map layout_view structs.now) store.now (type_view t.now) op a b) }
+{
+    match (a, b) {
+        (Value::Num(a), Value::Num(b)) => Ok(computed(t, op, a, b)),
+        (Value::Pointer(p), Value::Num(n)) => {
+            let size = element_size(t, structs)?;
+            match op {
+                Op::Add => Ok(pointer_of(forward(store, p, n, size))),
+                Op::Sub => Ok(pointer_of(backward(store, p, n, size))),
+                _ => Ok(Err(Rule::C16)),
+            }
+        }
+        (_, _) => Ok(Err(Rule::C16)),
+    }
+}

@@ -1,0 +1,6 @@
+pub mod Judging
+pub mod Lookups
+pub mod Declaring
+pub mod Marking
+pub mod Tagging
+pub mod Aligning

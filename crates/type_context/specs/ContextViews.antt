@@ -1,0 +1,91 @@
+-- What the code's context is.
+use Rattle.std.specs.Prelude.{ℕ, List, map, Option, Some, None}
+use Rattle.std.specs.Borrow.{Bor}
+use Rattle.c_tree.specs.declared.typed.CType.{CType}
+use Rattle.c_tree.specs.Typed.{Ty}
+use Rattle.c_tree.specs.TypedViews.{type_view, layout_view, literal_view}
+use Rattle.type_context.specs.declared.context.Context.{Context as CodeContext}
+use Rattle.type_context.specs.declared.context.MemberType.{MemberType}
+use Rattle.type_context.specs.declared.names.Library.{Library as CodeLibrary}
+use Rattle.type_context.specs.declared.names.Library.TheVariants as codes
+use Rattle.type_context.specs.declared.names.Meaning.{Meaning as CodeMeaning}
+use Rattle.type_context.specs.declared.names.Meaning.TheVariants as meanings
+use Rattle.c_typing.specs.Scope.{Library, printf, malloc, free, memcpy, thrd_create, thrd_join, mtx_init, mtx_lock, mtx_unlock, mtx_destroy, constant}
+use Rattle.c_typing.specs.Scope.{Meaning, global_name, local_name, function_name, library_name, Frame, Context}
+
+-- the types that those of the code stand for
+abbrev pub types_view : List CType → List Ty
+types_view ts = map type_view ts
+
+-- the name of the library that one of the code stands for
+abbrev pub library_view : CodeLibrary → Library
+library_view codes.Printf = printf
+library_view codes.Malloc = malloc
+library_view codes.Free = free
+library_view codes.Memcpy = memcpy
+library_view codes.ThrdCreate = thrd_create
+library_view codes.ThrdJoin = thrd_join
+library_view codes.MtxInit = mtx_init
+library_view codes.MtxLock = mtx_lock
+library_view codes.MtxUnlock = mtx_unlock
+library_view codes.MtxDestroy = mtx_destroy
+library_view (codes.Constant value) = constant value
+
+-- a name of the library, and what it is
+abbrev pub library_entry : Bor (List ℕ) × CodeLibrary → List ℕ × Library
+library_entry e = (e.0.now, library_view e.1)
+
+-- what a name means, by what the code holds
+abbrev pub meaning_view : CodeMeaning → Meaning
+meaning_view (meanings.Global n t) = global_name n (type_view t)
+meaning_view (meanings.Local n t) = local_name n (type_view t)
+meaning_view (meanings.Function n params result) = function_name n (types_view params.items) (type_view result)
+meaning_view (meanings.Library which) = library_name (library_view which)
+
+-- what was found
+abbrev pub seen : Option (Bor CodeMeaning) → Option Meaning
+seen None = None
+seen (Some b) = Some (meaning_view b.now)
+
+-- one scope: the bytes of each name, and what it means
+abbrev pub meaning_entry : Bor (List ℕ) × CodeMeaning → List ℕ × Meaning
+meaning_entry e = (e.0.now, meaning_view e.1)
+
+-- one scope: its names in order, each with what it means
+abbrev pub frame_view : List (Bor (List ℕ) × CodeMeaning) → Frame
+frame_view es = map meaning_entry es
+
+-- bytes that lie in the text
+abbrev pub bytes_view : List (Bor (List ℕ)) → List (List ℕ)
+bytes_view bs = map (λ b. b.now) bs
+
+-- what stands before a node, by what the code holds
+abbrev pub context_view : CodeContext → Context
+context_view c = record {
+  text = c.text.now;
+  tags = bytes_view c.tags.keys;
+  structs = map layout_view c.structs.items;
+  members = map (λ m. bytes_view m.items) c.members.items;
+  begun = c.begun.items;
+  literals = map literal_view c.literals.items;
+  plain = c.plain;
+  globals = types_view c.globals.items;
+  functions = bytes_view c.functions.keys;
+  bodies = bytes_view c.bodies.items;
+  inner = frame_view c.inner.entries;
+  outer = map (λ f. frame_view f.entries) c.outer.items;
+  locals = types_view c.locals.items;
+  addressed = c.addressed.items;
+}
+
+-- a member of a struct, as it is declared, and as it is found
+abbrev pub member_type_view : MemberType → List ℕ × Ty
+member_type_view m = (m.name.now, type_view m.ty)
+
+-- the members of a struct, as they are declared
+abbrev pub members_view : List MemberType → List (List ℕ × Ty)
+members_view ms = map member_type_view ms
+
+-- the number of a member that was found, and its type
+abbrev pub member_view : ℕ × CType → ℕ × Ty
+member_view m = (m.0, type_view m.1)

@@ -1,0 +1,2 @@
+pub mod ContextViews
+pub mod inner

@@ -1,0 +1,432 @@
+//! What stands before a node: what names and tags mean there, and what the text has shown (C11 6.2.1, 6.2.3).
+ghost use Rattle.std.specs.Prelude.{◌≡◌, ◌∷◌, ◌++◌, [], List, ℕ, ◌+◌, ◌*◌, ◌/◌, length, map, set, None, OnOk, IfOk, IfErr};
+ghost use Rattle.std.specs.Option.{option_map};
+ghost use Rattle.std.specs.Map.{lookup};
+ghost use Rattle.std.specs.Str.{bytes_eq};
+ghost use Rattle.c_lex.specs.declared.refusal.CompileFault.TheVariants.{NoMemory};
+ghost use Rattle.c_tree.specs.TypedViews.{type_view};
+ghost use Rattle.c_typing.specs.Faults.{Gives};
+ghost use Rattle.c_typing.specs.Scope as scopes;
+ghost use Rattle.c_typing.specs.Scope.{bytes_of, or_else, found, meaning_of, is_double, fresh, declared, inside, back_to, within, fits_plain, tag_number, with_tag, is_begun, with_begun, with_struct, member_among, member_of};
+ghost use Rattle.c_typing.specs.Constants.{is_constant_name};
+ghost use Rattle.c_tree.specs.Typed.{Ty};
+ghost use Rattle.c_typing.specs.Judgement.{with_literal, with_addressed, meaning_in};
+ghost use Rattle.type_context.specs.inner.Contexts.{local_in};
+ghost use Rattle.c_tree.specs.TypedViews.{layout_view};
+ghost use Rattle.c_tree.specs.TypedLayout.{laid_out};
+ghost use Rattle.type_context.specs.ContextViews.{context_view, meaning_view, frame_view, seen, bytes_view, types_view, members_view, member_view};
+
+use crate::faults::unless;
+use crate::kinds::copy_type;
+use crate::layouts::lay_out;
+use crate::names::{Library, Meaning, copy_meaning, library_name};
+use c_lex::{CompileFault, Kind};
+use c_tree::syntax::Name;
+use c_tree::typed::{CType, Layout, Literal};
+use indexmap::{IndexMap, IndexSet};
+use std::alloc::{AllocError, Global};
+use std::mem;
+
+/// The bytes that globals and literals may take.
+const MOST_PLAIN: u64 = 1_048_576;
+
+/// One scope: what each name means that it declares.
+pub type Frame<'t> = IndexMap<&'t [u8], Meaning>;
+
+/// A member of a struct: its name, and its type.
+#[derive(Drop)]
+pub struct MemberType<'t> {
+    pub name: &'t [u8],
+    pub ty: CType,
+}
+
+/// What stands before a node.
+#[derive(Drop)]
+pub struct Context<'t> {
+    /// Where memory comes from.
+    pub alloc: Global,
+    /// The text.
+    pub text: &'t [u8],
+    /// The tags, in the order in which they were first named.
+    pub tags: IndexSet<&'t [u8]>,
+    /// The struct of each tag; one that isn't declared has no member.
+    pub structs: Vec<Layout>,
+    /// The names of each struct's members.
+    pub members: Vec<Vec<&'t [u8]>>,
+    /// The numbers of the structs whose braces were begun.
+    pub begun: Vec<u32>,
+    /// The literals that make a block.
+    pub literals: Vec<Literal>,
+    /// The bytes that globals and literals take.
+    pub plain: u64,
+    /// The types of the globals.
+    pub globals: Vec<CType>,
+    /// The names of the functions.
+    pub functions: IndexSet<&'t [u8]>,
+    /// The names of the functions that have a body.
+    pub bodies: Vec<&'t [u8]>,
+    /// The innermost scope.
+    pub inner: Frame<'t>,
+    /// The scopes around it, from the outermost on.
+    pub outer: Vec<Frame<'t>>,
+    /// The types of the function's locals.
+    pub locals: Vec<CType>,
+    /// The numbers of those whose address is taken.
+    pub addressed: Vec<u32>,
+}
+
+impl<'t> Context<'t> {
+    /// Before the first token.
+    pub fn at_start(alloc: Global, text: &'t [u8]) -> Context<'t>
+        ensures { context_view result ≡ scopes.at_start text.now }
+    {
+        Context {
+            alloc,
+            text,
+            tags: IndexSet::new(alloc),
+            structs: Vec::new(alloc),
+            members: Vec::new(alloc),
+            begun: Vec::new(alloc),
+            literals: Vec::new(alloc),
+            plain: 0,
+            globals: Vec::new(alloc),
+            functions: IndexSet::new(alloc),
+            bodies: Vec::new(alloc),
+            inner: IndexMap::new(alloc),
+            outer: Vec::new(alloc),
+            locals: Vec::new(alloc),
+            addressed: Vec::new(alloc),
+        }
+    }
+
+    // ---- names
+
+    /// The bytes of a name.
+    #[tactic(auto, unfolding(c_typing::specs::Scope::bytes_of))]
+    pub fn bytes(&self, name: Name) -> &'t [u8]
+        ensures { result.now ≡ bytes_of self.now.text.now name }
+    {
+        let from = name.from as usize;
+        let to = name.to as usize;
+        if from <= to && to <= self.text.len() {
+            &self.text[from..to]
+        } else {
+            &[]
+        }
+    }
+
+    // What the innermost scope that declares a name says.
+    fn declared_as(&self, bytes: &[u8]) -> Option<&Meaning>
+        ensures { seen result ≡ or_else (lookup (bytes_eq bytes.now) (context_view self.now).inner) (found (context_view self.now).outer bytes.now) }
+    {
+        match look_up(&self.inner, bytes) {
+            Some(meaning) => Some(meaning),
+            None => look_up_all(&self.outer, bytes),
+        }
+    }
+
+    /// What a name means; the library's names are declared around all else.
+    pub fn meaning_of(&self, name: Name) -> Result<Option<Meaning>, AllocError>
+        ensures { IfOk result (λ m. option_map meaning_view m ≡ meaning_of (context_view self.now) name) }
+    {
+        let bytes = self.bytes(name);
+        match self.declared_as(bytes) {
+            Some(meaning) => Ok(Some(copy_meaning(self.alloc, meaning)?)),
+            None => Ok(library_name(bytes).map(Meaning::Library)),
+        }
+    }
+
+    /// Whether the innermost scope has the name, or the library.
+    pub fn is_double(&self, name: Name) -> bool
+        ensures { result ≡ is_double (context_view self.now) name }
+    {
+        let bytes = self.bytes(name);
+        look_up(&self.inner, bytes).is_some() || library_name(bytes).is_some()
+    }
+
+    /// Whether a name may be declared in the innermost scope.
+    pub fn fresh(&self, name: Name) -> Result<(), CompileFault>
+        ensures { Gives (λ _. tt) result (fresh (context_view self.now) name) }
+    {
+        unless(name.from, Kind::DoubleName, !self.is_double(name))
+    }
+
+    /// Declares a name in the innermost scope, unless it has it.
+    pub fn declare(&mut self, name: Name, meaning: Meaning) -> Result<(), CompileFault>
+        ensures after { OnOk result (context_view self.new ≡ declared (context_view self.old) name (meaning_view meaning)) }
+        ensures memory { IfErr result (λ e. e ≡ NoMemory) }
+    {
+        if !self.is_double(name) {
+            let bytes = self.bytes(name);
+            self.inner.insert(bytes, meaning)?;
+        }
+        Ok(())
+    }
+
+    /// Begins an inner scope, which declares this much.
+    pub fn enter(&mut self, frame: Frame<'t>) -> Result<(), CompileFault>
+        ensures after { OnOk result (context_view self.new ≡ record (inside (context_view self.old)) { inner = frame_view frame.entry.entries }) }
+        ensures memory { IfErr result (λ e. e ≡ NoMemory) }
+    {
+        let around = mem::replace(&mut self.inner, frame);
+        self.outer.push(around)?;
+        Ok(())
+    }
+
+    /// Ends it, and gives back what it declared: what was around is as it was.
+    pub fn leave(&mut self) -> Frame<'t>
+        ensures around { (around : scopes.Context) → (context_view self.old).outer ≡ around.outer ++ around.inner ∷ [] → context_view self.new ≡ back_to around (context_view self.old) }
+        ensures inner { frame_view result.entries ≡ (context_view self.old).inner }
+    {
+        let around = match self.outer.pop() {
+            Some(around) => around,
+            None => IndexMap::new(self.alloc),
+        };
+        mem::replace(&mut self.inner, around)
+    }
+
+    // The number of the local that a name is.
+    fn local(&self, name: Option<Name>) -> Option<u32>
+        ensures { result ≡ local_in (meaning_in (context_view self.now) name) }
+    {
+        match name {
+            Some(name) => match self.declared_as(self.bytes(name)) {
+                Some(Meaning::Local(n, _)) => Some(*n),
+                _ => None,
+            },
+            None => None,
+        }
+    }
+
+    /// The local whose address is taken is in memory (C11 6.5.3.2 p1).
+    #[tactic(auto, using(crate::proofs::Marking::addressed_some, crate::proofs::Marking::addressed_none))]
+    pub fn mark_addressed(&mut self, name: Option<Name>) -> Result<(), CompileFault>
+        ensures after { OnOk result (context_view self.new ≡ with_addressed (context_view self.old) (meaning_in (context_view self.old) name)) }
+        ensures memory { IfErr result (λ e. e ≡ NoMemory) }
+    {
+        if let Some(n) = self.local(name) {
+            self.addressed.push(n)?;
+        }
+        Ok(())
+    }
+
+    // ---- literals, and the bytes of plain objects
+
+    /// Whether an object of so many bytes more fits.
+    pub fn fits_plain(&self, place: u32, size: u32) -> Result<(), CompileFault>
+        ensures { Gives (λ _. tt) result (fits_plain (context_view self.now) place size) }
+    {
+        let all = self.plain.checked_add(taken(size));
+        unless(
+            place,
+            Kind::TooMany(9),
+            all.is_some_and(|all| all <= MOST_PLAIN),
+        )
+    }
+
+    /// One more object of so many bytes.
+    pub fn take_plain(&mut self, size: u32) -> Result<(), CompileFault>
+        ensures after { OnOk result (context_view self.new ≡ record (context_view self.old) { plain = (context_view self.old).plain + scopes.taken size }) }
+        ensures memory { IfErr result (λ e. e ≡ NoMemory) }
+    {
+        let all = self.plain.checked_add(taken(size));
+        self.plain = all.ok_or(CompileFault::NoMemory)?;
+        Ok(())
+    }
+
+    /// One more literal; its number, and its length.
+    pub fn add_literal(&mut self, bytes: Vec<u8>) -> Result<u32, CompileFault>
+        ensures after { OnOk result (context_view self.new ≡ with_literal (context_view self.old) bytes.items) }
+        ensures number { IfOk result (λ n. n ≡ length (context_view self.old).literals) }
+        ensures memory { IfErr result (λ e. e ≡ NoMemory) }
+    {
+        let number = count(self.literals.len())?;
+        self.take_plain(count(bytes.len())?)?;
+        self.literals.push(Literal { bytes })?;
+        Ok(number)
+    }
+
+    // ---- tags
+
+    /// The number of a tag: how many were named before it.
+    pub fn tag_number(&self, tag: Name) -> Result<u32, CompileFault>
+        ensures number { IfOk result (λ n. n ≡ tag_number (context_view self.now) tag) }
+        ensures memory { IfErr result (λ e. e ≡ NoMemory) }
+    {
+        match self.tags.get_index_of(self.bytes(tag)) {
+            Some(n) => count(n),
+            None => count(self.tags.len()),
+        }
+    }
+
+    /// A tag is named: where it wasn't before, it's a struct that isn't declared.
+    pub fn name_tag(&mut self, tag: Name) -> Result<(), CompileFault>
+        ensures after { OnOk result (context_view self.new ≡ with_tag (context_view self.old) tag) }
+        ensures memory { IfErr result (λ e. e ≡ NoMemory) }
+    {
+        let bytes = self.bytes(tag);
+        if self.tags.insert(bytes)? {
+            self.structs.push(empty_layout(self.alloc))?;
+            self.members.push(Vec::new(self.alloc))?;
+        }
+        Ok(())
+    }
+
+    /// Whether a struct's braces were begun.
+    pub fn is_begun(&self, number: u32) -> bool
+        ensures { result ≡ is_begun (context_view self.now) number }
+    {
+        self.begun.iter().any(|other| *other == number)
+    }
+
+    /// A struct's braces are begun.
+    pub fn begin(&mut self, number: u32) -> Result<(), CompileFault>
+        ensures after { OnOk result (context_view self.new ≡ with_begun (context_view self.old) number) }
+        ensures memory { IfErr result (λ e. e ≡ NoMemory) }
+    {
+        self.begun.push(number)?;
+        Ok(())
+    }
+
+    // ---- members
+
+    /// A struct is declared with these members.
+    pub fn declare_struct(
+        &mut self,
+        number: u32,
+        all: Vec<MemberType<'t>>,
+    ) -> Result<(), CompileFault>
+        ensures after { OnOk result (context_view self.new ≡ with_struct (context_view self.old) number (members_view all.entry.items)) }
+        ensures memory { IfErr result (λ e. e ≡ NoMemory) }
+    {
+        let (names, types) = split(self.alloc, all)?;
+        let layout = lay_out(self.alloc, &self.structs, types)?;
+        put(&mut self.structs, number, layout);
+        put(&mut self.members, number, names);
+        Ok(())
+    }
+
+    /// The member of this name of a struct, if it is declared and has one: its number and its type.
+    pub fn member_of(&self, number: u32, name: Name) -> Result<Option<(u32, CType)>, CompileFault>
+        ensures member { IfOk result (λ m. option_map member_view m ≡ member_of (context_view self.now) number name) }
+        ensures memory { IfErr result (λ e. e ≡ NoMemory) }
+    {
+        let (Some(layout), Some(names)) = (
+            self.structs.get(number as usize),
+            self.members.get(number as usize),
+        ) else {
+            return Ok(None);
+        };
+        let Some(place) = member_place(names, self.bytes(name)) else {
+            return Ok(None);
+        };
+        match layout.types.get(place) {
+            Some(t) => Ok(Some((count(place)?, copy_type(self.alloc, t)?))),
+            None => Ok(None),
+        }
+    }
+
+    /// Whether a name stands for a constant.
+    pub fn is_constant_name(&self, name: Name) -> bool
+        ensures { result ≡ is_constant_name (meaning_of (context_view self.now) name) }
+    {
+        let bytes = self.bytes(name);
+        match self.declared_as(bytes) {
+            Some(meaning) => matches!(meaning, Meaning::Library(Library::Constant(_))),
+            None => matches!(library_name(bytes), Some(Library::Constant(_))),
+        }
+    }
+}
+
+// Puts a thing in the place of the one that has the number, if one has.
+fn put<T: Drop>(all: &mut Vec<T>, number: u32, x: T)
+    ensures { all.new.items ≡ set all.old.items number x }
+{
+    if (number as usize) < all.len() {
+        all[number as usize] = x;
+    }
+}
+
+// The place of a name among those of a struct's members.
+fn member_place(names: &[&[u8]], bytes: &[u8]) -> Option<usize>
+    ensures { result ≡ member_among 0 bytes.now (bytes_view names.now) }
+{
+    'names: for (place, name) in names.iter().enumerate() {
+        if bytes == *name {
+            return Some(place);
+        }
+    }
+    None
+}
+
+// The names of members, and their types.
+fn split<'t>(
+    alloc: Global,
+    all: Vec<MemberType<'t>>,
+) -> Result<(Vec<&'t [u8]>, Vec<CType>), CompileFault>
+    ensures names { IfOk result (λ p. bytes_view p.0.items ≡ map (λ (m : List ℕ × Ty). m.0) (members_view all.entry.items)) }
+    ensures types { IfOk result (λ p. types_view p.1.items ≡ map (λ (m : List ℕ × Ty). m.1) (members_view all.entry.items)) }
+    ensures memory { IfErr result (λ e. e ≡ NoMemory) }
+{
+    let mut names = Vec::new(alloc);
+    let mut types = Vec::new(alloc);
+    'members: for member in all {
+        names.push(member.name)?;
+        types.push(member.ty)?;
+    }
+    Ok((names, types))
+}
+
+/// A length as a count, which a table that fits in memory has.
+pub fn count(length: usize) -> Result<u32, CompileFault>
+    ensures number { IfOk result (λ n. n ≡ length) }
+    ensures memory { IfErr result (λ e. e ≡ NoMemory) }
+{
+    u32::try_from(length).map_err(|_| CompileFault::NoMemory)
+}
+
+/// Whether fewer than so many were there before.
+pub fn within(place: u32, count: u8, most: usize, before: usize) -> Result<(), CompileFault>
+    ensures { Gives (λ _. tt) result (within place count most before) }
+{
+    unless(place, Kind::TooMany(count), before < most)
+}
+
+// The bytes that a plain object takes, with one of padding behind it at least.
+fn taken(size: u32) -> u64
+    ensures { result ≡ scopes.taken size }
+{
+    16 * (u64::from(size) / 16 + 1)
+}
+
+// A struct that isn't declared.
+fn empty_layout(alloc: Global) -> Layout
+    ensures { layout_view result ≡ laid_out [] [] }
+{
+    Layout {
+        offsets: Vec::new(alloc),
+        types: Vec::new(alloc),
+        size: 0,
+        align: 1,
+    }
+}
+
+// What one scope says of a name.
+fn look_up<'a, 't>(frame: &'a Frame<'t>, bytes: &[u8]) -> Option<&'a Meaning>
+    ensures { seen result ≡ lookup (bytes_eq bytes.now) (frame_view frame.now.entries) }
+{
+    frame.get(bytes)
+}
+
+// What the innermost of these scopes that declares the name says.
+fn look_up_all<'a, 't>(frames: &'a [Frame<'t>], bytes: &[u8]) -> Option<&'a Meaning>
+    ensures { seen result ≡ found (map (λ f. frame_view f.entries) frames.now) bytes.now }
+{
+    match frames {
+        [] => None,
+        [outer, inner @ ..] => match look_up_all(inner, bytes) {
+            Some(meaning) => Some(meaning),
+            None => look_up(outer, bytes),
+        },
+    }
+}

@@ -1,0 +1,118 @@
+//! What names mean: objects, functions, and the names of the library.
+ghost use Rattle.std.specs.Prelude.{◌≡◌, IfOk, map};
+ghost use Rattle.std.specs.Option.{option_map};
+ghost use Rattle.std.specs.Map.{lookup};
+ghost use Rattle.std.specs.Str.{bytes_eq};
+ghost use Rattle.c_tree.specs.TypedViews.{type_view};
+ghost use Rattle.c_typing.specs.Scope.{library};
+ghost use Rattle.type_context.specs.ContextViews.{meaning_view, library_view, library_entry, types_view};
+
+use crate::kinds::copy_type;
+use c_tree::typed::CType;
+use std::alloc::{AllocError, Global};
+
+/// A name of the library: a call, or an int (C11 7.21, 7.22, 7.24, 7.26).
+#[derive(Clone, Copy, Debug, PartialEq, Eq)]
+pub enum Library {
+    Printf,
+    Malloc,
+    Free,
+    Memcpy,
+    ThrdCreate,
+    ThrdJoin,
+    MtxInit,
+    MtxLock,
+    MtxUnlock,
+    MtxDestroy,
+    /// An integer constant.
+    Constant(i32),
+}
+
+/// What a name means (C11 6.2.1).
+#[derive(Debug, Drop)]
+pub enum Meaning {
+    /// An object of file scope, by its number.
+    Global(u32, CType),
+    /// A local, by its number.
+    Local(u32, CType),
+    /// A function.
+    Function {
+        number: u32,
+        params: Vec<CType>,
+        result: CType,
+    },
+    /// A name of the library.
+    Library(Library),
+}
+
+/// The same types once more.
+pub fn copy_types(alloc: Global, all: &[CType]) -> Result<Vec<CType>, AllocError>
+    ensures { IfOk result (λ copies. types_view copies.items ≡ types_view all.now) }
+{
+    let mut copies = Vec::new(alloc);
+    'types: for t in all {
+        copies.push(copy_type(alloc, t)?)?;
+    }
+    Ok(copies)
+}
+
+/// The same meaning once more.
+pub fn copy_meaning(alloc: Global, meaning: &Meaning) -> Result<Meaning, AllocError>
+    ensures { IfOk result (λ copy. meaning_view copy ≡ meaning_view meaning.now) }
+{
+    match meaning {
+        Meaning::Global(n, t) => Ok(Meaning::Global(*n, copy_type(alloc, t)?)),
+        Meaning::Local(n, t) => Ok(Meaning::Local(*n, copy_type(alloc, t)?)),
+        Meaning::Function {
+            number,
+            params,
+            result,
+        } => Ok(Meaning::Function {
+            number: *number,
+            params: copy_types(alloc, params)?,
+            result: copy_type(alloc, result)?,
+        }),
+        Meaning::Library(which) => Ok(Meaning::Library(*which)),
+    }
+}
+
+/// The names of the library.
+const LIBRARY: [(&[u8], Library); 13] = [
+    (b"printf", Library::Printf),
+    (b"malloc", Library::Malloc),
+    (b"free", Library::Free),
+    (b"memcpy", Library::Memcpy),
+    (b"thrd_create", Library::ThrdCreate),
+    (b"thrd_join", Library::ThrdJoin),
+    (b"mtx_init", Library::MtxInit),
+    (b"mtx_lock", Library::MtxLock),
+    (b"mtx_unlock", Library::MtxUnlock),
+    (b"mtx_destroy", Library::MtxDestroy),
+    (b"mtx_plain", Library::Constant(0)),
+    (b"thrd_success", Library::Constant(0)),
+    (b"thrd_error", Library::Constant(1)),
+];
+
+// The name among these that the bytes spell.
+fn name_among(names: &[(&[u8], Library)], bytes: &[u8]) -> Option<Library>
+    ensures { option_map library_view result ≡ lookup (bytes_eq bytes.now) (map library_entry names.now) }
+{
+    match names {
+        [] => None,
+        [(name, which), rest @ ..] => {
+            if bytes == *name {
+                Some(*which)
+            } else {
+                name_among(rest, bytes)
+            }
+        }
+    }
+}
+
+/// The name of the library that the bytes spell.
+#[tactic(auto, unfolding(c_typing::specs::Scope::library))]
+pub fn library_name(bytes: &[u8]) -> Option<Library>
+    ensures { option_map library_view result ≡ lookup (bytes_eq bytes.now) library }
+{
+    name_among(&LIBRARY, bytes)
+}

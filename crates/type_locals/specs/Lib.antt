@@ -1,0 +1,2 @@
+pub mod LocalViews
+pub mod inner

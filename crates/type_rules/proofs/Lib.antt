@@ -1,0 +1,3 @@
+pub mod Rowed
+pub mod Fitting
+pub mod Numbers

@@ -1,0 +1,151 @@
+//! Operators on one typed operand (C11 6.5.3).
+ghost use Rattle.std.specs.Prelude.{◌≡◌, pos, negsuc};
+ghost use Rattle.ak_words.specs.Wrapped.{wrapped_value};
+ghost use Rattle.c_tree.specs.Typed.{integer, at, num, node_of, type_of};
+ghost use Rattle.c_tree.specs.TypedViews.{expr_view};
+ghost use Rattle.c_typing.specs.Faults.{Gives};
+ghost use Rattle.c_typing.specs.Rules.{is_lvalue, target, address, minus_by, plus_by, not_by, complement_by};
+
+use crate::conversions::converted;
+use ak_words::{IntType, Num, Op, promote};
+use c_lex::{CompileFault, Kind};
+use c_tree::typed::{CType, Expr, ExprNode};
+use std::alloc::Global;
+use type_context::faults::refused;
+use type_context::kinds::copy_type;
+
+/// Whether it designates an object (C11 6.3.2.1 p1).
+pub fn is_lvalue(e: &Expr) -> bool
+    ensures { result ≡ is_lvalue (node_of (expr_view e.now)) }
+{
+    match &e.node {
+        ExprNode::Literal(_) | ExprNode::Global(_) | ExprNode::Local(_) => true,
+        ExprNode::Deref(_) | ExprNode::Member(_, _) => true,
+        _ => false,
+    }
+}
+
+/// `*p` (C11 6.5.3.2).
+pub fn target(alloc: Global, place: u32, p: Expr) -> Result<Expr, CompileFault>
+    ensures { Gives expr_view result (target place (expr_view p)) }
+{
+    match &p.ty {
+        CType::Pointer(ty) => Ok(Expr {
+            place,
+            ty: copy_type(alloc, ty)?,
+            node: ExprNode::Deref(Box::new(alloc, p)?),
+        }),
+        _ => refused(place, Kind::TypeMismatch),
+    }
+}
+
+/// `&e` (C11 6.5.3.2).
+pub fn address(alloc: Global, place: u32, e: Expr) -> Result<Expr, CompileFault>
+    ensures { Gives expr_view result (address place (expr_view e)) }
+{
+    if !is_lvalue(&e) {
+        return refused(place, Kind::NotAnLvalue);
+    }
+    let ty = copy_type(alloc, &e.ty)?;
+    Ok(Expr {
+        place,
+        ty: CType::Pointer(Box::new(alloc, ty)?),
+        node: ExprNode::AddrOf(Box::new(alloc, e)?),
+    })
+}
+
+// A number of a type, which it becomes there.
+fn number(place: u32, ty: IntType, value: i128) -> Expr
+    ensures { expr_view result ≡ at place (integer ty) (num ty (wrapped_value ty value)) }
+{
+    Expr {
+        place,
+        ty: CType::Int(ty),
+        node: ExprNode::Num(Num::wrapping(ty, value)),
+    }
+}
+
+// The constant 0 of a type.
+fn zero(place: u32, ty: IntType) -> Expr
+    ensures { expr_view result ≡ at place (integer ty) (num ty (pos 0)) }
+{
+    Expr {
+        place,
+        ty: CType::Int(ty),
+        node: ExprNode::Num(Num { ty, value: 0 }),
+    }
+}
+
+/// `-e` is `0 - e`, promoted (C11 6.5.3.3).
+pub fn minus(alloc: Global, place: u32, e: Expr) -> Result<Expr, CompileFault>
+    ensures { Gives expr_view result (minus_by place (type_of (expr_view e)) (expr_view e)) }
+{
+    match &e.ty {
+        CType::Int(t) => {
+            let t = *t;
+            let promoted = promote(t);
+            let e = converted(alloc, t, promoted, e)?;
+            let zero = zero(place, promoted);
+            Ok(Expr {
+                place,
+                ty: CType::Int(promoted),
+                node: ExprNode::Binary(Op::Sub, Box::new(alloc, zero)?, Box::new(alloc, e)?),
+            })
+        }
+        _ => refused(place, Kind::TypeMismatch),
+    }
+}
+
+/// `+e` is `e`, promoted, and no object (C11 6.5.3.3).
+pub fn plus(alloc: Global, place: u32, e: Expr) -> Result<Expr, CompileFault>
+    ensures { Gives expr_view result (plus_by place (type_of (expr_view e)) (expr_view e)) }
+{
+    match &e.ty {
+        CType::Int(t) => Ok(Expr {
+            place,
+            ty: CType::Int(promote(*t)),
+            node: ExprNode::Convert(Box::new(alloc, e)?),
+        }),
+        _ => refused(place, Kind::TypeMismatch),
+    }
+}
+
+/// `!e` is whether a number is 0 or a pointer is null (C11 6.5.3.3).
+pub fn not(alloc: Global, place: u32, e: Expr) -> Result<Expr, CompileFault>
+    ensures { Gives expr_view result (not_by place (type_of (expr_view e)) (expr_view e)) }
+{
+    let operand = match &e.ty {
+        CType::Int(_) => e,
+        CType::Pointer(_) => Expr {
+            place,
+            ty: CType::Int(IntType::int()),
+            node: ExprNode::PtrTest(Box::new(alloc, e)?),
+        },
+        _ => return refused(place, Kind::TypeMismatch),
+    };
+    Ok(Expr {
+        place,
+        ty: CType::Int(IntType::int()),
+        node: ExprNode::Not(Box::new(alloc, operand)?),
+    })
+}
+
+/// `~e` is `e` exclusive or all ones, promoted (C11 6.5.3.3).
+pub fn complement(alloc: Global, place: u32, e: Expr) -> Result<Expr, CompileFault>
+    ensures { Gives expr_view result (complement_by place (type_of (expr_view e)) (expr_view e)) }
+{
+    match &e.ty {
+        CType::Int(t) => {
+            let t = *t;
+            let promoted = promote(t);
+            let e = converted(alloc, t, promoted, e)?;
+            let ones = number(place, promoted, -1);
+            Ok(Expr {
+                place,
+                ty: CType::Int(promoted),
+                node: ExprNode::Binary(Op::Xor, Box::new(alloc, e)?, Box::new(alloc, ones)?),
+            })
+        }
+        _ => refused(place, Kind::TypeMismatch),
+    }
+}
