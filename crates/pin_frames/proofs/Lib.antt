@@ -8,3 +8,7 @@ pub mod OneByOne
 pub mod Backwards
 pub mod Seated
 pub mod LiveRows
+pub mod ListRows
+pub mod Below
+pub mod Valid
+pub mod Programs

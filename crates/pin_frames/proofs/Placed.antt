@@ -28,7 +28,7 @@ use Rattle.pin_frames.proofs.Pin.{pin_answer, pin_fair, pinned_fact, Lists, each
 use Rattle.pin_frames.proofs.Stand.{stands_placed}
 use Rattle.pin_frames.proofs.Seat.{sat, erase_seated, some_seated, each_seated}
 
-own_listing : (slot_of : ℕ → ℕ) (a : Act) (l : List ℕ) → own slot_of (act_listing a l) ≡ own slot_of a
+pub own_listing : (slot_of : ℕ → ℕ) (a : Act) (l : List ℕ) → own slot_of (act_listing a l) ≡ own slot_of a
 own_listing slot_of (set to calc) l = refl
 own_listing slot_of (call c) l = refl
 own_listing slot_of (step x) l = refl
@@ -37,7 +37,7 @@ own_listing slot_of (safepoint old) l = refl
 own_listing slot_of (begin_object i) l = refl
 own_listing slot_of (end_object i) l = refl
 
-fresh_listing : (slot b : ℕ) (a : Act) (l : List ℕ) (v : Bool) → fresh slot b (act_listing a l) v ≡ fresh slot b a v
+pub fresh_listing : (slot b : ℕ) (a : Act) (l : List ℕ) (v : Bool) → fresh slot b (act_listing a l) v ≡ fresh slot b a v
 fresh_listing slot b (set to calc) l v = refl
 fresh_listing slot b (call c) l v = refl
 fresh_listing slot b (step x) l v = refl
@@ -46,7 +46,7 @@ fresh_listing slot b (safepoint old) l v = refl
 fresh_listing slot b (begin_object i) l v = refl
 fresh_listing slot b (end_object i) l v = refl
 
-serves_listing : (slot b : ℕ) (a : Act) (l : List ℕ) (t : State) → Serves slot b a t → Serves slot b (act_listing a l) t
+pub serves_listing : (slot b : ℕ) (a : Act) (l : List ℕ) (t : State) → Serves slot b a t → Serves slot b (act_listing a l) t
 serves_listing slot b (set to calc) l t s = s
 serves_listing slot b (call c) l t s = s
 serves_listing slot b (step x) l t s = s
@@ -93,10 +93,10 @@ module _ (slot_of : ℕ → ℕ) (apart : AreApart slot_of) (bs : List ℕ) (ns 
   abbrev strange : Act → Bool
   strange a = not (own slot_of a)
 
-  out_some : (f : Act → Bool) → ((slots : List ℕ) → f (safepoint slots) ≡ false) → ((a : Act) (l : List ℕ) → f (act_listing a l) ≡ f a) → some_act f out ≡ some_act f ns
+  pub out_some : (f : Act → Bool) → ((slots : List ℕ) → f (safepoint slots) ≡ false) → ((a : Act) (l : List ℕ) → f (act_listing a l) ≡ f a) → some_act f out ≡ some_act f ns
   out_some f blind same = some_listed slot_of bs f same seats none_held none_later ∙ some_seated f blind ns
 
-  out_own : some_act strange out ≡ false
+  pub out_own : some_act strange out ≡ false
   out_own = out_some strange (λ slots. refl) (λ a l. ap not (own_listing slot_of a l)) ∙ owns
 
   out_uses : (s b : ℕ) → some_act (uses s b) out ≡ some_act (uses s b) ns
@@ -147,7 +147,7 @@ module _ (slot_of : ℕ → ℕ) (apart : AreApart slot_of) (bs : List ℕ) (ns 
   Theirs = (b : ℕ) × IsIn bs b
 
   abbrev Shown : Theirs → Act → Position → Type 0
-  Shown x a k = (list : List ℕ) → list_of a ≡ Some list → (t : State) × Seen (held x.0) (held_fair x.0) start k t × (lacks (slot_of x.0) list ≡ not (wanted slot_of x.0 a t (live_at (slot_of x.0) x.0 k).on))
+  Shown x a k = (list : List ℕ) → list_of a ≡ Some list → (t : State) × Seen false (held x.0) (held_fair x.0) start k t × (lacks (slot_of x.0) list ≡ not (wanted slot_of x.0 a t (live_at (slot_of x.0) x.0 k).on))
 
   shown : EveryAct (λ a k. (x : Theirs) → Shown x a k) out done
   shown = every_all Theirs Shown out done (λ x.
@@ -194,7 +194,7 @@ module _ (slot_of : ℕ → ℕ) (apart : AreApart slot_of) (bs : List ℕ) (ns 
           | inl av ↦ (let l' : (live_at (slot_of b) b k).on ≡ true = subst (λ y. (live_at y b k).on ≡ true) v.0 l in
               by_bool (λ y. is_bad x.0 ≡ y → ((not y && (live_at (slot_of b) b k).on) || uses (slot_of b) b a) ≡ true) (is_bad x.0)
               (λ g _. absurd (
-              let seen : Seen (held b) (held_fair b) start k bad = subst (λ t. Seen (held b) (held_fair b) start k t) (bad_is x.0 g) x.1 in
+              let seen : Seen false (held b) (held_fair b) start k bad = subst (λ t. Seen false (held b) (held_fair b) start k t) (bad_is x.0 g) x.1 in
               let yes = held_answer structured s b seen.0 (sym (fresh_answer structured s b seen.0) ∙ av seen.0 seen.1) in
               both_ways (answer structured (held b) seen.0) seen.2 yes))
               (λ g _. or_left _ _ l') refl)

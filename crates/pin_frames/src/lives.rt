@@ -36,7 +36,8 @@ fn either(a: bool, b: bool) -> bool
     a || b
 }
 
-fn act_live(slot: u32, b: u32, n: &Node, later: bool) -> bool
+/// Whether one comes at or behind the act.
+pub(crate) fn act_live(slot: u32, b: u32, n: &Node, later: bool) -> bool
     ensures { result ≡ (act_is (lively.uses slot b) (node_view n.now) || (not (looks_slot slot (node_view n.now)) && later)) }
 {
     uses(slot, b, n) || (!looks_into(slot, n) && later)
