@@ -1,0 +1,14 @@
+pub mod Listed
+pub mod Exact
+pub mod Pin
+pub mod Seat
+pub mod Stand
+pub mod Placed
+pub mod OneByOne
+pub mod Backwards
+pub mod Seated
+pub mod LiveRows
+pub mod ListRows
+pub mod Below
+pub mod Valid
+pub mod Programs

@@ -1,0 +1,101 @@
+-- Rows with one slot more in their lists, as the program makes them.
+use Rattle.std.proofs.lemmas.List.{drop_all}
+use Rattle.std.proofs.Math.Seq.{take-append_seam}
+use Rattle.std.proofs.Common.{sym, ◌<◌, ◌≤◌, ◌-◌, length, length-append, drop, take, get_or, slice_index_or, ◌≡◌, ◌+◌, ℕ, List, [], ◌∷◌, ◌++◌, Bool, true, false, refl, ap, subst, ◌∙◌, arith}
+use Rattle.std.specs.Global.{Vec}
+use Rattle.struct_ir.specs.declared.code.Node.{Node as CodeNode}
+use Rattle.struct_ir.specs.declared.code.NodeKind.TheViews as views
+use Rattle.struct_ir.specs.Nodes.{Node, plain, if_, loop, break_, next_, ret, Nodes, no_nodes, more_nodes}
+use Rattle.struct_ir.specs.Views.{node_view, nodes_view, followed}
+use Rattle.struct_ir.proofs.Views.{if_is, loop_is, followed_none}
+use Rattle.pin_flow.specs.declared.state.Table.{Table}
+use Rattle.pin_flow.specs.Marks.{State, Ways, end_state, head_of, flow, flow_node}
+use Rattle.pin_flow.specs.Held.{held}
+use Rattle.pin_flow.specs.Live.{Live, lives, live, live_node, head_live, latch_live, body_lives, latch_lives}
+use Rattle.pin_flow.specs.Views.{entry_of, IsTable}
+use Rattle.pin_flow.proofs.Order.{flow_idle, node_idle}
+use Rattle.pin_flow.proofs.TableRows.{reads, split_at}
+use Rattle.pin_frames.specs.inner.Place.{listed_one, listed_one_in, behind, last_in}
+
+last_append : (xs : List Bool) (y : Bool) → last_in (xs ++ (y ∷ [])) ≡ y
+last_append [] y = refl
+last_append (x ∷ []) y = refl
+last_append (x ∷ z ∷ rest) y = last_append (z ∷ rest) y
+
+-- the last of them is that of the row's start
+pub last_behind : (slot b : ℕ) (ns : Nodes) (l : Live) → last_in (behind slot b ns l) ≡ live slot b ns l
+unfolding live
+last_behind slot b no_nodes l = refl
+last_behind slot b (more_nodes n rest) l = last_append (behind slot b rest l) (live slot b (more_nodes n rest) l)
+
+-- read from the end
+last_at : (xs : List Bool) (x : Bool) → slice_index_or (x ∷ xs) (length xs) false ≡ last_in (x ∷ xs)
+last_at [] x = refl
+last_at (y ∷ rest) x = last_at rest y
+
+pub last_read : (xs : List Bool) → 1 ≤ length xs → slice_index_or xs (length xs - 1) false ≡ last_in xs
+last_read [] le = absurd (omega arith)
+last_read (x ∷ rest) le =
+    let e : length (x ∷ rest) - 1 ≡ length rest = omega arith in
+    ap (λ n. slice_index_or (x ∷ rest) n false) e ∙ last_at rest x
+
+take_last : (xs : List Bool) (y : Bool) → take (length (xs ++ (y ∷ [])) - 1) (xs ++ (y ∷ [])) ≡ xs
+take_last xs y =
+    let e : length (xs ++ (y ∷ [])) - 1 ≡ length xs = omega (arith, length-append xs (y ∷ [])) in
+    ap (λ n. take n (xs ++ (y ∷ []))) e ∙ take-append_seam xs (y ∷ [])
+
+-- one more behind
+pub behind_more : (slot b : ℕ) (x : CodeNode) (rest : List CodeNode) (l : Live) (on on' : Bool) (m : Live) (old new : List Bool) → on ≡ live slot b (nodes_view rest) l → m ≡ lives on l.out l.end
+    → on' ≡ live_node slot b (node_view x) m → old ≡ behind slot b (nodes_view rest) l → new ≡ old ++ (on' ∷ []) → new ≡ behind slot b (nodes_view (x ∷ rest)) l
+unfolding live
+behind_more slot b x rest l on on' m old new e g h o f =
+    let k : on' ≡ live slot b (nodes_view (x ∷ rest)) l = h ∙ (ap (live_node slot b (node_view x)) g ∙ ap (λ y. live_node slot b (node_view x) (lives y l.out l.end)) e) in
+    f ∙ (λ i. o i ++ (k i ∷ []))
+
+-- without the last of them, it is what is behind the next
+pub behind_popped : (slot b : ℕ) (rows : List CodeNode) (i : ℕ) (x : CodeNode) (l : Live) (old new : List Bool) (n : ℕ) → i < length rows → x ≡ get_or rows i x → old ≡ behind slot b (nodes_view (drop i rows)) l → n ≡ length old
+    → new ≡ take (n - 1) old → new ≡ behind slot b (nodes_view (drop (i + 1) rows)) l
+behind_popped slot b rows i x l old new n le is e ne f =
+    let rest = nodes_view (drop (i + 1) rows) in
+    let front = behind slot b rest l in
+    let on = live slot b (more_nodes (node_view x) rest) l in
+    let k : old ≡ front ++ (on ∷ []) = e ∙ ap (λ r. behind slot b (nodes_view r) l) (split_at rows i x le is) in
+    f ∙ (ap (λ m. take (m - 1) old) ne ∙ (ap (λ o. take (length o - 1) o) k ∙ take_last front on))
+
+-- one node more
+pub row_step : (slot b : ℕ) (rows : List CodeNode) (i : ℕ) (x y : CodeNode) (old new : List CodeNode) (s s' : State) (l m : Live) (later : Bool) (t : Table) (o : Ways) (all : Nodes) → i < length rows → x ≡ get_or rows i x
+    → followed old (listed_one slot b (nodes_view (drop i rows)) s l) ≡ all → IsTable t (flow_node (held b) (node_view x)) → o ≡ entry_of t s → s' ≡ o.on
+    → m ≡ lives later l.out l.end → later ≡ live slot b (nodes_view (drop (i + 1) rows)) l → node_view y ≡ listed_one_in slot b (node_view x) s m
+    → ((rest : Nodes) → followed new rest ≡ followed old (more_nodes (node_view y) rest))
+    → followed new (listed_one slot b (nodes_view (drop (i + 1) rows)) s' l) ≡ all
+row_step slot b rows i x y old new s s' l m later t o all le is inv table e e' me le' ye made =
+    let h = held b in
+    let rest = nodes_view (drop (i + 1) rows) in
+    let next : s' ≡ (flow_node h (node_view x) s).on = e' ∙ (ap (λ (p : Ways). p.on) e ∙ (λ j. (reads t (flow_node h (node_view x)) table (node_idle h (node_view x)) j s).on)) in
+    let node : node_view y ≡ listed_one_in slot b (node_view x) s (lives (live slot b rest l) l.out l.end) = ye ∙ (ap (listed_one_in slot b (node_view x) s) me ∙ ap (λ z. listed_one_in slot b (node_view x) s (lives z l.out l.end)) le') in
+    ap (λ u. followed new (listed_one slot b rest u l)) next
+    ∙ (made (listed_one slot b rest (flow_node h (node_view x) s).on l)
+    ∙ (ap (λ z. followed old (more_nodes z (listed_one slot b rest (flow_node h (node_view x) s).on l))) node
+    ∙ (ap (λ r. followed old (listed_one slot b (nodes_view r) s l)) (sym (split_at rows i x le is)) ∙ inv)))
+
+-- no node more
+pub row_end : (slot b : ℕ) (rows : List CodeNode) (i : ℕ) (out : List CodeNode) (s : State) (l : Live) (all : Nodes) → length rows ≤ i → followed out (listed_one slot b (nodes_view (drop i rows)) s l) ≡ all → nodes_view out ≡ all
+row_end slot b rows i out s l all le inv = sym (followed_none out) ∙ (ap (λ r. followed out (listed_one slot b (nodes_view r) s l)) (sym (drop_all i rows le)) ∙ inv)
+
+pub if_listed : (slot b : ℕ) (n x : CodeNode) (temp : ℕ) (v w one other : Vec CodeNode) (s : State) (l : Live) → n.kind ≡ views.If temp v w → node_view x ≡ if_ n.place temp (nodes_view one.items) (nodes_view other.items)
+    → nodes_view one.items ≡ listed_one slot b (nodes_view v.items) s l → nodes_view other.items ≡ listed_one slot b (nodes_view w.items) s l → node_view x ≡ listed_one_in slot b (node_view n) s l
+if_listed slot b n x temp v w one other s l is e f g = e ∙ ((λ i. if_ n.place temp (f i) (g i)) ∙ ap (λ y. listed_one_in slot b y s l) (sym (if_is n temp v w is)))
+
+pub loop_listed : (slot b : ℕ) (n x : CodeNode) (v w first second : Vec CodeNode) (s h z : State) (l p q : Live) (top end : Bool) (t u : Table) → n.kind ≡ views.Loop v w → node_view x ≡ loop n.place (nodes_view first.items) (nodes_view second.items)
+    → IsTable t (flow (held b) (nodes_view v.items)) → IsTable u (flow (held b) (nodes_view w.items)) → h ≡ head_of (entry_of t) (entry_of u) s → z ≡ end_state (entry_of t h)
+    → top ≡ head_live slot b (nodes_view v.items) (nodes_view w.items) l.on → end ≡ latch_live slot b (nodes_view v.items) (nodes_view w.items) l.on → p ≡ lives end l.on end → q ≡ lives top l.on top
+    → nodes_view first.items ≡ listed_one slot b (nodes_view v.items) h p → nodes_view second.items ≡ listed_one slot b (nodes_view w.items) z q → node_view x ≡ listed_one_in slot b (node_view n) s l
+loop_listed slot b n x v w first second s h z l p q top end t u is e ti ui he ze te ee pe qe f g =
+    let m = held b in
+    let r = reads t (flow m (nodes_view v.items)) ti (flow_idle m (nodes_view v.items)) in
+    let k = reads u (flow m (nodes_view w.items)) ui (flow_idle m (nodes_view w.items)) in
+    let hh : h ≡ head_of (flow m (nodes_view v.items)) (flow m (nodes_view w.items)) s = he ∙ (λ i. head_of (r i) (k i) s) in
+    let zz : z ≡ end_state (flow m (nodes_view v.items) (head_of (flow m (nodes_view v.items)) (flow m (nodes_view w.items)) s)) = ze ∙ (λ i. end_state (r i (hh i))) in
+    let pp : p ≡ body_lives slot b (nodes_view v.items) (nodes_view w.items) l.on = pe ∙ (λ i. lives (ee i) l.on (ee i)) in
+    let qq : q ≡ latch_lives slot b (nodes_view v.items) (nodes_view w.items) l.on = qe ∙ (λ i. lives (te i) l.on (te i)) in
+    e ∙ ((λ i. loop n.place (f i) (g i)) ∙ ((λ i. loop n.place (listed_one slot b (nodes_view v.items) (hh i) (pp i)) (listed_one slot b (nodes_view w.items) (zz i) (qq i))) ∙ ap (λ y. listed_one_in slot b y s l) (sym (loop_is n v w is))))

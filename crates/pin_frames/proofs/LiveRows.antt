@@ -1,0 +1,53 @@
+-- Lives of rows, as the program finds them.
+use Rattle.std.proofs.Common.{◌≡◌, ℕ, List, [], ◌∷◌, Bool, true, false, ◌||◌, ◌&&◌, refl, sym, ap, ◌∙◌}
+use Rattle.std.specs.Prelude.{not}
+use Rattle.std.specs.Global.{Vec}
+use Rattle.struct_ir.specs.declared.code.Node.{Node as CodeNode}
+use Rattle.struct_ir.specs.declared.code.NodeKind.TheViews as views
+use Rattle.struct_ir.specs.declared.code.NodeKind.{NodeKind}
+use Rattle.struct_ir.specs.Nodes.{Node, plain, if_, loop, break_, next_, ret}
+use Rattle.struct_ir.specs.Views.{kind_view, node_view, nodes_view}
+use Rattle.struct_ir.proofs.Views.{if_is, loop_is}
+use Rattle.pin_flow.specs.Live.{Live, lives, live, live_node, uses}
+use Rattle.pin_flow.specs.Views.{act_is, looks_slot}
+
+pub live_start : (slot b : ℕ) (l : Live) → l.on ≡ live slot b (nodes_view []) l
+unfolding live
+live_start slot b l = refl
+
+pub live_more : (slot b : ℕ) (x : CodeNode) (rest : List CodeNode) (l : Live) (on on' : Bool) (m : Live) → on ≡ live slot b (nodes_view rest) l → m ≡ lives on l.out l.end → on' ≡ live_node slot b (node_view x) m
+    → on' ≡ live slot b (nodes_view (x ∷ rest)) l
+unfolding live
+live_more slot b x rest l on on' m e g h = h ∙ (ap (live_node slot b (node_view x)) g ∙ ap (λ y. live_node slot b (node_view x) (lives y l.out l.end)) e)
+
+pub live_if : (slot b : ℕ) (n : CodeNode) (temp : ℕ) (v w : Vec CodeNode) (l : Live) (x y z : Bool) → n.kind ≡ views.If temp v w → x ≡ live slot b (nodes_view v.items) l → y ≡ live slot b (nodes_view w.items) l → z ≡ (x || y)
+    → z ≡ live_node slot b (node_view n) l
+unfolding live
+live_if slot b n temp v w l x y z is e g h = h ∙ ((λ i. e i || g i) ∙ ap (λ k. live_node slot b k l) (sym (if_is n temp v w is)))
+
+pub live_loop : (slot b : ℕ) (n : CodeNode) (v w : Vec CodeNode) (l m k : Live) (x y : Bool) → n.kind ≡ views.Loop v w → m ≡ lives false l.on false → x ≡ live slot b (nodes_view w.items) m → k ≡ lives x l.on x → y ≡ live slot b (nodes_view v.items) k
+    → y ≡ live_node slot b (node_view n) l
+unfolding live
+live_loop slot b n v w l m k x y is e g h f =
+    let end : x ≡ live slot b (nodes_view w.items) (lives false l.on false) = g ∙ ap (live slot b (nodes_view w.items)) e in
+    f ∙ (ap (live slot b (nodes_view v.items)) (h ∙ (λ i. lives (end i) l.on (end i))) ∙ ap (λ z. live_node slot b z l) (sym (loop_is n v w is)))
+
+abbrev pub is_act : Node → Bool
+is_act (plain p a) = true
+is_act (if_ p x one other) = false
+is_act (loop p body latch) = false
+is_act (break_ p) = false
+is_act (next_ p) = false
+is_act (ret p x) = false
+
+pub act_of : (n : CodeNode) (k : NodeKind) → n.kind ≡ k → is_act (kind_view n.place k) ≡ true → is_act (node_view n) ≡ true
+act_of n k e l = ap (λ x. is_act (kind_view n.place x)) e ∙ l
+
+pub live_act_at : (slot b : ℕ) (n : Node) (l : Live) → is_act n ≡ true → (act_is (uses slot b) n || (not (looks_slot slot n) && l.on)) ≡ live_node slot b n l
+unfolding live
+live_act_at slot b (plain p a) l e = refl
+live_act_at slot b (if_ p x one other) l e = absurd (let h : false ≡ true = e in cc)
+live_act_at slot b (loop p body latch) l e = absurd (let h : false ≡ true = e in cc)
+live_act_at slot b (break_ p) l e = absurd (let h : false ≡ true = e in cc)
+live_act_at slot b (next_ p) l e = absurd (let h : false ≡ true = e in cc)
+live_act_at slot b (ret p x) l e = absurd (let h : false ≡ true = e in cc)

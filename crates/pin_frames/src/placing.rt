@@ -1,0 +1,116 @@
+//! Programs with their safepoints and lists.
+
+ghost use Rattle.std.specs.Prelude.{◌≡◌, ◌<◌, ◌^◌, length, map, None, true, false, IfOk};
+ghost use Rattle.std.specs.List.{list_all};
+ghost use Rattle.struct_ir.specs.Erased.{ir_erased};
+ghost use Rattle.struct_ir.specs.Nodes.{no_nodes};
+ghost use Rattle.struct_ir.specs.Valid.{is_valid, are_placed};
+ghost use Rattle.struct_ir.specs.Views.{nodes_view, func_view};
+ghost use Rattle.struct_ir.specs.WholeViews.{ir_view};
+ghost use Rattle.pin_flow.specs.Marks.{bad};
+ghost use Rattle.pin_flow.specs.Live.{lives};
+ghost use Rattle.pin_flow.specs.Funcs.{EveryFunc, IsCovered, IsExact, IsSafe};
+ghost use Rattle.pin_flow.specs.Slots.{HasOwnSlots, slot_if};
+ghost use Rattle.pin_frames.specs.inner.Place.{seated, cleared, listed_one, listed_for, listed_each, func_placed, ir_placed};
+
+use crate::listing::list_row;
+use crate::lives::lives_of;
+use crate::seating::seat_row;
+use ak_words::NoMemory;
+use pin_flow::copies::copy_literals;
+use pin_flow::slots::{bases_of, slot_of};
+use pin_flow::state::State;
+use std::alloc::Global;
+use struct_ir::{Ir, IrFunc, Node};
+
+/// The code with a safepoint before and behind each call and at the end of each loop's step. Each
+/// list of slots has just those that are available there and used later, and those that its own
+/// step uses. Safepoints and lists that it had before are left out.
+///
+/// # Errors
+///
+/// Only want of memory.
+pub fn place(alloc: Global, ir: &Ir) -> Result<Ir, NoMemory>
+    requires named { is_valid (ir_erased (ir_view ir.now)) ≡ true }
+    requires slots { EveryFunc HasOwnSlots (ir_view ir.now) }
+    ensures erased { IfOk result (λ x. ir_erased (ir_view x) ≡ ir_erased (ir_view ir.now)) }
+    ensures slots { IfOk result (λ x. EveryFunc HasOwnSlots (ir_view x)) }
+    ensures stand { IfOk result (λ x. list_all (λ f. are_placed None f.nodes) (ir_view x).funcs ≡ true) }
+    ensures exact { IfOk result (λ x. EveryFunc IsExact (ir_view x)) }
+    ensures safe { EveryFunc IsCovered (ir_view ir.now) → IfOk result (λ x. EveryFunc IsSafe (ir_view x)) }
+    ensures valid { is_valid (ir_view ir.now) ≡ true → IfOk result (λ x. is_valid (ir_view x) ≡ true) }
+{
+    place_all(alloc, ir)
+}
+
+fn place_all(alloc: Global, ir: &Ir) -> Result<Ir, NoMemory>
+    ensures { IfOk result (λ x. ir_view x ≡ ir_placed (ir_view ir.now)) }
+{
+    let literals = copy_literals(alloc, &ir.literals)?;
+    let funcs = place_funcs(alloc, &ir.funcs)?;
+    Ok(Ir {
+        globals: ir.globals.to_vec(alloc)?,
+        literals,
+        funcs,
+        main: ir.main,
+    })
+}
+
+fn place_funcs(alloc: Global, funcs: &[IrFunc]) -> Result<Vec<IrFunc>, NoMemory>
+    ensures { IfOk result (λ v. map func_view v.items ≡ map func_placed (map func_view funcs.now)) }
+{
+    let mut out = Vec::new(alloc);
+    for f in funcs {
+        out.push(place_func(alloc, f)?)?;
+    }
+    Ok(out)
+}
+
+fn place_func(alloc: Global, f: &IrFunc) -> Result<IrFunc, NoMemory>
+    ensures { IfOk result (λ x. func_view x ≡ func_placed (func_view f.now)) }
+{
+    let temps = f.temps;
+    let bases = bases_of(alloc, f)?;
+    let nodes = list_bases(alloc, &bases, &f.nodes)?;
+    Ok(IrFunc {
+        params: f.params,
+        temps,
+        slots: f.slots,
+        objects: f.objects.to_vec(alloc)?,
+        nodes,
+    })
+}
+
+fn list_bases(alloc: Global, bases: &[u32], rows: &[Node]) -> Result<Vec<Node>, NoMemory>
+    requires { length bases.now < 2 ^ 32 }
+    ensures { IfOk result (λ v. nodes_view v.items ≡ listed_each (slot_if bases.now) bases.now (seated (cleared (nodes_view rows.now)) no_nodes)) }
+{
+    let mut code = seat_row(alloc, rows)?;
+    for b in bases {
+        code = list_base(alloc, bases, *b, code)?;
+    }
+    Ok(code)
+}
+
+fn list_base(alloc: Global, bases: &[u32], b: u32, code: Vec<Node>) -> Result<Vec<Node>, NoMemory>
+    requires { length bases.now < 2 ^ 32 }
+    ensures { IfOk result (λ v. nodes_view v.items ≡ listed_for (slot_if bases.now b) b (nodes_view code.items)) }
+{
+    match slot_of(bases, b) {
+        Some(slot) => list_one(alloc, slot, b, &code),
+        None => Ok(code),
+    }
+}
+
+fn list_one(alloc: Global, slot: u32, b: u32, code: &[Node]) -> Result<Vec<Node>, NoMemory>
+    ensures { IfOk result (λ v. nodes_view v.items ≡ listed_one slot b (nodes_view code.now) bad (lives false false false)) }
+{
+    list_row(
+        alloc,
+        slot,
+        b,
+        code,
+        State::Bad,
+        lives_of(false, false, false),
+    )
+}
