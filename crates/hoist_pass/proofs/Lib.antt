@@ -4,6 +4,7 @@ pub mod Quiet
 pub mod Same
 pub mod Done
 pub mod Hoisted
+pub mod HoistedValid
 pub mod DropRows
 pub mod LiftRows
 pub mod Programs

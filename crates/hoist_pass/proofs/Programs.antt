@@ -1,13 +1,17 @@
 -- Programs with their Looks hoisted.
 use Rattle.std.proofs.lemmas.List.{drop_all}
-use Rattle.std.proofs.Common.{◌≡◌, ℕ, ◌≤◌, List, [], ◌∷◌, map, drop, length, Option, inl, inr, refl, sym, ap, subst, ◌∙◌}
+use Rattle.std.proofs.Common.{◌≡◌, ℕ, ◌≤◌, List, [], ◌∷◌, map, drop, length, Option, Bool, true, inl, inr, refl, sym, ap, subst, ◌∙◌}
+use Rattle.std.proofs.lemmas.Bool.{and_parts, and_from}
+use Rattle.std.specs.List.{list_all}
 use Rattle.struct_ir.specs.Nodes.{Func, Ir, Nodes}
 use Rattle.struct_ir.specs.Erased.{erased, func_erased, ir_erased}
+use Rattle.struct_ir.specs.Valid.{scope_of, outside, are_nodes, is_valid}
 use Rattle.pin_flow.specs.Funcs.{AreAll, EveryFunc, IsCovered, IsHoisted}
 use Rattle.pin_flow.specs.Slots.{bases_of, slot_in, slot_if, IsIn, IsOwn, HasOwnSlots}
 use Rattle.pin_flow.proofs.Bases.{same_bases, slots_are_apart, slot_known}
 use Rattle.hoist_pass.specs.inner.Hoist.{hoisted, hoisted_one, hoisted_for, hoisted_each, func_hoisted, ir_hoisted, HoistIsRight}
 use Rattle.hoist_pass.proofs.Hoisted.{hoisting_is_right, all_erased}
+use Rattle.hoist_pass.proofs.HoistedValid.{hoisted_valid, base_below}
 
 -- each base has its slot
 hoisted_known : (bs : List ℕ) (some : List ℕ) → ((b : ℕ) → IsIn some b → IsIn bs b) → (ns : Nodes) → hoisted_each (slot_if bs) some ns ≡ hoisted (slot_in bs) some ns
@@ -52,6 +56,37 @@ all_are P Q R each (f ∷ fs) p q = (each f p.0 q.0, all_are P Q R each fs p.1 q
 
 pub every_is : (P Q R : Func → Type 0) → ((f : Func) → P f → Q f → R (func_hoisted f)) → (x : Ir) → EveryFunc P x → EveryFunc Q x → EveryFunc R (ir_hoisted x)
 every_is P Q R each x p q = all_are P Q R each x.funcs p q
+
+-- ---- valid code
+
+all_true : (test : Func → Bool) (fs : List Func) → AreAll (λ f. test f ≡ true) fs → list_all test fs ≡ true
+all_true test [] h = refl
+all_true test (f ∷ fs) h = and_from _ _ h.0 (all_true test fs h.1)
+
+true_all : (test : Func → Bool) (fs : List Func) → list_all test fs ≡ true → AreAll (λ f. test f ≡ true) fs
+true_all test [] e = tt
+true_all test (f ∷ fs) e = let p = and_parts (test f) (list_all test fs) e in (p.0, true_all test fs p.1)
+
+params_same : (fs : List Func) → map (λ (g : Func). g.params) (map func_hoisted fs) ≡ map (λ (g : Func). g.params) fs
+params_same [] = refl
+params_same (f ∷ fs) = ap (λ r. f.params ∷ r) (params_same fs)
+
+func_valid : (x : Ir) (f : Func) → HasOwnSlots f → are_nodes (scope_of x f) outside f.nodes ≡ true → are_nodes (scope_of (ir_hoisted x) (func_hoisted f)) outside (func_hoisted f).nodes ≡ true
+func_valid x f slots e =
+    let bs = bases_of f in
+    let out = hoisted (slot_in bs) bs f.nodes in
+    let still : are_nodes (scope_of x f) outside out ≡ true = hoisted_valid (scope_of x f) bs slots.few (base_below f.temps f.nodes) bs (λ b i. i) outside f.nodes e in
+    let same : are_nodes (scope_of x f) outside (func_hoisted f).nodes ≡ true = subst (λ (ns : Nodes). are_nodes (scope_of x f) outside ns ≡ true) (sym (hoisted_is bs f.nodes)) still in
+    subst (λ (l : List ℕ). are_nodes (record { temps = f.temps; slots = f.slots; objects = length f.objects; globals = length x.globals; literals = length x.literals; params = l }) outside (func_hoisted f).nodes ≡ true)
+    (sym (params_same x.funcs)) same
+
+pub whole_valid : (x : Ir) → EveryFunc HasOwnSlots x → is_valid x ≡ true → is_valid (ir_hoisted x) ≡ true
+whole_valid x slots e =
+    let before : Func → Bool = λ f. are_nodes (scope_of x f) outside f.nodes in
+    let after : Func → Bool = λ f. are_nodes (scope_of (ir_hoisted x) f) outside f.nodes in
+    all_true after (map func_hoisted x.funcs) (every_is HasOwnSlots (λ f. before f ≡ true) (λ f. after f ≡ true) (func_valid x) x slots (true_all before x.funcs e))
+
+-- ---- what is erased
 
 funcs_erased : (fs : List Func) → map func_erased (map func_hoisted fs) ≡ map func_erased fs
 funcs_erased [] = refl

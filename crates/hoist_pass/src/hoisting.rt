@@ -1,5 +1,6 @@
-ghost use Rattle.std.specs.Prelude.{◌≡◌, ◌<◌, ◌^◌, length, map, IfOk};
+ghost use Rattle.std.specs.Prelude.{◌≡◌, ◌<◌, ◌^◌, length, map, IfOk, true};
 ghost use Rattle.struct_ir.specs.Erased.{ir_erased};
+ghost use Rattle.struct_ir.specs.Valid.{is_valid};
 ghost use Rattle.struct_ir.specs.Views.{nodes_view, func_view};
 ghost use Rattle.struct_ir.specs.WholeViews.{ir_view};
 ghost use Rattle.pin_flow.specs.Funcs.{EveryFunc, IsCovered, IsHoisted};
@@ -23,8 +24,10 @@ use struct_ir::{Ir, IrFunc, Node};
 ///
 /// Only want of memory.
 pub fn hoist(alloc: Global, ir: &Ir) -> Result<Ir, NoMemory>
+    requires valid { is_valid (ir_view ir.now) ≡ true }
     requires covered { EveryFunc IsCovered (ir_view ir.now) }
     requires slots { EveryFunc HasOwnSlots (ir_view ir.now) }
+    ensures valid { IfOk result (λ x. is_valid (ir_view x) ≡ true) }
     ensures erased { IfOk result (λ x. ir_erased (ir_view x) ≡ ir_erased (ir_view ir.now)) }
     ensures covered { IfOk result (λ x. EveryFunc IsCovered (ir_view x)) }
     ensures slots { IfOk result (λ x. EveryFunc HasOwnSlots (ir_view x)) }

@@ -1,5 +1,5 @@
 //! Looks go out of loops.
-//! Promises upward: hoisted code, covered where the input is, with the same erasure and own slots.
+//! Promises upward: hoisted, valid and covered code, with the same erasure and own slots.
 //! Stands on structured code and its flow.
 #![tactic(auto)]
 

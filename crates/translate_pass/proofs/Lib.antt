@@ -1,3 +1,4 @@
 pub mod InsertedRows
+pub mod InsertedValid
 pub mod Looked
 pub mod Programs

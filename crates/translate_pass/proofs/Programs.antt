@@ -1,16 +1,17 @@
 -- Programs with Looks.
-use Rattle.std.proofs.Common.{◌≡◌, ℕ, List, [], ◌∷◌, map, length, Bool, true, false, inl, inr, refl, sym, ap, subst, ◌∙◌}
-use Rattle.std.proofs.lemmas.Bool.{and_parts, both_ways}
+use Rattle.std.proofs.Common.{◌≡◌, ℕ, List, [], ◌∷◌, map, length, Some, Bool, true, false, inl, inr, refl, sym, ap, subst, ◌∙◌, arith}
+use Rattle.std.proofs.lemmas.Bool.{and_parts, and_from, both_ways, lt-ltb}
 use Rattle.std.specs.List.{list_all}
 use Rattle.struct_ir.specs.Nodes.{Func, Ir, Nodes}
 use Rattle.struct_ir.specs.Structured.{done, then_, structured}
 use Rattle.struct_ir.specs.Erased.{erased, func_erased, ir_erased}
-use Rattle.struct_ir.specs.Valid.{scope_of, outside, are_nodes, is_valid}
+use Rattle.struct_ir.specs.Valid.{scope_of, outside, is_below_if, are_nodes, is_valid}
 use Rattle.pin_flow.specs.Looks.{some_act, act_looks, Covered}
 use Rattle.pin_flow.specs.Funcs.{AreAll, EveryFunc, IsCovered}
 use Rattle.pin_flow.specs.Slots.{accesses, bases_of, slot_in, slot_if, IsIn, IsOwn, HasOwnSlots}
-use Rattle.pin_flow.proofs.Bases.{same_bases, base_in, slots_are_apart}
+use Rattle.pin_flow.proofs.Bases.{same_bases, base_in, slot_known, slots_are_few, slots_are_apart}
 use Rattle.translate_pass.specs.inner.Insert.{inserted, func_inserted, ir_inserted}
+use Rattle.translate_pass.proofs.InsertedValid.{with_slots, erased_valid, inserted_valid}
 use Rattle.translate_pass.proofs.Looked.{erase_inserted, any_look, no_look_erased, not_looked, slot_or, inserted_known, inserted_own, inserted_covered, some_below}
 
 -- what is so of each function with its Looks, if it is valid and without Looks before
@@ -44,7 +45,7 @@ module _ (x : Ir) (f : Func) (valid : are_nodes (scope_of x f) outside f.nodes �
   known : (b : ℕ) → some_act (accesses b) f.nodes ≡ true → IsIn (bases_of f) b
   known b e = base_in f.temps f.nodes b (some_below b (scope_of x f) outside f.nodes valid e) e
 
-  same : inserted (slot_if (bases_of f)) f.nodes ≡ inserted (λ b. Rattle.std.proofs.Common.Some (slot_in (bases_of f) b)) f.nodes
+  same : inserted (slot_if (bases_of f)) f.nodes ≡ inserted (λ b. Some (slot_in (bases_of f) b)) f.nodes
   same = inserted_known (bases_of f) f.nodes known
 
   pub func_covered : IsCovered (func_inserted f)
@@ -68,6 +69,39 @@ module _ (x : Ir) (f : Func) (valid : are_nodes (scope_of x f) outside f.nodes �
     own = subst (λ (l : List ℕ). IsOwn (slot_in l) (inserted (slot_if (bases_of f)) f.nodes)) (sym bases_same) own_slots;
     looks_at_bases = λ b e. subst (λ (l : List ℕ). IsIn l b) (sym bases_same) (of_bases b e);
   }
+
+-- ---- valid code
+
+all_true : (test : Func → Bool) (fs : List Func) → AreAll (λ f. test f ≡ true) fs → list_all test fs ≡ true
+all_true test [] h = refl
+all_true test (f ∷ fs) h = and_from _ _ h.0 (all_true test fs h.1)
+
+-- each slot is one of those of the bases
+slot_below : (bs : List ℕ) (b : ℕ) → is_below_if (length bs) (slot_if bs b) ≡ true
+slot_below bs b = elim (slot_or bs b) [
+  | inl i ↦ subst (λ o. is_below_if (length bs) o ≡ true) (sym (slot_known bs b i)) (lt-ltb (slot_in bs b) (length bs) (slots_are_few bs b i))
+  | inr n ↦ subst (λ o. is_below_if (length bs) o ≡ true) (sym n) refl
+]
+
+params_same : (fs : List Func) → map (λ (g : Func). g.params) (map func_inserted fs) ≡ map (λ (g : Func). g.params) fs
+params_same [] = refl
+params_same (f ∷ fs) = ap (λ r. f.params ∷ r) (params_same fs)
+
+func_valid : (x : Ir) (f : Func) → are_nodes (scope_of x f) outside f.nodes ≡ true → func_erased f ≡ f → are_nodes (scope_of (ir_inserted x) (func_inserted f)) outside (func_inserted f).nodes ≡ true
+func_valid x f e g =
+    let bs = bases_of f in
+    let out = inserted (slot_if bs) f.nodes in
+    let bare : are_nodes (with_slots (scope_of x f) 0) outside f.nodes ≡ true
+    = subst (λ (ns : Nodes). are_nodes (with_slots (scope_of x f) 0) outside ns ≡ true) (bare_nodes x f e g) (erased_valid (scope_of x f) outside f.nodes e) in
+    let still : are_nodes (with_slots (scope_of x f) (length bs)) outside out ≡ true
+    = inserted_valid (with_slots (scope_of x f) 0) (length bs) (omega arith) (slot_if bs) (slot_below bs) outside f.nodes bare in
+    subst (λ (l : List ℕ). are_nodes (record { temps = f.temps; slots = length bs; objects = length f.objects; globals = length x.globals; literals = length x.literals; params = l }) outside out ≡ true)
+    (sym (params_same x.funcs)) still
+
+pub whole_valid : (x : Ir) → is_valid x ≡ true → ir_erased x ≡ x → is_valid (ir_inserted x) ≡ true
+whole_valid x e g =
+    all_true (λ f. are_nodes (scope_of (ir_inserted x) f) outside f.nodes) (map func_inserted x.funcs)
+    (every_is (λ f. are_nodes (scope_of (ir_inserted x) f) outside f.nodes ≡ true) x (func_valid x) e g)
 
 -- ---- what is erased
 

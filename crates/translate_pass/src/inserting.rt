@@ -23,6 +23,7 @@ use struct_ir::{Ir, IrFunc, Node, NodeKind, Place, StepNode};
 pub fn insert(alloc: Global, ir: &Ir) -> Result<Ir, NoMemory>
     requires valid { is_valid (ir_view ir.now) ≡ true }
     requires bare { ir_erased (ir_view ir.now) ≡ ir_view ir.now }
+    ensures valid { IfOk result (λ x. is_valid (ir_view x) ≡ true) }
     ensures erased { IfOk result (λ x. ir_erased (ir_view x) ≡ ir_view ir.now) }
     ensures covered { IfOk result (λ x. EveryFunc IsCovered (ir_view x)) }
     ensures slots { IfOk result (λ x. EveryFunc HasOwnSlots (ir_view x)) }

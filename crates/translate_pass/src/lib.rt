@@ -1,5 +1,5 @@
 //! A Look before each access.
-//! Promises upward: covered code with own slots, whose erasure is the input.
+//! Promises upward: valid and covered code with own slots, whose erasure is the input.
 //! Stands on structured code and its flow.
 #![tactic(auto)]
 

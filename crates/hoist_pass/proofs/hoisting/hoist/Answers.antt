@@ -1,13 +1,19 @@
-use Rattle.std.proofs.Common.{sym, ap, subst, ◌∙◌, ◌≡◌}
+use Rattle.std.proofs.Common.{sym, ap, subst, ◌∙◌, ◌≡◌, true}
 use Rattle.std.proofs.lemmas.Result.{IfOk-weaker}
 use Rattle.struct_ir.specs.Nodes.{Ir}
 use Rattle.struct_ir.specs.Erased.{ir_erased}
+use Rattle.struct_ir.specs.Valid.{is_valid}
 use Rattle.struct_ir.specs.WholeViews.{ir_view}
 use Rattle.pin_flow.specs.Funcs.{EveryFunc, IsCovered, IsHoisted}
 use Rattle.pin_flow.specs.Slots.{HasOwnSlots}
 use Rattle.hoist_pass.specs.inner.Hoist.{ir_hoisted}
-use Rattle.hoist_pass.proofs.Programs.{every_is, func_covered, func_slots, func_is_hoisted, whole_erased}
+use Rattle.hoist_pass.proofs.Programs.{every_is, func_covered, func_slots, func_is_hoisted, whole_valid, whole_erased}
 use Rattle.hoist_pass.proofs.hoisting.hoist.Goals as goal
+
+pub returns-clause-valid : goal.returns-clause-valid
+returns-clause-valid c =
+    let ir = ir_view c.args.ir.now in
+    IfOk-weaker c.hoist_all.result (λ x. ir_view x ≡ ir_hoisted ir) (λ x. is_valid (ir_view x) ≡ true) (λ x e. ap is_valid e ∙ whole_valid ir c.requires.slots c.requires.valid) c.hoist_all.ensures
 
 pub returns-clause-erased : goal.returns-clause-erased
 returns-clause-erased c =

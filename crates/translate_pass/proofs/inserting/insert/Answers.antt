@@ -1,18 +1,24 @@
-use Rattle.std.proofs.Common.{◌≡◌, true, sym, subst, ◌∙◌}
+use Rattle.std.proofs.Common.{◌≡◌, true, sym, ap, subst, ◌∙◌}
 use Rattle.std.proofs.lemmas.Result.{IfOk-weaker}
 use Rattle.struct_ir.specs.Nodes.{Ir}
 use Rattle.struct_ir.specs.Erased.{ir_erased}
+use Rattle.struct_ir.specs.Valid.{is_valid}
 use Rattle.struct_ir.specs.WholeViews.{ir_view}
 use Rattle.pin_flow.specs.Funcs.{EveryFunc, IsCovered}
 use Rattle.pin_flow.specs.Slots.{HasOwnSlots}
 use Rattle.translate_pass.specs.inner.Insert.{ir_inserted}
-use Rattle.translate_pass.proofs.Programs.{every_is, func_covered, func_slots, whole_erased}
+use Rattle.translate_pass.proofs.Programs.{every_is, func_covered, func_slots, whole_valid, whole_erased}
 use Rattle.translate_pass.proofs.inserting.insert.Goals as goal
+
+pub returns-clause-valid : goal.returns-clause-valid
+returns-clause-valid c =
+    let ir = ir_view c.args.ir.now in
+    IfOk-weaker c.insert_all.result (λ x. ir_view x ≡ ir_inserted ir) (λ x. is_valid (ir_view x) ≡ true) (λ x e. ap is_valid e ∙ whole_valid ir c.requires.valid c.requires.bare) c.insert_all.ensures
 
 pub returns-clause-erased : goal.returns-clause-erased
 returns-clause-erased c =
     let ir = ir_view c.args.ir.now in
-    IfOk-weaker c.insert_all.result (λ x. ir_view x ≡ ir_inserted ir) (λ x. ir_erased (ir_view x) ≡ ir) (λ x e. Rattle.std.proofs.Common.ap ir_erased e ∙ (whole_erased ir ∙ c.requires.bare)) c.insert_all.ensures
+    IfOk-weaker c.insert_all.result (λ x. ir_view x ≡ ir_inserted ir) (λ x. ir_erased (ir_view x) ≡ ir) (λ x e. ap ir_erased e ∙ (whole_erased ir ∙ c.requires.bare)) c.insert_all.ensures
 
 pub returns-clause-covered : goal.returns-clause-covered
 returns-clause-covered c =
