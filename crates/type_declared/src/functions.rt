@@ -1,0 +1,209 @@
+//! The names and types of functions (C11 6.7 p3, 6.7.6.3, 6.9.1).
+ghost use Rattle.std.specs.Prelude.{◌≡◌, ℕ, List, OnOk, IfErr};
+ghost use Rattle.std.specs.List.{list_any};
+ghost use Rattle.std.specs.Option.{option_map};
+ghost use Rattle.std.specs.Str.{bytes_eq};
+ghost use Rattle.c_lex.specs.declared.refusal.CompileFault.TheVariants.{NoMemory};
+ghost use Rattle.c_tree.specs.SyntaxViews as source;
+ghost use Rattle.c_tree.specs.TypedViews.{type_view};
+ghost use Rattle.c_typing.specs.Faults.{Gives};
+ghost use Rattle.c_typing.specs.Programs.{place_of_name, once, agrees, is_new, first_time, one_body, before_name, not_library, name_fine, result_type, with_body, param_type};
+ghost use Rattle.type_context.specs.ContextViews.{context_view, bytes_view, types_view, seen};
+ghost use Rattle.type_declared.specs.FunctionNames.{IsDefined};
+
+use c_lex::{CompileFault, Kind};
+use c_tree::syntax::{Block, Name};
+use c_tree::typed::CType;
+use indexmap::IndexMap;
+use type_context::context::{Context, within};
+use type_context::faults::{refused, unless};
+use type_context::kinds::{has_size, is_struct_or_mutex, same_type, same_types};
+use type_context::names::{Meaning, library_name};
+use type_outcomes::outcomes::both_fine;
+
+/// The functions that have a body anywhere in the file: the place of each one's name among theirs.
+#[derive(Drop)]
+pub struct Defined<'t> {
+    pub places: IndexMap<&'t [u8], u32>,
+    pub count: u32,
+}
+
+impl<'t> Defined<'t> {
+    // Whether a function of the name has a body.
+    fn has(&self, bytes: &[u8]) -> bool
+        ensures { (names : List (List ℕ)) → IsDefined names self.now → result ≡ list_any (bytes_eq bytes.now) names }
+    {
+        self.places.get(bytes).is_some()
+    }
+
+    // The number of the function of the name.
+    fn place(&self, bytes: &[u8]) -> u32
+        ensures { (names : List (List ℕ)) → IsDefined names self.now → result ≡ place_of_name bytes.now names }
+    {
+        match self.places.get(bytes) {
+            Some(n) => *n,
+            None => self.count,
+        }
+    }
+}
+
+// ---- what a name meant before
+
+// The name of a function was one of a function before, or of nothing.
+fn once(place: u32, before: Option<&Meaning>) -> Result<(), CompileFault>
+    ensures { Gives (λ _. tt) result (once place (seen before.entry)) }
+{
+    match before {
+        Some(Meaning::Function { .. }) | None => Ok(()),
+        Some(_) => refused(place, Kind::DoubleName),
+    }
+}
+
+// A function is declared again with the type that it had.
+fn agrees(
+    place: u32,
+    params: &[CType],
+    returned: &CType,
+    before: Option<&Meaning>,
+) -> Result<(), CompileFault>
+    ensures { Gives (λ _. tt) result (agrees place (types_view params.now) (type_view returned.now) (seen before.entry)) }
+{
+    match before {
+        Some(
+            Meaning::Function {
+                params: types,
+                result: other,
+                ..
+            },
+        ) => {
+            let same = same_types(params, types) && same_type(returned, other);
+            unless(place, Kind::TypeMismatch, same)
+        }
+        _ => Ok(()),
+    }
+}
+
+// Whether no function had the name.
+fn is_new(before: Option<&Meaning>) -> bool
+    ensures { result ≡ is_new (seen before.entry) }
+{
+    !matches!(before, Some(Meaning::Function { .. }))
+}
+
+// What a name meant before at file scope.
+fn before_name<'a>(context: &'a Context<'_>, name: Name) -> Option<&'a Meaning>
+    ensures { seen result ≡ before_name (context_view context.now) name }
+{
+    context.inner.get(context.bytes(name))
+}
+
+// ---- what is judged at a function's name
+
+// A function that is new has a body anywhere, and there are 8,192 names at most.
+fn first_time(
+    context: &Context<'_>,
+    defined: &Defined<'_>,
+    name: Name,
+    new: bool,
+) -> Result<(), CompileFault>
+    ensures { (names : List (List ℕ)) → IsDefined names defined.now → Gives (λ _. tt) result (first_time (context_view context.now) names name new) }
+{
+    if !new {
+        return Ok(());
+    }
+    let known = unless(
+        name.from,
+        Kind::UnknownName,
+        defined.has(context.bytes(name)),
+    );
+    both_fine(known, within(name.from, 1, 8192, context.functions.len()))
+}
+
+// Whether a name is among others.
+fn is_among(names: &[&[u8]], bytes: &[u8]) -> bool
+    ensures { result ≡ list_any (bytes_eq bytes.now) (bytes_view names.now) }
+{
+    'names: for name in names {
+        if bytes == *name {
+            return true;
+        }
+    }
+    false
+}
+
+// A function has one body.
+fn one_body(context: &Context<'_>, name: Name, body: &Option<Block>) -> Result<(), CompileFault>
+    ensures { Gives (λ _. tt) result (one_body (context_view context.now) name (option_map source.body_view body.now)) }
+{
+    match body {
+        Some(_) => {
+            let again = is_among(&context.bodies, context.bytes(name));
+            unless(name.from, Kind::DoubleName, !again)
+        }
+        None => Ok(()),
+    }
+}
+
+// A function's name is none of the library.
+fn not_library(context: &Context<'_>, name: Name) -> Result<(), CompileFault>
+    ensures { Gives (λ _. tt) result (not_library (context_view context.now) name) }
+{
+    let is_free = library_name(context.bytes(name)).is_none();
+    unless(name.from, Kind::DoubleName, is_free)
+}
+
+/// All that is judged at a function's name, whatever its type is.
+pub fn name_fine(
+    context: &Context<'_>,
+    defined: &Defined<'_>,
+    name: Name,
+    body: &Option<Block>,
+) -> Result<(), CompileFault>
+    ensures { (names : List (List ℕ)) → IsDefined names defined.now → Gives (λ _. tt) result (name_fine (context_view context.now) names name (option_map source.body_view body.now)) }
+{
+    let before = before_name(context, name);
+    let free = both_fine(not_library(context, name), once(name.from, before));
+    let first = first_time(context, defined, name, is_new(before));
+    both_fine(free, both_fine(first, one_body(context, name, body)))
+}
+
+/// What is judged there by its type.
+pub fn type_fine(
+    context: &Context<'_>,
+    name: Name,
+    params: &[CType],
+    returned: &CType,
+) -> Result<(), CompileFault>
+    ensures { Gives (λ _. tt) result (agrees name.from (types_view params.now) (type_view returned.now) (before_name (context_view context.now) name)) }
+{
+    agrees(name.from, params, returned, before_name(context, name))
+}
+
+/// A function returns no struct, no mutex and no array.
+#[tactic(auto, using(type_context::proofs::Judging::fails_part))]
+pub fn result_type(place: u32, t: CType) -> Result<CType, CompileFault>
+    ensures { Gives type_view result (result_type place (type_view t)) }
+{
+    unless(place, Kind::OutsideSubset(13), !is_struct_or_mutex(&t))?;
+    Ok(t)
+}
+
+/// A parameter's type has a size, and is no struct and no mutex.
+#[tactic(auto, using(type_context::proofs::Judging::fails_part))]
+pub fn param_type(context: &Context<'_>, place: u32, t: CType) -> Result<CType, CompileFault>
+    ensures { Gives type_view result (param_type (context_view context.now) place (type_view t)) }
+{
+    unless(place, Kind::BadSize, has_size(&context.structs, &t))?;
+    unless(place, Kind::OutsideSubset(13), !is_struct_or_mutex(&t))?;
+    Ok(t)
+}
+
+/// A function has a body.
+pub fn add_body(context: &mut Context<'_>, name: Name) -> Result<(), CompileFault>
+    ensures after { OnOk result (context_view context.new ≡ with_body (context_view context.old) name) }
+    ensures memory { IfErr result (λ e. e ≡ NoMemory) }
+{
+    let bytes = context.bytes(name);
+    context.bodies.push(bytes)?;
+    Ok(())
+}

@@ -1,0 +1,66 @@
+//! What a global starts with (C11 6.7.9).
+ghost use Rattle.std.specs.Prelude.{◌≡◌, Option};
+ghost use Rattle.std.specs.Option.{option_map};
+ghost use Rattle.c_tree.specs.SyntaxViews as source;
+ghost use Rattle.c_tree.specs.Typed.{node_of};
+ghost use Rattle.c_tree.specs.TypedViews.{type_view, expr_view, init_view};
+ghost use Rattle.c_typing.specs.Faults.{Gives};
+ghost use Rattle.c_typing.specs.Programs.{is_null_word, literal_of, number_at, string_at, started_with};
+
+use ak_words::{IntType, Num};
+use c_lex::{CompileFault, Kind};
+use c_tree::syntax as tree;
+use c_tree::typed::{CType, Expr, ExprNode, Init};
+use type_context::faults::refused;
+use type_context::kinds::same_int;
+
+/// Whether an expression is `NULL`, in brackets or not.
+pub fn is_null_word(e: &tree::Expr) -> bool
+    ensures { result ≡ is_null_word (source.expr_view e.now) }
+{
+    match e {
+        tree::Expr::Null { .. } => true,
+        tree::Expr::Group(e) => is_null_word(e),
+        _ => false,
+    }
+}
+
+/// The literal that a value is the first element of.
+pub fn literal_of(e: &Expr) -> Option<u32>
+    ensures { result ≡ literal_of (node_of (expr_view e.now)) }
+{
+    match &e.node {
+        ExprNode::Decay(array) => match &array.node {
+            ExprNode::Literal(n) => Some(*n),
+            _ => None,
+        },
+        _ => None,
+    }
+}
+
+/// A number of a type.
+pub fn number_at(t: IntType, n: Option<Num>) -> Option<Init>
+    ensures { option_map init_view result ≡ number_at t n }
+{
+    n.map(|n| Init::Num(Num::wrapping(t, n.value)))
+}
+
+/// A string, for a `char *`.
+pub fn string_at(t: &CType, n: Option<u32>) -> Option<Init>
+    ensures { option_map init_view result ≡ string_at (type_view t.now) n }
+{
+    match (t, n) {
+        (CType::Int(t), Some(n)) if same_int(*t, IntType::char()) => Some(Init::Literal(n)),
+        _ => None,
+    }
+}
+
+/// What a global starts with, at its name.
+pub fn started_with(place: u32, init: Option<Init>) -> Result<Init, CompileFault>
+    ensures { Gives init_view result (started_with place (option_map init_view init)) }
+{
+    match init {
+        Some(init) => Ok(init),
+        None => refused(place, Kind::TypeMismatch),
+    }
+}
