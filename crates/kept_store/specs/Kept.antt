@@ -5,7 +5,6 @@ use Rattle.block_store.specs.declared.values.LockEnd.{LockEnd}
 use Rattle.block_store.specs.declared.values.LockEnd.TheVariants as ends
 use Rattle.block_store.specs.Blocks.{Blocks}
 
--- the blocks as they are now, and as they were when they were kept (this project's profile)
 pub record Kept : Type 0 where
   pub now : Blocks
   pub kept : Blocks

@@ -12,7 +12,7 @@ use c_tree::typed::{CType, Expr, ExprNode, Lib};
 use std::alloc::Global;
 use std::rc::Rc;
 
-/// An expression, with shared parts.
+// An expression.
 #[cycle(share)]
 pub fn share_expr(alloc: Global, e: &Expr) -> Result<Rc<SharedExpr>, NoMemory>
     ensures { IfOk result (λ shared. expr_of shared.value ≡ expr_view e.now) }
