@@ -12,7 +12,8 @@ use Rattle.struct_ir.proofs.Lawful.{lawful_code_shrinks}
 use Rattle.struct_ir.proofs.Level.{same_events}
 use Rattle.struct_ir.proofs.Mirrors.{mirrors_runs}
 use Rattle.emit_code.specs.Layout.{long, emit, code_of, func_linear, linear_of}
-use Rattle.emit_code.specs.Stands.{Holds, StandsAt, StandsIn, nodes_if, start_of}
+use Rattle.pin_flow.specs.Funcs.{nodes_if, start_of}
+use Rattle.emit_code.specs.Stands.{Holds, StandsAt, StandsIn}
 use Rattle.emit_code.specs.Emitted.{row_count, nodes_count, SameFrames, IsEmitted, LinearCodeKeepsRuns, LinearCodeKeepsEvents}
 use Rattle.emit_code.proofs.Holding.{has_all, has_front}
 use Rattle.emit_code.proofs.Short.{code_short}

@@ -11,7 +11,8 @@ use Rattle.struct_ir.specs.Linear.{linear, entry_of}
 use Rattle.struct_ir.specs.Lawful.{AllLawful}
 use Rattle.struct_ir.specs.Marks.{MarksAreIdle, Follows}
 use Rattle.struct_ir.specs.Alike.{SameEvents}
-use Rattle.emit_code.specs.Stands.{StandsIn, start_of}
+use Rattle.pin_flow.specs.Funcs.{start_of}
+use Rattle.emit_code.specs.Stands.{StandsIn}
 
 -- how many nodes there are, with those inside others
 abbrev mutual

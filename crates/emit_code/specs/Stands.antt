@@ -1,6 +1,6 @@
 -- Where a position of structured code stands in linear code.
-use Rattle.std.specs.Prelude.{◌≡◌, ℕ, ◌+◌, List, [], ◌∷◌, Option, Some, None, slice_get, ◌⊎◌}
-use Rattle.struct_ir.specs.Nodes.{Nodes, no_nodes, loop, Func}
+use Rattle.std.specs.Prelude.{◌≡◌, ℕ, ◌+◌, List, [], ◌∷◌, Some, None, slice_get, ◌⊎◌}
+use Rattle.struct_ir.specs.Nodes.{loop}
 use Rattle.struct_ir.specs.Flow.{returns}
 use Rattle.struct_ir.specs.Structured.{Position, done, then_, in_body, in_latch}
 use Rattle.struct_ir.specs.Instrs.{Instr, jump, LinearFunc, instrs_of}
@@ -37,12 +37,3 @@ pub record StandsAt (code : List Instr) (at : ℕ) (k : Position) : Type 0 where
 -- the position stands at this index of this function
 abbrev pub StandsIn : List LinearFunc → Position → Spot → Type 0
 StandsIn funcs k p = StandsAt (instrs_of funcs p.function) p.index k
-
--- there is a function, and these are its nodes
-abbrev pub nodes_if : Option Func → Nodes
-nodes_if None = no_nodes
-nodes_if (Some f) = f.nodes
-
--- where the function of this number begins, in structured code
-abbrev pub start_of : List Func → ℕ → Position
-start_of funcs f = then_ (nodes_if (slice_get funcs f)) done

@@ -6,7 +6,7 @@ ghost use Rattle.struct_ir.specs.Pins.{PinSafe};
 ghost use Rattle.struct_ir.specs.Structured.{structured};
 ghost use Rattle.struct_ir.specs.WholeViews.{ir_view};
 ghost use Rattle.emit_code.specs.Emitted.{nodes_count};
-ghost use Rattle.emit_code.specs.Stands.{start_of};
+ghost use Rattle.pin_flow.specs.Funcs.{start_of};
 
 use crate::emit_code;
 use ak_words::NoMemory;

@@ -6,5 +6,7 @@
 pub mod dropping;
 pub mod hoisting;
 pub mod lifting;
+#[cfg(test)]
+mod tests;
 
 pub use hoisting::hoist;

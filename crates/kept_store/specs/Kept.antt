@@ -5,6 +5,7 @@ use Rattle.block_store.specs.declared.values.LockEnd.{LockEnd}
 use Rattle.block_store.specs.declared.values.LockEnd.TheVariants as ends
 use Rattle.block_store.specs.Blocks.{Blocks}
 
+-- the blocks as they are now, and as they were when kept last
 pub record Kept : Type 0 where
   pub now : Blocks
   pub kept : Blocks

@@ -4,5 +4,7 @@
 #![tactic(auto)]
 
 mod kept;
+#[cfg(test)]
+mod tests;
 
 pub use kept::KeptStore;

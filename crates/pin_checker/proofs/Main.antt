@@ -12,7 +12,8 @@ use Rattle.pin_flow.proofs.Strip.{by_bool}
 use Rattle.pin_checker.specs.declared.fault.Why.{Why}
 use Rattle.pin_checker.specs.declared.fault.Why.TheVariants.{BadTemp, NoLook, StaleLook, NotPinned}
 use Rattle.pin_checker.specs.declared.fault.Fault.{Fault}
-use Rattle.pin_checker.specs.Safe.{start_of, IsSafe}
+use Rattle.pin_flow.specs.Funcs.{start_of}
+use Rattle.pin_checker.specs.Safe.{IsSafe}
 use Rattle.pin_checker.specs.Faults.{place_of, is_alone, is_guarded, is_sound, Invalid, InvalidIn, fails, fails_through, Unsafe, FailsAmong, Fails, rank, NoLater, IsFirst}
 use Rattle.pin_checker.specs.Answers.{IsRefused}
 use Rattle.pin_checker.specs.inner.Reports.{first_fault}

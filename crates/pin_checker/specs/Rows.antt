@@ -35,6 +35,7 @@ calls slots = call (record { to = Some 1; function = 0; temps = []; slots = slot
 abbrev pub one : Node → Nodes
 one n = more_nodes n no_nodes
 
+-- for which reasons a read fails behind these acts, and loops and calls with their lists
 pub record RowsHold : Type 0 where
   -- without a Look
   pub no_look : read_fails [] NoLook ≡ true

@@ -24,9 +24,11 @@ pub record Live : Type 0 where
   pub out : Bool
   pub end : Bool
 
+-- whether one comes later: on the way on, behind a Break, and at the end of the row
 abbrev pub lives : Bool → Bool → Bool → Live
 lives on out end = record { on = on; out = out; end = end }
 
+-- an access through the slot, or one later with no Look into the slot here
 abbrev pub live_act : (slot b : ℕ) → Act → Bool → Bool
 live_act slot b a later = uses slot b a || (not (looks_into slot a) && later)
 
@@ -49,6 +51,7 @@ unfoldable pub head_live : (slot b : ℕ) → Nodes → Nodes → Bool → Bool
 head_live slot b body latch on =
     live slot b body (lives (live slot b latch (lives false on false)) on (live slot b latch (lives false on false)))
 
+-- at the end of a loop's body: its step comes, and then a round or what is behind the loop
 unfoldable pub latch_live : (slot b : ℕ) → Nodes → Nodes → Bool → Bool
 latch_live slot b body latch on = live slot b latch (lives (head_live slot b body latch on) on (head_live slot b body latch on))
 
@@ -56,6 +59,7 @@ latch_live slot b body latch on = live slot b latch (lives (head_live slot b bod
 abbrev pub body_lives : (slot b : ℕ) → Nodes → Nodes → Bool → Live
 body_lives slot b body latch on = lives (latch_live slot b body latch on) on (latch_live slot b body latch on)
 
+-- within a step: a round or what is behind the loop comes
 abbrev pub latch_lives : (slot b : ℕ) → Nodes → Nodes → Bool → Live
 latch_lives slot b body latch on = lives (head_live slot b body latch on) on (head_live slot b body latch on)
 
@@ -66,5 +70,6 @@ live_at slot b (then_ ns k) = lives (live slot b ns (live_at slot b k)) (live_at
 live_at slot b (in_body body latch k) = body_lives slot b body latch (live_at slot b k).on
 live_at slot b (in_latch body latch k) = latch_lives slot b body latch (live_at slot b k).on
 
+-- what is live at a position is used on some way from there, and the other way round
 abbrev pub LiveIsUsed : Type 0
 LiveIsUsed = (slot b : ℕ) (k : Position) → ((live_at slot b k).on ≡ true) ↔ IsUsed structured slot b k

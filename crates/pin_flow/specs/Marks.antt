@@ -12,6 +12,7 @@ Mark = Act → Bool → Bool
 abbrev pub IsFair : Mark → Type 0
 IsFair m = (a : Act) → m a false ≡ true → m a true ≡ true
 
+-- the answer behind what stands at a position: acts alone change it
 abbrev pub marked : Mark → Here → Bool → Bool
 marked m (does place a) v = m a v
 marked m (tests place temp) v = v
@@ -34,6 +35,7 @@ pub data State : Type 0 where
   good : State
   bad : State
 
+-- of two ways that meet: no, where one of them says no
 abbrev pub join : State → State → State
 join unreached u = u
 join good unreached = good
@@ -41,10 +43,12 @@ join good good = good
 join good bad = bad
 join bad u = bad
 
+-- the state where each path has this answer
 abbrev pub state_of : Bool → State
 state_of true = good
 state_of false = bad
 
+-- the state behind an act that changes the answer so
 abbrev pub after : (Bool → Bool) → State → State
 after f unreached = unreached
 after f good = state_of (f true)
@@ -56,12 +60,15 @@ pub record Ways : Type 0 where
   pub broken : State
   pub next : State
 
+-- the three states together
 abbrev pub ways : State → State → State → Ways
 ways on broken next = record { on = on; broken = broken; next = next }
 
+-- on at the end, and nowhere else
 abbrev pub at : State → Ways
 at t = ways t unreached unreached
 
+-- of two branches
 abbrev pub either : Ways → Ways → Ways
 either o o' = ways (join o.on o'.on) (join o.broken o'.broken) (join o.next o'.next)
 
@@ -77,6 +84,7 @@ end_state o = join o.on o.next
 abbrev pub turned : Ways → Ways → Ways
 turned o o' = ways (end_state o') (join o.broken o'.broken) unreached
 
+-- one round of a loop: its body, and then its step from wherever the body leaves to it
 unfoldable pub round_of : (State → Ways) → (State → Ways) → State → Ways
 round_of body latch t = turned (body t) (latch (end_state (body t)))
 

@@ -11,3 +11,5 @@ pub mod rows;
 pub mod seen;
 pub mod slots;
 pub mod state;
+#[cfg(test)]
+mod tests;

@@ -12,3 +12,4 @@ pub mod ListRows
 pub mod Below
 pub mod Valid
 pub mod Programs
+pub mod Starts

@@ -12,7 +12,7 @@ use Rattle.pin_flow.specs.Marks.{bad, Each}
 use Rattle.pin_flow.specs.Looks.{some_act, act_looks, Covered, PinsExact}
 use Rattle.pin_flow.specs.Held.{fresh}
 use Rattle.pin_flow.specs.Live.{is_slot, has, uses}
-use Rattle.pin_flow.specs.Funcs.{AreAll, EveryFunc, IsCovered, IsExact, IsSafe}
+use Rattle.pin_flow.specs.Funcs.{AreAll, EveryFunc, IsCovered, IsExact, IsPinSafe}
 use Rattle.pin_flow.specs.Slots.{has_base, accesses, bases_of, slot_in, slot_if, own, IsIn, IsOwn, HasOwnSlots}
 use Rattle.pin_flow.proofs.Strip.{by_bool}
 use Rattle.pin_flow.proofs.At.{some_finds}
@@ -103,7 +103,7 @@ module _ (f : Func) where
     covered_bare c = each_covered S bare own_bare (λ b. subst (λ (ns : Nodes). Each (Serves (S b) b) (fresh (S b) b) ns bad) bare_is
         (each_listed S [] (fresh (S b) b) (placing.fresh_listing (S b) b) (Serves (S b) b) (λ a l t q. placing.serves_listing (S b) b a l t q) f.nodes none_held none_later bad (covered_each f.nodes c (S b) b)))
 
-    pub func_safe : IsCovered f → IsSafe (func_placed f)
+    pub func_safe : IsCovered f → IsPinSafe (func_placed f)
     func_safe c = subst (λ (ns : Nodes). Rattle.struct_ir.specs.Pins.PinSafe structured (then_ ns done)) (sym placed_is) (right.safe (covered_bare c))
 
     some_placed : (g : Act → Bool) → ((l : List ℕ) → g (safepoint l) ≡ false) → ((a : Act) (l : List ℕ) → g (act_listing a l) ≡ g a) → some_act g (func_placed f).nodes ≡ some_act g f.nodes

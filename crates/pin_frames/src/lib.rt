@@ -8,5 +8,7 @@ pub mod listing;
 pub mod lives;
 pub mod placing;
 pub mod seating;
+#[cfg(test)]
+mod tests;
 
 pub use placing::place;

@@ -9,7 +9,7 @@ ghost use Rattle.struct_ir.specs.Views.{nodes_view, func_view};
 ghost use Rattle.struct_ir.specs.WholeViews.{ir_view};
 ghost use Rattle.pin_flow.specs.Marks.{bad};
 ghost use Rattle.pin_flow.specs.Live.{lives};
-ghost use Rattle.pin_flow.specs.Funcs.{EveryFunc, IsCovered, IsExact, IsSafe};
+ghost use Rattle.pin_flow.specs.Funcs.{AllPinSafe, EveryFunc, IsCovered, IsExact};
 ghost use Rattle.pin_flow.specs.Slots.{HasOwnSlots, slot_if};
 ghost use Rattle.pin_frames.specs.inner.Place.{seated, cleared, listed_one, listed_for, listed_each, func_placed, ir_placed};
 
@@ -37,7 +37,7 @@ pub fn place(alloc: Global, ir: &Ir) -> Result<Ir, NoMemory>
     ensures slots { IfOk result (λ x. EveryFunc HasOwnSlots (ir_view x)) }
     ensures stand { IfOk result (λ x. list_all (λ f. are_placed None f.nodes) (ir_view x).funcs ≡ true) }
     ensures exact { IfOk result (λ x. EveryFunc IsExact (ir_view x)) }
-    ensures safe { EveryFunc IsCovered (ir_view ir.now) → IfOk result (λ x. EveryFunc IsSafe (ir_view x)) }
+    ensures safe { EveryFunc IsCovered (ir_view ir.now) → IfOk result (λ x. AllPinSafe (ir_view x)) }
     ensures valid { is_valid (ir_view ir.now) ≡ true → IfOk result (λ x. is_valid (ir_view x) ≡ true) }
 {
     place_all(alloc, ir)

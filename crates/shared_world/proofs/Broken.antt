@@ -1,5 +1,5 @@
 -- What a broken rule makes of an action.
-use Rattle.std.proofs.Common.{◌≡◌, ◌<◌, ℕ, zero, suc, length, get_or, arith, ℤ, List, [], ◌∷◌, ◌++◌, map, set, Option, Some, Result, Ok, Err, ap, sym, ◌∙◌, refl, append_assoc}
+use Rattle.std.proofs.Common.{◌≡◌, ◌<◌, ℕ, zero, suc, length, get_or, arith, ℤ, List, [], ◌∷◌, ◌++◌, map, set, Some, Result, Ok, Err, ap, sym, ◌∙◌, refl, append_assoc}
 use Rattle.std.specs.Prelude.{slice_get}
 use Rattle.std.specs.Option.{option_map}
 use Rattle.std.proofs.lemmas.List.{map-set}
@@ -10,7 +10,6 @@ use Rattle.block_store.specs.Blocks.{Blocks, answer_of}
 use Rattle.ak_words.specs.declared.int_type.IntType.{IntType}
 use Rattle.ak_words.specs.declared.number.Num.{Num}
 use Rattle.ak_words.specs.Num.{num}
-use Rattle.block_store.specs.declared.values.Value.{Value}
 use Rattle.block_store.specs.declared.values.Value.TheVariants as values
 use Rattle.block_store.specs.Actions as actions
 use Rattle.block_store.specs.Actions.{World, broke, changes, starts, staged, joined_bytes}

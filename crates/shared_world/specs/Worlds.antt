@@ -1,5 +1,5 @@
 -- What the code's world and actions are: those of the table of the actions.
-use Rattle.std.specs.Prelude.{◌≡◌, List, map}
+use Rattle.std.specs.Prelude.{◌≡◌, map}
 use Rattle.block_store.specs.Actions as actions
 use Rattle.shared_world.specs.declared.world.Action.{Action}
 use Rattle.shared_world.specs.declared.world.Action.TheVariants as acts
@@ -12,21 +12,26 @@ use Rattle.shared_world.specs.declared.world.Stage.TheVariants as stages
 use Rattle.shared_world.specs.declared.world.Thread.{Thread}
 use Rattle.shared_world.specs.declared.world.World.{World}
 
+-- how far a thread is, as the table says it
 abbrev pub stage_of : Stage → actions.Stage
 stage_of stages.Running = actions.running
 stage_of (stages.Returned z) = actions.returned z
 stage_of (stages.Joined z) = actions.joined z
 
+-- a thread: its first function, its argument and how far it is
 abbrev pub thread_of : Thread → actions.Thread
 thread_of t = record { function = t.function; argument = t.argument; stage = stage_of t.stage }
 
+-- what threads share, as it is now
 abbrev pub world_of : World → actions.World
 world_of w = record { blocks = w.store.now; output = w.output.items; threads = map thread_of w.threads.items }
 
+-- a part of what one call prints (C11 7.21.6.1)
 abbrev pub printed_of : Printed → actions.Printed
 printed_of (parts.Bytes all) = actions.bytes all.items
 printed_of (parts.Text at) = actions.text at
 
+-- an action of the table, with its operands (C11 5.1.2.3 p2)
 abbrev pub action_of : Action → actions.Action
 action_of (acts.Load at how) = actions.load at how
 action_of (acts.Store at v) = actions.store at v

@@ -1,6 +1,6 @@
 //! The actions by their table.
 
-ghost use Rattle.std.specs.Prelude.{◌≡◌, ℕ, IfOk, OnErr, slice_get};
+ghost use Rattle.std.specs.Prelude.{◌≡◌, IfOk, OnErr, slice_get};
 ghost use Rattle.std.specs.Option.{option_map};
 ghost use Rattle.ak_words.specs.IntType.{int};
 ghost use Rattle.ak_words.specs.Num.{num};

@@ -5,6 +5,8 @@
 
 mod acting;
 mod plain;
+#[cfg(test)]
+mod tests;
 mod world;
 
 pub use world::{Action, Done, Printed, Stage, Thread, World};

@@ -169,7 +169,7 @@ fn int_count(n: usize) -> Value
     Value::Num(number_of_type(IntType::int(), n))
 }
 
-// A count as a number of a type.
+/// A count as a number of a type.
 pub fn number_of_type(ty: IntType, n: usize) -> Num
     ensures { result ≡ num ty (pos n) }
 {

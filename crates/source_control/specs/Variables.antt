@@ -4,6 +4,7 @@ use Rattle.c_meaning.specs.Control as control
 use Rattle.source_control.specs.declared.locals.Variable.{Variable}
 use Rattle.source_control.specs.declared.locals.Variable.TheVariants as variables
 
+-- a local of a call (this project's profile)
 abbrev pub variable_of : Variable → control.Variable
 variable_of variables.Unset = control.unset
 variable_of (variables.Holds v) = control.holds v

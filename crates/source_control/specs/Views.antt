@@ -23,10 +23,12 @@ use Rattle.source_control.specs.declared.control.Use.TheVariants as uses
 use Rattle.source_control.specs.declared.control.Wait.{Wait}
 use Rattle.source_control.specs.declared.control.Wait.TheVariants as waits
 
+-- what a call calls (C11 6.5.2.2)
 abbrev pub callee_of : Callee → control.Callee
 callee_of (callees.Function number) = control.function number
 callee_of (callees.Library lib) = control.library (lib_view lib)
 
+-- values in order; the code links them from the last one
 abbrev pub values_of : Values → List Value
 values_of valueses.None = []
 values_of (valueses.More' v x before) = values_of before ++ v ∷ []
@@ -36,12 +38,15 @@ abbrev pub stmt_or_nothing : (place : ℕ) → Option (Rc SharedStmt Global) →
 stmt_or_nothing place None = nothing place
 stmt_or_nothing place (Some s) = stmt_of s.value
 
+-- a loop: its condition, its step and its body (C11 6.8.5)
 abbrev pub loop_of : LoopParts → control.Loop
 loop_of l = record { condition = optional_expr_of l.condition; step = stmt_or_nothing l.place l.step; body = stmt_of l.body.value }
 
+-- a compound assignment (C11 6.5.16.2)
 abbrev pub updating_of : Updating → control.Update
 updating_of u = record { place = u.place; operator = u.operator; op = u.op; ty = type_view u.ty.value }
 
+-- what is left to do once a statement is done
 abbrev pub todo_of : Todo → control.Todo
 todo_of todos.Leaves = control.leaves
 todo_of (todos.ThenRow' all i x k) = control.then_row (row_from all.value i) (todo_of k)
@@ -51,6 +56,7 @@ todo_of (todos.ThenLoop' l x k) = control.then_loop (loop_of l.value) (todo_of k
 todo_of (todos.InBody' l x k) = control.in_body (loop_of l.value) (todo_of k)
 todo_of (todos.InStep' l x k) = control.in_step (loop_of l.value) (todo_of k)
 
+-- what a value is used for
 abbrev pub use_of : Use → control.Use
 use_of (uses.FirstOf' place op right x k) = control.first_of place (binary_of op) (expr_of right.value) (use_of k)
 use_of (uses.SecondOf' place op left x k) = control.second_of place (binary_of op) left (use_of k)
@@ -77,6 +83,7 @@ use_of (uses.LoopTest place l k) = control.loop_test place (loop_of l.value) (to
 use_of uses.ToCaller = control.to_caller
 use_of (uses.ToNowhere k) = control.to_nowhere (todo_of k.value)
 
+-- what waits for a call's value
 abbrev pub wait_of : Wait → control.Wait
 wait_of (waits.Wanted place k) = control.wanted place (use_of k.value)
 wait_of (waits.Dropped k) = control.dropped (todo_of k.value)

@@ -6,5 +6,7 @@
 pub mod control;
 pub mod frames;
 mod locals;
+#[cfg(test)]
+mod tests;
 
 pub use locals::{Locals, Variable};

@@ -3,14 +3,14 @@ use Rattle.std.proofs.Common.{◌≡◌, ℕ, map, List, [], ◌∷◌, refl, ap
 use Rattle.std.specs.Global.{Vec, Global}
 use Rattle.std.specs.declared.rc.Rc.{Rc}
 use Rattle.c_tree.specs.declared.typed.Expr.{Expr}
-use Rattle.c_tree.specs.declared.typed.ExprNode.{ExprNode, Row_of-Expr, end_of-Expr, more_of-Expr, items-the_row-Expr}
+use Rattle.c_tree.specs.declared.typed.ExprNode.{Row_of-Expr, end_of-Expr, more_of-Expr, items-the_row-Expr}
 use Rattle.c_tree.specs.declared.typed.ExprNode.TheViews as expr_views
 use Rattle.c_tree.specs.declared.typed.Lib.{Lib}
 use Rattle.c_tree.specs.declared.typed.Stmt.{Stmt}
-use Rattle.c_tree.specs.declared.typed.StmtNode.{StmtNode, Row_of-Stmt, end_of-Stmt, more_of-Stmt, items-the_row-Stmt}
+use Rattle.c_tree.specs.declared.typed.StmtNode.{Row_of-Stmt, end_of-Stmt, more_of-Stmt, items-the_row-Stmt}
 use Rattle.c_tree.specs.declared.typed.StmtNode.TheViews as stmt_views
 use Rattle.c_tree.specs.Typed as trees
-use Rattle.c_tree.specs.TypedViews.{type_view, expr_view, expr_node_view, expr_row_view, lib_view, stmt_view, stmt_node_view, stmt_row_view, stmts_of}
+use Rattle.c_tree.specs.TypedViews.{type_view, expr_node_view, expr_row_view, lib_view, stmt_view, stmt_node_view, stmt_row_view, stmts_of}
 use Rattle.source_tree.specs.declared.tree.SharedStmt.{SharedStmt, Row_of-SharedRow-stmts-1, end_of-SharedRow-stmts-1, more_of-SharedRow-stmts-1, items-the_row-SharedRow-stmts-1}
 use Rattle.source_tree.specs.declared.tree.SharedStmt.TheViews as shared_views
 use Rattle.source_tree.specs.declared.tree.SharedRow.{SharedRow}

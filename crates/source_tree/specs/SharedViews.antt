@@ -26,15 +26,18 @@ use Rattle.source_tree.specs.declared.tree.SharedProgram.{SharedProgram}
 
 -- ---- expressions
 
+-- how an object becomes a pointer (C11 6.3.2.1, 6.5.3.2)
 abbrev pub address_of_form : AddressForm → trees.Expr → trees.ExprNode
 address_of_form addresses.Of e = trees.address_of e
 address_of_form addresses.Decay e = trees.decay e
 
+-- an operation on one value (C11 6.5.3, 6.5.4)
 abbrev pub one_of_form : OneForm → trees.Expr → trees.ExprNode
 one_of_form ones.Convert e = trees.convert e
 one_of_form ones.Not e = trees.not_ e
 one_of_form ones.Test e = trees.pointer_test e
 
+-- an operation on two values (C11 6.5.5 to 6.5.12)
 abbrev pub two_of_form : TwoForm → (a b : trees.Expr) → trees.ExprNode
 two_of_form (twos.Numbers op) a b = trees.binary op a b
 two_of_form twos.Forward a b = trees.pointer_add a b
@@ -42,14 +45,17 @@ two_of_form twos.Backward a b = trees.pointer_sub a b
 two_of_form twos.Distance a b = trees.pointer_diff a b
 two_of_form (twos.Pointers op) a b = trees.pointer_compare op a b
 
+-- `||`, which true decides, and `&&`, which false does (C11 6.5.13, 6.5.14)
 abbrev pub either_of : (decides : Bool) → (a b : trees.Expr) → trees.ExprNode
 either_of true a b = trees.or_else a b
 either_of false a b = trees.and_also a b
 
+-- a call of a function of the program or of the library (C11 6.5.2.2)
 abbrev pub call_of : Callee → trees.Exprs → trees.ExprNode
 call_of (callees.Function number) all = trees.call number all
 call_of (callees.Library lib) all = trees.lib (lib_view lib) all
 
+-- what an expression does, and the arguments of a call
 abbrev mutual
   pub node_of : SharedNode → trees.ExprNode
   node_of (nodes.Num n) = trees.num n.ty n.value
@@ -73,9 +79,11 @@ abbrev mutual
   args_of args.NoMore = trees.no_exprs
   args_of (args.More' x place ty node y rest) = trees.more_exprs (trees.at place (type_view ty.value) (node_of node)) (args_of rest)
 
+-- an expression at its place, with its type
 abbrev pub expr_of : SharedExpr → trees.Expr
 expr_of e = trees.at e.place (type_view e.ty.value) (node_of e.node)
 
+-- an expression, if there is one
 abbrev pub optional_expr_of : Option (Rc SharedExpr Global) → Option trees.Expr
 optional_expr_of None = None
 optional_expr_of (Some e) = Some (expr_of e.value)
@@ -87,6 +95,7 @@ exprs_view (e ∷ es) = trees.more_exprs (expr_view e) (exprs_view es)
 
 -- ---- statements
 
+-- a statement at its place, and those that a block holds (C11 6.8)
 abbrev mutual
   pub stmt_of : SharedStmt → trees.Stmt
   stmt_of (stmts.Block' place x shape body) = trees.at_stmt place (trees.block (held_row body))
@@ -113,6 +122,7 @@ abbrev pub these : List (Rc SharedStmt Global) → trees.Stmts
 these [] = trees.no_stmts
 these (s ∷ rest) = trees.more_stmts (stmt_of s.value) (these rest)
 
+-- the statements of a row
 abbrev pub row_of : SharedRow → trees.Stmts
 row_of all = these all.stmts.items
 
@@ -122,9 +132,11 @@ row_from all i = these (drop i all.stmts.items)
 
 -- ---- programs
 
+-- a function of the program
 abbrev pub func_of : SharedFunc → trees.Func
 func_of f = record { params = f.params; locals = map local_view f.locals.items; result = type_view f.result; body = row_of f.body.value }
 
+-- the program, part by part
 abbrev pub program_of : SharedProgram → trees.Typed
 program_of p = record {
   structs = map layout_view p.structs.items;

@@ -7,7 +7,7 @@ use ak_words::NoMemory;
 use c_tree::typed::{CType, Lib, Piece};
 use std::alloc::Global;
 
-// A type, again.
+/// A type, again.
 pub fn copy_type(alloc: Global, t: &CType) -> Result<CType, NoMemory>
     ensures { IfOk result (λ copy. type_view copy ≡ type_view t.now) }
 {
@@ -53,7 +53,7 @@ fn copy_pieces(alloc: Global, pieces: &[Piece]) -> Result<Vec<Piece>, NoMemory>
     Ok(copies)
 }
 
-// A function of the library, again.
+/// A function of the library, again.
 pub fn copy_lib(alloc: Global, lib: &Lib) -> Result<Lib, NoMemory>
     ensures { IfOk result (λ copy. lib_view copy ≡ lib_view lib.now) }
 {

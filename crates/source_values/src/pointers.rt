@@ -1,6 +1,6 @@
 //! Arithmetic and comparison of pointers (C11 6.5.6, 6.5.8, 6.5.9).
 
-ghost use Rattle.std.specs.Prelude.{◌≡◌, ◌<◌, ◌≤◌, ◌^◌, ◌+◌, pos, ◌*ℤ◌, neg_ℤ, unsigned_abs, MatchResult, Ok, Err, IfOk};
+ghost use Rattle.std.specs.Prelude.{◌≡◌, ◌<◌, ◌^◌, ◌+◌, pos, ◌*ℤ◌, neg_ℤ, unsigned_abs, Ok, Err, IfOk};
 ghost use Rattle.block_store.specs.Pointers.{is_usable, tested, moved, indexed, distance, compared, related, difference, in_elements, is_other_than_null, is_same};
 
 use ak_words::{NoMemory, Num, Op, Rule};

@@ -4,5 +4,7 @@
 #![tactic(auto)]
 
 pub mod inserting;
+#[cfg(test)]
+mod tests;
 
 pub use inserting::insert;

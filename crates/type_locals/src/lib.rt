@@ -5,3 +5,5 @@
 
 pub mod locals;
 pub mod numbering;
+#[cfg(test)]
+mod tests;

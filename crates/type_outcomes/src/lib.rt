@@ -4,3 +4,5 @@
 #![tactic(auto)]
 
 pub mod outcomes;
+#[cfg(test)]
+mod tests;

@@ -75,9 +75,11 @@ abbrev mutual
 
 -- ---- both, for one register after the other
 
+-- for one register: each Look before its loops, and then without those for which a slot is available
 abbrev pub hoisted_one : (slot b : ℕ) → Nodes → Nodes
 hoisted_one slot b ns = dropped b (lifted slot b ns) bad
 
+-- for each register of the list
 abbrev pub hoisted : (slot_of : ℕ → ℕ) → List ℕ → Nodes → Nodes
 hoisted slot_of [] ns = ns
 hoisted slot_of (b ∷ bs) ns = hoisted slot_of bs (hoisted_one (slot_of b) b ns)
@@ -102,6 +104,7 @@ ir_hoisted x = record { globals = x.globals; literals = x.literals; funcs = map 
 
 -- ---- what hoisting keeps and gives, for code with one slot for each register
 
+-- erased it is the same, each register keeps its own slot, no Look is of another register, and the code is covered and hoisted
 pub record HoistIsRight (slot_of : ℕ → ℕ) (bs : List ℕ) (ns out : Nodes) : Type 0 where
   pub erased : erased out ≡ erased ns
   pub own : IsOwn slot_of out

@@ -4,6 +4,7 @@ use Rattle.block_store.specs.Blocks.{Blocks}
 use Rattle.kept_store.specs.declared.kept.Change.{Change}
 use Rattle.kept_store.specs.declared.kept.Change.TheVariants.{Made, Ended}
 
+-- the blocks before the change: a block that was made goes, one that was ended is there again
 abbrev pub back_by : Change → Blocks → Blocks
 back_by Made blocks = take (length blocks - 1) blocks
 back_by (Ended gone) blocks = set blocks gone.name gone.block

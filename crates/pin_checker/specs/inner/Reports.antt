@@ -14,9 +14,11 @@ use Rattle.pin_checker.specs.Faults.{place_of, is_sound, rank}
 
 -- ---- the earlier fault
 
+-- the lesser place first, and at one place the earlier reason
 abbrev pub is_before : Fault → Fault → Bool
 is_before f g = nat_lt f.place g.place || ((f.place == g.place) && nat_lt (rank f.why) (rank g.why))
 
+-- the earlier of a fault and what was found so far
 abbrev pub earlier : Fault → Option Fault → Option Fault
 earlier f None = Some f
 earlier f (Some g) = if is_before f g then Some f else Some g
@@ -51,11 +53,13 @@ pub record Search : Type 0 where
   pub blames : Act → State → Bool
   pub why : Why
 
+-- on some path the answer is no
 abbrev pub is_bad : State → Bool
 is_bad unreached = false
 is_bad good = false
 is_bad bad = true
 
+-- on each path that comes here the answer is yes
 abbrev pub is_good : State → Bool
 is_good unreached = false
 is_good good = true
@@ -111,20 +115,25 @@ report_all s ns best = report s ns (state_of s.start) best
 
 -- ---- the pairs of slot and base that accesses have
 
+-- the same slot and the same base
 abbrev pub is_pair : Pair → Pair → Bool
 is_pair q r = (q.slot == r.slot) && (q.base == r.base)
 
+-- the list has the pair
 abbrev pub has_pair : Pair → List Pair → Bool
 has_pair q [] = false
 has_pair q (r ∷ rest) = is_pair r q || has_pair q rest
 
+-- the list with the pair, once
 abbrev pub with_pair : Pair → List Pair → List Pair
 with_pair q list = if has_pair q list then list else list ++ (q ∷ [])
 
+-- the list with the pair of a base and its slot, if it has one
 abbrev pub with_slot : (base : ℕ) → Option ℕ → List Pair → List Pair
 with_slot base None list = list
 with_slot base (Some s) list = with_pair (record { slot = s; base = base }) list
 
+-- the list with the pairs of these accesses
 abbrev pub with_places : List Place → List Pair → List Pair
 with_places [] list = list
 with_places (a ∷ rest) list = with_places rest (with_slot a.base a.slot list)
@@ -148,6 +157,7 @@ unfoldable mutual
 abbrev pub report_pair : Nodes → Pair → Option Fault → Option Fault
 report_pair ns q best = report_all (for_lacking q) ns (report_all (for_stale q) ns (report_all (for_none q) ns (report_all (for_other q) ns best)))
 
+-- the first fault of any pair
 abbrev pub report_pairs : Nodes → List Pair → Option Fault → Option Fault
 report_pairs ns [] best = best
 report_pairs ns (q ∷ rest) best = report_pairs ns rest (report_pair ns q best)
@@ -156,6 +166,7 @@ report_pairs ns (q ∷ rest) best = report_pairs ns rest (report_pair ns q best)
 abbrev pub report_func : Ir → Func → Option Fault → Option Fault
 report_func p f best = report_pairs f.nodes (pairs_of f.nodes []) (report_all for_bare f.nodes (report_invalid (scope_of p f) outside None f.nodes best))
 
+-- the first fault of any function
 abbrev pub report_funcs : Ir → List Func → Option Fault → Option Fault
 report_funcs p [] best = best
 report_funcs p (f ∷ rest) best = report_funcs p rest (report_func p f best)

@@ -77,6 +77,7 @@ is_bad bad = true
 abbrev pub wanted : (ℕ → ℕ) → (b : ℕ) → Act → State → Bool → Bool
 wanted slot_of b a t later = (not (is_bad t) && later) || uses (slot_of b) b a
 
+-- the slots that the list has, of all registers
 abbrev pub list_for : (ℕ → ℕ) → List ℕ → Act → (ℕ → State) → (ℕ → Bool) → List ℕ
 list_for slot_of [] a ts later = []
 list_for slot_of (b ∷ bs) a ts later =
@@ -86,12 +87,15 @@ list_for slot_of (b ∷ bs) a ts later =
 abbrev pub heads : Nodes → Nodes → (ℕ → State) → ℕ → State
 heads body latch ts b = head_of (flow (held b) body) (flow (held b) latch) (ts b)
 
+-- the states at the start of a loop's step
 abbrev pub turns : Nodes → Nodes → (ℕ → State) → ℕ → State
 turns body latch ts b = end_state (flow (held b) body (heads body latch ts b))
 
+-- the states behind a node
 abbrev pub on_states : Node → (ℕ → State) → ℕ → State
 on_states n ts b = (flow_node (held b) n (ts b)).on
 
+-- what comes later at the start of the rest of a row
 abbrev pub rest_lives : (ℕ → ℕ) → Nodes → (ℕ → Live) → ℕ → Live
 rest_lives slot_of rest ls b = lives (live (slot_of b) b rest (ls b)) (ls b).out (ls b).end
 
@@ -114,20 +118,24 @@ abbrev mutual
 abbrev pub none_held : ℕ → State
 none_held b = bad
 
+-- nothing comes behind a function's end
 abbrev pub none_later : ℕ → Live
 none_later b = lives false false false
 
+-- with safepoints and their lists
 abbrev pub placed : (ℕ → ℕ) → List ℕ → Nodes → Nodes
 placed slot_of bs ns = listed slot_of bs (seated ns no_nodes) none_held none_later
 
 -- ---- what placing gives, for code with one slot for each register, whose accesses are of these registers
 
+-- erased it is the same, safepoints stand where they have to, lists are exact, and covered code is safe for moves
 pub record PlaceIsRight (slot_of : ℕ → ℕ) (bs : List ℕ) (ns : Nodes) : Type 0 where
   pub erased : erased (placed slot_of bs ns) ≡ erased ns
   pub stand : are_placed None (placed slot_of bs ns) ≡ true
   pub exact : PinsExact (placed slot_of bs ns)
   pub safe : Covered structured (then_ ns done) → PinSafe structured (then_ (placed slot_of bs ns) done)
 
+-- where each register has a slot of its own and the list has each register that is a base
 abbrev pub PlacingIsRight : Type 0
 PlacingIsRight = (slot_of : ℕ → ℕ) → AreApart slot_of → (bs : List ℕ) (ns : Nodes) → IsOwn slot_of ns
     → ((b : ℕ) → some_act (uses (slot_of b) b) ns ≡ true → IsIn bs b) → PlaceIsRight slot_of bs ns

@@ -14,14 +14,17 @@ abbrev pub or_more : (further n : ℕ) → Option ℕ → ℕ
 or_more further n (Some m) = m
 or_more further n None = n + further
 
+-- the number that a local has in the end
 abbrev pub new_number : Numbers → ℕ → ℕ
 new_number numbers n = or_more numbers.further n (slice_get numbers.params.items n)
 
 -- ---- parameters
 
+-- the further local of a parameter whose address is taken, with the parameter's number
 abbrev pub further_view : CodeFurther → ℕ × Param
 further_view x = (x.number, param_view x.param.now)
 
+-- each of them
 abbrev pub furthers_view : List CodeFurther → List (ℕ × Param)
 furthers_view xs = map further_view xs
 
@@ -33,12 +36,15 @@ table_from k next (p ∷ ps) addressed =
 
 -- ---- locals
 
+-- the locals of the typed tree
 abbrev pub locals_view : List CodeLocal → List Local
 locals_view ls = map local_view ls
 
+-- a parameter's own local, which is not in memory
 abbrev pub param_local : Param → Local
 param_local p = record { ty = p.ty; in_memory = false }
 
+-- the local in memory to which a parameter is copied
 abbrev pub further_local : ℕ × Param → Local
 further_local x = record { ty = x.1.ty; in_memory = true }
 

@@ -5,10 +5,11 @@ use Rattle.struct_ir.specs.Nodes.{Ir, Func}
 use Rattle.struct_ir.specs.Erased.{ir_erased}
 use Rattle.struct_ir.specs.Valid.{is_valid, are_placed}
 use Rattle.struct_ir.specs.WholeViews.{ir_view}
-use Rattle.pin_flow.specs.Funcs.{EveryFunc, IsCovered, IsExact, IsSafe}
+use Rattle.pin_flow.specs.Funcs.{AllPinSafe, EveryFunc, IsCovered, IsExact, IsPinSafe}
 use Rattle.pin_flow.specs.Slots.{HasOwnSlots}
 use Rattle.pin_frames.specs.inner.Place.{ir_placed}
 use Rattle.pin_frames.proofs.Programs.{IsNamed, every_is, every_both, every_named, every_stands, func_exact, func_safe, func_slots, whole_erased, whole_valid}
+use Rattle.pin_frames.proofs.Starts.{each_start}
 use Rattle.pin_frames.proofs.placing.place.Goals as goal
 
 pub returns-clause-erased : goal.returns-clause-erased
@@ -37,9 +38,9 @@ returns-clause-exact c =
 pub returns-clause-safe : goal.returns-clause-safe
 returns-clause-safe c covered =
     let ir = ir_view c.args.ir.now in
-    let all : EveryFunc IsSafe (ir_placed ir) =
-    every_is (λ f. IsNamed f × HasOwnSlots f) IsCovered IsSafe (λ f p k. func_safe f p.0 p.1 k) ir (every_both IsNamed HasOwnSlots ir (every_named ir c.requires.named) c.requires.slots) covered in
-    IfOk-weaker c.place_all.result (λ x. ir_view x ≡ ir_placed ir) (λ x. EveryFunc IsSafe (ir_view x)) (λ x e. subst (λ (y : Ir). EveryFunc IsSafe y) (sym e) all) c.place_all.ensures
+    let all : EveryFunc IsPinSafe (ir_placed ir) =
+    every_is (λ f. IsNamed f × HasOwnSlots f) IsCovered IsPinSafe (λ f p k. func_safe f p.0 p.1 k) ir (every_both IsNamed HasOwnSlots ir (every_named ir c.requires.named) c.requires.slots) covered in
+    IfOk-weaker c.place_all.result (λ x. ir_view x ≡ ir_placed ir) (λ x. AllPinSafe (ir_view x)) (λ x e. subst (λ (y : Ir). AllPinSafe y) (sym e) (each_start (ir_placed ir).funcs all)) c.place_all.ensures
 
 pub returns-clause-valid : goal.returns-clause-valid
 returns-clause-valid c valid =

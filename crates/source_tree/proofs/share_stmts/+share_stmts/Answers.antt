@@ -1,4 +1,4 @@
-use Rattle.std.proofs.Common.{◌∙◌, ap, sym, map, Result, Ok, Err, IfOk, arith}
+use Rattle.std.proofs.Common.{◌∙◌, ap, map, Result, Ok, Err, IfOk, arith}
 use Rattle.std.proofs.lemmas.List.{take_all}
 use Rattle.c_tree.specs.TypedViews.{stmt_view, stmts_of}
 use Rattle.source_tree.proofs.Views.{these_row}

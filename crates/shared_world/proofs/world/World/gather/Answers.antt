@@ -1,9 +1,9 @@
-use Rattle.std.proofs.Common.{◌≡◌, ℕ, ◌+◌, List, ◌∷◌, length, map, drop, get_or, Ok, ap, sym, ◌∙◌, arith}
+use Rattle.std.proofs.Common.{◌≡◌, ℕ, ◌+◌, List, ◌∷◌, map, drop, get_or, Ok, ap, sym, ◌∙◌, arith}
 use Rattle.std.specs.Prelude.{Result}
 use Rattle.std.proofs.lemmas.List.{at_drop_more}
 use Rattle.ak_words.specs.declared.rule.Rule.{Rule}
 use Rattle.block_store.specs.Blocks.{Blocks}
-use Rattle.block_store.specs.Actions.{joined_bytes, all_bytes, printed_bytes}
+use Rattle.block_store.specs.Actions.{joined_bytes, all_bytes}
 use Rattle.block_store.specs.Undo.{appended}
 use Rattle.shared_world.specs.declared.world.Printed.{Printed}
 use Rattle.shared_world.specs.Worlds.{printed_of}

@@ -1,4 +1,4 @@
-use Rattle.std.proofs.Common.{◌∙◌, ap, sym, rules, ℕ, pos}
+use Rattle.std.proofs.Common.{◌∙◌, ap, rules, ℕ, pos}
 use Rattle.std.proofs.lemmas.List.{length-map}
 use Rattle.ak_words.specs.IntType.{unsigned_long}
 use Rattle.ak_words.specs.Num.{num}

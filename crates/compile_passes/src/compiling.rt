@@ -1,0 +1,64 @@
+//! From structured code to linear code.
+
+ghost use Rattle.std.specs.Prelude.{◌≡◌, IfOk, true};
+ghost use Rattle.struct_ir.specs.Erased.{ir_erased};
+ghost use Rattle.struct_ir.specs.LinearViews.{code_view};
+ghost use Rattle.struct_ir.specs.Valid.{is_valid};
+ghost use Rattle.struct_ir.specs.WholeViews.{ir_view};
+ghost use Rattle.pin_flow.specs.Funcs.{EveryFunc, IsCovered, IsExact, IsHoisted};
+ghost use Rattle.pin_flow.specs.Slots.{HasOwnSlots};
+ghost use Rattle.pin_checker.specs.CheckedViews.{code_of};
+ghost use Rattle.pin_checker.specs.Safe.{IsSafe};
+ghost use Rattle.compile_passes.specs.Compiled.{IsCompiled, IsPrepared};
+
+use ak_words::NoMemory;
+use emit_code::emit;
+use hoist_pass::hoist;
+use pin_checker::{CheckFault, Checked, check};
+use pin_frames::place;
+use std::alloc::Global;
+use struct_ir::Ir;
+use struct_ir::linear::Code;
+use translate_pass::insert;
+
+/// The code with its Looks, hoisted, with safepoints and exact lists: the same once erased.
+///
+/// # Errors
+///
+/// Only want of memory.
+pub fn prepare(alloc: Global, ir: &Ir) -> Result<Ir, NoMemory>
+    requires valid { is_valid (ir_view ir.now) ≡ true }
+    requires bare { ir_erased (ir_view ir.now) ≡ ir_view ir.now }
+    ensures { IfOk result (λ x. IsPrepared (ir_view ir.now) (ir_view x)) }
+{
+    let looked = insert(alloc, ir)?;
+    let hoisted = hoist(alloc, &looked)?;
+    place(alloc, &hoisted)
+}
+
+// Code that is safe passes the check.
+fn checked(alloc: Global, ir: Ir) -> Result<Checked, NoMemory>
+    requires { IsSafe (ir_view ir) }
+    ensures { IfOk result (λ c. code_of c ≡ ir_view ir) }
+{
+    match check(alloc, ir) {
+        Ok(checked) => Ok(checked),
+        Err(CheckFault::NoMemory) => Err(NoMemory),
+        Err(CheckFault::Refused { .. }) => unreachable!(),
+    }
+}
+
+/// The machine's code of structured code, which the checker never refuses.
+///
+/// # Errors
+///
+/// Only want of memory.
+pub fn compile(alloc: Global, ir: &Ir) -> Result<Code, NoMemory>
+    requires valid { is_valid (ir_view ir.now) ≡ true }
+    requires bare { ir_erased (ir_view ir.now) ≡ ir_view ir.now }
+    ensures { IfOk result (λ code. IsCompiled (ir_view ir.now) (code_view code)) }
+{
+    let ready = prepare(alloc, ir)?;
+    let checked = checked(alloc, ready)?;
+    emit(alloc, &checked)
+}
