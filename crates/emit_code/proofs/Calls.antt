@@ -6,7 +6,7 @@ use Rattle.struct_ir.specs.Valid.{list_at, first_list, last_list, is_the_list, a
 use Rattle.struct_ir.specs.Instrs.{Instr, acts, unless, jump, round_to, leave}
 use Rattle.struct_ir.specs.Lawful.{safe_list, list_at_index, IsBetweenSafepoints}
 use Rattle.struct_ir.specs.Marks.{is_mark}
-use Rattle.emit_code.specs.Layout.{node_long, long, emit_node, emit, code_of}
+use Rattle.emit_code.specs.inner.Layout.{node_long, long, emit_node, emit, code_of}
 use Rattle.emit_code.proofs.Safepoints.{false_true, left_of, right_of, last_in, Tells, node_tells, tells_none}
 
 -- ---- lists of instructions

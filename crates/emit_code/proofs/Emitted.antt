@@ -11,11 +11,13 @@ use Rattle.struct_ir.proofs.Follows.{follows_mirrors, follows_safe}
 use Rattle.struct_ir.proofs.Lawful.{lawful_code_shrinks}
 use Rattle.struct_ir.proofs.Level.{same_events}
 use Rattle.struct_ir.proofs.Mirrors.{mirrors_runs}
-use Rattle.emit_code.specs.Layout.{long, emit, code_of, func_linear, linear_of}
+use Rattle.emit_code.specs.inner.Layout.{long, emit, code_of, func_linear, linear_of}
 use Rattle.pin_flow.specs.Funcs.{nodes_if, start_of}
-use Rattle.emit_code.specs.Stands.{Holds, StandsAt, StandsIn}
+use Rattle.emit_code.specs.inner.Holds.{Holds}
+use Rattle.emit_code.specs.Stands.{StandsAt, StandsIn}
 use Rattle.emit_code.specs.Emitted.{row_count, nodes_count, SameFrames, IsEmitted, LinearCodeKeepsRuns, LinearCodeKeepsEvents}
 use Rattle.emit_code.proofs.Holding.{has_all, has_front}
+use Rattle.emit_code.proofs.Lying.{row_lies}
 use Rattle.emit_code.proofs.Short.{code_short}
 use Rattle.emit_code.proofs.Lawful.{last_leaves}
 use Rattle.emit_code.proofs.Keeps.{follows}
@@ -28,10 +30,10 @@ row_starts nodes =
     let whole = subst (λ x. Holds x 0 (code_of nodes)) (append-nil (code_of nodes)) (has_all (code_of nodes) [] []) in
     let front = has_front (code_of nodes) 0 e (leave 0 None ∷ []) whole in
     let z : 0 + long nodes ≡ long nodes = omega arith in
-    record { out = long nodes; next = long nodes; stands = (front, long nodes, inl z, (ap (λ (o : Option Instr). instr_here o) (last_leaves nodes), refl, refl)) }
+    record { out = long nodes; next = long nodes; stands = (0 + long nodes, long nodes, row_lies (code_of nodes) nodes 0 (long nodes) (long nodes) front, inl z, (ap (λ (o : Option Instr). instr_here o) (last_leaves nodes), refl, refl)) }
 
 none_starts : StandsAt [] 0 (then_ no_nodes done)
-none_starts = let z : 0 + 0 ≡ 0 = refl in record { out = 0; next = 0; stands = (tt, 0, inl z, (refl, refl, refl)) }
+none_starts = record { out = 0; next = 0; stands = (0, 0, refl, inl refl, (refl, refl, refl)) }
 
 func_starts : (funcs : List Func) (f : ℕ) → StandsAt (instrs_if (slice_get (map func_linear funcs) f)) 0 (then_ (nodes_if (slice_get funcs f)) done)
 func_starts [] f = none_starts

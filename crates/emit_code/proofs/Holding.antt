@@ -5,8 +5,8 @@ use Rattle.std.proofs.lemmas.Option.{slice_get-get_or}
 use Rattle.struct_ir.specs.Nodes.{Node, plain, if_, loop, break_, next_, ret, Nodes, no_nodes, more_nodes}
 use Rattle.struct_ir.specs.Instrs.{Instr, jump, round_to}
 use Rattle.struct_ir.specs.Marks.{is_mark}
-use Rattle.emit_code.specs.Layout.{node_long, long, emit_node, emit}
-use Rattle.emit_code.specs.Stands.{Holds}
+use Rattle.emit_code.specs.inner.Layout.{node_long, long, emit_node, emit}
+use Rattle.emit_code.specs.inner.Holds.{Holds}
 
 pub has_front : (code : List Instr) (at : ℕ) (a b : List Instr) → Holds code at (a ++ b) → Holds code at a
 has_front code at [] b h = tt

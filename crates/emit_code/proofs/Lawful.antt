@@ -6,8 +6,8 @@ use Rattle.struct_ir.specs.Valid.{list_at, last_list, node_is_placed, are_placed
 use Rattle.struct_ir.specs.Instrs.{Instr, acts, unless, jump, round_to, leave}
 use Rattle.struct_ir.specs.Lawful.{safe_list, is_leave, list_at_index, IsLater, IsBehindSafepoint, IsLawful}
 use Rattle.struct_ir.specs.Marks.{is_mark}
-use Rattle.emit_code.specs.Layout.{node_long, long, emit_node, emit, code_of}
-use Rattle.emit_code.specs.Stands.{Holds}
+use Rattle.emit_code.specs.inner.Layout.{node_long, long, emit_node, emit, code_of}
+use Rattle.emit_code.specs.inner.Holds.{Holds}
 use Rattle.emit_code.proofs.Holding.{has_all, has_back, row_length, node_length}
 use Rattle.emit_code.proofs.Short.{code_length}
 use Rattle.emit_code.proofs.Safepoints.{false_true, left_of, right_of, last_in, tells_none, row_tells, some_told}

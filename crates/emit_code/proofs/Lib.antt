@@ -1,4 +1,5 @@
 pub mod Holding
+pub mod Lying
 pub mod Keeps
 pub mod Short
 pub mod Safepoints

@@ -5,7 +5,7 @@ use Rattle.std.proofs.Math.Seq.{set-append_seam}
 use Rattle.std.proofs.lemmas.List.{reverse-append}
 use Rattle.struct_ir.specs.Instrs.{Instr, round_to}
 use Rattle.struct_ir.specs.Nodes.{Nodes, loop}
-use Rattle.emit_code.specs.Layout.{long, node_long, emit, emit_node}
+use Rattle.emit_code.specs.inner.Layout.{long, node_long, emit, emit_node}
 
 three_back : (b s : List Instr) (r : Instr) → reverse (b ++ (s ++ r ∷ [])) ≡ r ∷ (reverse s ++ reverse b)
 three_back b s r = reverse-append b (s ++ r ∷ []) ∙ ap (λ l. l ++ reverse b) (reverse-append s (r ∷ []))

@@ -13,7 +13,7 @@ use Rattle.struct_ir.specs.LinearViews.{linear_func_view}
 use Rattle.struct_ir.specs.Valid.{has_params, are_placed}
 use Rattle.struct_ir.specs.Views.{global_view, func_view}
 use Rattle.struct_ir.specs.Whole.{takes_nothing, is_init_in, plain_bytes}
-use Rattle.emit_code.specs.Layout.{func_linear}
+use Rattle.emit_code.specs.inner.Layout.{func_linear}
 use Rattle.emit_code.proofs.Safepoints.{left_of, right_of}
 
 abbrev pub is_placed : Func → Bool

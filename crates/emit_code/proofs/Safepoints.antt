@@ -5,7 +5,7 @@ use Rattle.struct_ir.specs.Nodes.{set, call, step, look, safepoint, begin_object
 use Rattle.struct_ir.specs.Valid.{list_at, last_list}
 use Rattle.struct_ir.specs.Instrs.{Instr}
 use Rattle.struct_ir.specs.Lawful.{safe_list}
-use Rattle.emit_code.specs.Layout.{node_long, emit_node, emit}
+use Rattle.emit_code.specs.inner.Layout.{node_long, emit_node, emit}
 
 pub false_true : {A : Type 0} → false ≡ true → A
 false_true e = absurd cc

@@ -3,7 +3,7 @@ use Rattle.std.proofs.Common.{◌≡◌, ◌+◌, ◌*◌, ◌≤◌, [], ◌∷
 use Rattle.struct_ir.specs.Nodes.{Node, plain, if_, loop, break_, next_, ret, Nodes, no_nodes, more_nodes}
 use Rattle.struct_ir.specs.Instrs.{leave}
 use Rattle.struct_ir.specs.Marks.{is_mark}
-use Rattle.emit_code.specs.Layout.{node_long, long, emit, code_of}
+use Rattle.emit_code.specs.inner.Layout.{node_long, long, emit, code_of}
 use Rattle.emit_code.specs.Emitted.{node_count, row_count}
 use Rattle.emit_code.proofs.Holding.{row_length}
 

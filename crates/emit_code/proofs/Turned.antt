@@ -5,7 +5,7 @@ use Rattle.struct_ir.specs.declared.linear.Instr.{Instr as CodeInstr}
 use Rattle.struct_ir.specs.Instrs.{leave}
 use Rattle.struct_ir.specs.InstrViews.{instr_view}
 use Rattle.struct_ir.specs.Nodes.{Nodes}
-use Rattle.emit_code.specs.Layout.{long, emit, code_of}
+use Rattle.emit_code.specs.inner.Layout.{long, emit, code_of}
 
 map_reverse : (xs : List CodeInstr) → map instr_view (reverse xs) ≡ reverse (map instr_view xs)
 map_reverse [] = refl

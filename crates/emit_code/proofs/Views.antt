@@ -8,7 +8,7 @@ use Rattle.struct_ir.specs.declared.code.NodeKind.TheViews as views
 use Rattle.struct_ir.specs.Structured.{node_size, row_size}
 use Rattle.struct_ir.specs.Views.{node_view, nodes_view}
 use Rattle.struct_ir.proofs.Views.{if_is, loop_is}
-use Rattle.emit_code.specs.Layout.{node_long, long}
+use Rattle.emit_code.specs.inner.Layout.{node_long, long}
 
 -- ---- how much there is to go through
 

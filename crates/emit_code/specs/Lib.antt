@@ -1,4 +1,4 @@
-pub mod Layout
+pub mod inner
 pub mod Stands
 pub mod Emitted
 pub mod Rows

@@ -9,7 +9,7 @@ ghost use Rattle.struct_ir.specs.Valid.{are_placed};
 ghost use Rattle.struct_ir.specs.Views.{node_view, nodes_view, func_view};
 ghost use Rattle.struct_ir.specs.WholeViews.{ir_view};
 ghost use Rattle.std.specs.List.{list_all};
-ghost use Rattle.emit_code.specs.Layout.{long, node_long, emit, emit_node, code_of, func_linear, linear_of};
+ghost use Rattle.emit_code.specs.inner.Layout.{long, node_long, emit, emit_node, code_of, func_linear, linear_of};
 ghost use Rattle.emit_code.specs.Emitted.{IsEmitted};
 ghost use Rattle.struct_ir.specs.Placed.{all_placed};
 

@@ -2,7 +2,7 @@
 
 ghost use Rattle.std.specs.Prelude.{◌≡◌, IfSome};
 ghost use Rattle.struct_ir.specs.Views.{node_view, nodes_view};
-ghost use Rattle.emit_code.specs.Layout.{long, node_long};
+ghost use Rattle.emit_code.specs.inner.Layout.{long, node_long};
 
 use struct_ir::{Node, NodeKind};
 

@@ -3,7 +3,7 @@ use Rattle.struct_ir.specs.declared.code.Node.{Node as CodeNode}
 use Rattle.struct_ir.specs.InstrViews.{instr_view}
 use Rattle.struct_ir.specs.Structured.{node_size, row_size}
 use Rattle.struct_ir.specs.Views.{node_view, nodes_view}
-use Rattle.emit_code.specs.Layout.{long, emit}
+use Rattle.emit_code.specs.inner.Layout.{long, emit}
 use Rattle.emit_code.proofs.emitting.+emits.Given as goal
 
 abbrev pub decreases-emit_row : goal.decreases-emit_row

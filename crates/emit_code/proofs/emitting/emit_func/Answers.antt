@@ -1,7 +1,7 @@
 use Rattle.std.proofs.Common.{sym, ap, subst, ◌∙◌}
 use Rattle.struct_ir.specs.Lawful.{IsLawful}
 use Rattle.struct_ir.specs.Views.{nodes_view}
-use Rattle.emit_code.specs.Layout.{code_of}
+use Rattle.emit_code.specs.inner.Layout.{code_of}
 use Rattle.emit_code.proofs.Lawful.{lawful}
 use Rattle.emit_code.proofs.emitting.emit_func.Goals as goal
 

@@ -1,7 +1,7 @@
 use Rattle.std.proofs.Common.{◌≡◌, map, take}
 use Rattle.struct_ir.specs.LinearViews.{linear_func_view}
 use Rattle.struct_ir.specs.Views.{func_view}
-use Rattle.emit_code.specs.Layout.{func_linear}
+use Rattle.emit_code.specs.inner.Layout.{func_linear}
 use Rattle.emit_code.proofs.emitting.emit_funcs.Given as goal
 
 -- so far

@@ -1,7 +1,7 @@
 use Rattle.std.proofs.Common.{◌≡◌, ap, ◌∙◌, map, rules}
 use Rattle.c_tree.specs.TypedViews.{literal_view}
 use Rattle.struct_ir.specs.Views.{func_view}
-use Rattle.emit_code.specs.Layout.{func_linear}
+use Rattle.emit_code.specs.inner.Layout.{func_linear}
 use Rattle.emit_code.proofs.Program.{main_kept, inits_kept, area_kept}
 use Rattle.emit_code.proofs.emitting.emit_program.Goals as goal
 

@@ -2,7 +2,7 @@ use Rattle.std.proofs.Common.{List, ◌++◌, ◌≡◌, length}
 use Rattle.struct_ir.specs.declared.code.Node.{Node as CodeNode}
 use Rattle.struct_ir.specs.Structured.{node_size, row_size}
 use Rattle.struct_ir.specs.Views.{node_view, nodes_view}
-use Rattle.emit_code.specs.Layout.{long}
+use Rattle.emit_code.specs.inner.Layout.{long}
 use Rattle.emit_code.proofs.lengths.+longs.Given as goal
 
 abbrev pub decreases-long_of : goal.decreases-long_of

@@ -1,0 +1,3 @@
+-- What only bodies and laws use.
+pub mod Layout
+pub mod Holds
