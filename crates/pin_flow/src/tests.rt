@@ -26,6 +26,8 @@ fn held_at_end(b: u32, rows: &[Node]) -> State
 fn has_slot(alloc: Global, f: &IrFunc, b: u32) -> Result<bool, NoMemory>
     ensures { IfOk result (λ v. v ≡ is_some (slot_if (bases_of (func_view f.now)) b)) }
 {
+    // (there are no more bases than registers)
+    let _temps = f.temps;
     let bases = bases_of(alloc, f)?;
     Ok(slot_of(&bases, b).is_some())
 }
