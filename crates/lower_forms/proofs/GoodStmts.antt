@@ -1,0 +1,266 @@
+-- The code of statements is valid and bare.
+use Rattle.std.proofs.Common.{◌≡◌, ℕ, suc, ◌+◌, ◌<◌, ◌≤◌, Bool, true, false, if◌then◌else◌, List, [], Option, Some, None, refl, ap, ◌&&◌, arith}
+use Rattle.std.proofs.lemmas.Bool.{and_from}
+use Rattle.std.specs.Prelude.{nat_lt}
+use Rattle.ak_words.specs.declared.int_type.IntType.{IntType}
+use Rattle.ak_words.specs.declared.operation.Op.{Op}
+use Rattle.c_tree.specs.Typed as tree
+use Rattle.c_tree.specs.TypedForm.{Context, IsScalar, Inside, IsStep, IfTyped, IsTyped, IsTypedNode, IsWell, IsWellNode, AreWell}
+use Rattle.c_meaning.specs.Values.{is_scalar, operand_types}
+use Rattle.c_meaning.specs.Turns.{is_struct}
+use Rattle.struct_ir.specs.Nodes.{Nodes, no_nodes, more_nodes, plain, begin_object}
+use Rattle.struct_ir.specs.Valid.{Scope, Around, body_of, latch_of}
+use Rattle.lower_forms.specs.Counts.{count, count_parts, count_if, greatest, greatest_in, greatest_row}
+use Rattle.lower_forms.specs.Forms.{Frame, home, first_temp, Reach, reached, behind, reach, register_if, is_void, number_type, temps_of, value_nodes, object_place, dropped_object, dropped_nodes, dropped_value, begins, with_home, home_in, declared_home, objects_by, objects_in, initialises, store_nodes, copy_nodes, object_assign, own_register, assign_nodes, number_update, computes, update_register, update_object, update_nodes, test_nodes, declare_nodes, return_nodes, stmt_nodes, form_nodes, row_nodes}
+use Rattle.lower_forms.proofs.Operands.{operand_promoted, moves_fits}
+use Rattle.lower_forms.proofs.Pieces.{Good, below, good_none, good_set, good_branches, good_loop, good_break, good_next, good_ret, good_long, place_in, place_bare, temp_in, load_step, store_step, copy_step, AreObjects, objects_both, good_ends}
+use Rattle.lower_forms.proofs.GoodExprs.{Suits, at_least_one, temps_below, good_call, called, BelowIf, register_below, local_below, reach_fits, good_expr, good_value, good_place, good_object_place, good_args}
+
+-- a break and a continue may stand there, where the tree has them
+abbrev pub Loops : Bool → Around → Type 0
+Loops b a = b ≡ true → (a.in_loop ≡ true) × (a.in_body ≡ true)
+
+pub in_no_loop : (a : Around) → Loops false a
+in_no_loop a e = absurd cc
+
+in_a_loop : (b : Bool) → Loops b body_of
+in_a_loop b e = (refl, refl)
+
+module _ (x : Scope) (c : Context) (f : Frame) (s : Suits x c f) where
+  either_good : (a : Around) (b : Bool) (m n : Nodes) → Good x a m → Good x a n → Good x a (if b then m else n)
+  either_good a true m n h k = h
+  either_good a false m n h k = k
+
+  -- ---- values that are dropped
+
+  good_dropped_object : (place : ℕ) (ty : tree.Ty) (node : tree.ExprNode) → IsTypedNode c ty node → (t : ℕ) → t + suc (count_parts node) ≤ x.temps → (a : Around) (rest : Nodes) (b : Bool)
+      → Good x a rest → Good x a (if b then value_nodes f place ty node t rest else object_place f place node t rest)
+  good_dropped_object place ty node h t k a rest b g =
+      either_good a b _ _ (good_value x c f s place ty node h t k a rest g) (good_object_place x c f s place ty node h t k a rest g)
+
+  mutual
+    good_dropped : (e : tree.Expr) → IsTyped c e → (t : ℕ) → t + count e ≤ x.temps → (a : Around) (rest : Nodes) → Good x a rest → Good x a (dropped_nodes f e t rest)
+    good_dropped (tree.at place ty node) h t k a rest g = good_dropped_value place ty node h t k a rest g
+
+    good_dropped_value : (place : ℕ) (ty : tree.Ty) (node : tree.ExprNode) → IsTypedNode c ty node → (t : ℕ) → t + suc (count_parts node) ≤ x.temps → (a : Around) (rest : Nodes)
+        → Good x a rest → Good x a (dropped_value f place ty node t rest)
+    good_dropped_value place ty (tree.num u z) h t k a rest g = good_value x c f s place ty (tree.num u z) h t k a rest g
+    good_dropped_value place ty tree.null h t k a rest g = good_value x c f s place ty tree.null h t k a rest g
+    good_dropped_value place ty (tree.literal n) h t k a rest g = good_dropped_object place ty (tree.literal n) h t k a rest (is_scalar ty) g
+    good_dropped_value place ty (tree.global n) h t k a rest g = good_dropped_object place ty (tree.global n) h t k a rest (is_scalar ty) g
+    good_dropped_value place ty (tree.local n) h t k a rest g = good_dropped_object place ty (tree.local n) h t k a rest (is_scalar ty) g
+    good_dropped_value place ty (tree.deref e) h t k a rest g = good_dropped_object place ty (tree.deref e) h t k a rest (is_scalar ty) g
+    good_dropped_value place ty (tree.member e m) h t k a rest g = good_dropped_object place ty (tree.member e m) h t k a rest (is_scalar ty) g
+    good_dropped_value place ty (tree.address_of e) h t k a rest g = good_value x c f s place ty (tree.address_of e) h t k a rest g
+    good_dropped_value place ty (tree.decay e) h t k a rest g = good_value x c f s place ty (tree.decay e) h t k a rest g
+    good_dropped_value place ty (tree.convert e) h t k a rest g = either_good a (is_void ty) _ _ (good_dropped e h.0 t (omega (arith, k)) a rest g) (good_value x c f s place ty (tree.convert e) h t k a rest g)
+    good_dropped_value place ty (tree.not_ e) h t k a rest g = good_value x c f s place ty (tree.not_ e) h t k a rest g
+    good_dropped_value place ty (tree.binary op d e) h t k a rest g = good_value x c f s place ty (tree.binary op d e) h t k a rest g
+    good_dropped_value place ty (tree.and_also d e) h t k a rest g = good_value x c f s place ty (tree.and_also d e) h t k a rest g
+    good_dropped_value place ty (tree.or_else d e) h t k a rest g = good_value x c f s place ty (tree.or_else d e) h t k a rest g
+    good_dropped_value place ty (tree.choose b d e) h t k a rest g = good_value x c f s place ty (tree.choose b d e) h t k a rest g
+    good_dropped_value place ty (tree.pointer_add d e) h t k a rest g = good_value x c f s place ty (tree.pointer_add d e) h t k a rest g
+    good_dropped_value place ty (tree.pointer_sub d e) h t k a rest g = good_value x c f s place ty (tree.pointer_sub d e) h t k a rest g
+    good_dropped_value place ty (tree.pointer_diff d e) h t k a rest g = good_value x c f s place ty (tree.pointer_diff d e) h t k a rest g
+    good_dropped_value place ty (tree.pointer_compare op d e) h t k a rest g = good_value x c f s place ty (tree.pointer_compare op d e) h t k a rest g
+    good_dropped_value place ty (tree.pointer_test p) h t k a rest g = good_value x c f s place ty (tree.pointer_test p) h t k a rest g
+    good_dropped_value place ty (tree.call function es) h t k a rest g =
+        good_args x c f s es h.0 t (omega (arith, k)) a _ (good_call x a place None function _ rest refl (temps_below x es t (omega (arith, k))) (called x c f s function h.1.0 es t h.1.1 h.1.2.0) g)
+    good_dropped_value place ty (tree.lib which es) h t k a rest g = good_value x c f s place ty (tree.lib which es) h t k a rest g
+
+  -- ---- stack objects
+
+  home_fits : (node : tree.StmtNode) (k : ℕ) → home_in f node ≡ Some k → nat_lt k x.objects ≡ true
+  home_fits (tree.block body) k q = absurd cc
+  home_fits (tree.declare n init) k q = s.object n k q
+  home_fits (tree.if_ e one) k q = absurd cc
+  home_fits (tree.if_else e one other) k q = absurd cc
+  home_fits (tree.while_ e body) k q = absurd cc
+  home_fits (tree.for_ first e last body) k q = absurd cc
+  home_fits tree.break_ k q = absurd cc
+  home_fits tree.continue_ k q = absurd cc
+  home_fits (tree.return_ value) k q = absurd cc
+  home_fits (tree.assign d e) k q = absurd cc
+  home_fits (tree.update d op e) k q = absurd cc
+  home_fits (tree.evaluate e) k q = absurd cc
+  home_fits tree.empty k q = absurd cc
+
+  declared_fits : (st : tree.Stmt) (k : ℕ) → declared_home f st ≡ Some k → nat_lt k x.objects ≡ true
+  declared_fits (tree.at_stmt place node) k e = home_fits node k e
+
+  with_home_fits : (o : Option ℕ) (ks : List ℕ) → ((k : ℕ) → o ≡ Some k → nat_lt k x.objects ≡ true) → AreObjects x ks → AreObjects x (with_home o ks)
+  with_home_fits None ks h g = g
+  with_home_fits (Some k) ks h g = (h k refl, g)
+
+  by_fits : (st : tree.Stmt) (ks : List ℕ) → AreObjects x ks → AreObjects x (objects_by f st ks)
+  by_fits st ks g = with_home_fits (declared_home f st) ks (declared_fits st) g
+
+  objects_fit : (body : tree.Stmts) → AreObjects x (objects_in f body)
+  objects_fit tree.no_stmts = tt
+  objects_fit (tree.more_stmts st rest) = by_fits st _ (objects_fit rest)
+
+  good_begins : (a : Around) (place : ℕ) (o : Option ℕ) (rest : Nodes) → ((k : ℕ) → o ≡ Some k → nat_lt k x.objects ≡ true) → Good x a rest → Good x a (begins place o rest)
+  good_begins a place None rest h g = g
+  good_begins a place (Some k) rest h g = record { valid = and_from _ _ (h k refl) g.valid; bare = ap (more_nodes (plain place (begin_object k))) g.bare }
+
+  good_initialises : (a : Around) (place : ℕ) (o : Option ℕ) (n t : ℕ) (ty : tree.Ty) (rest : Nodes) → ((k : ℕ) → o ≡ Some k → nat_lt k x.objects ≡ true) → n < x.temps → t < x.temps
+      → Good x a rest → Good x a (initialises place o n t ty rest)
+  good_initialises a place None n t ty rest h i j g = good_set x a place n _ rest i (below x t j) g
+  good_initialises a place (Some k) n t ty rest h i j g = good_set x a place n _ _ i (h k refl) (store_step x a place ty _ t rest (temp_in x n i) refl j g)
+
+  -- ---- assignments
+
+  own_fits : (ty : tree.Ty) (node : tree.ExprNode) → IsTypedNode c ty node → BelowIf x c f s (own_register f node)
+  own_fits ty (tree.num u z) h = tt
+  own_fits ty tree.null h = tt
+  own_fits ty (tree.literal n) h = tt
+  own_fits ty (tree.global n) h = tt
+  own_fits ty (tree.local n) h = register_below x c f s n (home f n) (local_below x c f s n ty h)
+  own_fits ty (tree.deref e) h = tt
+  own_fits ty (tree.member e m) h = tt
+  own_fits ty (tree.address_of e) h = tt
+  own_fits ty (tree.decay e) h = tt
+  own_fits ty (tree.convert e) h = tt
+  own_fits ty (tree.not_ e) h = tt
+  own_fits ty (tree.binary op d e) h = tt
+  own_fits ty (tree.and_also d e) h = tt
+  own_fits ty (tree.or_else d e) h = tt
+  own_fits ty (tree.choose b d e) h = tt
+  own_fits ty (tree.pointer_add d e) h = tt
+  own_fits ty (tree.pointer_sub d e) h = tt
+  own_fits ty (tree.pointer_diff d e) h = tt
+  own_fits ty (tree.pointer_compare op d e) h = tt
+  own_fits ty (tree.pointer_test p) h = tt
+  own_fits ty (tree.call function es) h = tt
+  own_fits ty (tree.lib which es) h = tt
+
+  good_store : (left right : tree.Expr) → IsTyped c left → IsTyped c right → (t : ℕ) → t + suc (count left + count right) ≤ x.temps → (a : Around) (rest : Nodes)
+      → Good x a rest → Good x a (store_nodes f left right t rest)
+  good_store left right h i t k a rest g =
+      let r = reach_fits x c f s left h t (omega (arith, k)) in
+      good_place x c f s left h t (omega (arith, k)) a _ (good_expr x c f s right i _ (omega (arith, k, r.next)) a _
+      (store_step x a _ _ _ _ rest (place_in x _ t r.inside) (place_bare x _ t) (omega (arith, k, r.next, at_least_one right)) g))
+
+  good_copy : (left right : tree.Expr) → IsTyped c left → IsTyped c right → (t : ℕ) → t + suc (count left + count right) ≤ x.temps → (a : Around) (rest : Nodes)
+      → Good x a rest → Good x a (copy_nodes f left right t rest)
+  good_copy left right h i t k a rest g =
+      let r = reach_fits x c f s left h t (omega (arith, k)) in
+      let q = reach_fits x c f s right i (behind (reach f left) t) (omega (arith, k, r.next)) in
+      good_place x c f s left h t (omega (arith, k)) a _ (good_place x c f s right i _ (omega (arith, k, r.next)) a _
+      (good_long x a _ _ _ _ (omega (arith, k, r.next, q.next))
+      (copy_step x a _ _ true _ _ _ rest (place_in x _ t r.inside) (place_bare x _ t) (place_in x _ _ q.inside) (place_bare x _ _) (omega (arith, k, r.next, q.next)) g)))
+
+  good_assign : (place : ℕ) (o : Option ℕ) (left right : tree.Expr) → BelowIf x c f s o → IsTyped c left → IsTyped c right → (t : ℕ) → t + suc (count left + count right) ≤ x.temps → (a : Around) (rest : Nodes)
+      → Good x a rest → Good x a (assign_nodes f place o left right t rest)
+  good_assign place None left right w h i t k a rest g =
+      either_good a (is_struct (tree.type_of left)) _ _ (good_copy left right h i t k a rest g) (good_store left right h i t k a rest g)
+  good_assign place (Some n) left right w h i t k a rest g =
+      good_expr x c f s right i t (omega (arith, k)) a _ (good_set x a place n _ rest w (below x t (omega (arith, k))) g)
+
+  both_below : (m n : ℕ) → m < x.temps → n < x.temps → (nat_lt m x.temps && nat_lt n x.temps) ≡ true
+  both_below m n h k = and_from _ _ (below x m h) (below x n k)
+
+  good_number_update : (a : Around) (place : ℕ) (op : Op) (u v : IntType) (m n to : ℕ) (rest : Nodes) → m < x.temps → n < x.temps → to < x.temps
+      → Good x a rest → Good x a (number_update place op u (operand_types op u v) m n to rest)
+  good_number_update a place op u v m n to rest h i j g =
+      good_set x a place m _ _ h (below x m h) (good_set x a place n _ _ i (below x n i)
+      (good_set x a place m _ _ h (and_from _ _ (operand_promoted op u v) (both_below m n h i)) (good_set x a place to _ rest j (below x m h) g)))
+
+  good_moves : (a : Around) (place : ℕ) (op : Op) (m n to scale : ℕ) (rest : Nodes) → m < x.temps → n < x.temps → to < x.temps
+      → Good x a rest → Good x a (Rattle.lower_forms.specs.Forms.sets place to (Rattle.lower_forms.specs.Forms.moves op m n scale) rest)
+  good_moves a place op m n to scale rest h i j g = good_set x a place to _ rest j (moves_fits x op m n scale (both_below m n h i)) g
+
+  good_computes : (a : Around) (place : ℕ) (op : Op) (u v : tree.Ty) (m n to : ℕ) (rest : Nodes) → m < x.temps → n < x.temps → to < x.temps
+      → Good x a rest → Good x a (computes f.structs place op u v m n to rest)
+  good_computes a place op (tree.integer u) v m n to rest h i j g = good_number_update a place op u (number_type v) m n to rest h i j g
+  good_computes a place op tree.void v m n to rest h i j g = good_moves a place op m n to _ rest h i j g
+  good_computes a place op tree.mutex v m n to rest h i j g = good_moves a place op m n to _ rest h i j g
+  good_computes a place op (tree.pointer u) v m n to rest h i j g = good_moves a place op m n to _ rest h i j g
+  good_computes a place op (tree.array u l) v m n to rest h i j g = good_moves a place op m n to _ rest h i j g
+  good_computes a place op (tree.structure l) v m n to rest h i j g = good_moves a place op m n to _ rest h i j g
+
+  good_update : (place : ℕ) (op : Op) (o : Option ℕ) (left right : tree.Expr) → BelowIf x c f s o → IsTyped c left → IsTyped c right → (t : ℕ) → t + suc (count left + count right) ≤ x.temps → (a : Around) (rest : Nodes)
+      → Good x a rest → Good x a (update_nodes f place op o left right t rest)
+  good_update place op None left right w h i t k a rest g =
+      let r = reach_fits x c f s left h t (omega (arith, k)) in
+      let u : suc (behind (reach f left) t) < x.temps = omega (arith, k, r.next, at_least_one right) in
+      let v : behind (reach f left) t < x.temps = omega (arith, u) in
+      good_place x c f s left h t (omega (arith, k)) a _ (good_expr x c f s right i _ (omega (arith, k, r.next)) a _
+      (load_step x a _ _ _ _ _ (place_in x _ t r.inside) (place_bare x _ t) u
+      (good_computes a place op _ _ _ _ _ _ u v v (store_step x a _ _ _ _ rest (place_in x _ t r.inside) (place_bare x _ t) v g))))
+  good_update place op (Some n) left right w h i t k a rest g =
+      let u : suc t < x.temps = omega (arith, k, at_least_one left) in
+      good_expr x c f s right i t (omega (arith, k)) a _ (good_set x a _ (suc t) _ _ u (below x n w)
+      (good_computes a place op _ _ _ _ _ rest u (omega (arith, k)) w g))
+
+  -- ---- statements
+
+  good_test : (e : Option tree.Expr) → IfTyped c IsScalar e → first_temp f + count_if e ≤ x.temps → (rest : Nodes) → Good x body_of rest → Good x body_of (test_nodes f e rest)
+  good_test None h k rest g = g
+  good_test (Some e) h k rest g =
+      good_expr x c f s e h.0 (first_temp f) k body_of _ (good_branches x body_of _ _ _ _ rest (omega (arith, k, at_least_one e)) (good_none x body_of)
+      (good_break x body_of _ no_nodes refl (good_none x body_of)) g)
+
+  module _ (params : ℕ) (result : tree.Ty) where
+    abbrev inside : Inside
+    inside = record { context = c; params = params; result = result }
+
+    well_step : (st : tree.Stmt) (b : Bool) → IsStep st → IsWell inside b st → IsWell inside false st
+    well_step (tree.at_stmt place (tree.block body)) b h k = elim h [ ]
+    well_step (tree.at_stmt place (tree.declare n init)) b h k = elim h [ ]
+    well_step (tree.at_stmt place (tree.if_ e one)) b h k = elim h [ ]
+    well_step (tree.at_stmt place (tree.if_else e one other)) b h k = elim h [ ]
+    well_step (tree.at_stmt place (tree.while_ e body)) b h k = elim h [ ]
+    well_step (tree.at_stmt place (tree.for_ first e last body)) b h k = elim h [ ]
+    well_step (tree.at_stmt place tree.break_) b h k = elim h [ ]
+    well_step (tree.at_stmt place tree.continue_) b h k = elim h [ ]
+    well_step (tree.at_stmt place (tree.return_ value)) b h k = elim h [ ]
+    well_step (tree.at_stmt place (tree.assign d e)) b h k = k
+    well_step (tree.at_stmt place (tree.update d op e)) b h k = k
+    well_step (tree.at_stmt place (tree.evaluate e)) b h k = k
+    well_step (tree.at_stmt place tree.empty) b h k = k
+
+    mutual
+      pub good_stmt : (st : tree.Stmt) (b : Bool) → IsWell inside b st → first_temp f + greatest st ≤ x.temps → (a : Around) → Loops b a → (left : List ℕ) → AreObjects x left → (rest : Nodes)
+          → Good x a rest → Good x a (stmt_nodes f st left rest)
+      good_stmt (tree.at_stmt place node) b h k a l left o rest g = good_form place node b h k a l left o rest g
+
+      good_form : (place : ℕ) (node : tree.StmtNode) (b : Bool) → IsWellNode inside b node → first_temp f + greatest_in node ≤ x.temps → (a : Around) → Loops b a → (left : List ℕ) → AreObjects x left
+          → (rest : Nodes) → Good x a rest → Good x a (form_nodes f place node left rest)
+      good_form place (tree.block body) b h k a l left o rest g =
+          good_row body b h k a l _ (objects_both x (objects_in f body) left (objects_fit body) o) _ (good_ends x a place (objects_in f body) rest (objects_fit body) g)
+      good_form place (tree.declare n None) b h k a l left o rest g = good_begins a place (home f n) rest (s.object n) g
+      good_form place (tree.declare n (Some e)) b h k a l left o rest g =
+          good_begins a place (home f n) _ (s.object n) (good_expr x c f s e h.1.2.0 (first_temp f) k a _
+          (good_initialises a place (home f n) n _ _ rest (s.object n) (s.local n h.1.0 h.1.1) (omega (arith, k, at_least_one e)) g))
+      good_form place (tree.if_ e one) b h k a l left o rest g =
+          good_expr x c f s e h.0 (first_temp f) (omega (arith, k)) a _ (good_branches x a _ _ _ _ rest (omega (arith, k, at_least_one e))
+          (good_stmt one b h.2 (omega (arith, k)) a l left o no_nodes (good_none x a)) (good_none x a) g)
+      good_form place (tree.if_else e one other) b h k a l left o rest g =
+          good_expr x c f s e h.0 (first_temp f) (omega (arith, k)) a _ (good_branches x a _ _ _ _ rest (omega (arith, k, at_least_one e))
+          (good_stmt one b h.2 (omega (arith, k)) a l left o no_nodes (good_none x a)) (good_stmt other b h.4 (omega (arith, k)) a l left o no_nodes (good_none x a)) g)
+      good_form place (tree.while_ e body) b h k a l left o rest g =
+          good_loop x a place _ no_nodes rest (good_test (Some e) (h.0, h.1) (omega (arith, k)) _
+          (good_stmt body true h.2 (omega (arith, k)) body_of (in_a_loop true) [] tt no_nodes (good_none x body_of))) (good_none x latch_of) g
+      good_form place (tree.for_ first e last body) b h k a l left o rest g =
+          good_stmt first b h.0 (omega (arith, k)) a l left o _ (good_loop x a place _ _ _
+          (good_test e h.2 (omega (arith, k)) _ (good_stmt body true h.5 (omega (arith, k)) body_of (in_a_loop true) [] tt no_nodes (good_none x body_of)))
+          (good_stmt last false (well_step last b h.4 h.3) (omega (arith, k)) latch_of (in_no_loop latch_of) [] tt no_nodes (good_none x latch_of))
+          (good_ends x a place _ rest (by_fits first [] tt) g))
+      good_form place tree.break_ b h k a l left o rest g = good_ends x a place left _ o (good_break x a place rest (l h).0 g)
+      good_form place tree.continue_ b h k a l left o rest g = good_ends x a place left _ o (good_next x a place rest (l h).1 g)
+      good_form place (tree.return_ None) b h k a l left o rest g = good_ret x a place None rest refl g
+      good_form place (tree.return_ (Some e)) b h k a l left o rest g =
+          good_expr x c f s e h.0 (first_temp f) k a _ (good_ret x a place (Some (first_temp f)) rest (below x _ (omega (arith, k, at_least_one e))) g)
+      good_form place (tree.assign (tree.at p ty node) e) b h k a l left o rest g =
+          good_assign place (own_register f node) (tree.at p ty node) e (own_fits ty node h.0) h.0 h.1 (first_temp f) k a rest g
+      good_form place (tree.update (tree.at p ty node) op e) b h k a l left o rest g =
+          good_update place op (own_register f node) (tree.at p ty node) e (own_fits ty node h.0) h.0 h.1 (first_temp f) k a rest g
+      good_form place (tree.evaluate e) b h k a l left o rest g = good_dropped e h (first_temp f) k a rest g
+      good_form place tree.empty b h k a l left o rest g = g
+
+      pub good_row : (body : tree.Stmts) (b : Bool) → AreWell inside b body → first_temp f + greatest_row body ≤ x.temps → (a : Around) → Loops b a → (left : List ℕ) → AreObjects x left → (rest : Nodes)
+          → Good x a rest → Good x a (row_nodes f body left rest)
+      good_row tree.no_stmts b h k a l left o rest g = g
+      good_row (tree.more_stmts st body) b h k a l left o rest g =
+          good_stmt st b h.0 (omega (arith, k)) a l left o _ (good_row body b h.1 (omega (arith, k)) a l left o rest g)

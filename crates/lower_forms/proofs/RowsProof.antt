@@ -1,0 +1,6 @@
+-- The worked rows, computed.
+use Rattle.std.proofs.Common.{refl}
+use Rattle.lower_forms.specs.Rows.{RowsHold}
+
+pub rows_hold : RowsHold
+rows_hold = record { lowered_program = refl }

@@ -1,0 +1,5 @@
+use Rattle.lower_forms.proofs.GoodPrograms.{lowered_code_is_whole}
+use Rattle.lower_forms.proofs.laws.lowered_code_is_whole.Goals as goal
+
+pub returns : goal.returns
+returns c = lowered_code_is_whole

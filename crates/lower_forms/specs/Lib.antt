@@ -1,0 +1,5 @@
+pub mod Counts
+pub mod Forms
+pub mod Programs
+pub mod Laws
+pub mod Rows

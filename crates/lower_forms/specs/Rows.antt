@@ -1,0 +1,106 @@
+-- Worked rows: small pieces of C and the code that they are lowered to, written by hand.
+use Rattle.std.specs.Prelude.{◌≡◌, ℕ, pos, true, false, List, [], ◌∷◌, Option, Some, None}
+use Rattle.ak_words.specs.declared.operation.Op.TheVariants.{Add, Mul}
+use Rattle.ak_words.specs.IntType.{char, int, unsigned_long}
+use Rattle.block_store.specs.declared.values.Access.TheVariants as accesses
+use Rattle.c_tree.specs.Typed as tree
+use Rattle.struct_ir.specs.Nodes as ir
+use Rattle.lower_forms.specs.Programs.{lowered}
+
+-- a row of these nodes
+abbrev pub row : List ir.Node → ir.Nodes
+row [] = ir.no_nodes
+row (n ∷ rest) = ir.more_nodes n (row rest)
+
+-- these statements in a row
+abbrev pub stmts : List tree.Stmt → tree.Stmts
+stmts [] = tree.no_stmts
+stmts (s ∷ rest) = tree.more_stmts s (stmts rest)
+
+-- a function's result, locals and statements
+abbrev pub func : tree.Ty → List tree.Local → List tree.Stmt → tree.Func
+func result locals body = record { params = 0; locals = locals; result = result; body = stmts body }
+
+-- a program of this main and one function more
+abbrev pub program : (main other : tree.Func) → tree.Typed
+program main other = record { structs = []; globals = []; literals = []; funcs = other ∷ main ∷ []; main = 1 }
+
+-- a local that is kept in a register, and one in memory
+abbrev pub kept : tree.Ty → tree.Local
+kept ty = record { ty = ty; in_memory = false }
+
+-- one in memory
+abbrev pub lying : tree.Ty → tree.Local
+lying ty = record { ty = ty; in_memory = true }
+
+-- a register is set
+abbrev pub sets : (place to : ℕ) → ir.Calc → ir.Node
+sets place to calc = ir.plain place (ir.set to calc)
+
+-- an action is done
+abbrev pub acts : (place : ℕ) → ir.Action → List ir.Place → (to : Option ℕ) → List ℕ → ir.Node
+acts place action places to temps = ir.plain place (ir.step (record { action = action; places = places; to = to; temps = temps; slots = [] }))
+
+-- what a pointer points to, and an element of it
+abbrev pub at : (base : ℕ) → ir.Place
+at base = record { base = base; index = None; scale = 0; offset = 0; slot = None }
+
+-- an element of it
+abbrev pub element : (base index scale : ℕ) → ir.Place
+element base index scale = record { base = base; index = Some index; scale = scale; offset = 0; slot = None }
+
+-- void churn(void){char *c=malloc(100);free(c);}
+abbrev pub churn : tree.Func
+churn = func tree.void (kept (tree.pointer (tree.integer char)) ∷ [])
+    (tree.at_stmt 23 (tree.declare 0 (Some (tree.at 25 (tree.pointer (tree.integer char)) (tree.convert (tree.at 25 (tree.pointer tree.void)
+    (tree.lib tree.malloc (tree.more_exprs (tree.at 32 (tree.integer unsigned_long) (tree.convert (tree.at 32 (tree.integer int) (tree.num int (pos 100))))) tree.no_exprs)))))))
+    ∷ tree.at_stmt 37 (tree.evaluate (tree.at 37 tree.void
+    (tree.lib tree.free (tree.more_exprs (tree.at 42 (tree.pointer tree.void) (tree.convert (tree.at 42 (tree.pointer (tree.integer char)) (tree.local 0)))) tree.no_exprs)))) ∷ [])
+
+-- its code: the pointer is kept in register 0
+abbrev pub churn_code : ir.Func
+churn_code = record {
+  params = 0;
+  temps = 5;
+  slots = 0;
+  objects = [];
+  nodes = row (sets 32 1 (ir.constant int (pos 100)) ∷ sets 32 1 (ir.convert unsigned_long 1) ∷ acts 25 ir.malloc [] (Some 1) (1 ∷ []) ∷ sets 23 0 (ir.copy 1)
+      ∷ sets 42 1 (ir.copy 0) ∷ acts 37 ir.free [] None (1 ∷ []) ∷ []);
+}
+
+-- the value of a local of type int, by the place and its number
+abbrev pub number : (place local : ℕ) → tree.Expr
+number place local = tree.at place (tree.integer int) (tree.local local)
+
+-- p[i], where p is local 0 and i is local 1
+abbrev pub element_of : (place : ℕ) → tree.Expr
+element_of place = tree.at place (tree.integer int)
+    (tree.deref (tree.at place (tree.pointer (tree.integer int)) (tree.pointer_add (tree.at 10 (tree.pointer (tree.integer int)) (tree.local 0)) (number 12 1))))
+
+-- int main(void){int *p;int i;int s; .. p[i]=i*i; s=s+p[i]; while(1){int a[2];break;} .. }
+abbrev pub main : tree.Func
+main = func (tree.integer int) (kept (tree.pointer (tree.integer int)) ∷ kept (tree.integer int) ∷ kept (tree.integer int) ∷ lying (tree.array (tree.integer int) 2) ∷ [])
+    (tree.at_stmt 14 (tree.assign (element_of 11) (tree.at 16 (tree.integer int) (tree.binary Mul (number 15 1) (number 17 1))))
+    ∷ tree.at_stmt 20 (tree.assign (number 19 2) (tree.at 22 (tree.integer int) (tree.binary Add (number 21 2) (element_of 24))))
+    ∷ tree.at_stmt 30 (tree.while_ (tree.at 36 (tree.integer int) (tree.num int (pos 1)))
+    (tree.at_stmt 38 (tree.block (stmts (tree.at_stmt 43 (tree.declare 3 None) ∷ tree.at_stmt 48 tree.break_ ∷ []))))) ∷ [])
+
+-- its code: an element is reached by the register of the pointer and an index; the array ends at the break, and where its block does
+abbrev pub main_code : ir.Func
+main_code = record {
+  params = 0;
+  temps = 12;
+  slots = 0;
+  objects = record { size = 8; align = 4 } ∷ [];
+  nodes = row (sets 10 4 (ir.copy 0) ∷ sets 12 5 (ir.copy 1) ∷ sets 11 4 (ir.pointer_add 4 5 4)
+      ∷ sets 15 6 (ir.copy 1) ∷ sets 17 7 (ir.copy 1) ∷ sets 16 6 (ir.apply Mul int 6 7) ∷ acts 11 (ir.store (accesses.Number int)) (element 0 5 4 ∷ []) None (6 ∷ [])
+      ∷ sets 21 4 (ir.copy 2) ∷ sets 10 5 (ir.copy 0) ∷ sets 12 6 (ir.copy 1) ∷ sets 24 5 (ir.pointer_add 5 6 4) ∷ acts 24 (ir.load (accesses.Number int)) (element 0 6 4 ∷ []) (Some 5) []
+      ∷ sets 22 4 (ir.apply Add int 4 5) ∷ sets 20 2 (ir.copy 4)
+      ∷ ir.loop 30 (row (sets 36 4 (ir.constant int (pos 1)) ∷ ir.if_ 36 4 ir.no_nodes (row (ir.break_ 36 ∷ []))
+      ∷ ir.plain 43 (ir.begin_object 0) ∷ ir.plain 48 (ir.end_object 0) ∷ ir.break_ 48 ∷ ir.plain 38 (ir.end_object 0) ∷ [])) ir.no_nodes
+      ∷ sets 0 0 (ir.constant int (pos 0)) ∷ ir.ret 0 (Some 0) ∷ []);
+}
+
+-- the rows: what these functions are lowered to
+pub record RowsHold : Type 0 where
+  pub lowered_program : lowered (program main churn) ≡ record { globals = []; literals = []; funcs = churn_code ∷ main_code ∷ []; main = 1 }
