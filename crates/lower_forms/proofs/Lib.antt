@@ -4,3 +4,9 @@ pub mod GoodExprs
 pub mod GoodStmts
 pub mod GoodPrograms
 pub mod RowsProof
+pub mod CostExprs
+pub mod DeepExprs
+pub mod Growth
+pub mod CostStmts
+pub mod DeepStmts
+pub mod Bounded

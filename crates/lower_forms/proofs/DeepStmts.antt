@@ -1,0 +1,105 @@
+-- The code of statements is not deep.
+use Rattle.std.proofs.Common.{ℕ, suc, ◌*◌, List, [], ◌∷◌, ◌++◌, Option, Some, None, arith}
+use Rattle.std.specs.Prelude.{max}
+use Rattle.ak_words.specs.declared.operation.Op.{Op}
+use Rattle.c_tree.specs.Typed as tree
+use Rattle.c_meaning.specs.Turns.{is_struct}
+use Rattle.struct_ir.specs.Nodes.{Nodes, no_nodes, more_nodes, loop, break_, next_, ret}
+use Rattle.lower_forms.specs.Forms.{Frame, home, begins, ends, objects_by, objects_in, initialises, store_nodes, copy_nodes, own_register, assign_nodes, computes, update_nodes, test_nodes, declare_nodes, return_nodes, stmt_nodes, form_nodes, row_nodes}
+use Rattle.lower_forms.specs.Sizes.{expr_depth, depth_if, stmt_depth, stmt_inside, row_depth}
+use Rattle.lower_forms.proofs.DeepExprs.{NoDeeper, deep_step, deep_weak, deep_same, deep_one, deep_branch, deep_either, deep_expr, deep_place, deep_dropped}
+
+deep_loop : (place : ℕ) (body latch rest : Nodes) (a b : ℕ) → NoDeeper body a no_nodes → NoDeeper latch b no_nodes → NoDeeper (more_nodes (loop place body latch) rest) (suc (max a b)) rest
+deep_loop place body latch rest a b h k = record { most = omega (arith, h.most, k.most) }
+
+deep_break : (place : ℕ) (rest : Nodes) → NoDeeper (more_nodes (break_ place) rest) 1 rest
+deep_break place rest = record { most = omega arith }
+
+deep_next : (place : ℕ) (rest : Nodes) → NoDeeper (more_nodes (next_ place) rest) 1 rest
+deep_next place rest = record { most = omega arith }
+
+deep_ret : (place : ℕ) (t : Option ℕ) (rest : Nodes) → NoDeeper (more_nodes (ret place t) rest) 1 rest
+deep_ret place t rest = record { most = omega arith }
+
+deep_begins : (place : ℕ) (o : Option ℕ) (rest : Nodes) → NoDeeper (begins place o rest) 1 rest
+deep_begins place None rest = deep_weak _ _ _ _ (deep_same _) (omega arith)
+deep_begins place (Some k) rest = deep_one _ _ _
+
+deep_ends : (place : ℕ) (ks : List ℕ) (rest : Nodes) → NoDeeper (ends place ks rest) 1 rest
+deep_ends place [] rest = deep_weak _ _ _ _ (deep_same _) (omega arith)
+deep_ends place (k ∷ ks) rest = deep_weak _ _ _ _ (deep_step _ _ _ _ _ (deep_one _ _ _) (deep_ends place ks rest)) (omega arith)
+
+deep_initialises : (place : ℕ) (o : Option ℕ) (n t : ℕ) (ty : tree.Ty) (rest : Nodes) → NoDeeper (initialises place o n t ty rest) 1 rest
+deep_initialises place None n t ty rest = deep_one _ _ _
+deep_initialises place (Some k) n t ty rest = deep_weak _ _ _ _ (deep_step _ _ _ _ _ (deep_one _ _ _) (deep_one _ _ _)) (omega arith)
+
+deep_computes : (structs : List tree.Layout) (place : ℕ) (op : Op) (u v : tree.Ty) (m n to : ℕ) (rest : Nodes) → NoDeeper (computes structs place op u v m n to rest) 1 rest
+deep_computes structs place op tree.void v m n to rest = deep_one _ _ _
+deep_computes structs place op (tree.integer u) v m n to rest =
+    deep_weak _ _ _ _ (deep_step _ _ _ _ _ (deep_one _ _ _) (deep_step _ _ _ _ _ (deep_one _ _ _) (deep_step _ _ _ _ _ (deep_one _ _ _) (deep_one _ _ _)))) (omega arith)
+deep_computes structs place op tree.mutex v m n to rest = deep_one _ _ _
+deep_computes structs place op (tree.pointer u) v m n to rest = deep_one _ _ _
+deep_computes structs place op (tree.array u l) v m n to rest = deep_one _ _ _
+deep_computes structs place op (tree.structure l) v m n to rest = deep_one _ _ _
+
+module _ (f : Frame) where
+  deep_store : (left right : tree.Expr) (t : ℕ) (rest : Nodes) → NoDeeper (store_nodes f left right t rest) (max (3 * expr_depth left) (max (3 * expr_depth right) 1)) rest
+  deep_store left right t rest = deep_step _ _ _ _ _ (deep_place f left t _) (deep_step _ _ _ _ _ (deep_expr f right _ _) (deep_one _ _ _))
+
+  deep_copy : (left right : tree.Expr) (t : ℕ) (rest : Nodes) → NoDeeper (copy_nodes f left right t rest) (max (3 * expr_depth left) (max (3 * expr_depth right) 1)) rest
+  deep_copy left right t rest =
+      deep_step _ _ _ _ _ (deep_place f left t _) (deep_step _ _ _ _ _ (deep_place f right _ _) (deep_weak _ _ _ _ (deep_step _ _ _ _ _ (deep_one _ _ _) (deep_one _ _ _)) (omega arith)))
+
+  deep_assign : (place : ℕ) (o : Option ℕ) (left right : tree.Expr) (t : ℕ) (rest : Nodes) → NoDeeper (assign_nodes f place o left right t rest) (max (3 * expr_depth left) (max (3 * expr_depth right) 1)) rest
+  deep_assign place None left right t rest = deep_either (is_struct (tree.type_of left)) _ _ _ _ (deep_copy left right t rest) (deep_store left right t rest)
+  deep_assign place (Some n) left right t rest = deep_weak _ _ _ _ (deep_step _ _ _ _ _ (deep_expr f right t _) (deep_one _ _ _)) (omega arith)
+
+  deep_update : (place : ℕ) (op : Op) (o : Option ℕ) (left right : tree.Expr) (t : ℕ) (rest : Nodes) → NoDeeper (update_nodes f place op o left right t rest) (max (3 * expr_depth left) (max (3 * expr_depth right) 1)) rest
+  deep_update place op None left right t rest =
+      deep_step _ _ _ _ _ (deep_place f left t _) (deep_step _ _ _ _ _ (deep_expr f right _ _) (deep_weak _ _ _ _ (deep_step _ _ _ _ _ (deep_one _ _ _)
+      (deep_step _ _ _ _ _ (deep_computes f.structs place op _ _ _ _ _ _) (deep_one _ _ _))) (omega arith)))
+  deep_update place op (Some n) left right t rest =
+      deep_weak _ _ _ _ (deep_step _ _ _ _ _ (deep_expr f right t _) (deep_step _ _ _ _ _ (deep_one _ _ _) (deep_computes f.structs place op _ _ _ _ _ rest))) (omega arith)
+
+  deep_test : (o : Option tree.Expr) (rest : Nodes) → NoDeeper (test_nodes f o rest) (max (3 * depth_if o) 2) rest
+  deep_test None rest = deep_weak _ _ _ _ (deep_same _) (omega arith)
+  deep_test (Some e) rest =
+      deep_weak _ _ _ _ (deep_step _ _ _ _ _ (deep_expr f e _ _) (deep_branch _ _ _ _ rest _ _ (deep_same _) (deep_break _ no_nodes))) (omega arith)
+
+  deep_declare : (place n : ℕ) (o : Option tree.Expr) (rest : Nodes) → NoDeeper (declare_nodes f place n o rest) (max (3 * depth_if o) 1) rest
+  deep_declare place n None rest = deep_weak _ _ _ _ (deep_begins place (home f n) rest) (omega arith)
+  deep_declare place n (Some e) rest =
+      deep_weak _ _ _ _ (deep_step _ _ _ _ _ (deep_begins place (home f n) _) (deep_step _ _ _ _ _ (deep_expr f e _ _) (deep_initialises place (home f n) n _ _ rest))) (omega arith)
+
+  deep_return : (place : ℕ) (o : Option tree.Expr) (rest : Nodes) → NoDeeper (return_nodes f place o rest) (max (3 * depth_if o) 1) rest
+  deep_return place None rest = deep_weak _ _ _ _ (deep_ret place None rest) (omega arith)
+  deep_return place (Some e) rest = deep_step _ _ _ _ _ (deep_expr f e _ _) (deep_ret place _ rest)
+
+  mutual
+    pub deep_stmt : (st : tree.Stmt) (left : List ℕ) (rest : Nodes) → NoDeeper (stmt_nodes f st left rest) (4 * stmt_depth st) rest
+    deep_stmt (tree.at_stmt place node) left rest = deep_form place node left rest
+
+    deep_form : (place : ℕ) (node : tree.StmtNode) (left : List ℕ) (rest : Nodes) → NoDeeper (form_nodes f place node left rest) (4 * suc (stmt_inside node)) rest
+    deep_form place (tree.block body) left rest =
+        deep_weak _ _ _ _ (deep_step _ _ _ _ _ (deep_row body (objects_in f body ++ left) _) (deep_ends place (objects_in f body) rest)) (omega arith)
+    deep_form place (tree.declare n init) left rest = deep_weak _ _ _ _ (deep_declare place n init rest) (omega arith)
+    deep_form place (tree.if_ e one) left rest =
+        deep_weak _ _ _ _ (deep_step _ _ _ _ _ (deep_expr f e _ _) (deep_branch _ _ _ _ rest _ _ (deep_stmt one left no_nodes) (deep_same _))) (omega arith)
+    deep_form place (tree.if_else e one other) left rest =
+        deep_weak _ _ _ _ (deep_step _ _ _ _ _ (deep_expr f e _ _) (deep_branch _ _ _ _ rest _ _ (deep_stmt one left no_nodes) (deep_stmt other left no_nodes))) (omega arith)
+    deep_form place (tree.while_ e body) left rest =
+        deep_weak _ _ _ _ (deep_loop place _ no_nodes rest _ _ (deep_step _ _ _ _ _ (deep_test (Some e) _) (deep_stmt body [] no_nodes)) (deep_same _)) (omega arith)
+    deep_form place (tree.for_ first e last body) left rest =
+        deep_weak _ _ _ _ (deep_step _ _ _ _ _ (deep_stmt first left _) (deep_step _ _ _ _ _ (deep_loop place _ _ _ _ _
+        (deep_step _ _ _ _ _ (deep_test e _) (deep_stmt body [] no_nodes)) (deep_stmt last [] no_nodes)) (deep_ends place (objects_by f first []) rest))) (omega arith)
+    deep_form place tree.break_ left rest = deep_weak _ _ _ _ (deep_step _ _ _ _ _ (deep_ends place left _) (deep_break place rest)) (omega arith)
+    deep_form place tree.continue_ left rest = deep_weak _ _ _ _ (deep_step _ _ _ _ _ (deep_ends place left _) (deep_next place rest)) (omega arith)
+    deep_form place (tree.return_ value) left rest = deep_weak _ _ _ _ (deep_return place value rest) (omega arith)
+    deep_form place (tree.assign a b) left rest = deep_weak _ _ _ _ (deep_assign place (own_register f (tree.node_of a)) a b _ rest) (omega arith)
+    deep_form place (tree.update a op b) left rest = deep_weak _ _ _ _ (deep_update place op (own_register f (tree.node_of a)) a b _ rest) (omega arith)
+    deep_form place (tree.evaluate e) left rest = deep_weak _ _ _ _ (deep_dropped f e _ rest) (omega arith)
+    deep_form place tree.empty left rest = deep_weak _ _ _ _ (deep_same _) (omega arith)
+
+    pub deep_row : (body : tree.Stmts) (left : List ℕ) (rest : Nodes) → NoDeeper (row_nodes f body left rest) (4 * row_depth body) rest
+    deep_row tree.no_stmts left rest = deep_weak _ _ _ _ (deep_same _) (omega arith)
+    deep_row (tree.more_stmts st body) left rest = deep_weak _ _ _ _ (deep_step _ _ _ _ _ (deep_stmt st left _) (deep_row body left rest)) (omega arith)
