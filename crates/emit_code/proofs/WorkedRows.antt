@@ -1,28 +1,14 @@
 -- The worked rows.
-use Rattle.std.proofs.Common.{refl}
-use Rattle.emit_code.specs.Rows.{RowsHold}
+use Rattle.std.proofs.Common.{[], ◌∷◌, None, refl}
+use Rattle.struct_ir.specs.Instrs.{leave}
+use Rattle.emit_code.specs.Rows.{a_loop, instrs_of_a_loop, RowsHold}
+use Rattle.emit_code.specs.inner.Layout.{emit}
+use Rattle.emit_code.proofs.Holding.{has_all}
+use Rattle.emit_code.proofs.Lying.{row_lies}
 
--- the only ends that each part can have
 pub rows_hold : RowsHold
 rows_hold = record {
   empty = refl;
   an_if_without_else = (3, (2, refl, (2, (refl, refl), refl), refl, refl), refl);
-  a_loop = (
-    1,
-    (refl, refl),
-    2,
-    (refl, refl),
-    11,
-    (
-      8,
-      10,
-      (2, refl, 7, (4, refl, (4, (refl, refl), refl), refl, (6, (refl, refl), 7, (refl, refl), refl)), 8, (refl, refl), 8, refl, refl),
-      (9, (refl, refl), 10, (refl, refl), refl),
-      refl,
-      refl,
-    ),
-    12,
-    (refl, refl),
-    refl,
-  );
+  a_loop = row_lies instrs_of_a_loop a_loop 0 12 12 (has_all (emit 0 12 12 a_loop) [] (leave 0 None ∷ []));
 }
