@@ -1,0 +1,11 @@
+//! Laws of what lowering keeps, as contracts of functions that do nothing.
+
+ghost use Rattle.lower_turns.specs.Rows.{RowsStand, RulesStand, OrdersStand};
+
+/// The code of each of these programs shows under these orders what the source shows: how each turn
+/// went and the world after it, and which rule a turn breaks, and where.
+pub fn worked_programs_keep_their_turns()
+    ensures rows { RowsStand }
+    ensures rules { RulesStand }
+    ensures orders { OrdersStand }
+{}
