@@ -1,6 +1,6 @@
 mod walks;
 
-ghost use Rattle.std.specs.Prelude.{◌≡◌, IfOk, true};
+ghost use Rattle.std.specs.Prelude.{◌≡◌, ℕ, IfOk, true};
 ghost use Rattle.struct_ir.specs.Erased.{ir_erased};
 ghost use Rattle.struct_ir.specs.Linear.{linear, entry_of};
 ghost use Rattle.struct_ir.specs.LinearViews.{code_view};
@@ -57,7 +57,7 @@ fn reading(alloc: Global) -> Result<Vec<Node>, NoMemory> {
 
 fn program(alloc: Global) -> Result<Ir, NoMemory> {
     let main = IrFunc {
-        params: 1,
+        params: 0,
         temps: 2,
         slots: 0,
         objects: Vec::new(alloc),
@@ -82,12 +82,12 @@ fn a_reading_loop(rt: HostRuntime) -> Result<(), Fail> {
     let ready = prepare(alloc, &ir)?;
     assert_eq!(rt;
         text(alloc, &ready)?.as_slice(),
-        "function 0: 1 parameters, 2 registers, 1 slots, 0 objects\nlook s0 t0\nloop\n+ t1 = load Pointer [t0 by s0]\n+ if t1\n  - break\n- t1 = null\n- safepoint s0\nreturn\n".as_bytes()
+        "function 0: 0 parameters, 2 registers, 1 slots, 0 objects\nlook s0 t0\nloop\n+ t1 = load Pointer [t0 by s0]\n+ if t1\n  - break\n- t1 = null\n- safepoint s0\nreturn\n".as_bytes()
     );
     let code = safe_code(alloc, &ir)?;
     assert_eq!(rt;
         code_text(alloc, &code)?.as_slice(),
-        "function 0: 1 parameters, 2 registers, 1 slots, 0 objects\n0 look s0 t0\n1 t1 = load Pointer [t0 by s0]\n2 unless t1 goto 4\n3 goto 5\n4 goto 8\n5 t1 = null\n6 safe s0\n7 round goto 1\n8 return\n9 return\n".as_bytes()
+        "function 0: 0 parameters, 2 registers, 1 slots, 0 objects\n0 look s0 t0\n1 t1 = load Pointer [t0 by s0]\n2 unless t1 goto 4\n3 goto 5\n4 goto 8\n5 t1 = null\n6 safe s0\n7 round goto 1\n8 return\n9 return\n".as_bytes()
     );
     Ok(())
 }
