@@ -1,14 +1,14 @@
 -- Small programs, and the code that they are lowered to: what both show, turn by turn. They are those by which the meaning of the source is
 -- put to the test, but for one: a local kept in a register that is declared again without a value keeps its old one in the code.
-use Rattle.std.specs.Prelude.{◌≡◌, List, [], ◌∷◌, ◌++◌, codes, None, Some, pos}
+use Rattle.std.specs.Prelude.{◌≡◌, ℕ, List, [], ◌∷◌, ◌++◌, codes, None, Some, pos}
 use Rattle.ak_words.specs.declared.operation.Op.TheVariants as ops
-use Rattle.ak_words.specs.IntType.{char, int, unsigned_int}
+use Rattle.ak_words.specs.IntType.{char, int, unsigned_int, long}
 use Rattle.block_store.specs.Runs.{Pick}
 use Rattle.block_store.specs.Runs as runs
 use Rattle.c_tree.specs.Typed
 use Rattle.c_tree.specs.Typed.{void, integer, mutex, pointer, array, structure, bytes, signed, unsigned, print, copy, mutex_init, mutex_lock}
-use Rattle.c_tree.specs.Typed.{at, null, literal, global, local, deref, member, address_of, convert, not_, binary, and_also, or_else, choose, pointer_add, pointer_sub, pointer_compare}
-use Rattle.c_tree.specs.Typed.{block, declare, if_, for_, while_, break_, continue_, return_, assign, update, evaluate, StmtNode, Expr, zero_bytes, number}
+use Rattle.c_tree.specs.Typed.{at, null, literal, global, local, deref, member, address_of, convert, not_, binary, and_also, or_else, choose, pointer_add, pointer_sub, pointer_diff, pointer_compare}
+use Rattle.c_tree.specs.Typed.{block, declare, if_, if_else, for_, while_, break_, continue_, return_, assign, update, evaluate, StmtNode, Expr, zero_bytes, number}
 use Rattle.c_meaning.specs.Meaning.{start, shown}
 use Rattle.c_meaning.specs.Rows.{int_ty, int_star, k, v, of_type, row, one, lib_call, printf_int, op_of, at_star, in_register, in_memory, func, whole, main_only, turns, got, none, p0, malloc_of, free_of, call_of, shared_block, first_turns, ints, returns, char_star, decayed, at_index, as_void_star, size, mutex_call, joined_twice, prints_and_gives, x0, pair, struct_local, unsigned_char, u, minus, counted, one_waits}
 use Rattle.ir_meaning.specs.Threads.{program_of}
@@ -120,6 +120,39 @@ elements = main_only (in_register int_star ∷ in_register int_ty ∷ in_registe
     ∷ assign (v 2) (at_index int_ty (decayed int_ty 2 (local 3)) (k 1)) ∷ break_ ∷ []))))
     ∷ free_of p0 ∷ returns (v 2) ∷ [])
 
+-- a struct pair *
+abbrev pub pair_star : Typed.Ty
+pair_star = pointer (structure 0)
+
+-- p->b, where p is a local of that type, and b the second member
+abbrev pub second_of : (n : ℕ) → Expr
+second_of n = of_type int_ty (member (of_type (structure 0) (deref (of_type pair_star (local n)))) 1)
+
+-- struct pair{char a;int b;};
+-- int main(void){struct pair *p=malloc(16);struct pair *q=p;p->b=5;p+=1;p->b=7;p-=1;q[1].b+=p->b;q=q+1;p=!q?p:q;return p->b-(q-p);}
+abbrev pub members : Typed.Typed
+members = record {
+  structs = pair ∷ [];
+  globals = [];
+  literals = [];
+  main = 0;
+  funcs = func 0 (in_register pair_star ∷ in_register pair_star ∷ [])
+      (declare 0 (Some (of_type pair_star (convert (malloc_of 16)))) ∷ declare 1 (Some (of_type pair_star (local 0)))
+      ∷ assign (second_of 0) (k 5) ∷ update (of_type pair_star (local 0)) ops.Add (k 1) ∷ assign (second_of 0) (k 7) ∷ update (of_type pair_star (local 0)) ops.Sub (k 1)
+      ∷ update (of_type int_ty (member (at_index (structure 0) (of_type pair_star (local 1)) (k 1)) 1)) ops.Add (second_of 0)
+      ∷ assign (of_type pair_star (local 1)) (of_type pair_star (pointer_add (of_type pair_star (local 1)) (k 1)))
+      ∷ if_else (of_type int_ty (not_ (of_type pair_star (local 1)))) (one (assign (of_type pair_star (local 0)) (of_type pair_star (local 0)))) (one (assign (of_type pair_star (local 0)) (of_type pair_star (local 1))))
+      ∷ returns (op_of ops.Sub (second_of 0) (of_type int_ty (convert (of_type (integer long) (pointer_diff (of_type pair_star (local 1)) (of_type pair_star (local 0))))))) ∷ []) ∷ [];
+}
+
+-- int s=0;for(int i=0;i<3;i++){int a=i;{int b=1;if(a==1)continue;s=s+b;}}return s;, where a and b are in memory
+abbrev pub left_by_continue : Typed.Typed
+left_by_continue = main_only (in_register int_ty ∷ in_register int_ty ∷ in_memory int_ty ∷ in_memory int_ty ∷ [])
+    (declare 0 (Some (k 0))
+    ∷ for_ (one (declare 1 (Some (k 0)))) (Some (op_of ops.Lt (v 1) (k 3))) (one (update (v 1) ops.Add (k 1)))
+    (one (block (row (declare 2 (Some (v 1)) ∷ block (row (declare 3 (Some (k 1)) ∷ if_ (op_of ops.Eq (v 2) (k 1)) (one continue_) ∷ assign (v 0) (op_of ops.Add (v 0) (v 3)) ∷ [])) ∷ []))))
+    ∷ returns (v 0) ∷ [])
+
 -- a body of main alone, in which main's locals are these
 abbrev pub at_once : List Typed.Local → List StmtNode → Type 0
 at_once locals body = Keeps (main_only locals body) (turns 0 1)
@@ -136,6 +169,8 @@ pub record RowsStand : Type 0 where
   pub heap_wants_answer : Keeps heap (turns 0 1)
   pub recursion_is : Keeps recursion (turns 0 7)
   pub elements_are : Keeps elements (got 0 ++ turns 0 14)
+  pub members_are : Keeps members (got 0 ++ turns 0 7)
+  pub left_by_continue_is : Keeps left_by_continue (turns 0 20)
   pub freed_between : Keeps shared_block (first_turns 1 ++ turns 1 2 ++ turns 0 1)
   pub freed_later : Keeps shared_block (first_turns 3 ++ turns 1 3 ++ turns 0 3)
   pub join_waits : Keeps shared_block (first_turns 4 ++ turns 0 1 ++ got 1 ++ turns 2 1)
