@@ -7,5 +7,6 @@ use Rattle.c_tree.specs.TypedPrinting.{parts}
 use Rattle.shared_world.specs.Worlds.{printed_of}
 use Rattle.source_calls.specs.declared.printing.SoFar.{SoFar}
 
+-- all that the call prints: what was gathered, and the pieces that are left, over the arguments that are left
 abbrev pub behind : (numbers : List ℤ) → (pointers : List Ptr) → SoFar → List Piece → List Printed
 behind numbers pointers s rest = map printed_of s.all.items ++ parts bytes text rest (drop s.numbers numbers) (drop s.pointers pointers)
