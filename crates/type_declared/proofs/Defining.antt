@@ -5,7 +5,7 @@ use Rattle.std.specs.Option.{option_copied}
 use Rattle.std.specs.List.{list_any}
 use Rattle.std.specs.Map.{lookup}
 use Rattle.std.specs.Str.{bytes_eq}
-use Rattle.std.proofs.lemmas.List.{length_push, map_more}
+use Rattle.std.proofs.lemmas.List.{length_push, map_more, map-append}
 use Rattle.std.proofs.lemmas.List.Folds.{list_any-append}
 use Rattle.std.proofs.lemmas.Slice.Eq.{bytes_eq-Decides}
 use Rattle.c_tree.specs.declared.syntax.External.{External as CodeExternal}
@@ -16,9 +16,12 @@ use Rattle.c_typing.specs.Faults.{Judged, typed, faulty, both, ◌>>=◌}
 use Rattle.c_typing.specs.Scope.{or_else}
 use Rattle.type_outcomes.specs.Telling.{both_fine}
 use Rattle.c_typing.specs.Programs.{place_of_name, defined_name, defined_names}
+use Rattle.type_context.specs.ContextViews.{bytes_view}
+use Rattle.type_context.proofs.Tagging.{any_view}
+use Rattle.indexmap.specs.IndexMap.{insert_entry}
 use Rattle.type_declared.specs.FunctionNames.{placed, IsDefined}
 
-some_copied : (r : Option (Bor ℕ)) → is_some r ≡ is_some (option_copied r)
+pub some_copied : (r : Option (Bor ℕ)) → is_some r ≡ is_some (option_copied r)
 some_copied None = refl
 some_copied (Some b) = refl
 
@@ -153,3 +156,28 @@ fine_pairs (faulty p ps) (faulty q qs) (typed c) (typed d) = refl
 fine_pairs (faulty p ps) (faulty q qs) (typed c) (faulty s ss) = refl
 fine_pairs (faulty p ps) (faulty q qs) (faulty r rs) (typed d) = refl
 fine_pairs (faulty p ps) (faulty q qs) (faulty r rs) (faulty s ss) = refl
+
+-- a new key goes last
+pub entry_new : {X : Type 0} (key : Bor (List ℕ)) (v : X) (es : List (Bor (List ℕ) × X)) → is_some (lookup (λ k. bytes_eq key.now k.now) es) ≡ false → insert_entry (λ x y. bytes_eq x.now y.now) es key v ≡ es ++ (key, v) ∷ []
+entry_new key v [] absent = refl
+entry_new {X} key v (e ∷ es) absent = by (bytes_eq key.now e.0.now) absent (entry_new key v es)
+  where
+    by : (b : Bool) → is_some (cond b (Some e.1) (lookup (λ k. bytes_eq key.now k.now) es)) ≡ false
+        → (is_some (lookup (λ k. bytes_eq key.now k.now) es) ≡ false → insert_entry (λ x y. bytes_eq x.now y.now) es key v ≡ es ++ (key, v) ∷ [])
+        → (if b then (e.0, v) ∷ es else e ∷ insert_entry (λ x y. bytes_eq x.now y.now) es key v) ≡ (e ∷ es) ++ (key, v) ∷ []
+    by true absent rest = cc
+    by false absent rest = ap (λ l. e ∷ l) (rest absent)
+
+-- one name more among the keys of a set
+pub name_more : (keys new : List (Bor (List ℕ))) (key : Bor (List ℕ)) (q : List ℕ) → key.now ≡ q → new ≡ (if list_any (λ k. bytes_eq key.now k.now) keys then keys else keys ++ key ∷ [])
+    → bytes_view new ≡ (if list_any (bytes_eq q) (bytes_view keys) then bytes_view keys else bytes_view keys ++ q ∷ [])
+name_more keys new key q same is =
+    ap bytes_view is
+    ∙ by (list_any (λ k. bytes_eq key.now k.now) keys) (list_any (bytes_eq key.now) (bytes_view keys)) (any_view key.now keys)
+    ∙ ap (λ p. if list_any (bytes_eq p) (bytes_view keys) then bytes_view keys else bytes_view keys ++ p ∷ []) same
+  where
+    by : (a b : Bool) → a ≡ b → bytes_view (if a then keys else keys ++ key ∷ []) ≡ (if b then bytes_view keys else bytes_view keys ++ key.now ∷ [])
+    by true true h = refl
+    by false false h = map-append (λ (k : Bor (List ℕ)). k.now) keys (key ∷ [])
+    by true false h = cc
+    by false true h = cc

@@ -1,23 +1,25 @@
 //! The names and types of functions (C11 6.7 p3, 6.7.6.3, 6.9.1).
-ghost use Rattle.std.specs.Prelude.{◌≡◌, ℕ, List, OnOk, IfErr};
+ghost use Rattle.std.specs.Prelude.{◌≡◌, ◌∷◌, ◌++◌, [], ℕ, ◌&&◌, List, map, OnOk, IfOk, IfErr};
 ghost use Rattle.std.specs.List.{list_any};
+ghost use Rattle.std.specs.Map.{lookup};
 ghost use Rattle.std.specs.Option.{option_map};
 ghost use Rattle.std.specs.Str.{bytes_eq};
 ghost use Rattle.c_lex.specs.declared.refusal.CompileFault.TheVariants.{NoMemory};
 ghost use Rattle.c_tree.specs.SyntaxViews as source;
 ghost use Rattle.c_tree.specs.TypedViews.{type_view};
 ghost use Rattle.c_typing.specs.Faults.{Gives};
-ghost use Rattle.c_typing.specs.Programs.{place_of_name, once, agrees, is_new, first_time, one_body, before_name, not_library, name_fine, result_type, with_body, param_type};
+ghost use Rattle.c_typing.specs.Programs.{place_of_name, defined_name, defined_names, once, agrees, is_new, first_time, one_body, before_name, not_library, name_fine, result_type, with_name, with_function, with_body, is_main, has_main, param_type};
 ghost use Rattle.type_context.specs.ContextViews.{context_view, bytes_view, types_view, seen};
-ghost use Rattle.type_declared.specs.FunctionNames.{IsDefined};
+ghost use Rattle.type_declared.specs.FunctionNames.{IsDefined, named_if};
 
+use ak_words::IntType;
 use c_lex::{CompileFault, Kind};
-use c_tree::syntax::{Block, Name};
+use c_tree::syntax::{Block, External, Name, Rest};
 use c_tree::typed::CType;
 use indexmap::IndexMap;
-use type_context::context::{Context, within};
+use type_context::context::{Context, count, within};
 use type_context::faults::{refused, unless};
-use type_context::kinds::{has_size, is_struct_or_mutex, same_type, same_types};
+use type_context::kinds::{has_size, is_struct_or_mutex, same_int, same_type, same_types};
 use type_context::names::{Meaning, library_name};
 use type_outcomes::outcomes::both_fine;
 
@@ -44,6 +46,18 @@ impl<'t> Defined<'t> {
             Some(n) => *n,
             None => self.count,
         }
+    }
+
+    // One more function.
+    fn define(&mut self, bytes: &'t [u8]) -> Result<(), CompileFault>
+        ensures after { OnOk result ((names : List (List ℕ)) → IsDefined names self.old → IsDefined (names ++ bytes.now ∷ []) self.new) }
+        ensures memory { IfErr result (λ e. e ≡ NoMemory) }
+    {
+        if self.places.get(bytes).is_none() {
+            self.places.insert(bytes, self.count)?;
+        }
+        self.count = self.count.checked_add(1).ok_or(CompileFault::NoMemory)?;
+        Ok(())
     }
 }
 
@@ -198,6 +212,38 @@ pub fn param_type(context: &Context<'_>, place: u32, t: CType) -> Result<CType, 
     Ok(t)
 }
 
+// ---- what a function's declaration leaves
+
+// A function's name is one of the functions'.
+fn name_function(context: &mut Context<'_>, name: Name) -> Result<(), CompileFault>
+    ensures after { OnOk result (context_view context.new ≡ with_name (context_view context.old) name) }
+    ensures memory { IfErr result (λ e. e ≡ NoMemory) }
+{
+    let bytes = context.bytes(name);
+    context.functions.insert(bytes)?;
+    Ok(())
+}
+
+/// Behind its declarator a function's name is in scope.
+pub fn declare_function(
+    context: &mut Context<'_>,
+    defined: &Defined<'_>,
+    name: Name,
+    params: Vec<CType>,
+    returned: CType,
+) -> Result<(), CompileFault>
+    ensures after { OnOk result ((names : List (List ℕ)) → IsDefined names defined.now → context_view context.new ≡ with_function (context_view context.old) names name (types_view params.items) (type_view returned)) }
+    ensures memory { IfErr result (λ e. e ≡ NoMemory) }
+{
+    name_function(context, name)?;
+    let meaning = Meaning::Function {
+        number: defined.place(context.bytes(name)),
+        params,
+        result: returned,
+    };
+    context.declare(name, meaning)
+}
+
 /// A function has a body.
 pub fn add_body(context: &mut Context<'_>, name: Name) -> Result<(), CompileFault>
     ensures after { OnOk result (context_view context.new ≡ with_body (context_view context.old) name) }
@@ -206,4 +252,77 @@ pub fn add_body(context: &mut Context<'_>, name: Name) -> Result<(), CompileFaul
     let bytes = context.bytes(name);
     context.bodies.push(bytes)?;
     Ok(())
+}
+
+// ---- the functions of a file
+
+// The name of a function that has a body.
+fn defined_name(rest: &Rest) -> Option<Name>
+    ensures { (text : List ℕ) → named_if text result ≡ defined_name text (source.rest_view rest.now) }
+{
+    match rest {
+        Rest::Function {
+            name,
+            body: Some(_),
+            ..
+        } => Some(*name),
+        _ => None,
+    }
+}
+
+/// The functions that have a body.
+pub fn all_defined<'t>(
+    context: &Context<'t>,
+    externals: &[External],
+) -> Result<Defined<'t>, CompileFault>
+    ensures names { IfOk result (λ d. IsDefined (defined_names (context_view context.now).text (map source.external_view externals.now)) d) }
+    ensures memory { IfErr result (λ e. e ≡ NoMemory) }
+{
+    let mut defined = Defined {
+        places: IndexMap::new(context.alloc),
+        count: 0,
+    };
+    'externals: for x in externals {
+        if let Some(name) = defined_name(&x.rest) {
+            defined.define(context.bytes(name))?;
+        }
+    }
+    Ok(defined)
+}
+
+// Whether it is `int main(void)`.
+fn is_main(meaning: Option<&Meaning>) -> bool
+    ensures { result ≡ is_main (seen meaning.entry) }
+{
+    match meaning {
+        Some(
+            Meaning::Function {
+                params,
+                result: CType::Int(t),
+                ..
+            },
+        ) => params.is_empty() && same_int(*t, IntType::int()),
+        _ => false,
+    }
+}
+
+// Whether the file has it, with a body.
+fn main_is_there(context: &Context<'_>, defined: &Defined<'_>, name: &[u8]) -> bool
+    ensures { (names : List (List ℕ)) → IsDefined names defined.now → result ≡ (is_main (lookup (bytes_eq name.now) (context_view context.now).inner) && list_any (bytes_eq name.now) names) }
+{
+    is_main(context.inner.get(name)) && defined.has(name)
+}
+
+/// There is `int main(void)`, with a body: its number (C11 5.1.2.2.1).
+pub fn main_of(context: &Context<'_>, defined: &Defined<'_>) -> Result<u32, CompileFault>
+    ensures { (names : List (List ℕ)) → IsDefined names defined.now → Gives (λ n. n) result (has_main (context_view context.now) names) }
+{
+    let end = count(context.text.len())?;
+    let name: &[u8] = b"main";
+    unless(
+        end,
+        Kind::UnknownName,
+        main_is_there(context, defined, name),
+    )?;
+    Ok(defined.place(name))
 }

@@ -7,3 +7,5 @@ pub mod functions;
 pub mod headers;
 pub mod initials;
 pub mod objects;
+#[cfg(test)]
+mod tests;
