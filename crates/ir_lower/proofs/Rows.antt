@@ -1,0 +1,117 @@
+-- What a row becomes by a call, by a block and by a loop.
+use Rattle.std.proofs.Common.{◌≡◌, ℕ, zero, suc, ◌+◌, ◌<◌, ◌≤◌, Bool, true, false, arith, length, List, [], ◌∷◌, ◌++◌, map, Some, None, refl, ap, sym, ◌∙◌}
+use Rattle.std.specs.Global.{Vec}
+use Rattle.c_tree.specs.declared.typed.Expr.{Expr}
+use Rattle.c_tree.specs.declared.typed.ExprNode.TheViews as expr_views
+use Rattle.c_tree.specs.declared.typed.Lib.{Lib}
+use Rattle.c_tree.specs.declared.typed.Stmt.{Stmt}
+use Rattle.c_tree.specs.declared.typed.StmtNode.{StmtNode}
+use Rattle.c_tree.specs.declared.typed.StmtNode.TheViews as stmt_views
+use Rattle.c_tree.specs.Typed as tree
+use Rattle.lower_forms.specs.Counts.{greatest_row}
+use Rattle.c_tree.specs.TypedViews.{type_view, expr_view, expr_node_view, exprs_of, lib_view, stmt_view, stmt_node_view, stmts_of}
+use Rattle.struct_ir.specs.declared.code.Node.{Node}
+use Rattle.struct_ir.specs.Nodes.{Nodes, no_nodes, more_nodes, break_, ret, StackObject, copy}
+use Rattle.struct_ir.specs.Views.{nodes_view, followed}
+use Rattle.struct_ir.proofs.Views.{followed_none}
+use Rattle.lower_forms.specs.Forms.{Frame, first_temp, branches, sets, sets_int, calls, temps_of, lib_nodes, expr_nodes, value_nodes, args_nodes, dropped_nodes, dropped_value, ends, objects_in, test_nodes, form_nodes, row_nodes}
+use Rattle.lower_forms.specs.Programs.{homes_from, next_home, objects_of, frame_of, registers_of, last_nodes, func_lowered}
+use Rattle.ir_lower.proofs.Views.{call_view, lib_call_view, block_view}
+
+module _ (F : Frame) where
+  pub call_done : (e : Expr) (fn : ℕ) (v : Vec Expr) (t : ℕ) (o0 o1 o2 o3 : List Node) (d1 d2 : List Expr) (temps : List ℕ) → e.node ≡ expr_views.Call fn v → d1 ≡ v.items → d2 ≡ v.items
+      → temps ≡ temps_of (exprs_of (map expr_view d2)) t
+      → ((r : Nodes) → followed o1 r ≡ followed o0 (args_nodes F (exprs_of (map expr_view d1)) t r))
+      → ((r : Nodes) → followed o2 r ≡ followed o1 (calls e.place (Some t) fn temps r))
+      → ((r : Nodes) → followed o3 r ≡ followed o2 (sets e.place t (copy t) r))
+      → (r : Nodes) → followed o3 r ≡ followed o0 (expr_nodes F (expr_view e) t r)
+  call_done e fn v t o0 o1 o2 o3 d1 d2 temps is e1 e2 et h1 h2 h3 r =
+      let whole : temps ≡ temps_of (exprs_of (map expr_view v.items)) t = et ∙ ap (λ d. temps_of (exprs_of (map expr_view d)) t) e2 in
+      h3 r ∙ h2 (sets e.place t (copy t) r) ∙ h1 (calls e.place (Some t) fn temps (sets e.place t (copy t) r))
+      ∙ (λ i. followed o0 (args_nodes F (exprs_of (map expr_view (e1 i))) t (calls e.place (Some t) fn (whole i) (sets e.place t (copy t) r))))
+      ∙ ap (λ n. followed o0 (value_nodes F e.place (type_view e.ty) n t r)) (sym (ap expr_node_view is ∙ call_view fn v))
+
+  pub call_dropped : (e : Expr) (fn : ℕ) (v : Vec Expr) (t : ℕ) (o0 o1 o2 : List Node) (d1 d2 : List Expr) (temps : List ℕ) → e.node ≡ expr_views.Call fn v → d1 ≡ v.items → d2 ≡ v.items
+      → temps ≡ temps_of (exprs_of (map expr_view d2)) t
+      → ((r : Nodes) → followed o1 r ≡ followed o0 (args_nodes F (exprs_of (map expr_view d1)) t r))
+      → ((r : Nodes) → followed o2 r ≡ followed o1 (calls e.place None fn temps r))
+      → (r : Nodes) → followed o2 r ≡ followed o0 (dropped_nodes F (expr_view e) t r)
+  call_dropped e fn v t o0 o1 o2 d1 d2 temps is e1 e2 et h1 h2 r =
+      let whole : temps ≡ temps_of (exprs_of (map expr_view v.items)) t = et ∙ ap (λ d. temps_of (exprs_of (map expr_view d)) t) e2 in
+      h2 r ∙ h1 (calls e.place None fn temps r)
+      ∙ (λ i. followed o0 (args_nodes F (exprs_of (map expr_view (e1 i))) t (calls e.place None fn (whole i) r)))
+      ∙ ap (λ n. followed o0 (dropped_value F e.place (type_view e.ty) n t r)) (sym (ap expr_node_view is ∙ call_view fn v))
+
+  pub lib_done : (e : Expr) (lib : Lib) (v : Vec Expr) (t : ℕ) (o0 o1 o2 : List Node) (d1 d2 : List Expr) → e.node ≡ expr_views.Lib lib v → d1 ≡ v.items → d2 ≡ v.items
+      → ((r : Nodes) → followed o1 r ≡ followed o0 (args_nodes F (exprs_of (map expr_view d1)) t r))
+      → ((r : Nodes) → followed o2 r ≡ followed o1 (lib_nodes e.place (lib_view lib) (exprs_of (map expr_view d2)) t r))
+      → (r : Nodes) → followed o2 r ≡ followed o0 (expr_nodes F (expr_view e) t r)
+  lib_done e lib v t o0 o1 o2 d1 d2 is e1 e2 h1 h2 r =
+      h2 r ∙ h1 (lib_nodes e.place (lib_view lib) (exprs_of (map expr_view d2)) t r)
+      ∙ (λ i. followed o0 (args_nodes F (exprs_of (map expr_view (e1 i))) t (lib_nodes e.place (lib_view lib) (exprs_of (map expr_view (e2 i))) t r)))
+      ∙ ap (λ n. followed o0 (value_nodes F e.place (type_view e.ty) n t r)) (sym (ap expr_node_view is ∙ lib_call_view lib v))
+
+  pub block_done : (place : ℕ) (node : StmtNode) (v : Vec Stmt) (left own inner d_own d_inner d_ends : List ℕ) (o0 o1 o2 : List Node) (d1 d2 : List Stmt) → node ≡ stmt_views.Block v
+      → d1 ≡ v.items → own ≡ objects_in F (stmts_of (map stmt_view d1)) → d_own ≡ own → inner ≡ d_own ++ left → d2 ≡ v.items → d_inner ≡ inner → d_ends ≡ own
+      → ((r : Nodes) → followed o1 r ≡ followed o0 (row_nodes F (stmts_of (map stmt_view d2)) d_inner r))
+      → ((r : Nodes) → followed o2 r ≡ followed o1 (ends place d_ends r))
+      → (r : Nodes) → followed o2 r ≡ followed o0 (form_nodes F place (stmt_node_view node) left r)
+  block_done place node v left own inner d_own d_inner d_ends o0 o1 o2 d1 d2 is e1 eo e2 ei e3 e4 e5 h1 h2 r =
+      let whole : own ≡ objects_in F (stmts_of (map stmt_view v.items)) = eo ∙ ap (λ d. objects_in F (stmts_of (map stmt_view d))) e1 in
+      let ending : d_ends ≡ objects_in F (stmts_of (map stmt_view v.items)) = e5 ∙ whole in
+      let around : d_inner ≡ objects_in F (stmts_of (map stmt_view v.items)) ++ left = e4 ∙ (ei ∙ ap (λ o. o ++ left) (e2 ∙ whole)) in
+      h2 r ∙ h1 (ends place d_ends r)
+      ∙ (λ i. followed o0 (row_nodes F (stmts_of (map stmt_view (e3 i))) (around i) (ends place (ending i) r)))
+      ∙ ap (λ n. followed o0 (form_nodes F place n left r)) (sym (ap stmt_node_view is ∙ block_view v))
+
+-- the condition of a loop
+pub tests_done : (F : Frame) (e : Expr) (t : ℕ) (o0 o1 o2 one other : List Node) → t ≡ first_temp F → one ≡ [] → nodes_view other ≡ more_nodes (break_ e.place) no_nodes
+    → ((r : Nodes) → followed o1 r ≡ followed o0 (expr_nodes F (expr_view e) t r))
+    → ((r : Nodes) → followed o2 r ≡ followed o1 (branches e.place t (nodes_view one) (nodes_view other) r))
+    → (r : Nodes) → followed o2 r ≡ followed o0 (test_nodes F (Some (expr_view e)) r)
+tests_done F e t o0 o1 o2 one other et e1 e2 h1 h2 r =
+    h2 r ∙ h1 (branches e.place t (nodes_view one) (nodes_view other) r)
+    ∙ (λ i. followed o0 (expr_nodes F (expr_view e) (et i) (branches e.place (et i) (nodes_view (e1 i)) (e2 i) r)))
+
+-- a row alone
+pub row_alone : (l : List Node) (n : Nodes) → followed l no_nodes ≡ n → nodes_view l ≡ n
+row_alone l n e = sym (followed_none l) ∙ e
+
+-- ---- the end of main
+
+pub last_done : (b : Bool) (n : ℕ) (o0 o1 o2 : List Node) → b ≡ true → 0 < n → ((r : Nodes) → followed o1 r ≡ followed o0 (sets_int 0 0 0 r))
+    → ((r : Nodes) → followed o2 r ≡ followed o1 (more_nodes (ret 0 (Some 0)) r)) → nodes_view o2 ≡ followed o0 (last_nodes b n)
+last_done false n o0 o1 o2 e h h1 h2 = absurd cc
+last_done true zero o0 o1 o2 e h h1 h2 = absurd (omega (arith, h))
+last_done true (suc n) o0 o1 o2 e h h1 h2 = row_alone o2 _ (h2 no_nodes ∙ h1 (more_nodes (ret 0 (Some 0)) no_nodes))
+
+pub none_in_other : (b : Bool) (n : ℕ) (o : List Node) → b ≡ false → nodes_view o ≡ followed o (last_nodes b n)
+none_in_other true n o e = absurd cc
+none_in_other false n o e = sym (followed_none o)
+
+pub none_without : (b : Bool) (n : ℕ) (o : List Node) → n ≤ 0 → nodes_view o ≡ followed o (last_nodes b n)
+none_without false n o h = sym (followed_none o)
+none_without true zero o h = sym (followed_none o)
+none_without true (suc n) o h = absurd (omega (arith, h))
+
+-- ---- functions
+
+homes_long : (next : ℕ) (ls : List tree.Local) → length (homes_from next ls) ≡ length ls
+homes_long next [] = refl
+homes_long next (l ∷ ls) = ap suc (homes_long (next_home l.in_memory next) ls)
+
+pub first_is : (structs : List tree.Layout) (f : tree.Func) (F : Frame) (first : ℕ) → F ≡ frame_of structs f → first ≡ first_temp F → first ≡ length f.locals
+first_is structs f F first e h = h ∙ (ap first_temp e ∙ homes_long 0 f.locals)
+
+pub params_fit : (params long first g temps : ℕ) → params ≤ long → first ≡ long → temps ≡ first + g → params ≤ temps
+params_fit params long first g temps h e i = omega (arith, h, e, i)
+
+pub func_done : (structs : List tree.Layout) (b : Bool) (f : tree.Func) (F : Frame) (first g temps : ℕ) (os : List StackObject) (n0 n1 n2 : List Node)
+    → F ≡ frame_of structs f → first ≡ first_temp F → g ≡ greatest_row f.body → temps ≡ first + g → os ≡ objects_of structs f.locals → n0 ≡ []
+    → ((r : Nodes) → followed n1 r ≡ followed n0 (row_nodes F f.body [] r)) → nodes_view n2 ≡ followed n1 (last_nodes b temps)
+    → record { params = f.params; temps = temps; slots = 0; objects = os; nodes = nodes_view n2 } ≡ func_lowered structs b f
+func_done structs b f F first g temps os n0 n1 n2 eF ef eg et eo e0 h1 h2 =
+    let whole : temps ≡ registers_of f = et ∙ (λ i. first_is structs f F first eF ef i + eg i) in
+    let row : nodes_view n2 ≡ row_nodes (frame_of structs f) f.body [] (last_nodes b (registers_of f))
+    = h2 ∙ h1 (last_nodes b temps) ∙ (λ i. followed (e0 i) (row_nodes (eF i) f.body [] (last_nodes b (whole i)))) in
+    λ i. record { params = f.params; temps = whole i; slots = 0; objects = eo i; nodes = row i }

@@ -1,0 +1,37 @@
+-- The views of rows, and rows that are made.
+use Rattle.std.proofs.Common.{◌≡◌, ℕ, map, Result, Ok, Err, OnOk, IfOk, refl, ap, rules}
+use Rattle.std.specs.Global.{Vec}
+use Rattle.c_tree.specs.declared.typed.Expr.{Expr}
+use Rattle.c_tree.specs.declared.typed.ExprNode.{Row_of-Expr, end_of-Expr, more_of-Expr, items-the_row-Expr}
+use Rattle.c_tree.specs.declared.typed.ExprNode.TheViews as expr_views
+use Rattle.c_tree.specs.declared.typed.Lib.{Lib}
+use Rattle.c_tree.specs.declared.typed.Stmt.{Stmt}
+use Rattle.c_tree.specs.declared.typed.StmtNode.{Row_of-Stmt, end_of-Stmt, more_of-Stmt, items-the_row-Stmt}
+use Rattle.c_tree.specs.declared.typed.StmtNode.TheViews as stmt_views
+use Rattle.c_tree.specs.Typed as trees
+use Rattle.c_tree.specs.TypedViews.{type_view, expr_view, expr_node_view, expr_row_view, exprs_of, lib_view, stmt_view, stmt_node_view, stmt_row_view, stmts_of}
+
+pub on_ok_map : {A B : Type 0} (P Q : Type 0) (r : Result A B) → (P → Q) → OnOk r P → OnOk r Q
+on_ok_map P Q (Ok x) f h = f h
+on_ok_map P Q (Err e) f h = tt
+
+pub if_ok_map : {A B : Type 0} (P Q : A → Type 0) (r : Result A B) → ((x : A) → P x → Q x) → IfOk r P → IfOk r Q
+if_ok_map P Q (Ok x) f h = f x h
+if_ok_map P Q (Err e) f h = h
+
+pub args_view : (n : _) (k : Row_of-Expr n) → expr_row_view k ≡ exprs_of (map expr_view (items-the_row-Expr n k))
+args_view _ end_of-Expr = refl
+args_view _ (more_of-Expr place ty node rest) = ap (trees.more_exprs (trees.at place (type_view ty) (expr_node_view node))) (args_view _ rest)
+
+pub call_view : (f : ℕ) (v : Vec Expr) → expr_node_view (expr_views.Call f v) ≡ trees.call f (exprs_of (map expr_view v.items))
+call_view f v = search (rules, expr_views.the_lemmas, args_view)
+
+pub lib_call_view : (lib : Lib) (v : Vec Expr) → expr_node_view (expr_views.Lib lib v) ≡ trees.lib (lib_view lib) (exprs_of (map expr_view v.items))
+lib_call_view lib v = search (rules, expr_views.the_lemmas, args_view)
+
+pub row_view : (n : _) (k : Row_of-Stmt n) → stmt_row_view k ≡ stmts_of (map stmt_view (items-the_row-Stmt n k))
+row_view _ end_of-Stmt = refl
+row_view _ (more_of-Stmt place node rest) = ap (trees.more_stmts (trees.at_stmt place (stmt_node_view node))) (row_view _ rest)
+
+pub block_view : (v : Vec Stmt) → stmt_node_view (stmt_views.Block v) ≡ trees.block (stmts_of (map stmt_view v.items))
+block_view v = search (rules, stmt_views.the_lemmas, row_view)

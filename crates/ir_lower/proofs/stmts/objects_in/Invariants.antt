@@ -1,0 +1,9 @@
+use Rattle.std.proofs.Common.{◌≡◌, ◌++◌, map, drop}
+use Rattle.c_tree.specs.TypedViews.{stmt_view, stmts_of}
+use Rattle.lower_forms.specs.Forms.{objects_in}
+use Rattle.ir_lower.specs.inner.Views.{frame_view}
+use Rattle.ir_lower.proofs.stmts.objects_in.Given as goal
+
+-- so far
+abbrev pub invariant-loop-s : goal.invariant-loop-s
+invariant-loop-s l = l.objects.items ++ objects_in (frame_view l.f) (stmts_of (map stmt_view (drop l.s-index l.all))) ≡ objects_in (frame_view l.f) (stmts_of (map stmt_view l.all))

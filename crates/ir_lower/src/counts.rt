@@ -1,0 +1,134 @@
+//! How large an expression is.
+
+ghost use Rattle.std.specs.Prelude.{◌≡◌, ◌+◌, suc, IfOk, map};
+ghost use Rattle.c_tree.specs.TypedViews.{expr_view, expr_node_view, exprs_of, optional_expr_view, stmt_view, stmt_node_view, stmts_of};
+ghost use Rattle.lower_forms.specs.Counts.{count, count_parts, count_all, count_if, greatest, greatest_in, greatest_row};
+
+use crate::nodes::after;
+use ak_words::NoMemory;
+use c_tree::typed::{Expr, ExprNode, Stmt, StmtNode};
+
+/// The sum of two counts.
+pub fn sum(a: u32, b: u32) -> Result<u32, NoMemory>
+    ensures { IfOk result (λ n. n ≡ a + b) }
+{
+    match a.checked_add(b) {
+        Some(n) => Ok(n),
+        None => Err(NoMemory),
+    }
+}
+
+// The nodes of an expression.
+#[cycle(counts)]
+fn count(e: &Expr) -> Result<u32, NoMemory>
+    ensures { IfOk result (λ n. n ≡ count (expr_view e.now)) }
+{
+    after(count_parts(&e.node)?)
+}
+
+#[cycle(counts)]
+fn count_parts(node: &ExprNode) -> Result<u32, NoMemory>
+    ensures { IfOk result (λ n. n ≡ count_parts (expr_node_view node.now)) }
+{
+    match node {
+        ExprNode::Num(_)
+        | ExprNode::Null
+        | ExprNode::Literal(_)
+        | ExprNode::Global(_)
+        | ExprNode::Local(_) => Ok(0),
+        ExprNode::Deref(e)
+        | ExprNode::Member(e, _)
+        | ExprNode::AddrOf(e)
+        | ExprNode::Decay(e)
+        | ExprNode::Convert(e)
+        | ExprNode::Not(e)
+        | ExprNode::PtrTest(e) => count(e),
+        ExprNode::Binary(_, a, b)
+        | ExprNode::AndAlso(a, b)
+        | ExprNode::OrElse(a, b)
+        | ExprNode::PtrAdd(a, b)
+        | ExprNode::PtrSub(a, b)
+        | ExprNode::PtrDiff(a, b)
+        | ExprNode::PtrCompare(_, a, b) => sum(count(a)?, count(b)?),
+        ExprNode::Choose(c, a, b) => sum(sum(count(c)?, count(a)?)?, count(b)?),
+        ExprNode::Call(_, args) => count_all(args),
+        ExprNode::Lib(_, args) => count_all(args),
+    }
+}
+
+#[cycle(counts)]
+fn count_all(args: &[Expr]) -> Result<u32, NoMemory>
+    ensures { IfOk result (λ n. n ≡ count_all (exprs_of (map expr_view args.now))) }
+{
+    let mut n = 0;
+    for e in args {
+        n = sum(n, count(e)?)?;
+    }
+    Ok(n)
+}
+
+fn count_if(e: &Option<Expr>) -> Result<u32, NoMemory>
+    ensures { IfOk result (λ n. n ≡ count_if (optional_expr_view e.now)) }
+{
+    match e {
+        None => Ok(0),
+        Some(e) => count(e),
+    }
+}
+
+// The nodes of an assignment or an update.
+fn count_both(a: &Expr, b: &Expr) -> Result<u32, NoMemory>
+    ensures { IfOk result (λ n. n ≡ suc (count (expr_view a.now) + count (expr_view b.now))) }
+{
+    after(sum(count(a)?, count(b)?)?)
+}
+
+// The nodes of the greatest full expression of a statement.
+#[cycle(greatest)]
+fn greatest(s: &Stmt) -> Result<u32, NoMemory>
+    ensures { IfOk result (λ n. n ≡ greatest (stmt_view s.now)) }
+{
+    greatest_in(&s.node)
+}
+
+#[cycle(greatest)]
+fn greatest_in(node: &StmtNode) -> Result<u32, NoMemory>
+    ensures { IfOk result (λ n. n ≡ greatest_in (stmt_node_view node.now)) }
+{
+    match node {
+        StmtNode::Block(body) => greatest_row(body),
+        StmtNode::Declare(_, init) => count_if(init),
+        StmtNode::If(e, one, None) => Ok(count(e)?.max(greatest(one)?)),
+        StmtNode::If(e, one, Some(other)) => {
+            let branches = greatest(one)?.max(greatest(other)?);
+            Ok(count(e)?.max(branches))
+        }
+        StmtNode::While(e, body) => Ok(count(e)?.max(greatest(body)?)),
+        StmtNode::For(first, e, step, body) => {
+            let header = greatest(first)?.max(count_if(e)?);
+            let rounds = greatest(step)?.max(greatest(body)?);
+            Ok(header.max(rounds))
+        }
+        StmtNode::Break | StmtNode::Continue | StmtNode::Empty => Ok(0),
+        StmtNode::Return(value) => count_if(value),
+        StmtNode::Assign(a, b) => count_both(a, b),
+        StmtNode::Update(a, _, b) => count_both(a, b),
+        StmtNode::Eval(e) => count(e),
+    }
+}
+
+/// The nodes of the greatest full expression in these statements.
+///
+/// # Errors
+///
+/// Only want of memory.
+#[cycle(greatest)]
+pub fn greatest_row(all: &[Stmt]) -> Result<u32, NoMemory>
+    ensures { IfOk result (λ n. n ≡ greatest_row (stmts_of (map stmt_view all.now))) }
+{
+    let mut n = 0;
+    for s in all {
+        n = n.max(greatest(s)?);
+    }
+    Ok(n)
+}

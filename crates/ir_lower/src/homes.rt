@@ -1,0 +1,40 @@
+ghost use Rattle.std.specs.Prelude.{◌≡◌, length};
+
+use c_tree::typed::Layout;
+
+/// What stays the same in a function.
+#[derive(Drop)]
+pub struct Frame<'a> {
+    /// The structs of the program.
+    pub structs: &'a [Layout],
+    /// For each local the number of its stack object, or none where it is kept in the register of
+    /// its own number.
+    pub homes: Vec<Option<u32>>,
+    /// The first register that holds no local.
+    pub first_temp: u32,
+    pub ghost behind_locals: { first_temp ≡ length homes.items },
+}
+
+/// How an object is reached once the pointer to it is in a register.
+#[derive(Clone, Copy, Debug, PartialEq, Eq)]
+pub enum Reach {
+    /// By that pointer.
+    Found,
+    /// By the pointer in a local's own register.
+    Direct {
+        /// The local's register.
+        base: u32,
+        /// The bytes behind that pointer.
+        offset: u32,
+    },
+    /// By the pointer in a local's own register and by an index, which stands in the register
+    /// behind the one with the pointer to the object.
+    Indexed {
+        /// The local's register.
+        base: u32,
+        /// The bytes of an element.
+        scale: u32,
+        /// The bytes behind that.
+        offset: u32,
+    },
+}
