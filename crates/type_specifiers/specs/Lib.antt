@@ -1,0 +1,2 @@
+pub mod ListViews
+pub mod inner
