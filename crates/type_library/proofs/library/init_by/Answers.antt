@@ -14,8 +14,8 @@ returns-in_err-call c =
     let two : length c.args.args.items ≡ 2 = omega (arith, c.len.ensures, c.if-len-ne2.false, c.args.args.ok) in
     let call = called_lib c.args.place mutex_init (pointer mutex ∷ []) (integer int) (exprs_view c.pop.new.self) in
     let of_call : Gives expr_view c.on_mutex-call.result call =
-        subst (λ t. Gives expr_view c.on_mutex-call.result (called_lib c.args.place mutex_init (pointer mutex ∷ []) (integer t) (exprs_view c.pop.new.self)))
-        c.int.ensures c.on_mutex-call.ensures in
+    subst (λ t. Gives expr_view c.on_mutex-call.result (called_lib c.args.place mutex_init (pointer mutex ∷ []) (integer t) (exprs_view c.pop.new.self)))
+    c.int.ensures c.on_mutex-call.ensures in
     let p = err_from_is_err_and c.from_residual.result c.from_residual.ensures.1 in
     rw (p.1, p.2) (init_fails c.args.place c.args.args.items c.pop.new.self.items c.in-Some.kind c.in_err-call.field-0.0 c.in-Some.ensures.items two
     (c.in_err-call.ensures call (plain_kind (expr_view c.in-Some.kind)) of_call c.plain_kind-plain.ensures))
@@ -25,7 +25,7 @@ returns c =
     let two : length c.args.args.items ≡ 2 = omega (arith, c.len.ensures, c.if-len-ne2.false, c.args.args.ok) in
     let call = called_lib c.args.place mutex_init (pointer mutex ∷ []) (integer int) (exprs_view c.pop.new.self) in
     let of_call : Gives expr_view c.on_mutex-call.result call =
-        subst (λ t. Gives expr_view c.on_mutex-call.result (called_lib c.args.place mutex_init (pointer mutex ∷ []) (integer t) (exprs_view c.pop.new.self)))
-        c.int.ensures c.on_mutex-call.ensures in
+    subst (λ t. Gives expr_view c.on_mutex-call.result (called_lib c.args.place mutex_init (pointer mutex ∷ []) (integer t) (exprs_view c.pop.new.self)))
+    c.int.ensures c.on_mutex-call.ensures in
     init_called c.args.place c.args.args.items c.pop.new.self.items c.in-Some.kind (expr_view c.in_ok-call.call) c.in-Some.ensures.items two
     (c.in_ok-call.ensures call (plain_kind (expr_view c.in-Some.kind)) of_call c.plain_kind-plain.ensures)
