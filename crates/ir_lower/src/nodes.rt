@@ -165,12 +165,17 @@ pub fn one_int(alloc: Global, place: u32, t: u32, value: u8) -> Result<Vec<Node>
     Ok(row)
 }
 
-/// A stack object begins, if there is one.
-pub fn begins(out: &mut Vec<Node>, place: u32, home: Option<u32>) -> Result<(), NoMemory>
-    ensures { OnOk result ((rest : Nodes) → followed out.new.items rest ≡ followed out.old.items (begins place home rest)) }
+/// A local begins, unset: its stack object, or the register of its own number.
+pub fn begins(
+    out: &mut Vec<Node>,
+    place: u32,
+    number: u32,
+    home: Option<u32>,
+) -> Result<(), NoMemory>
+    ensures { OnOk result ((rest : Nodes) → followed out.new.items rest ≡ followed out.old.items (begins place number home rest)) }
 {
     match home {
-        None => Ok(()),
+        None => sets(out, place, number, Calc::Unset),
         Some(object) => put(out, place, NodeKind::Begin(object)),
     }
 }

@@ -208,7 +208,7 @@ fn declares(
     ensures { OnOk result ((rest : Nodes) → followed out.new.items rest ≡ followed out.old.items (declare_nodes (frame_view f.now) at number (optional_expr_view init.now) rest)) }
 {
     let home = f.home(number);
-    begins(out, at, home)?;
+    begins(out, at, number, home)?;
     match init {
         None => Ok(()),
         Some(e) => {

@@ -16,6 +16,7 @@ use Rattle.block_store.specs.declared.values.Value.TheVariants as values
 use Rattle.block_store.specs.Blocks.{Blocks, made, ended}
 use Rattle.block_store.specs.Pointers.{indexed, tested, compared, difference}
 use Rattle.struct_ir.specs.Nodes.{Calc, constant, null, global, literal, object, copy, convert, apply, pointer_add, pointer_sub, pointer_diff, pointer_compare, pointer_test}
+use Rattle.struct_ir.specs.Nodes as calcs
 use Rattle.struct_ir.specs.Nodes.{Act, set, call, step, look, safepoint, begin_object, end_object, StackObject, Func, Ir}
 use Rattle.struct_ir.specs.Machine.{Machine}
 
@@ -111,6 +112,7 @@ start_of None = unset
 -- the blocks at the start are the globals in order, then the literals
 abbrev pub calculated : Ir → (place : ℕ) → Own → Calc → Result Held Fault
 calculated p place l (constant t z) = Ok (number (num t z))
+calculated p place l calcs.unset = Ok unset
 calculated p place l null = Ok (pointer Null)
 calculated p place l (global n) = Ok (pointer (To n 0))
 calculated p place l (literal n) = Ok (pointer (To (length p.globals + n) 0))

@@ -1,6 +1,7 @@
 -- Threads of structured code over named blocks, which share the world that the threads of the source share.
-use Rattle.std.specs.Prelude.{ℕ, zero, suc, ◌==◌, ◌&&◌, Bool, true, false, if◌then◌else◌, List, [], ◌∷◌, length, slice_get, Option, Some, None, Result, Ok, Err, ℤ, pos, unsigned_abs}
+use Rattle.std.specs.Prelude.{ℕ, zero, suc, ◌==◌, ◌&&◌, Bool, true, false, if◌then◌else◌, List, [], ◌∷◌, length, slice_get, Option, Some, None, Result, Ok, Err, ℤ, pos, negsuc, ◌+ℤ◌, ◌*ℤ◌, unsigned_abs}
 use Rattle.ak_words.specs.declared.int_type.IntType.{IntType}
+use Rattle.ak_words.specs.declared.rule.Rule.TheVariants.{C7}
 use Rattle.block_store.specs.declared.values.Access.{Access}
 use Rattle.block_store.specs.declared.values.Access.TheVariants as accesses
 use Rattle.block_store.specs.declared.values.Answer.{Answer}
@@ -9,7 +10,6 @@ use Rattle.block_store.specs.declared.values.Cell.TheVariants.{Unknown}
 use Rattle.block_store.specs.declared.values.Ptr.{Ptr}
 use Rattle.block_store.specs.declared.values.Value.{Value}
 use Rattle.block_store.specs.declared.values.Value.TheVariants as values
-use Rattle.block_store.specs.Pointers.{moved, indexed}
 use Rattle.block_store.specs.Actions.{World as Shared, Done, went, blocked, unfit, broke, acted, bytes, text}
 use Rattle.block_store.specs.Actions as actions
 use Rattle.block_store.specs.Runs as runs
@@ -23,23 +23,35 @@ use Rattle.ir_meaning.specs.Blocks.{Held, value, unset, missing, Fault, broken, 
 
 -- ---- where an access goes
 
--- a pointer plus an index, if there is one
+-- What C asks of a sum (C7, C9) is asked where the code computes the pointer; an access asks of the place alone that it can be accessed.
+
+-- the pointer to an offset of a block; none stands before a block (C7)
+abbrev pub offset_in : (place name : ℕ) → ℤ → Result Ptr Fault
+offset_in place name (pos offset) = Ok (To name offset)
+offset_in place name (negsuc n) = Err (broken C7 place)
+
+-- a pointer, so many bytes further on
+abbrev pub further : (place : ℕ) → (by : ℤ) → Ptr → Result Ptr Fault
+further place by Null = Ok Null
+further place by (To name offset) = offset_in place name (pos offset +ℤ by)
+
+-- an index further on, if there is one
 abbrev pub indexed_if : (place : ℕ) → Own → Option ℕ → (scale : ℕ) → Ptr → Result Ptr Fault
 indexed_if place l None scale p = Ok p
-indexed_if place l (Some i) scale p = on_value (known place (l.temps i)) (on_number (λ n. or_broken place (λ q. q) (indexed l.blocks p n.value scale)))
+indexed_if place l (Some i) scale p = on_value (known place (l.temps i)) (on_number (λ n. further place (n.value *ℤ pos scale) p))
 
--- a pointer moved to a member, if that stands behind the first byte
-abbrev pub moved_if : (place : ℕ) → Own → (offset : ℕ) → Ptr → Result Ptr Fault
-moved_if place l offset p = if offset == 0 then Ok p else or_broken place (λ q. q) (moved l.blocks p (pos offset))
+-- and a member's offset, if that stands behind the first byte
+abbrev pub moved_if : (place offset : ℕ) → Ptr → Result Ptr Fault
+moved_if place offset p = if offset == 0 then Ok p else further place (pos offset) p
 
 -- with the result, or the fault
 abbrev pub on_ok : {A B : Type 0} → Result A Fault → (A → Result B Fault) → Result B Fault
 on_ok (Ok x) go = go x
 on_ok (Err f) go = Err f
 
--- the pointer in the base, moved by the index and then by the offset, each a pointer sum of C where it's there
+-- the pointer in the base, moved by the index and then by the offset
 abbrev pub address_of : (place : ℕ) → Own → Place → Result Ptr Fault
-address_of place l a = on_value (known place (l.temps a.base)) (on_pointer (λ p. on_ok (indexed_if place l a.index a.scale p) (moved_if place l a.offset)))
+address_of place l a = on_value (known place (l.temps a.base)) (on_pointer (λ p. on_ok (indexed_if place l a.index a.scale p) (moved_if place a.offset)))
 
 -- the results of all, or the first fault
 abbrev pub all_of : {A B : Type 0} → (A → Result B Fault) → List A → Result (List B) Fault

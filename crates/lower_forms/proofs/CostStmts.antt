@@ -21,9 +21,9 @@ cost_next place rest = record { most = omega arith }
 cost_ret : (place : ℕ) (t : Option ℕ) (rest : Nodes) → AtMost (more_nodes (ret place t) rest) 1 rest
 cost_ret place t rest = record { most = omega arith }
 
-cost_begins : (place : ℕ) (o : Option ℕ) (rest : Nodes) → AtMost (begins place o rest) 1 rest
-cost_begins place None rest = cost_weak _ _ _ _ (cost_same _) (omega arith)
-cost_begins place (Some k) rest = cost_one _ _ _
+cost_begins : (place n : ℕ) (o : Option ℕ) (rest : Nodes) → AtMost (begins place n o rest) 1 rest
+cost_begins place n None rest = cost_one _ _ _
+cost_begins place n (Some k) rest = cost_one _ _ _
 
 cost_ends : (place : ℕ) (ks : List ℕ) (rest : Nodes) → AtMost (ends place ks rest) (length ks) rest
 cost_ends place [] rest = cost_same _
@@ -68,9 +68,9 @@ module _ (f : Frame) where
       cost_weak _ _ _ _ (cost_step _ _ _ _ _ (cost_expr f e _ _) (cost_branch _ _ _ _ rest _ _ (cost_same _) (cost_break _ no_nodes))) (omega arith)
 
   cost_declare : (place n : ℕ) (o : Option tree.Expr) (rest : Nodes) → AtMost (declare_nodes f place n o rest) (5 * size_if o + 3) rest
-  cost_declare place n None rest = cost_weak _ _ _ _ (cost_begins place (home f n) rest) (omega arith)
+  cost_declare place n None rest = cost_weak _ _ _ _ (cost_begins place n (home f n) rest) (omega arith)
   cost_declare place n (Some e) rest =
-      cost_weak _ _ _ _ (cost_step _ _ _ _ _ (cost_begins place (home f n) _) (cost_step _ _ _ _ _ (cost_expr f e _ _) (cost_initialises place (home f n) n _ _ rest))) (omega arith)
+      cost_weak _ _ _ _ (cost_step _ _ _ _ _ (cost_begins place n (home f n) _) (cost_step _ _ _ _ _ (cost_expr f e _ _) (cost_initialises place (home f n) n _ _ rest))) (omega arith)
 
   cost_return : (place : ℕ) (o : Option tree.Expr) (rest : Nodes) → AtMost (return_nodes f place o rest) (5 * size_if o + 1) rest
   cost_return place None rest = cost_weak _ _ _ _ (cost_ret place None rest) (omega arith)

@@ -21,9 +21,9 @@ deep_next place rest = record { most = omega arith }
 deep_ret : (place : ℕ) (t : Option ℕ) (rest : Nodes) → NoDeeper (more_nodes (ret place t) rest) 1 rest
 deep_ret place t rest = record { most = omega arith }
 
-deep_begins : (place : ℕ) (o : Option ℕ) (rest : Nodes) → NoDeeper (begins place o rest) 1 rest
-deep_begins place None rest = deep_weak _ _ _ _ (deep_same _) (omega arith)
-deep_begins place (Some k) rest = deep_one _ _ _
+deep_begins : (place n : ℕ) (o : Option ℕ) (rest : Nodes) → NoDeeper (begins place n o rest) 1 rest
+deep_begins place n None rest = deep_one _ _ _
+deep_begins place n (Some k) rest = deep_one _ _ _
 
 deep_ends : (place : ℕ) (ks : List ℕ) (rest : Nodes) → NoDeeper (ends place ks rest) 1 rest
 deep_ends place [] rest = deep_weak _ _ _ _ (deep_same _) (omega arith)
@@ -67,9 +67,9 @@ module _ (f : Frame) where
       deep_weak _ _ _ _ (deep_step _ _ _ _ _ (deep_expr f e _ _) (deep_branch _ _ _ _ rest _ _ (deep_same _) (deep_break _ no_nodes))) (omega arith)
 
   deep_declare : (place n : ℕ) (o : Option tree.Expr) (rest : Nodes) → NoDeeper (declare_nodes f place n o rest) (max (3 * depth_if o) 1) rest
-  deep_declare place n None rest = deep_weak _ _ _ _ (deep_begins place (home f n) rest) (omega arith)
+  deep_declare place n None rest = deep_weak _ _ _ _ (deep_begins place n (home f n) rest) (omega arith)
   deep_declare place n (Some e) rest =
-      deep_weak _ _ _ _ (deep_step _ _ _ _ _ (deep_begins place (home f n) _) (deep_step _ _ _ _ _ (deep_expr f e _ _) (deep_initialises place (home f n) n _ _ rest))) (omega arith)
+      deep_weak _ _ _ _ (deep_step _ _ _ _ _ (deep_begins place n (home f n) _) (deep_step _ _ _ _ _ (deep_expr f e _ _) (deep_initialises place (home f n) n _ _ rest))) (omega arith)
 
   deep_return : (place : ℕ) (o : Option tree.Expr) (rest : Nodes) → NoDeeper (return_nodes f place o rest) (max (3 * depth_if o) 1) rest
   deep_return place None rest = deep_weak _ _ _ _ (deep_ret place None rest) (omega arith)

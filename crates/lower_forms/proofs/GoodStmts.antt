@@ -99,9 +99,9 @@ module _ (x : Scope) (c : Context) (f : Frame) (s : Suits x c f) where
   objects_fit tree.no_stmts = tt
   objects_fit (tree.more_stmts st rest) = by_fits st _ (objects_fit rest)
 
-  good_begins : (a : Around) (place : ℕ) (o : Option ℕ) (rest : Nodes) → ((k : ℕ) → o ≡ Some k → nat_lt k x.objects ≡ true) → Good x a rest → Good x a (begins place o rest)
-  good_begins a place None rest h g = g
-  good_begins a place (Some k) rest h g = record { valid = and_from _ _ (h k refl) g.valid; bare = ap (more_nodes (plain place (begin_object k))) g.bare }
+  good_begins : (a : Around) (place n : ℕ) (o : Option ℕ) (rest : Nodes) → ((k : ℕ) → o ≡ Some k → nat_lt k x.objects ≡ true) → n < x.temps → Good x a rest → Good x a (begins place n o rest)
+  good_begins a place n None rest h i g = good_set x a place n _ rest i refl g
+  good_begins a place n (Some k) rest h i g = record { valid = and_from _ _ (h k refl) g.valid; bare = ap (more_nodes (plain place (begin_object k))) g.bare }
 
   good_initialises : (a : Around) (place : ℕ) (o : Option ℕ) (n t : ℕ) (ty : tree.Ty) (rest : Nodes) → ((k : ℕ) → o ≡ Some k → nat_lt k x.objects ≡ true) → n < x.temps → t < x.temps
       → Good x a rest → Good x a (initialises place o n t ty rest)
@@ -229,9 +229,9 @@ module _ (x : Scope) (c : Context) (f : Frame) (s : Suits x c f) where
           → (rest : Nodes) → Good x a rest → Good x a (form_nodes f place node left rest)
       good_form place (tree.block body) b h k a l left o rest g =
           good_row body b h k a l _ (objects_both x (objects_in f body) left (objects_fit body) o) _ (good_ends x a place (objects_in f body) rest (objects_fit body) g)
-      good_form place (tree.declare n None) b h k a l left o rest g = good_begins a place (home f n) rest (s.object n) g
+      good_form place (tree.declare n None) b h k a l left o rest g = good_begins a place n (home f n) rest (s.object n) (s.local n h.1.0 h.1.1) g
       good_form place (tree.declare n (Some e)) b h k a l left o rest g =
-          good_begins a place (home f n) _ (s.object n) (good_expr x c f s e h.1.2.0 (first_temp f) k a _
+          good_begins a place n (home f n) _ (s.object n) (s.local n h.1.0 h.1.1) (good_expr x c f s e h.1.2.0 (first_temp f) k a _
           (good_initialises a place (home f n) n _ _ rest (s.object n) (s.local n h.1.0 h.1.1) (omega (arith, k, at_least_one e)) g))
       good_form place (tree.if_ e one) b h k a l left o rest g =
           good_expr x c f s e h.0 (first_temp f) (omega (arith, k)) a _ (good_branches x a _ _ _ _ rest (omega (arith, k, at_least_one e))

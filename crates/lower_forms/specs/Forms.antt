@@ -309,10 +309,10 @@ abbrev mutual
 
 -- ---- stack objects
 
--- a stack object begins, if the local has one
-abbrev pub begins : (place : ℕ) → (home : Option ℕ) → Nodes → Nodes
-begins place None rest = rest
-begins place (Some object) rest = more_nodes (plain place (begin_object object)) rest
+-- a local begins, unset, where its declaration is reached: its stack object is made anew, or its register holds nothing (C11 6.2.4 p6)
+abbrev pub begins : (place number : ℕ) → (home : Option ℕ) → Nodes → Nodes
+begins place number None rest = sets place number ir.unset rest
+begins place number (Some object) rest = more_nodes (plain place (begin_object object)) rest
 
 -- these stack objects end
 abbrev pub ends : (place : ℕ) → List ℕ → Nodes → Nodes
@@ -430,9 +430,9 @@ test_nodes f (Some e) rest =
 
 -- a declaration, without a first value or with one
 abbrev pub declare_nodes : Frame → (place number : ℕ) → Option tree.Expr → Nodes → Nodes
-declare_nodes f place number None rest = begins place (home f number) rest
+declare_nodes f place number None rest = begins place number (home f number) rest
 declare_nodes f place number (Some e) rest =
-    begins place (home f number) (expr_nodes f e (first_temp f) (initialises place (home f number) number (first_temp f) (tree.type_of e) rest))
+    begins place number (home f number) (expr_nodes f e (first_temp f) (initialises place (home f number) number (first_temp f) (tree.type_of e) rest))
 
 -- a return; the call's objects end with it
 abbrev pub return_nodes : Frame → (place : ℕ) → Option tree.Expr → Nodes → Nodes

@@ -64,7 +64,7 @@ churn_code = record {
   temps = 5;
   slots = 0;
   objects = [];
-  nodes = row (sets 32 1 (ir.constant int (pos 100)) ∷ sets 32 1 (ir.convert unsigned_long 1) ∷ acts 25 ir.malloc [] (Some 1) (1 ∷ []) ∷ sets 23 0 (ir.copy 1)
+  nodes = row (sets 23 0 ir.unset ∷ sets 32 1 (ir.constant int (pos 100)) ∷ sets 32 1 (ir.convert unsigned_long 1) ∷ acts 25 ir.malloc [] (Some 1) (1 ∷ []) ∷ sets 23 0 (ir.copy 1)
       ∷ sets 42 1 (ir.copy 0) ∷ acts 37 ir.free [] None (1 ∷ []) ∷ []);
 }
 

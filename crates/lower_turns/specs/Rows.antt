@@ -1,5 +1,5 @@
 -- Small programs, and the code that they are lowered to: what both show, turn by turn. They are those by which the meaning of the source is
--- put to the test, but for one: a local kept in a register that is declared again without a value keeps its old one in the code.
+-- put to the test, and a few more, where the code could have kept what the source has no longer.
 use Rattle.std.specs.Prelude.{◌≡◌, ℕ, List, [], ◌∷◌, ◌++◌, codes, None, Some, pos}
 use Rattle.ak_words.specs.declared.operation.Op.TheVariants as ops
 use Rattle.ak_words.specs.IntType.{char, int, unsigned_int, long}
@@ -10,7 +10,7 @@ use Rattle.c_tree.specs.Typed.{void, integer, mutex, pointer, array, structure, 
 use Rattle.c_tree.specs.Typed.{at, null, literal, global, local, deref, member, address_of, convert, not_, binary, and_also, or_else, choose, pointer_add, pointer_sub, pointer_diff, pointer_compare}
 use Rattle.c_tree.specs.Typed.{block, declare, if_, if_else, for_, while_, break_, continue_, return_, assign, update, evaluate, StmtNode, Expr, zero_bytes, number}
 use Rattle.c_meaning.specs.Meaning.{start, shown}
-use Rattle.c_meaning.specs.Rows.{int_ty, int_star, k, v, of_type, row, one, lib_call, printf_int, op_of, at_star, in_register, in_memory, func, whole, main_only, turns, got, none, p0, malloc_of, free_of, call_of, shared_block, first_turns, ints, returns, char_star, decayed, at_index, as_void_star, size, mutex_call, joined_twice, prints_and_gives, x0, pair, struct_local, unsigned_char, u, minus, counted, one_waits}
+use Rattle.c_meaning.specs.Rows.{int_ty, int_star, k, v, of_type, row, one, lib_call, printf_int, op_of, at_star, in_register, in_memory, func, whole, main_only, turns, got, none, p0, malloc_of, free_of, call_of, shared_block, first_turns, ints, returns, char_star, decayed, at_index, as_void_star, size, mutex_call, joined_twice, prints_and_gives, x0, pair, struct_local, unsigned_char, u, minus, counted, one_waits, g0, thread_ty}
 use Rattle.ir_meaning.specs.Threads.{program_of}
 use Rattle.lower_forms.specs.Programs.{lowered}
 
@@ -153,6 +153,29 @@ left_by_continue = main_only (in_register int_ty ∷ in_register int_ty ∷ in_m
     (one (block (row (declare 2 (Some (v 1)) ∷ block (row (declare 3 (Some (k 1)) ∷ if_ (op_of ops.Eq (v 2) (k 1)) (one continue_) ∷ assign (v 0) (op_of ops.Add (v 0) (v 3)) ∷ [])) ∷ []))))
     ∷ returns (v 0) ∷ [])
 
+-- for(int i=0;i<2;i++){int a;if(i==0)a=1;else return a;}: a has no value in the second round
+abbrev pub unset_anew : Typed.Typed
+unset_anew = main_only (ints 2)
+    (for_ (one (declare 0 (Some (k 0)))) (Some (op_of ops.Lt (v 0) (k 2))) (one (update (v 0) ops.Add (k 1)))
+    (one (block (row (declare 1 None ∷ if_else (op_of ops.Eq (v 0) (k 0)) (one (assign (v 1) (k 1))) (one (returns (v 1))) ∷ [])))) ∷ [])
+
+-- for(int i=0;i<2;i++){int a=i?a:1;}: nor while its first value is computed
+abbrev pub unset_at_first : Typed.Typed
+unset_at_first = main_only (ints 2)
+    (for_ (one (declare 0 (Some (k 0)))) (Some (op_of ops.Lt (v 0) (k 2))) (one (update (v 0) ops.Add (k 1)))
+    (one (block (row (declare 1 (Some (of_type int_ty (choose (v 0) (v 1) (k 1)))) ∷ [])))) ∷ [])
+
+-- p[1]=f();, where another thread frees the block of p while f runs
+abbrev pub freed_meanwhile : Typed.Typed
+freed_meanwhile = whole (record { ty = int_star; init = zero_bytes } ∷ []) []
+    (func 0 (in_register int_star ∷ in_memory thread_ty ∷ [])
+    (assign g0 (malloc_of 8) ∷ declare 0 (Some g0) ∷ declare 1 None
+    ∷ evaluate (lib_call int_ty (Typed.start 2) (of_type (pointer thread_ty) (address_of (of_type thread_ty (local 1))) ∷ of_type (pointer void) null ∷ []))
+    ∷ assign (at_index int_ty p0 (k 1)) (call_of 1 []) ∷ returns (k 0) ∷ [])
+    ∷ func 0 [] (returns (k 7) ∷ [])
+    ∷ func 1 (in_register (pointer void) ∷ []) (free_of g0 ∷ returns (k 0) ∷ [])
+    ∷ [])
+
 -- a body of main alone, in which main's locals are these
 abbrev pub at_once : List Typed.Local → List StmtNode → Type 0
 at_once locals body = Keeps (main_only locals body) (turns 0 1)
@@ -182,7 +205,10 @@ pub record RulesStand : Type 0 where
   pub c3 : at_once [] (returns (op_of ops.Shl (k 1) (k 32)) ∷ [])
   pub c4 : at_once (ints 1) (declare 0 None ∷ returns (v 0) ∷ [])
   pub c4_cells : at_once (in_memory (array int_ty 1) ∷ []) (declare 0 None ∷ returns (at_index int_ty (decayed int_ty 1 (local 0)) (k 0)) ∷ [])
+  pub c4_anew : Keeps unset_anew (turns 0 2)
+  pub c4_at_first : Keeps unset_at_first (turns 0 2)
   pub c5 : at_once (in_register int_star ∷ []) (declare 0 (Some (of_type int_star null)) ∷ assign (at_star p0) (k 1) ∷ [])
+  pub c5_meanwhile : Keeps freed_meanwhile (got 0 ++ turns 0 2 ++ got 0 ++ turns 0 1 ++ turns 1 2 ++ turns 0 2)
   pub c6 : at_once (in_memory (array (integer char) 8) ∷ [])
       (declare 0 None ∷ assign (at_star (of_type int_star (convert (of_type char_star (pointer_add (decayed (integer char) 8 (local 0)) (k 1)))))) (k 1) ∷ [])
   pub c7 : at_once (in_memory (array int_ty 2) ∷ []) (declare 0 None ∷ evaluate (of_type int_star (pointer_sub (decayed int_ty 2 (local 0)) (k 1))) ∷ [])

@@ -5,12 +5,13 @@ use Rattle.ak_words.specs.declared.operation.Op.{Op}
 use Rattle.block_store.specs.declared.values.Access.{Access}
 use Rattle.c_tree.specs.Typed.{Piece, Init}
 
--- what a register is set to: a number; the null pointer; the address of a global, a literal or a stack object; a register's value,
+-- what a register is set to: a number; nothing; the null pointer; the address of a global, a literal or a stack object; a register's value,
 -- or that converted to a type; an operation on numbers, of which the type is that of the first; a pointer moved forwards or
 -- backwards by a number of elements of so many bytes, or the elements between two; two pointers compared; whether a pointer isn't
 -- null
 pub data Calc : Type 0 where
   constant : (t : IntType) (value : ℤ) → Calc
+  unset : Calc
   null : Calc
   global : (number : ℕ) → Calc
   literal : (number : ℕ) → Calc

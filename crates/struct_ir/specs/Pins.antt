@@ -68,11 +68,6 @@ abbrev pub Among : List Place → Place → Type 0
 Among [] a = ⊥
 Among (b ∷ rest) a = (a ≡ b) ⊎ Among rest a
 
--- each access has a slot, which is available there for its base
-abbrev pub Covered : {P : Type 0} → Flow P → P → Type 0
-Covered {P} C start = (k : P) (place : ℕ) (act : Act) → C.here k ≡ does place act → (a : Place) → Among (places_of act) a
-    → (s : ℕ) × (a.slot ≡ Some s) × Available C start s a.base k
-
 -- ---- safe code
 
 -- the list of a step that may wait

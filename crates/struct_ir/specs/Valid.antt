@@ -4,7 +4,7 @@ use Rattle.std.specs.List.{list_all, list_any}
 use Rattle.ak_words.specs.declared.int_type.IntType.{IntType}
 use Rattle.c_tree.specs.TypedForm.{is_comparison}
 use Rattle.c_tree.specs.TypedPrinting.{takes_number, takes_text}
-use Rattle.struct_ir.specs.Nodes.{Calc, constant, null, global, literal, object, copy, convert, apply, pointer_add, pointer_sub, pointer_diff, pointer_compare, pointer_test, Place}
+use Rattle.struct_ir.specs.Nodes.{Calc, constant, unset, null, global, literal, object, copy, convert, apply, pointer_add, pointer_sub, pointer_diff, pointer_compare, pointer_test, Place}
 use Rattle.struct_ir.specs.Nodes.{Action, load, store, copy_bytes, malloc, free, print, lock, unlock, destroy, start, join, may_wait, Step, Call, Act, set, call, step, look, safepoint, begin_object, end_object}
 use Rattle.struct_ir.specs.Nodes.{Node, plain, if_, loop, break_, next_, ret, Nodes, no_nodes, more_nodes, Func, Ir}
 
@@ -45,6 +45,7 @@ is_promoted t = (t.bits == 32) || (t.bits == 64)
 -- what a register may be set to
 abbrev pub is_calc : Scope → Calc → Bool
 is_calc x (constant t value) = true
+is_calc x unset = true
 is_calc x null = true
 is_calc x (global n) = nat_lt n x.globals
 is_calc x (literal n) = nat_lt n x.literals

@@ -23,6 +23,7 @@ place_view a = record { base = a.base; index = a.index; scale = a.scale; offset 
 -- what a register is set to
 abbrev pub calc_view : CodeCalc → nodes.Calc
 calc_view (calcs.Num n) = nodes.constant n.ty n.value
+calc_view calcs.Unset = nodes.unset
 calc_view calcs.Null = nodes.null
 calc_view (calcs.Global n) = nodes.global n
 calc_view (calcs.Literal n) = nodes.literal n

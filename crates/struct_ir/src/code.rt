@@ -25,6 +25,8 @@ pub struct Place {
 pub enum Calc {
     /// A number.
     Num(Num),
+    /// Nothing: the register is unset, as a local is whose declaration is reached again (C11 6.2.4 p6).
+    Unset,
     /// The null pointer.
     Null,
     /// The address of the global of this number.

@@ -102,6 +102,7 @@ fn write_to(out: &mut String, to: Option<u32>) -> Result<(), NoMemory> {
 pub(crate) fn write_calc(out: &mut String, calc: &Calc) -> Result<(), NoMemory> {
     match calc {
         Calc::Num(n) => write!(out, "{}", n.value)?,
+        Calc::Unset => write!(out, "unset")?,
         Calc::Null => write!(out, "null")?,
         Calc::Global(n) => write!(out, "global {n}")?,
         Calc::Literal(n) => write!(out, "literal {n}")?,

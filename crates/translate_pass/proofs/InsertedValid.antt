@@ -4,7 +4,7 @@ use Rattle.std.proofs.lemmas.Bool.{and_parts, and_from, or_right, ltb-true, lt-l
 use Rattle.std.proofs.lemmas.List.{length-map}
 use Rattle.std.specs.Prelude.{nat_lt, is_none}
 use Rattle.std.specs.List.{list_all}
-use Rattle.struct_ir.specs.Nodes.{Calc, constant, null, global, literal, object, copy, convert, apply, pointer_add, pointer_sub, pointer_diff, pointer_compare, pointer_test, Place}
+use Rattle.struct_ir.specs.Nodes.{Calc, constant, unset, null, global, literal, object, copy, convert, apply, pointer_add, pointer_sub, pointer_diff, pointer_compare, pointer_test, Place}
 use Rattle.struct_ir.specs.Nodes.{Action, load, store, copy_bytes, malloc, free, print, lock, unlock, destroy, start, join, may_wait, Step, Act, set, call, step, look, safepoint, begin_object, end_object}
 use Rattle.struct_ir.specs.Nodes.{Node, plain, if_, loop, break_, next_, ret, Nodes, no_nodes, more_nodes, places_of}
 use Rattle.struct_ir.specs.Lists.{bare_place, bare_step, bare_act}
@@ -20,6 +20,7 @@ with_slots x n = record { temps = x.temps; slots = n; objects = x.objects; globa
 module _ (x : Scope) (n : ℕ) where
   calc_same : (c : Calc) → is_calc (with_slots x n) c ≡ is_calc x c
   calc_same (constant t value) = refl
+  calc_same unset = refl
   calc_same null = refl
   calc_same (global k) = refl
   calc_same (literal k) = refl
