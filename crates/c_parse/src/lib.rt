@@ -19,6 +19,3 @@ mod types;
 mod whole;
 
 pub use whole::parse;
-
-#[cfg(test)]
-mod tests;

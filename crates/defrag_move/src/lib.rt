@@ -10,6 +10,3 @@ mod laws;
 pub use answers::{Alloced, NotLive};
 pub use arena::Arena;
 pub use laws::{objects_are_counted, storage_stays_consistent};
-
-#[cfg(test)]
-mod tests;

@@ -131,7 +131,7 @@ pub fn expr(alloc: Global, e: &Expr, f: &Frame, t: u32, out: &mut Vec<Node>) -> 
     }
 }
 
-// The pointer to the object that an lvalue is comes to the register `t`; how it is reached.
+/// The pointer to the object that an lvalue is comes to the register `t`; how it is reached.
 #[cycle(exprs)]
 pub fn place(
     alloc: Global,

@@ -1,9 +1,9 @@
 //! Texts that are read and texts that are refused, with their places.
 ghost use Rattle.std.specs.Prelude.{◌≤◌, length};
 
-use crate::parse;
 use c_grammar::laws::tokens_end_once;
 use c_lex::{CompileFault, Kind, Refusal, lex};
+use c_parse::parse;
 use c_tree::syntax::Program;
 use std::alloc::{AllocError, Global};
 

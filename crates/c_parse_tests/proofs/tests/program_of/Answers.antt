@@ -1,4 +1,4 @@
-use Rattle.c_parse.proofs.tests.program_of.Goals as goal
+use Rattle.c_parse_tests.proofs.tests.program_of.Goals as goal
 
 pub parse-requires : goal.parse-requires
 parse-requires c =

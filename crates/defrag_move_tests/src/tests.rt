@@ -4,9 +4,7 @@ ghost use Rattle.move_plan.specs.Holding.{is_pinned};
 ghost use Rattle.move_plan.specs.Sliding.{IsSlid, holds};
 ghost use Rattle.defrag_move.specs.Moves.{KeepsObjects};
 
-use crate::answers::{Alloced, NotLive};
-use crate::arena::Arena;
-use crate::laws::objects_are_counted;
+use defrag_move::{Alloced, Arena, NotLive, objects_are_counted};
 use flat_store::OutsideFlat;
 use handle_table::{PinFrame, PinWords, unite};
 use handle_words::make;

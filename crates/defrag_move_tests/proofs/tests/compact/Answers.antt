@@ -1,7 +1,7 @@
 use Rattle.std.proofs.Common.{ap, arith}
 use Rattle.std.specs.FinSet as set
 use Rattle.std.specs.Ordering.{nat_cmp}
-use Rattle.defrag_move.proofs.tests.compact.Goals as goal
+use Rattle.defrag_move_tests.proofs.tests.compact.Goals as goal
 
 pub pins_of-requires : goal.pins_of-requires
 pins_of-requires c =
