@@ -1,6 +1,13 @@
 //! Laws of what lowering keeps, as contracts of functions that do nothing.
 
 ghost use Rattle.lower_turns.specs.Rows.{RowsStand, RulesStand, OrdersStand};
+ghost use Rattle.lower_turns.specs.Turns.{LowerKeepsEveryTurn};
+
+/// The code of every well formed program shows under every order of turns and answers what the program
+/// shows: how each turn went and the world after it, and which rule a turn breaks, and where.
+pub fn lower_keeps_every_turn()
+    ensures { LowerKeepsEveryTurn }
+{}
 
 /// The code of each of these programs shows under these orders what the source shows: how each turn
 /// went and the world after it, and which rule a turn breaks, and where.

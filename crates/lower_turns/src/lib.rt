@@ -1,5 +1,5 @@
 //! What lowering keeps: the turns of a program, over named blocks.
-//! Promises upward: worked programs keep their turns, with the world after each. That all programs do isn't proved yet.
+//! Promises upward: the code of every well formed program shows under every order what the program shows, turn by turn.
 //! Stands on the meanings of the source and of structured code, and on what each form is lowered to.
 #![tactic(auto)]
 

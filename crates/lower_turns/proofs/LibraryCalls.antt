@@ -1,0 +1,220 @@
+-- Each call of the library does the same on both sides.
+use Rattle.std.proofs.Common.{◌≡◌, ◌≢◌, ℕ, suc, pos, false, List, [], ◌∷◌, map, Option, Some, None, Ok, Err, inr, refl, sym, ap, subst, ◌∙◌, arith, unsigned_abs, if◌then◌else◌}
+use Rattle.ak_words.specs.IntType.{int, unsigned_long}
+use Rattle.block_store.specs.declared.values.Access.{Access}
+use Rattle.block_store.specs.declared.values.Access.TheVariants as accesses
+use Rattle.block_store.specs.declared.values.Cell.TheVariants.{Unknown}
+use Rattle.block_store.specs.declared.values.Ptr.{Ptr}
+use Rattle.block_store.specs.declared.values.Value.{Value}
+use Rattle.block_store.specs.declared.values.Value.TheVariants as values
+use Rattle.block_store.specs.Actions as actions
+use Rattle.block_store.specs.Actions.{World, Action, acted, bytes, text}
+use Rattle.block_store.specs.Blocks.{Blocks}
+use Rattle.c_tree.specs.Typed as tree
+use Rattle.c_tree.specs.TypedForm.{IsLibCall, AreArguments, IsNth, CanStart, signature_of}
+use Rattle.c_tree.specs.TypedPrinting.{parts}
+use Rattle.c_meaning.specs.Values.{access_of_type}
+use Rattle.c_meaning.specs.Control.{Variable, Wait}
+use Rattle.c_meaning.specs.Library.{numbers_of, pointers_of, value_of_call, free_mutex}
+use Rattle.c_meaning.specs.Library as meant
+use Rattle.c_meaning.specs.Turns.{stays, after_call, calls_library, acts}
+use Rattle.struct_ir.specs.Nodes as ir
+use Rattle.struct_ir.specs.Nodes.{Nodes, Place, Step, more_nodes, plain}
+use Rattle.struct_ir.specs.Structured.{Position, then_}
+use Rattle.ir_meaning.specs.Blocks.{Held, value, set_at, wrong_kind}
+use Rattle.ir_meaning.specs.Threads.{action_of, set_if, action_with}
+use Rattle.lower_forms.specs.Forms.{sets_int, at_temp, number_temps, text_places, lib_nodes}
+use Rattle.lower_forms.specs.Programs.{lowered}
+use Rattle.lower_turns.proofs.Relation.{ctx, HasKind, Agrees, Stand, AreScalars, Calls, AllBegin}
+use Rattle.lower_turns.proofs.Registers.{set_here, set_there, below_same, below_set}
+use Rattle.lower_turns.proofs.Values.{kind_fits}
+use Rattle.lower_turns.proofs.Operands.{fits_access}
+use Rattle.lower_turns.proofs.Steps.{set_then, step_alike}
+use Rattle.lower_turns.proofs.Setting.{Setting, here, now, own, Alike, frame}
+use Rattle.lower_turns.proofs.Actions.{GivesKind, GivesNone, IfWent, if_went, copy_so, store_so, allocate_so, free_so, print_so, lock_so, unlock_so, destroy_so, start_so, join_so}
+use Rattle.lower_turns.proofs.Calls.{WaitIs, nth_mapped}
+use Rattle.lower_turns.proofs.Library.{action_is, one_more_place, one_more_read, at_register, print_is, Lands, lands_value, lands_zero, lands_none}
+
+-- values of these kinds stand in the registers from u on
+abbrev pub StandAs : (ℕ → Held) → List Access → List Value → (u : ℕ) → Type 0
+StandAs tm [] [] u = Unit {0}
+StandAs tm [] (v ∷ vs) u = ⊥
+StandAs tm (h ∷ hs) [] u = ⊥
+StandAs tm (h ∷ hs) (v ∷ vs) u = HasKind h v × (tm u ≡ value v) × StandAs tm hs vs (suc u)
+
+pub stand_as : (tm : ℕ → Held) (ts : List tree.Ty) (es : tree.Exprs) (vs : List Value) (u : ℕ) → AreArguments ts es → Stand tm es vs u → StandAs tm (map access_of_type ts) vs u
+stand_as tm [] tree.no_exprs [] u h s = tt
+stand_as tm [] tree.no_exprs (v ∷ vs) u h s = elim s [ ]
+stand_as tm [] (tree.more_exprs e es) vs u h s = elim h [ ]
+stand_as tm (t ∷ ts) tree.no_exprs vs u h s = elim h [ ]
+stand_as tm (t ∷ ts) (tree.more_exprs e es) [] u h s = elim s [ ]
+stand_as tm (t ∷ ts) (tree.more_exprs e es) (v ∷ vs) u h s = (subst (λ z. HasKind z v) (fits_access (tree.type_of e) t h.0) s.0, s.1, stand_as tm ts es vs (suc u) h.1 s.2)
+
+pub store_fits : (how : Access) (p : Ptr) (v : Value) → HasKind how v → action_with (ir.store how) (p ∷ []) (v ∷ []) ≡ Ok (actions.store p v)
+store_fits how p v k = ap (λ b. if b then Ok (actions.store p v) else Err wrong_kind) (kind_fits how v k)
+
+module _ (g : Setting) (busy : Calls g.t) (vs : List Variable) (ob : ℕ → Option ℕ) (b : Blocks) (tm : ℕ → Held) (agrees : Agrees (frame g) g.f.locals vs tm ob) (place : ℕ) (ty : tree.Ty) (u : ℕ)
+    (kw : Wait) (r : Nodes) (q : Position) (waits : WaitIs g ob tm place ty kw u r q) where
+  abbrev world_now : World
+  world_now = actions.with_blocks g.s b
+
+  abbrev Ends : tree.Lib → List Value → Nodes → Type 0
+  Ends which args ns = Alike g (calls_library (here g) place which args kw (meant.action_of which args) (now g vs b)) (then_ ns q) (own g ob tm b)
+
+  lands_kind : (how : Access) → how ≡ access_of_type ty → (v : Option Value) (w : World) → GivesKind how v → AllBegin g.t w → Lands g busy vs ob b tm agrees kw v r q (set_if tm (Some u) v) w
+  lands_kind how e None w k all = elim k [ ]
+  lands_kind how e (Some v) w k all =
+      lands_value g busy vs ob b tm agrees place ty u kw r q waits v (set_at tm u (value v)) w (subst (λ z. HasKind z v) e k) (below_set u u tm tm (value v) (omega arith) (below_same u tm)) (set_here tm u (value v)) all
+
+  -- a step whose value comes to the register
+  kind_alike : (how : Access) → how ≡ access_of_type ty → (st : Step) → st.to ≡ Some u → (act : Action) → action_of place (own g ob tm b) st ≡ Ok act → IfWent g.t (GivesKind how) (acted world_now g.thread g.answer act)
+      → Alike g (acts (here g) place act (λ v w. stays (here g) vs (after_call kw v) w) (now g vs b)) (then_ (more_nodes (plain place (ir.step st)) r) q) (own g ob tm b)
+  kind_alike how e st to act is so =
+      step_alike (lowered g.t) g.thread g.answer g.cs' g.s g.t (λ v w. stays (here g) vs (after_call kw v) w) place st r q (own g ob tm b) act is
+      (λ v w d. let h = if_went g.t (GivesKind how) (acted world_now g.thread g.answer act) v w so d in
+      subst (λ (o : Option ℕ). Lands g busy vs ob b tm agrees kw v r q (set_if tm o v) w) (sym to) (lands_kind how e v w h.0 h.1))
+
+  pub print_alike : (pieces : List tree.Piece) (es : tree.Exprs) (args : List Value) → ty ≡ tree.integer int → AreScalars es → Stand tm es args u → Ends (tree.print pieces) args (lib_nodes place (tree.print pieces) es u r)
+  print_alike pieces es args e s h =
+      kind_alike (accesses.Number int) (sym (ap access_of_type e)) (record { action = ir.print pieces; places = text_places es u; to = Some u; temps = number_temps es u; slots = [] }) refl
+      (actions.print (parts bytes text pieces (numbers_of args) (pointers_of args))) (print_is place (own g ob tm b) pieces es args u (Some u) s h)
+      (print_so g.t world_now g.begun g.thread g.answer (parts bytes text pieces (numbers_of args) (pointers_of args)))
+
+  pub malloc_alike : (es : tree.Exprs) (args : List Value) → ty ≡ tree.pointer tree.void → StandAs tm (accesses.Number unsigned_long ∷ []) args u → Ends tree.malloc args (lib_nodes place tree.malloc es u r)
+  malloc_alike es [] e h = elim h [ ]
+  malloc_alike es (values.Pointer p ∷ args) e h = elim (h.0) [ ]
+  malloc_alike es (values.Num n ∷ x ∷ args) e h = elim (h.2) [ ]
+  malloc_alike es (values.Num n ∷ []) e h =
+      kind_alike accesses.Pointer (sym (ap access_of_type e)) (record { action = ir.malloc; places = []; to = Some u; temps = u ∷ []; slots = [] }) refl
+      (actions.allocate (unsigned_abs n.value) Unknown)
+      (action_is place (own g ob tm b) (record { action = ir.malloc; places = []; to = Some u; temps = u ∷ []; slots = [] }) [] (values.Num n ∷ []) refl (one_more_read place (own g ob tm b) u [] (values.Num n) [] h.1 refl))
+      (allocate_so g.t world_now g.begun g.thread g.answer (unsigned_abs n.value) Unknown)
+
+  pub start_alike : (m : ℕ) (es : tree.Exprs) (args : List Value) → ty ≡ tree.integer int → IsNth (ctx g.t g.n g.f).funcs m CanStart → StandAs tm (accesses.Pointer ∷ accesses.Pointer ∷ []) args u
+      → Ends (tree.start m) args (lib_nodes place (tree.start m) es u r)
+  start_alike m es [] e c h = elim h [ ]
+  start_alike m es (values.Num n ∷ args) e c h = elim (h.0) [ ]
+  start_alike m es (values.Pointer p ∷ []) e c h = elim (h.2) [ ]
+  start_alike m es (values.Pointer p ∷ values.Num n ∷ args) e c h = elim (h.2.0) [ ]
+  start_alike m es (values.Pointer p ∷ values.Pointer o ∷ x ∷ args) e c h = elim (h.2.2) [ ]
+  start_alike m es (values.Pointer p ∷ values.Pointer o ∷ []) e c h =
+      let f = nth_mapped signature_of g.t.funcs m c.0 c.1 in
+      kind_alike (accesses.Number int) (sym (ap access_of_type e)) (record { action = ir.start m; places = at_temp u ∷ []; to = Some u; temps = suc u ∷ []; slots = [] }) refl
+      (actions.start p m o)
+      (action_is place (own g ob tm b) (record { action = ir.start m; places = at_temp u ∷ []; to = Some u; temps = suc u ∷ []; slots = [] }) (p ∷ []) (values.Pointer o ∷ [])
+      (one_more_place place (own g ob tm b) (at_temp u) [] p [] (at_register place (own g ob tm b) u p h.1) refl)
+      (one_more_read place (own g ob tm b) (suc u) [] (values.Pointer o) [] h.2.1 refl))
+      (start_so g.t world_now g.begun g.thread g.answer p m o (inr (busy, (f.0, f.1, subst CanStart (sym f.2) c.2))))
+
+  pub join_alike : (es : tree.Exprs) (args : List Value) → ty ≡ tree.integer int → StandAs tm (accesses.Number unsigned_long ∷ accesses.Pointer ∷ []) args u → Ends tree.join args (lib_nodes place tree.join es u r)
+  join_alike es [] e h = elim h [ ]
+  join_alike es (values.Pointer n ∷ args) e h = elim (h.0) [ ]
+  join_alike es (values.Num p ∷ []) e h = elim (h.2) [ ]
+  join_alike es (values.Num p ∷ values.Num n ∷ args) e h = elim (h.2.0) [ ]
+  join_alike es (values.Num p ∷ values.Pointer o ∷ x ∷ args) e h = elim (h.2.2) [ ]
+  join_alike es (values.Num n ∷ values.Pointer o ∷ []) e h =
+      kind_alike (accesses.Number int) (sym (ap access_of_type e)) (record { action = ir.join; places = at_temp (suc u) ∷ []; to = Some u; temps = u ∷ []; slots = [] }) refl
+      (actions.join (unsigned_abs n.value) o)
+      (action_is place (own g ob tm b) (record { action = ir.join; places = at_temp (suc u) ∷ []; to = Some u; temps = u ∷ []; slots = [] }) (o ∷ []) (values.Num n ∷ [])
+      (one_more_place place (own g ob tm b) (at_temp (suc u)) [] o [] (at_register place (own g ob tm b) (suc u) o h.2.1) refl)
+      (one_more_read place (own g ob tm b) u [] (values.Num n) [] h.1 refl))
+      (join_so g.t world_now g.begun g.thread g.answer (unsigned_abs n.value) o)
+
+  -- ---- without a value
+
+  -- a step that gives none, and what the call's value then is
+  none_alike : (which : tree.Lib) (args : List Value) (ns : Nodes) (a : ℕ → Held) (st : Step) → st.to ≡ None → (act : Action) → action_of place (own g ob a b) st ≡ Ok act → IfWent g.t GivesNone (acted world_now g.thread g.answer act)
+      → ((v : Option Value) (w : World) → GivesNone v → AllBegin g.t w → Lands g busy vs ob b tm agrees kw (value_of_call which args v) ns q a w)
+      → Alike g (acts (here g) place act (λ v w. stays (here g) vs (after_call kw (value_of_call which args v)) w) (now g vs b)) (then_ (more_nodes (plain place (ir.step st)) ns) q) (own g ob a b)
+  none_alike which args ns a st to act is so lands =
+      step_alike (lowered g.t) g.thread g.answer g.cs' g.s g.t (λ v w. stays (here g) vs (after_call kw (value_of_call which args v)) w) place st ns q (own g ob a b) act is
+      (λ v w d. let h = if_went g.t GivesNone (acted world_now g.thread g.answer act) v w so d in
+      subst (λ (o : Option ℕ). Lands g busy vs ob b tm agrees kw (value_of_call which args v) ns q (set_if a o v) w) (sym to) (lands v w h.0 h.1))
+
+  pub free_alike : (es : tree.Exprs) (args : List Value) → ty ≡ tree.void → StandAs tm (accesses.Pointer ∷ []) args u → Ends tree.free args (lib_nodes place tree.free es u r)
+  free_alike es [] e h = elim h [ ]
+  free_alike es (values.Num n ∷ args) e h = elim (h.0) [ ]
+  free_alike es (values.Pointer p ∷ x ∷ args) e h = elim (h.2) [ ]
+  free_alike es (values.Pointer p ∷ []) e h =
+      none_alike tree.free (values.Pointer p ∷ []) r tm (record { action = ir.free; places = []; to = None; temps = u ∷ []; slots = [] }) refl (actions.free p)
+      (action_is place (own g ob tm b) (record { action = ir.free; places = []; to = None; temps = u ∷ []; slots = [] }) [] (values.Pointer p ∷ []) refl (one_more_read place (own g ob tm b) u [] (values.Pointer p) [] h.1 refl))
+      (free_so g.t world_now g.begun g.thread g.answer p)
+      (λ v w n all. lands_none g busy vs ob b tm agrees place ty u kw r q waits v n tm w e (below_same u tm) all)
+
+  pub destroy_alike : (es : tree.Exprs) (args : List Value) → ty ≡ tree.void → StandAs tm (accesses.Pointer ∷ []) args u → Ends tree.mutex_destroy args (lib_nodes place tree.mutex_destroy es u r)
+  destroy_alike es [] e h = elim h [ ]
+  destroy_alike es (values.Num n ∷ args) e h = elim (h.0) [ ]
+  destroy_alike es (values.Pointer p ∷ x ∷ args) e h = elim (h.2) [ ]
+  destroy_alike es (values.Pointer p ∷ []) e h =
+      none_alike tree.mutex_destroy (values.Pointer p ∷ []) r tm (record { action = ir.destroy; places = at_temp u ∷ []; to = None; temps = []; slots = [] }) refl (actions.destroy p)
+      (action_is place (own g ob tm b) (record { action = ir.destroy; places = at_temp u ∷ []; to = None; temps = []; slots = [] }) (p ∷ []) [] (one_more_place place (own g ob tm b) (at_temp u) [] p [] (at_register place (own g ob tm b) u p h.1) refl) refl)
+      (destroy_so g.t world_now g.begun g.thread g.answer p)
+      (λ v w n all. lands_none g busy vs ob b tm agrees place ty u kw r q waits v n tm w e (below_same u tm) all)
+
+  pub lock_alike : (es : tree.Exprs) (args : List Value) → ty ≡ tree.integer int → StandAs tm (accesses.Pointer ∷ []) args u → Ends tree.mutex_lock args (lib_nodes place tree.mutex_lock es u r)
+  lock_alike es [] e h = elim h [ ]
+  lock_alike es (values.Num n ∷ args) e h = elim (h.0) [ ]
+  lock_alike es (values.Pointer p ∷ x ∷ args) e h = elim (h.2) [ ]
+  lock_alike es (values.Pointer p ∷ []) e h =
+      none_alike tree.mutex_lock (values.Pointer p ∷ []) (sets_int place u 0 r) tm (record { action = ir.lock; places = at_temp u ∷ []; to = None; temps = []; slots = [] }) refl (actions.lock p)
+      (action_is place (own g ob tm b) (record { action = ir.lock; places = at_temp u ∷ []; to = None; temps = []; slots = [] }) (p ∷ []) [] (one_more_place place (own g ob tm b) (at_temp u) [] p [] (at_register place (own g ob tm b) u p h.1) refl) refl)
+      (lock_so g.t world_now g.begun g.thread g.answer p)
+      (λ v w n all. lands_zero g busy vs ob b tm agrees place ty u kw r q waits tm w e (below_same u tm) all)
+
+  pub unlock_alike : (es : tree.Exprs) (args : List Value) → ty ≡ tree.integer int → StandAs tm (accesses.Pointer ∷ []) args u → Ends tree.mutex_unlock args (lib_nodes place tree.mutex_unlock es u r)
+  unlock_alike es [] e h = elim h [ ]
+  unlock_alike es (values.Num n ∷ args) e h = elim (h.0) [ ]
+  unlock_alike es (values.Pointer p ∷ x ∷ args) e h = elim (h.2) [ ]
+  unlock_alike es (values.Pointer p ∷ []) e h =
+      none_alike tree.mutex_unlock (values.Pointer p ∷ []) (sets_int place u 0 r) tm (record { action = ir.unlock; places = at_temp u ∷ []; to = None; temps = []; slots = [] }) refl (actions.unlock p)
+      (action_is place (own g ob tm b) (record { action = ir.unlock; places = at_temp u ∷ []; to = None; temps = []; slots = [] }) (p ∷ []) [] (one_more_place place (own g ob tm b) (at_temp u) [] p [] (at_register place (own g ob tm b) u p h.1) refl) refl)
+      (unlock_so g.t world_now g.begun g.thread g.answer p)
+      (λ v w n all. lands_zero g busy vs ob b tm agrees place ty u kw r q waits tm w e (below_same u tm) all)
+
+  pub init_alike : (es : tree.Exprs) (args : List Value) → ty ≡ tree.integer int → StandAs tm (accesses.Pointer ∷ []) args u → Ends tree.mutex_init args (lib_nodes place tree.mutex_init es u r)
+  init_alike es [] e h = elim h [ ]
+  init_alike es (values.Num n ∷ args) e h = elim (h.0) [ ]
+  init_alike es (values.Pointer p ∷ x ∷ args) e h = elim (h.2) [ ]
+  init_alike es (values.Pointer p ∷ []) e h =
+      let ne : u ≢ suc u = λ y. absurd (omega (arith, y)) in
+      set_then (lowered g.t) g.thread g.answer g.cs' g.s g.t _ place (suc u) (ir.constant unsigned_long (pos 0)) _ q (own g ob tm b) (value free_mutex) refl
+      (none_alike tree.mutex_init (values.Pointer p ∷ []) (sets_int place u 0 r) (set_at tm (suc u) (value free_mutex))
+      (record { action = ir.store (accesses.Number unsigned_long); places = at_temp u ∷ []; to = None; temps = suc u ∷ []; slots = [] }) refl (actions.store p free_mutex)
+      (action_is place (own g ob (set_at tm (suc u) (value free_mutex)) b) (record { action = ir.store (accesses.Number unsigned_long); places = at_temp u ∷ []; to = None; temps = suc u ∷ []; slots = [] }) (p ∷ []) (free_mutex ∷ [])
+      (one_more_place place (own g ob (set_at tm (suc u) (value free_mutex)) b) (at_temp u) [] p [] (at_register place (own g ob (set_at tm (suc u) (value free_mutex)) b) u p (set_there tm (suc u) (value free_mutex) u ne ∙ h.1)) refl)
+      (one_more_read place (own g ob (set_at tm (suc u) (value free_mutex)) b) (suc u) [] free_mutex [] (set_here tm (suc u) (value free_mutex)) refl)
+      ∙ store_fits (accesses.Number unsigned_long) p free_mutex refl)
+      (store_so g.t world_now g.begun g.thread g.answer p free_mutex)
+      (λ v w n all. lands_zero g busy vs ob b tm agrees place ty u kw r q waits (set_at tm (suc u) (value free_mutex)) w e (below_set u (suc u) tm tm (value free_mutex) (omega arith) (below_same u tm)) all))
+
+  pub copy_alike : (es : tree.Exprs) (args : List Value) → ty ≡ tree.pointer tree.void → StandAs tm (accesses.Pointer ∷ accesses.Pointer ∷ accesses.Number unsigned_long ∷ []) args u → Ends tree.copy args (lib_nodes place tree.copy es u r)
+  copy_alike es [] e h = elim h [ ]
+  copy_alike es (values.Num n ∷ args) e h = elim (h.0) [ ]
+  copy_alike es (values.Pointer p ∷ []) e h = elim (h.2) [ ]
+  copy_alike es (values.Pointer p ∷ values.Num n ∷ args) e h = elim (h.2.0) [ ]
+  copy_alike es (values.Pointer p ∷ values.Pointer o ∷ []) e h = elim (h.2.2) [ ]
+  copy_alike es (values.Pointer p ∷ values.Pointer o ∷ values.Pointer x ∷ args) e h = elim (h.2.2.0) [ ]
+  copy_alike es (values.Pointer p ∷ values.Pointer o ∷ values.Num n ∷ x ∷ args) e h = elim (h.2.2.2) [ ]
+  copy_alike es (values.Pointer p ∷ values.Pointer o ∷ values.Num n ∷ []) e h =
+      none_alike tree.copy (values.Pointer p ∷ values.Pointer o ∷ values.Num n ∷ []) r tm (record { action = ir.copy_bytes 1 false; places = at_temp u ∷ at_temp (suc u) ∷ []; to = None; temps = suc (suc u) ∷ []; slots = [] }) refl
+      (actions.copy p o (unsigned_abs n.value) 1 false)
+      (action_is place (own g ob tm b) (record { action = ir.copy_bytes 1 false; places = at_temp u ∷ at_temp (suc u) ∷ []; to = None; temps = suc (suc u) ∷ []; slots = [] }) (p ∷ o ∷ []) (values.Num n ∷ [])
+      (one_more_place place (own g ob tm b) (at_temp u) (at_temp (suc u) ∷ []) p (o ∷ []) (at_register place (own g ob tm b) u p h.1)
+      (one_more_place place (own g ob tm b) (at_temp (suc u)) [] o [] (at_register place (own g ob tm b) (suc u) o h.2.1) refl))
+      (one_more_read place (own g ob tm b) (suc (suc u)) [] (values.Num n) [] h.2.2.1 refl))
+      (copy_so g.t world_now g.begun g.thread g.answer p o (unsigned_abs n.value) 1 false)
+      (λ v w k all. lands_value g busy vs ob b tm agrees place ty u kw r q waits (values.Pointer p) tm w (subst (λ z. HasKind (access_of_type z) (values.Pointer p)) (sym e) tt) (below_same u tm) h.1 all)
+
+  -- ---- by the call
+
+  pub library_alike : (which : tree.Lib) (es : tree.Exprs) (args : List Value) → IsLibCall (ctx g.t g.n g.f) which es ty → AreScalars es → Stand tm es args u → Ends which args (lib_nodes place which es u r)
+  library_alike (tree.print pieces) es args h s a = print_alike pieces es args h.1 s a
+  library_alike tree.malloc es args h s a = malloc_alike es args h.1 (stand_as tm (tree.integer unsigned_long ∷ []) es args u h.0 a)
+  library_alike tree.free es args h s a = free_alike es args h.1 (stand_as tm (tree.pointer tree.void ∷ []) es args u h.0 a)
+  library_alike tree.copy es args h s a = copy_alike es args h.1 (stand_as tm (tree.pointer tree.void ∷ tree.pointer tree.void ∷ tree.integer unsigned_long ∷ []) es args u h.0 a)
+  library_alike (tree.start m) es args h s a = start_alike m es args h.2 h.0 (stand_as tm (tree.pointer (tree.integer unsigned_long) ∷ tree.pointer tree.void ∷ []) es args u h.1 a)
+  library_alike tree.join es args h s a = join_alike es args h.1 (stand_as tm (tree.integer unsigned_long ∷ tree.pointer (tree.integer int) ∷ []) es args u h.0 a)
+  library_alike tree.mutex_init es args h s a = init_alike es args h.1 (stand_as tm (tree.pointer tree.mutex ∷ []) es args u h.0 a)
+  library_alike tree.mutex_lock es args h s a = lock_alike es args h.1 (stand_as tm (tree.pointer tree.mutex ∷ []) es args u h.0 a)
+  library_alike tree.mutex_unlock es args h s a = unlock_alike es args h.1 (stand_as tm (tree.pointer tree.mutex ∷ []) es args u h.0 a)
+  library_alike tree.mutex_destroy es args h s a = destroy_alike es args h.1 (stand_as tm (tree.pointer tree.mutex ∷ []) es args u h.0 a)

@@ -1,0 +1,190 @@
+-- What well formed trees say of kinds, and how pointers are reached.
+use Rattle.std.proofs.Common.{◌≡◌, ℕ, ◌⊎◌, inl, inr, List, [], ◌∷◌, Option, Some, None, refl, sym, ap, subst, ◌∙◌}
+use Rattle.ak_words.specs.declared.int_type.IntType.{IntType}
+use Rattle.ak_words.specs.declared.operation.Op.{Op}
+use Rattle.ak_words.specs.declared.operation.Op.TheVariants as ops
+use Rattle.ak_words.specs.IntType.{int, long, unsigned_long}
+use Rattle.block_store.specs.declared.values.Access.{Access}
+use Rattle.block_store.specs.declared.values.Access.TheVariants as accesses
+use Rattle.block_store.specs.declared.values.Value.{Value}
+use Rattle.block_store.specs.declared.values.Value.TheVariants as values
+use Rattle.c_tree.specs.Typed as tree
+use Rattle.c_tree.specs.TypedForm.{IsInteger, IsPointer, IsScalar, Fits, PointsToSized, AreOperands, type_of_result, Converts, HasBits, ArePrinted, Context, AreArguments, IsLibCall}
+use Rattle.c_meaning.specs.Values.{Binary, on_numbers, forward, backward, distance, on_pointers, access_of_type}
+use Rattle.lower_forms.specs.Forms.{Frame, Reach, indexed, register_of, direct_if, indexed_if, pointed}
+use Rattle.lower_turns.proofs.Relation.{HasKind, Points, BinaryFits, numbers, forwards, backwards, distances, comparisons, Joins, no_join, one_join, Joined, not_joined, joined, ConvertFits, to_number, to_pointer, AreScalars}
+use Rattle.lower_turns.proofs.Values.{unmoved}
+use Rattle.ir_meaning.specs.Blocks.{Held, pointer}
+
+-- ---- kinds
+
+pub number_access : (ty : tree.Ty) → IsInteger ty → (s : IntType) × (ty ≡ tree.integer s)
+number_access (tree.integer s) h = (s, refl)
+number_access tree.void h = elim h [ ]
+number_access tree.mutex h = elim h [ ]
+number_access (tree.pointer u) h = elim h [ ]
+number_access (tree.array u n) h = elim h [ ]
+number_access (tree.structure n) h = elim h [ ]
+
+pub pointer_access : (ty : tree.Ty) → IsPointer ty → access_of_type ty ≡ accesses.Pointer
+pointer_access (tree.integer s) h = elim h [ ]
+pointer_access tree.void h = refl
+pointer_access tree.mutex h = refl
+pointer_access (tree.pointer u) h = refl
+pointer_access (tree.array u n) h = refl
+pointer_access (tree.structure n) h = refl
+
+pub pointer_scalar : (ty : tree.Ty) → IsPointer ty → IsScalar ty
+pointer_scalar (tree.integer s) h = elim h [ ]
+pointer_scalar tree.void h = elim h [ ]
+pointer_scalar tree.mutex h = elim h [ ]
+pointer_scalar (tree.pointer u) h = tt
+pointer_scalar (tree.array u n) h = elim h [ ]
+pointer_scalar (tree.structure n) h = elim h [ ]
+
+pub integer_scalar : (ty : tree.Ty) → IsInteger ty → IsScalar ty
+integer_scalar (tree.integer s) h = tt
+integer_scalar tree.void h = elim h [ ]
+integer_scalar tree.mutex h = elim h [ ]
+integer_scalar (tree.pointer u) h = elim h [ ]
+integer_scalar (tree.array u n) h = elim h [ ]
+integer_scalar (tree.structure n) h = elim h [ ]
+
+pub sized_pointer : (structs : List tree.Layout) (ty : tree.Ty) → PointsToSized structs ty → IsPointer ty
+sized_pointer structs (tree.integer s) h = elim h [ ]
+sized_pointer structs tree.void h = elim h [ ]
+sized_pointer structs tree.mutex h = elim h [ ]
+sized_pointer structs (tree.pointer u) h = tt
+sized_pointer structs (tree.array u n) h = elim h [ ]
+sized_pointer structs (tree.structure n) h = elim h [ ]
+
+operands_integers : (op : Op) (a b : tree.Ty) → AreOperands op a b → IsInteger a × IsInteger b
+operands_integers ops.Shl (tree.integer s) (tree.integer u) h = (tt, tt)
+operands_integers ops.Shr (tree.integer s) (tree.integer u) h = (tt, tt)
+operands_integers op (tree.integer s) (tree.integer u) h = (tt, tt)
+operands_integers op a b h = elim h [ ]
+
+numbers_fit : (op : Op) (a b ty : tree.Ty) (x y : IntType) → a ≡ tree.integer x → b ≡ tree.integer y → ty ≡ type_of_result op a → BinaryFits (on_numbers op) (access_of_type a) (access_of_type b) (access_of_type ty)
+numbers_fit op a b ty x y ea eb et =
+    subst (λ z. BinaryFits (on_numbers op) (access_of_type a) (access_of_type b) (access_of_type z)) (sym et)
+    (subst (λ z. BinaryFits (on_numbers op) (access_of_type z) (access_of_type b) (access_of_type (type_of_result op z))) (sym ea)
+    (subst (λ z. BinaryFits (on_numbers op) (accesses.Number x) (access_of_type z) (access_of_type (type_of_result op (tree.integer x)))) (sym eb) (numbers op x y)))
+
+pub operands_fit : (op : Op) (a b ty : tree.Ty) → AreOperands op a b → ty ≡ type_of_result op a → BinaryFits (on_numbers op) (access_of_type a) (access_of_type b) (access_of_type ty)
+operands_fit op a b ty h e =
+    let i = operands_integers op a b h in
+    let x = number_access a i.0 in
+    let y = number_access b i.1 in
+    numbers_fit op a b ty x.0 y.0 x.1 y.1 e
+
+pub operand_scalars : (op : Op) (a b : tree.Ty) → AreOperands op a b → IsScalar a × IsScalar b
+operand_scalars op a b h = let i = operands_integers op a b h in (integer_scalar a i.0, integer_scalar b i.1)
+
+pub forward_fits : (size : ℕ) (a b ty : tree.Ty) → IsPointer a → IsInteger b → ty ≡ a → BinaryFits (forward size) (access_of_type a) (access_of_type b) (access_of_type ty)
+forward_fits size (tree.pointer u) (tree.integer s) ty h k e = subst (λ z. BinaryFits (forward size) accesses.Pointer (accesses.Number s) (access_of_type z)) (sym e) (forwards size s)
+forward_fits size (tree.pointer u) b ty h k e = elim k [ ]
+forward_fits size a b ty h k e = elim h [ ]
+
+pub backward_fits : (size : ℕ) (a b ty : tree.Ty) → IsPointer a → IsInteger b → ty ≡ a → BinaryFits (backward size) (access_of_type a) (access_of_type b) (access_of_type ty)
+backward_fits size (tree.pointer u) (tree.integer s) ty h k e = subst (λ z. BinaryFits (backward size) accesses.Pointer (accesses.Number s) (access_of_type z)) (sym e) (backwards size s)
+backward_fits size (tree.pointer u) b ty h k e = elim k [ ]
+backward_fits size a b ty h k e = elim h [ ]
+
+pub distance_fits : (size : ℕ) (a b ty : tree.Ty) → IsPointer a → IsPointer b → ty ≡ tree.integer long → BinaryFits (distance size) (access_of_type a) (access_of_type b) (access_of_type ty)
+distance_fits size (tree.pointer u) (tree.pointer v) ty h k e = subst (λ z. BinaryFits (distance size) accesses.Pointer accesses.Pointer (access_of_type z)) (sym e) (distances size)
+distance_fits size (tree.pointer u) b ty h k e = elim k [ ]
+distance_fits size a b ty h k e = elim h [ ]
+
+pub compare_fits : (op : Op) (a b ty : tree.Ty) → IsPointer a → IsPointer b → ty ≡ tree.integer int → BinaryFits (on_pointers op) (access_of_type a) (access_of_type b) (access_of_type ty)
+compare_fits op (tree.pointer u) (tree.pointer v) ty h k e = subst (λ z. BinaryFits (on_pointers op) accesses.Pointer accesses.Pointer (access_of_type z)) (sym e) (comparisons op)
+compare_fits op (tree.pointer u) b ty h k e = elim k [ ]
+compare_fits op a b ty h k e = elim h [ ]
+
+pub convert_fits : (a b : tree.Ty) → Converts a b → IsScalar b → ConvertFits a b
+convert_fits (tree.integer x) (tree.integer y) h s = to_number x y
+convert_fits (tree.pointer x) (tree.pointer y) h s = to_pointer x y
+convert_fits a tree.void h s = elim s [ ]
+convert_fits a b h s = elim h [ ]
+
+pub convert_scalar : (a b : tree.Ty) → ConvertFits a b → IsScalar a
+convert_scalar _ _ (to_number x y) = tt
+convert_scalar _ _ (to_pointer x y) = tt
+
+-- a value that fits where one of another type is wanted is of the same kind
+pub fits_access : (a b : tree.Ty) → Fits a b → access_of_type a ≡ access_of_type b
+fits_access (tree.integer x) (tree.integer y) h = ap accesses.Number h
+fits_access (tree.pointer x) (tree.pointer y) h = refl
+fits_access (tree.structure m) (tree.structure n) h = refl
+fits_access a b h = elim h [ ]
+
+pub fits_scalar : (a b : tree.Ty) → Fits a b → IsScalar b → IsScalar a
+fits_scalar (tree.integer x) (tree.integer y) h s = tt
+fits_scalar (tree.pointer x) (tree.pointer y) h s = tt
+fits_scalar (tree.structure m) (tree.structure n) h s = elim s [ ]
+fits_scalar a b h s = elim h [ ]
+
+-- ---- arguments
+
+printed_scalar : (bits : ℕ) (ty : tree.Ty) → HasBits bits ty → IsScalar ty
+printed_scalar bits (tree.integer s) h = tt
+printed_scalar bits ty h = elim h [ ]
+
+pub printed_scalars : (pieces : List tree.Piece) (es : tree.Exprs) → ArePrinted pieces es → AreScalars es
+printed_scalars [] tree.no_exprs h = tt
+printed_scalars [] (tree.more_exprs e es) h = elim h [ ]
+printed_scalars (tree.bytes all ∷ pieces) es h = printed_scalars pieces es h
+printed_scalars (tree.signed bits ∷ pieces) tree.no_exprs h = elim h [ ]
+printed_scalars (tree.unsigned bits ∷ pieces) tree.no_exprs h = elim h [ ]
+printed_scalars (tree.hexadecimal bits ∷ pieces) tree.no_exprs h = elim h [ ]
+printed_scalars (tree.character ∷ pieces) tree.no_exprs h = elim h [ ]
+printed_scalars (tree.text ∷ pieces) tree.no_exprs h = elim h [ ]
+printed_scalars (tree.signed bits ∷ pieces) (tree.more_exprs e es) h = (printed_scalar bits (tree.type_of e) h.0, printed_scalars pieces es h.1)
+printed_scalars (tree.unsigned bits ∷ pieces) (tree.more_exprs e es) h = (printed_scalar bits (tree.type_of e) h.0, printed_scalars pieces es h.1)
+printed_scalars (tree.hexadecimal bits ∷ pieces) (tree.more_exprs e es) h = (printed_scalar bits (tree.type_of e) h.0, printed_scalars pieces es h.1)
+printed_scalars (tree.character ∷ pieces) (tree.more_exprs e es) h = (printed_scalar 32 (tree.type_of e) h.0, printed_scalars pieces es h.1)
+printed_scalars (tree.text ∷ pieces) (tree.more_exprs e es) h = (pointer_scalar (tree.type_of e) h.0, printed_scalars pieces es h.1)
+
+-- each of these types is a number's or a pointer's
+abbrev pub AllScalar : List tree.Ty → Type 0
+AllScalar [] = Unit {0}
+AllScalar (t ∷ ts) = IsScalar t × AllScalar ts
+
+pub argument_scalars : (ts : List tree.Ty) (es : tree.Exprs) → AllScalar ts → AreArguments ts es → AreScalars es
+argument_scalars [] tree.no_exprs s h = tt
+argument_scalars [] (tree.more_exprs e es) s h = elim h [ ]
+argument_scalars (t ∷ ts) tree.no_exprs s h = elim h [ ]
+argument_scalars (t ∷ ts) (tree.more_exprs e es) s h = (fits_scalar (tree.type_of e) t h.0 s.0, argument_scalars ts es s.1 h.1)
+
+pub lib_scalars : (c : Context) (which : tree.Lib) (es : tree.Exprs) (ty : tree.Ty) → IsLibCall c which es ty → AreScalars es
+lib_scalars c (tree.print pieces) es ty h = printed_scalars pieces es h.0
+lib_scalars c tree.malloc es ty h = argument_scalars (tree.integer unsigned_long ∷ []) es (tt, tt) h.0
+lib_scalars c tree.free es ty h = argument_scalars (tree.pointer tree.void ∷ []) es (tt, tt) h.0
+lib_scalars c tree.copy es ty h = argument_scalars (tree.pointer tree.void ∷ tree.pointer tree.void ∷ tree.integer unsigned_long ∷ []) es (tt, (tt, (tt, tt))) h.0
+lib_scalars c (tree.start f) es ty h = argument_scalars (tree.pointer (tree.integer unsigned_long) ∷ tree.pointer tree.void ∷ []) es (tt, (tt, tt)) h.1
+lib_scalars c tree.join es ty h = argument_scalars (tree.integer unsigned_long ∷ tree.pointer (tree.integer int) ∷ []) es (tt, (tt, tt)) h.0
+lib_scalars c tree.mutex_init es ty h = argument_scalars (tree.pointer tree.mutex ∷ []) es (tt, tt) h.0
+lib_scalars c tree.mutex_lock es ty h = argument_scalars (tree.pointer tree.mutex ∷ []) es (tt, tt) h.0
+lib_scalars c tree.mutex_unlock es ty h = argument_scalars (tree.pointer tree.mutex ∷ []) es (tt, tt) h.0
+lib_scalars c tree.mutex_destroy es ty h = argument_scalars (tree.pointer tree.mutex ∷ []) es (tt, tt) h.0
+
+-- ---- how pointers are reached
+
+pub pointed_is : (fr : Frame) (e : tree.Expr) → (pointed fr e ≡ direct_if (register_of fr e)) ⊎ (register_of fr e ≡ None)
+pointed_is fr (tree.at place ty (tree.pointer_add p n)) = inr refl
+pointed_is fr (tree.at place ty node) = inl refl
+
+join_at : (size : ℕ) (rch : Reach) (o : Option ℕ) → (rch ≡ direct_if o) ⊎ (o ≡ None) → Joins (forward size) rch (indexed_if size o)
+join_at size rch None e = no_join (forward size) rch
+join_at size rch (Some base) (inl e) = subst (λ r. Joins (forward size) r (indexed base size 0)) (sym e) (one_join base size)
+join_at size rch (Some base) (inr e) = absurd cc
+
+-- a sum is reached by how its left operand is
+pub sum_joins : (fr : Frame) (size : ℕ) (p : tree.Expr) → Joins (forward size) (pointed fr p) (indexed_if size (register_of fr p))
+sum_joins fr size p = join_at size (pointed fr p) (register_of fr p) (pointed_is fr p)
+
+-- the same once the left operand is there
+pub joins_now : (tm : ℕ → Held) (u : ℕ) {op : Binary} {lh rh how : Access} {lr rch : Reach} (v : Value) → Joins op lr rch → BinaryFits op lh rh how → HasKind lh v → Points tm lr u v → Joined tm u op v rch
+joins_now tm u v (no_join op r) fits kind points = not_joined op v
+joins_now tm u (values.Num n) (one_join base size) (forwards _ s) kind points = elim kind [ ]
+joins_now tm u (values.Pointer p) (one_join base size) (forwards _ s) kind points =
+    joined base size p points.below (points.holds ∙ ap pointer (unmoved points.start p points.moved))

@@ -1,0 +1,393 @@
+-- When a thread of the code stands where a thread of the source does.
+use Rattle.std.proofs.Common.{◌≡◌, ℕ, suc, ◌<◌, ◌≤◌, ◌^◌, ◌*ℤ◌, ℤ, pos, Bool, true, false, List, [], ◌∷◌, ◌++◌, length, ◌==◌, ◌⊎◌, Option, Some, None, Ok}
+use Rattle.std.specs.Prelude.{slice_get}
+use Rattle.ak_words.specs.declared.int_type.IntType.{IntType}
+use Rattle.ak_words.specs.declared.number.Num.{Num}
+use Rattle.ak_words.specs.declared.operation.Op.{Op}
+use Rattle.ak_words.specs.Op.{result_type}
+use Rattle.ak_words.specs.IntType.{int, long}
+use Rattle.block_store.specs.declared.values.Access.{Access}
+use Rattle.block_store.specs.declared.values.Access.TheVariants as accesses
+use Rattle.block_store.specs.declared.values.Ptr.{Ptr}
+use Rattle.block_store.specs.declared.values.Ptr.TheVariants.{To}
+use Rattle.block_store.specs.declared.values.Value.{Value}
+use Rattle.block_store.specs.declared.values.Value.TheVariants as values
+use Rattle.c_tree.specs.Typed as tree
+use Rattle.c_tree.specs.TypedForm.{IsScalar, IsNth, CanUpdate, CanStart, signature_of, Context, Inside, IsTyped, AreTyped, IfTyped, AreArguments, IsLibCall, IsWell, AreWell, context_of}
+use Rattle.c_tree.specs.TypedLayout.{size_in}
+use Rattle.c_meaning.specs.Values.{Binary, converts, negates, tests, selects, on_numbers, forward, backward, distance, on_pointers, access_of_type}
+use Rattle.c_meaning.specs.Control as source
+use Rattle.c_meaning.specs.Control.{Variable, Loop, Update, Callee, function, library, Todo, Use, Wait, wanted, dropped, Caller, Control}
+use Rattle.c_meaning.specs.Turns.{update_of, variable_or_unset}
+use Rattle.struct_ir.specs.Nodes as ir
+use Rattle.struct_ir.specs.Nodes.{Calc, Nodes, no_nodes, more_nodes}
+use Rattle.block_store.specs.Actions as actions
+use Rattle.block_store.specs.Actions.{World}
+use Rattle.block_store.specs.Blocks.{Blocks}
+use Rattle.block_store.specs.Runs as runs
+use Rattle.block_store.specs.Runs.{Turn}
+use Rattle.std.specs.List.{AllByRecursion}
+use Rattle.ak_words.specs.Num.{num}
+use Rattle.ak_words.specs.declared.rule.Rule.{Rule}
+use Rattle.struct_ir.specs.Threads.{Thread}
+use Rattle.struct_ir.specs.Structured as position
+use Rattle.struct_ir.specs.Structured.{Position, then_}
+use Rattle.struct_ir.specs.Machine.{Point}
+use Rattle.ir_meaning.specs.Blocks as code
+use Rattle.ir_meaning.specs.Blocks.{Held, Own, value, number, pointer}
+use Rattle.ir_meaning.specs.Threads.{further, moved_if}
+use Rattle.lower_forms.specs.Counts.{greatest, greatest_row, count_if}
+use Rattle.lower_forms.specs.Forms as forms
+use Rattle.lower_forms.specs.Forms.{Frame, home, first_temp, sets, acts, branches, sets_int, sets_truth, Reach, found, direct, indexed, reached, behind, at_temp, member_reach, reach, member_nodes, temps_of, lib_nodes, expr_nodes, place_nodes, args_nodes, ends, with_home, sized_copy, computes, update_at, test_nodes, stmt_nodes, row_nodes}
+use Rattle.lower_forms.specs.Programs.{frame_of, registers_of, last_nodes}
+
+-- ---- values and registers
+
+-- a value is of the kind that an access takes
+abbrev pub HasKind : Access → Value → Type 0
+HasKind (accesses.Number s) (values.Num n) = n.ty ≡ s
+HasKind (accesses.Number s) (values.Pointer p) = ⊥
+HasKind accesses.Pointer (values.Num n) = ⊥
+HasKind accesses.Pointer (values.Pointer p) = Unit {0}
+
+-- the registers below t are the same
+abbrev pub Below : (t : ℕ) → (a b : ℕ → Held) → Type 0
+Below t a b = (i : ℕ) → i < t → b i ≡ a i
+
+-- an access leads from p to q, so many bytes further on, or behind a member's offset
+abbrev pub Further : (p : Ptr) → (by : ℤ) → (q : Ptr) → Type 0
+Further p by q = (place : ℕ) → further place by p ≡ Ok q
+
+abbrev pub Moved : (offset : ℕ) → (p q : Ptr) → Type 0
+Moved offset p q = (place : ℕ) → moved_if place offset p ≡ Ok q
+
+pub record DirectTo (tm : ℕ → Held) (base offset t : ℕ) (p : Ptr) : Type 0 where
+  pub below : base < t
+  pub start : Ptr
+  pub holds : tm base ≡ pointer start
+  pub moved : Moved offset start p
+
+pub record IndexedTo (tm : ℕ → Held) (base scale offset t : ℕ) (p : Ptr) : Type 0 where
+  pub below : base < t
+  pub start : Ptr
+  pub index : Num
+  pub element : Ptr
+  pub holds : tm base ≡ pointer start
+  pub by : tm (suc t) ≡ number index
+  pub further : Further start (index.value *ℤ pos scale) element
+  pub moved : Moved offset element p
+
+-- the pointer p, which is in the register t, is where this place leads
+abbrev pub Reaches : (ℕ → Held) → Reach → (t : ℕ) → Ptr → Type 0
+Reaches tm found t p = tm t ≡ pointer p
+Reaches tm (direct base offset) t p = DirectTo tm base offset t p
+Reaches tm (indexed base scale offset) t p = IndexedTo tm base scale offset t p
+
+abbrev pub Points : (ℕ → Held) → Reach → (t : ℕ) → Value → Type 0
+Points tm r t (values.Num n) = Unit {0}
+Points tm r t (values.Pointer p) = Reaches tm r t p
+
+-- ---- locals
+
+pub data InRegister (how : Access) : Variable → Held → Type 0 where
+  no_value : InRegister how source.unset code.unset
+  one_value : (v : Value) → HasKind how v → InRegister how (source.holds v) (value v)
+
+pub data InBlock : Variable → Option ℕ → Type 0 where
+  no_block : InBlock source.unset None
+  one_block : (b : ℕ) → InBlock (source.lies b) (Some b)
+
+-- what the local of this number holds
+abbrev pub held_in : List Variable → ℕ → Variable
+held_in vs i = variable_or_unset (slice_get vs i)
+
+pub record Agrees (fr : Frame) (locals : List tree.Local) (vs : List Variable) (tm : ℕ → Held) (ob : ℕ → Option ℕ) : Type 0 where
+  pub count : length vs ≡ length locals
+  pub register : (i : ℕ) (l : tree.Local) → slice_get locals i ≡ Some l → home fr i ≡ None → InRegister (access_of_type l.ty) (held_in vs i) (tm i)
+  pub block : (i k : ℕ) → home fr i ≡ Some k → InBlock (held_in vs i) (ob k)
+
+-- ---- operators
+
+-- the kinds of an operator's operands, and of its result
+pub data BinaryFits : Binary → (left right result : Access) → Type 0 where
+  numbers : (op : Op) (a b : IntType) → BinaryFits (on_numbers op) (accesses.Number a) (accesses.Number b) (accesses.Number (result_type op a))
+  forwards : (size : ℕ) (s : IntType) → BinaryFits (forward size) accesses.Pointer (accesses.Number s) accesses.Pointer
+  backwards : (size : ℕ) (s : IntType) → BinaryFits (backward size) accesses.Pointer (accesses.Number s) accesses.Pointer
+  distances : (size : ℕ) → BinaryFits (distance size) accesses.Pointer accesses.Pointer (accesses.Number long)
+  comparisons : (op : Op) → BinaryFits (on_pointers op) accesses.Pointer accesses.Pointer (accesses.Number int)
+
+-- what a register is set to
+abbrev pub calc_of : Binary → IntType → (a b : ℕ) → Calc
+calc_of (on_numbers op) s a b = ir.apply op s a b
+calc_of (forward size) s a b = ir.pointer_add a b size
+calc_of (backward size) s a b = ir.pointer_sub a b size
+calc_of (distance size) s a b = ir.pointer_diff a b size
+calc_of (on_pointers op) s a b = ir.pointer_compare op a b
+
+-- how the sum is reached, by how its left operand is
+pub data Joins : Binary → Reach → Reach → Type 0 where
+  no_join : (op : Binary) (r : Reach) → Joins op r found
+  one_join : (base size : ℕ) → Joins (forward size) (direct base 0) (indexed base size 0)
+
+-- the same once the left operand is there
+pub data Joined (tm : ℕ → Held) (t : ℕ) : Binary → Value → Reach → Type 0 where
+  not_joined : (op : Binary) (v : Value) → Joined tm t op v found
+  joined : (base size : ℕ) (a : Ptr) → base < t → tm base ≡ pointer a → Joined tm t (forward size) (values.Pointer a) (indexed base size 0)
+
+-- a conversion of a number to a number, and of a pointer to a pointer
+pub data ConvertFits : (from to : tree.Ty) → Type 0 where
+  to_number : (a b : IntType) → ConvertFits (tree.integer a) (tree.integer b)
+  to_pointer : (a b : tree.Ty) → ConvertFits (tree.pointer a) (tree.pointer b)
+
+-- ---- a program
+
+-- main has a register, as each main has of which a thread does more than end
+abbrev pub Calls : tree.Typed → Type 0
+Calls t = (f : tree.Func) → slice_get t.funcs t.main ≡ Some f → 0 < registers_of f
+
+-- so many nodes are there only where that is so
+abbrev pub Free : tree.Typed → ℕ → Type 0
+Free t m = 0 < m → Calls t
+
+-- the stack objects of these locals
+abbrev pub homes_of : Frame → List ℕ → List ℕ
+homes_of fr [] = []
+homes_of fr (i ∷ is) = with_home (home fr i) (homes_of fr is)
+
+-- what follows the arguments of a call, whose value comes to t, or is dropped
+abbrev pub after_args : (place : ℕ) → Callee → tree.Exprs → (t : ℕ) → Nodes → Nodes
+after_args place (function m) all t r = forms.calls place (Some t) m (temps_of all t) (sets place t (ir.copy t) r)
+after_args place (library which) all t r = lib_nodes place which all t r
+
+abbrev pub dropped_args : (place : ℕ) → Callee → tree.Exprs → (t : ℕ) → Nodes → Nodes
+dropped_args place (function m) all t r = forms.calls place None m (temps_of all t) r
+dropped_args place (library which) all t r = lib_nodes place which all t r
+
+-- a call is well formed, and its value has this type
+abbrev pub CallIs : Context → Callee → tree.Exprs → tree.Ty → Type 0
+CallIs c (function m) all ty = IsNth c.funcs m (λ s. AreArguments s.params all × (ty ≡ s.result))
+CallIs c (library which) all ty = IsLibCall c which all ty
+
+-- the arguments whose values are known stand in the registers from t0 up to t
+pub data Taken (tm : ℕ → Held) (all : tree.Exprs) (t0 : ℕ) : tree.Exprs → List Value → ℕ → Type 0 where
+  none_yet : Taken tm all t0 all [] t0
+  one_more : {e : tree.Expr} {rest : tree.Exprs} {before : List Value} {t : ℕ} (v : Value) → HasKind (access_of_type (tree.type_of e)) v → tm t ≡ value v
+      → Taken tm all t0 (tree.more_exprs e rest) before t → Taken tm all t0 rest (before ++ v ∷ []) (suc t)
+
+-- each is a number or a pointer
+abbrev pub AreScalars : tree.Exprs → Type 0
+AreScalars tree.no_exprs = Unit {0}
+AreScalars (tree.more_exprs e es) = IsScalar (tree.type_of e) × AreScalars es
+
+-- an object that lies in a block
+abbrev pub IsPlace : Frame → tree.ExprNode → Type 0
+IsPlace fr (tree.literal i) = Unit {0}
+IsPlace fr (tree.global i) = Unit {0}
+IsPlace fr (tree.local i) = (k : ℕ) × (home fr i ≡ Some k)
+IsPlace fr (tree.deref e) = Unit {0}
+IsPlace fr (tree.member e i) = Unit {0}
+IsPlace fr node = ⊥
+
+-- the values of these arguments stand in the registers from t on
+abbrev pub Stand : (ℕ → Held) → tree.Exprs → List Value → (t : ℕ) → Type 0
+Stand tm tree.no_exprs [] t = Unit {0}
+Stand tm tree.no_exprs (v ∷ vs) t = ⊥
+Stand tm (tree.more_exprs e es) [] t = ⊥
+Stand tm (tree.more_exprs e es) (v ∷ vs) t = HasKind (access_of_type (tree.type_of e)) v × (tm t ≡ value v) × Stand tm es vs (suc t)
+
+-- ---- work lists and positions, in a call of the function f, which has the number n
+
+module _ (t : tree.Typed) (n : ℕ) (f : tree.Func) where
+  abbrev pub fr : Frame
+  fr = frame_of t.structs f
+
+  abbrev pub ctx : Context
+  ctx = context_of t f
+
+  abbrev pub inside : Inside
+  inside = record { context = context_of t f; params = f.params; result = f.result }
+
+  abbrev pub first : ℕ
+  first = first_temp (frame_of t.structs f)
+
+  pub record LoopIs (l : Loop) : Type 0 where
+    pub condition : IfTyped ctx IsScalar l.condition
+    pub step : IsWell inside false l.step
+    pub body : IsWell inside true l.body
+    pub free_condition : Free t (count_if l.condition)
+    pub free_step : Free t (greatest l.step)
+    pub free_body : Free t (greatest l.body)
+
+  abbrev pub body_nodes : Loop → Nodes
+  body_nodes l = test_nodes fr l.condition (stmt_nodes fr l.body [] no_nodes)
+
+  abbrev pub latch_nodes : Loop → Nodes
+  latch_nodes l = stmt_nodes fr l.step [] no_nodes
+
+  -- what is left to do, the stack objects that end where the loop around is left, the nodes that do it, and what is behind these
+  pub data AtS : Bool → Todo → List ℕ → Nodes → Position → Type 0 where
+    at_leaves : AtS false source.leaves [] (last_nodes (n == t.main) (registers_of f)) position.done
+    at_row : {io : Bool} {k : Todo} {left : List ℕ} {r : Nodes} {q : Position} (rest : tree.Stmts) → AreWell inside io rest → Free t (greatest_row rest)
+        → AtS io k left r q → AtS io (source.then_row rest k) left (row_nodes fr rest left r) q
+    at_end : {io : Bool} {k : Todo} {left : List ℕ} {r : Nodes} {q : Position} (place : ℕ) (is : List ℕ)
+        → AtS io k left r q → AtS io (source.then_end is k) (homes_of fr is ++ left) (ends place (homes_of fr is) r) q
+    at_loop : {io : Bool} {k : Todo} {left : List ℕ} {r : Nodes} {q : Position} (place : ℕ) (around : List ℕ) (l : Loop) → LoopIs l
+        → AtS io k left r q → AtS false (source.then_loop l k) around (more_nodes (ir.loop place (body_nodes l) (latch_nodes l)) r) q
+    at_body : {io : Bool} {k : Todo} {left : List ℕ} {r : Nodes} {q : Position} (l : Loop) → LoopIs l
+        → AtS io k left r q → AtS true (source.in_body l k) [] no_nodes (position.in_body (body_nodes l) (latch_nodes l) (then_ r q))
+    at_step : {io : Bool} {k : Todo} {left : List ℕ} {r : Nodes} {q : Position} (l : Loop) → LoopIs l
+        → AtS io k left r q → AtS false (source.in_step l k) [] no_nodes (position.in_latch (body_nodes l) (latch_nodes l) (then_ r q))
+    at_inner : {io : Bool} {k : Todo} {left : List ℕ} {r : Nodes} {q : Position} → AtS io k left r q → AtS io k left no_nodes (then_ r q)
+    at_int : {io : Bool} {k : Todo} {left : List ℕ} {r : Nodes} {q : Position} (place to z : ℕ) → first ≤ to → AtS io k left r q → AtS io k left (sets_int place to z r) q
+
+  -- what a value of this kind in the register u is used for, how what it points to is reached, the nodes that do it, and what is behind
+  -- these, where the registers below u and the stack objects are these
+  pub data AtE (ob : ℕ → Option ℕ) (tm : ℕ → Held) : Use → ℕ → Access → Reach → Nodes → Position → Type 0 where
+    at_first : {k : Use} {u : ℕ} {how : Access} {rch : Reach} {r : Nodes} {q : Position} (place : ℕ) (op : Binary) (s : IntType) (right : tree.Expr) (lh : Access) (lrch : Reach)
+        → IsTyped ctx right → IsScalar (tree.type_of right) → BinaryFits op lh (access_of_type (tree.type_of right)) how → Joins op lrch rch
+        → AtE ob tm k u how rch r q → AtE ob tm (source.first_of place op right k) u lh lrch (expr_nodes fr right (suc u) (sets place u (calc_of op s u (suc u)) r)) q
+    at_second : {k : Use} {u : ℕ} {how : Access} {rch : Reach} {r : Nodes} {q : Position} (place : ℕ) (op : Binary) (s : IntType) (left : Value) (lh rh : Access) (rrch : Reach)
+        → BinaryFits op lh rh how → HasKind lh left → tm u ≡ value left → Joined tm u op left rch
+        → AtE ob tm k u how rch r q → AtE ob tm (source.second_of place op left k) (suc u) rh rrch (sets place u (calc_of op s u (suc u)) r) q
+    at_convert : {k : Use} {u : ℕ} {rch : Reach} {r : Nodes} {q : Position} (place : ℕ) (from to : tree.Ty) → ConvertFits from to
+        → AtE ob tm k u (access_of_type to) rch r q → AtE ob tm (source.only_of place (converts to) k) u (access_of_type from) rch (forms.converts place to u r) q
+    at_not : {k : Use} {u : ℕ} {r : Nodes} {q : Position} (place : ℕ) (lh : Access) (rch : Reach)
+        → AtE ob tm k u (accesses.Number int) found r q → AtE ob tm (source.only_of place negates k) u lh rch (sets_truth place u 0 1 r) q
+    at_test : {k : Use} {u : ℕ} {r : Nodes} {q : Position} (place : ℕ) (rch : Reach)
+        → AtE ob tm k u (accesses.Number int) found r q → AtE ob tm (source.only_of place tests k) u accesses.Pointer rch (sets place u (ir.pointer_test u) r) q
+    at_member : {k : Use} {u : ℕ} {r : Nodes} {q : Position} (place offset : ℕ) (rch : Reach) → offset < 2 ^ 64
+        → AtE ob tm k u accesses.Pointer (member_reach offset rch) r q
+        → AtE ob tm (source.only_of place (selects offset) k) u accesses.Pointer rch (member_nodes place offset (behind rch u) u r) q
+    at_read : {k : Use} {u : ℕ} {r : Nodes} {q : Position} (place : ℕ) (how : Access) (rch : Reach)
+        → AtE ob tm k u how found r q → AtE ob tm (source.place_read place how k) u accesses.Pointer rch (acts place (ir.load how) (reached rch u ∷ []) (Some u) [] r) q
+    at_and : {k : Use} {u : ℕ} {r : Nodes} {q : Position} (place : ℕ) (right : tree.Expr) (lh : Access) (rch : Reach) → IsTyped ctx right → IsScalar (tree.type_of right)
+        → AtE ob tm k u (accesses.Number int) found r q
+        → AtE ob tm (source.first_test place false right k) u lh rch
+        (branches place u (expr_nodes fr right u (sets_truth (tree.place_of right) u 1 0 no_nodes)) (sets_int place u 0 no_nodes) r) q
+    at_or : {k : Use} {u : ℕ} {r : Nodes} {q : Position} (place : ℕ) (right : tree.Expr) (lh : Access) (rch : Reach) → IsTyped ctx right → IsScalar (tree.type_of right)
+        → AtE ob tm k u (accesses.Number int) found r q
+        → AtE ob tm (source.first_test place true right k) u lh rch
+        (branches place u (sets_int place u 1 no_nodes) (expr_nodes fr right u (sets_truth (tree.place_of right) u 1 0 no_nodes)) r) q
+    at_second_test : {k : Use} {u : ℕ} {r : Nodes} {q : Position} (place : ℕ) (lh : Access) (rch : Reach)
+        → AtE ob tm k u (accesses.Number int) found r q → AtE ob tm (source.second_test place k) u lh rch (sets_truth place u 1 0 r) q
+    at_choice : {k : Use} {u : ℕ} {how : Access} {r : Nodes} {q : Position} (place : ℕ) (one other : tree.Expr) (lh : Access) (rch : Reach)
+        → IsTyped ctx one → IsScalar (tree.type_of one) → access_of_type (tree.type_of one) ≡ how → IsTyped ctx other → IsScalar (tree.type_of other) → access_of_type (tree.type_of other) ≡ how
+        → AtE ob tm k u how found r q
+        → AtE ob tm (source.choice place one other k) u lh rch (branches place u (expr_nodes fr one u no_nodes) (expr_nodes fr other u no_nodes) r) q
+    at_wanted : {k : Use} {u : ℕ} {r : Nodes} {q : Position} (place : ℕ) (callee : Callee) (all : tree.Exprs) (e : tree.Expr) (rest : tree.Exprs) (before : List Value) (v : ℕ) (ty : tree.Ty) (rch : Reach)
+        → AreTyped ctx rest → AreScalars rest → CallIs ctx callee all ty → AreScalars all → IsScalar ty → Taken tm all u (tree.more_exprs e rest) before v → first ≤ u
+        → AtE ob tm k u (access_of_type ty) found r q
+        → AtE ob tm (source.argument place callee before rest (wanted place k)) v (access_of_type (tree.type_of e)) rch (args_nodes fr rest (suc v) (after_args place callee all u r)) q
+    at_dropped : {io : Bool} {k : Todo} {left : List ℕ} {u : ℕ} {r : Nodes} {q : Position} (place : ℕ) (callee : Callee) (all : tree.Exprs) (e : tree.Expr) (rest : tree.Exprs) (before : List Value) (v : ℕ) (ty : tree.Ty) (rch : Reach)
+        → AreTyped ctx rest → AreScalars rest → CallIs ctx callee all ty → AreScalars all → Taken tm all u (tree.more_exprs e rest) before v → first ≤ u
+        → AtS io k left r q
+        → AtE ob tm (source.argument place callee before rest (dropped k)) v (access_of_type (tree.type_of e)) rch (args_nodes fr rest (suc v) (dropped_args place callee all u r)) q
+    at_local : {io : Bool} {k : Todo} {left : List ℕ} {r : Nodes} {q : Position} (place i : ℕ) (l : tree.Local) (rch : Reach) → slice_get f.locals i ≡ Some l → home fr i ≡ None
+        → AtS io k left r q → AtE ob tm (source.to_local i k) first (access_of_type l.ty) rch (sets place i (ir.copy first) r) q
+    at_left : {io : Bool} {k : Todo} {left : List ℕ} {r : Nodes} {q : Position} (place : ℕ) (right : tree.Expr) (how : Access) (rch : Reach)
+        → IsTyped ctx right → IsScalar (tree.type_of right) → access_of_type (tree.type_of right) ≡ how
+        → AtS io k left r q
+        → AtE ob tm (source.left_place place right k) first accesses.Pointer rch
+        (expr_nodes fr right (behind rch first) (acts place (ir.store how) (reached rch first ∷ []) None (behind rch first ∷ []) r)) q
+    at_place : {io : Bool} {k : Todo} {left : List ℕ} {r : Nodes} {q : Position} (place : ℕ) (to : Ptr) (how : Access) (via rch : Reach) → Reaches tm via first to
+        → AtS io k left r q
+        → AtE ob tm (source.to_place place (values.Pointer to) k) (behind via first) how rch (acts place (ir.store how) (reached via first ∷ []) None (behind via first ∷ []) r) q
+    at_block : {io : Bool} {k : Todo} {left : List ℕ} {r : Nodes} {q : Position} (place i object b : ℕ) (how : Access) (rch : Reach) → home fr i ≡ Some object → i < first → ob object ≡ Some b
+        → AtS io k left r q
+        → AtE ob tm (source.to_place place (values.Pointer (To b 0)) k) first how rch (sets place i (ir.object object) (acts place (ir.store how) (at_temp i ∷ []) None (first ∷ []) r)) q
+    at_struct_left : {io : Bool} {k : Todo} {left : List ℕ} {r : Nodes} {q : Position} (place : ℕ) (ty : tree.Ty) (right : tree.Expr) (rch : Reach)
+        → IsTyped ctx right → IsPlace fr (tree.node_of right) → size_in t.structs ty < 2 ^ 64
+        → AtS io k left r q
+        → AtE ob tm (source.struct_left place ty right k) first accesses.Pointer rch
+        (place_nodes fr right (behind rch first) (sized_copy t.structs place ty (reached rch first) (reached (reach fr right) (behind rch first)) (behind (reach fr right) (behind rch first)) r)) q
+    at_struct_right : {io : Bool} {k : Todo} {left : List ℕ} {r : Nodes} {q : Position} (place : ℕ) (ty : tree.Ty) (to : Ptr) (via rch : Reach) → Reaches tm via first to → size_in t.structs ty < 2 ^ 64
+        → AtS io k left r q
+        → AtE ob tm (source.struct_right place ty (values.Pointer to) k) (behind via first) accesses.Pointer rch
+        (sized_copy t.structs place ty (reached via first) (reached rch (behind via first)) (behind rch (behind via first)) r) q
+    at_update_left : {io : Bool} {k : Todo} {left : List ℕ} {r : Nodes} {q : Position} (place : ℕ) (a right : tree.Expr) (op : Op) (rch : Reach)
+        → IsTyped ctx right → IsScalar (tree.type_of right) → CanUpdate t.structs op (tree.type_of a) (tree.type_of right)
+        → AtS io k left r q
+        → AtE ob tm (source.update_left (update_of place a op) right k) first accesses.Pointer rch
+        (expr_nodes fr right (behind rch first) (update_at fr place (behind rch first) op (reached rch first) a right r)) q
+    at_update_right : {io : Bool} {k : Todo} {left : List ℕ} {r : Nodes} {q : Position} (place : ℕ) (a right : tree.Expr) (op : Op) (to : Ptr) (via rch : Reach) → Reaches tm via first to
+        → CanUpdate t.structs op (tree.type_of a) (tree.type_of right)
+        → AtS io k left r q
+        → AtE ob tm (source.update_right (update_of place a op) (values.Pointer to) k) (behind via first) (access_of_type (tree.type_of right)) rch
+        (update_at fr place (behind via first) op (reached via first) a right r) q
+    at_update_read : {io : Bool} {k : Todo} {left : List ℕ} {r : Nodes} {q : Position} (place : ℕ) (a right : tree.Expr) (op : Op) (to : Ptr) (by : Value) (via rch : Reach) → Reaches tm via first to
+        → CanUpdate t.structs op (tree.type_of a) (tree.type_of right) → HasKind (access_of_type (tree.type_of right)) by → tm (behind via first) ≡ value by
+        → AtS io k left r q
+        → AtE ob tm (source.update_read (update_of place a op) (values.Pointer to) by k) (suc (behind via first)) (access_of_type (tree.type_of a)) rch
+        (computes t.structs place op (tree.type_of a) (tree.type_of right) (suc (behind via first)) (behind via first) (behind via first)
+        (acts (tree.place_of a) (ir.store (access_of_type (tree.type_of a))) (reached via first ∷ []) None (behind via first ∷ []) r)) q
+    at_update_local : {io : Bool} {k : Todo} {left : List ℕ} {r : Nodes} {q : Position} (place i : ℕ) (l : tree.Local) (a right : tree.Expr) (op : Op) (rch : Reach)
+        → slice_get f.locals i ≡ Some l → home fr i ≡ None → tree.type_of a ≡ l.ty → CanUpdate t.structs op (tree.type_of a) (tree.type_of right)
+        → AtS io k left r q
+        → AtE ob tm (source.update_local (update_of place a op) i k) first (access_of_type (tree.type_of right)) rch
+        (sets (tree.place_of a) (suc first) (ir.copy i) (computes t.structs place op (tree.type_of a) (tree.type_of right) (suc first) first i r)) q
+    at_if : {io : Bool} {k : Todo} {left : List ℕ} {r : Nodes} {q : Position} (place : ℕ) (one other : tree.Stmt) (lh : Access) (rch : Reach)
+        → IsWell inside io one → IsWell inside io other
+        → AtS io k left r q
+        → AtE ob tm (source.if_test place one other k) first lh rch (branches place first (stmt_nodes fr one left no_nodes) (stmt_nodes fr other left no_nodes) r) q
+    at_loop_test : {io : Bool} {k : Todo} {left : List ℕ} {r : Nodes} {q : Position} (place : ℕ) (l : Loop) (lh : Access) (rch : Reach) → LoopIs l
+        → AtS io k left r q
+        → AtE ob tm (source.loop_test place l k) first lh rch (branches place first no_nodes (more_nodes (ir.break_ place) no_nodes) (stmt_nodes fr l.body [] no_nodes))
+        (position.in_body (body_nodes l) (latch_nodes l) (then_ r q))
+    at_caller : {r : Nodes} {q : Position} (place : ℕ) (rch : Reach) → AtE ob tm source.to_caller first (access_of_type f.result) rch (more_nodes (ir.ret place (Some first)) r) q
+    at_nowhere : {io : Bool} {k : Todo} {left : List ℕ} {r : Nodes} {q : Position} (how : Access) (rch : Reach) → AtS io k left r q → AtE ob tm (source.to_nowhere k) first how rch r q
+    at_inside : {k : Use} {u : ℕ} {how : Access} {rch : Reach} {r : Nodes} {q : Position} → AtE ob tm k u how rch r q → AtE ob tm k u how rch no_nodes (then_ r q)
+    at_found : {k : Use} {u : ℕ} {how : Access} {r : Nodes} {q : Position} (rch : Reach) → AtE ob tm k u how found r q → AtE ob tm k u how rch r q
+    at_again : {k : Use} {u : ℕ} {how : Access} {r : Nodes} {q : Position} (place : ℕ) (rch : Reach) → AtE ob tm k u how found r q → AtE ob tm k u how rch (sets place u (ir.copy u) r) q
+
+-- ---- threads
+
+module _ (t : tree.Typed) where
+  -- what holds in a call of the function f, which has the number n
+  pub record InCall (n : ℕ) (f : tree.Func) : Type 0 where
+    pub there : slice_get t.funcs n ≡ Some f
+    pub free : Free t (registers_of f)
+
+  -- the calls that wait, the nearest first, for one of the function m
+  pub data Callers : ℕ → List Caller → List (Point Position Own) → Type 0 where
+    no_callers : (m : ℕ) → Callers m [] []
+    one_wants : {n : ℕ} {f : tree.Func} {vs : List Variable} {tm : ℕ → Held} {ob : ℕ → Option ℕ} {b : Blocks} {k : Use} {u : ℕ} {r : Nodes} {q : Position} {cs : List Caller} {cs' : List (Point Position Own)}
+        (m : ℕ) (g : tree.Func) (place : ℕ) (ts : List ℕ) → slice_get t.funcs m ≡ Some g → Calls t → InCall n f → first t n f ≤ u → Agrees (fr t n f) f.locals vs tm ob
+        → AtE t n f ob tm k u (access_of_type g.result) found r q → Callers n cs cs'
+        → Callers m (record { function = n; locals = vs; wait = wanted place k } ∷ cs)
+        (record { at = then_ (forms.calls place (Some u) m ts (sets place u (ir.copy u) r)) q; own = record { function = n; temps = tm; objects = ob; blocks = b } } ∷ cs')
+    one_drops : {n : ℕ} {f : tree.Func} {vs : List Variable} {tm : ℕ → Held} {ob : ℕ → Option ℕ} {b : Blocks} {io : Bool} {k : Todo} {left : List ℕ} {r : Nodes} {q : Position} {cs : List Caller} {cs' : List (Point Position Own)}
+        (m : ℕ) (place : ℕ) (ts : List ℕ) → Calls t → InCall n f → Agrees (fr t n f) f.locals vs tm ob
+        → AtS t n f io k left r q → Callers n cs cs'
+        → Callers m (record { function = n; locals = vs; wait = dropped k } ∷ cs)
+        (record { at = then_ (forms.calls place None m ts r) q; own = record { function = n; temps = tm; objects = ob; blocks = b } } ∷ cs')
+
+  -- where a turn begins
+  pub data PointIs (n : ℕ) (f : tree.Func) (ob : ℕ → Option ℕ) (tm : ℕ → Held) : source.Point → Position → Type 0 where
+    at_gives : {k : Use} {u : ℕ} {how : Access} {r : Nodes} {q : Position} (v : Value) → HasKind how v → tm u ≡ value v → first t n f ≤ u → Calls t
+        → AtE t n f ob tm k u how found r q → PointIs n f ob tm (source.gives v k) (then_ r q)
+    at_zero : {k : Use} {u : ℕ} {r : Nodes} {q : Position} (place : ℕ) → first t n f ≤ u → Calls t
+        → AtE t n f ob tm k u (accesses.Number int) found r q → PointIs n f ob tm (source.gives (values.Num (num int (pos 0))) k) (then_ (sets_int place u 0 r) q)
+    at_lacks : {u : ℕ} {r : Nodes} {q : Position} (place : ℕ) → tm u ≡ code.missing → PointIs n f ob tm (source.lacks place) (then_ (sets place u (ir.copy u) r) q)
+    at_begins : {io : Bool} {k : Todo} {left : List ℕ} {r : Nodes} {q : Position} → AtS t n f io k left r q → PointIs n f ob tm (source.begins k) (then_ r q)
+    at_round : {io : Bool} {k : Todo} {left : List ℕ} {r : Nodes} {q : Position} (l : Loop) → LoopIs t n f l → AtS t n f io k left r q
+        → PointIs n f ob tm (source.round l k) (then_ (body_nodes t n f l) (position.in_body (body_nodes t n f l) (latch_nodes t n f l) (then_ r q)))
+
+  pub data Same : Control → Thread Position Own → Type 0 where
+    same : {n : ℕ} {f : tree.Func} {vs : List Variable} {tm : ℕ → Held} {ob : ℕ → Option ℕ} {b : Blocks} {p : source.Point} {q : Position} {cs : List Caller} {cs' : List (Point Position Own)}
+        → InCall n f → Agrees (fr t n f) f.locals vs tm ob → PointIs n f ob tm p q → Callers n cs cs'
+        → Same (record { function = n; locals = vs; point = p; callers = cs }) (record { top = record { at = q; own = record { function = n; temps = tm; objects = ob; blocks = b } }; callers = cs' })
+
+  -- a thread may begin with main, and with a function that may be started
+  abbrev pub CanBegin : ℕ → Type 0
+  CanBegin m = (m ≡ t.main) ⊎ (Calls t × IsNth t.funcs m (λ f. CanStart (signature_of f)))
+
+  abbrev pub AllBegin : World → Type 0
+  AllBegin w = AllByRecursion (λ (h : actions.Thread). CanBegin h.function) w.threads
+
+  -- two turns come out alike
+  pub data Together : Turn Control → Turn (Thread Position Own) → Type 0 where
+    both_went : {a : Control} {b : Thread Position Own} (w : World) → AllBegin w → Same a b → Together (runs.went a w) (runs.went b w)
+    both_ended : (w : World) → AllBegin w → Together (runs.ended w) (runs.ended w)
+    both_blocked : Together runs.blocked runs.blocked
+    both_unfit : Together runs.unfit runs.unfit
+    both_broke : (rule : Rule) (place : ℕ) → Together (runs.broke rule place) (runs.broke rule place)

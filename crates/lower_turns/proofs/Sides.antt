@@ -1,0 +1,159 @@
+-- The right side of an assignment is evaluated once the left one is found, and an updated object is read.
+use Rattle.std.proofs.Common.{◌≡◌, ℕ, suc, ◌<◌, ◌^◌, Bool, List, [], ◌∷◌, Option, Some, None, sym, ◌∙◌, arith}
+use Rattle.ak_words.specs.declared.operation.Op.{Op}
+use Rattle.block_store.specs.declared.values.Access.{Access}
+use Rattle.block_store.specs.declared.values.Access.TheVariants as accesses
+use Rattle.block_store.specs.declared.values.Ptr.{Ptr}
+use Rattle.block_store.specs.declared.values.Value.{Value}
+use Rattle.block_store.specs.declared.values.Value.TheVariants as values
+use Rattle.block_store.specs.Actions as actions
+use Rattle.block_store.specs.Actions.{World, acted}
+use Rattle.block_store.specs.Blocks.{Blocks}
+use Rattle.block_store.specs.Runs as runs
+use Rattle.c_tree.specs.Typed as tree
+use Rattle.c_tree.specs.TypedForm.{IsScalar, IsTyped, CanUpdate}
+use Rattle.c_tree.specs.TypedLayout.{size_in}
+use Rattle.c_meaning.specs.Values.{access_of_type}
+use Rattle.c_meaning.specs.Control as source
+use Rattle.c_meaning.specs.Control.{Variable, wanted}
+use Rattle.c_meaning.specs.Turns.{Way, stays, after_call, place_way, left_way, struct_left_way, struct_right_way, update_left_way, update_right_way, update_of}
+use Rattle.struct_ir.specs.Nodes as ir
+use Rattle.struct_ir.specs.Nodes.{Nodes}
+use Rattle.struct_ir.specs.Structured.{Position, then_}
+use Rattle.ir_meaning.specs.Blocks.{Held, value, set_at}
+use Rattle.ir_meaning.specs.Threads.{set_if}
+use Rattle.lower_forms.specs.Forms as forms
+use Rattle.lower_forms.specs.Forms.{Reach, found, reached, behind, pointed, reach, update_at, computes, sized_copy, expr_nodes, place_nodes}
+use Rattle.lower_forms.specs.Programs.{lowered}
+use Rattle.lower_turns.proofs.Relation.{ctx, HasKind, Below, Reaches, Points, Agrees, Calls, IsPlace, at_left, at_struct_left, at_update_left, at_update_right, at_update_read, Together, both_went, same, at_gives}
+use Rattle.lower_turns.proofs.Registers.{set_here, below_same, below_less, below_set, reaches_below}
+use Rattle.lower_turns.proofs.Steps.{step_alike}
+use Rattle.lower_turns.proofs.Setting.{Setting, here, now, own, Alike, frame, start, agrees_on, GoesE, GoesS, of_kind}
+use Rattle.lower_turns.proofs.Actions.{GivesKind, if_went, load_so}
+use Rattle.lower_turns.proofs.Uses.{address_reached, above_behind, one_place}
+use Rattle.lower_turns.proofs.Tests.{SimE, SimP}
+use Rattle.lower_turns.proofs.Assigns.{place_goes, struct_right_goes}
+
+module _ (g : Setting) (vs : List Variable) (ob : ℕ → Option ℕ) (b : Blocks) (io : Bool) (w : Way) (left : List ℕ) (r : Nodes) (q : Position) (goes : GoesS g io w left r q) where
+  abbrev world_now : World
+  world_now = actions.with_blocks g.s b
+
+  module _ (tm : ℕ → Held) (agrees : Agrees (frame g) g.f.locals vs tm ob) where
+    later_agrees : (a : ℕ → Held) → Below (start g) tm a → Agrees (frame g) g.f.locals vs a ob
+    later_agrees a below = agrees_on g vs tm a ob (start g) (omega arith) agrees below
+
+    -- the left side is found, and then the right one is evaluated
+    pub left_goes : (place : ℕ) (right : tree.Expr) (how : Access) (rch : Reach) → IsTyped (ctx g.t g.n g.f) right → IsScalar (tree.type_of right) → access_of_type (tree.type_of right) ≡ how → SimE g right
+        → GoesE g vs ob b tm (left_way (here g) place right w) (start g) accesses.Pointer rch
+        (expr_nodes (frame g) right (behind rch (start g)) (forms.acts place (ir.store how) (reached rch (start g) ∷ []) None (behind rch (start g) ∷ []) r)) q
+    left_goes place right how rch typed scalar is_how sim = record {
+      at = at_left place right how rch typed scalar is_how goes.at;
+      above = omega arith;
+      agrees = agrees;
+      go = go;
+    }
+      where
+        go : (v : Value) (a : ℕ → Held) → HasKind accesses.Pointer v → Below (start g) tm a → a (start g) ≡ value v → Points a rch (start g) v
+            → Alike g ((left_way (here g) place right w).go v (now g vs b)) (then_ (expr_nodes (frame g) right (behind rch (start g)) (forms.acts place (ir.store how) (reached rch (start g) ∷ []) None (behind rch (start g) ∷ []) r)) q) (own g ob a b)
+        go (values.Num n) a kind below is points = elim kind [ ]
+        go (values.Pointer p) a kind below is points =
+            let ns : Nodes = forms.acts place (ir.store how) (reached rch (start g) ∷ []) None (behind rch (start g) ∷ []) r in
+            sim vs ob b a (place_way (here g) place (values.Pointer p) w) (behind rch (start g)) ns q
+            (of_kind g vs ob b a (place_way (here g) place (values.Pointer p) w) (behind rch (start g)) how (access_of_type (tree.type_of right)) (pointed (frame g) right) ns q (sym is_how)
+            (place_goes g vs ob b a (later_agrees a below) io w left r q goes place p how rch (pointed (frame g) right) points))
+
+    pub struct_left_goes : (place : ℕ) (ty : tree.Ty) (right : tree.Expr) (rch : Reach) → IsTyped (ctx g.t g.n g.f) right → IsPlace (frame g) (tree.node_of right) → size_in g.t.structs ty < 2 ^ 64 → SimP g right
+        → GoesE g vs ob b tm (struct_left_way (here g) place ty right w) (start g) accesses.Pointer rch
+        (place_nodes (frame g) right (behind rch (start g)) (sized_copy g.t.structs place ty (reached rch (start g)) (reached (reach (frame g) right) (behind rch (start g))) (behind (reach (frame g) right) (behind rch (start g))) r)) q
+    struct_left_goes place ty right rch typed is_place small sim = record {
+      at = at_struct_left place ty right rch typed is_place small goes.at;
+      above = omega arith;
+      agrees = agrees;
+      go = go;
+    }
+      where
+        go : (v : Value) (a : ℕ → Held) → HasKind accesses.Pointer v → Below (start g) tm a → a (start g) ≡ value v → Points a rch (start g) v
+            → Alike g ((struct_left_way (here g) place ty right w).go v (now g vs b))
+            (then_ (place_nodes (frame g) right (behind rch (start g)) (sized_copy g.t.structs place ty (reached rch (start g)) (reached (reach (frame g) right) (behind rch (start g))) (behind (reach (frame g) right) (behind rch (start g))) r)) q) (own g ob a b)
+        go (values.Num n) a kind below is points = elim kind [ ]
+        go (values.Pointer p) a kind below is points =
+            sim vs ob b a (struct_right_way (here g) place ty (values.Pointer p) w) (behind rch (start g))
+            (sized_copy g.t.structs place ty (reached rch (start g)) (reached (reach (frame g) right) (behind rch (start g))) (behind (reach (frame g) right) (behind rch (start g))) r) q
+            (struct_right_goes g vs ob b a (later_agrees a below) io w left r q goes place ty p rch (reach (frame g) right) points small)
+
+    module _ (busy : Calls g.t) (place : ℕ) (x right : tree.Expr) (op : Op) (can : CanUpdate g.t.structs op (tree.type_of x) (tree.type_of right)) where
+      -- the right side has its value: the object is read
+      pub update_right_goes : (to : Ptr) (via rch : Reach) → Reaches tm via (start g) to
+          → GoesE g vs ob b tm (update_right_way (here g) (update_of place x op) (values.Pointer to) w) (behind via (start g)) (access_of_type (tree.type_of right)) rch
+          (update_at (frame g) place (behind via (start g)) op (reached via (start g)) x right r) q
+      update_right_goes to via rch leads = record {
+        at = at_update_right place x right op to via rch leads can goes.at;
+        above = omega (arith, above_behind via (start g));
+        agrees = agrees;
+        go = λ v a kind below is points.
+            let here_leads : Reaches a via (start g) to = reaches_below tm a via (start g) to leads below in
+            step_alike (lowered g.t) g.thread g.answer g.cs' g.s g.t _ (tree.place_of x)
+            (record { action = ir.load (access_of_type (tree.type_of x)); places = reached via (start g) ∷ []; to = Some (suc (behind via (start g))); temps = []; slots = [] })
+            (computes g.t.structs place op (tree.type_of x) (tree.type_of right) (suc (behind via (start g))) (behind via (start g)) (behind via (start g))
+            (forms.acts (tree.place_of x) (ir.store (access_of_type (tree.type_of x))) (reached via (start g) ∷ []) None (behind via (start g) ∷ []) r)) q (own g ob a b) (actions.load to (access_of_type (tree.type_of x)))
+            (one_place (tree.place_of x) (own g ob a b) (ir.load (access_of_type (tree.type_of x))) (reached via (start g)) (Some (suc (behind via (start g)))) to (address_reached (tree.place_of x) (own g ob a b) via (start g) to here_leads))
+            (λ read next e. went_on v a kind below is here_leads read next e);
+      }
+        where
+          went_on : (v : Value) (a : ℕ → Held) → HasKind (access_of_type (tree.type_of right)) v → Below (behind via (start g)) tm a → a (behind via (start g)) ≡ value v → Reaches a via (start g) to → (read : Option Value) (next : World)
+              → acted world_now g.thread g.answer (actions.load to (access_of_type (tree.type_of x))) ≡ actions.went read next
+              → Together g.t (stays (here g) vs (after_call (wanted (tree.place_of x) (source.update_read (update_of place x op) (values.Pointer to) v w.k)) read) next)
+              (runs.went (record {
+                top = record {
+                  at = then_ (computes g.t.structs place op (tree.type_of x) (tree.type_of right) (suc (behind via (start g))) (behind via (start g)) (behind via (start g))
+                      (forms.acts (tree.place_of x) (ir.store (access_of_type (tree.type_of x))) (reached via (start g) ∷ []) None (behind via (start g) ∷ []) r)) q;
+                  own = own g ob (set_if a (Some (suc (behind via (start g)))) read) b;
+                };
+                callers = g.cs';
+              }) next)
+          went_on v a kind below is leads' None next e =
+              elim ((if_went g.t (GivesKind (access_of_type (tree.type_of x))) _ None next (load_so g.t world_now g.begun g.thread g.answer to (access_of_type (tree.type_of x))) e).0) [ ]
+          went_on v a kind below is leads' (Some z) next e =
+              let h = if_went g.t (GivesKind (access_of_type (tree.type_of x))) _ (Some z) next (load_so g.t world_now g.begun g.thread g.answer to (access_of_type (tree.type_of x))) e in
+              let u : ℕ = behind via (start g) in
+              let c : ℕ → Held = set_at a (suc (behind via (start g))) (value z) in
+              let under : Below (suc (behind via (start g))) a c = below_set (suc (behind via (start g))) (suc (behind via (start g))) a a (value z) (omega arith) (below_same (suc (behind via (start g))) a) in
+              let less : Below (behind via (start g)) a c = below_less (suc (behind via (start g))) (behind via (start g)) a c (omega arith) under in
+              let low : Below (start g) a c = below_less (suc (behind via (start g))) (start g) a c (omega (arith, above_behind via (start g))) under in
+              let low' : Below (start g) tm a = below_less (behind via (start g)) (start g) tm a (omega (arith, above_behind via (start g))) below in
+              both_went next h.1 (same g.call (agrees_on g vs a c ob (start g) (omega arith) (later_agrees a low') low)
+              (at_gives z h.0 (set_here a (suc (behind via (start g))) (value z)) (omega (arith, above_behind via (start g))) busy
+              (at_update_read place x right op to v via found (reaches_below a c via (start g) to leads' less) can kind (less' c under is) goes.at)) g.callers)
+            where
+              less' : (c : ℕ → Held) → Below (suc (behind via (start g))) a c → a (behind via (start g)) ≡ value v → c (behind via (start g)) ≡ value v
+              less' c under h = under (behind via (start g)) (omega arith) ∙ h
+
+    module _ (busy : Calls g.t) (place : ℕ) (x right : tree.Expr) (op : Op) (can : CanUpdate g.t.structs op (tree.type_of x) (tree.type_of right)) where
+      pub update_left_goes : (rch : Reach) → IsTyped (ctx g.t g.n g.f) right → IsScalar (tree.type_of right) → ((a : ℕ → Held) → Below (start g) tm a → (p : Ptr) → Reaches a rch (start g) p
+          → GoesE g vs ob b a (update_right_way (here g) (update_of place x op) (values.Pointer p) w) (behind rch (start g)) (access_of_type (tree.type_of right)) (pointed (frame g) right) (update_at (frame g) place (behind rch (start g)) op (reached rch (start g)) x right r) q)
+          → SimE g right
+          → GoesE g vs ob b tm (update_left_way (here g) (update_of place x op) right w) (start g) accesses.Pointer rch
+          (expr_nodes (frame g) right (behind rch (start g)) (update_at (frame g) place (behind rch (start g)) op (reached rch (start g)) x right r)) q
+      update_left_goes rch typed scalar right_goes sim = record {
+        at = at_update_left place x right op rch typed scalar can goes.at;
+        above = omega arith;
+        agrees = agrees;
+        go = go;
+      }
+        where
+          go : (v : Value) (a : ℕ → Held) → HasKind accesses.Pointer v → Below (start g) tm a → a (start g) ≡ value v → Points a rch (start g) v
+              → Alike g ((update_left_way (here g) (update_of place x op) right w).go v (now g vs b))
+              (then_ (expr_nodes (frame g) right (behind rch (start g)) (update_at (frame g) place (behind rch (start g)) op (reached rch (start g)) x right r)) q) (own g ob a b)
+          go (values.Num n) a kind below is points = elim kind [ ]
+          go (values.Pointer p) a kind below is points =
+              sim vs ob b a (update_right_way (here g) (update_of place x op) (values.Pointer p) w) (behind rch (start g)) (update_at (frame g) place (behind rch (start g)) op (reached rch (start g)) x right r) q
+              (right_goes a below p points)
+
+  -- the same, with what follows
+  pub updated_goes : (tm : ℕ → Held) → Agrees (frame g) g.f.locals vs tm ob → (busy : Calls g.t) (place : ℕ) (x right : tree.Expr) (op : Op) → CanUpdate g.t.structs op (tree.type_of x) (tree.type_of right) → (rch : Reach)
+      → IsTyped (ctx g.t g.n g.f) right → IsScalar (tree.type_of right) → SimE g right
+      → GoesE g vs ob b tm (update_left_way (here g) (update_of place x op) right w) (start g) accesses.Pointer rch
+      (expr_nodes (frame g) right (behind rch (start g)) (update_at (frame g) place (behind rch (start g)) op (reached rch (start g)) x right r)) q
+  updated_goes tm agrees busy place x right op can rch typed scalar sim =
+      update_left_goes tm agrees busy place x right op can rch typed scalar
+      (λ a below p points. update_right_goes a (agrees_on g vs tm a ob (start g) (omega arith) agrees below) busy place x right op can p rch (pointed (frame g) right) points) sim

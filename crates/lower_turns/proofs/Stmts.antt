@@ -1,0 +1,235 @@
+-- The code of a statement does what the statement does.
+use Rattle.std.proofs.Common.{◌≡◌, ℕ, max, Bool, true, false, List, [], ◌++◌, Option, Some, None, refl, sym, ap, subst, ◌∙◌, arith, if◌then◌else◌}
+use Rattle.std.specs.Prelude.{slice_get}
+use Rattle.ak_words.specs.declared.operation.Op.{Op}
+use Rattle.block_store.specs.Blocks.{Blocks}
+use Rattle.c_tree.specs.Typed as tree
+use Rattle.c_tree.specs.TypedForm.{IsScalar, IsTyped, IsTypedNode, Converts, IsLocal, IsFunc, type_of_result, AreArguments, Signature, signature_of, IsWell, IsWellNode, AreWell, IsFirst, IsStep}
+use Rattle.c_meaning.specs.Values.{access_of_type, is_scalar}
+use Rattle.c_meaning.specs.Control.{Variable, dropped, function, library}
+use Rattle.c_meaning.specs.Turns.{Way, run, run_node, run_place_node, run_dropped, run_dropped_node, drops_object, nowhere_way, caller_way, returns, if_way, end_way, loop_way, row_way, run_stmt, run_stmt_node, run_row, while_loop, for_loop, nothing, declared, declared_by, declares}
+use Rattle.struct_ir.specs.Nodes as ir
+use Rattle.struct_ir.specs.Nodes.{Nodes, no_nodes, more_nodes}
+use Rattle.struct_ir.specs.Structured.{Position, then_, out_of, end_of}
+use Rattle.ir_meaning.specs.Blocks.{Held}
+use Rattle.lower_forms.specs.Counts.{count, greatest, greatest_in, greatest_row, count_if}
+use Rattle.lower_forms.specs.Forms as forms
+use Rattle.lower_forms.specs.Forms.{home, pointed, pointed_in, reach_in, branches, expr_nodes, value_nodes, object_place, args_nodes, dropped_nodes, dropped_value, dropped_object, return_nodes, ends, objects_in, objects_by, stmt_nodes, form_nodes, row_nodes}
+use Rattle.lower_forms.specs.Programs.{lowered}
+use Rattle.lower_turns.proofs.Relation.{ctx, inside, Agrees, Calls, Free, LoopIs, IsPlace, none_yet, homes_of}
+use Rattle.lower_turns.proofs.Operands.{pointer_scalar, integer_scalar, sized_pointer, operand_scalars, fits_access, argument_scalars, lib_scalars}
+use Rattle.lower_turns.proofs.Steps.{breaks_out, goes_next}
+use Rattle.lower_turns.proofs.Setting.{Setting, here, now, own, Alike, frame, start, GoesS, of_kind, objects_over}
+use Rattle.lower_turns.proofs.Calls.{all_at, nth_mapped, wait_dropped}
+use Rattle.lower_turns.proofs.Locals.{in_memory_home, signature_scalars}
+use Rattle.lower_turns.proofs.Exprs.{expr_sim, value_sim, object_sim, args_sim}
+use Rattle.lower_turns.proofs.Ends.{end_goes, ends_then, objects_are, first_objects}
+use Rattle.lower_turns.proofs.Assigns.{nowhere_goes}
+use Rattle.lower_turns.proofs.Leaves.{caller_goes, returns_none}
+use Rattle.lower_turns.proofs.Loops.{one_or_more, SimS, SimRow, stepped, row_goes, if_goes, enters_alike, loop_goes}
+use Rattle.lower_turns.proofs.Forms.{returned_scalar, declares_none, declares_some, assigns_alike, updates_alike}
+
+-- ---- dropped values
+
+scalar_test : (ty : tree.Ty) → is_scalar ty ≡ true → IsScalar ty
+scalar_test (tree.integer s) e = tt
+scalar_test (tree.pointer u) e = tt
+scalar_test ty e = absurd cc
+
+no_scalar : (ty : tree.Ty) → is_scalar ty ≡ false → IsScalar ty → ⊥
+no_scalar (tree.integer s) e h = absurd cc
+no_scalar (tree.pointer u) e h = absurd cc
+no_scalar ty e h = elim h [ ]
+
+result_scalar : (op : Op) (a ty : tree.Ty) → IsScalar a → ty ≡ type_of_result op a → IsScalar ty
+result_scalar op (tree.integer x) ty h e = subst IsScalar (sym e) tt
+result_scalar op (tree.pointer u) ty h e = subst IsScalar (sym e) tt
+result_scalar op a ty h e = elim h [ ]
+
+module _ (g : Setting) (busy : Calls g.t) (io : Bool) (w : Way) (left : List ℕ) (r : Nodes) (q : Position) (goes : GoesS g io w left r q) (vs : List Variable) (b : Blocks) (tm : ℕ → Held) (ob : ℕ → Option ℕ) (agrees : Agrees (frame g) g.f.locals vs tm ob) where
+  -- a value that is dropped
+  value_alike : (place : ℕ) (ty : tree.Ty) (node : tree.ExprNode) → IsTypedNode (ctx g.t g.n g.f) ty node → IsScalar ty
+      → Alike g (run_node (here g) place ty node (nowhere_way w) (now g vs b)) (then_ (value_nodes (frame g) place ty node (start g) r) q) (own g ob tm b)
+  value_alike place ty node h s =
+      value_sim g busy place ty node h s vs ob b tm (nowhere_way w) (start g) r q (nowhere_goes g vs ob b tm agrees io w left r q goes (access_of_type ty) (pointed_in (frame g) ty node))
+
+  object_at : (place : ℕ) (ty : tree.Ty) (node : tree.ExprNode) → IsTypedNode (ctx g.t g.n g.f) ty node → (m : Bool) → is_scalar ty ≡ m → (m ≡ false → IsPlace (frame g) node)
+      → Alike g (if m then run_node (here g) place ty node (nowhere_way w) (now g vs b) else run_place_node (here g) place node (nowhere_way w) (now g vs b))
+      (then_ (if m then value_nodes (frame g) place ty node (start g) r else object_place (frame g) place node (start g) r) q) (own g ob tm b)
+  object_at place ty node h true e p = value_alike place ty node h (scalar_test ty e)
+  object_at place ty node h false e p =
+      object_sim g busy place ty node h (p refl) vs ob b tm (nowhere_way w) (start g) r q (nowhere_goes g vs ob b tm agrees io w left r q goes _ (reach_in (frame g) node))
+
+  object_alike : (place : ℕ) (ty : tree.Ty) (node : tree.ExprNode) → IsTypedNode (ctx g.t g.n g.f) ty node → (is_scalar ty ≡ false → IsPlace (frame g) node)
+      → Alike g (drops_object (here g) place ty node w (now g vs b)) (then_ (dropped_object (frame g) place ty node (start g) r) q) (own g ob tm b)
+  object_alike place ty node h p = object_at place ty node h (is_scalar ty) refl p
+
+  -- a local that is neither number nor pointer is in memory
+  memory_at : (i : ℕ) (l : tree.Local) → slice_get g.f.locals i ≡ Some l → is_scalar l.ty ≡ false → (m : Bool) → l.in_memory ≡ m → IsPlace (frame g) (tree.local i)
+  memory_at i l there e true h = in_memory_home g.t g.n g.f i l there h
+  memory_at i l there e false h = absurd (no_scalar l.ty e ((all_at (IsLocal g.t.structs) g.f.locals i l g.is_func.locals there).scalar h))
+
+  mutual
+    pub dropped_sim : (e : tree.Expr) → IsTyped (ctx g.t g.n g.f) e → Alike g (run_dropped (here g) e w (now g vs b)) (then_ (dropped_nodes (frame g) e (start g) r) q) (own g ob tm b)
+    dropped_sim (tree.at place ty node) h = dropped_form place ty node h
+
+    dropped_form : (place : ℕ) (ty : tree.Ty) (node : tree.ExprNode) → IsTypedNode (ctx g.t g.n g.f) ty node → Alike g (run_dropped_node (here g) place ty node w (now g vs b)) (then_ (dropped_value (frame g) place ty node (start g) r) q) (own g ob tm b)
+    dropped_form place ty (tree.call m args) h =
+        let f = nth_mapped signature_of g.t.funcs m h.1.0 h.1.1 in
+        let is = all_at (IsFunc g.t) g.t.funcs m f.0 g.well.funcs f.1 in
+        let scalars = argument_scalars (signature_of f.0).params args (signature_scalars g.t f.0 is) (subst (λ (x : Signature). AreArguments x.params args) (sym f.2) h.1.2.0) in
+        args_sim g busy args h.0 vs ob b tm place (function m) args [] (dropped w.k) (start g) (start g) ty r q scalars h.1 scalars (wait_dropped (omega arith) goes.at) none_yet agrees
+    dropped_form place ty (tree.lib which args) h =
+        let scalars = lib_scalars (ctx g.t g.n g.f) which args ty h.1 in
+        args_sim g busy args h.0 vs ob b tm place (library which) args [] (dropped w.k) (start g) (start g) ty r q scalars h.1 scalars (wait_dropped (omega arith) goes.at) none_yet agrees
+    dropped_form place tree.void (tree.convert e) h = dropped_sim e h.0
+    dropped_form place (tree.integer s) (tree.convert e) h = value_alike place (tree.integer s) (tree.convert e) h tt
+    dropped_form place (tree.pointer u) (tree.convert e) h = value_alike place (tree.pointer u) (tree.convert e) h tt
+    dropped_form place tree.mutex (tree.convert e) h = elim (no_mutex (tree.type_of e) h.1) [ ]
+      where
+        no_mutex : (ty : tree.Ty) → Converts ty tree.mutex → ⊥
+        no_mutex ty k = elim k [ ]
+    dropped_form place (tree.array u n) (tree.convert e) h = elim (no_array (tree.type_of e) h.1) [ ]
+      where
+        no_array : (ty : tree.Ty) → Converts ty (tree.array u n) → ⊥
+        no_array ty k = elim k [ ]
+    dropped_form place (tree.structure n) (tree.convert e) h = elim (no_struct (tree.type_of e) h.1) [ ]
+      where
+        no_struct : (ty : tree.Ty) → Converts ty (tree.structure n) → ⊥
+        no_struct ty k = elim k [ ]
+    dropped_form place ty (tree.literal i) h = object_alike place ty (tree.literal i) h (λ e. tt)
+    dropped_form place ty (tree.global i) h = object_alike place ty (tree.global i) h (λ e. tt)
+    dropped_form place ty (tree.local i) h = object_alike place ty (tree.local i) h (λ e. memory_at i h.0 h.1 (ap is_scalar h.2 ∙ e) (h.0).in_memory refl)
+    dropped_form place ty (tree.deref e) h = object_alike place ty (tree.deref e) h (λ x. tt)
+    dropped_form place ty (tree.member e i) h = object_alike place ty (tree.member e i) h (λ x. tt)
+    dropped_form place ty (tree.num x z) h = value_alike place ty (tree.num x z) h (subst IsScalar (sym h.0) tt)
+    dropped_form place ty tree.null h = value_alike place ty tree.null h (pointer_scalar ty h)
+    dropped_form place ty (tree.address_of e) h = value_alike place ty (tree.address_of e) h (subst IsScalar (sym h.2) tt)
+    dropped_form place ty (tree.decay e) h = value_alike place ty (tree.decay e) h (subst IsScalar (sym h.2.3) tt)
+    dropped_form place ty (tree.not_ e) h = value_alike place ty (tree.not_ e) h (subst IsScalar (sym h.2) tt)
+    dropped_form place ty (tree.binary op x y) h = value_alike place ty (tree.binary op x y) h (result_scalar op (tree.type_of x) ty (operand_scalars op (tree.type_of x) (tree.type_of y) h.2).0 h.3)
+    dropped_form place ty (tree.and_also x y) h = value_alike place ty (tree.and_also x y) h (subst IsScalar (sym h.4) tt)
+    dropped_form place ty (tree.or_else x y) h = value_alike place ty (tree.or_else x y) h (subst IsScalar (sym h.4) tt)
+    dropped_form place ty (tree.choose x y z) h = value_alike place ty (tree.choose x y z) h (integer_scalar ty h.4)
+    dropped_form place ty (tree.pointer_add x y) h = value_alike place ty (tree.pointer_add x y) h (subst IsScalar (sym h.4) (pointer_scalar (tree.type_of x) (sized_pointer g.t.structs (tree.type_of x) h.2)))
+    dropped_form place ty (tree.pointer_sub x y) h = value_alike place ty (tree.pointer_sub x y) h (subst IsScalar (sym h.4) (pointer_scalar (tree.type_of x) (sized_pointer g.t.structs (tree.type_of x) h.2)))
+    dropped_form place ty (tree.pointer_diff x y) h = value_alike place ty (tree.pointer_diff x y) h (subst IsScalar (sym h.4) tt)
+    dropped_form place ty (tree.pointer_compare op x y) h = value_alike place ty (tree.pointer_compare op x y) h (subst IsScalar (sym h.5) tt)
+    dropped_form place ty (tree.pointer_test e) h = value_alike place ty (tree.pointer_test e) h (subst IsScalar (sym h.2) tt)
+
+-- ---- counts
+
+free_left : (t : tree.Typed) (a c : ℕ) → Free t (max a c) → Free t a
+free_left t a c h lt = h (omega (arith, lt))
+
+free_right : (t : tree.Typed) (a c : ℕ) → Free t (max a c) → Free t c
+free_right t a c h lt = h (omega (arith, lt))
+
+-- what may stand first in a for, and as its step, breaks out of nothing
+first_well : (g : Setting) (io : Bool) (s : tree.Stmt) → IsFirst s → IsWell (inside g.t g.n g.f) io s → IsWell (inside g.t g.n g.f) false s
+first_well g io (tree.at_stmt place (tree.declare i init)) f h = h
+first_well g io (tree.at_stmt place (tree.assign x y)) f h = h
+first_well g io (tree.at_stmt place (tree.update x op y)) f h = h
+first_well g io (tree.at_stmt place (tree.evaluate e)) f h = h
+first_well g io (tree.at_stmt place tree.empty) f h = h
+first_well g io (tree.at_stmt place node) f h = elim f [ ]
+
+step_well : (g : Setting) (io : Bool) (s : tree.Stmt) → IsStep s → IsWell (inside g.t g.n g.f) io s → IsWell (inside g.t g.n g.f) false s
+step_well g io (tree.at_stmt place (tree.assign x y)) f h = h
+step_well g io (tree.at_stmt place (tree.update x op y)) f h = h
+step_well g io (tree.at_stmt place (tree.evaluate e)) f h = h
+step_well g io (tree.at_stmt place tree.empty) f h = h
+step_well g io (tree.at_stmt place node) f h = elim f [ ]
+
+-- ---- every form
+
+module _ (g : Setting) where
+  if_alike : (io : Bool) (w : Way) (left : List ℕ) (r : Nodes) (q : Position) → GoesS g io w left r q → (e : tree.Expr) (one other : tree.Stmt) → Calls g.t → IsTyped (ctx g.t g.n g.f) e → IsScalar (tree.type_of e)
+      → IsWell (inside g.t g.n g.f) io one → IsWell (inside g.t g.n g.f) io other → SimS g io one → SimS g io other
+      → (vs : List Variable) (b : Blocks) (tm : ℕ → Held) (ob : ℕ → Option ℕ) → Agrees (frame g) g.f.locals vs tm ob
+      → Alike g (run (here g) e (if_way (tree.place_of e) one other (run_stmt (here g) one) (run_stmt (here g) other) w) (now g vs b))
+      (then_ (expr_nodes (frame g) e (start g) (branches (tree.place_of e) (start g) (stmt_nodes (frame g) one left no_nodes) (stmt_nodes (frame g) other left no_nodes) r)) q) (own g ob tm b)
+  if_alike io w left r q goes e one other busy typed scalar w1 w2 sim1 sim2 vs b tm ob agrees =
+      expr_sim g busy e typed scalar vs ob b tm (if_way (tree.place_of e) one other (run_stmt (here g) one) (run_stmt (here g) other) w) (start g)
+      (branches (tree.place_of e) (start g) (stmt_nodes (frame g) one left no_nodes) (stmt_nodes (frame g) other left no_nodes) r) q
+      (if_goes g io w left r q goes (tree.place_of e) one other w1 w2 sim1 sim2 vs ob b tm agrees (access_of_type (tree.type_of e)) (pointed (frame g) e))
+
+  return_alike : (io : Bool) (w : Way) (left : List ℕ) (r : Nodes) (q : Position) (place : ℕ) (value : Option tree.Expr) → IsWellNode (inside g.t g.n g.f) io (tree.return_ value) → Free g.t (count_if value)
+      → (vs : List Variable) (b : Blocks) (tm : ℕ → Held) (ob : ℕ → Option ℕ) → Agrees (frame g) g.f.locals vs tm ob → Alike g (returns (here g) value (now g vs b)) (then_ (return_nodes (frame g) place value r) q) (own g ob tm b)
+  return_alike io w left r q place None h free vs b tm ob agrees = returns_none g vs ob b tm agrees place r q h
+  return_alike io w left r q place (Some e) h free vs b tm ob agrees =
+      expr_sim g (free (one_or_more e)) e h.0 (returned_scalar (tree.type_of e) g.f.result h.1 g.is_func.result) vs ob b tm (caller_way (here g)) (start g) (more_nodes (ir.ret place (Some (start g))) r) q
+      (of_kind g vs ob b tm (caller_way (here g)) (start g) (access_of_type g.f.result) (access_of_type (tree.type_of e)) (pointed (frame g) e) (more_nodes (ir.ret place (Some (start g))) r) q (sym (fits_access (tree.type_of e) g.f.result h.1))
+      (caller_goes g vs ob b tm agrees place (pointed (frame g) e) r q))
+
+  declare_alike : (io : Bool) (w : Way) (left : List ℕ) (r : Nodes) (q : Position) → GoesS g io w left r q → (place i : ℕ) (init : Option tree.Expr) → IsWellNode (inside g.t g.n g.f) io (tree.declare i init) → Free g.t (count_if init)
+      → (vs : List Variable) (b : Blocks) (tm : ℕ → Held) (ob : ℕ → Option ℕ) → Agrees (frame g) g.f.locals vs tm ob
+      → Alike g (declares (here g) place i init w (now g vs b)) (then_ (forms.declare_nodes (frame g) place i init r) q) (own g ob tm b)
+  declare_alike io w left r q goes place i None h free vs b tm ob agrees = declares_none g io w left r q goes vs b tm ob agrees place i h.1.0 h.1.1
+  declare_alike io w left r q goes place i (Some e) h free vs b tm ob agrees =
+      declares_some g io w left r q goes vs b tm ob agrees (free (one_or_more e)) place i h.1.0 e h.1.1 h.1.2.0 h.1.2.1.0 h.1.2.1.1
+
+  mutual
+    pub stmt_sim : (s : tree.Stmt) (io : Bool) → IsWell (inside g.t g.n g.f) io s → Free g.t (greatest s) → SimS g io s
+    stmt_sim (tree.at_stmt place node) io h free w left r q goes vs b tm ob agrees = form_sim node place io h free w left r q goes vs b tm ob agrees
+
+    pub form_sim : (node : tree.StmtNode) (place : ℕ) (io : Bool) → IsWellNode (inside g.t g.n g.f) io node → Free g.t (greatest_in node)
+        → (w : Way) (left : List ℕ) (r : Nodes) (q : Position) → GoesS g io w left r q → (vs : List Variable) (b : Blocks) (tm : ℕ → Held) (ob : ℕ → Option ℕ) → Agrees (frame g) g.f.locals vs tm ob
+        → Alike g (run_stmt_node (here g) place node w (now g vs b)) (then_ (form_nodes (frame g) place node left r) q) (own g ob tm b)
+    form_sim (tree.block body) place io h free w left r q goes vs b tm ob agrees =
+        row_sim body io h free (end_way (declared body) w) (objects_in (frame g) body ++ left) (ends place (objects_in (frame g) body) r) q
+        (subst (λ os. GoesS g io (end_way (declared body) w) (os ++ left) (ends place os r) q) (objects_are (frame g) body) (end_goes g io w left r q goes place (declared body))) vs b tm ob agrees
+    form_sim (tree.declare i init) place io h free w left r q goes vs b tm ob agrees = declare_alike io w left r q goes place i init h free vs b tm ob agrees
+    form_sim (tree.if_ e one) place io h free w left r q goes vs b tm ob agrees =
+        let busy = free_left g.t (count e) (greatest one) free (one_or_more e) in
+        if_alike io w left r q goes e one (nothing place) busy h.0 h.1 h.2 tt (stmt_sim one io h.2 (free_right g.t (count e) (greatest one) free)) (λ x l n p k xs c a o z. k.end xs c a o z) vs b tm ob agrees
+    form_sim (tree.if_else e one other) place io h free w left r q goes vs b tm ob agrees =
+        let busy = free_left g.t (count e) (max (greatest one) (greatest other)) free (one_or_more e) in
+        let rest = free_right g.t (count e) (max (greatest one) (greatest other)) free in
+        if_alike io w left r q goes e one other busy h.0 h.1 h.2 h.4 (stmt_sim one io h.2 (free_left g.t (greatest one) (greatest other) rest)) (stmt_sim other io h.4 (free_right g.t (greatest one) (greatest other) rest)) vs b tm ob agrees
+    form_sim (tree.while_ e body) place io h free w left r q goes vs b tm ob agrees =
+        let is : LoopIs g.t g.n g.f (while_loop place e body) = record {
+          condition = (h.0, h.1);
+          step = tt;
+          body = h.2;
+          free_condition = free_left g.t (count e) (greatest body) free;
+          free_step = λ lt. absurd (omega (arith, lt));
+          free_body = free_right g.t (count e) (greatest body) free;
+        } in
+        enters_alike g io w left r q goes (while_loop place e body) is (λ x l n p k xs c a o z. k.end xs c a o z) (stmt_sim body true h.2 (free_right g.t (count e) (greatest body) free)) place vs b tm ob agrees
+    form_sim (tree.for_ first e step body) place io h free w left r q goes vs b tm ob agrees =
+        let f_first = free_left g.t (greatest first) (count_if e) (free_left g.t (max (greatest first) (count_if e)) (max (greatest step) (greatest body)) free) in
+        let f_test = free_right g.t (greatest first) (count_if e) (free_left g.t (max (greatest first) (count_if e)) (max (greatest step) (greatest body)) free) in
+        let f_rest = free_right g.t (max (greatest first) (count_if e)) (max (greatest step) (greatest body)) free in
+        let f_step = free_left g.t (greatest step) (greatest body) f_rest in
+        let f_body = free_right g.t (greatest step) (greatest body) f_rest in
+        let step_is = step_well g io step h.4 h.3 in
+        let is : LoopIs g.t g.n g.f (for_loop e step body) = record { condition = h.2; step = step_is; body = h.5; free_condition = f_test; free_step = f_step; free_body = f_body } in
+        stmt_sim first false (first_well g io first h.1 h.0) f_first
+        (loop_way (here g) (for_loop e step body) (run_stmt (here g) body) (run_stmt (here g) step) (end_way (declared_by first []) w)) left
+        (more_nodes (ir.loop place (forms.test_nodes (frame g) e (stmt_nodes (frame g) body [] no_nodes)) (stmt_nodes (frame g) step [] no_nodes)) (ends place (objects_by (frame g) first []) r)) q
+        (subst (λ os. GoesS g false (loop_way (here g) (for_loop e step body) (run_stmt (here g) body) (run_stmt (here g) step) (end_way (declared_by first []) w)) left
+        (more_nodes (ir.loop place (forms.test_nodes (frame g) e (stmt_nodes (frame g) body [] no_nodes)) (stmt_nodes (frame g) step [] no_nodes)) (ends place os r)) q) (first_objects (frame g) first)
+        (loop_goes g io (end_way (declared_by first []) w) (homes_of (frame g) (declared_by first []) ++ left) (ends place (homes_of (frame g) (declared_by first [])) r) q (end_goes g io w left r q goes place (declared_by first []))
+        (for_loop e step body) is (stmt_sim step false step_is f_step) (stmt_sim body true h.5 f_body) place left))
+        vs b tm ob agrees
+    form_sim tree.break_ place io h free w left r q goes vs b tm ob agrees =
+        ends_then g (w.breaks (now g vs b)) place left (more_nodes (ir.break_ place) r) q (own g ob tm b)
+        (stepped g (w.breaks (now g vs b)) (then_ (more_nodes (ir.break_ place) r) q) (out_of q) (objects_over left (own g ob tm b)) (objects_over left (own g ob tm b))
+        (breaks_out (lowered g.t) g.thread g.answer g.cs' g.s place r q (objects_over left (own g ob tm b))) (goes.breaks h vs b tm ob agrees))
+    form_sim tree.continue_ place io h free w left r q goes vs b tm ob agrees =
+        ends_then g (w.continues (now g vs b)) place left (more_nodes (ir.next_ place) r) q (own g ob tm b)
+        (stepped g (w.continues (now g vs b)) (then_ (more_nodes (ir.next_ place) r) q) (end_of q) (objects_over left (own g ob tm b)) (objects_over left (own g ob tm b))
+        (goes_next (lowered g.t) g.thread g.answer g.cs' g.s place r q (objects_over left (own g ob tm b))) (goes.continues h vs b tm ob agrees))
+    form_sim (tree.return_ value) place io h free w left r q goes vs b tm ob agrees = return_alike io w left r q place value h free vs b tm ob agrees
+    form_sim (tree.assign x y) place io h free w left r q goes vs b tm ob agrees = assigns_alike g io w left r q goes vs b tm ob agrees (free (omega arith)) place x y h.0 h.1 h.2 h.3
+    form_sim (tree.update x op y) place io h free w left r q goes vs b tm ob agrees = updates_alike g io w left r q goes vs b tm ob agrees (free (omega arith)) place op x y h.0 h.1 h.2 h.3
+    form_sim (tree.evaluate e) place io h free w left r q goes vs b tm ob agrees = dropped_sim g (free (one_or_more e)) io w left r q goes vs b tm ob agrees e h
+    form_sim tree.empty place io h free w left r q goes vs b tm ob agrees = goes.end vs b tm ob agrees
+
+    pub row_sim : (all : tree.Stmts) (io : Bool) → AreWell (inside g.t g.n g.f) io all → Free g.t (greatest_row all) → SimRow g io all
+    row_sim tree.no_stmts io h free w left r q goes vs b tm ob agrees = goes.end vs b tm ob agrees
+    row_sim (tree.more_stmts s rest) io h free w left r q goes vs b tm ob agrees =
+        let more = free_right g.t (greatest s) (greatest_row rest) free in
+        stmt_sim s io h.0 (free_left g.t (greatest s) (greatest_row rest) free) (row_way rest (run_row (here g) rest) w) left (row_nodes (frame g) rest left r) q
+        (row_goes g io w left r q goes rest h.1 more (row_sim rest io h.1 more)) vs b tm ob agrees
