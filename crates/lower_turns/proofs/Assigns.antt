@@ -1,7 +1,6 @@
 -- A value goes to a local or to an object.
 use Rattle.std.proofs.Common.{◌≡◌, ◌≢◌, ℕ, suc, ◌<◌, ◌^◌, ◌⊎◌, inl, inr, ℤ, pos, Bool, true, List, [], ◌∷◌, set, Option, Some, None, Result, Ok, Err, refl, sym, ap, subst, ◌∙◌, arith, unsigned_abs}
 use Rattle.std.specs.Prelude.{slice_get}
-use Rattle.std.proofs.lemmas.Option.{slice_get_within}
 use Rattle.ak_words.specs.declared.int_type.IntType.{IntType}
 use Rattle.ak_words.specs.declared.number.Num.{Num}
 use Rattle.ak_words.specs.declared.operation.Op.{Op}
@@ -267,7 +266,6 @@ module _ (g : Setting) (vs : List Variable) (ob : ℕ → Option ℕ) (b : Block
           (sym (set_breaks (lowered g.t) g.thread g.answer g.cs' g.s (tree.place_of x) (suc (start g)) (ir.copy i) (computes g.t.structs place op (tree.type_of x) (tree.type_of right) (suc (start g)) (start g) i r) q (own g ob a b) (broken C4 (tree.place_of x))
           (ap (λ (z : Held). on_value (known (tree.place_of x) z) (λ o. Ok (value o))) e))) (both_broke C4 (tree.place_of x))
       by_local v a kind below is _ _ (one_value z zkind) e =
-          let lt : i < start g = omega (arith, slice_get_within g.f.locals i l there, start_is g) in
           let ne : suc (start g) ≢ start g = λ y. absurd (omega (arith, y)) in
           let not_start : start g ≢ suc (start g) = λ y. absurd (omega (arith, y)) in
           set_then (lowered g.t) g.thread g.answer g.cs' g.s g.t _ (tree.place_of x) (suc (start g)) (ir.copy i) (computes g.t.structs place op (tree.type_of x) (tree.type_of right) (suc (start g)) (start g) i r) q (own g ob a b) (value z)

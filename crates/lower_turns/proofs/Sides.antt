@@ -115,7 +115,6 @@ module _ (g : Setting) (vs : List Variable) (ob : ℕ → Option ℕ) (b : Block
               elim ((if_went g.t (GivesKind (access_of_type (tree.type_of x))) _ None next (load_so g.t world_now g.begun g.thread g.answer to (access_of_type (tree.type_of x))) e).0) [ ]
           went_on v a kind below is leads' (Some z) next e =
               let h = if_went g.t (GivesKind (access_of_type (tree.type_of x))) _ (Some z) next (load_so g.t world_now g.begun g.thread g.answer to (access_of_type (tree.type_of x))) e in
-              let u : ℕ = behind via (start g) in
               let c : ℕ → Held = set_at a (suc (behind via (start g))) (value z) in
               let under : Below (suc (behind via (start g))) a c = below_set (suc (behind via (start g))) (suc (behind via (start g))) a a (value z) (omega arith) (below_same (suc (behind via (start g))) a) in
               let less : Below (behind via (start g)) a c = below_less (suc (behind via (start g))) (behind via (start g)) a c (omega arith) under in

@@ -1,5 +1,5 @@
 -- The code of a program shows under every order what the source shows.
-use Rattle.std.proofs.Common.{◌≡◌, refl, sym, ap, subst, inl, ℕ, zero, suc, List, [], ◌∷◌, ◌++◌, length, map, drop, set, Option, Some, None}
+use Rattle.std.proofs.Common.{◌≡◌, ◌∙◌, refl, sym, ap, subst, inl, ℕ, zero, suc, List, [], ◌∷◌, ◌++◌, length, map, drop, set, Option, Some, None}
 use Rattle.std.specs.List.{AllByRecursion}
 use Rattle.block_store.specs.Actions.{World}
 use Rattle.block_store.specs.Actions as actions
@@ -13,7 +13,9 @@ use Rattle.struct_ir.specs.Threads.{Thread}
 use Rattle.ir_meaning.specs.Blocks.{Own}
 use Rattle.ir_meaning.specs.Threads.{program_of}
 use Rattle.lower_forms.specs.Programs.{lowered}
-use Rattle.lower_turns.specs.Turns.{LowerKeepsEveryTurn}
+use Rattle.c_meaning.specs.Alike.{reached_in}
+use Rattle.c_meaning.proofs.Alike.{reached_shown}
+use Rattle.lower_turns.specs.Turns.{LowerKeepsEveryTurn, LowerKeepsEveryRun}
 use Rattle.lower_turns.proofs.Relation.{Same, CanBegin, AllBegin, Together, both_went, both_ended, both_blocked, both_unfit, both_broke}
 use Rattle.lower_turns.proofs.Turns.{turn_alike, begins_alike}
 
@@ -108,3 +110,7 @@ module _ (t : tree.Typed) (well : IsWellFormed t) where
 pub lower_keeps_every_turn : LowerKeepsEveryTurn
 lower_keeps_every_turn t well order =
     sym (same_from t well order (begun (program t) 0 (start t)) (begun (program_of (lowered t)) 0 (start t)) (start t) (inl refl, tt) (begun_alike t well 0 (start t) (inl refl, tt)))
+
+pub lower_keeps_every_run : LowerKeepsEveryRun
+lower_keeps_every_run t well order =
+    reached_shown (program_of (lowered t)) (start t) order ∙ ap (reached_in (start t) 0) (lower_keeps_every_turn t well order) ∙ sym (reached_shown (program t) (start t) order)

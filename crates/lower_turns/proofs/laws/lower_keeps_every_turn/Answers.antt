@@ -1,5 +1,5 @@
-use Rattle.lower_turns.proofs.Threads.{lower_keeps_every_turn}
+use Rattle.lower_turns.proofs.Threads.{lower_keeps_every_turn, lower_keeps_every_run}
 use Rattle.lower_turns.proofs.laws.lower_keeps_every_turn.Goals as goal
 
 pub returns : goal.returns
-returns c = lower_keeps_every_turn
+returns c = record { turns = lower_keeps_every_turn; runs = lower_keeps_every_run }
