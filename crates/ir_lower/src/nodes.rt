@@ -7,6 +7,7 @@ ghost use Rattle.struct_ir.specs.Views.{calc_view, action_view, place_view, kind
 ghost use Rattle.lower_forms.specs.Forms.{sets, acts, calls, branches, sets_int, sets_long, sets_truth, begins, ends};
 
 use ak_words::{IntType, NoMemory, Num};
+use smallvec::SmallVec;
 use std::alloc::Global;
 use struct_ir::{Action, Calc, CallNode, Node, NodeKind, Place, StepNode};
 
@@ -50,10 +51,10 @@ pub fn acts(
 {
     let step = StepNode {
         action,
-        places,
+        places: SmallVec::from_vec(places),
         to,
-        temps,
-        slots: Vec::new(alloc),
+        temps: SmallVec::from_vec(temps),
+        slots: SmallVec::new(alloc),
     };
     put(out, place, NodeKind::Step(step))
 }

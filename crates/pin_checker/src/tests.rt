@@ -5,6 +5,7 @@ ghost use Rattle.pin_checker.specs.Safe.{IsSafe};
 use crate::{CheckFault, Why, check};
 use ak_words::NoMemory;
 use block_store::Access;
+use smallvec::SmallVec;
 use std::alloc::Global;
 use std::test::Fail;
 use struct_ir::{Action, Calc, CallNode, Ir, IrFunc, Node, NodeKind, Place, StepNode};
@@ -76,10 +77,10 @@ fn read(alloc: Global, place: u32) -> Result<Node, NoMemory> {
     };
     let kind = NodeKind::Step(StepNode {
         action: Action::Load(Access::Pointer),
-        places: vec![in alloc; access]?,
+        places: SmallVec::from_slice(alloc, &[access])?,
         to: Some(2),
-        temps: Vec::new(alloc),
-        slots: Vec::new(alloc),
+        temps: SmallVec::new(alloc),
+        slots: SmallVec::new(alloc),
     });
     Ok(Node { place, kind })
 }

@@ -74,8 +74,8 @@ fn is_among(slot: u32, slots: &[u32]) -> bool
     slots.iter().any(|s| *s == slot)
 }
 
-fn is_without(slot: u32, slots: &Vec<u32>) -> bool
-    ensures { result ≡ lacks slot slots.now.items }
+fn is_without(slot: u32, slots: &[u32]) -> bool
+    ensures { result ≡ lacks slot slots.now }
 {
     !is_among(slot, slots)
 }

@@ -11,6 +11,7 @@ use crate::slots::{bases_of, slot_of};
 use crate::state::State;
 use ak_words::{IntType, NoMemory};
 use block_store::Access;
+use smallvec::SmallVec;
 use std::alloc::Global;
 use std::test::Fail;
 use struct_ir::{Action, Calc, IrFunc, Node, NodeKind, Place, StepNode};
@@ -75,10 +76,10 @@ fn load(alloc: Global, base: u32) -> Result<Node, NoMemory> {
     };
     Ok(at(NodeKind::Step(StepNode {
         action: Action::Load(Access::Number(IntType::INT)),
-        places: vec![in alloc; place]?,
+        places: SmallVec::from_slice(alloc, &[place])?,
         to: Some(0),
-        temps: Vec::new(alloc),
-        slots: Vec::new(alloc),
+        temps: SmallVec::new(alloc),
+        slots: SmallVec::new(alloc),
     })))
 }
 

@@ -14,6 +14,7 @@ use pin_flow::flow::{head_at, table_of, table_of_node};
 use pin_flow::mark::Mark;
 use pin_flow::seen::uses;
 use pin_flow::state::{State, end_of};
+use smallvec::SmallVec;
 use std::alloc::Global;
 use struct_ir::{CallNode, Node, NodeKind, StepNode};
 
@@ -58,10 +59,10 @@ fn list_step(alloc: Global, slot: u32, more: bool, s: &StepNode) -> Result<StepN
     let slots = with_slot(alloc, slot, both(more, s.action.may_wait()), &s.slots)?;
     Ok(StepNode {
         action: copy_action(alloc, &s.action)?,
-        places: s.places.to_vec(alloc)?,
+        places: SmallVec::from_slice(alloc, &s.places)?,
         to: s.to,
-        temps: s.temps.to_vec(alloc)?,
-        slots,
+        temps: SmallVec::from_slice(alloc, &s.temps)?,
+        slots: SmallVec::from_vec(slots),
     })
 }
 

@@ -7,6 +7,7 @@ ghost use Rattle.pin_frames.specs.inner.Place.{step_listing, stop, seats, seated
 
 use ak_words::NoMemory;
 use pin_flow::copies::{add, branches, copy_action, node, rounds};
+use smallvec::SmallVec;
 use std::alloc::Global;
 use struct_ir::{CallNode, Node, NodeKind, StepNode};
 
@@ -17,10 +18,10 @@ fn clear_step(alloc: Global, s: &StepNode) -> Result<StepNode, NoMemory>
 {
     Ok(StepNode {
         action: copy_action(alloc, &s.action)?,
-        places: s.places.to_vec(alloc)?,
+        places: SmallVec::from_slice(alloc, &s.places)?,
         to: s.to,
-        temps: s.temps.to_vec(alloc)?,
-        slots: Vec::new(alloc),
+        temps: SmallVec::from_slice(alloc, &s.temps)?,
+        slots: SmallVec::new(alloc),
     })
 }
 

@@ -14,6 +14,7 @@ use crate::seating::seat_row;
 use ak_words::NoMemory;
 use block_store::Access;
 use pin_flow::state::State;
+use smallvec::SmallVec;
 use std::alloc::Global;
 use std::test::Fail;
 use struct_ir::{Action, CallNode, Ir, IrFunc, Node, NodeKind, Place, StepNode, text};
@@ -70,10 +71,10 @@ fn read(alloc: Global) -> Result<Node, NoMemory> {
     };
     Ok(at(NodeKind::Step(StepNode {
         action: Action::Load(Access::Pointer),
-        places: vec![in alloc; access]?,
+        places: SmallVec::from_slice(alloc, &[access])?,
         to: Some(2),
-        temps: Vec::new(alloc),
-        slots: Vec::new(alloc),
+        temps: SmallVec::new(alloc),
+        slots: SmallVec::new(alloc),
     })))
 }
 

@@ -3,10 +3,11 @@ ghost use Rattle.std.specs.Prelude.{◌≤◌};
 use ak_words::{IntType, Num, Op};
 use block_store::Access;
 use c_tree::typed::{Init, Piece};
+use smallvec::SmallVec;
 
 /// Where an access goes: from the pointer in `base` on, by the number in `index` times `scale` and
 /// by `offset`, in bytes.
-#[derive(Clone, Copy, Debug, PartialEq, Eq)]
+#[derive(Clone, Copy, Debug, Default, PartialEq, Eq)]
 pub struct Place {
     /// The register that holds the pointer.
     pub base: u32,
@@ -85,19 +86,25 @@ pub enum Action {
     Join,
 }
 
+/// The places of an action: two at most, but for the texts of a print.
+pub type Places = SmallVec<Place, 2>;
+
+/// The registers that an action reads, or the slots of its list: most have few.
+pub type Numbers = SmallVec<u32, 4>;
+
 /// One action, with what it reads and sets.
 #[derive(Drop)]
 pub struct StepNode {
     /// What is done.
     pub action: Action,
     /// The places that it accesses.
-    pub places: Vec<Place>,
+    pub places: Places,
     /// The register that takes its result.
     pub to: Option<u32>,
     /// The registers that it reads.
-    pub temps: Vec<u32>,
+    pub temps: Numbers,
     /// The pin slots of its list, where it may wait.
-    pub slots: Vec<u32>,
+    pub slots: Numbers,
 }
 
 /// A call of a function.

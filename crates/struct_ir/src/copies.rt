@@ -5,9 +5,10 @@ ghost use Rattle.c_tree.specs.TypedViews.{piece_view, literal_view};
 ghost use Rattle.struct_ir.specs.Lists.{bare_place, bare_step, bare_call};
 ghost use Rattle.struct_ir.specs.Views.{place_view, action_view, step_view, call_view};
 
-use crate::code::{Action, CallNode, Place, StepNode};
+use crate::code::{Action, CallNode, Place, Places, StepNode};
 use ak_words::NoMemory;
 use c_tree::typed::{Literal, Piece};
+use smallvec::SmallVec;
 use std::alloc::Global;
 
 fn copy_piece(alloc: Global, p: &Piece) -> Result<Piece, NoMemory>
@@ -71,10 +72,10 @@ fn bare_place(a: &Place) -> Place
     }
 }
 
-fn bare_places(alloc: Global, places: &[Place]) -> Result<Vec<Place>, NoMemory>
+fn bare_places(alloc: Global, places: &[Place]) -> Result<Places, NoMemory>
     ensures { IfOk result (λ v. map place_view v.items ≡ map bare_place (map place_view places.now)) }
 {
-    let mut out = Vec::new(alloc);
+    let mut out = SmallVec::new(alloc);
     for a in places {
         out.push(bare_place(a))?;
     }
@@ -89,8 +90,8 @@ pub(crate) fn bare_step(alloc: Global, s: &StepNode) -> Result<StepNode, NoMemor
         action: copy_action(alloc, &s.action)?,
         places: bare_places(alloc, &s.places)?,
         to: s.to,
-        temps: s.temps.to_vec(alloc)?,
-        slots: Vec::new(alloc),
+        temps: SmallVec::from_slice(alloc, &s.temps)?,
+        slots: SmallVec::new(alloc),
     })
 }
 

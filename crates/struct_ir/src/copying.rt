@@ -6,6 +6,7 @@ ghost use Rattle.struct_ir.specs.Views.{step_view, call_view};
 use crate::code::{CallNode, StepNode};
 pub use crate::copies::{copy_action, copy_literals};
 use ak_words::NoMemory;
+use smallvec::SmallVec;
 use std::alloc::Global;
 
 /// The same step.
@@ -18,10 +19,10 @@ pub fn copy_step(alloc: Global, s: &StepNode) -> Result<StepNode, NoMemory>
 {
     Ok(StepNode {
         action: copy_action(alloc, &s.action)?,
-        places: s.places.to_vec(alloc)?,
+        places: SmallVec::from_slice(alloc, &s.places)?,
         to: s.to,
-        temps: s.temps.to_vec(alloc)?,
-        slots: s.slots.to_vec(alloc)?,
+        temps: SmallVec::from_slice(alloc, &s.temps)?,
+        slots: SmallVec::from_slice(alloc, &s.slots)?,
     })
 }
 

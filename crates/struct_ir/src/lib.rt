@@ -22,7 +22,8 @@ mod tests;
 pub mod valid;
 
 pub use code::{
-    Action, Calc, CallNode, IrFunc, IrGlobal, Node, NodeKind, Place, StackObject, StepNode,
+    Action, Calc, CallNode, IrFunc, IrGlobal, Node, NodeKind, Numbers, Place, Places, StackObject,
+    StepNode,
 };
 pub use erasing::erase;
 pub use ir::Ir;

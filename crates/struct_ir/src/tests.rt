@@ -8,6 +8,7 @@ use crate::ir::Ir;
 use crate::{erase, is_valid, text};
 use ak_words::{IntType, NoMemory, Op};
 use block_store::Access;
+use smallvec::SmallVec;
 use std::alloc::Global;
 use std::test::Fail;
 
@@ -61,10 +62,10 @@ fn place(slot: Option<u32>) -> Place {
 fn load(alloc: Global, slots: Vec<u32>) -> Result<NodeKind, NoMemory> {
     Ok(NodeKind::Step(StepNode {
         action: Action::Load(Access::Number(IntType::INT)),
-        places: vec![in alloc; place(Some(0))]?,
+        places: SmallVec::from_slice(alloc, &[place(Some(0))])?,
         to: Some(3),
-        temps: Vec::new(alloc),
-        slots,
+        temps: SmallVec::new(alloc),
+        slots: SmallVec::from_vec(slots),
     }))
 }
 

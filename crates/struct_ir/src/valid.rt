@@ -130,8 +130,8 @@ fn is_below_if(n: u32, value: Option<u32>) -> bool
     }
 }
 
-fn are_below(n: u32, list: &Vec<u32>) -> bool
-    ensures { result ≡ are_below n list.now.items }
+fn are_below(n: u32, list: &[u32]) -> bool
+    ensures { result ≡ are_below n list.now }
 {
     list.iter().all(|x| *x < n)
 }
@@ -154,8 +154,8 @@ fn is_distinct(list: &[u32]) -> bool
     true
 }
 
-fn is_list(x: &Scope, slots: &Vec<u32>) -> bool
-    ensures { result ≡ is_list (scope_view x.now) slots.now.items }
+fn is_list(x: &Scope, slots: &[u32]) -> bool
+    ensures { result ≡ is_list (scope_view x.now) slots.now }
 {
     are_below(x.slots, slots) && is_distinct(slots)
 }
@@ -285,8 +285,8 @@ fn starts(x: &Scope, action: &Action) -> bool
     }
 }
 
-fn is_own_list(x: &Scope, action: &Action, slots: &Vec<u32>) -> bool
-    ensures { result ≡ is_own_list (scope_view x.now) (action_view action.now) slots.now.items }
+fn is_own_list(x: &Scope, action: &Action, slots: &[u32]) -> bool
+    ensures { result ≡ is_own_list (scope_view x.now) (action_view action.now) slots.now }
 {
     is_list(x, slots) && (action.may_wait() || slots.len() == 0)
 }

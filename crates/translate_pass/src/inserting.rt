@@ -11,8 +11,9 @@ ghost use Rattle.translate_pass.specs.inner.Insert.{place_through, step_through,
 use ak_words::NoMemory;
 use pin_flow::copies::{add, branches, copy_action, copy_call, copy_literals, node, rounds};
 use pin_flow::slots::{bases_of, slot_of};
+use smallvec::SmallVec;
 use std::alloc::Global;
-use struct_ir::{Ir, IrFunc, Node, NodeKind, Place, StepNode};
+use struct_ir::{Ir, IrFunc, Node, NodeKind, Place, Places, StepNode};
 
 /// The code with a Look before each access, for its base. Each register that is the base of an
 /// access has a slot of its own.
@@ -165,11 +166,11 @@ fn insert_place(bases: &[u32], a: &Place) -> Place
     }
 }
 
-fn insert_places(alloc: Global, bases: &[u32], places: &[Place]) -> Result<Vec<Place>, NoMemory>
+fn insert_places(alloc: Global, bases: &[u32], places: &[Place]) -> Result<Places, NoMemory>
     requires { length bases.now < 2 ^ 32 }
     ensures { IfOk result (λ v. map place_view v.items ≡ map (place_through (slot_if bases.now)) (map place_view places.now)) }
 {
-    let mut out = Vec::new(alloc);
+    let mut out = SmallVec::new(alloc);
     for a in places {
         out.push(insert_place(bases, a))?;
     }
@@ -184,7 +185,7 @@ fn insert_step(alloc: Global, bases: &[u32], s: &StepNode) -> Result<StepNode, N
         action: copy_action(alloc, &s.action)?,
         places: insert_places(alloc, bases, &s.places)?,
         to: s.to,
-        temps: s.temps.to_vec(alloc)?,
-        slots: s.slots.to_vec(alloc)?,
+        temps: SmallVec::from_slice(alloc, &s.temps)?,
+        slots: SmallVec::from_slice(alloc, &s.slots)?,
     })
 }

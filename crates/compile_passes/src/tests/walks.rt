@@ -3,6 +3,7 @@
 use ak_words::NoMemory;
 use block_store::Access;
 use pin_checker::{CheckFault, Why, check};
+use smallvec::SmallVec;
 use std::alloc::Global;
 use std::test::Fail;
 use struct_ir::{Action, Calc, Ir, IrFunc, Node, NodeKind, Place, StepNode};
@@ -61,10 +62,10 @@ impl Maker {
         };
         Ok(NodeKind::Step(StepNode {
             action: Action::Load(Access::Pointer),
-            places: vec![in self.alloc; access]?,
+            places: SmallVec::from_slice(self.alloc, &[access])?,
             to: Some(2),
-            temps: Vec::new(self.alloc),
-            slots: Vec::new(self.alloc),
+            temps: SmallVec::new(self.alloc),
+            slots: SmallVec::new(self.alloc),
         }))
     }
 
