@@ -1,0 +1,266 @@
+-- What each kind of node tells, as the code has it.
+use Rattle.std.proofs.Common.{◌≡◌, ℕ, map, List, [], ◌∷◌, ◌++◌, Option, Result, Ok, Err, refl, ap, sym, subst, ◌∙◌, false}
+use Rattle.std.specs.Prelude.{Vec, Box}
+use Rattle.std.specs.declared.alloc.Global.{Global}
+use Rattle.ak_words.specs.declared.number.Num.{Num}
+use Rattle.c_lex.specs.declared.refusal.CompileFault.{CompileFault}
+use Rattle.c_tree.specs.declared.syntax.Name.{Name}
+use Rattle.c_tree.specs.declared.syntax.Span.{Span}
+use Rattle.c_tree.specs.declared.syntax.PrefixOp.{PrefixOp}
+use Rattle.c_tree.specs.declared.syntax.BinaryOp.{BinaryOp}
+use Rattle.c_tree.specs.declared.syntax.TypeWord.{TypeWord}
+use Rattle.c_tree.specs.declared.syntax.Expr.{Expr as Tree}
+use Rattle.c_tree.specs.declared.syntax.Expr.TheVariants as codes
+use Rattle.c_tree.specs.declared.syntax.Spec.{Spec as CodeSpec}
+use Rattle.c_tree.specs.declared.syntax.Spec.TheVariants as code_specs
+use Rattle.c_tree.specs.declared.syntax.TypeName.{TypeName as CodeTypeName}
+use Rattle.c_tree.specs.declared.syntax.Pointer.{Pointer}
+use Rattle.c_tree.specs.declared.syntax.Declarator.{Declarator as CodeDeclarator}
+use Rattle.c_tree.specs.declared.syntax.Expr.TheViews.{out-TypeName, out-Member}
+use Rattle.c_tree.specs.declared.syntax.Member.{Member as CodeMember}
+use Rattle.c_tree.specs.declared.typed.Expr.{Expr as CodeExpr}
+use Rattle.c_tree.specs.declared.typed.CType.{CType}
+use Rattle.c_tree.specs.Syntax as source
+use Rattle.c_tree.specs.SyntaxViews.{expr_view as seen, type_name_view, spec_view, member_view, declarator_view}
+use Rattle.c_tree.specs.Typed.{Ty, Expr, type_of, at, pointer, void, null, integer, num}
+use Rattle.c_tree.specs.TypedViews.{type_view, expr_view}
+use Rattle.c_typing.specs.Faults.{Judged, typed, Gives}
+use Rattle.c_typing.specs.Literals.{joined_bytes, place_of_parts}
+use Rattle.c_typing.specs.Types.{behind_pointers}
+use Rattle.c_typing.specs.Scope.{Context, meaning_of}
+use Rattle.c_typing.specs.Rules.{selected, pointed, element, cast, size_number}
+use Rattle.c_typing.specs.Statements.{judged_declarator}
+use Rattle.c_typing.specs.Judgement.{judged, valued, judged_type, judged_specs, judged_spec, judged_members, judged_member, judged_declarators, judged_dims, member_objects, names_in, names_of_member, named, spelled, prefixed, name_in, combined, braced, Part, word, tag}
+use Rattle.type_context.specs.declared.context.Context.{Context as CodeContext}
+use Rattle.type_context.specs.ContextViews.{context_view}
+use Rattle.type_context.specs.inner.Outcomes.{joined}
+use Rattle.type_specifiers.specs.declared.specifiers.Part.{Part as CodePart}
+use Rattle.type_specifiers.specs.declared.declarators.Declared.{Declared}
+use Rattle.type_specifiers.specs.ListViews.{numbers_view, part_view, declared_view, all_declared_view}
+use Rattle.type_context.specs.declared.context.MemberType.{MemberType}
+use Rattle.type_outcomes.specs.Telling.{Tells}
+use Rattle.type_outcomes.proofs.Walks.{lone_tells}
+use Rattle.type_nodes.specs.Nodes.{Finishes, types_of_members, sized, name_of, behind_declarator, choice}
+use Rattle.type_nodes.proofs.Expressions as tellings
+use Rattle.type_nodes.proofs.Types as types
+use Rattle.c_types.proofs.Views as views
+
+-- what is told of a tree that is seen so
+as_seen : (x : Tree) (y : source.Expr) (c : Context) (n : CodeContext) (r : Result CodeExpr CompileFault) → seen x ≡ y → Tells expr_view r n (judged y c) → Tells expr_view r n (judged (seen x) c)
+as_seen x y c n r is h = subst (λ (z : source.Expr). Tells expr_view r n (judged z c)) (sym is) h
+
+spec_as_seen : (x : CodeSpec) (y : source.Spec) (c : Context) (n : CodeContext) (r : Result CodePart CompileFault) → spec_view x ≡ y → Tells part_view r n (judged_spec y c) → Tells part_view r n (judged_spec (spec_view x) c)
+spec_as_seen x y c n r is h = subst (λ (z : source.Spec). Tells part_view r n (judged_spec z c)) (sym is) h
+
+pub name_told : (x : Tree) (name : Name) (n : CodeContext) (r : Result CodeExpr CompileFault)
+    → x ≡ codes.Name name
+    → Gives expr_view r (named name.from (meaning_of (context_view n) name))
+    → Tells expr_view r n (judged (seen x) (context_view n))
+name_told x name n r is h =
+    as_seen x _ (context_view n) n r (ap seen is ∙ views.name_seen name) (lone_tells expr_view r n (named name.from (meaning_of (context_view n) name)) h)
+
+pub int_told : (x : Tree) (place : ℕ) (v : Num) (n : CodeContext) (r : Result CodeExpr CompileFault)
+    → x ≡ codes.Int place v
+    → Gives expr_view r (typed (at place (integer v.ty) (num v.ty v.value)))
+    → Tells expr_view r n (judged (seen x) (context_view n))
+int_told x place v n r is h =
+    as_seen x _ (context_view n) n r (ap seen is ∙ views.int_seen place v) (lone_tells expr_view r n (typed (at place (integer v.ty) (num v.ty v.value))) h)
+
+pub char_told : (x : Tree) (place : ℕ) (v : Num) (n : CodeContext) (r : Result CodeExpr CompileFault)
+    → x ≡ codes.Char place v
+    → Gives expr_view r (typed (at place (integer v.ty) (num v.ty v.value)))
+    → Tells expr_view r n (judged (seen x) (context_view n))
+char_told x place v n r is h =
+    as_seen x _ (context_view n) n r (ap seen is ∙ views.char_seen place v) (lone_tells expr_view r n (typed (at place (integer v.ty) (num v.ty v.value))) h)
+
+pub null_told : (x : Tree) (place : ℕ) (n : CodeContext) (r : Result CodeExpr CompileFault)
+    → x ≡ codes.Null place
+    → Gives expr_view r (typed (at place (pointer void) null))
+    → Tells expr_view r n (judged (seen x) (context_view n))
+null_told x place n r is h =
+    as_seen x _ (context_view n) n r (ap seen is ∙ views.null_seen place) (lone_tells expr_view r n (typed (at place (pointer void) null)) h)
+
+pub text_told : (x : Tree) (parts : Vec Span Global) (spans : List Span) (c : Context) (n : CodeContext) (r : Result CodeExpr CompileFault)
+    → x ≡ codes.Text parts
+    → spans ≡ parts.items
+    → Tells expr_view r n (spelled (place_of_parts spans) (joined_bytes c.text spans) c)
+    → Tells expr_view r n (judged (seen x) c)
+text_told x parts spans c n r is same h =
+    as_seen x (source.text parts.items) c n r (ap seen is ∙ views.text_seen parts) (subst (λ (s : List Span). Tells expr_view r n (spelled (place_of_parts s) (joined_bytes c.text s) c)) same h)
+
+pub group_told : (x : Tree) (b : Box Tree Global) (y : Tree) (c : Context) (n : CodeContext) (r : Result CodeExpr CompileFault)
+    → x ≡ codes.Group b
+    → y ≡ b.value
+    → Tells expr_view r n (judged (seen y) c)
+    → Tells expr_view r n (judged (seen x) c)
+group_told x b y c n r is is_y h =
+    as_seen x (source.group (seen y)) c n r (ap seen is ∙ views.group_seen b ∙ ap (λ (z : Tree). source.group (seen z)) (sym is_y)) h
+
+pub call_told : (x : Tree) (callee : Name) (args : Vec Tree Global) (all : List Tree) (c : Context) (n : CodeContext) (r : Result CodeExpr CompileFault)
+    → x ≡ codes.Call callee args
+    → all ≡ args.items
+    → Tells expr_view r n (judged (source.call callee (source.exprs_of (map seen all))) c)
+    → Tells expr_view r n (judged (seen x) c)
+call_told x callee args all c n r is same h =
+    as_seen x (source.call callee (source.exprs_of (map seen all))) c n r (ap seen is ∙ views.call_seen callee args ∙ ap (λ (l : List Tree). source.call callee (source.exprs_of (map seen l))) (sym same)) h
+
+pub prefix_told : (x : Tree) (place : ℕ) (op : PrefixOp) (b : Box Tree Global) (y : Tree) (c : Context) (n : CodeContext) (r : Result CodeExpr CompileFault)
+    → x ≡ codes.Prefix place op b
+    → y ≡ b.value
+    → Tells expr_view r n (prefixed place op (name_in (seen y)) (judged (seen y)) c)
+    → Tells expr_view r n (judged (seen x) c)
+prefix_told x place op b y c n r is is_y h =
+    as_seen x (source.prefix place op (seen y)) c n r (ap seen is ∙ views.prefix_seen place op b ∙ ap (λ (z : Tree). source.prefix place op (seen z)) (sym is_y)) h
+
+pub sizeof_type_told : (x : Tree) (place : ℕ) (t : CodeTypeName) (c : Context) (n : CodeContext) (a : Result CType CompileFault) (r : Result CodeExpr CompileFault)
+    → x ≡ codes.SizeofType place t
+    → Tells type_view a n (judged_type (type_name_view t) c)
+    → Finishes expr_view a (λ s. size_number (context_view n) place (type_view s)) r
+    → Tells expr_view r n (judged (seen x) c)
+sizeof_type_told x place t c n a r is h f =
+    as_seen x (source.sizeof_type place (type_name_view t)) c n r (ap seen is ∙ views.sizeof_type_seen place t) (tellings.size_of_type_tells place (type_name_view t) c n a r h f)
+
+pub sizeof_expr_told : (x : Tree) (place : ℕ) (b : Box Tree Global) (y : Tree) (c : Context) (n : CodeContext) (a : Result CodeExpr CompileFault) (r : Result CodeExpr CompileFault)
+    → x ≡ codes.SizeofExpr place b
+    → y ≡ b.value
+    → Tells expr_view a n (judged (seen y) c)
+    → Finishes expr_view a (λ e. size_number (context_view n) place (type_of (expr_view e))) r
+    → Tells expr_view r n (judged (seen x) c)
+sizeof_expr_told x place b y c n a r is is_y h f =
+    as_seen x (source.sizeof_expr place (seen y)) c n r (ap seen is ∙ views.sizeof_expr_seen place b ∙ ap (λ (z : Tree). source.sizeof_expr place (seen z)) (sym is_y)) (tellings.size_of_expression_tells place (seen y) c n a r h f)
+
+pub selection_told : (x : Tree) (place : ℕ) (b : Box Tree Global) (name : Name) (y : Tree) (c : Context) (n : CodeContext) (a : Result CodeExpr CompileFault) (r : Result CodeExpr CompileFault)
+    → x ≡ codes.Member place b name
+    → y ≡ b.value
+    → Tells expr_view a n (judged (seen y) c)
+    → Finishes expr_view a (λ e. selected (context_view n) place (expr_view e) name) r
+    → Tells expr_view r n (judged (seen x) c)
+selection_told x place b name y c n a r is is_y h f =
+    as_seen x (source.member place (seen y) name) c n r (ap seen is ∙ views.selection_seen place b name ∙ ap (λ (z : Tree). source.member place (seen z) name) (sym is_y)) (tellings.member_tells place (seen y) name c n a r h f)
+
+pub arrow_told : (x : Tree) (place : ℕ) (b : Box Tree Global) (name : Name) (y : Tree) (c : Context) (n : CodeContext) (a : Result CodeExpr CompileFault) (r : Result CodeExpr CompileFault)
+    → x ≡ codes.Arrow place b name
+    → y ≡ b.value
+    → Tells expr_view a n (valued (judged (seen y)) c)
+    → Finishes expr_view a (λ e. pointed (context_view n) place (expr_view e) name) r
+    → Tells expr_view r n (judged (seen x) c)
+arrow_told x place b name y c n a r is is_y h f =
+    as_seen x (source.arrow place (seen y) name) c n r (ap seen is ∙ views.arrow_seen place b name ∙ ap (λ (z : Tree). source.arrow place (seen z) name) (sym is_y)) (tellings.arrow_tells place (seen y) name c n a r h f)
+
+pub cast_told : (x : Tree) (place : ℕ) (t : CodeTypeName) (b : Box Tree Global) (y : Tree) (c : Context) (n : CodeContext) (m : CodeContext) (a : Result CType CompileFault) (d : Result CodeExpr CompileFault) (r : Result CodeExpr CompileFault)
+    → x ≡ codes.Cast place t b
+    → y ≡ b.value
+    → Tells type_view a n (judged_type (type_name_view t) c)
+    → Tells expr_view d m (valued (judged (seen y)) (context_view n))
+    → Finishes expr_view (joined a d) (λ p. cast place (type_view p.0) (expr_view p.1)) r
+    → Tells expr_view r m (judged (seen x) c)
+cast_told x place t b y c n m a d r is is_y h k f =
+    as_seen x (source.cast place (type_name_view t) (seen y)) c m r (ap seen is ∙ views.cast_seen place t b ∙ ap (λ (z : Tree). source.cast place (type_name_view t) (seen z)) (sym is_y)) (tellings.cast_tells place (type_name_view t) (seen y) c n m a d r h k f)
+
+pub index_told : (x : Tree) (place : ℕ) (b : Box Tree Global) (b2 : Box Tree Global) (y : Tree) (z : Tree) (c : Context) (n : CodeContext) (m : CodeContext) (a : Result CodeExpr CompileFault) (d : Result CodeExpr CompileFault) (r : Result CodeExpr CompileFault)
+    → x ≡ codes.Index place b b2
+    → y ≡ b.value
+    → z ≡ b2.value
+    → Tells expr_view a n (valued (judged (seen y)) c)
+    → Tells expr_view d m (valued (judged (seen z)) (context_view n))
+    → Finishes expr_view (joined a d) (λ p. element (context_view m) place (expr_view p.0) (expr_view p.1)) r
+    → Tells expr_view r m (judged (seen x) c)
+index_told x place b b2 y z c n m a d r is is_y is_z h k f =
+    as_seen x (source.index place (seen y) (seen z)) c m r (ap seen is ∙ views.index_seen place b b2 ∙ ap (λ (w : Tree). source.index place (seen w) (seen b2.value)) (sym is_y) ∙ ap (λ (w : Tree). source.index place (seen y) (seen w)) (sym is_z)) (tellings.index_tells place (seen y) (seen z) c n m a d r h k f)
+
+pub binary_told : (x : Tree) (place : ℕ) (op : BinaryOp) (b : Box Tree Global) (b2 : Box Tree Global) (y : Tree) (z : Tree) (c : Context) (n : CodeContext) (m : CodeContext) (a : Result CodeExpr CompileFault) (d : Result CodeExpr CompileFault) (r : Result CodeExpr CompileFault)
+    → x ≡ codes.Binary place op b b2
+    → y ≡ b.value
+    → z ≡ b2.value
+    → Tells expr_view a n (valued (judged (seen y)) c)
+    → Tells expr_view d m (valued (judged (seen z)) (context_view n))
+    → Finishes expr_view (joined a d) (λ p. combined (context_view m) place op (expr_view p.0) (expr_view p.1)) r
+    → Tells expr_view r m (judged (seen x) c)
+binary_told x place op b b2 y z c n m a d r is is_y is_z h k f =
+    as_seen x (source.binary place op (seen y) (seen z)) c m r (ap seen is ∙ views.binary_seen place op b b2 ∙ ap (λ (w : Tree). source.binary place op (seen w) (seen b2.value)) (sym is_y) ∙ ap (λ (w : Tree). source.binary place op (seen y) (seen w)) (sym is_z)) (tellings.binary_tells place op (seen y) (seen z) c n m a d r h k f)
+
+pub conditional_told : (x : Tree) (place : ℕ) (b : Box Tree Global) (b2 : Box Tree Global) (b3 : Box Tree Global) (y : Tree) (z : Tree) (w : Tree) (c : Context) (n : CodeContext) (m : CodeContext) (o : CodeContext) (a : Result CodeExpr CompileFault) (d : Result CodeExpr CompileFault) (e : Result CodeExpr CompileFault) (r : Result CodeExpr CompileFault)
+    → x ≡ codes.Conditional place b b2 b3
+    → y ≡ b.value
+    → z ≡ b2.value
+    → w ≡ b3.value
+    → Tells expr_view a n (valued (judged (seen y)) c)
+    → Tells expr_view d m (valued (judged (seen z)) (context_view n))
+    → Tells expr_view e o (valued (judged (seen w)) (context_view m))
+    → Finishes expr_view (joined a (joined d e)) (λ p. choice place (expr_view p.0) (expr_view p.1.0) (expr_view p.1.1)) r
+    → Tells expr_view r o (judged (seen x) c)
+conditional_told x place b b2 b3 y z w c n m o a d e r is is_y is_z is_w h k l f =
+    let is_all = ap seen is ∙ views.conditional_seen place b b2 b3
+    ∙ ap (λ (q : Tree). source.conditional place (seen q) (seen b2.value) (seen b3.value)) (sym is_y)
+    ∙ ap (λ (q : Tree). source.conditional place (seen y) (seen q) (seen b3.value)) (sym is_z)
+    ∙ ap (λ (q : Tree). source.conditional place (seen y) (seen z) (seen q)) (sym is_w) in
+    as_seen x (source.conditional place (seen y) (seen z) (seen w)) c o r is_all (tellings.conditional_tells place (seen y) (seen z) (seen w) c n m o a d e r h k l f)
+
+-- ---- specifiers
+
+pub word_told : (x : CodeSpec) (place : ℕ) (w : TypeWord) (n : CodeContext) (r : Result CodePart CompileFault)
+    → x ≡ code_specs.Word place w
+    → Gives part_view r (typed (word w))
+    → Tells part_view r n (judged_spec (spec_view x) (context_view n))
+word_told x place w n r is h =
+    spec_as_seen x (source.word place w) (context_view n) n r (ap spec_view is ∙ views.word_seen place w) (lone_tells part_view r n (typed (word w)) h)
+
+pub struct_told : (x : CodeSpec) (place : ℕ) (t : Name) (c : Context) (n : CodeContext) (r : Result CodePart CompileFault)
+    → x ≡ code_specs.Struct place t
+    → Tells part_view r n (judged_spec (source.struct place t) c)
+    → Tells part_view r n (judged_spec (spec_view x) c)
+struct_told x place t c n r is h =
+    spec_as_seen x (source.struct place t) c n r (ap spec_view is ∙ views.struct_seen place t) h
+
+pub body_told : (x : CodeSpec) (place : ℕ) (t : Name) (v : Vec CodeMember Global) (all : List CodeMember) (c : Context) (n : CodeContext) (r : Result CodePart CompileFault)
+    → x ≡ code_specs.StructBody place t v
+    → all ≡ v.items
+    → Tells part_view r n (braced t (judged_members [] (source.members_row (map member_view all))) c)
+    → Tells part_view r n (judged_spec (spec_view x) c)
+body_told x place t v all c n r is same h =
+    spec_as_seen x (source.struct_body place t (source.members_row (map member_view all))) c n r (ap spec_view is ∙ views.body_seen place t v ∙ ap (λ (l : List CodeMember). source.struct_body place t (source.members_row (map member_view l))) (sym same)) h
+
+-- ---- the names of types, and members
+
+pub type_name_told : (t : CodeTypeName) (specs : List CodeSpec) (pointers : List Pointer) (c : Context) (n : CodeContext) (a r : Result CType CompileFault)
+    → specs ≡ (out-TypeName t).specs.items → pointers ≡ (out-TypeName t).pointers.items
+    → Tells type_view a n (judged_specs (source.specs_of (map spec_view specs)) c) → Finishes type_view a (λ s. typed (behind_pointers (type_view s) pointers)) r
+    → Tells type_view r n (judged_type (type_name_view t) c)
+type_name_told t specs pointers c n a r is_specs is_pointers h f =
+    let is = views.type_name_seen t
+    ∙ ap (λ (l : List CodeSpec). source.type_name (source.specs_of (map spec_view l)) (out-TypeName t).pointers.items) (sym is_specs)
+    ∙ ap (λ (l : List Pointer). source.type_name (source.specs_of (map spec_view specs)) l) (sym is_pointers) in
+    subst (λ (s : source.TypeName). Tells type_view r n (judged_type s c)) (sym is)
+    (types.type_name_tells (source.specs_of (map spec_view specs)) pointers c n a r h f)
+
+pub member_told : (before : List Name) (d : CodeMember) (specs : List CodeSpec) (ds : List CodeDeclarator) (c : Context) (n m : CodeContext)
+    (a : Result CType CompileFault) (b : Result (Vec Declared Global) CompileFault) (r : Result (Vec MemberType Global) CompileFault)
+    → specs ≡ (out-Member d).specs.items → ds ≡ (out-Member d).declarators.items
+    → Tells type_view a n (judged_specs (source.specs_of (map spec_view specs)) c) → Tells all_declared_view b m (judged_declarators before (source.declarators_of (map declarator_view ds)) (context_view n))
+    → Finishes types_of_members (joined a b) (λ p. member_objects (context_view m) (type_view p.0) (all_declared_view p.1)) r
+    → Tells types_of_members r m (judged_member before (member_view d) c)
+member_told before d specs ds c n m a b r is_specs is_ds h k f =
+    let is = views.member_seen d
+    ∙ ap (λ (l : List CodeSpec). source.members_of (source.specs_of (map spec_view l)) (source.declarators_of (map declarator_view (out-Member d).declarators.items))) (sym is_specs)
+    ∙ ap (λ (l : List CodeDeclarator). source.members_of (source.specs_of (map spec_view specs)) (source.declarators_of (map declarator_view l))) (sym is_ds) in
+    subst (λ (s : source.Member). Tells types_of_members r m (judged_member before s c)) (sym is)
+    (types.member_tells before (source.specs_of (map spec_view specs)) (source.declarators_of (map declarator_view ds)) c n m a b r h k f)
+
+-- the names that a declaration of members declares
+pub member_names : (d : CodeMember) (ds : List CodeDeclarator) → ds ≡ (out-Member d).declarators.items → names_in (source.declarators_of (map declarator_view ds)) ≡ names_of_member (member_view d)
+member_names d ds is = ap (λ (l : List CodeDeclarator). names_in (source.declarators_of (map declarator_view l))) is ∙ sym (ap names_of_member (views.member_seen d))
+
+-- a declarator whose name isn't asked for
+pub declarator_told : (d : CodeDeclarator) (dims : List Tree) (c : Context) (n : CodeContext) (s : Result (Vec ℕ Global) CompileFault) (r : Result Declared CompileFault)
+    → dims ≡ d.dims.items → Tells numbers_view s n (judged_dims (source.exprs_of (map seen dims)) c) → Finishes declared_view (joined {A = Unit {0}} (Ok tt) s) (λ p. typed (sized (declarator_view d) (numbers_view p.1))) r
+    → Tells declared_view r n (judged_declarator (declarator_view d) c)
+declarator_told d dims c n s r is h f =
+    let e = source.declarator d.pointers.items d.name (source.exprs_of (map seen dims)) in
+    let is_e : declarator_view d ≡ e = views.declarator_seen d ∙ ap (λ (l : List Tree). source.declarator d.pointers.items d.name (source.exprs_of (map seen l))) (sym is) in
+    subst (λ (x : source.Declarator). Tells declared_view r n (judged_declarator x c)) (sym is_e)
+    (types.declared_tells e (judged_dims (source.exprs_of (map seen dims))) c n s r h
+    (subst (λ (x : source.Declarator). Finishes declared_view (joined {A = Unit {0}} (Ok tt) s) (λ p. typed (sized x (numbers_view p.1))) r) is_e f))
+
+-- the names behind a declarator
+pub declarator_behind : (before : List Name) (d : CodeDeclarator) → before ++ d.name ∷ [] ≡ behind_declarator before (declarator_view d)
+declarator_behind before d = ap (λ (n : Name). before ++ n ∷ []) (sym (ap name_of (views.declarator_seen d)))

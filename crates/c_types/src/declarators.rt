@@ -1,0 +1,170 @@
+//! Types as they are named and declared: specifiers, structs, members and declarators (C11 6.7.2, 6.7.6, 6.7.7).
+ghost use Rattle.std.specs.Prelude.{◌≡◌, ◌++◌, [], false, map};
+ghost use Rattle.c_tree.specs.Syntax as trees;
+ghost use Rattle.c_tree.specs.SyntaxViews as source;
+ghost use Rattle.c_tree.specs.TypedViews.{type_view};
+ghost use Rattle.c_typing.specs.Judgement as rules;
+ghost use Rattle.c_typing.specs.Judgement.{ruled, valued, judged, judged_type, judged_specs, judged_parts, judged_spec, judged_members, judged_member, judged_declarators, judged_dims, dimension, braced, names_in};
+ghost use Rattle.c_typing.specs.Statements.{judged_declarator};
+ghost use Rattle.type_context.specs.ContextViews.{context_view};
+ghost use Rattle.type_specifiers.specs.ListViews.{numbers_view, part_view, parts_view, declared_view, all_declared_view};
+ghost use Rattle.type_outcomes.specs.Telling.{Tells, lacks_memory};
+ghost use Rattle.type_nodes.specs.Nodes.{types_of_members};
+
+use crate::expressions::value;
+use c_lex::CompileFault;
+use c_tree::syntax as tree;
+use c_tree::syntax::Name;
+use c_tree::typed::CType;
+use type_context::context::{Context, MemberType};
+use type_nodes::structs::{
+    closed, declared, fresh_member, member_types, named_tag, opened, pointers_to,
+    size_of_dimension, type_of_parts,
+};
+use type_outcomes::outcomes::{appended, pushed};
+use type_specifiers::declarators::Declared;
+use type_specifiers::specifiers::Part;
+
+/// The name of a type (C11 6.7.7).
+#[cycle(nodes)]
+pub fn type_name(context: &mut Context<'_>, t: &tree::TypeName) -> Result<CType, CompileFault>
+    ensures { Tells type_view result context.new (judged_type (source.type_name_view t.now) (context_view context.old)) }
+{
+    let named = specifiers(context, &t.specs);
+    pointers_to(context.alloc, named, &t.pointers)
+}
+
+/// The type that specifiers name, at the place of the first (C11 6.7.2).
+#[cycle(nodes)]
+pub fn specifiers(context: &mut Context<'_>, specs: &[tree::Spec]) -> Result<CType, CompileFault>
+    ensures { Tells type_view result context.new (judged_specs (trees.specs_of (map source.spec_view specs.now)) (context_view context.old)) }
+{
+    let parts = parts(context, specs);
+    type_of_parts(context.alloc, specs, parts)
+}
+
+// Specifiers, from left to right.
+#[cycle(nodes)]
+fn parts(context: &mut Context<'_>, specs: &[tree::Spec]) -> Result<Vec<Part>, CompileFault>
+    ensures { Tells parts_view result context.new (judged_parts (trees.specs_of (map source.spec_view specs.now)) (context_view context.old)) }
+{
+    let mut all = Ok(Vec::new(context.alloc));
+    'specifiers: for spec in specs {
+        let next = part(context, spec);
+        all = pushed(all, next);
+    }
+    all
+}
+
+// A specifier.
+#[cycle(nodes)]
+fn part(context: &mut Context<'_>, spec: &tree::Spec) -> Result<Part, CompileFault>
+    ensures { Tells part_view result context.new (judged_spec (source.spec_view spec.now) (context_view context.old)) }
+{
+    match spec {
+        tree::Spec::Word { word, .. } => Ok(Part::Word(*word)),
+        tree::Spec::Struct { tag, .. } => {
+            let number = named_tag(context, *tag)?;
+            Ok(Part::Tag(number))
+        }
+        tree::Spec::StructBody { tag, members, .. } => braces(context, *tag, members),
+    }
+}
+
+// The braces of a struct (C11 6.7.2.1).
+#[cycle(nodes)]
+fn braces(context: &mut Context<'_>, tag: Name, all: &[tree::Member]) -> Result<Part, CompileFault>
+    ensures { Tells part_view result context.new (braced tag (judged_members [] (trees.members_row (map source.member_view all.now))) (context_view context.old)) }
+{
+    let number = named_tag(context, tag)?;
+    let opened = opened(context, tag, number);
+    let again = context.is_begun(number);
+    context.begin(number)?;
+    let members = members(context, all);
+    closed(context, tag, number, opened, again, members)
+}
+
+// The members of a struct.
+#[cycle(nodes)]
+fn members<'t>(
+    context: &mut Context<'t>,
+    members: &[tree::Member],
+) -> Result<Vec<MemberType<'t>>, CompileFault>
+    ensures { Tells types_of_members result context.new (judged_members [] (trees.members_row (map source.member_view members.now)) (context_view context.old)) }
+{
+    let mut before = Vec::new(context.alloc);
+    let mut all = Ok(Vec::new(context.alloc));
+    'members: for m in members {
+        let next = member(context, &mut before, m);
+        all = appended(all, next);
+    }
+    all
+}
+
+// Members that are declared together, behind those of these names.
+#[cycle(nodes)]
+fn member<'t>(
+    context: &mut Context<'t>,
+    before: &mut Vec<Name>,
+    m: &tree::Member,
+) -> Result<Vec<MemberType<'t>>, CompileFault>
+    ensures judged { Tells types_of_members result context.new (judged_member before.old.items (source.member_view m.now) (context_view context.old)) }
+    ensures names { lacks_memory result ≡ false → before.new.items ≡ before.old.items ++ rules.names_of_member (source.member_view m.now) }
+{
+    let base = specifiers(context, &m.specs);
+    let all = declarators(context, before, &m.declarators);
+    member_types(context, base, all)
+}
+
+// Declarators of members, behind those of these names.
+#[cycle(nodes)]
+fn declarators<'a>(
+    context: &mut Context<'_>,
+    before: &mut Vec<Name>,
+    declarators: &'a [tree::Declarator],
+) -> Result<Vec<Declared<'a>>, CompileFault>
+    ensures judged { Tells all_declared_view result context.new (judged_declarators before.old.items (trees.declarators_of (map source.declarator_view declarators.now)) (context_view context.old)) }
+    ensures names { lacks_memory result ≡ false → before.new.items ≡ before.old.items ++ names_in (trees.declarators_of (map source.declarator_view declarators.now)) }
+{
+    let mut all = Ok(Vec::new(context.alloc));
+    'declarators: for d in declarators {
+        let fresh = fresh_member(context, before, d.name);
+        let sizes = dimensions(context, &d.dims);
+        all = pushed(all, declared(d, fresh, sizes));
+        before.push(d.name)?;
+    }
+    all
+}
+
+/// The sizes of an array (C11 6.7.6.2).
+#[cycle(nodes)]
+pub fn dimensions(context: &mut Context<'_>, dims: &[tree::Expr]) -> Result<Vec<u32>, CompileFault>
+    ensures { Tells numbers_view result context.new (judged_dims (trees.exprs_of (map source.expr_view dims.now)) (context_view context.old)) }
+{
+    let mut all = Ok(Vec::new(context.alloc));
+    'dimensions: for e in dims {
+        let next = array_size(context, e);
+        all = pushed(all, next);
+    }
+    all
+}
+
+/// The size of an array: an integer constant expression.
+#[cycle(nodes)]
+pub fn array_size(context: &mut Context<'_>, e: &tree::Expr) -> Result<u32, CompileFault>
+    ensures { Tells (λ n. n) result context.new (ruled (valued (judged (source.expr_view e.now))) (dimension (source.expr_view e.now)) (context_view context.old)) }
+{
+    let typed = value(context, e);
+    size_of_dimension(context, e, typed)
+}
+
+/// A declarator (C11 6.7.6).
+pub fn declarator<'a>(
+    context: &mut Context<'_>,
+    d: &'a tree::Declarator,
+) -> Result<Declared<'a>, CompileFault>
+    ensures { Tells declared_view result context.new (judged_declarator (source.declarator_view d.now) (context_view context.old)) }
+{
+    let sizes = dimensions(context, &d.dims);
+    declared(d, Ok(()), sizes)
+}

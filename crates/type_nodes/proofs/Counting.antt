@@ -1,0 +1,24 @@
+-- The place of the argument past a limit, if there is one.
+use Rattle.std.proofs.Common.{◌≡◌, ℕ, zero, suc, ◌<◌, ◌≤◌, length, get_or, map, arith, List, [], ◌∷◌, Option, Some, Result, Err, refl, ap, sym, subst}
+use Rattle.c_lex.specs.declared.refusal.CompileFault.{CompileFault}
+use Rattle.c_lex.specs.declared.refusal.CompileFault.TheVariants.{Refused}
+use Rattle.c_lex.specs.declared.refusal.Kind.TheVariants.{TooMany}
+use Rattle.c_tree.specs.Syntax as source
+use Rattle.c_typing.specs.Faults.{Gives, first, typed}
+use Rattle.c_typing.specs.Judgement.{none_past, place_past, node_place}
+
+pub none_behind : {Y : Type 0} (v : Y → source.Expr) (n : ℕ) (xs : List Y) → length xs ≤ n → none_past 7 (place_past n (source.exprs_of (map v xs))) ≡ typed tt
+none_behind v zero [] h = refl
+none_behind v (suc n) [] h = refl
+none_behind v zero (x ∷ xs) h = absurd (omega arith)
+none_behind v (suc n) (x ∷ xs) h = none_behind v n xs (omega arith)
+
+pub one_behind : {Y : Type 0} (v : Y → source.Expr) (n : ℕ) (xs : List Y) (y : Y) → n < length xs → y ≡ get_or xs n y → place_past n (source.exprs_of (map v xs)) ≡ Some (node_place (v y))
+one_behind v n [] y h is = absurd (omega arith)
+one_behind v zero (x ∷ xs) y h is = ap (λ z. Some (node_place (v z))) (sym is)
+one_behind v (suc n) (x ∷ xs) y h is = one_behind v n xs y (omega arith) is
+
+pub too_many : (r : Result (Unit {0}) CompileFault) (p q : ℕ) (o : Option ℕ) → r ≡ Err (Refused (record { place = p; kind = TooMany 7 })) → p ≡ q → o ≡ Some q → Gives (λ (u : Unit {0}). tt) r (none_past 7 o)
+too_many r p q o is_r is_p is_o =
+    subst (λ s. Gives (λ (u : Unit {0}). tt) s (none_past 7 o)) (sym is_r)
+    (subst (λ x. first (none_past 7 x) ≡ Some (record { place = p; kind = TooMany 7 })) (sym is_o) (ap (λ (i : ℕ). Some (record { place = i; kind = TooMany 7 })) (sym is_p)))

@@ -1,0 +1,5 @@
+pub mod Telling
+pub mod Expressions
+pub mod Types
+pub mod Counting
+pub mod Braces

@@ -1,0 +1,244 @@
+//! Tags, members and types, by what their parts came to (C11 6.7.2, 6.7.6).
+ghost use Rattle.std.specs.Prelude.{◌≡◌, ℕ, List, map, IfOk, IfErr, OnOk, if◌then◌else◌};
+ghost use Rattle.std.specs.List.{list_any};
+ghost use Rattle.std.specs.Str.{bytes_eq};
+ghost use Rattle.c_lex.specs.declared.refusal.CompileFault.TheVariants.{NoMemory};
+ghost use Rattle.c_tree.specs.Syntax as trees;
+ghost use Rattle.c_tree.specs.SyntaxViews as source;
+ghost use Rattle.c_tree.specs.Typed.{Ty};
+ghost use Rattle.c_tree.specs.TypedViews.{type_view, expr_view};
+ghost use Rattle.c_typing.specs.Faults as faults;
+ghost use Rattle.c_typing.specs.Faults.{Judged, Gives};
+ghost use Rattle.c_typing.specs.Types.{behind_pointers};
+ghost use Rattle.c_typing.specs.Scope as scopes;
+ghost use Rattle.c_typing.specs.Scope.{bytes_of, with_tag, tag_number};
+ghost use Rattle.c_typing.specs.Judgement.{Judging, struct_fits, closed, fresh_member, opened, member_objects, specified, place_of_specs, dimension, tag};
+ghost use Rattle.type_context.specs.ContextViews.{context_view, member_type_view, members_view, types_view};
+ghost use Rattle.type_context.specs.inner.Outcomes.{joined};
+ghost use Rattle.type_specifiers.specs.ListViews.{numbers_view, part_view, parts_view, declared_view, all_declared_view};
+ghost use Rattle.type_outcomes.specs.Telling.{Tells};
+ghost use Rattle.type_nodes.specs.Nodes.{Finishes, types_of_members, object_named, sized, fits_of, fitting, closing};
+
+use c_lex::{CompileFault, Kind};
+use c_tree::syntax as tree;
+use c_tree::syntax::{Name, Pointer};
+use c_tree::typed::{CType, Expr};
+use std::alloc::{AllocError, Global};
+use type_context::context::{Context, MemberType, within};
+use type_context::faults::{both, unless};
+use type_context::kinds::copy_type;
+use type_context::layouts::{GREATEST_OBJECT, struct_size};
+use type_outcomes::outcomes::{both_fine, pushed};
+use type_specifiers::declarators::{Declared, dimension, object_declared};
+use type_specifiers::places::place_of_specs;
+use type_specifiers::specifiers::{Part, behind_pointers, specified};
+
+/// A tag is named; its number.
+pub fn named_tag(context: &mut Context<'_>, tag: Name) -> Result<u32, CompileFault>
+    ensures after { OnOk result (context_view context.new ≡ with_tag (context_view context.old) tag) }
+    ensures number { IfOk result (λ n. n ≡ tag_number (with_tag (context_view context.old) tag) tag) }
+    ensures memory { IfErr result (λ e. e ≡ NoMemory) }
+{
+    context.name_tag(tag)?;
+    context.tag_number(tag)
+}
+
+/// A tag's braces: once, and 256 of them at most.
+pub fn opened(context: &Context<'_>, tag: Name, number: u32) -> Result<(), CompileFault>
+    ensures { number ≡ tag_number (context_view context.now) tag → Gives (λ _. tt) result (opened (context_view context.now) tag) }
+{
+    let once = unless(tag.from, Kind::DoubleName, !context.is_begun(number));
+    both_fine(once, within(tag.from, 3, 256, context.begun.len()))
+}
+
+// Whether a name is one of these.
+fn is_among(context: &Context<'_>, names: &[Name], name: Name) -> bool
+    ensures { result ≡ list_any (λ m. bytes_eq (bytes_of (context_view context.now).text name) (bytes_of (context_view context.now).text m)) names.now }
+{
+    let bytes = context.bytes(name);
+    names.iter().any(|other| bytes == context.bytes(*other))
+}
+
+/// A member's name is declared once in its struct, and there are 256 at most.
+pub fn fresh_member(context: &Context<'_>, before: &[Name], name: Name) -> Result<(), CompileFault>
+    ensures { Gives (λ _. tt) result (fresh_member (context_view context.now) before.now name) }
+{
+    let again = is_among(context, before, name);
+    let once = unless(name.from, Kind::DoubleName, !again);
+    both_fine(once, within(name.from, 4, 256, before.len()))
+}
+
+// The types of members.
+fn types_of(alloc: Global, all: &[MemberType<'_>]) -> Result<Vec<CType>, AllocError>
+    ensures { IfOk result (λ types. types_view types.items ≡ map (λ (m : List ℕ × Ty). m.1) (members_view all.now)) }
+{
+    let mut types = Vec::new(alloc);
+    'members: for member in all {
+        types.push(copy_type(alloc, &member.ty)?)?;
+    }
+    Ok(types)
+}
+
+// Whether a struct with these members is at most as large as the greatest object.
+fn fits(context: &Context<'_>, place: u32, all: &[MemberType<'_>]) -> Result<(), CompileFault>
+    ensures { Gives (λ _. tt) result (fits_of (context_view context.now) place (members_view all.now)) }
+{
+    let types = types_of(context.alloc, all)?;
+    let size = struct_size(&context.structs, &types)?;
+    unless(place, Kind::BadSize, size <= GREATEST_OBJECT)
+}
+
+// A struct is declared with these members, if they fit, unless it was begun before.
+fn declared_with<'t>(
+    context: &mut Context<'t>,
+    place: u32,
+    number: u32,
+    again: bool,
+    all: Vec<MemberType<'t>>,
+) -> Result<(), CompileFault>
+    ensures { Tells (λ _. tt) result context.new (fits_of (context_view context.old) place (members_view all.entry.items), if again then context_view context.old else closed (context_view context.old) number (struct_fits (context_view context.old) place (members_view all.entry.items))) }
+{
+    fits(context, place, &all)?;
+    if again {
+        return Ok(());
+    }
+    context.declare_struct(number, all)
+}
+
+// The same, of members that are judged.
+fn fitting<'t>(
+    context: &mut Context<'t>,
+    place: u32,
+    number: u32,
+    again: bool,
+    members: Result<Vec<MemberType<'t>>, CompileFault>,
+) -> Result<(), CompileFault>
+    ensures { (J : Judging (List (List ℕ × Ty))) (c : scopes.Context) → Tells types_of_members members.entry context.old (J c) → Tells (λ _. tt) result context.new (fitting place number again J c) }
+{
+    let all = members?;
+    declared_with(context, place, number, again, all)
+}
+
+// A struct by its number, if nothing is wrong with its braces.
+fn tag_of(
+    number: u32,
+    opened: Result<(), CompileFault>,
+    fits: Result<(), CompileFault>,
+) -> Result<Part, CompileFault>
+    ensures { Finishes part_view (joined opened fits) (λ _. faults.typed (tag number)) result }
+{
+    both(opened, fits)?;
+    Ok(Part::Tag(number))
+}
+
+/// Behind the closing brace the struct is declared, unless it was begun before.
+pub fn closed<'t>(
+    context: &mut Context<'t>,
+    tag: Name,
+    number: u32,
+    opened: Result<(), CompileFault>,
+    again: bool,
+    members: Result<Vec<MemberType<'t>>, CompileFault>,
+) -> Result<Part, CompileFault>
+    ensures { (j : Judged (Unit {0})) (J : Judging (List (List ℕ × Ty))) (c : scopes.Context) → Gives (λ _. tt) opened j → Tells types_of_members members.entry context.old (J c) → Tells part_view result context.new (closing tag.from number j again J c) }
+{
+    let fits = fitting(context, tag.from, number, again, members);
+    tag_of(number, opened, fits)
+}
+
+// A member, by its declarator.
+fn member_object<'t>(
+    context: &Context<'t>,
+    base: &CType,
+    d: &Declared<'_>,
+) -> Result<MemberType<'t>, CompileFault>
+    ensures { Gives member_type_view result (object_named (context_view context.now) (type_view base.now) (declared_view d.now)) }
+{
+    let base = copy_type(context.alloc, base)?;
+    let ty = object_declared(context, base, d)?;
+    Ok(MemberType {
+        name: context.bytes(d.name),
+        ty,
+    })
+}
+
+// The members that declarators declare.
+fn member_objects<'t>(
+    context: &Context<'t>,
+    base: &CType,
+    all: &[Declared<'_>],
+) -> Result<Vec<MemberType<'t>>, CompileFault>
+    ensures { Gives types_of_members result (member_objects (context_view context.now) (type_view base.now) (map declared_view all.now)) }
+{
+    let mut members = Ok(Vec::new(context.alloc));
+    'declarators: for d in all {
+        members = pushed(members, member_object(context, base, d));
+    }
+    members
+}
+
+/// The members that are declared together, by their specifiers and declarators.
+pub fn member_types<'t>(
+    context: &Context<'t>,
+    base: Result<CType, CompileFault>,
+    all: Result<Vec<Declared<'_>>, CompileFault>,
+) -> Result<Vec<MemberType<'t>>, CompileFault>
+    ensures { Finishes types_of_members (joined base all.entry) (λ p. member_objects (context_view context.now) (type_view p.0) (all_declared_view p.1)) result }
+{
+    let (base, all) = both(base, all)?;
+    member_objects(context, &base, &all)
+}
+
+/// A declarator, by its name and its sizes.
+pub fn declared<'a>(
+    d: &'a tree::Declarator,
+    fresh: Result<(), CompileFault>,
+    sizes: Result<Vec<u32>, CompileFault>,
+) -> Result<Declared<'a>, CompileFault>
+    ensures { Finishes declared_view (joined fresh sizes) (λ p. faults.typed (sized (source.declarator_view d.now) (numbers_view p.1))) result }
+{
+    let (_, sizes) = both(fresh, sizes)?;
+    Ok(Declared {
+        name: d.name,
+        pointers: &d.pointers,
+        sizes,
+    })
+}
+
+// ---- types, by what their parts came to
+
+/// The type that specifiers name (C11 6.7.2 p2).
+pub fn type_of_parts(
+    alloc: Global,
+    specs: &[tree::Spec],
+    parts: Result<Vec<Part>, CompileFault>,
+) -> Result<CType, CompileFault>
+    ensures { Finishes type_view parts (λ ps. specified (place_of_specs (trees.specs_of (map source.spec_view specs.now))) (parts_view ps)) result }
+{
+    let parts = parts?;
+    specified(alloc, place_of_specs(specs), &parts)
+}
+
+/// A type behind pointers (C11 6.7.6.1).
+pub fn pointers_to(
+    alloc: Global,
+    named: Result<CType, CompileFault>,
+    pointers: &[Pointer],
+) -> Result<CType, CompileFault>
+    ensures { Finishes type_view named (λ t. faults.typed (behind_pointers (type_view t) pointers.now)) result }
+{
+    let named = named?;
+    behind_pointers(alloc, named, pointers)
+}
+
+/// The size of an array, by what stands between the brackets and its typed form (C11 6.7.6.2).
+pub fn size_of_dimension(
+    context: &Context<'_>,
+    e: &tree::Expr,
+    typed: Result<Expr, CompileFault>,
+) -> Result<u32, CompileFault>
+    ensures { Finishes (λ n. n) typed (λ x. dimension (source.expr_view e.now) (context_view context.now) (expr_view x)) result }
+{
+    let typed = typed?;
+    dimension(context, e, &typed)
+}
