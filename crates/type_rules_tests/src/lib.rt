@@ -1,0 +1,7 @@
+//! Tests of type_specifiers and type_library, and a caller of each that is proved from its contracts alone.
+//! Promises nothing upward: its tests see just the public calls of these crates.
+//! Stands on them, and on what they stand on.
+#![tactic(auto)]
+
+#[cfg(test)]
+mod tests;

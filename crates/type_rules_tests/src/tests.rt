@@ -1,0 +1,3 @@
+//! One module for each of the two crates.
+mod library;
+mod specifiers;

@@ -1,0 +1,6 @@
+pub mod Views
+pub mod Arms
+pub mod Steps
+pub mod Around
+pub mod Rows
+pub mod Nodes
