@@ -2,43 +2,34 @@
 use Rattle.std.specs.Prelude.{◌≡◌, ℕ, ◌⊎◌, List}
 use Rattle.c_lex.specs.declared.token.Token.{Token}
 use Rattle.c_lex.specs.declared.refusal.Refusal.{Refusal}
-use Rattle.c_lex.specs.Tokens.{AreTokens}
-use Rattle.c_lex.specs.Refusals.{RefusesText}
-use Rattle.c_tree.specs.Syntax as whole
-use Rattle.c_grammar.specs.Language as grammar
+use Rattle.c_tree.specs.Typed.{Typed}
+use Rattle.c_reader.specs.Reading as reading
+use Rattle.c_reader.specs.Reading.{IsRead}
 use Rattle.second_language.specs.Trees.{File}
 use Rattle.second_language.specs.Language.{Spell, RefusesTokens}
 
--- the program that a text is: its tokens are a file of the whole subset, and spell this file of the second language, with each
--- name declared before its use, and once
+-- the program that a text is: it has a typed tree, as a text of the whole subset, and its tokens spell this file of the second
+-- language, with each name declared before its use, and once
 pub record IsProgram (text : List ℕ) (f : File) : Type 0 where
   pub tokens : List Token
-  pub lexed : AreTokens text tokens
-  pub tree : whole.File
-  pub read : grammar.Parses tokens tree
+  pub tree : Typed
+  pub read : IsRead text tokens tree
   pub parsed : Spell text tokens f
 
 -- the text is a program of the language
 abbrev pub InLanguage : List ℕ → Type 0
 InLanguage text = (f : File) × IsProgram text f
 
--- the text has tokens, which are no file of the whole subset
-pub record RefusesGrammar (text : List ℕ) (r : Refusal) : Type 0 where
-  pub tokens : List Token
-  pub lexed : AreTokens text tokens
-  pub refused : grammar.RefusesTokens tokens r
-
--- they are such a file, and no program of the second language
+-- the text has a typed tree, and is no program of the second language
 pub record RefusesProgram (text : List ℕ) (r : Refusal) : Type 0 where
   pub tokens : List Token
-  pub lexed : AreTokens text tokens
-  pub tree : whole.File
-  pub read : grammar.Parses tokens tree
+  pub tree : Typed
+  pub read : IsRead text tokens tree
   pub refused : RefusesTokens text tokens r
 
--- why a text is no program: it has no tokens; or else they are no file of the subset; or else that is no program
+-- why a text is no program: it has no typed tree, or else that is no program of the second language
 abbrev pub Refuses : List ℕ → Refusal → Type 0
-Refuses text r = RefusesText text r ⊎ RefusesGrammar text r ⊎ RefusesProgram text r
+Refuses text r = reading.Refuses text r ⊎ RefusesProgram text r
 
 -- ---- what holds of each text
 

@@ -17,14 +17,7 @@ pub fn judge_each_text_once()
     ensures one_program { OneProgram }
     ensures one_reason { OneReason }
 {
-    c_lex::laws::each_is_read();
-    c_lex::laws::exclusive();
-    c_lex::laws::only();
-    c_lex::laws::one_refusal();
-    c_lex::laws::one_end();
-    c_grammar::laws::exclusive();
-    c_grammar::laws::one_refusal();
-    c_grammar::laws::each_is_judged();
+    c_reader::laws::read_each_text_once();
     second_language::laws::judge_once();
 }
 
