@@ -6,8 +6,6 @@
 mod cells;
 mod laws;
 mod store;
-#[cfg(test)]
-mod tests;
 mod texts;
 mod values;
 

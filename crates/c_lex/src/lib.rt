@@ -19,5 +19,3 @@ pub use quoted::string_bytes;
 pub use refusal::{CompileFault, Kind, Refusal};
 pub use token::{Mark, Token, TokenKind, Word};
 
-#[cfg(test)]
-mod tests;

@@ -5,5 +5,3 @@
 
 pub mod declarators;
 pub mod expressions;
-#[cfg(test)]
-mod tests;

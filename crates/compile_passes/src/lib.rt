@@ -4,7 +4,5 @@
 #![tactic(auto)]
 
 pub mod compiling;
-#[cfg(test)]
-mod tests;
 
 pub use compiling::{compile, prepare};

@@ -8,8 +8,6 @@ pub mod emitting;
 pub mod laws;
 mod lengths;
 mod puts;
-#[cfg(test)]
-mod tests;
 
 pub use checked::emit;
 pub use emitting::emit_code;

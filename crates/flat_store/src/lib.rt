@@ -5,8 +5,6 @@
 
 mod flat;
 mod outside;
-#[cfg(test)]
-mod tests;
 
 pub use flat::{FIRST_ADDRESS, Flat};
 pub use outside::OutsideFlat;

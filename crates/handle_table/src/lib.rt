@@ -12,5 +12,3 @@ pub use frame::{PinFrame, PinSlot};
 pub use table::Table;
 pub use words::{PinWords, unite};
 
-#[cfg(test)]
-mod tests;

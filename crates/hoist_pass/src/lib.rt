@@ -6,7 +6,5 @@
 pub mod dropping;
 pub mod hoisting;
 pub mod lifting;
-#[cfg(test)]
-mod tests;
 
 pub use hoisting::hoist;

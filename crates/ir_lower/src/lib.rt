@@ -11,8 +11,6 @@ mod homes;
 mod lowering;
 mod nodes;
 mod stmts;
-#[cfg(test)]
-mod tests;
 mod types;
 
 pub use lowering::lower;

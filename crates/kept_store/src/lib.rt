@@ -4,7 +4,5 @@
 #![tactic(auto)]
 
 mod kept;
-#[cfg(test)]
-mod tests;
 
 pub use kept::KeptStore;

@@ -12,8 +12,6 @@ pub mod laws;
 mod pair;
 mod reports;
 mod search;
-#[cfg(test)]
-mod tests;
 
 pub use checked::Checked;
 pub use checking::check;

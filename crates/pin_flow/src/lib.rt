@@ -11,5 +11,3 @@ pub mod rows;
 pub mod seen;
 pub mod slots;
 pub mod state;
-#[cfg(test)]
-mod tests;

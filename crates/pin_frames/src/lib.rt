@@ -8,7 +8,5 @@ pub mod listing;
 pub mod lives;
 pub mod placing;
 pub mod seating;
-#[cfg(test)]
-mod tests;
 
 pub use placing::place;

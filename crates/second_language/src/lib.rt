@@ -18,5 +18,3 @@ pub use syntax::{
 };
 pub use whole::parse;
 
-#[cfg(test)]
-mod tests;

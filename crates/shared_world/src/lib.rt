@@ -5,8 +5,6 @@
 
 mod acting;
 mod plain;
-#[cfg(test)]
-mod tests;
 mod world;
 
 pub use world::{Action, Done, Printed, Stage, Thread, World};

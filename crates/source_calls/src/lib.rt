@@ -8,5 +8,3 @@ mod printing;
 
 pub use library::{called, list_of};
 
-#[cfg(test)]
-mod tests;

@@ -6,7 +6,5 @@
 pub mod control;
 pub mod frames;
 mod locals;
-#[cfg(test)]
-mod tests;
 
 pub use locals::{Locals, Variable};

@@ -4,5 +4,3 @@
 #![tactic(auto)]
 
 pub mod flow;
-#[cfg(test)]
-mod tests;

@@ -6,8 +6,6 @@
 mod copies;
 mod share_exprs;
 mod share_stmts;
-#[cfg(test)]
-mod tests;
 pub mod tree;
 
 pub use share_stmts::share;

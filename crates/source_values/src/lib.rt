@@ -5,8 +5,6 @@
 
 mod operations;
 mod pointers;
-#[cfg(test)]
-mod tests;
 mod types;
 
 pub use operations::{Binary, Unary, converted, int_of, of_one, of_two, truth_of, updated};

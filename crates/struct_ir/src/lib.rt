@@ -17,8 +17,6 @@ pub mod listing;
 pub mod placed;
 pub mod scope;
 mod step;
-#[cfg(test)]
-mod tests;
 pub mod valid;
 
 pub use code::{

@@ -14,5 +14,3 @@ mod tree;
 pub use objects::Object;
 pub use placement::Heaps;
 
-#[cfg(test)]
-mod tests;

@@ -4,7 +4,5 @@
 #![tactic(auto)]
 
 pub mod inserting;
-#[cfg(test)]
-mod tests;
 
 pub use inserting::insert;

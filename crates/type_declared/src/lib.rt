@@ -7,5 +7,3 @@ pub mod functions;
 pub mod headers;
 pub mod initials;
 pub mod objects;
-#[cfg(test)]
-mod tests;

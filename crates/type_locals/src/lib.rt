@@ -5,5 +5,3 @@
 
 pub mod locals;
 pub mod numbering;
-#[cfg(test)]
-mod tests;

@@ -7,5 +7,3 @@ pub mod callees;
 pub mod leaves;
 pub mod operators;
 pub mod structs;
-#[cfg(test)]
-mod tests;

@@ -4,5 +4,3 @@
 #![tactic(auto)]
 
 pub mod outcomes;
-#[cfg(test)]
-mod tests;

@@ -8,5 +8,3 @@ pub mod files;
 mod globals;
 mod outcomes;
 mod parameters;
-#[cfg(test)]
-mod tests;

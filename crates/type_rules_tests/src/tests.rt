@@ -1,3 +1,8 @@
-//! One module for each of the two crates.
+//! A module for each crate.
+mod c_types;
 mod library;
 mod specifiers;
+mod type_declared;
+mod type_locals;
+mod type_nodes;
+mod type_outcomes;

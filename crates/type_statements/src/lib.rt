@@ -8,5 +8,3 @@ mod makers;
 mod parts;
 mod simples;
 pub mod statements;
-#[cfg(test)]
-mod tests;

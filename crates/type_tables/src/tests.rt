@@ -87,4 +87,6 @@ mod names;
 mod programs;
 mod sizes;
 mod subset;
+mod type_program;
+mod type_statements;
 mod types;

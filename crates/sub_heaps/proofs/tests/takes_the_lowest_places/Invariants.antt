@@ -1,5 +1,0 @@
-use Rattle.std.proofs.Common.{◌≡◌}
-use Rattle.sub_heaps.proofs.tests.takes_the_lowest_places.Given as goal
-
-abbrev pub invariant-loop-bytes : goal.invariant-loop-bytes
-invariant-loop-bytes g l = l.heaps.most ≡ 8

@@ -1,0 +1,225 @@
+//! Expressions that stand before any declaration, by trees that are built by hand.
+ghost use Rattle.c_tree.specs.SyntaxViews as source;
+ghost use Rattle.c_tree.specs.TypedViews.{expr_view};
+ghost use Rattle.c_typing.specs.Faults.{Gives};
+ghost use Rattle.c_typing.specs.Judgement.{judged};
+ghost use Rattle.c_typing.specs.Scope.{at_start};
+
+use ak_words::{IntType, Num, Op};
+use c_lex::{CompileFault, Kind, Refusal};
+use c_tree::syntax as tree;
+use c_tree::syntax::{BinaryOp, Declarator, Member, Name, Span, Spec, TypeName, TypeWord};
+use c_tree::typed::{CType, Expr, ExprNode};
+use c_types::expressions::{expression, value};
+use std::alloc::{AllocError, Global};
+use std::test::Fail;
+use type_context::context::Context;
+
+/// An expression at the beginning of a text, as a layer above judges it: a caller that rests on the
+/// contract alone.
+fn judged_at_start(alloc: Global, text: &[u8], e: &tree::Expr) -> Result<Expr, CompileFault>
+    ensures { Gives expr_view result (judged (source.expr_view e.now) (at_start text.now)).0 }
+{
+    let mut context = Context::at_start(alloc, text);
+    expression(&mut context, e)
+}
+
+// Where an expression is refused, and why.
+fn refusal_of(alloc: Global, text: &[u8], e: &tree::Expr) -> Option<Refusal> {
+    match judged_at_start(alloc, text, e) {
+        Err(CompileFault::Refused(refusal)) => Some(refusal),
+        _ => None,
+    }
+}
+
+// The number that an expression is at once, as `sizeof` is.
+fn number_of(context: &mut Context<'_>, e: &tree::Expr) -> Option<Num> {
+    match expression(context, e) {
+        Ok(
+            Expr {
+                node: ExprNode::Num(n),
+                ..
+            },
+        ) => Some(n),
+        _ => None,
+    }
+}
+
+fn sum(
+    alloc: Global,
+    place: u32,
+    left: tree::Expr,
+    right: tree::Expr,
+) -> Result<tree::Expr, AllocError> {
+    Ok(tree::Expr::Binary {
+        place,
+        op: BinaryOp::Value(Op::Add),
+        left: Box::new(alloc, left)?,
+        right: Box::new(alloc, right)?,
+    })
+}
+
+// `sizeof(struct TAG)` of these specifiers.
+fn size_of(alloc: Global, spec: Spec) -> Result<tree::Expr, AllocError> {
+    Ok(tree::Expr::SizeofType {
+        place: 0,
+        of: TypeName {
+            specs: vec![in alloc; spec]?,
+            pointers: Vec::new(alloc),
+        },
+    })
+}
+
+// A member of this type.
+fn member(alloc: Global, word: TypeWord, name: Name) -> Result<Member, AllocError> {
+    let spec = Spec::Word {
+        place: name.from,
+        word,
+    };
+    let declarator = Declarator {
+        pointers: Vec::new(alloc),
+        name,
+        dims: Vec::new(alloc),
+    };
+    Ok(Member {
+        specs: vec![in alloc; spec]?,
+        declarators: vec![in alloc; declarator]?,
+    })
+}
+
+// The least place is named, and there the least number: of two names that aren't declared the left one.
+#[test]
+fn refuses_the_first_of_two_names(rt: HostRuntime) -> Result<(), Fail> {
+    let alloc = rt.alloc();
+    let left = tree::Expr::Name(Name { from: 0, to: 2 });
+    let right = tree::Expr::Name(Name { from: 5, to: 7 });
+    let both = sum(alloc, 3, left, right)?;
+    let refusal = refusal_of(alloc, b"ab + cd", &both);
+    assert!(rt;
+        refusal
+            == Some(Refusal {
+                place: 0,
+                kind: Kind::UnknownName
+            })
+    );
+    Ok(())
+}
+
+// An int and an unsigned int have the common type unsigned int (C11 6.3.1.8 p1).
+#[test]
+fn gives_a_sum_the_common_type(rt: HostRuntime) -> Result<(), Fail> {
+    let alloc = rt.alloc();
+    let left = tree::Expr::Int {
+        place: 0,
+        value: Num::int(1),
+    };
+    let right = tree::Expr::SizeofType {
+        place: 4,
+        of: TypeName {
+            specs: vec![in alloc;
+                Spec::Word {
+                    place: 11,
+                    word: TypeWord::Char
+                },
+            ]?,
+            pointers: Vec::new(alloc),
+        },
+    };
+    let both = sum(alloc, 2, left, right)?;
+    match judged_at_start(alloc, b"1 + sizeof(char)", &both) {
+        Ok(
+            Expr {
+                place,
+                ty: CType::Int(t),
+                ..
+            },
+        ) => assert!(rt; place == 2 && t == IntType::unsigned_long()),
+        _ => assert!(rt; false),
+    }
+    Ok(())
+}
+
+// A literal has an element for each of its bytes and for the zero behind them (C11 6.4.5 p6), and
+// its value is a pointer (6.3.2.1 p3).
+#[test]
+fn joins_literals_side_by_side(rt: HostRuntime) -> Result<(), Fail> {
+    let alloc = rt.alloc();
+    let spans = vec![in alloc; Span { from: 0, to: 4 }, Span { from: 5, to: 8 }]?;
+    let text = tree::Expr::Text(spans);
+    let mut context = Context::at_start(alloc, b"\"ab\" \"c\"");
+    let found = value(&mut context, &text);
+    let fits = match &found {
+        Ok(e) => match &e.ty {
+            CType::Pointer(to) => matches!(&**to, CType::Int(t) if *t == IntType::char()),
+            _ => false,
+        },
+        Err(_) => false,
+    };
+    assert!(rt; fits);
+    let operand = Box::new(alloc, text).map_err(AllocError::from)?;
+    let size = tree::Expr::SizeofExpr { place: 0, operand };
+    assert!(rt; number_of(&mut context, &size).is_some_and(|n| n.value == 4));
+    assert!(rt; context.literals.len() == 2);
+    Ok(())
+}
+
+// A struct is declared behind its closing brace, and known there to what follows (C11 6.7.2.3).
+#[test]
+fn declares_a_struct_in_a_type_name(rt: HostRuntime) -> Result<(), Fail> {
+    let alloc = rt.alloc();
+    let text = b"struct s { int n; char c; }";
+    let tag = Name { from: 7, to: 8 };
+    let mut context = Context::at_start(alloc, text);
+    let before = size_of(alloc, Spec::Struct { place: 0, tag })?;
+    assert!(rt;
+        matches!(
+            expression(&mut context, &before),
+            Err(CompileFault::Refused(Refusal {
+                place: 0,
+                kind: Kind::BadSize
+            }))
+        )
+    );
+    let number = member(alloc, TypeWord::Int, Name { from: 15, to: 16 })?;
+    let letter = member(alloc, TypeWord::Char, Name { from: 23, to: 24 })?;
+    let members = vec![in alloc; number, letter]?;
+    let braces = size_of(
+        alloc,
+        Spec::StructBody {
+            place: 0,
+            tag,
+            members,
+        },
+    )?;
+    assert!(rt; number_of(&mut context, &braces).is_some_and(|n| n.value == 8));
+    assert!(rt; number_of(&mut context, &before).is_some_and(|n| n.value == 8));
+    Ok(())
+}
+
+// A member's name stands once in its struct (C11 6.7.2.1, 6.2.3).
+#[test]
+fn refuses_a_member_twice(rt: HostRuntime) -> Result<(), Fail> {
+    let alloc = rt.alloc();
+    let text = b"struct s { int n; char n; }";
+    let tag = Name { from: 7, to: 8 };
+    let number = member(alloc, TypeWord::Int, Name { from: 15, to: 16 })?;
+    let letter = member(alloc, TypeWord::Char, Name { from: 23, to: 24 })?;
+    let members = vec![in alloc; number, letter]?;
+    let braces = size_of(
+        alloc,
+        Spec::StructBody {
+            place: 0,
+            tag,
+            members,
+        },
+    )?;
+    let refusal = refusal_of(alloc, text, &braces);
+    assert!(rt;
+        refusal
+            == Some(Refusal {
+                place: 23,
+                kind: Kind::DoubleName
+            })
+    );
+    Ok(())
+}
