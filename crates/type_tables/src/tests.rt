@@ -83,10 +83,10 @@ pub fn first_wrong(
 }
 
 mod counts;
+mod files;
 mod names;
 mod programs;
 mod sizes;
+mod statements;
 mod subset;
-mod type_program;
-mod type_statements;
 mod types;

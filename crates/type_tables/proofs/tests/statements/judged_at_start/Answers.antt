@@ -7,7 +7,7 @@ use Rattle.c_typing.specs.Faults.{Gives}
 use Rattle.c_typing.specs.Scope.{Context}
 use Rattle.c_typing.specs.Statements.{judged_stmts}
 use Rattle.type_statements.specs.Gathering.{each}
-use Rattle.type_tables.proofs.tests.type_statements.judged_at_start.Goals as goal
+use Rattle.type_tables.proofs.tests.statements.judged_at_start.Goals as goal
 
 pub returns : goal.returns
 returns c =
