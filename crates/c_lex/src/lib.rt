@@ -18,4 +18,3 @@ pub use lexer::{lex, literal};
 pub use quoted::string_bytes;
 pub use refusal::{CompileFault, Kind, Refusal};
 pub use token::{Mark, Token, TokenKind, Word};
-

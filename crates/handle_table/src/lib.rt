@@ -11,4 +11,3 @@ mod words;
 pub use frame::{PinFrame, PinSlot};
 pub use table::Table;
 pub use words::{PinWords, unite};
-

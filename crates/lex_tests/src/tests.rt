@@ -1,3 +1,3 @@
 //! A module for each crate.
-mod c_lex;
-mod second_language;
+mod second_reader;
+mod tokens;

@@ -17,4 +17,3 @@ pub use syntax::{
     Term,
 };
 pub use whole::parse;
-

@@ -7,4 +7,3 @@ mod library;
 mod printing;
 
 pub use library::{called, list_of};
-

@@ -1,8 +1,8 @@
 //! A module for each crate.
-mod kept_store;
-mod shared_world;
-mod source_calls;
-mod source_control;
-mod source_flow;
-mod source_tree;
-mod source_values;
+mod calls;
+mod control;
+mod flows;
+mod kept;
+mod trees;
+mod values;
+mod worlds;

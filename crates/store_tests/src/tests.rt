@@ -1,5 +1,5 @@
 //! A module for each crate.
-mod block_store;
-mod flat_store;
-mod handle_table;
-mod sub_heaps;
+mod blocks;
+mod bytes;
+mod handles;
+mod heaps;

@@ -13,4 +13,3 @@ mod tree;
 
 pub use objects::Object;
 pub use placement::Heaps;
-

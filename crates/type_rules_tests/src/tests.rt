@@ -1,8 +1,8 @@
 //! A module for each crate.
-mod c_types;
+mod declared;
+mod expressions;
 mod library;
+mod locals;
+mod nodes;
+mod outcomes;
 mod specifiers;
-mod type_declared;
-mod type_locals;
-mod type_nodes;
-mod type_outcomes;

@@ -1,5 +1,5 @@
 use Rattle.std.proofs.Common.{◌≡◌}
-use Rattle.store_tests.proofs.tests.sub_heaps.holds_a_million_objects.Given as goal
+use Rattle.store_tests.proofs.tests.heaps.holds_a_million_objects.Given as goal
 
 abbrev pub invariant-loop-number : goal.invariant-loop-number
 invariant-loop-number g l = l.heaps.most ≡ 1000001

@@ -5,7 +5,7 @@ use Rattle.c_typing.specs.Judgement.{named}
 use Rattle.type_context.specs.ContextViews.{context_view}
 use Rattle.type_outcomes.proofs.Walks.{lone_tells}
 use Rattle.type_nodes.proofs.Expressions.{value_tells, index_tells}
-use Rattle.type_rules_tests.proofs.tests.type_nodes.element_named.Goals as goal
+use Rattle.type_rules_tests.proofs.tests.nodes.element_named.Goals as goal
 
 pub returns : goal.returns
 returns c =

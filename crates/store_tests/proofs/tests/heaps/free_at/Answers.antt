@@ -1,7 +1,7 @@
 use Rattle.std.proofs.Common.{◌≡◌, IsSome, subst, arith}
 use Rattle.sub_heaps.specs.ByPlace.{object_at}
 use Rattle.sub_heaps.proofs.Taken.{next_found}
-use Rattle.store_tests.proofs.tests.sub_heaps.free_at.Goals as goal
+use Rattle.store_tests.proofs.tests.heaps.free_at.Goals as goal
 
 -- the object that was found starts at the place
 pub free-requires : goal.free-requires

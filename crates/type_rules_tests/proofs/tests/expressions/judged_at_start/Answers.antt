@@ -4,7 +4,7 @@ use Rattle.c_tree.specs.TypedViews.{expr_view}
 use Rattle.c_typing.specs.Faults.{Gives}
 use Rattle.c_typing.specs.Judgement.{judged}
 use Rattle.c_typing.specs.Scope.{Context}
-use Rattle.type_rules_tests.proofs.tests.c_types.judged_at_start.Goals as goal
+use Rattle.type_rules_tests.proofs.tests.expressions.judged_at_start.Goals as goal
 
 pub returns : goal.returns
 returns c =
