@@ -9,12 +9,10 @@ use Rattle.struct_ir.specs.Nodes.{Node, plain, if_, loop, break_, next_, ret, No
 use Rattle.struct_ir.specs.Erased.{put}
 use Rattle.struct_ir.specs.Views.{node_view, nodes_view, followed}
 use Rattle.struct_ir.proofs.Views.{if_is, loop_is, followed_none}
-use Rattle.pin_flow.specs.declared.state.Table.{Table}
 use Rattle.pin_flow.specs.Marks.{State, Ways, end_state, head_of, flow, flow_node}
 use Rattle.pin_flow.specs.Held.{held}
-use Rattle.pin_flow.specs.Views.{entry_of, IsTable, looks_at}
-use Rattle.pin_flow.proofs.Order.{flow_idle, node_idle}
-use Rattle.pin_flow.proofs.TableRows.{reads, split_at}
+use Rattle.pin_flow.specs.Views.{looks_at}
+use Rattle.pin_flow.proofs.FlowRows.{split_at}
 use Rattle.hoist_pass.specs.inner.Hoist.{is_bad, needs, dropped, dropped_in}
 
 pub needed_by : (b : ℕ) (n : Node) (t : State) → needs b n t ≡ (not (looks_at b n) || is_bad t)
@@ -26,14 +24,14 @@ needed_by b (next_ p) t = refl
 needed_by b (ret p x) t = refl
 
 -- one node more
-pub row_step : (b : ℕ) (rows : List CodeNode) (i : ℕ) (x : CodeNode) (old new : List CodeNode) (s s' : State) (t : Table) (o : Ways) (all : Nodes) → i < length rows → x ≡ get_or rows i x
-    → followed old (dropped b (nodes_view (drop i rows)) s) ≡ all → IsTable t (flow_node (held b) (node_view x)) → o ≡ entry_of t s → s' ≡ o.on
+pub row_step : (b : ℕ) (rows : List CodeNode) (i : ℕ) (x : CodeNode) (old new : List CodeNode) (s s' : State) (o : Ways) (all : Nodes) → i < length rows → x ≡ get_or rows i x
+    → followed old (dropped b (nodes_view (drop i rows)) s) ≡ all → o ≡ flow_node (held b) (node_view x) s → s' ≡ o.on
     → ((rest : Nodes) → followed new rest ≡ followed old (put (needs b (node_view x) s) (dropped_in b (node_view x) s) rest))
     → followed new (dropped b (nodes_view (drop (i + 1) rows)) s') ≡ all
-row_step b rows i x old new s s' t o all le is inv table e e' made =
+row_step b rows i x old new s s' o all le is inv e e' made =
     let m = held b in
     let rest = nodes_view (drop (i + 1) rows) in
-    let next : s' ≡ (flow_node m (node_view x) s).on = e' ∙ (ap (λ (p : Ways). p.on) e ∙ (λ j. (reads t (flow_node m (node_view x)) table (node_idle m (node_view x)) j s).on)) in
+    let next : s' ≡ (flow_node m (node_view x) s).on = e' ∙ ap (λ (p : Ways). p.on) e in
     ap (λ u. followed new (dropped b rest u)) next
     ∙ (made (dropped b rest (flow_node m (node_view x) s).on)
     ∙ (ap (λ l. followed old (dropped b (nodes_view l) s)) (sym (split_at rows i x le is)) ∙ inv))
@@ -54,13 +52,10 @@ pub if_dropped : (b : ℕ) (n x : CodeNode) (temp : ℕ) (v w one other : Vec Co
     → nodes_view one.items ≡ dropped b (nodes_view v.items) s → nodes_view other.items ≡ dropped b (nodes_view w.items) s → node_view x ≡ dropped_in b (node_view n) s
 if_dropped b n x temp v w one other s is e f g = e ∙ ((λ i. if_ n.place temp (f i) (g i)) ∙ ap (λ y. dropped_in b y s) (sym (if_is n temp v w is)))
 
-pub loop_dropped : (b : ℕ) (n x : CodeNode) (v w first second : Vec CodeNode) (s h z : State) (t u : Table) → n.kind ≡ views.Loop v w → node_view x ≡ loop n.place (nodes_view first.items) (nodes_view second.items)
-    → IsTable t (flow (held b) (nodes_view v.items)) → IsTable u (flow (held b) (nodes_view w.items)) → h ≡ head_of (entry_of t) (entry_of u) s → z ≡ end_state (entry_of t h)
+pub loop_dropped : (b : ℕ) (n x : CodeNode) (v w first second : Vec CodeNode) (s h z : State) → n.kind ≡ views.Loop v w → node_view x ≡ loop n.place (nodes_view first.items) (nodes_view second.items)
+    → h ≡ head_of (flow (held b) (nodes_view v.items)) (flow (held b) (nodes_view w.items)) s → z ≡ end_state (flow (held b) (nodes_view v.items) h)
     → nodes_view first.items ≡ dropped b (nodes_view v.items) h → nodes_view second.items ≡ dropped b (nodes_view w.items) z → node_view x ≡ dropped_in b (node_view n) s
-loop_dropped b n x v w first second s h z t u is e ti ui he ze f g =
+loop_dropped b n x v w first second s h z is e he ze f g =
     let m = held b in
-    let r = reads t (flow m (nodes_view v.items)) ti (flow_idle m (nodes_view v.items)) in
-    let q = reads u (flow m (nodes_view w.items)) ui (flow_idle m (nodes_view w.items)) in
-    let hh : h ≡ head_of (flow m (nodes_view v.items)) (flow m (nodes_view w.items)) s = he ∙ (λ i. head_of (r i) (q i) s) in
-    let zz : z ≡ end_state (flow m (nodes_view v.items) (head_of (flow m (nodes_view v.items)) (flow m (nodes_view w.items)) s)) = ze ∙ (λ i. end_state (r i (hh i))) in
-    e ∙ ((λ i. loop n.place (f i) (g i)) ∙ ((λ i. loop n.place (dropped b (nodes_view v.items) (hh i)) (dropped b (nodes_view w.items) (zz i))) ∙ ap (λ y. dropped_in b y s) (sym (loop_is n v w is))))
+    let zz : z ≡ end_state (flow m (nodes_view v.items) (head_of (flow m (nodes_view v.items)) (flow m (nodes_view w.items)) s)) = ze ∙ ap (λ u. end_state (flow m (nodes_view v.items) u)) he in
+    e ∙ ((λ i. loop n.place (f i) (g i)) ∙ ((λ i. loop n.place (dropped b (nodes_view v.items) (he i)) (dropped b (nodes_view w.items) (zz i))) ∙ ap (λ y. dropped_in b y s) (sym (loop_is n v w is))))

@@ -7,4 +7,5 @@ pub mod Hoisted
 pub mod HoistedValid
 pub mod DropRows
 pub mod LiftRows
+pub mod Stays
 pub mod Programs

@@ -12,7 +12,7 @@ use Rattle.struct_ir.specs.Erased.{put}
 use Rattle.struct_ir.specs.Views.{kind_view, node_view, nodes_view, followed}
 use Rattle.struct_ir.proofs.Views.{if_is, loop_is, followed_none}
 use Rattle.pin_flow.specs.Looks.{act_looks, act_assigns, some_act}
-use Rattle.pin_flow.proofs.TableRows.{split_at}
+use Rattle.pin_flow.proofs.FlowRows.{split_at}
 use Rattle.hoist_pass.specs.inner.Hoist.{wants, place_of, lifted, lifted_in}
 
 pub wants_loop : (b : ℕ) (n : CodeNode) (v w : Vec CodeNode) (r x y : Bool) → n.kind ≡ views.Loop v w → r ≡ (x && not y) → x ≡ (some_act (act_looks b) (nodes_view v.items) || some_act (act_looks b) (nodes_view w.items))

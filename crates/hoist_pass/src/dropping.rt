@@ -7,14 +7,14 @@ ghost use Rattle.hoist_pass.specs.inner.Hoist.{needs, dropped, dropped_in};
 
 use ak_words::NoMemory;
 use pin_flow::copies::{add, branches, copy_call, copy_step, node, rounds};
-use pin_flow::flow::{head_at, table_of, table_of_node};
+use pin_flow::flow::{head_from, ways_of, ways_of_node};
 use pin_flow::mark::{Mark, looks_at};
 use pin_flow::state::{State, end_of};
 use std::alloc::Global;
 use struct_ir::{Node, NodeKind};
 
 #[tactic(auto, using(crate::proofs::DropRows::needed_by))]
-fn is_needed(b: u32, n: &Node, before: State) -> bool
+pub(crate) fn is_needed(b: u32, n: &Node, before: State) -> bool
     ensures { result ≡ needs b (node_view n.now) (state_view before) }
 {
     !looks_at(b, n) || before == State::Bad
@@ -35,7 +35,7 @@ pub fn drop_row(alloc: Global, b: u32, rows: &[Node], before: State) -> Result<V
         if is_needed(b, n, here) {
             add(&mut out, drop_node(alloc, b, n, here)?)?;
         }
-        here = table_of_node(Mark::Held(b), n).read(here).on;
+        here = ways_of_node(Mark::Held(b), n, here).on;
     }
     Ok(out)
 }
@@ -52,10 +52,10 @@ fn drop_node(alloc: Global, b: u32, n: &Node, before: State) -> Result<Node, NoM
             Ok(branches(n.place, *temp, yes, no))
         }
         NodeKind::Loop(body, step) => {
-            let around = table_of(Mark::Held(b), body);
-            let head = head_at(around, table_of(Mark::Held(b), step), before);
+            let head = head_from(Mark::Held(b), body, step, before);
             let first = drop_row(alloc, b, body, head)?;
-            let second = drop_row(alloc, b, step, end_of(around.read(head)))?;
+            let turned = end_of(ways_of(Mark::Held(b), body, head));
+            let second = drop_row(alloc, b, step, turned)?;
             Ok(rounds(n.place, first, second))
         }
         NodeKind::Break => Ok(node(n.place, NodeKind::Break)),

@@ -4,11 +4,13 @@ ghost use Rattle.struct_ir.specs.Valid.{is_valid};
 ghost use Rattle.struct_ir.specs.Views.{nodes_view, func_view};
 ghost use Rattle.struct_ir.specs.WholeViews.{ir_view};
 ghost use Rattle.pin_flow.specs.Funcs.{EveryFunc, IsCovered, IsHoisted};
+ghost use Rattle.pin_flow.specs.Marks.{bad};
 ghost use Rattle.pin_flow.specs.Slots.{HasOwnSlots, slot_if};
-ghost use Rattle.hoist_pass.specs.inner.Hoist.{hoisted_one, hoisted_for, hoisted_each, func_hoisted, ir_hoisted};
+ghost use Rattle.hoist_pass.specs.inner.Hoist.{lifted, dropped, hoisted_one, hoisted_for, hoisted_each, func_hoisted, ir_hoisted};
 
 use crate::dropping::drop_row;
-use crate::lifting::lift_row;
+use crate::keeping::keeps_row;
+use crate::lifting::{lift_row, some_wants};
 use ak_words::NoMemory;
 use pin_flow::copies::copy_literals;
 use pin_flow::rows::copy_row;
@@ -90,14 +92,36 @@ fn hoist_base(alloc: Global, bases: &[u32], b: u32, code: Vec<Node>) -> Result<V
     ensures { IfOk result (λ v. nodes_view v.items ≡ hoisted_for (slot_if bases.now b) b (nodes_view code.items)) }
 {
     match slot_of(bases, b) {
-        Some(slot) => hoist_one(alloc, slot, b, &code),
+        Some(slot) => hoist_one(alloc, slot, b, code),
         None => Ok(code),
     }
 }
 
-fn hoist_one(alloc: Global, slot: u32, b: u32, code: &[Node]) -> Result<Vec<Node>, NoMemory>
-    ensures { IfOk result (λ v. nodes_view v.items ≡ hoisted_one slot b (nodes_view code.now)) }
+// With Looks before loops; most registers have none there, and their code stays as it is.
+fn lift_looks(alloc: Global, slot: u32, b: u32, code: Vec<Node>) -> Result<Vec<Node>, NoMemory>
+    ensures { IfOk result (λ v. nodes_view v.items ≡ lifted slot b (nodes_view code.items)) }
 {
-    let first = lift_row(alloc, slot, b, code)?;
-    drop_row(alloc, b, &first, State::Bad)
+    if some_wants(b, &code) {
+        lift_row(alloc, slot, b, &code)
+    } else {
+        Ok(code)
+    }
+}
+
+// Without the Looks that aren't needed; where all are, the code stays as it is.
+fn drop_looks(alloc: Global, b: u32, code: Vec<Node>) -> Result<Vec<Node>, NoMemory>
+    ensures { IfOk result (λ v. nodes_view v.items ≡ dropped b (nodes_view code.items) bad) }
+{
+    if keeps_row(b, &code, State::Bad).all {
+        Ok(code)
+    } else {
+        drop_row(alloc, b, &code, State::Bad)
+    }
+}
+
+fn hoist_one(alloc: Global, slot: u32, b: u32, code: Vec<Node>) -> Result<Vec<Node>, NoMemory>
+    ensures { IfOk result (λ v. nodes_view v.items ≡ hoisted_one slot b (nodes_view code.items)) }
+{
+    let first = lift_looks(alloc, slot, b, code)?;
+    drop_looks(alloc, b, first)
 }

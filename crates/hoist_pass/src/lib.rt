@@ -5,6 +5,7 @@
 
 pub mod dropping;
 pub mod hoisting;
+mod keeping;
 pub mod lifting;
 
 pub use hoisting::hoist;

@@ -2,7 +2,7 @@
 
 ghost use Rattle.std.specs.Prelude.{◌≡◌, ◌||◌, ◌&&◌, not, IfOk};
 ghost use Rattle.struct_ir.specs.Views.{node_view, nodes_view, followed};
-ghost use Rattle.hoist_pass.specs.inner.Hoist.{wants, lifted, lifted_in};
+ghost use Rattle.hoist_pass.specs.inner.Hoist.{wants, some_wants, some_wants_in, lifted, lifted_in};
 
 use ak_words::NoMemory;
 use pin_flow::copies::{add, branches, copy_call, copy_step, node, rounds};
@@ -34,6 +34,39 @@ fn wants(b: u32, n: &Node) -> bool
             is_wanted(looks, either(set_in_body, some(Test::Assigns(b), step)))
         }
         _ => false,
+    }
+}
+
+/// Whether some loop, however deep in the row, has a Look of the register and doesn't assign it.
+#[cycle(seeks)]
+pub(crate) fn some_wants(b: u32, rows: &[Node]) -> bool
+    ensures { result ≡ some_wants b (nodes_view rows.now) }
+{
+    for n in rows {
+        if some_wants_in(b, n) {
+            return true;
+        }
+    }
+    false
+}
+
+#[cycle(seeks)]
+fn some_wants_in(b: u32, n: &Node) -> bool
+    ensures { result ≡ some_wants_in b (node_view n.now) }
+{
+    match &n.kind {
+        NodeKind::If(_, one, other) => {
+            let first = some_wants(b, one);
+            either(first, some_wants(b, other))
+        }
+        NodeKind::Loop(body, step) => {
+            let first = some_wants(b, body);
+            let inside = either(first, some_wants(b, step));
+            either(wants(b, n), inside)
+        }
+        NodeKind::Set(..) | NodeKind::Call(_) | NodeKind::Step(_) | NodeKind::Look(..) => false,
+        NodeKind::Safepoint(_) | NodeKind::Begin(_) | NodeKind::End(_) => false,
+        NodeKind::Break | NodeKind::Next | NodeKind::Ret(_) => false,
     }
 }
 

@@ -1,6 +1,8 @@
 pub mod Facts
 pub mod Order
 pub mod ReportRows
+pub mod Stronger
+pub mod CleanRows
 pub mod Least
 pub mod Pairs
 pub mod Sound

@@ -8,7 +8,7 @@ use Rattle.struct_ir.specs.declared.code.NodeKind.TheVariants as kinds
 use Rattle.struct_ir.specs.Valid.{Scope, Around, list_at}
 use Rattle.struct_ir.specs.Views.{kind_view, node_view, nodes_view}
 use Rattle.pin_flow.specs.Marks.{State, flow_node}
-use Rattle.pin_flow.proofs.TableRows.{split_at}
+use Rattle.pin_flow.proofs.FlowRows.{split_at}
 use Rattle.pin_checker.specs.declared.fault.Fault.{Fault}
 use Rattle.pin_checker.specs.declared.fault.Why.TheVariants.{BadTemp}
 use Rattle.pin_checker.specs.Faults.{place_of, is_sound}

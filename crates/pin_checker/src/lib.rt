@@ -5,6 +5,7 @@
 
 pub mod checked;
 pub mod checking;
+mod clean;
 pub mod fault;
 mod guards;
 mod invalid;

@@ -3,17 +3,18 @@
 ghost use Rattle.std.specs.Prelude.{◌≡◌, IfOk, map};
 ghost use Rattle.struct_ir.specs.Views.{node_view, nodes_view, func_view};
 ghost use Rattle.struct_ir.specs.WholeViews.{ir_view};
-ghost use Rattle.pin_flow.specs.Marks.{flow, flow_node, head_of, end_state};
+ghost use Rattle.pin_flow.specs.Marks.{flow, flow_node, end_state};
 ghost use Rattle.pin_flow.specs.Views.{mark_view, state_view};
 ghost use Rattle.pin_checker.specs.inner.Reports.{report, report_node, report_all, report_pair, report_pairs, report_func, first_fault};
 ghost use Rattle.pin_checker.specs.inner.SearchViews.{search_view};
 
+use crate::clean::clean_row;
 use crate::fault::{Fault, noted};
 use crate::invalid::report_invalid;
 use crate::pair::{Pair, add_pairs};
 use crate::search::Search;
 use ak_words::NoMemory;
-use pin_flow::flow::{head_at, table_of, table_of_node};
+use pin_flow::flow::{head_from, ways_of, ways_of_node};
 use pin_flow::mark::Mark;
 use pin_flow::state::{State, end_of};
 use std::alloc::Global;
@@ -24,22 +25,14 @@ use struct_ir::{Ir, IrFunc, Node, NodeKind};
 fn behind(mark: Mark, n: &Node, at: State) -> State
     ensures { state_view result ≡ (flow_node (mark_view mark) (node_view n.now) (state_view at)).on }
 {
-    table_of_node(mark, n).read(at).on
-}
-
-// The start of each round of a loop.
-fn head(mark: Mark, body: &[Node], step: &[Node], at: State) -> State
-    ensures { state_view result ≡ head_of (flow (mark_view mark) (nodes_view body.now)) (flow (mark_view mark) (nodes_view step.now)) (state_view at) }
-{
-    let around_body = table_of(mark, body);
-    head_at(around_body, table_of(mark, step), at)
+    ways_of_node(mark, n, at).on
 }
 
 // The end of a row that is a loop's body.
 fn end(mark: Mark, body: &[Node], at: State) -> State
     ensures { state_view result ≡ end_state (flow (mark_view mark) (nodes_view body.now) (state_view at)) }
 {
-    end_of(table_of(mark, body).read(at))
+    end_of(ways_of(mark, body, at))
 }
 
 #[cycle(reports)]
@@ -67,7 +60,7 @@ fn report_node(search: Search, n: &Node, at: State, best: Option<Fault>) -> Opti
             report(search, other, at, first)
         }
         NodeKind::Loop(body, step) => {
-            let start = head(search.mark(), body, step, at);
+            let start = head_from(search.mark(), body, step, at);
             let first = report(search, body, start, best);
             report(search, step, end(search.mark(), body, start), first)
         }
@@ -81,13 +74,25 @@ fn report_all(search: Search, nodes: &[Node], best: Option<Fault>) -> Option<Fau
     report(search, nodes, search.start(), best)
 }
 
-fn report_pair(nodes: &[Node], q: Pair, best: Option<Fault>) -> Option<Fault>
+fn report_each(nodes: &[Node], q: Pair, best: Option<Fault>) -> Option<Fault>
     ensures { result ≡ report_pair (nodes_view nodes.now) q best }
 {
     let other = report_all(Search::Other(q), nodes, best);
     let none = report_all(Search::None(q), nodes, other);
     let stale = report_all(Search::Stale(q), nodes, none);
     report_all(Search::Lacking(q), nodes, stale)
+}
+
+// Where the strictest of the four searches finds nothing, the others find nothing.
+fn report_pair(nodes: &[Node], q: Pair, best: Option<Fault>) -> Option<Fault>
+    ensures { result ≡ report_pair (nodes_view nodes.now) q best }
+{
+    let lacking = Search::Lacking(q);
+    if clean_row(lacking, nodes, lacking.start()).none {
+        best
+    } else {
+        report_each(nodes, q, best)
+    }
 }
 
 fn report_pairs(nodes: &[Node], pairs: &[Pair], best: Option<Fault>) -> Option<Fault>

@@ -9,8 +9,9 @@ pub mod Live
 pub mod At
 pub mod Covers
 pub mod Marked
-pub mod TableRows
+pub mod FlowRows
 pub mod SeenRows
 pub mod CopiedRows
 pub mod SlotRows
+pub mod MarkedRows
 pub mod Bases

@@ -6,3 +6,4 @@ pub mod Slots
 pub mod Funcs
 pub mod Views
 pub mod Laws
+pub mod inner

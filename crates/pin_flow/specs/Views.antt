@@ -1,16 +1,15 @@
 -- What the code's states, tables and marks are.
-use Rattle.std.specs.Prelude.{◌≡◌, ℕ, Bool, false}
+use Rattle.std.specs.Prelude.{◌≡◌, ℕ, Bool, true, false}
 use Rattle.struct_ir.specs.Nodes.{Act, Node, plain, if_, loop, break_, next_, ret, list_of}
 use Rattle.struct_ir.specs.Pins.{lacks_if}
 use Rattle.pin_flow.specs.declared.state.State.{State as CodeState}
 use Rattle.pin_flow.specs.declared.state.State.TheVariants as states
 use Rattle.pin_flow.specs.declared.state.Ways.{Ways as CodeWays}
-use Rattle.pin_flow.specs.declared.state.Table.{Table}
 use Rattle.pin_flow.specs.declared.mark.Mark.{Mark as CodeMark}
 use Rattle.pin_flow.specs.declared.mark.Mark.TheVariants as marks
 use Rattle.pin_flow.specs.declared.seen.Test.{Test as CodeTest}
 use Rattle.pin_flow.specs.declared.seen.Test.TheVariants as tests
-use Rattle.pin_flow.specs.Marks.{Mark, State, Ways, unreached, good, bad, ways, after, round_of, head_of}
+use Rattle.pin_flow.specs.Marks.{Mark, State, Ways, unreached, good, bad, ways, after}
 use Rattle.pin_flow.specs.Marks as flows
 use Rattle.pin_flow.specs.Held.{held, filled, filled_for, fresh, pinned}
 use Rattle.pin_flow.specs.Looks.{act_looks, act_assigns, looks_into}
@@ -27,11 +26,17 @@ state_view states.Bad = bad
 abbrev pub ways_view : CodeWays → Ways
 ways_view o = record { on = state_view o.on; broken = state_view o.broken; next = state_view o.next }
 
--- the value that the table has at a state
-abbrev pub entry_of : Table → State → Ways
-entry_of t unreached = flows.at unreached
-entry_of t good = ways_view t.good
-entry_of t bad = ways_view t.bad
+-- whether two states are the same
+abbrev pub is_same : State → State → Bool
+is_same unreached unreached = true
+is_same unreached good = false
+is_same unreached bad = false
+is_same good unreached = false
+is_same good good = true
+is_same good bad = false
+is_same bad unreached = false
+is_same bad good = false
+is_same bad bad = true
 
 -- a mark
 abbrev pub mark_view : CodeMark → Mark
@@ -47,11 +52,6 @@ test_view (tests.Looks b) = act_looks b
 test_view (tests.Assigns b) = act_assigns b
 test_view (tests.Accesses b) = accesses b
 test_view (tests.Uses slot b) = uses slot b
-
--- the table stands for f
-pub record IsTable (t : Table) (f : State → Ways) : Type 0 where
-  pub good : ways_view t.good ≡ f good
-  pub bad : ways_view t.bad ≡ f bad
 
 -- a node that is an act of which this is so
 abbrev pub act_is : (Act → Bool) → Node → Bool
@@ -86,10 +86,6 @@ node_marked m (loop place body latch) v = v
 node_marked m (break_ place) v = v
 node_marked m (next_ place) v = v
 node_marked m (ret place temp) v = v
-
--- behind a loop
-abbrev pub loop_ways : (State → Ways) → (State → Ways) → State → Ways
-loop_ways body latch t = flows.at (round_of body latch (head_of body latch t)).broken
 
 -- where a node leads that holds no others
 abbrev pub leaf : Mark → Node → State → Ways

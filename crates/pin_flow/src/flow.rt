@@ -2,75 +2,12 @@
 
 ghost use Rattle.std.specs.Prelude.{◌≡◌};
 ghost use Rattle.struct_ir.specs.Views.{node_view, nodes_view};
-ghost use Rattle.pin_flow.specs.Marks.{at, flow, flow_node, good, bad, in_turn, either, head_of, round_of};
-ghost use Rattle.pin_flow.specs.Views.{mark_view, state_view, ways_view, entry_of, loop_ways, leaf, IsTable};
+ghost use Rattle.pin_flow.specs.Marks.{flow, flow_node, head_of};
+ghost use Rattle.pin_flow.specs.Views.{mark_view, state_view, ways_view, leaf};
 
 use crate::mark::Mark;
-use crate::state::{State, Table, Ways, all_on, around, both_ways, end_of, joined, one_behind};
+use crate::state::{State, Ways, all_on, around, both_ways, end_of, is_same, joined, one_behind};
 use struct_ir::{Node, NodeKind};
-
-fn idle_table() -> Table
-    ensures good { ways_view result.good ≡ at good }
-    ensures bad { ways_view result.bad ≡ at bad }
-{
-    Table {
-        good: all_on(State::Good),
-        bad: all_on(State::Bad),
-    }
-}
-
-fn row_table(a: Table, b: Table) -> Table
-    ensures good { ways_view result.good ≡ in_turn (ways_view a.good) (entry_of b (ways_view a.good).on) }
-    ensures bad { ways_view result.bad ≡ in_turn (ways_view a.bad) (entry_of b (ways_view a.bad).on) }
-{
-    Table {
-        good: one_behind(a.good, b.read(a.good.on)),
-        bad: one_behind(a.bad, b.read(a.bad.on)),
-    }
-}
-
-// A round of a loop.
-#[tactic(auto, unfolding(crate::specs::Marks::round_of))]
-fn round_at(body: Table, step: Table, before: State) -> Ways
-    ensures { ways_view result ≡ round_of (entry_of body) (entry_of step) (state_view before) }
-{
-    let one = body.read(before);
-    around(one, step.read(end_of(one)))
-}
-
-/// The start of each round of a loop.
-#[tactic(auto, unfolding(crate::specs::Marks::head_of))]
-pub fn head_at(body: Table, step: Table, before: State) -> State
-    ensures { state_view result ≡ head_of (entry_of body) (entry_of step) (state_view before) }
-{
-    joined(before, round_at(body, step, before).on)
-}
-
-fn loop_at(body: Table, step: Table, before: State) -> Ways
-    ensures { ways_view result ≡ loop_ways (entry_of body) (entry_of step) (state_view before) }
-{
-    all_on(round_at(body, step, head_at(body, step, before)).broken)
-}
-
-fn either_table(a: Table, b: Table) -> Table
-    ensures good { ways_view result.good ≡ either (ways_view a.good) (ways_view b.good) }
-    ensures bad { ways_view result.bad ≡ either (ways_view a.bad) (ways_view b.bad) }
-{
-    Table {
-        good: both_ways(a.good, b.good),
-        bad: both_ways(a.bad, b.bad),
-    }
-}
-
-fn loop_table(body: Table, step: Table) -> Table
-    ensures good { ways_view result.good ≡ loop_ways (entry_of body) (entry_of step) good }
-    ensures bad { ways_view result.bad ≡ loop_ways (entry_of body) (entry_of step) bad }
-{
-    Table {
-        good: loop_at(body, step, State::Good),
-        bad: loop_at(body, step, State::Bad),
-    }
-}
 
 fn leaf_at(mark: Mark, n: &Node, before: State) -> Ways
     ensures { ways_view result ≡ leaf (mark_view mark) (node_view n.now) (state_view before) }
@@ -93,46 +30,51 @@ fn leaf_at(mark: Mark, n: &Node, before: State) -> Ways
     }
 }
 
-fn leaf_table(mark: Mark, n: &Node) -> Table
-    ensures good { ways_view result.good ≡ leaf (mark_view mark) (node_view n.now) good }
-    ensures bad { ways_view result.bad ≡ leaf (mark_view mark) (node_view n.now) bad }
-{
-    Table {
-        good: leaf_at(mark, n, State::Good),
-        bad: leaf_at(mark, n, State::Bad),
-    }
-}
-
-/// Where control leaves the row, for each state before it.
+/// Where control leaves the row, from the state before it.
 #[cycle(flows)]
-pub fn table_of(mark: Mark, rows: &[Node]) -> Table
-    ensures { IsTable result (flow (mark_view mark) (nodes_view rows.now)) }
+pub fn ways_of(mark: Mark, rows: &[Node], before: State) -> Ways
+    ensures { ways_view result ≡ flow (mark_view mark) (nodes_view rows.now) (state_view before) }
 {
-    let mut ahead = idle_table();
+    let mut ahead = all_on(before);
     for n in rows {
-        ahead = row_table(ahead, table_of_node(mark, n));
+        ahead = one_behind(ahead, ways_of_node(mark, n, ahead.on));
     }
     ahead
 }
 
-/// Where control leaves the node, for each state before it.
+/// Where control leaves the node, from the state before it.
 #[cycle(flows)]
-pub fn table_of_node(mark: Mark, n: &Node) -> Table
-    ensures { IsTable result (flow_node (mark_view mark) (node_view n.now)) }
+pub fn ways_of_node(mark: Mark, n: &Node, before: State) -> Ways
+    ensures { ways_view result ≡ flow_node (mark_view mark) (node_view n.now) (state_view before) }
 {
     match &n.kind {
         NodeKind::If(_, one, other) => {
-            let first = table_of(mark, one);
-            either_table(first, table_of(mark, other))
+            let first = ways_of(mark, one, before);
+            both_ways(first, ways_of(mark, other, before))
         }
         NodeKind::Loop(body, step) => {
-            let around_body = table_of(mark, body);
-            loop_table(around_body, table_of(mark, step))
+            let one = ways_of(mark, body, before);
+            let once = around(one, ways_of(mark, step, end_of(one)));
+            let head = joined(before, once.on);
+            if is_same(head, before) {
+                all_on(once.broken)
+            } else {
+                let two = ways_of(mark, body, head);
+                all_on(around(two, ways_of(mark, step, end_of(two))).broken)
+            }
         }
         NodeKind::Set(..) | NodeKind::Call(_) | NodeKind::Step(_) | NodeKind::Look(..) => {
-            leaf_table(mark, n)
+            leaf_at(mark, n, before)
         }
-        NodeKind::Safepoint(_) | NodeKind::Begin(_) | NodeKind::End(_) => leaf_table(mark, n),
-        NodeKind::Break | NodeKind::Next | NodeKind::Ret(_) => leaf_table(mark, n),
+        NodeKind::Safepoint(_) | NodeKind::Begin(_) | NodeKind::End(_) => leaf_at(mark, n, before),
+        NodeKind::Break | NodeKind::Next | NodeKind::Ret(_) => leaf_at(mark, n, before),
     }
+}
+
+/// The start of each round of a loop.
+pub fn head_from(mark: Mark, body: &[Node], step: &[Node], before: State) -> State
+    ensures { state_view result ≡ head_of (flow (mark_view mark) (nodes_view body.now)) (flow (mark_view mark) (nodes_view step.now)) (state_view before) }
+{
+    let one = ways_of(mark, body, before);
+    joined(before, around(one, ways_of(mark, step, end_of(one))).on)
 }

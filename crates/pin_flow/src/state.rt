@@ -2,7 +2,7 @@
 
 ghost use Rattle.std.specs.Prelude.{◌≡◌};
 ghost use Rattle.pin_flow.specs.Marks.{join, at, either, in_turn, turned, end_state};
-ghost use Rattle.pin_flow.specs.Views.{state_view, ways_view, entry_of};
+ghost use Rattle.pin_flow.specs.Views.{state_view, ways_view, is_same};
 
 /// What the paths to a point say.
 #[derive(Clone, Copy, Debug, PartialEq, Eq)]
@@ -24,15 +24,6 @@ pub struct Ways {
     pub broken: State,
     /// By a Next.
     pub next: State,
-}
-
-/// A function from the state before some nodes to where control leaves them.
-#[derive(Clone, Copy, Debug, PartialEq, Eq)]
-pub struct Table {
-    /// Its value at Good.
-    pub good: Ways,
-    /// Its value at Bad.
-    pub bad: Ways,
 }
 
 /// All paths that come by one way or by another.
@@ -98,15 +89,16 @@ pub fn end_of(a: Ways) -> State
     joined(a.on, a.next)
 }
 
-impl Table {
-    /// Where control leaves the nodes from this state.
-    pub fn read(&self, at: State) -> Ways
-        ensures { ways_view result ≡ entry_of self.now (state_view at) }
-    {
-        match at {
-            State::Unreached => all_on(State::Unreached),
-            State::Good => self.good,
-            State::Bad => self.bad,
-        }
+/// Whether the two are the same.
+pub fn is_same(a: State, b: State) -> bool
+    ensures { result ≡ is_same (state_view a) (state_view b) }
+{
+    match (a, b) {
+        (State::Unreached, State::Unreached) => true,
+        (State::Unreached, _) => false,
+        (State::Good, State::Good) => true,
+        (State::Good, _) => false,
+        (State::Bad, State::Bad) => true,
+        (State::Bad, _) => false,
     }
 }

@@ -9,6 +9,7 @@ pub mod Backwards
 pub mod Seated
 pub mod LiveRows
 pub mod ListRows
+pub mod FreeRows
 pub mod Below
 pub mod Valid
 pub mod Programs

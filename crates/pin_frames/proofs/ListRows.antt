@@ -8,13 +8,10 @@ use Rattle.struct_ir.specs.declared.code.NodeKind.TheViews as views
 use Rattle.struct_ir.specs.Nodes.{Node, plain, if_, loop, break_, next_, ret, Nodes, no_nodes, more_nodes}
 use Rattle.struct_ir.specs.Views.{node_view, nodes_view, followed}
 use Rattle.struct_ir.proofs.Views.{if_is, loop_is, followed_none}
-use Rattle.pin_flow.specs.declared.state.Table.{Table}
 use Rattle.pin_flow.specs.Marks.{State, Ways, end_state, head_of, flow, flow_node}
 use Rattle.pin_flow.specs.Held.{held}
 use Rattle.pin_flow.specs.Live.{Live, lives, live, live_node, head_live, latch_live, body_lives, latch_lives}
-use Rattle.pin_flow.specs.Views.{entry_of, IsTable}
-use Rattle.pin_flow.proofs.Order.{flow_idle, node_idle}
-use Rattle.pin_flow.proofs.TableRows.{reads, split_at}
+use Rattle.pin_flow.proofs.FlowRows.{split_at}
 use Rattle.pin_frames.specs.inner.Place.{listed_one, listed_one_in, behind, last_in}
 
 last_append : (xs : List Bool) (y : Bool) → last_in (xs ++ (y ∷ [])) ≡ y
@@ -63,15 +60,15 @@ behind_popped slot b rows i x l old new n le is e ne f =
     f ∙ (ap (λ m. take (m - 1) old) ne ∙ (ap (λ o. take (length o - 1) o) k ∙ take_last front on))
 
 -- one node more
-pub row_step : (slot b : ℕ) (rows : List CodeNode) (i : ℕ) (x y : CodeNode) (old new : List CodeNode) (s s' : State) (l m : Live) (later : Bool) (t : Table) (o : Ways) (all : Nodes) → i < length rows → x ≡ get_or rows i x
-    → followed old (listed_one slot b (nodes_view (drop i rows)) s l) ≡ all → IsTable t (flow_node (held b) (node_view x)) → o ≡ entry_of t s → s' ≡ o.on
+pub row_step : (slot b : ℕ) (rows : List CodeNode) (i : ℕ) (x y : CodeNode) (old new : List CodeNode) (s s' : State) (l m : Live) (later : Bool) (o : Ways) (all : Nodes) → i < length rows → x ≡ get_or rows i x
+    → followed old (listed_one slot b (nodes_view (drop i rows)) s l) ≡ all → o ≡ flow_node (held b) (node_view x) s → s' ≡ o.on
     → m ≡ lives later l.out l.end → later ≡ live slot b (nodes_view (drop (i + 1) rows)) l → node_view y ≡ listed_one_in slot b (node_view x) s m
     → ((rest : Nodes) → followed new rest ≡ followed old (more_nodes (node_view y) rest))
     → followed new (listed_one slot b (nodes_view (drop (i + 1) rows)) s' l) ≡ all
-row_step slot b rows i x y old new s s' l m later t o all le is inv table e e' me le' ye made =
+row_step slot b rows i x y old new s s' l m later o all le is inv e e' me le' ye made =
     let h = held b in
     let rest = nodes_view (drop (i + 1) rows) in
-    let next : s' ≡ (flow_node h (node_view x) s).on = e' ∙ (ap (λ (p : Ways). p.on) e ∙ (λ j. (reads t (flow_node h (node_view x)) table (node_idle h (node_view x)) j s).on)) in
+    let next : s' ≡ (flow_node h (node_view x) s).on = e' ∙ ap (λ (p : Ways). p.on) e in
     let node : node_view y ≡ listed_one_in slot b (node_view x) s (lives (live slot b rest l) l.out l.end) = ye ∙ (ap (listed_one_in slot b (node_view x) s) me ∙ ap (λ z. listed_one_in slot b (node_view x) s (lives z l.out l.end)) le') in
     ap (λ u. followed new (listed_one slot b rest u l)) next
     ∙ (made (listed_one slot b rest (flow_node h (node_view x) s).on l)
@@ -86,16 +83,13 @@ pub if_listed : (slot b : ℕ) (n x : CodeNode) (temp : ℕ) (v w one other : Ve
     → nodes_view one.items ≡ listed_one slot b (nodes_view v.items) s l → nodes_view other.items ≡ listed_one slot b (nodes_view w.items) s l → node_view x ≡ listed_one_in slot b (node_view n) s l
 if_listed slot b n x temp v w one other s l is e f g = e ∙ ((λ i. if_ n.place temp (f i) (g i)) ∙ ap (λ y. listed_one_in slot b y s l) (sym (if_is n temp v w is)))
 
-pub loop_listed : (slot b : ℕ) (n x : CodeNode) (v w first second : Vec CodeNode) (s h z : State) (l p q : Live) (top end : Bool) (t u : Table) → n.kind ≡ views.Loop v w → node_view x ≡ loop n.place (nodes_view first.items) (nodes_view second.items)
-    → IsTable t (flow (held b) (nodes_view v.items)) → IsTable u (flow (held b) (nodes_view w.items)) → h ≡ head_of (entry_of t) (entry_of u) s → z ≡ end_state (entry_of t h)
+pub loop_listed : (slot b : ℕ) (n x : CodeNode) (v w first second : Vec CodeNode) (s h z : State) (l p q : Live) (top end : Bool) → n.kind ≡ views.Loop v w → node_view x ≡ loop n.place (nodes_view first.items) (nodes_view second.items)
+    → h ≡ head_of (flow (held b) (nodes_view v.items)) (flow (held b) (nodes_view w.items)) s → z ≡ end_state (flow (held b) (nodes_view v.items) h)
     → top ≡ head_live slot b (nodes_view v.items) (nodes_view w.items) l.on → end ≡ latch_live slot b (nodes_view v.items) (nodes_view w.items) l.on → p ≡ lives end l.on end → q ≡ lives top l.on top
     → nodes_view first.items ≡ listed_one slot b (nodes_view v.items) h p → nodes_view second.items ≡ listed_one slot b (nodes_view w.items) z q → node_view x ≡ listed_one_in slot b (node_view n) s l
-loop_listed slot b n x v w first second s h z l p q top end t u is e ti ui he ze te ee pe qe f g =
+loop_listed slot b n x v w first second s h z l p q top end is e he ze te ee pe qe f g =
     let m = held b in
-    let r = reads t (flow m (nodes_view v.items)) ti (flow_idle m (nodes_view v.items)) in
-    let k = reads u (flow m (nodes_view w.items)) ui (flow_idle m (nodes_view w.items)) in
-    let hh : h ≡ head_of (flow m (nodes_view v.items)) (flow m (nodes_view w.items)) s = he ∙ (λ i. head_of (r i) (k i) s) in
-    let zz : z ≡ end_state (flow m (nodes_view v.items) (head_of (flow m (nodes_view v.items)) (flow m (nodes_view w.items)) s)) = ze ∙ (λ i. end_state (r i (hh i))) in
+    let zz : z ≡ end_state (flow m (nodes_view v.items) (head_of (flow m (nodes_view v.items)) (flow m (nodes_view w.items)) s)) = ze ∙ ap (λ t. end_state (flow m (nodes_view v.items) t)) he in
     let pp : p ≡ body_lives slot b (nodes_view v.items) (nodes_view w.items) l.on = pe ∙ (λ i. lives (ee i) l.on (ee i)) in
     let qq : q ≡ latch_lives slot b (nodes_view v.items) (nodes_view w.items) l.on = qe ∙ (λ i. lives (te i) l.on (te i)) in
-    e ∙ ((λ i. loop n.place (f i) (g i)) ∙ ((λ i. loop n.place (listed_one slot b (nodes_view v.items) (hh i) (pp i)) (listed_one slot b (nodes_view w.items) (zz i) (qq i))) ∙ ap (λ y. listed_one_in slot b y s l) (sym (loop_is n v w is))))
+    e ∙ ((λ i. loop n.place (f i) (g i)) ∙ ((λ i. loop n.place (listed_one slot b (nodes_view v.items) (he i) (pp i)) (listed_one slot b (nodes_view w.items) (zz i) (qq i))) ∙ ap (λ y. listed_one_in slot b y s l) (sym (loop_is n v w is))))

@@ -8,5 +8,6 @@ pub mod listing;
 pub mod lives;
 pub mod placing;
 pub mod seating;
+mod unlisted;
 
 pub use placing::place;

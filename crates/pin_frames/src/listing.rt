@@ -10,7 +10,7 @@ ghost use Rattle.pin_frames.specs.inner.Place.{added, node_wants, listed_one, li
 use crate::lives::{Lives, act_live, head_live, latch_live, live_node, lives_of};
 use ak_words::NoMemory;
 use pin_flow::copies::{add, branches, copy_action, node, rounds};
-use pin_flow::flow::{head_at, table_of, table_of_node};
+use pin_flow::flow::{head_from, ways_of, ways_of_node};
 use pin_flow::mark::Mark;
 use pin_flow::seen::uses;
 use pin_flow::state::{State, end_of};
@@ -120,7 +120,7 @@ pub fn list_row(
         lives.pop();
         let later = lives_of(last_of(&lives), after.out, after.end);
         add(&mut out, list_node(alloc, slot, b, n, here, later)?)?;
-        here = table_of_node(Mark::Held(b), n).read(here).on;
+        here = ways_of_node(Mark::Held(b), n, here).on;
     }
     Ok(out)
 }
@@ -144,12 +144,11 @@ fn list_node(
             Ok(branches(n.place, *temp, yes, no))
         }
         NodeKind::Loop(body, step) => {
-            let around = table_of(Mark::Held(b), body);
-            let head = head_at(around, table_of(Mark::Held(b), step), before);
+            let head = head_from(Mark::Held(b), body, step, before);
             let top = head_live(slot, b, body, step, after.on);
             let end = latch_live(slot, b, body, step, after.on);
             let first = list_row(alloc, slot, b, body, head, lives_of(end, after.on, end))?;
-            let turned = end_of(around.read(head));
+            let turned = end_of(ways_of(Mark::Held(b), body, head));
             let second = list_row(alloc, slot, b, step, turned, lives_of(top, after.on, top))?;
             Ok(rounds(n.place, first, second))
         }

@@ -16,6 +16,7 @@ ghost use Rattle.pin_frames.specs.inner.Place.{seated, cleared, listed_one, list
 use crate::listing::list_row;
 use crate::lives::lives_of;
 use crate::seating::seat_row;
+use crate::unlisted::is_unlisted;
 use ak_words::NoMemory;
 use pin_flow::copies::copy_literals;
 use pin_flow::slots::{bases_of, slot_of};
@@ -97,20 +98,19 @@ fn list_base(alloc: Global, bases: &[u32], b: u32, code: Vec<Node>) -> Result<Ve
     ensures { IfOk result (λ v. nodes_view v.items ≡ listed_for (slot_if bases.now b) b (nodes_view code.items)) }
 {
     match slot_of(bases, b) {
-        Some(slot) => list_one(alloc, slot, b, &code),
+        Some(slot) => list_one(alloc, slot, b, code),
         None => Ok(code),
     }
 }
 
-fn list_one(alloc: Global, slot: u32, b: u32, code: &[Node]) -> Result<Vec<Node>, NoMemory>
-    ensures { IfOk result (λ v. nodes_view v.items ≡ listed_one slot b (nodes_view code.now) bad (lives false false false)) }
+// Most slots are used before the next list, and their code stays as it is.
+fn list_one(alloc: Global, slot: u32, b: u32, code: Vec<Node>) -> Result<Vec<Node>, NoMemory>
+    ensures { IfOk result (λ v. nodes_view v.items ≡ listed_one slot b (nodes_view code.items) bad (lives false false false)) }
 {
-    list_row(
-        alloc,
-        slot,
-        b,
-        code,
-        State::Bad,
-        lives_of(false, false, false),
-    )
+    let nothing = lives_of(false, false, false);
+    if is_unlisted(slot, b, &code, nothing) {
+        Ok(code)
+    } else {
+        list_row(alloc, slot, b, &code, State::Bad, nothing)
+    }
 }

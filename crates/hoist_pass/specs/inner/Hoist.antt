@@ -41,6 +41,20 @@ abbrev mutual
   lifted_in slot b (next_ place) = next_ place
   lifted_in slot b (ret place temp) = ret place temp
 
+-- some loop is one, however deep it stands
+abbrev mutual
+  pub some_wants : (b : ℕ) → Nodes → Bool
+  some_wants b no_nodes = false
+  some_wants b (more_nodes n rest) = some_wants_in b n || some_wants b rest
+
+  pub some_wants_in : (b : ℕ) → Node → Bool
+  some_wants_in b (plain place a) = false
+  some_wants_in b (if_ place temp one other) = some_wants b one || some_wants b other
+  some_wants_in b (loop place body latch) = wants b (loop place body latch) || (some_wants b body || some_wants b latch)
+  some_wants_in b (break_ place) = false
+  some_wants_in b (next_ place) = false
+  some_wants_in b (ret place temp) = false
+
 -- ---- then: no Look where its register is held, or where no path comes
 
 -- some path says no

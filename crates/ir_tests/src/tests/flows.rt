@@ -7,7 +7,7 @@ ghost use Rattle.pin_flow.specs.Views.{state_view};
 
 use ak_words::{IntType, NoMemory};
 use block_store::Access;
-use pin_flow::flow::table_of;
+use pin_flow::flow::ways_of;
 use pin_flow::mark::Mark;
 use pin_flow::slots::{bases_of, slot_of};
 use pin_flow::state::State;
@@ -20,7 +20,7 @@ use struct_ir::{Action, Calc, IrFunc, Node, NodeKind, Place, StepNode};
 fn held_at_end(b: u32, rows: &[Node]) -> State
     ensures { state_view result ≡ (flow (held b) (nodes_view rows.now) bad).on }
 {
-    table_of(Mark::Held(b), rows).read(State::Bad).on
+    ways_of(Mark::Held(b), rows, State::Bad).on
 }
 
 // Whether a register has a slot: another.

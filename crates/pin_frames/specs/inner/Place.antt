@@ -170,6 +170,16 @@ act_adding slot y (safepoint slots) = safepoint (added slot y slots)
 act_adding slot y (begin_object i) = begin_object i
 act_adding slot y (end_object i) = end_object i
 
+-- it has a list
+abbrev pub has_list : Act → Bool
+has_list (set to calc) = false
+has_list (call c) = true
+has_list (step x) = may_wait x.action
+has_list (look slot base) = false
+has_list (safepoint slots) = true
+has_list (begin_object i) = false
+has_list (end_object i) = false
+
 -- the slot of b is listed there
 abbrev pub wants : (slot b : ℕ) → Act → State → Bool → Bool
 wants slot b a t later = (not (is_bad t) && live_act slot b a later) || uses slot b a

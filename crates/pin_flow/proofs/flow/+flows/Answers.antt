@@ -1,58 +1,76 @@
-use Rattle.std.proofs.Common.{◌≡◌, true, refl, subst, inl, inr}
+use Rattle.std.proofs.Common.{◌≡◌, true, refl, sym, ap, ◌∙◌, inl, inr}
 use Rattle.struct_ir.specs.Views.{node_view, nodes_view}
-use Rattle.pin_flow.specs.Marks.{flow}
-use Rattle.pin_flow.specs.Views.{mark_view, ways_view, IsTable}
-use Rattle.pin_flow.proofs.TableRows.{row_on, row_over, either_is, loop_table_is, is_leaf, leaf_of, leaf_is}
+use Rattle.pin_flow.specs.Marks.{flow, head_of, round_of}
+use Rattle.pin_flow.specs.Views.{mark_view, state_view, ways_view}
+use Rattle.pin_flow.proofs.FlowRows.{row_on, row_over, either_is, round_is, head_is, loop_from, loop_once, is_leaf, leaf_of, leaf_is}
 use Rattle.pin_flow.proofs.flow.+flows.Goals as goal
 
-pub table_of-loop-n-preserved : goal.table_of-loop-n-preserved
-table_of-loop-n-preserved t c = (
-  row_on (mark_view c.args.mark) c.args.rows.now c.loop-n.n-index c.n-item.result (ways_view c.loop-n.ahead.good) (ways_view c.row_table-ahead.result.good) c.table_of_node.result _ c.loop-n-test.true c.n-item.is c.loop-n.invariant.0 c.table_of_node.ensures c.row_table-ahead.ensures.good,
-  row_on (mark_view c.args.mark) c.args.rows.now c.loop-n.n-index c.n-item.result (ways_view c.loop-n.ahead.bad) (ways_view c.row_table-ahead.result.bad) c.table_of_node.result _ c.loop-n-test.true c.n-item.is c.loop-n.invariant.1 c.table_of_node.ensures c.row_table-ahead.ensures.bad,
-)
+pub ways_of-loop-n-preserved : goal.ways_of-loop-n-preserved
+ways_of-loop-n-preserved t c =
+    row_on (mark_view c.args.mark) c.args.rows.now c.loop-n.n-index c.n-item.result (ways_view c.loop-n.ahead) (ways_view c.one_behind-ahead.result) (ways_view c.ways_of_node.result) _
+    c.loop-n-test.true c.n-item.is c.loop-n.invariant c.ways_of_node.ensures c.one_behind-ahead.ensures
 
-pub table_of-returns : goal.table_of-returns
-table_of-returns t c = record {
-  good = row_over (mark_view c.args.mark) c.args.rows.now c.loop-n.n-index (ways_view c.loop-n.ahead.good) _ c.loop-n-test.false c.loop-n.invariant.0;
-  bad = row_over (mark_view c.args.mark) c.args.rows.now c.loop-n.n-index (ways_view c.loop-n.ahead.bad) _ c.loop-n-test.false c.loop-n.invariant.1;
-}
+pub ways_of-returns : goal.ways_of-returns
+ways_of-returns t c = row_over (mark_view c.args.mark) c.args.rows.now c.loop-n.n-index (ways_view c.loop-n.ahead) _ c.loop-n-test.false c.loop-n.invariant
 
-pub table_of_node-returns-in-If : goal.table_of_node-returns-in-If
-table_of_node-returns-in-If t c =
-    either_is (mark_view c.args.mark) c.args.n.now c.in-If.field-0 c.in-If.one c.in-If.other c.table_of-first.result c.table_of.result c.either_table.result c.in-If.is
-    (subst (λ l. IsTable c.table_of-first.result (flow (mark_view c.args.mark) (nodes_view l))) c.deref.ensures.value c.table_of-first.ensures)
-    (subst (λ l. IsTable c.table_of.result (flow (mark_view c.args.mark) (nodes_view l))) c.deref-in-If.ensures.value c.table_of.ensures) c.either_table.ensures.good c.either_table.ensures.bad
+pub ways_of_node-returns-in-If : goal.ways_of_node-returns-in-If
+ways_of_node-returns-in-If t c =
+    either_is (mark_view c.args.mark) c.args.n.now c.in-If.field-0 c.in-If.one c.in-If.other (state_view c.args.before) (ways_view c.ways_of-first.result) (ways_view c.ways_of.result) (ways_view c.both_ways.result) c.in-If.is
+    (c.ways_of-first.ensures ∙ ap (λ l. flow (mark_view c.args.mark) (nodes_view l) (state_view c.args.before)) c.deref.ensures.value)
+    (c.ways_of.ensures ∙ ap (λ l. flow (mark_view c.args.mark) (nodes_view l) (state_view c.args.before)) c.deref-in-If.ensures.value) c.both_ways.ensures
 
-pub table_of_node-returns-in-Loop : goal.table_of_node-returns-in-Loop
-table_of_node-returns-in-Loop t c =
-    loop_table_is (mark_view c.args.mark) c.args.n.now c.in-Loop.body c.in-Loop.step c.table_of-around_body.result c.table_of-in-Loop.result c.loop_table.result c.in-Loop.is
-    (subst (λ l. IsTable c.table_of-around_body.result (flow (mark_view c.args.mark) (nodes_view l))) c.deref-in-Loop.ensures.value c.table_of-around_body.ensures)
-    (subst (λ l. IsTable c.table_of-in-Loop.result (flow (mark_view c.args.mark) (nodes_view l))) c.deref-in-Loop-2.ensures.value c.table_of-in-Loop.ensures) c.loop_table.ensures.good c.loop_table.ensures.bad
-
-pub table_of_node-returns-in-Set : goal.table_of_node-returns-in-Set
-table_of_node-returns-in-Set t c =
+pub ways_of_node-returns-in-Set : goal.ways_of_node-returns-in-Set
+ways_of_node-returns-in-Set t c =
     let l : is_leaf (node_view c.args.n.now) ≡ true = elim c.in-Set.is [
       | inl (x, y, e) ↦ leaf_of c.args.n.now _ e refl
       | inr (inl (x, e)) ↦ leaf_of c.args.n.now _ e refl
       | inr (inr (inl (x, e))) ↦ leaf_of c.args.n.now _ e refl
       | inr (inr (inr (x, y, e))) ↦ leaf_of c.args.n.now _ e refl
     ] in
-    leaf_is (mark_view c.args.mark) c.args.n.now c.leaf_table-in-Set.result l c.leaf_table-in-Set.ensures.good c.leaf_table-in-Set.ensures.bad
+    leaf_is (mark_view c.args.mark) c.args.n.now (state_view c.args.before) (ways_view c.leaf_at-in-Set.result) l c.leaf_at-in-Set.ensures
 
-pub table_of_node-returns-in-Safepoint : goal.table_of_node-returns-in-Safepoint
-table_of_node-returns-in-Safepoint t c =
+pub ways_of_node-returns-in-Safepoint : goal.ways_of_node-returns-in-Safepoint
+ways_of_node-returns-in-Safepoint t c =
     let l : is_leaf (node_view c.args.n.now) ≡ true = elim c.in-Safepoint.is [
       | inl (x, e) ↦ leaf_of c.args.n.now _ e refl
       | inr (inl (x, e)) ↦ leaf_of c.args.n.now _ e refl
       | inr (inr (x, e)) ↦ leaf_of c.args.n.now _ e refl
     ] in
-    leaf_is (mark_view c.args.mark) c.args.n.now c.leaf_table-in-Safepoint.result l c.leaf_table-in-Safepoint.ensures.good c.leaf_table-in-Safepoint.ensures.bad
+    leaf_is (mark_view c.args.mark) c.args.n.now (state_view c.args.before) (ways_view c.leaf_at-in-Safepoint.result) l c.leaf_at-in-Safepoint.ensures
 
-pub table_of_node-returns-in-Break : goal.table_of_node-returns-in-Break
-table_of_node-returns-in-Break t c =
+pub ways_of_node-returns-in-Break : goal.ways_of_node-returns-in-Break
+ways_of_node-returns-in-Break t c =
     let l : is_leaf (node_view c.args.n.now) ≡ true = elim c.in-Break.is [
       | inl e ↦ leaf_of c.args.n.now _ e refl
       | inr (inl e) ↦ leaf_of c.args.n.now _ e refl
       | inr (inr (x, e)) ↦ leaf_of c.args.n.now _ e refl
     ] in
-    leaf_is (mark_view c.args.mark) c.args.n.now c.leaf_table.result l c.leaf_table.ensures.good c.leaf_table.ensures.bad
+    leaf_is (mark_view c.args.mark) c.args.n.now (state_view c.args.before) (ways_view c.leaf_at.result) l c.leaf_at.ensures
+
+pub ways_of_node-returns-then-is_same : goal.ways_of_node-returns-then-is_same
+ways_of_node-returns-then-is_same t c =
+    let m = mark_view c.args.mark in
+    let s = state_view c.args.before in
+    let f = flow m (nodes_view c.in-Loop.body.items) in
+    let g = flow m (nodes_view c.in-Loop.step.items) in
+    let once : ways_view c.around-once.result ≡ round_of f g s = round_is m (nodes_view c.in-Loop.body.items) (nodes_view c.in-Loop.step.items) s (state_view c.end_of.result)
+    (ways_view c.ways_of-one.result) (ways_view c.ways_of-in-Loop.result) (ways_view c.around-once.result) (c.ways_of-one.ensures ∙ ap (λ l. flow m (nodes_view l) s) c.deref-in-Loop.ensures.value) c.end_of.ensures
+    (c.ways_of-in-Loop.ensures ∙ ap (λ l. flow m (nodes_view l) (state_view c.end_of.result)) c.deref-in-Loop-2.ensures.value) c.around-once.ensures in
+    loop_once m c.args.n.now c.in-Loop.body c.in-Loop.step s (state_view c.joined-head.result) (ways_view c.around-once.result) (ways_view c.all_on.result) c.in-Loop.is
+    (head_is f g s (state_view c.joined-head.result) (ways_view c.around-once.result) once c.joined-head.ensures) (sym c.if-is_same.ensures) once c.all_on.ensures
+
+pub ways_of_node-returns-else-is_same : goal.ways_of_node-returns-else-is_same
+ways_of_node-returns-else-is_same t c =
+    let m = mark_view c.args.mark in
+    let s = state_view c.args.before in
+    let h = state_view c.joined-head.result in
+    let f = flow m (nodes_view c.in-Loop.body.items) in
+    let g = flow m (nodes_view c.in-Loop.step.items) in
+    let once : ways_view c.around-once.result ≡ round_of f g s = round_is m (nodes_view c.in-Loop.body.items) (nodes_view c.in-Loop.step.items) s (state_view c.end_of.result)
+    (ways_view c.ways_of-one.result) (ways_view c.ways_of-in-Loop.result) (ways_view c.around-once.result) (c.ways_of-one.ensures ∙ ap (λ l. flow m (nodes_view l) s) c.deref-in-Loop.ensures.value) c.end_of.ensures
+    (c.ways_of-in-Loop.ensures ∙ ap (λ l. flow m (nodes_view l) (state_view c.end_of.result)) c.deref-in-Loop-2.ensures.value) c.around-once.ensures in
+    let twice : ways_view c.around.result ≡ round_of f g h = round_is m (nodes_view c.in-Loop.body.items) (nodes_view c.in-Loop.step.items) h (state_view c.end_of-else-is_same.result)
+    (ways_view c.ways_of-two.result) (ways_view c.ways_of-else-is_same.result) (ways_view c.around.result) (c.ways_of-two.ensures ∙ ap (λ l. flow m (nodes_view l) h) c.deref-else-is_same.ensures.value) c.end_of-else-is_same.ensures
+    (c.ways_of-else-is_same.ensures ∙ ap (λ l. flow m (nodes_view l) (state_view c.end_of-else-is_same.result)) c.deref-else-is_same-2.ensures.value) c.around.ensures in
+    loop_from m c.args.n.now c.in-Loop.body c.in-Loop.step s h (ways_view c.around.result) (ways_view c.all_on-else-is_same.result) c.in-Loop.is
+    (head_is f g s h (ways_view c.around-once.result) once c.joined-head.ensures) twice c.all_on-else-is_same.ensures

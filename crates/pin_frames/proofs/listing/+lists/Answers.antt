@@ -1,9 +1,9 @@
-use Rattle.std.proofs.Common.{◌≡◌, ◌+◌, drop, refl, ap, subst, ◌∙◌}
+use Rattle.std.proofs.Common.{◌≡◌, ◌+◌, drop, refl, ap, ◌∙◌}
 use Rattle.struct_ir.specs.Views.{nodes_view}
-use Rattle.pin_flow.specs.Marks.{end_state, flow}
+use Rattle.pin_flow.specs.Marks.{end_state, head_of, flow}
 use Rattle.pin_flow.specs.Held.{held}
 use Rattle.pin_flow.specs.Live.{head_live, latch_live}
-use Rattle.pin_flow.specs.Views.{state_view, ways_view, IsTable}
+use Rattle.pin_flow.specs.Views.{state_view, ways_view}
 use Rattle.pin_frames.specs.Views.{lives_view}
 use Rattle.pin_frames.specs.inner.Place.{listed_one, behind, last_in}
 use Rattle.pin_frames.proofs.ListRows.{last_behind, behind_popped, row_step, row_end, if_listed, loop_listed}
@@ -16,9 +16,9 @@ list_row-loop-n-preserved t c =
     let later : c.pop.new.self.items ≡ behind c.args.slot c.args.b rest after = behind_popped c.args.slot c.args.b c.args.rows.now c.loop-n.n-index c.n-item.result after c.loop-n.lives.items c.pop.new.self.items c.loop-n.lives.len
     c.loop-n-test.true c.n-item.is c.loop-n.invariant.later c.loop-n.lives.ok.0 c.pop.ensures.rest in
     record {
-      made = row_step c.args.slot c.args.b c.args.rows.now c.loop-n.n-index c.n-item.result c.in_ok-list_node.field-0 c.loop-n.out.items c.add.new.out.items (state_view c.loop-n.here) (state_view c.read-here.result.on) after
-          (lives_view c.lives_of-later.result) c.last_of.result c.table_of_node.result (ways_view c.read-here.result) (listed_one c.args.slot c.args.b (nodes_view c.args.rows.now) (state_view c.args.before) after)
-          c.loop-n-test.true c.n-item.is c.loop-n.invariant.made c.table_of_node.ensures c.read-here.ensures refl c.lives_of-later.ensures
+      made = row_step c.args.slot c.args.b c.args.rows.now c.loop-n.n-index c.n-item.result c.in_ok-list_node.field-0 c.loop-n.out.items c.add.new.out.items (state_view c.loop-n.here) (state_view c.ways_of_node-here.result.on) after
+          (lives_view c.lives_of-later.result) c.last_of.result (ways_view c.ways_of_node-here.result) (listed_one c.args.slot c.args.b (nodes_view c.args.rows.now) (state_view c.args.before) after)
+          c.loop-n-test.true c.n-item.is c.loop-n.invariant.made c.ways_of_node-here.ensures refl c.lives_of-later.ensures
           (c.last_of.ensures ∙ (ap last_in (c.deref.ensures.value ∙ later) ∙ last_behind c.args.slot c.args.b rest after)) c.in_ok-list_node.ensures c.in_ok-add.ensures;
       later = later;
     }
@@ -38,15 +38,17 @@ pub list_node-returns-in_ok-second-in-Loop : goal.list_node-returns-in_ok-second
 list_node-returns-in_ok-second-in-Loop t c =
     let slot = c.args.slot in
     let b = c.args.b in
+    let m = held b in
+    let h = state_view c.head_from-head.result in
+    let z = state_view c.end_of-turned.result in
     let first = lives_view c.lives_of.result in
     let second = lives_view c.lives_of-in-Loop.result in
-    loop_listed slot b c.args.n.now c.rounds.result c.in-Loop.body c.in-Loop.step c.in_ok-first-in-Loop.first c.in_ok-second-in-Loop.second (state_view c.args.before) (state_view c.head_at-head.result) (state_view c.end_of-turned.result)
-    (lives_view c.args.after) first second c.head_live-top.result c.latch_live-end.result c.table_of-around.result c.table_of.result c.in-Loop.is c.rounds.ensures
-    (subst (λ l. IsTable c.table_of-around.result (flow (held b) (nodes_view l))) c.deref-in-Loop.ensures.value c.table_of-around.ensures)
-    (subst (λ l. IsTable c.table_of.result (flow (held b) (nodes_view l))) c.deref-in-Loop-2.ensures.value c.table_of.ensures)
-    c.head_at-head.ensures (c.end_of-turned.ensures ∙ ap end_state c.read.ensures)
+    loop_listed slot b c.args.n.now c.rounds.result c.in-Loop.body c.in-Loop.step c.in_ok-first-in-Loop.first c.in_ok-second-in-Loop.second (state_view c.args.before) h z (lives_view c.args.after) first second
+    c.head_live-top.result c.latch_live-end.result c.in-Loop.is c.rounds.ensures
+    (c.head_from-head.ensures ∙ (λ i. head_of (flow m (nodes_view (c.deref-in-Loop.ensures.value i))) (flow m (nodes_view (c.deref-in-Loop-2.ensures.value i))) (state_view c.args.before)))
+    (c.end_of-turned.ensures ∙ ap end_state (c.ways_of.ensures ∙ ap (λ l. flow m (nodes_view l) h) c.deref-in-Loop-8.ensures.value))
     (c.head_live-top.ensures ∙ (λ i. head_live slot b (nodes_view (c.deref-in-Loop-3.ensures.value i)) (nodes_view (c.deref-in-Loop-4.ensures.value i)) c.args.after.on))
     (c.latch_live-end.ensures ∙ (λ i. latch_live slot b (nodes_view (c.deref-in-Loop-5.ensures.value i)) (nodes_view (c.deref-in-Loop-6.ensures.value i)) c.args.after.on))
     c.lives_of.ensures c.lives_of-in-Loop.ensures
-    (c.in_ok-first-in-Loop.ensures ∙ ap (λ l. listed_one slot b (nodes_view l) (state_view c.head_at-head.result) first) c.deref-in-Loop-7.ensures.value)
-    (c.in_ok-second-in-Loop.ensures ∙ ap (λ l. listed_one slot b (nodes_view l) (state_view c.end_of-turned.result) second) c.deref-in-Loop-8.ensures.value)
+    (c.in_ok-first-in-Loop.ensures ∙ ap (λ l. listed_one slot b (nodes_view l) h first) c.deref-in-Loop-7.ensures.value)
+    (c.in_ok-second-in-Loop.ensures ∙ ap (λ l. listed_one slot b (nodes_view l) z second) c.deref-in-Loop-9.ensures.value)
