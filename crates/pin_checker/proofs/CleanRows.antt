@@ -31,7 +31,7 @@ clean_more G s rows i x t t' all more all' le is inv m e f h rest =
     let p = and_parts all more (sym e ∙ h) in
     let tail = nodes_view (drop (i + 1) rows) in
     let here : report s tail (flow_node s.mark (node_view x) t).on (report_node s (node_view x) t None) ≡ None =
-        ap (report s tail (flow_node s.mark (node_view x) t).on) (m p.1) ∙ (ap (λ u. report s tail u None) (sym f) ∙ rest) in
+    ap (report s tail (flow_node s.mark (node_view x) t).on) (m p.1) ∙ (ap (λ u. report s tail u None) (sym f) ∙ rest) in
     inv p.0 (subst (λ l. IsClean s (nodes_view l) t) (sym (split_at rows i x le is)) here)
 
 -- no node more

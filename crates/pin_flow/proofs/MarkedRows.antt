@@ -26,12 +26,12 @@ or_assoc true y z = refl
 or_assoc false y z = refl
 
 unequal : (i b : ℕ) → i ≢ b → (i == b) ≡ false
-unequal i b ne = elim (eqb_tells i b) [ | inl e ↦ absurd (ne e.1) | inr e ↦ e.0 ]
+unequal i b ne = elim (eqb_tells i b) [ inl e ↦ absurd (ne e.1) | inr e ↦ e.0 ]
 
 same_suc : (i b : ℕ) → (i == b) ≡ (suc i == suc b)
 same_suc i b = elim (eqb_tells i b) [
-  | inl e ↦ elim (eqb_tells (suc i) (suc b)) [ | inl f ↦ e.0 ∙ sym f.0 | inr f ↦ absurd (f.1 (ap suc e.1)) ]
-  | inr e ↦ elim (eqb_tells (suc i) (suc b)) [ | inl f ↦ absurd (e.1 (let h = f.1 in omega (arith, h))) | inr f ↦ e.0 ∙ sym f.0 ]
+  | inl e ↦ elim (eqb_tells (suc i) (suc b)) [ inl f ↦ e.0 ∙ sym f.0 | inr f ↦ absurd (f.1 (ap suc e.1)) ]
+  | inr e ↦ elim (eqb_tells (suc i) (suc b)) [ inl f ↦ absurd (e.1 (let h = f.1 in omega (arith, h))) | inr f ↦ e.0 ∙ sym f.0 ]
 ]
 
 -- a mark more

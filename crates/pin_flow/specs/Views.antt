@@ -14,7 +14,6 @@ use Rattle.pin_flow.specs.Marks as flows
 use Rattle.pin_flow.specs.Held.{held, filled, filled_for, fresh, pinned}
 use Rattle.pin_flow.specs.Looks.{act_looks, act_assigns, looks_into}
 use Rattle.pin_flow.specs.Live.{uses}
-use Rattle.pin_flow.specs.Slots.{accesses}
 
 -- a state
 abbrev pub state_view : CodeState → State
@@ -50,7 +49,6 @@ mark_view (marks.Pinned slot b) = pinned slot b
 abbrev pub test_view : CodeTest → Act → Bool
 test_view (tests.Looks b) = act_looks b
 test_view (tests.Assigns b) = act_assigns b
-test_view (tests.Accesses b) = accesses b
 test_view (tests.Uses slot b) = uses slot b
 
 -- a node that is an act of which this is so

@@ -5,7 +5,6 @@ ghost use Rattle.struct_ir.specs.Nodes.{Place};
 ghost use Rattle.struct_ir.specs.Views.{place_view, node_view, nodes_view};
 ghost use Rattle.pin_flow.specs.Looks.{some_act, some_in};
 ghost use Rattle.pin_flow.specs.Live.{is_slot, has};
-ghost use Rattle.pin_flow.specs.Slots.{has_base};
 ghost use Rattle.pin_flow.specs.Views.{test_view, act_is};
 
 use crate::mark::{assigns, looks_at};
@@ -18,21 +17,8 @@ pub enum Test {
     Looks(u32),
     /// An assignment of the register.
     Assigns(u32),
-    /// An access with this base.
-    Accesses(u32),
     /// An access through the slot with this base.
     Uses(u32, u32),
-}
-
-fn has_base(b: u32, places: &[Place]) -> bool
-    ensures { result ≡ has_base b (map place_view places.now) }
-{
-    for a in places {
-        if a.base == b {
-            return true;
-        }
-    }
-    false
 }
 
 fn is_slot(slot: u32, at: Option<u32>) -> bool
@@ -55,16 +41,6 @@ fn has_use(slot: u32, b: u32, places: &[Place]) -> bool
     false
 }
 
-/// An access with this base.
-pub fn accesses(b: u32, n: &Node) -> bool
-    ensures { result ≡ act_is (Rattle.pin_flow.specs.Slots.accesses b) (node_view n.now) }
-{
-    match &n.kind {
-        NodeKind::Step(s) => has_base(b, &s.places),
-        _ => false,
-    }
-}
-
 /// An access through the slot, with this base.
 pub fn uses(slot: u32, b: u32, n: &Node) -> bool
     ensures { result ≡ act_is (Rattle.pin_flow.specs.Live.uses slot b) (node_view n.now) }
@@ -83,7 +59,6 @@ impl Test {
         match self {
             Test::Looks(b) => looks_at(b, n),
             Test::Assigns(b) => assigns(b, n),
-            Test::Accesses(b) => accesses(b, n),
             Test::Uses(slot, b) => uses(slot, b, n),
         }
     }

@@ -66,7 +66,10 @@ fn is_unlisted_in(slot: u32, b: u32, n: &Node, after: Lives) -> bool
             let top = head_live(slot, b, body, step, after.on);
             let end = latch_live(slot, b, body, step, after.on);
             let first = is_unlisted(slot, b, body, lives_of(end, after.on, end));
-            both(first, is_unlisted(slot, b, step, lives_of(top, after.on, top)))
+            both(
+                first,
+                is_unlisted(slot, b, step, lives_of(top, after.on, top)),
+            )
         }
         NodeKind::Set(..) | NodeKind::Call(_) | NodeKind::Step(_) | NodeKind::Look(..) => {
             is_free(slot, b, n, after.on)
