@@ -1,4 +1,5 @@
 //! A module for each crate.
+mod assignments;
 mod calls;
 mod control;
 mod flows;
