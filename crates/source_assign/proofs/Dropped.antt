@@ -1,5 +1,5 @@
 -- What becomes of the code's forms where their value is dropped.
-use Rattle.std.proofs.Common.{◌≡◌, ◌∙◌, ℕ, Bool, true, false, [], refl, ap}
+use Rattle.std.proofs.Common.{◌≡◌, ◌∙◌, ℕ, Bool, true, false, [], refl}
 use Rattle.std.specs.Prelude.{if◌then◌else◌}
 use Rattle.c_tree.specs.Typed as tree
 use Rattle.c_meaning.specs.Control.{dropped}

@@ -1,8 +1,8 @@
 -- Which left sides are locals without a block, and what an assignment to each does.
-use Rattle.std.proofs.Common.{◌≡◌, ℕ, Bool, true, false, Option, Some, None, refl}
+use Rattle.std.proofs.Common.{◌≡◌, ℕ, Bool, true, false, None, refl}
 use Rattle.c_tree.specs.Typed as tree
 use Rattle.c_meaning.specs.Control.{Update}
-use Rattle.c_meaning.specs.Turns.{Here, Way, Now, run, run_place, assigns, assigns_object, updates, local_way, update_left_way, update_local_way, is_block, local_at}
+use Rattle.c_meaning.specs.Turns.{Here, Way, Now, assigns, updates, is_block, local_at}
 use Rattle.source_tree.specs.declared.tree.SharedProgram.{SharedProgram}
 use Rattle.source_tree.specs.declared.tree.AddressForm.{AddressForm}
 use Rattle.source_tree.specs.declared.tree.AddressForm.TheVariants as addresses

@@ -1,5 +1,5 @@
 -- How an assignment goes on behind a part that has its value.
-use Rattle.std.proofs.Common.{◌≡◌, ◌∙◌, ℕ, Bool, true, false, List, length, set, Option, Some, refl, ap, sym, subst}
+use Rattle.std.proofs.Common.{◌≡◌, ◌∙◌, ℕ, Bool, true, false, List, set, refl, ap, sym, subst}
 use Rattle.std.specs.Prelude.{if◌then◌else◌}
 use Rattle.block_store.specs.declared.values.Ptr.TheVariants.{To}
 use Rattle.block_store.specs.declared.values.Value.{Value}
@@ -9,7 +9,7 @@ use Rattle.block_store.specs.Blocks.{Blocks}
 use Rattle.c_tree.specs.Typed as tree
 use Rattle.c_meaning.specs.Control as control
 use Rattle.c_meaning.specs.Values.{is_scalar}
-use Rattle.c_meaning.specs.Turns.{Here, Way, WayOfUse, Now, Does, run, run_place, run_node, run_dropped, run_dropped_node, nowhere_way, place_way, struct_right_way, struct_left_way, left_way, local_way, update_right_way, update_left_way, update_local_way, updates_variable, variable_at, assigns, assigns_object, updates, initialises, drops_object, is_struct, is_block, ended_local, made_local, declared_local, with_variable}
+use Rattle.c_meaning.specs.Turns.{Here, Way, WayOfUse, Does, run, run_place, run_dropped, run_dropped_node, nowhere_way, place_way, struct_right_way, struct_left_way, left_way, local_way, update_right_way, update_left_way, update_local_way, updates_variable, variable_at, assigns_object, initialises, drops_object, is_struct, is_block, ended_local, made_local, declared_local}
 use Rattle.source_tree.specs.declared.tree.SharedProgram.{SharedProgram}
 use Rattle.source_control.specs.declared.control.Flow.{Flow}
 use Rattle.source_control.specs.declared.control.Flow.TheVariants as flows
@@ -18,10 +18,10 @@ use Rattle.source_calls.specs.Ends.{Rest, here_at}
 use Rattle.source_flow.specs.Flow.{Flows, FlowsPlace, now_in}
 use Rattle.source_assign.specs.declared.exit.Exit.{Exit}
 use Rattle.source_assign.specs.declared.exit.Exit.TheVariants as exits
-use Rattle.source_assign.specs.Assigning.{ExitsAs, Comes, Names, Stores, Copies, ReadsUpdated, local_in, plain_number, assigns_by, updates_by, exit, voids}
+use Rattle.source_assign.specs.Assigning.{ExitsAs, Comes, Names, Stores, Copies, ReadsUpdated, local_in, exit, voids}
 use Rattle.source_tree.specs.declared.tree.OneForm.{OneForm}
 use Rattle.source_tree.specs.SharedViews.{one_of_form}
-use Rattle.source_assign.proofs.Plain.{assigned, changed}
+use Rattle.source_assign.proofs.Plain.{assigned}
 use Rattle.source_assign.proofs.Dropped.{drops_as, as_value, as_object, dropped_value, dropped_object, dropped_void}
 
 pub when_true : {A : Type 0} (b : Bool) (x y : A) → b ≡ true → (if b then x else y) ≡ x
@@ -109,14 +109,6 @@ other_object p function locals blocks e right k left i a = record {
       ∙ a.goes r w x n;
 }
 
-pub assigned_exit : (p : SharedProgram) (function : ℕ) (node : tree.ExprNode) (e right : tree.Expr) (o : Option ℕ) (k : control.Todo) (locals : List control.Variable) (blocks : Blocks) (new_locals : List control.Variable) (new_blocks : Blocks) (left : Exit)
-    → o ≡ plain_number p function node
-    → ExitsAs (λ h w. assigns_by h o e right w) p function k locals blocks new_locals new_blocks left
-    → ExitsAs (λ h w. assigns h node e right w) p function k locals blocks new_locals new_blocks left
-assigned_exit p function node e right o k locals blocks new_locals new_blocks left i a = record {
-  goes = λ r w x n. assigned p function r node e right w (now_in locals blocks x) ∙ ap (λ (m : Option ℕ). assigns_by (here_at p function r) m e right w (now_in locals blocks x)) (sym i) ∙ a.goes r w x n;
-}
-
 -- ---- compound assignments
 
 pub read_exit : (p : SharedProgram) (function : ℕ) (locals : List control.Variable) (blocks b : Blocks) (e f : tree.Expr) (after : control.Use) (g : Flow) (by : Value) (u : control.Update) (at : Value) (k : control.Todo) (q : Pending)
@@ -145,16 +137,6 @@ local_updated_exit p function locals blocks b e f after g by u t number k new_lo
     gives_exit p function locals blocks b e f after g by (λ h w. update_local_way h u number w) k new_locals blocks left flow same_blocks same_expr is_by
     (λ h w n. ap (λ (d : control.Todo). control.update_local u number d) n ∙ sym named)
     (λ r w x n. now.goes r w x n)
-
-pub updated_exit : (p : SharedProgram) (function : ℕ) (u t : control.Update) (node : tree.ExprNode) (e right : tree.Expr) (o : Option ℕ) (k : control.Todo) (locals : List control.Variable) (blocks : Blocks) (new_locals : List control.Variable) (new_blocks : Blocks) (left : Exit)
-    → o ≡ plain_number p function node → t ≡ u
-    → ExitsAs (λ h w. updates_by h t o e right w) p function k locals blocks new_locals new_blocks left
-    → ExitsAs (λ h w. updates h u node e right w) p function k locals blocks new_locals new_blocks left
-updated_exit p function u t node e right o k locals blocks new_locals new_blocks left i same_update a =
-    let now : ExitsAs (λ h w. updates_by h u o e right w) p function k locals blocks new_locals new_blocks left = subst (λ (s : control.Update). ExitsAs (λ h w. updates_by h s o e right w) p function k locals blocks new_locals new_blocks left) same_update a in
-    record {
-      goes = λ r w x n. changed p function r u node e right w (now_in locals blocks x) ∙ ap (λ (m : Option ℕ). updates_by (here_at p function r) u m e right w (now_in locals blocks x)) (sym i) ∙ now.goes r w x n;
-    }
 
 -- ---- declarations
 
