@@ -29,7 +29,7 @@ pub(crate) fn is_needed(b: u32, n: &Node, before: State) -> bool
 pub fn drop_row(alloc: Global, b: u32, rows: &[Node], before: State) -> Result<Vec<Node>, NoMemory>
     ensures { IfOk result (λ v. nodes_view v.items ≡ dropped b (nodes_view rows.now) (state_view before)) }
 {
-    let mut out = Vec::new(alloc);
+    let mut out = Vec::with_capacity(alloc, rows.len())?;
     let mut here = before;
     for n in rows {
         if is_needed(b, n, here) {

@@ -79,7 +79,7 @@ fn some_wants_in(b: u32, n: &Node) -> bool
 pub fn lift_row(alloc: Global, slot: u32, b: u32, rows: &[Node]) -> Result<Vec<Node>, NoMemory>
     ensures { IfOk result (λ v. nodes_view v.items ≡ lifted slot b (nodes_view rows.now)) }
 {
-    let mut out = Vec::new(alloc);
+    let mut out = Vec::with_capacity(alloc, rows.len())?;
     for n in rows {
         if wants(b, n) {
             add(&mut out, node(n.place, NodeKind::Look(slot, b)))?;

@@ -114,7 +114,7 @@ pub fn list_row(
     ensures { IfOk result (λ v. nodes_view v.items ≡ listed_one slot b (nodes_view rows.now) (state_view before) (lives_view after)) }
 {
     let mut lives = lives_behind(alloc, slot, b, rows, after)?;
-    let mut out = Vec::new(alloc);
+    let mut out = Vec::with_capacity(alloc, rows.len())?;
     let mut here = before;
     for n in rows {
         lives.pop();

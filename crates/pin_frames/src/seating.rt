@@ -61,7 +61,7 @@ fn add_call(alloc: Global, place: u32, c: &CallNode, out: &mut Vec<Node>) -> Res
 pub fn seat_row(alloc: Global, rows: &[Node]) -> Result<Vec<Node>, NoMemory>
     ensures { IfOk result (λ v. (tail : Nodes) → followed v.items tail ≡ seated (cleared (nodes_view rows.now)) tail) }
 {
-    let mut out = Vec::new(alloc);
+    let mut out = Vec::with_capacity(alloc, rows.len())?;
     for n in rows {
         seat_node(alloc, n, &mut out)?;
     }

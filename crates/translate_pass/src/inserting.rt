@@ -75,7 +75,7 @@ fn insert_row(alloc: Global, bases: &[u32], rows: &[Node]) -> Result<Vec<Node>, 
     requires { length bases.now < 2 ^ 32 }
     ensures { IfOk result (λ v. nodes_view v.items ≡ inserted (slot_if bases.now) (nodes_view rows.now)) }
 {
-    let mut out = Vec::new(alloc);
+    let mut out = Vec::with_capacity(alloc, rows.len())?;
     for n in rows {
         add_looks(bases, n, &mut out)?;
         add(&mut out, insert_node(alloc, bases, n)?)?;
