@@ -471,6 +471,15 @@ body_false c n b e = by (list_any (bytes_eq (bytes_of c.text n)) c.bodies) (type
 abbrev Closed : (around z : Context) → Frame → Name → Context
 Closed around z x n = record z { inner = x; outer = around.outer; bodies = z.bodies ++ bytes_of z.text n ∷ [] }
 
+-- where its name had no body before, that is what is left behind it
+closed_is : (around z p : Context) (x : Frame) (n : Name) → z.text ≡ p.text → z.bodies ≡ p.bodies → list_any (bytes_eq (bytes_of p.text n)) p.bodies ≡ false
+    → Closed around z x n ≡ record z { inner = x; outer = around.outer; bodies = if list_any (bytes_eq (bytes_of z.text n)) z.bodies then z.bodies else z.bodies ++ bytes_of z.text n ∷ [] }
+closed_is around z p x n text bodies fresh =
+    ap (λ b. record z { inner = x; outer = around.outer; bodies = if b then z.bodies else z.bodies ++ bytes_of z.text n ∷ [] }) (sym unseen)
+  where
+    unseen : list_any (bytes_eq (bytes_of z.text n)) z.bodies ≡ false
+    unseen = ap (λ t. list_any (bytes_eq (bytes_of t n)) z.bodies) text ∙ ap (list_any (bytes_eq (bytes_of p.text n))) bodies ∙ fresh
+
 defined_step : (fs : List Signature) (names : List (List ℕ)) (around p : Context) (n : Name) (xs : List Param) (r : Ty) (x : Frame) (y : List (List ℕ)) (h : IsBehind fs names around p n xs r x y)
     → (z : Context) (ss : List Stmt) → After (W fs (length xs)) false (in_scope_of p (Behind around p x y)) z (λ e. AreFineStmts (W fs (length xs)) r false e ss) → list_any (bytes_eq (bytes_of p.text n)) p.bodies ≡ false → IsResult r
     → FileStep fs around (Closed around z x n) (record { globals = []; funcs = func_of xs z.locals z.addressed r (stmts_of ss) ∷ [] })
@@ -560,8 +569,10 @@ body_step fs names around p n xs r x y h pointers params (Some body) a once resu
     let m = has_body r xs body b gs e in
     let k = typed_given (λ ss. After (W fs (length xs)) false b z (λ e. AreFineStmts (W fs (length xs)) r false e ss)) (judged_stmts r false (source.stmts_of body.items) b).0 m.ss
     ((stmts_keep (W fs (length xs)) r false (source.stmts_of body.items) a).keeps b (body_good fs names around p n xs r x y h)) m.typed_body in
-    subst (λ (v : List Func). FileStep fs around (Closed around z x n) (record { globals = []; funcs = v })) (sym m.made)
-    (defined_step fs names around p n xs r x y h z m.ss k (body_false (back_to around p) n body once) result)
+    let fresh = body_false (back_to around p) n body once in
+    subst (λ (d : Context). FileStep fs around d (record { globals = []; funcs = gs })) (closed_is around z p x n k.within.0.text k.within.1.bodies fresh)
+    (subst (λ (v : List Func). FileStep fs around (Closed around z x n) (record { globals = []; funcs = v })) (sym m.made)
+    (defined_step fs names around p n xs r x y h z m.ss k fresh result))
 
 function_step : (fs : List Signature) (names : List (List ℕ)) (base : Judged Ty) → OnTyped Plain base → (pointers : List Pointer) (n : Name) (params : List source.Param) (body : Option source.Body) (around : Context) → FileGood fs around
     → IsBodyWritten (source.function pointers n params body) → (gs : List Func) → (judged_function names base pointers n params body around).0 ≡ typed gs → Agrees fs (judged_function names base pointers n params body around).1

@@ -256,7 +256,7 @@ with_function c names n params result = declared (with_name c n) n (function_nam
 
 -- behind a function's body: its name has one
 abbrev pub with_body : Context → Name → Context
-with_body c n = record c { bodies = c.bodies ++ bytes_of c.text n ∷ [] }
+with_body c n = record c { bodies = if list_any (bytes_eq (bytes_of c.text n)) c.bodies then c.bodies else c.bodies ++ bytes_of c.text n ∷ [] }
 
 -- the body of a function stands in the scope of its parameters (6.2.1 p4), which is around no other
 abbrev pub in_scope_of : Context → Context → Context

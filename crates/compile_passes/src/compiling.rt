@@ -13,9 +13,9 @@ ghost use Rattle.compile_passes.specs.Compiled.{IsCompiled, IsPrepared};
 
 use ak_words::NoMemory;
 use emit_code::emit;
-use hoist_pass::hoist;
+use hoist_pass::hoist_owned;
 use pin_checker::{CheckFault, Checked, check};
-use pin_frames::place;
+use pin_frames::place_owned;
 use std::alloc::Global;
 use struct_ir::Ir;
 use struct_ir::linear::Code;
@@ -32,8 +32,8 @@ pub fn prepare(alloc: Global, ir: &Ir) -> Result<Ir, NoMemory>
     ensures { IfOk result (λ x. IsPrepared (ir_view ir.now) (ir_view x)) }
 {
     let looked = insert(alloc, ir)?;
-    let hoisted = hoist(alloc, &looked)?;
-    place(alloc, &hoisted)
+    let hoisted = hoist_owned(alloc, looked)?;
+    place_owned(alloc, hoisted)
 }
 
 // Code that is safe passes the check.

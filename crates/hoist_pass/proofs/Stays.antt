@@ -1,7 +1,6 @@
 -- Rows that stay as they are.
-use Rattle.std.proofs.lemmas.List.{drop_all}
-use Rattle.std.proofs.lemmas.Bool.{and_parts, or_cases}
-use Rattle.std.proofs.Common.{◌≡◌, ℕ, ◌+◌, ◌<◌, ◌≤◌, length, drop, get_or, List, Bool, true, false, ◌||◌, ◌&&◌, refl, sym, ap, subst, ◌∙◌}
+use Rattle.std.proofs.lemmas.Bool.{and_parts}
+use Rattle.std.proofs.Common.{◌≡◌, ℕ, ◌+◌, ◌<◌, length, drop, get_or, List, Bool, true, false, ◌||◌, ◌&&◌, refl, sym, ap, subst, ◌∙◌}
 use Rattle.std.specs.Global.{Vec}
 use Rattle.struct_ir.specs.declared.code.Node.{Node as CodeNode}
 use Rattle.struct_ir.specs.declared.code.NodeKind.TheViews as views
@@ -11,7 +10,7 @@ use Rattle.struct_ir.specs.Views.{node_view, nodes_view}
 use Rattle.struct_ir.proofs.Views.{if_is, loop_is}
 use Rattle.pin_flow.specs.Marks.{State, end_state, head_of, flow, flow_node}
 use Rattle.pin_flow.specs.Held.{held}
-use Rattle.pin_flow.proofs.FlowRows.{split_at, is_leaf}
+use Rattle.pin_flow.proofs.FlowRows.{split_at}
 use Rattle.hoist_pass.specs.inner.Hoist.{wants, some_wants, some_wants_in, place_of, lifted, lifted_in, needs, dropped, dropped_in}
 
 -- ---- no Look goes before a loop
@@ -85,10 +84,6 @@ kept_more G b rows i x s s' all needed more all' le is inv n m e f h rest =
     let here : IsKept b (more_nodes (node_view x) tail) s = λ j. put (needed_is j) (node j) (behind j) in
     inv p.0 (subst (λ l. IsKept b (nodes_view l) s) (sym (split_at rows i x le is)) here)
 
--- no node more
-pub kept_end : (G : Type 0) (b : ℕ) (rows : List CodeNode) (i : ℕ) (s : State) (all : Bool) → length rows ≤ i → (all ≡ true → IsKept b (nodes_view (drop i rows)) s → G) → all ≡ true → G
-kept_end G b rows i s all le inv h = inv h (subst (λ l. IsKept b (nodes_view l) s) (sym (drop_all i rows le)) refl)
-
 pub if_kept : (b : ℕ) (n : CodeNode) (temp : ℕ) (v w : Vec CodeNode) (s : State) (r x y : Bool) → n.kind ≡ views.If temp v w → r ≡ (x && y) → (x ≡ true → IsKept b (nodes_view v.items) s) → (y ≡ true → IsKept b (nodes_view w.items) s)
     → r ≡ true → dropped_in b (node_view n) s ≡ node_view n
 if_kept b n temp v w s r x y is e f g h =
@@ -106,11 +101,3 @@ loop_kept b n v w s u z r x y is ue ze e f g h =
     let c = g p.1 in
     let zz : z ≡ end_state (flow m (nodes_view v.items) (head_of (flow m (nodes_view v.items)) (flow m (nodes_view w.items)) s)) = ze ∙ ap (λ t. end_state (flow m (nodes_view v.items) t)) ue in
     rw (loop_is n v w is) ((λ i. loop n.place (dropped b (nodes_view v.items) (sym ue i)) (dropped b (nodes_view w.items) (sym zz i))) ∙ (λ i. loop n.place (a i) (c i)))
-
-pub leaf_kept : (b : ℕ) (n : Node) (s : State) → is_leaf n ≡ true → dropped_in b n s ≡ n
-leaf_kept b (plain p a) s e = refl
-leaf_kept b (if_ p x one other) s e = absurd cc
-leaf_kept b (loop p body latch) s e = absurd cc
-leaf_kept b (break_ p) s e = refl
-leaf_kept b (next_ p) s e = refl
-leaf_kept b (ret p x) s e = refl

@@ -12,8 +12,7 @@ use crate::dropping::drop_row;
 use crate::keeping::keeps_row;
 use crate::lifting::{lift_row, some_wants};
 use ak_words::NoMemory;
-use pin_flow::copies::copy_literals;
-use pin_flow::rows::copy_row;
+use pin_flow::programs::copy_ir;
 use pin_flow::slots::{bases_of, slot_of};
 use pin_flow::state::State;
 use std::alloc::Global;
@@ -35,52 +34,69 @@ pub fn hoist(alloc: Global, ir: &Ir) -> Result<Ir, NoMemory>
     ensures slots { IfOk result (λ x. EveryFunc HasOwnSlots (ir_view x)) }
     ensures hoisted { IfOk result (λ x. EveryFunc IsHoisted (ir_view x)) }
 {
+    let own = copy_ir(alloc, ir)?;
+    hoist_owned(alloc, own)
+}
+
+/// The same, of code that nothing needs any more: what stays of it isn't copied.
+///
+/// # Errors
+///
+/// Only want of memory.
+pub fn hoist_owned(alloc: Global, ir: Ir) -> Result<Ir, NoMemory>
+    requires valid { is_valid (ir_view ir) ≡ true }
+    requires covered { EveryFunc IsCovered (ir_view ir) }
+    requires slots { EveryFunc HasOwnSlots (ir_view ir) }
+    ensures valid { IfOk result (λ x. is_valid (ir_view x) ≡ true) }
+    ensures erased { IfOk result (λ x. ir_erased (ir_view x) ≡ ir_erased (ir_view ir)) }
+    ensures covered { IfOk result (λ x. EveryFunc IsCovered (ir_view x)) }
+    ensures slots { IfOk result (λ x. EveryFunc HasOwnSlots (ir_view x)) }
+    ensures hoisted { IfOk result (λ x. EveryFunc IsHoisted (ir_view x)) }
+{
     hoist_all(alloc, ir)
 }
 
-fn hoist_all(alloc: Global, ir: &Ir) -> Result<Ir, NoMemory>
-    ensures { IfOk result (λ x. ir_view x ≡ ir_hoisted (ir_view ir.now)) }
+fn hoist_all(alloc: Global, ir: Ir) -> Result<Ir, NoMemory>
+    ensures { IfOk result (λ x. ir_view x ≡ ir_hoisted (ir_view ir)) }
 {
-    let literals = copy_literals(alloc, &ir.literals)?;
-    let funcs = hoist_funcs(alloc, &ir.funcs)?;
+    let funcs = hoist_funcs(alloc, ir.funcs)?;
     Ok(Ir {
-        globals: ir.globals.to_vec(alloc)?,
-        literals,
+        globals: ir.globals,
+        literals: ir.literals,
         funcs,
         main: ir.main,
     })
 }
 
-fn hoist_funcs(alloc: Global, funcs: &[IrFunc]) -> Result<Vec<IrFunc>, NoMemory>
-    ensures { IfOk result (λ v. map func_view v.items ≡ map func_hoisted (map func_view funcs.now)) }
+fn hoist_funcs(alloc: Global, funcs: Vec<IrFunc>) -> Result<Vec<IrFunc>, NoMemory>
+    ensures { IfOk result (λ v. map func_view v.items ≡ map func_hoisted (map func_view funcs.items)) }
 {
-    let mut out = Vec::new(alloc);
+    let mut out = Vec::with_capacity(alloc, funcs.len())?;
     for f in funcs {
         out.push(hoist_func(alloc, f)?)?;
     }
     Ok(out)
 }
 
-fn hoist_func(alloc: Global, f: &IrFunc) -> Result<IrFunc, NoMemory>
-    ensures { IfOk result (λ x. func_view x ≡ func_hoisted (func_view f.now)) }
+fn hoist_func(alloc: Global, f: IrFunc) -> Result<IrFunc, NoMemory>
+    ensures { IfOk result (λ x. func_view x ≡ func_hoisted (func_view f)) }
 {
-    let temps = f.temps;
-    let bases = bases_of(alloc, f)?;
-    let nodes = hoist_bases(alloc, &bases, &f.nodes)?;
+    let bases = bases_of(alloc, &f)?;
+    let nodes = hoist_bases(alloc, &bases, f.nodes)?;
     Ok(IrFunc {
         params: f.params,
-        temps,
+        temps: f.temps,
         slots: f.slots,
-        objects: f.objects.to_vec(alloc)?,
+        objects: f.objects,
         nodes,
     })
 }
 
-fn hoist_bases(alloc: Global, bases: &[u32], rows: &[Node]) -> Result<Vec<Node>, NoMemory>
+fn hoist_bases(alloc: Global, bases: &[u32], rows: Vec<Node>) -> Result<Vec<Node>, NoMemory>
     requires { length bases.now < 2 ^ 32 }
-    ensures { IfOk result (λ v. nodes_view v.items ≡ hoisted_each (slot_if bases.now) bases.now (nodes_view rows.now)) }
+    ensures { IfOk result (λ v. nodes_view v.items ≡ hoisted_each (slot_if bases.now) bases.now (nodes_view rows.items)) }
 {
-    let mut code = copy_row(alloc, rows)?;
+    let mut code = rows;
     for b in bases {
         code = hoist_base(alloc, bases, *b, code)?;
     }
@@ -102,7 +118,7 @@ fn lift_looks(alloc: Global, slot: u32, b: u32, code: Vec<Node>) -> Result<Vec<N
     ensures { IfOk result (λ v. nodes_view v.items ≡ lifted slot b (nodes_view code.items)) }
 {
     if some_wants(b, &code) {
-        lift_row(alloc, slot, b, &code)
+        lift_row(alloc, slot, b, code)
     } else {
         Ok(code)
     }
@@ -115,7 +131,7 @@ fn drop_looks(alloc: Global, b: u32, code: Vec<Node>) -> Result<Vec<Node>, NoMem
     if keeps_row(b, &code, State::Bad).all {
         Ok(code)
     } else {
-        drop_row(alloc, b, &code, State::Bad)
+        drop_row(alloc, b, code, State::Bad)
     }
 }
 

@@ -8,4 +8,4 @@ pub mod hoisting;
 mod keeping;
 pub mod lifting;
 
-pub use hoisting::hoist;
+pub use hoisting::{hoist, hoist_owned};

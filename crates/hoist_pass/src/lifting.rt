@@ -5,7 +5,7 @@ ghost use Rattle.struct_ir.specs.Views.{node_view, nodes_view, followed};
 ghost use Rattle.hoist_pass.specs.inner.Hoist.{wants, some_wants, some_wants_in, lifted, lifted_in};
 
 use ak_words::NoMemory;
-use pin_flow::copies::{add, branches, copy_call, copy_step, node, rounds};
+use pin_flow::copies::{add, branches, node, rounds};
 use pin_flow::seen::{Test, some};
 use std::alloc::Global;
 use struct_ir::{Node, NodeKind};
@@ -76,12 +76,12 @@ fn some_wants_in(b: u32, n: &Node) -> bool
 ///
 /// Only want of memory.
 #[cycle(lifts)]
-pub fn lift_row(alloc: Global, slot: u32, b: u32, rows: &[Node]) -> Result<Vec<Node>, NoMemory>
-    ensures { IfOk result (λ v. nodes_view v.items ≡ lifted slot b (nodes_view rows.now)) }
+pub fn lift_row(alloc: Global, slot: u32, b: u32, rows: Vec<Node>) -> Result<Vec<Node>, NoMemory>
+    ensures { IfOk result (λ v. nodes_view v.items ≡ lifted slot b (nodes_view rows.items)) }
 {
     let mut out = Vec::with_capacity(alloc, rows.len())?;
     for n in rows {
-        if wants(b, n) {
+        if wants(b, &n) {
             add(&mut out, node(n.place, NodeKind::Look(slot, b)))?;
         }
         add(&mut out, lift_node(alloc, slot, b, n)?)?;
@@ -90,31 +90,21 @@ pub fn lift_row(alloc: Global, slot: u32, b: u32, rows: &[Node]) -> Result<Vec<N
 }
 
 #[cycle(lifts)]
-fn lift_node(alloc: Global, slot: u32, b: u32, n: &Node) -> Result<Node, NoMemory>
-    ensures { IfOk result (λ x. node_view x ≡ lifted_in slot b (node_view n.now)) }
+fn lift_node(alloc: Global, slot: u32, b: u32, n: Node) -> Result<Node, NoMemory>
+    ensures { IfOk result (λ x. node_view x ≡ lifted_in slot b (node_view n)) }
 {
-    match &n.kind {
-        NodeKind::Set(to, calc) => Ok(node(n.place, NodeKind::Set(*to, *calc))),
+    let Node { place, kind } = n;
+    match kind {
         NodeKind::If(temp, one, other) => {
             let yes = lift_row(alloc, slot, b, one)?;
             let no = lift_row(alloc, slot, b, other)?;
-            Ok(branches(n.place, *temp, yes, no))
+            Ok(branches(place, temp, yes, no))
         }
         NodeKind::Loop(body, step) => {
             let first = lift_row(alloc, slot, b, body)?;
             let second = lift_row(alloc, slot, b, step)?;
-            Ok(rounds(n.place, first, second))
+            Ok(rounds(place, first, second))
         }
-        NodeKind::Break => Ok(node(n.place, NodeKind::Break)),
-        NodeKind::Next => Ok(node(n.place, NodeKind::Next)),
-        NodeKind::Call(c) => Ok(node(n.place, NodeKind::Call(copy_call(alloc, c)?))),
-        NodeKind::Ret(temp) => Ok(node(n.place, NodeKind::Ret(*temp))),
-        NodeKind::Step(s) => Ok(node(n.place, NodeKind::Step(copy_step(alloc, s)?))),
-        NodeKind::Look(s, base) => Ok(node(n.place, NodeKind::Look(*s, *base))),
-        NodeKind::Safepoint(slots) => {
-            Ok(node(n.place, NodeKind::Safepoint(slots.to_vec(alloc)?)))
-        }
-        NodeKind::Begin(i) => Ok(node(n.place, NodeKind::Begin(*i))),
-        NodeKind::End(i) => Ok(node(n.place, NodeKind::End(*i))),
+        leaf => Ok(node(place, leaf)),
     }
 }

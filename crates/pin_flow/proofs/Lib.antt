@@ -15,3 +15,4 @@ pub mod CopiedRows
 pub mod SlotRows
 pub mod MarkedRows
 pub mod Bases
+pub mod MadeEach

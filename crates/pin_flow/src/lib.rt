@@ -7,6 +7,7 @@ pub mod copies;
 pub mod flow;
 pub mod laws;
 pub mod mark;
+pub mod programs;
 pub mod rows;
 pub mod seen;
 pub mod slots;

@@ -17,7 +17,7 @@ use struct_ir::{Node, NodeKind};
 pub fn copy_row(alloc: Global, rows: &[Node]) -> Result<Vec<Node>, NoMemory>
     ensures { IfOk result (λ v. nodes_view v.items ≡ nodes_view rows.now) }
 {
-    let mut out = Vec::new(alloc);
+    let mut out = Vec::with_capacity(alloc, rows.len())?;
     for n in rows {
         add(&mut out, copy_node(alloc, n)?)?;
     }

@@ -1,19 +1,16 @@
 -- Rows that have no list in which a slot is wanted.
-use Rattle.std.proofs.Common.{◌≡◌, ℕ, List, [], ◌∷◌, Bool, true, false, ◌||◌, ◌&&◌, refl, sym, ap, ◌∙◌}
-use Rattle.std.specs.Prelude.{not, if◌then◌else◌}
+use Rattle.std.proofs.Common.{◌≡◌, ℕ, List, ◌∷◌, Bool, true, ◌&&◌, sym, ap, ◌∙◌}
 use Rattle.std.proofs.lemmas.Bool.{and_parts}
 use Rattle.std.specs.Global.{Vec}
 use Rattle.struct_ir.specs.declared.code.Node.{Node as CodeNode}
 use Rattle.struct_ir.specs.declared.code.NodeKind.TheViews as views
-use Rattle.struct_ir.specs.Nodes.{Act, set, call, step, look, safepoint, begin_object, end_object, may_wait, Node, plain, if_, loop, break_, next_, ret, Nodes, no_nodes, more_nodes}
+use Rattle.struct_ir.specs.Nodes.{Node, if_, loop, Nodes, more_nodes}
 use Rattle.struct_ir.specs.Views.{node_view, nodes_view}
 use Rattle.struct_ir.proofs.Views.{if_is, loop_is}
 use Rattle.pin_flow.specs.Marks.{State, end_state, head_of, flow}
 use Rattle.pin_flow.specs.Held.{held}
-use Rattle.pin_flow.specs.Live.{Live, lives, live, head_live, latch_live, body_lives, latch_lives, live_act, uses}
-use Rattle.pin_flow.specs.Views.{act_is, looks_slot}
-use Rattle.pin_frames.specs.inner.Place.{is_bad, has_list, added, act_adding, wants, listed_one, listed_one_in}
-use Rattle.pin_frames.proofs.LiveRows.{is_act}
+use Rattle.pin_flow.specs.Live.{Live, lives, live, head_live, latch_live, body_lives, latch_lives}
+use Rattle.pin_frames.specs.inner.Place.{listed_one, listed_one_in}
 
 -- no list of the row wants the slot
 abbrev pub IsFree : (slot b : ℕ) → Nodes → Live → Type 0
@@ -22,50 +19,6 @@ IsFree slot b ns l = (t : State) → listed_one slot b ns t l ≡ ns
 -- nor does one of the node
 abbrev pub IsFreeIn : (slot b : ℕ) → Node → Live → Type 0
 IsFreeIn slot b n l = (t : State) → listed_one_in slot b n t l ≡ n
-
--- ---- a node that is an act
-
-none_wants : (k u r : Bool) → (u || r) ≡ false → ((k && (u || r)) || u) ≡ false
-none_wants k true r e = absurd cc
-none_wants true false true e = absurd cc
-none_wants true false false e = refl
-none_wants false false r e = refl
-
-nor_true : (x : Bool) → (not true || not x) ≡ true → x ≡ false
-nor_true true e = absurd cc
-nor_true false e = refl
-
-no_and : (x : Bool) → (x && false) ≡ false
-no_and true = refl
-no_and false = refl
-
--- a step's list
-step_adds : (slot : ℕ) (w m : Bool) (list : List ℕ) → (m ≡ true → w ≡ false) → added slot (w && m) list ≡ list
-step_adds slot w true list h = ap (λ x. added slot (x && true) list) (h refl)
-step_adds slot w false list h = ap (λ x. added slot x list) (no_and w)
-
-act_free : (slot b : ℕ) (a : Act) (t : State) (later : Bool) → (not (has_list a) || not (live_act slot b a later)) ≡ true → act_adding slot (wants slot b a t later) a ≡ a
-act_free slot b (set to calc) t later e = refl
-act_free slot b (call c) t later e =
-    let n = none_wants (not (is_bad t)) (uses slot b (call c)) _ (nor_true _ e) in
-    λ i. call (record { to = c.to; function = c.function; temps = c.temps; slots = added slot (n i) c.slots })
-act_free slot b (step x) t later e =
-    let s = step_adds slot (wants slot b (step x) t later) (may_wait x.action) x.slots (λ m. none_wants (not (is_bad t)) (uses slot b (step x)) _ (nor_true _ (ap (λ y. not y || not (live_act slot b (step x) later)) (sym m) ∙ e))) in
-    λ i. step (record { action = x.action; places = x.places; to = x.to; temps = x.temps; slots = s i })
-act_free slot b (look s base) t later e = refl
-act_free slot b (safepoint slots) t later e =
-    let n = none_wants (not (is_bad t)) (uses slot b (safepoint slots)) _ (nor_true _ e) in
-    λ i. safepoint (added slot (n i) slots)
-act_free slot b (begin_object i) t later e = refl
-act_free slot b (end_object i) t later e = refl
-
-pub leaf_free : (slot b : ℕ) (n : Node) (l : Live) → is_act n ≡ true → (not (act_is has_list n) || not (act_is (uses slot b) n || (not (looks_slot slot n) && l.on))) ≡ true → IsFreeIn slot b n l
-leaf_free slot b (plain p a) l i e t = ap (plain p) (act_free slot b a t l.on e)
-leaf_free slot b (if_ p x one other) l i e t = absurd (let h : false ≡ true = i in cc)
-leaf_free slot b (loop p body latch) l i e t = absurd (let h : false ≡ true = i in cc)
-leaf_free slot b (break_ p) l i e t = absurd (let h : false ≡ true = i in cc)
-leaf_free slot b (next_ p) l i e t = absurd (let h : false ≡ true = i in cc)
-leaf_free slot b (ret p x) l i e t = absurd (let h : false ≡ true = i in cc)
 
 -- ---- rows
 

@@ -1,17 +1,15 @@
 -- Rows with one slot more in their lists, as the program makes them.
-use Rattle.std.proofs.lemmas.List.{drop_all}
 use Rattle.std.proofs.Math.Seq.{take-append_seam}
-use Rattle.std.proofs.Common.{sym, ◌<◌, ◌≤◌, ◌-◌, length, length-append, drop, take, get_or, slice_index_or, ◌≡◌, ◌+◌, ℕ, List, [], ◌∷◌, ◌++◌, Bool, true, false, refl, ap, subst, ◌∙◌, arith}
+use Rattle.std.proofs.Common.{sym, ◌≤◌, ◌-◌, length, length-append, take, slice_index_or, ◌≡◌, ◌+◌, ℕ, List, [], ◌∷◌, ◌++◌, Bool, false, refl, ap, ◌∙◌, arith}
 use Rattle.std.specs.Global.{Vec}
 use Rattle.struct_ir.specs.declared.code.Node.{Node as CodeNode}
 use Rattle.struct_ir.specs.declared.code.NodeKind.TheViews as views
-use Rattle.struct_ir.specs.Nodes.{Node, plain, if_, loop, break_, next_, ret, Nodes, no_nodes, more_nodes}
+use Rattle.struct_ir.specs.Nodes.{if_, loop, Nodes, no_nodes, more_nodes}
 use Rattle.struct_ir.specs.Views.{node_view, nodes_view, followed}
 use Rattle.struct_ir.proofs.Views.{if_is, loop_is, followed_none}
 use Rattle.pin_flow.specs.Marks.{State, Ways, end_state, head_of, flow, flow_node}
 use Rattle.pin_flow.specs.Held.{held}
 use Rattle.pin_flow.specs.Live.{Live, lives, live, live_node, head_live, latch_live, body_lives, latch_lives}
-use Rattle.pin_flow.proofs.FlowRows.{split_at}
 use Rattle.pin_frames.specs.inner.Place.{listed_one, listed_one_in, behind, last_in}
 
 last_append : (xs : List Bool) (y : Bool) → last_in (xs ++ (y ∷ [])) ≡ y
@@ -50,34 +48,32 @@ behind_more slot b x rest l on on' m old new e g h o f =
     f ∙ (λ i. o i ++ (k i ∷ []))
 
 -- without the last of them, it is what is behind the next
-pub behind_popped : (slot b : ℕ) (rows : List CodeNode) (i : ℕ) (x : CodeNode) (l : Live) (old new : List Bool) (n : ℕ) → i < length rows → x ≡ get_or rows i x → old ≡ behind slot b (nodes_view (drop i rows)) l → n ≡ length old
-    → new ≡ take (n - 1) old → new ≡ behind slot b (nodes_view (drop (i + 1) rows)) l
-behind_popped slot b rows i x l old new n le is e ne f =
-    let rest = nodes_view (drop (i + 1) rows) in
-    let front = behind slot b rest l in
-    let on = live slot b (more_nodes (node_view x) rest) l in
-    let k : old ≡ front ++ (on ∷ []) = e ∙ ap (λ r. behind slot b (nodes_view r) l) (split_at rows i x le is) in
-    f ∙ (ap (λ m. take (m - 1) old) ne ∙ (ap (λ o. take (length o - 1) o) k ∙ take_last front on))
+pub behind_popped : (slot b : ℕ) (x : CodeNode) (rest : List CodeNode) (l : Live) (old new : List Bool) (n : ℕ) → old ≡ behind slot b (nodes_view (x ∷ rest)) l → n ≡ length old
+    → new ≡ take (n - 1) old → new ≡ behind slot b (nodes_view rest) l
+behind_popped slot b x rest l old new n e ne f =
+    let front = behind slot b (nodes_view rest) l in
+    let on = live slot b (more_nodes (node_view x) (nodes_view rest)) l in
+    f ∙ (ap (λ m. take (m - 1) old) ne ∙ (ap (λ o. take (length o - 1) o) e ∙ take_last front on))
 
 -- one node more
-pub row_step : (slot b : ℕ) (rows : List CodeNode) (i : ℕ) (x y : CodeNode) (old new : List CodeNode) (s s' : State) (l m : Live) (later : Bool) (o : Ways) (all : Nodes) → i < length rows → x ≡ get_or rows i x
-    → followed old (listed_one slot b (nodes_view (drop i rows)) s l) ≡ all → o ≡ flow_node (held b) (node_view x) s → s' ≡ o.on
-    → m ≡ lives later l.out l.end → later ≡ live slot b (nodes_view (drop (i + 1) rows)) l → node_view y ≡ listed_one_in slot b (node_view x) s m
-    → ((rest : Nodes) → followed new rest ≡ followed old (more_nodes (node_view y) rest))
-    → followed new (listed_one slot b (nodes_view (drop (i + 1) rows)) s' l) ≡ all
-row_step slot b rows i x y old new s s' l m later o all le is inv e e' me le' ye made =
+pub row_step : (slot b : ℕ) (x y : CodeNode) (rest old new : List CodeNode) (s s' : State) (l m : Live) (later : Bool) (o : Ways) (all : Nodes)
+    → followed old (listed_one slot b (nodes_view (x ∷ rest)) s l) ≡ all → o ≡ flow_node (held b) (node_view x) s → s' ≡ o.on
+    → m ≡ lives later l.out l.end → later ≡ live slot b (nodes_view rest) l → node_view y ≡ listed_one_in slot b (node_view x) s m
+    → ((tail : Nodes) → followed new tail ≡ followed old (more_nodes (node_view y) tail))
+    → followed new (listed_one slot b (nodes_view rest) s' l) ≡ all
+row_step slot b x y rest old new s s' l m later o all inv e e' me le' ye made =
     let h = held b in
-    let rest = nodes_view (drop (i + 1) rows) in
+    let left = nodes_view rest in
     let next : s' ≡ (flow_node h (node_view x) s).on = e' ∙ ap (λ (p : Ways). p.on) e in
-    let node : node_view y ≡ listed_one_in slot b (node_view x) s (lives (live slot b rest l) l.out l.end) = ye ∙ (ap (listed_one_in slot b (node_view x) s) me ∙ ap (λ z. listed_one_in slot b (node_view x) s (lives z l.out l.end)) le') in
-    ap (λ u. followed new (listed_one slot b rest u l)) next
-    ∙ (made (listed_one slot b rest (flow_node h (node_view x) s).on l)
-    ∙ (ap (λ z. followed old (more_nodes z (listed_one slot b rest (flow_node h (node_view x) s).on l))) node
-    ∙ (ap (λ r. followed old (listed_one slot b (nodes_view r) s l)) (sym (split_at rows i x le is)) ∙ inv)))
+    let node : node_view y ≡ listed_one_in slot b (node_view x) s (lives (live slot b left l) l.out l.end) = ye ∙ (ap (listed_one_in slot b (node_view x) s) me ∙ ap (λ z. listed_one_in slot b (node_view x) s (lives z l.out l.end)) le') in
+    ap (λ u. followed new (listed_one slot b left u l)) next
+    ∙ (made (listed_one slot b left (flow_node h (node_view x) s).on l)
+    ∙ (ap (λ z. followed old (more_nodes z (listed_one slot b left (flow_node h (node_view x) s).on l))) node ∙ inv))
 
 -- no node more
-pub row_end : (slot b : ℕ) (rows : List CodeNode) (i : ℕ) (out : List CodeNode) (s : State) (l : Live) (all : Nodes) → length rows ≤ i → followed out (listed_one slot b (nodes_view (drop i rows)) s l) ≡ all → nodes_view out ≡ all
-row_end slot b rows i out s l all le inv = sym (followed_none out) ∙ (ap (λ r. followed out (listed_one slot b (nodes_view r) s l)) (sym (drop_all i rows le)) ∙ inv)
+pub row_end : (slot b : ℕ) (out rest : List CodeNode) (s : State) (l : Live) (all : Nodes) → length rest ≡ 0 → followed out (listed_one slot b (nodes_view rest) s l) ≡ all → nodes_view out ≡ all
+row_end slot b out [] s l all e inv = sym (followed_none out) ∙ inv
+row_end slot b out (x ∷ rest) s l all e inv = absurd (omega (arith, e))
 
 pub if_listed : (slot b : ℕ) (n x : CodeNode) (temp : ℕ) (v w one other : Vec CodeNode) (s : State) (l : Live) → n.kind ≡ views.If temp v w → node_view x ≡ if_ n.place temp (nodes_view one.items) (nodes_view other.items)
     → nodes_view one.items ≡ listed_one slot b (nodes_view v.items) s l → nodes_view other.items ≡ listed_one slot b (nodes_view w.items) s l → node_view x ≡ listed_one_in slot b (node_view n) s l

@@ -1,7 +1,7 @@
 -- Programs with their safepoints and lists.
 use Rattle.std.proofs.lemmas.List.{drop_all}
 use Rattle.std.proofs.lemmas.Bool.{and_from, and_parts, both_ways, or_cases}
-use Rattle.std.proofs.Common.{◌≡◌, ℕ, ◌<◌, ◌≤◌, List, [], ◌∷◌, map, drop, length, Option, None, Bool, true, false, ◌||◌, ◌&&◌, ◌==◌, inl, inr, refl, sym, ap, subst, ◌∙◌}
+use Rattle.std.proofs.Common.{◌≡◌, ℕ, ◌<◌, ◌≤◌, List, [], ◌∷◌, map, drop, length, Option, None, Bool, true, false, ◌&&◌, ◌==◌, inl, inr, refl, sym, ap, subst, ◌∙◌}
 use Rattle.std.specs.Prelude.{not}
 use Rattle.std.specs.List.{list_all}
 use Rattle.struct_ir.specs.Nodes.{Place, Act, set, call, step, look, safepoint, begin_object, end_object, Func, Ir, Nodes, no_nodes}
@@ -13,19 +13,19 @@ use Rattle.pin_flow.specs.Looks.{some_act, act_looks, Covered, PinsExact}
 use Rattle.pin_flow.specs.Held.{fresh}
 use Rattle.pin_flow.specs.Live.{is_slot, has, uses}
 use Rattle.pin_flow.specs.Funcs.{AreAll, EveryFunc, IsCovered, IsExact, IsPinSafe}
-use Rattle.pin_flow.specs.Slots.{has_base, accesses, bases_of, slot_in, slot_if, own, IsIn, IsOwn, HasOwnSlots}
+use Rattle.pin_flow.specs.Slots.{has_base, accesses, bases_of, slot_in, own, IsIn, IsOwn, HasOwnSlots}
 use Rattle.pin_flow.proofs.Strip.{by_bool}
 use Rattle.pin_flow.proofs.At.{some_finds}
 use Rattle.pin_flow.proofs.Bases.{some_erased, same_bases, base_in, slots_are_few, slots_are_apart}
 use Rattle.pin_flow.proofs.Covers.{Serves, covered_each, each_covered}
-use Rattle.pin_frames.specs.inner.Place.{act_listing, seated, listed, none_held, none_later, placed, cleared, listed_each, func_placed, ir_placed, PlaceIsRight}
+use Rattle.pin_frames.specs.inner.Place.{act_listing, listed, none_held, none_later, placed, cleared, listed_each, func_placed, ir_placed, PlaceIsRight}
 use Rattle.pin_frames.proofs.Listed.{uses_listing, erase_listed, some_listed, each_listed}
 use Rattle.pin_frames.proofs.Seat.{sat, erase_seated}
 use Rattle.pin_frames.proofs.Stand.{stands_placed}
 use Rattle.pin_frames.proofs.OneByOne.{cleared_is, each_is_placed}
 use Rattle.pin_frames.proofs.Placed as placing
 use Rattle.pin_frames.proofs.Below.{some_below}
-use Rattle.pin_frames.proofs.Valid.{AreOnce, bases_once, valid_listed, valid_seated}
+use Rattle.pin_frames.proofs.Valid.{bases_once, valid_listed, valid_seated}
 
 pub each_end : (s : ℕ → Option ℕ) (bs : List ℕ) (i : ℕ) (out all : Nodes) → length bs ≤ i → listed_each s (drop i bs) out ≡ all → out ≡ all
 each_end s bs i out all le e = ap (λ l. listed_each s l out) (sym (drop_all i bs le)) ∙ e

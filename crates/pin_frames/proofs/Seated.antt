@@ -1,5 +1,5 @@
 -- Rows with safepoints, as the program makes them.
-use Rattle.std.proofs.Common.{◌≡◌, ℕ, List, [], Bool, true, false, if◌then◌else◌, refl, sym, ap, ◌∙◌}
+use Rattle.std.proofs.Common.{◌≡◌, ℕ, List, [], ◌∷◌, length, arith, Bool, true, false, if◌then◌else◌, refl, sym, ap, ◌∙◌}
 use Rattle.std.specs.Global.{Vec}
 use Rattle.struct_ir.specs.declared.code.Node.{Node as CodeNode}
 use Rattle.struct_ir.specs.declared.code.NodeKind.TheViews as views
@@ -17,6 +17,11 @@ no_choice false = refl
 
 pub step_cleared : (x : Step) → step_listing x [] ≡ record { action = x.action; places = x.places; to = x.to; temps = x.temps; slots = [] }
 step_cleared x = λ i. record { action = x.action; places = x.places; to = x.to; temps = x.temps; slots = no_choice (may_wait x.action) i }
+
+-- no node more
+pub row_seated : (out rest : List CodeNode) (all : Nodes → Nodes) → length rest ≡ 0 → ((tail : Nodes) → followed out (seated (cleared (nodes_view rest)) tail) ≡ all tail) → (tail : Nodes) → followed out tail ≡ all tail
+row_seated out [] all e inv = inv
+row_seated out (x ∷ rest) all e inv = absurd (omega (arith, e))
 
 -- by itself
 pub row_alone : (out : List CodeNode) (ns : Nodes) → ((tail : Nodes) → followed out tail ≡ seated ns tail) → nodes_view out ≡ seated ns no_nodes

@@ -10,4 +10,4 @@ pub mod placing;
 pub mod seating;
 mod unlisted;
 
-pub use placing::place;
+pub use placing::{place, place_owned};

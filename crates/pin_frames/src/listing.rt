@@ -9,14 +9,13 @@ ghost use Rattle.pin_frames.specs.inner.Place.{added, node_wants, listed_one, li
 
 use crate::lives::{Lives, act_live, head_live, latch_live, live_node, lives_of};
 use ak_words::NoMemory;
-use pin_flow::copies::{add, branches, copy_action, node, rounds};
+use pin_flow::copies::{add, branches, node, rounds};
 use pin_flow::flow::{head_from, ways_of, ways_of_node};
 use pin_flow::mark::Mark;
 use pin_flow::seen::uses;
 use pin_flow::state::{State, end_of};
-use smallvec::SmallVec;
 use std::alloc::Global;
-use struct_ir::{CallNode, Node, NodeKind, StepNode};
+use struct_ir::{CallNode, Node, NodeKind, Numbers, StepNode};
 
 fn is_wanted(slot: u32, b: u32, n: &Node, before: State, later: bool) -> bool
     ensures { result ≡ node_wants slot b (node_view n.now) (state_view before) later }
@@ -25,24 +24,24 @@ fn is_wanted(slot: u32, b: u32, n: &Node, before: State, later: bool) -> bool
 }
 
 // The slots with one more, or as they are.
-fn with_slot(alloc: Global, slot: u32, more: bool, slots: &[u32]) -> Result<Vec<u32>, NoMemory>
-    ensures { IfOk result (λ v. v.items ≡ added slot more slots.now) }
+fn with_slot(slot: u32, more: bool, slots: Vec<u32>) -> Result<Vec<u32>, NoMemory>
+    ensures { IfOk result (λ v. v.items ≡ added slot more slots.items) }
 {
-    let mut out = slots.to_vec(alloc)?;
+    let mut out = slots;
     if more {
         out.push(slot)?;
     }
     Ok(out)
 }
 
-fn list_call(alloc: Global, slot: u32, more: bool, c: &CallNode) -> Result<CallNode, NoMemory>
-    ensures { IfOk result (λ x. call_view x ≡ record { to = (call_view c.now).to; function = (call_view c.now).function; temps = (call_view c.now).temps; slots = added slot more (call_view c.now).slots }) }
+fn list_call(slot: u32, more: bool, c: CallNode) -> Result<CallNode, NoMemory>
+    ensures { IfOk result (λ x. call_view x ≡ record { to = (call_view c).to; function = (call_view c).function; temps = (call_view c).temps; slots = added slot more (call_view c).slots }) }
 {
-    let slots = with_slot(alloc, slot, more, &c.slots)?;
+    let slots = with_slot(slot, more, c.slots)?;
     Ok(CallNode {
         to: c.to,
         function: c.function,
-        temps: c.temps.to_vec(alloc)?,
+        temps: c.temps,
         slots,
     })
 }
@@ -53,16 +52,27 @@ fn both(a: bool, b: bool) -> bool
     a && b
 }
 
-fn list_step(alloc: Global, slot: u32, more: bool, s: &StepNode) -> Result<StepNode, NoMemory>
-    ensures { IfOk result (λ x. step_view x ≡ record { action = (step_view s.now).action; places = (step_view s.now).places; to = (step_view s.now).to; temps = (step_view s.now).temps; slots = added slot (more && may_wait (step_view s.now).action) (step_view s.now).slots }) }
+fn with_number(slot: u32, more: bool, slots: Numbers) -> Result<Numbers, NoMemory>
+    ensures { IfOk result (λ v. v.items ≡ added slot more slots.items) }
 {
-    let slots = with_slot(alloc, slot, both(more, s.action.may_wait()), &s.slots)?;
+    let mut out = slots;
+    if more {
+        out.push(slot)?;
+    }
+    Ok(out)
+}
+
+fn list_step(slot: u32, more: bool, s: StepNode) -> Result<StepNode, NoMemory>
+    ensures { IfOk result (λ x. step_view x ≡ record { action = (step_view s).action; places = (step_view s).places; to = (step_view s).to; temps = (step_view s).temps; slots = added slot (more && may_wait (step_view s).action) (step_view s).slots }) }
+{
+    let listed = both(more, s.action.may_wait());
+    let slots = with_number(slot, listed, s.slots)?;
     Ok(StepNode {
-        action: copy_action(alloc, &s.action)?,
-        places: SmallVec::from_slice(alloc, &s.places)?,
+        action: s.action,
+        places: s.places,
         to: s.to,
-        temps: SmallVec::from_slice(alloc, &s.temps)?,
-        slots: SmallVec::from_vec(slots),
+        temps: s.temps,
+        slots,
     })
 }
 
@@ -107,20 +117,21 @@ pub fn list_row(
     alloc: Global,
     slot: u32,
     b: u32,
-    rows: &[Node],
+    rows: Vec<Node>,
     before: State,
     after: Lives,
 ) -> Result<Vec<Node>, NoMemory>
-    ensures { IfOk result (λ v. nodes_view v.items ≡ listed_one slot b (nodes_view rows.now) (state_view before) (lives_view after)) }
+    ensures { IfOk result (λ v. nodes_view v.items ≡ listed_one slot b (nodes_view rows.items) (state_view before) (lives_view after)) }
 {
-    let mut lives = lives_behind(alloc, slot, b, rows, after)?;
+    let mut lives = lives_behind(alloc, slot, b, &rows, after)?;
     let mut out = Vec::with_capacity(alloc, rows.len())?;
     let mut here = before;
     for n in rows {
         lives.pop();
         let later = lives_of(last_of(&lives), after.out, after.end);
+        let ways = ways_of_node(Mark::Held(b), &n, here);
         add(&mut out, list_node(alloc, slot, b, n, here, later)?)?;
-        here = ways_of_node(Mark::Held(b), n, here).on;
+        here = ways.on;
     }
     Ok(out)
 }
@@ -130,48 +141,41 @@ fn list_node(
     alloc: Global,
     slot: u32,
     b: u32,
-    n: &Node,
+    n: Node,
     before: State,
     after: Lives,
 ) -> Result<Node, NoMemory>
-    ensures { IfOk result (λ x. node_view x ≡ listed_one_in slot b (node_view n.now) (state_view before) (lives_view after)) }
+    ensures { IfOk result (λ x. node_view x ≡ listed_one_in slot b (node_view n) (state_view before) (lives_view after)) }
 {
-    match &n.kind {
-        NodeKind::Set(to, calc) => Ok(node(n.place, NodeKind::Set(*to, *calc))),
+    let more = is_wanted(slot, b, &n, before, after.on);
+    let Node { place, kind } = n;
+    match kind {
         NodeKind::If(temp, one, other) => {
             let yes = list_row(alloc, slot, b, one, before, after)?;
             let no = list_row(alloc, slot, b, other, before, after)?;
-            Ok(branches(n.place, *temp, yes, no))
+            Ok(branches(place, temp, yes, no))
         }
         NodeKind::Loop(body, step) => {
-            let head = head_from(Mark::Held(b), body, step, before);
-            let top = head_live(slot, b, body, step, after.on);
-            let end = latch_live(slot, b, body, step, after.on);
+            let head = head_from(Mark::Held(b), &body, &step, before);
+            let turned = end_of(ways_of(Mark::Held(b), &body, head));
+            let top = head_live(slot, b, &body, &step, after.on);
+            let end = latch_live(slot, b, &body, &step, after.on);
             let first = list_row(alloc, slot, b, body, head, lives_of(end, after.on, end))?;
-            let turned = end_of(ways_of(Mark::Held(b), body, head));
             let second = list_row(alloc, slot, b, step, turned, lives_of(top, after.on, top))?;
-            Ok(rounds(n.place, first, second))
+            Ok(rounds(place, first, second))
         }
-        NodeKind::Break => Ok(node(n.place, NodeKind::Break)),
-        NodeKind::Next => Ok(node(n.place, NodeKind::Next)),
         NodeKind::Call(c) => {
-            let more = is_wanted(slot, b, n, before, after.on);
-            let call = list_call(alloc, slot, more, c)?;
-            Ok(node(n.place, NodeKind::Call(call)))
+            let call = list_call(slot, more, c)?;
+            Ok(node(place, NodeKind::Call(call)))
         }
-        NodeKind::Ret(temp) => Ok(node(n.place, NodeKind::Ret(*temp))),
         NodeKind::Step(s) => {
-            let more = is_wanted(slot, b, n, before, after.on);
-            let step = list_step(alloc, slot, more, s)?;
-            Ok(node(n.place, NodeKind::Step(step)))
+            let step = list_step(slot, more, s)?;
+            Ok(node(place, NodeKind::Step(step)))
         }
-        NodeKind::Look(s, base) => Ok(node(n.place, NodeKind::Look(*s, *base))),
         NodeKind::Safepoint(slots) => {
-            let more = is_wanted(slot, b, n, before, after.on);
-            let list = with_slot(alloc, slot, more, slots)?;
-            Ok(node(n.place, NodeKind::Safepoint(list)))
+            let list = with_slot(slot, more, slots)?;
+            Ok(node(place, NodeKind::Safepoint(list)))
         }
-        NodeKind::Begin(i) => Ok(node(n.place, NodeKind::Begin(*i))),
-        NodeKind::End(i) => Ok(node(n.place, NodeKind::End(*i))),
+        leaf => Ok(node(place, leaf)),
     }
 }

@@ -18,7 +18,7 @@ use crate::lives::lives_of;
 use crate::seating::seat_row;
 use crate::unlisted::is_unlisted;
 use ak_words::NoMemory;
-use pin_flow::copies::copy_literals;
+use pin_flow::programs::copy_ir;
 use pin_flow::slots::{bases_of, slot_of};
 use pin_flow::state::State;
 use std::alloc::Global;
@@ -41,50 +41,67 @@ pub fn place(alloc: Global, ir: &Ir) -> Result<Ir, NoMemory>
     ensures safe { EveryFunc IsCovered (ir_view ir.now) → IfOk result (λ x. AllPinSafe (ir_view x)) }
     ensures valid { is_valid (ir_view ir.now) ≡ true → IfOk result (λ x. is_valid (ir_view x) ≡ true) }
 {
+    let own = copy_ir(alloc, ir)?;
+    place_owned(alloc, own)
+}
+
+/// The same, of code that nothing needs any more: what stays of it isn't copied.
+///
+/// # Errors
+///
+/// Only want of memory.
+pub fn place_owned(alloc: Global, ir: Ir) -> Result<Ir, NoMemory>
+    requires named { is_valid (ir_erased (ir_view ir)) ≡ true }
+    requires slots { EveryFunc HasOwnSlots (ir_view ir) }
+    ensures erased { IfOk result (λ x. ir_erased (ir_view x) ≡ ir_erased (ir_view ir)) }
+    ensures slots { IfOk result (λ x. EveryFunc HasOwnSlots (ir_view x)) }
+    ensures stand { IfOk result (λ x. list_all (λ f. are_placed None f.nodes) (ir_view x).funcs ≡ true) }
+    ensures exact { IfOk result (λ x. EveryFunc IsExact (ir_view x)) }
+    ensures safe { EveryFunc IsCovered (ir_view ir) → IfOk result (λ x. AllPinSafe (ir_view x)) }
+    ensures valid { is_valid (ir_view ir) ≡ true → IfOk result (λ x. is_valid (ir_view x) ≡ true) }
+{
     place_all(alloc, ir)
 }
 
-fn place_all(alloc: Global, ir: &Ir) -> Result<Ir, NoMemory>
-    ensures { IfOk result (λ x. ir_view x ≡ ir_placed (ir_view ir.now)) }
+fn place_all(alloc: Global, ir: Ir) -> Result<Ir, NoMemory>
+    ensures { IfOk result (λ x. ir_view x ≡ ir_placed (ir_view ir)) }
 {
-    let literals = copy_literals(alloc, &ir.literals)?;
-    let funcs = place_funcs(alloc, &ir.funcs)?;
+    let funcs = place_funcs(alloc, ir.funcs)?;
     Ok(Ir {
-        globals: ir.globals.to_vec(alloc)?,
-        literals,
+        globals: ir.globals,
+        literals: ir.literals,
         funcs,
         main: ir.main,
     })
 }
 
-fn place_funcs(alloc: Global, funcs: &[IrFunc]) -> Result<Vec<IrFunc>, NoMemory>
-    ensures { IfOk result (λ v. map func_view v.items ≡ map func_placed (map func_view funcs.now)) }
+fn place_funcs(alloc: Global, funcs: Vec<IrFunc>) -> Result<Vec<IrFunc>, NoMemory>
+    ensures { IfOk result (λ v. map func_view v.items ≡ map func_placed (map func_view funcs.items)) }
 {
-    let mut out = Vec::new(alloc);
+    let mut out = Vec::with_capacity(alloc, funcs.len())?;
     for f in funcs {
         out.push(place_func(alloc, f)?)?;
     }
     Ok(out)
 }
 
-fn place_func(alloc: Global, f: &IrFunc) -> Result<IrFunc, NoMemory>
-    ensures { IfOk result (λ x. func_view x ≡ func_placed (func_view f.now)) }
+fn place_func(alloc: Global, f: IrFunc) -> Result<IrFunc, NoMemory>
+    ensures { IfOk result (λ x. func_view x ≡ func_placed (func_view f)) }
 {
-    let temps = f.temps;
-    let bases = bases_of(alloc, f)?;
-    let nodes = list_bases(alloc, &bases, &f.nodes)?;
+    let bases = bases_of(alloc, &f)?;
+    let nodes = list_bases(alloc, &bases, f.nodes)?;
     Ok(IrFunc {
         params: f.params,
-        temps,
+        temps: f.temps,
         slots: f.slots,
-        objects: f.objects.to_vec(alloc)?,
+        objects: f.objects,
         nodes,
     })
 }
 
-fn list_bases(alloc: Global, bases: &[u32], rows: &[Node]) -> Result<Vec<Node>, NoMemory>
+fn list_bases(alloc: Global, bases: &[u32], rows: Vec<Node>) -> Result<Vec<Node>, NoMemory>
     requires { length bases.now < 2 ^ 32 }
-    ensures { IfOk result (λ v. nodes_view v.items ≡ listed_each (slot_if bases.now) bases.now (seated (cleared (nodes_view rows.now)) no_nodes)) }
+    ensures { IfOk result (λ v. nodes_view v.items ≡ listed_each (slot_if bases.now) bases.now (seated (cleared (nodes_view rows.items)) no_nodes)) }
 {
     let mut code = seat_row(alloc, rows)?;
     for b in bases {
@@ -111,6 +128,6 @@ fn list_one(alloc: Global, slot: u32, b: u32, code: Vec<Node>) -> Result<Vec<Nod
     if is_unlisted(slot, b, &code, nothing) {
         Ok(code)
     } else {
-        list_row(alloc, slot, b, &code, State::Bad, nothing)
+        list_row(alloc, slot, b, code, State::Bad, nothing)
     }
 }

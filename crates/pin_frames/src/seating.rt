@@ -6,35 +6,35 @@ ghost use Rattle.struct_ir.specs.Views.{call_view, step_view, node_view, nodes_v
 ghost use Rattle.pin_frames.specs.inner.Place.{step_listing, stop, seats, seated, seated_in, cleared, cleared_in};
 
 use ak_words::NoMemory;
-use pin_flow::copies::{add, branches, copy_action, node, rounds};
+use pin_flow::copies::{add, branches, node, rounds};
 use smallvec::SmallVec;
 use std::alloc::Global;
 use struct_ir::{CallNode, Node, NodeKind, StepNode};
 
 // A step with an empty list.
 #[tactic(auto, using(crate::proofs::Seated::step_cleared))]
-fn clear_step(alloc: Global, s: &StepNode) -> Result<StepNode, NoMemory>
-    ensures { IfOk result (λ x. step_view x ≡ step_listing (step_view s.now) []) }
+fn clear_step(alloc: Global, s: StepNode) -> StepNode
+    ensures { step_view result ≡ step_listing (step_view s) [] }
 {
-    Ok(StepNode {
-        action: copy_action(alloc, &s.action)?,
-        places: SmallVec::from_slice(alloc, &s.places)?,
+    StepNode {
+        action: s.action,
+        places: s.places,
         to: s.to,
-        temps: SmallVec::from_slice(alloc, &s.temps)?,
+        temps: s.temps,
         slots: SmallVec::new(alloc),
-    })
+    }
 }
 
 // A call with an empty list.
-fn clear_call(alloc: Global, c: &CallNode) -> Result<CallNode, NoMemory>
-    ensures { IfOk result (λ x. call_view x ≡ record { to = (call_view c.now).to; function = (call_view c.now).function; temps = (call_view c.now).temps; slots = [] }) }
+fn clear_call(alloc: Global, c: CallNode) -> CallNode
+    ensures { call_view result ≡ record { to = (call_view c).to; function = (call_view c).function; temps = (call_view c).temps; slots = [] } }
 {
-    Ok(CallNode {
+    CallNode {
         to: c.to,
         function: c.function,
-        temps: c.temps.to_vec(alloc)?,
+        temps: c.temps,
         slots: Vec::new(alloc),
-    })
+    }
 }
 
 fn add_stop(alloc: Global, place: u32, out: &mut Vec<Node>) -> Result<(), NoMemory>
@@ -43,10 +43,10 @@ fn add_stop(alloc: Global, place: u32, out: &mut Vec<Node>) -> Result<(), NoMemo
     add(out, node(place, NodeKind::Safepoint(Vec::new(alloc))))
 }
 
-fn add_call(alloc: Global, place: u32, c: &CallNode, out: &mut Vec<Node>) -> Result<(), NoMemory>
-    ensures { OnOk result ((rest : Nodes) → followed out.new.items rest ≡ followed out.old.items (seats (cleared_in (Rattle.struct_ir.specs.Nodes.plain place (Rattle.struct_ir.specs.Nodes.call (call_view c.now)))) rest)) }
+fn add_call(alloc: Global, place: u32, c: CallNode, out: &mut Vec<Node>) -> Result<(), NoMemory>
+    ensures { OnOk result ((rest : Nodes) → followed out.new.items rest ≡ followed out.old.items (seats (cleared_in (Rattle.struct_ir.specs.Nodes.plain place (Rattle.struct_ir.specs.Nodes.call (call_view c)))) rest)) }
 {
-    let bare = clear_call(alloc, c)?;
+    let bare = clear_call(alloc, c);
     add_stop(alloc, place, out)?;
     add(out, node(place, NodeKind::Call(bare)))?;
     add_stop(alloc, place, out)
@@ -58,8 +58,8 @@ fn add_call(alloc: Global, place: u32, c: &CallNode, out: &mut Vec<Node>) -> Res
 ///
 /// Only want of memory.
 #[cycle(sits)]
-pub fn seat_row(alloc: Global, rows: &[Node]) -> Result<Vec<Node>, NoMemory>
-    ensures { IfOk result (λ v. (tail : Nodes) → followed v.items tail ≡ seated (cleared (nodes_view rows.now)) tail) }
+pub fn seat_row(alloc: Global, rows: Vec<Node>) -> Result<Vec<Node>, NoMemory>
+    ensures { IfOk result (λ v. (tail : Nodes) → followed v.items tail ≡ seated (cleared (nodes_view rows.items)) tail) }
 {
     let mut out = Vec::with_capacity(alloc, rows.len())?;
     for n in rows {
@@ -69,8 +69,8 @@ pub fn seat_row(alloc: Global, rows: &[Node]) -> Result<Vec<Node>, NoMemory>
 }
 
 #[cycle(sits)]
-fn seat_latch(alloc: Global, place: u32, rows: &[Node]) -> Result<Vec<Node>, NoMemory>
-    ensures { IfOk result (λ v. nodes_view v.items ≡ seated (cleared (nodes_view rows.now)) (Rattle.struct_ir.specs.Nodes.more_nodes (stop place) no_nodes)) }
+fn seat_latch(alloc: Global, place: u32, rows: Vec<Node>) -> Result<Vec<Node>, NoMemory>
+    ensures { IfOk result (λ v. nodes_view v.items ≡ seated (cleared (nodes_view rows.items)) (Rattle.struct_ir.specs.Nodes.more_nodes (stop place) no_nodes)) }
 {
     let mut out = seat_row(alloc, rows)?;
     add_stop(alloc, place, &mut out)?;
@@ -78,32 +78,24 @@ fn seat_latch(alloc: Global, place: u32, rows: &[Node]) -> Result<Vec<Node>, NoM
 }
 
 #[cycle(sits)]
-fn seat_node(alloc: Global, n: &Node, out: &mut Vec<Node>) -> Result<(), NoMemory>
-    ensures { OnOk result ((rest : Nodes) → followed out.new.items rest ≡ followed out.old.items (seats (seated_in (cleared_in (node_view n.now))) rest)) }
+fn seat_node(alloc: Global, n: Node, out: &mut Vec<Node>) -> Result<(), NoMemory>
+    ensures { OnOk result ((rest : Nodes) → followed out.new.items rest ≡ followed out.old.items (seats (seated_in (cleared_in (node_view n))) rest)) }
 {
-    match &n.kind {
-        NodeKind::Set(to, calc) => add(out, node(n.place, NodeKind::Set(*to, *calc))),
+    let Node { place, kind } = n;
+    match kind {
         NodeKind::If(temp, one, other) => {
             let yes = seat_row(alloc, one)?;
             let no = seat_row(alloc, other)?;
-            add(out, branches(n.place, *temp, yes, no))
+            add(out, branches(place, temp, yes, no))
         }
         NodeKind::Loop(body, step) => {
             let first = seat_row(alloc, body)?;
-            let second = seat_latch(alloc, n.place, step)?;
-            add(out, rounds(n.place, first, second))
+            let second = seat_latch(alloc, place, step)?;
+            add(out, rounds(place, first, second))
         }
-        NodeKind::Break => add(out, node(n.place, NodeKind::Break)),
-        NodeKind::Next => add(out, node(n.place, NodeKind::Next)),
-        NodeKind::Call(c) => add_call(alloc, n.place, c, out),
-        NodeKind::Ret(temp) => add(out, node(n.place, NodeKind::Ret(*temp))),
-        NodeKind::Step(s) => {
-            let bare = clear_step(alloc, s)?;
-            add(out, node(n.place, NodeKind::Step(bare)))
-        }
-        NodeKind::Look(slot, base) => add(out, node(n.place, NodeKind::Look(*slot, *base))),
-        NodeKind::Safepoint(_) => add_stop(alloc, n.place, out),
-        NodeKind::Begin(i) => add(out, node(n.place, NodeKind::Begin(*i))),
-        NodeKind::End(i) => add(out, node(n.place, NodeKind::End(*i))),
+        NodeKind::Call(c) => add_call(alloc, place, c, out),
+        NodeKind::Step(s) => add(out, node(place, NodeKind::Step(clear_step(alloc, s)))),
+        NodeKind::Safepoint(_) => add_stop(alloc, place, out),
+        leaf => add(out, node(place, leaf)),
     }
 }

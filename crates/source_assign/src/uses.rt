@@ -14,21 +14,21 @@ use source_tree::tree::SharedExpr;
 use std::alloc::Global;
 use std::rc::Rc;
 
-// Behind a value that is put into a local.
+/// Behind a value that is put into a local.
 pub fn to_local(alloc: Global, number: u32, k: &Rc<Todo>) -> Result<Rc<Use>, NoMemory>
     ensures { IfOk result (λ after. use_of after.value ≡ control.to_local number (todo_of k.now.value)) }
 {
     Ok(Rc::new(alloc, Use::ToLocal(number, k.clone()?))?)
 }
 
-// Behind a value that is stored at a place.
+/// Behind a value that is stored at a place.
 pub fn to_place(alloc: Global, place: u32, to: Value, k: &Rc<Todo>) -> Result<Rc<Use>, NoMemory>
     ensures { IfOk result (λ after. use_of after.value ≡ control.to_place place to (todo_of k.now.value)) }
 {
     Ok(Rc::new(alloc, Use::ToPlace(place, to, k.clone()?))?)
 }
 
-// Behind the place of the left side of an assignment.
+/// Behind the place of the left side of an assignment.
 pub fn left_place(
     alloc: Global,
     place: u32,
@@ -40,7 +40,7 @@ pub fn left_place(
     Ok(Rc::new(alloc, Use::LeftPlace(place, right.clone()?, k.clone()?))?)
 }
 
-// Behind the place of the left side of an assigned struct.
+/// Behind the place of the left side of an assigned struct.
 pub fn struct_left(
     alloc: Global,
     place: u32,
@@ -56,7 +56,7 @@ pub fn struct_left(
     )?)
 }
 
-// Behind the place of the right side of an assigned struct.
+/// Behind the place of the right side of an assigned struct.
 pub fn struct_right(
     alloc: Global,
     place: u32,
@@ -69,7 +69,7 @@ pub fn struct_right(
     Ok(Rc::new(alloc, Use::StructRight(place, ty.clone()?, to, k.clone()?))?)
 }
 
-// Behind the place of a in `a op= b`.
+/// Behind the place of a in `a op= b`.
 pub fn update_left(
     alloc: Global,
     u: &Rc<Updating>,
@@ -84,7 +84,7 @@ pub fn update_left(
     )?)
 }
 
-// Behind the value of b, where a is a local without a block.
+/// Behind the value of b, where a is a local without a block.
 pub fn update_local(
     alloc: Global,
     u: &Rc<Updating>,
@@ -96,7 +96,7 @@ pub fn update_local(
     Ok(Rc::new(alloc, Use::UpdateLocal(u.clone()?, number, k.clone()?))?)
 }
 
-// Behind the value of b, where a is in memory.
+/// Behind the value of b, where a is in memory.
 pub fn update_right(
     alloc: Global,
     u: &Rc<Updating>,

@@ -31,7 +31,7 @@ use source_values::{
 use std::alloc::Global;
 use std::rc::Rc;
 
-// A value, or what ends the turn at a broken rule.
+/// A value, or what ends the turn at a broken rule.
 pub fn done(answer: Result<Value, Rule>, place: u32) -> Flow
     ensures { result ≡ done_with place answer }
 {

@@ -6,4 +6,5 @@ mod flows;
 mod kept;
 mod trees;
 mod values;
+mod walks;
 mod worlds;

@@ -64,7 +64,7 @@ pub struct Context<'t> {
     /// The names of the functions.
     pub functions: IndexSet<&'t [u8]>,
     /// The names of the functions that have a body.
-    pub bodies: Vec<&'t [u8]>,
+    pub bodies: IndexSet<&'t [u8]>,
     /// The innermost scope.
     pub inner: Frame<'t>,
     /// The scopes around it, from the outermost on.
@@ -91,7 +91,7 @@ impl<'t> Context<'t> {
             plain: 0,
             globals: Vec::new(alloc),
             functions: IndexSet::new(alloc),
-            bodies: Vec::new(alloc),
+            bodies: IndexSet::new(alloc),
             inner: IndexMap::new(alloc),
             outer: Vec::new(alloc),
             locals: Vec::new(alloc),

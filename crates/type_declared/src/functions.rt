@@ -9,7 +9,7 @@ ghost use Rattle.c_tree.specs.SyntaxViews as source;
 ghost use Rattle.c_tree.specs.TypedViews.{type_view};
 ghost use Rattle.c_typing.specs.Faults.{Gives};
 ghost use Rattle.c_typing.specs.Programs.{place_of_name, defined_name, defined_names, once, agrees, is_new, first_time, one_body, before_name, not_library, name_fine, result_type, with_name, with_function, with_body, is_main, has_main, param_type};
-ghost use Rattle.type_context.specs.ContextViews.{context_view, bytes_view, types_view, seen};
+ghost use Rattle.type_context.specs.ContextViews.{context_view, types_view, seen};
 ghost use Rattle.type_declared.specs.FunctionNames.{IsDefined, named_if};
 
 use ak_words::IntType;
@@ -133,16 +133,11 @@ fn first_time(
     both_fine(known, within(name.from, 1, 8192, context.functions.len()))
 }
 
-// Whether a name is among others.
-fn is_among(names: &[&[u8]], bytes: &[u8]) -> bool
-    ensures { result ≡ list_any (bytes_eq bytes.now) (bytes_view names.now) }
+// Whether a function of the name had a body before.
+fn has_body(context: &Context<'_>, bytes: &[u8]) -> bool
+    ensures { result ≡ list_any (bytes_eq bytes.now) (context_view context.now).bodies }
 {
-    'names: for name in names {
-        if bytes == *name {
-            return true;
-        }
-    }
-    false
+    context.bodies.contains(bytes)
 }
 
 // A function has one body.
@@ -151,7 +146,7 @@ fn one_body(context: &Context<'_>, name: Name, body: &Option<Block>) -> Result<(
 {
     match body {
         Some(_) => {
-            let again = is_among(&context.bodies, context.bytes(name));
+            let again = has_body(context, context.bytes(name));
             unless(name.from, Kind::DoubleName, !again)
         }
         None => Ok(()),
@@ -250,7 +245,7 @@ pub fn add_body(context: &mut Context<'_>, name: Name) -> Result<(), CompileFaul
     ensures memory { IfErr result (λ e. e ≡ NoMemory) }
 {
     let bytes = context.bytes(name);
-    context.bodies.push(bytes)?;
+    context.bodies.insert(bytes)?;
     Ok(())
 }
 

@@ -23,9 +23,11 @@ use Rattle.type_rules.specs.ListViews.{exprs_view}
 
 -- ---- views of several
 
+-- the members of a struct, each with its type
 abbrev pub types_of_members : Vec MemberType Global → List (List ℕ × Ty)
 types_of_members v = members_view v.items
 
+-- the function that a thread begins with, and the arguments behind it
 abbrev pub started_view : Option ℕ × Vec CodeExpr Global → Option ℕ × List Expr
 started_view p = (p.0, exprs_view p.1)
 
@@ -43,6 +45,7 @@ abbrev pub is_printf : Option Meaning → Bool
 is_printf (Some (library_name printf)) = true
 is_printf m = false
 
+-- a call that begins a thread
 abbrev pub is_thrd_create : Option Meaning → Bool
 is_thrd_create (Some (library_name thrd_create)) = true
 is_thrd_create m = false
@@ -51,9 +54,11 @@ is_thrd_create m = false
 abbrev pub function_of : (place n : ℕ) → List Ty → Ty → Judged (List Expr) → Judged Expr
 function_of place n params result j = j >>= λ es. called place n params result es
 
+-- a call of the library, once its arguments are judged
 abbrev pub library_of : (place : ℕ) → Library → Judged (List Expr) → Judged Expr
 library_of place which j = j >>= λ es. called_library place which es
 
+-- a call of what can't be called: its arguments are judged all the same
 abbrev pub no_call_of : (place : ℕ) → Kind → Judged (List Expr) → Judged Expr
 no_call_of place kind j = both (refuse {A = Unit {0}} place kind) j >>= λ p. refuse place kind
 
@@ -68,6 +73,7 @@ called_of place None j = no_call_of place UnknownName j
 abbrev pub begins_thread : List Ty → Ty → Bool
 begins_thread params result = same_type result (integer int) && same_types params (pointer void ∷ [])
 
+-- the function that a thread begins with, by what its name means
 abbrev pub begun_by : Option Meaning → Option (Option ℕ)
 begun_by (Some (function_name n params result)) = Some (starting_by n (begins_thread params result))
 begun_by (Some (library_name (constant value))) = None
@@ -115,6 +121,7 @@ closing place number opened again members c =
 abbrev pub sized : source.Declarator → List ℕ → Declarator
 sized (source.declarator pointers n dims) sizes = record { name = n; pointers = pointers; sizes = sizes }
 
+-- the name that a declarator declares
 abbrev pub name_of : source.Declarator → Name
 name_of (source.declarator pointers n dims) = n
 
@@ -124,24 +131,31 @@ name_of (source.declarator pointers n dims) = n
 abbrev pub args_row : List source.Expr → Judging (List Expr)
 args_row = row (λ (u : Unit {0}) (e : source.Expr). valued (judged e)) (λ u e. u) (λ x xs. x ∷ xs) tt
 
+-- the sizes of an array
 abbrev pub dims_row : List source.Expr → Judging (List ℕ)
 dims_row = row (λ (u : Unit {0}) (e : source.Expr). ruled (valued (judged e)) (dimension e)) (λ u e. u) (λ n ns. n ∷ ns) tt
 
+-- the specifiers of a declaration
 abbrev pub parts_row : List source.Spec → Judging (List Part)
 parts_row = row (λ (u : Unit {0}) (s : source.Spec). judged_spec s) (λ u s. u) (λ p ps. p ∷ ps) tt
 
+-- the names of the members behind one more declaration
 abbrev pub behind_member : List Name → source.Member → List Name
 behind_member before m = before ++ names_of_member m
 
+-- the members of a struct, each declaration knowing the names before it
 abbrev pub members_row : List Name → List source.Member → Judging (List (List ℕ × Ty))
 members_row = row judged_member behind_member (λ ms all. ms ++ all)
 
+-- a declarator of a member: a name that no member before it has, and its sizes
 abbrev pub declarator_node : (before : List Name) → source.Declarator → Judging Declarator
 declarator_node before (source.declarator pointers n dims) =
     ruled (in_turn (λ c. (fresh_member c before n, c)) (judged_dims dims)) (λ c p. typed (sized (source.declarator pointers n dims) p.1))
 
+-- the names of the members behind one more declarator
 abbrev pub behind_declarator : List Name → source.Declarator → List Name
 behind_declarator before d = before ++ name_of d ∷ []
 
+-- the declarators of one declaration of members
 abbrev pub declarators_row : List Name → List source.Declarator → Judging (List Declarator)
 declarators_row = row declarator_node behind_declarator (λ d ds. d ∷ ds)

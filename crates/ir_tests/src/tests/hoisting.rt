@@ -9,6 +9,7 @@ use ak_words::NoMemory;
 use hoist_pass::dropping::drop_row;
 use hoist_pass::hoist;
 use hoist_pass::lifting::lift_row;
+use pin_flow::rows::copy_row;
 use pin_flow::state::State;
 use std::alloc::Global;
 use std::test::Fail;
@@ -55,8 +56,8 @@ fn out_of_a_loop(rt: HostRuntime) -> Result<(), Fail> {
     let alloc = rt.alloc();
     let body = vec![in alloc; at(NodeKind::Look(0, 1)), at(NodeKind::Set(2, Calc::Null))]?;
     let nodes = vec![in alloc; at(NodeKind::Loop(body, Vec::new(alloc)))]?;
-    let lifted = lift_row(alloc, 0, 1, &nodes)?;
-    let hoisted = drop_row(alloc, 1, &lifted, State::Bad)?;
+    let lifted = lift_row(alloc, 0, 1, nodes)?;
+    let hoisted = drop_row(alloc, 1, copy_row(alloc, &lifted)?, State::Bad)?;
     assert_eq!(rt;
         shown(alloc, lifted)?.as_slice(),
         "function 0: 0 parameters, 3 registers, 1 slots, 0 objects\nlook s0 t1\nloop\n+ look s0 t1\n+ t2 = null\n".as_bytes()

@@ -53,6 +53,7 @@ whole_body scope params result n body d =
     let x = judged_body params result (Some body) (record d { inner = scope; outer = d.outer ++ d.inner ∷ [] }) in
     (x.0, with_body (back_to d x.1) n)
 
+-- the same of a function that may have no body: it makes nothing, and leaves what was before it
 abbrev pub body_of : Frame → Judged (List Param) → Judged Ty → Name → Option source.Body → Judging (List Func)
 body_of scope params result n None d = (typed [], d)
 body_of scope params result n (Some body) d = whole_body scope params result n body d

@@ -7,4 +7,4 @@ use Rattle.pin_frames.proofs.placing.list_bases.Given as goal
 
 -- with the registers that are left, it is what is to be made
 abbrev pub invariant-loop-b : goal.invariant-loop-b
-invariant-loop-b l = listed_each (slot_if l.bases) (drop l.b-index l.bases) (nodes_view l.code.items) ≡ listed_each (slot_if l.bases) l.bases (seated (cleared (nodes_view l.fn.rows)) no_nodes)
+invariant-loop-b l = listed_each (slot_if l.bases) (drop l.b-index l.bases) (nodes_view l.code.items) ≡ listed_each (slot_if l.bases) l.bases (seated (cleared (nodes_view l.fn.rows.items)) no_nodes)

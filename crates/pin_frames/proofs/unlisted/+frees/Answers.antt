@@ -1,10 +1,10 @@
-use Rattle.std.proofs.Common.{◌≡◌, true, inl, inr, sym, subst, ap, [], ◌∷◌, ◌∙◌, append-nil, arith, refl}
-use Rattle.struct_ir.specs.Views.{node_view, nodes_view}
+use Rattle.std.proofs.Common.{sym, subst, [], ◌∷◌, ◌∙◌, append-nil, arith, refl}
+use Rattle.struct_ir.specs.Views.{nodes_view}
 use Rattle.pin_flow.specs.Live.{head_live, latch_live}
 use Rattle.pin_frames.specs.Views.{lives_view}
-use Rattle.pin_frames.proofs.Backwards.{step_back, size_back, none_left, if_size, loop_size}
-use Rattle.pin_frames.proofs.LiveRows.{live_start, live_more, is_act, act_of}
-use Rattle.pin_frames.proofs.FreeRows.{IsFree, free_more, if_free, loop_free, leaf_free}
+use Rattle.pin_frames.proofs.Backwards.{step_back, size_back, if_size, loop_size}
+use Rattle.pin_frames.proofs.LiveRows.{live_start, live_more}
+use Rattle.pin_frames.proofs.FreeRows.{IsFree, free_more, if_free, loop_free}
 use Rattle.pin_frames.proofs.unlisted.+frees.Goals as goal
 
 pub is_unlisted-row-init : goal.is_unlisted-row-init

@@ -1,0 +1,12 @@
+pub mod Begins
+pub mod Calls
+pub mod Counting
+pub mod Declaring
+pub mod Ends
+pub mod Firsts
+pub mod Fitting
+pub mod Lists
+pub mod Picks
+pub mod Reaching
+pub mod Small
+pub mod Starts

@@ -1,0 +1,16 @@
+//! The interpreter of the source: what a C program does, turn by turn, over named blocks.
+//! Promises upward: each turn of a thread answers and leaves what the meaning of the source says, and one that comes to nothing leaves all as it was.
+//! A turn makes at most as many blocks as a function has declarations, and one.
+//! Stands on c_meaning's definitions, on source_walk for what a turn does before its action, and on shared_world for the actions.
+#![tactic(auto)]
+
+mod begin;
+mod first;
+mod perform;
+mod running;
+mod taking;
+mod thread;
+mod turn;
+
+pub use block_store::Answer;
+pub use running::{SourceRun, Turned};

@@ -1,0 +1,147 @@
+//! A run of a program, turn by turn.
+
+ghost use Rattle.std.specs.Prelude.{◌≡◌, ℕ, true, false, Some, IfOk, OnOk, IsSome, length};
+ghost use Rattle.std.specs.Option.{is_some};
+ghost use Rattle.std.specs.Result.{is_err};
+ghost use Rattle.block_store.specs.Runs.{first_state, picked};
+ghost use Rattle.block_store.specs.declared.values.Answer.{Answer};
+ghost use Rattle.c_tree.specs.TypedViews.{typed_view};
+ghost use Rattle.c_meaning.specs.Meaning.{program, start};
+ghost use Rattle.block_meaning.specs.Counts.{HasFewDeclarations, MakesFew, ReachesFew};
+ghost use Rattle.block_meaning.specs.Running.{running_of, answered_if, left_by, ended_with};
+
+use crate::begin::begun;
+use crate::first::first_store;
+use crate::taking::{ended_in, is_running, take};
+use crate::thread::Own;
+use ak_words::{NoMemory, Rule};
+use block_store::{Answer, Ptr};
+use c_tree::typed::Typed;
+use kept_store::KeptStore;
+use shared_world::{Stage, Thread, World};
+use source_tree::share;
+use source_tree::tree::SharedProgram;
+use std::alloc::Global;
+
+/// What comes of a turn.
+#[derive(Clone, Copy, Debug, PartialEq, Eq)]
+pub enum Turned {
+    /// The turn is done.
+    Went,
+    /// The thread's next action waits, and nothing changed.
+    Blocked,
+    /// The thread's next action doesn't take this answer, and nothing changed.
+    Unfit,
+    /// The turn breaks this rule at this place, a byte offset from 0, and nothing changed.
+    Broke(Rule, u32),
+    /// Main ended, with this value.
+    Ended(i32),
+}
+
+/// A run of a program.
+#[derive(Drop)]
+pub struct SourceRun {
+    alloc: Global,
+    program: SharedProgram,
+    world: World,
+    // What each thread that was made has of its own: none once it has ended.
+    threads: Vec<Option<Own>>,
+    // Whether memory was wanting.
+    out_of_memory: bool,
+}
+
+impl SourceRun {
+    /// A run that is about to begin: the globals and literals are there, and thread 0 is in main.
+    pub fn new(alloc: Global, typed: Typed) -> Result<SourceRun, NoMemory>
+        ensures program { IfOk result (λ run. (running_of run).typed ≡ typed_view typed) }
+        ensures state { IfOk result (λ run. (running_of run).state ≡ first_state (program (typed_view typed)) (start (typed_view typed))) }
+        ensures memory { IfOk result (λ run. (running_of run).out_of_memory ≡ false) }
+        ensures few { IfOk result (λ run. (n : ℕ) → HasFewDeclarations n (typed_view typed) → ReachesFew n (running_of run).typed (running_of run).state) }
+    {
+        let program = share(alloc, typed)?;
+        let store = first_store(alloc, &program)?;
+        let own = begun(alloc, &program, program.main, Ptr::Null)?;
+        let mut threads = Vec::new(alloc);
+        threads.push(Some(own))?;
+        let mut made = Vec::new(alloc);
+        made.push(Thread {
+            function: program.main,
+            argument: Ptr::Null,
+            stage: Stage::Running,
+        })?;
+        Ok(SourceRun {
+            alloc,
+            program,
+            world: World {
+                store: KeptStore::new(alloc, store),
+                output: Vec::new(alloc),
+                threads: made,
+            },
+            threads,
+            out_of_memory: false,
+        })
+    }
+
+    /// What was printed.
+    pub fn output(&self) -> &[u8]
+        ensures { result.now ≡ (running_of self.now).state.world.output }
+    {
+        &self.world.output
+    }
+
+    /// How many blocks were made: globals, literals, locals in memory and allocations.
+    pub fn made(&self) -> u64
+        ensures { result ≡ length (running_of self.now).state.world.blocks }
+    {
+        self.world.store.store().names()
+    }
+
+    /// What the first function of a thread has returned, as an `int`; nothing of a thread that wasn't made or runs.
+    pub fn ended(&self, thread: u32) -> Option<i32>
+        ensures { result ≡ ended_with (running_of self.now).state.world thread }
+    {
+        ended_in(&self.world, thread)
+    }
+
+    /// Whether a thread may take a turn: it was made and hasn't ended, and main hasn't ended.
+    #[tactic(auto, using(crate::proofs::Picks::is_some_picked))]
+    pub fn runs(&self, thread: u32) -> bool
+        ensures { (answer : Answer) → result ≡ is_some (picked (program (running_of self.now).typed) (running_of self.now).state (record { thread = thread; answer = answer })) }
+    {
+        is_running(&self.threads, 0) && is_running(&self.threads, thread)
+    }
+
+    /// One turn of a thread that runs, under an answer. Where no function has more than n declarations, it makes at most
+    /// n blocks, and one.
+    ///
+    /// # Errors
+    ///
+    /// Once memory is wanting, this and each later call answers so.
+    pub fn turn(&mut self, thread: u32, answer: Answer) -> Result<Turned, NoMemory>
+        requires { IsSome (picked (program (running_of self.old).typed) (running_of self.old).state (record { thread = thread; answer = answer })) }
+        ensures answer { IfOk result (λ t. answered_if thread (picked (program (running_of self.old).typed) (running_of self.old).state (record { thread = thread; answer = answer })) ≡ Some t) }
+        ensures state { OnOk result ((running_of self.new).state ≡ left_by (running_of self.old).typed (running_of self.old).state thread (picked (program (running_of self.old).typed) (running_of self.old).state (record { thread = thread; answer = answer }))) }
+        ensures made { OnOk result ((n : ℕ) → ReachesFew n (running_of self.old).typed (running_of self.old).state → MakesFew n (running_of self.old).typed (running_of self.old).state (running_of self.new).state) }
+        ensures program { (running_of self.new).typed ≡ (running_of self.old).typed }
+        ensures wanting { (running_of self.old).out_of_memory ≡ true → is_err result ≡ true }
+        ensures memory { (running_of self.new).out_of_memory ≡ is_err result }
+    {
+        if self.out_of_memory {
+            return Err(NoMemory);
+        }
+        match take(
+            &mut self.threads,
+            &mut self.world,
+            self.alloc,
+            &self.program,
+            thread,
+            answer,
+        ) {
+            Ok(turned) => Ok(turned),
+            Err(NoMemory) => {
+                self.out_of_memory = true;
+                Err(NoMemory)
+            }
+        }
+    }
+}

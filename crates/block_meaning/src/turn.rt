@@ -1,0 +1,105 @@
+//! One turn of a thread.
+
+ghost use Rattle.std.specs.Prelude.{◌≡◌, IfOk, OnOk};
+ghost use Rattle.c_meaning.specs.Turns as turns;
+ghost use Rattle.source_tree.specs.SharedViews.{program_of};
+ghost use Rattle.shared_world.specs.Worlds.{world_of};
+ghost use Rattle.block_meaning.specs.Threads.{control_of, turn_of, Reaches, Stays};
+
+use crate::perform::perform;
+use crate::thread::{At, Outcome, Own};
+use ak_words::{NoMemory, Rule};
+use block_store::Answer;
+use kept_store::KeptStore;
+use shared_world::World;
+use source_assign::Exit;
+use source_control::Locals;
+use source_control::control::Pending;
+use source_tree::tree::SharedProgram;
+use source_walk::exits::rounds;
+use source_walk::{finish, give};
+use std::alloc::Global;
+
+// How far a turn gets from where it begins: to what ends it.
+#[tactic(auto, using(source_walk::proofs::Names::name_todo))]
+fn reach(
+    at: &At,
+    alloc: Global,
+    program: &SharedProgram,
+    function: u32,
+    locals: &mut Locals,
+    store: &mut KeptStore,
+) -> Result<Pending, NoMemory>
+    ensures reaches { IfOk result (λ q. Reaches program.now at.now function locals.old.now store.old.now locals.new.now store.new.now q) }
+    ensures locals { OnOk result (locals.new.kept ≡ locals.old.kept) }
+    ensures store { OnOk result (store.new.kept ≡ store.old.kept) }
+{
+    match at {
+        At::Gives(v, k) => {
+            let given = give(k, *v, alloc, program, function, locals, store)?;
+            Ok(given)
+        }
+        At::Lacks(place) => Ok(Pending::Broke(Rule::C15, *place)),
+        At::Begins(k) => {
+            let finished = finish(k, Exit::End, alloc, program, function, locals, store)?;
+            Ok(finished)
+        }
+        At::Round(l, k) => {
+            let exit = rounds(
+                &l.body, alloc, program, function, locals, store, &l.step, l, k,
+            )?;
+            let q = finish(k, exit, alloc, program, function, locals, store)?;
+            Ok(q)
+        }
+    }
+}
+
+// Leads the locals and the blocks back to where they were kept.
+fn undo(locals: &mut Locals, store: &mut KeptStore)
+    ensures locals { locals.new ≡ record { now = locals.old.kept; kept = locals.old.kept } }
+    ensures store { store.new ≡ record { now = store.old.kept; kept = store.old.kept } }
+{
+    locals.undo();
+    store.undo();
+}
+
+/// One turn of a thread, with what it has of its own and what it shares.
+pub fn take_turn(
+    own: &mut Own,
+    world: &mut World,
+    alloc: Global,
+    program: &SharedProgram,
+    thread: u32,
+    answer: Answer,
+) -> Result<Outcome, NoMemory>
+    ensures turned { IfOk result (λ o. turn_of o own.new world.new ≡ turns.turn (program_of program.now) thread answer (control_of own.old) (world_of world.old)) }
+    ensures stays { IfOk result (λ o. Stays o (control_of own.old) (control_of own.new) (world_of world.old) (world_of world.new)) }
+{
+    own.locals.keep();
+    world.store.keep();
+    let q = reach(
+        &own.at,
+        alloc,
+        program,
+        own.function,
+        &mut own.locals,
+        &mut world.store,
+    )?;
+    let o = perform(own, world, alloc, program, thread, answer, q)?;
+    match o {
+        Outcome::Went => Ok(Outcome::Went),
+        Outcome::Ended => Ok(Outcome::Ended),
+        Outcome::Blocked => {
+            undo(&mut own.locals, &mut world.store);
+            Ok(Outcome::Blocked)
+        }
+        Outcome::Unfit => {
+            undo(&mut own.locals, &mut world.store);
+            Ok(Outcome::Unfit)
+        }
+        Outcome::Broke(rule, place) => {
+            undo(&mut own.locals, &mut world.store);
+            Ok(Outcome::Broke(rule, place))
+        }
+    }
+}

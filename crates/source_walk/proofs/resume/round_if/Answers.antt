@@ -1,0 +1,25 @@
+use Rattle.std.proofs.Common.{ap, ◌∙◌, sym, rules}
+use Rattle.c_tree.specs.Typed as tree
+use Rattle.c_meaning.specs.Turns.{run_stmt, body_way}
+use Rattle.source_tree.specs.SharedViews.{stmt_of}
+use Rattle.source_control.specs.Views.{loop_of, stmt_or_nothing}
+use Rattle.source_control.specs.declared.control.LoopParts.{LoopParts}
+use Rattle.source_walk.proofs.Walking.{as_like}
+use Rattle.source_walk.proofs.Resuming.{branch_broke, branch_one, branch_other, loop_left}
+use Rattle.source_walk.proofs.resume.round_if.Goals as goal
+
+pub returns-in-Err-clause-exits : goal.returns-in-Err-clause-exits
+returns-in-Err-clause-exits c =
+    branch_broke _ _ c.args.place c.args.v (λ h w. run_stmt h (loop_of c.args.l.now.value).body (body_way h (loop_of c.args.l.now.value) (run_stmt h (loop_of c.args.l.now.value).step) w)) (λ h w. w.end) _ _ c.args.store.now.now c.in-Err.rule (search rules)
+
+pub returns-in_ok-exit-in-Ok-clause-exits : goal.returns-in_ok-exit-in-Ok-clause-exits
+returns-in_ok-exit-in-Ok-clause-exits c =
+    branch_one _ _ c.args.place c.args.v (λ h w. run_stmt h (loop_of c.args.l.now.value).body (body_way h (loop_of c.args.l.now.value) (run_stmt h (loop_of c.args.l.now.value).step) w)) (λ h w. w.end) _ _ c.args.store.now.now _ _ c.in-Ok.holds _ (search rules) c.if-holds.true
+    (as_like (λ h w. run_stmt h (loop_of c.args.l.now.value).body (body_way h (loop_of c.args.l.now.value) (run_stmt h (loop_of c.args.l.now.value).step) w)) (λ h w. run_stmt h (stmt_of c.deref.result.now.body.value) (body_way h (loop_of c.args.l.now.value) (run_stmt h (stmt_or_nothing c.args.l.now.value.place c.deref-then-holds.result.now.step)) w)) _ _ _ _ _ _ _ _
+    (λ h w x. ap (λ (b : tree.Stmt). run_stmt h b (body_way h (loop_of c.args.l.now.value) (run_stmt h (loop_of c.args.l.now.value).step) w) x) (ap (λ (l : LoopParts). stmt_of l.body.value) (sym c.deref.ensures))
+    ∙ ap (λ (s : tree.Stmt). run_stmt h (stmt_of c.deref.result.now.body.value) (body_way h (loop_of c.args.l.now.value) (run_stmt h s) w) x) (ap (λ (l : LoopParts). stmt_or_nothing c.args.l.now.value.place l.step) (sym c.deref-then-holds.ensures)))
+    c.in_ok-exit-in-Ok.ensures.exits)
+
+pub returns-else-holds-clause-exits : goal.returns-else-holds-clause-exits
+returns-else-holds-clause-exits c =
+    branch_other _ _ c.args.place c.args.v (λ h w. run_stmt h (loop_of c.args.l.now.value).body (body_way h (loop_of c.args.l.now.value) (run_stmt h (loop_of c.args.l.now.value).step) w)) (λ h w. w.end) _ _ c.args.store.now.now _ _ c.in-Ok.holds _ (search rules) c.if-holds.false (loop_left _ _ _ _ _)
