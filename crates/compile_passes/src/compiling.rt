@@ -12,7 +12,7 @@ ghost use Rattle.pin_checker.specs.Safe.{IsSafe};
 ghost use Rattle.compile_passes.specs.Compiled.{IsCompiled, IsPrepared};
 
 use ak_words::NoMemory;
-use emit_code::emit;
+use emit_code::emit_owned;
 use hoist_pass::hoist_owned;
 use pin_checker::{CheckFault, Checked, check};
 use pin_frames::place_owned;
@@ -60,5 +60,5 @@ pub fn compile(alloc: Global, ir: &Ir) -> Result<Code, NoMemory>
 {
     let ready = prepare(alloc, ir)?;
     let checked = checked(alloc, ready)?;
-    emit(alloc, &checked)
+    emit_owned(alloc, checked)
 }

@@ -16,8 +16,8 @@ ghost use Rattle.struct_ir.specs.Placed.{all_placed};
 use crate::lengths::long_of;
 use crate::puts::{put, put_before};
 use ak_words::NoMemory;
+use pin_flow::programs::copy_ir;
 use std::alloc::Global;
-use struct_ir::copying::{copy_call, copy_literals, copy_step};
 use struct_ir::linear::Code;
 use struct_ir::{CodeFunc, Instr, InstrKind, Ir, IrFunc, Node, NodeKind};
 
@@ -31,54 +31,66 @@ pub fn emit_code(alloc: Global, ir: &Ir) -> Result<Code, NoMemory>
     requires { IsTrue (all_placed (ir_view ir.now)) }
     ensures { IfOk result (λ code. IsEmitted (ir_view ir.now) (code_view code)) }
 {
+    let own = copy_ir(alloc, ir)?;
+    emit_code_owned(alloc, own)
+}
+
+/// The same, of code that nothing needs any more: what stays of it isn't copied.
+///
+/// # Errors
+///
+/// Only want of memory.
+pub fn emit_code_owned(alloc: Global, ir: Ir) -> Result<Code, NoMemory>
+    requires { IsTrue (all_placed (ir_view ir)) }
+    ensures { IfOk result (λ code. IsEmitted (ir_view ir) (code_view code)) }
+{
     let code = emit_program(alloc, ir)?;
     Ok(code)
 }
 
-fn emit_program(alloc: Global, ir: &Ir) -> Result<Code, NoMemory>
-    requires { IsTrue (all_placed (ir_view ir.now)) }
-    ensures { IfOk result (λ code. code_view code ≡ linear_of (ir_view ir.now)) }
+fn emit_program(alloc: Global, ir: Ir) -> Result<Code, NoMemory>
+    requires { IsTrue (all_placed (ir_view ir)) }
+    ensures { IfOk result (λ code. code_view code ≡ linear_of (ir_view ir)) }
 {
-    let literals = copy_literals(alloc, &ir.literals)?;
-    let funcs = emit_funcs(alloc, &ir.funcs)?;
+    let funcs = emit_funcs(alloc, ir.funcs)?;
     Ok(Code {
-        globals: ir.globals.to_vec(alloc)?,
-        literals,
+        globals: ir.globals,
+        literals: ir.literals,
         funcs,
         main: ir.main,
     })
 }
 
-fn emit_funcs(alloc: Global, funcs: &[IrFunc]) -> Result<Vec<CodeFunc>, NoMemory>
-    requires { IsTrue (list_all (λ f. are_placed None f.nodes) (map func_view funcs.now)) }
-    ensures { IfOk result (λ v. map linear_func_view v.items ≡ map func_linear (map func_view funcs.now)) }
+fn emit_funcs(alloc: Global, funcs: Vec<IrFunc>) -> Result<Vec<CodeFunc>, NoMemory>
+    requires { IsTrue (list_all (λ f. are_placed None f.nodes) (map func_view funcs.items)) }
+    ensures { IfOk result (λ v. map linear_func_view v.items ≡ map func_linear (map func_view funcs.items)) }
 {
-    let mut out = Vec::new(alloc);
+    let mut out = Vec::with_capacity(alloc, funcs.len())?;
     for f in funcs {
         out.push(emit_func(alloc, f)?)?;
     }
     Ok(out)
 }
 
-fn emit_func(alloc: Global, f: &IrFunc) -> Result<CodeFunc, NoMemory>
-    requires { IsTrue (are_placed None (func_view f.now).nodes) }
-    ensures { IfOk result (λ x. linear_func_view x ≡ func_linear (func_view f.now)) }
+fn emit_func(alloc: Global, f: IrFunc) -> Result<CodeFunc, NoMemory>
+    requires { IsTrue (are_placed None (func_view f).nodes) }
+    ensures { IfOk result (λ x. linear_func_view x ≡ func_linear (func_view f)) }
 {
-    let instrs = emit_nodes(alloc, &f.nodes)?;
+    let instrs = emit_nodes(alloc, f.nodes)?;
     Ok(CodeFunc {
         params: f.params,
         temps: f.temps,
         slots: f.slots,
-        objects: f.objects.to_vec(alloc)?,
+        objects: f.objects,
         instrs,
     })
 }
 
 // The instructions of a function.
-fn emit_nodes(alloc: Global, nodes: &[Node]) -> Result<Vec<Instr>, NoMemory>
-    ensures { IfOk result (λ code. map instr_view code.items ≡ code_of (nodes_view nodes.now)) }
+fn emit_nodes(alloc: Global, nodes: Vec<Node>) -> Result<Vec<Instr>, NoMemory>
+    ensures { IfOk result (λ code. map instr_view code.items ≡ code_of (nodes_view nodes.items)) }
 {
-    match long_of(nodes) {
+    match long_of(&nodes) {
         None => Err(NoMemory),
         Some(end) => {
             let mut code = Vec::new(alloc);
@@ -99,17 +111,16 @@ fn emit_row(
     end: usize,
     out: usize,
     next: usize,
-    nodes: &[Node],
+    nodes: Vec<Node>,
 ) -> Result<usize, NoMemory>
-    requires { long (nodes_view nodes.now) ≤ end }
-    ensures index { IfOk result (λ at. at + long (nodes_view nodes.now) ≡ end) }
-    ensures code { IfOk result (λ at. map instr_view code.new.items ≡ map instr_view code.old.items ++ reverse (emit at out next (nodes_view nodes.now))) }
+    requires { long (nodes_view nodes.items) ≤ end }
+    ensures index { IfOk result (λ at. at + long (nodes_view nodes.items) ≡ end) }
+    ensures code { IfOk result (λ at. map instr_view code.new.items ≡ map instr_view code.old.items ++ reverse (emit at out next (nodes_view nodes.items))) }
 {
     let mut left = nodes;
     let mut at = end;
-    'row: while let [front @ .., node] = left {
+    'row: while let Some(node) = left.pop() {
         at = emit_one(alloc, code, at, out, next, node)?;
-        left = front;
     }
     Ok(at)
 }
@@ -121,30 +132,28 @@ fn emit_one(
     end: usize,
     out: usize,
     next: usize,
-    node: &Node,
+    node: Node,
 ) -> Result<usize, NoMemory>
-    requires { node_long (node_view node.now) ≤ end }
-    ensures index { IfOk result (λ at. at + node_long (node_view node.now) ≡ end) }
-    ensures code { IfOk result (λ at. map instr_view code.new.items ≡ map instr_view code.old.items ++ reverse (emit_node at out next (node_view node.now))) }
+    requires { node_long (node_view node) ≤ end }
+    ensures index { IfOk result (λ at. at + node_long (node_view node) ≡ end) }
+    ensures code { IfOk result (λ at. map instr_view code.new.items ≡ map instr_view code.old.items ++ reverse (emit_node at out next (node_view node))) }
 {
-    let place = node.place;
-    match &node.kind {
+    let Node { place, kind } = node;
+    match kind {
         NodeKind::If(temp, one, other) => {
-            emit_if(alloc, code, end, out, next, place, *temp, one, other)
+            emit_if(alloc, code, end, out, next, place, temp, one, other)
         }
         NodeKind::Loop(body, step) => emit_loop(alloc, code, end, place, body, step),
         NodeKind::Begin(_) => Ok(end),
         NodeKind::End(_) => Ok(end),
-        NodeKind::Set(to, calc) => put_before(code, end, place, InstrKind::Set(*to, *calc)),
+        NodeKind::Set(to, calc) => put_before(code, end, place, InstrKind::Set(to, calc)),
         NodeKind::Break => put_before(code, end, place, InstrKind::Jump(out)),
         NodeKind::Next => put_before(code, end, place, InstrKind::Jump(next)),
-        NodeKind::Call(c) => put_before(code, end, place, InstrKind::Enter(copy_call(alloc, c)?)),
-        NodeKind::Ret(temp) => put_before(code, end, place, InstrKind::Leave(*temp)),
-        NodeKind::Step(s) => put_before(code, end, place, InstrKind::Step(copy_step(alloc, s)?)),
-        NodeKind::Look(slot, base) => put_before(code, end, place, InstrKind::Look(*slot, *base)),
-        NodeKind::Safepoint(slots) => {
-            put_before(code, end, place, InstrKind::Safe(slots.to_vec(alloc)?))
-        }
+        NodeKind::Call(c) => put_before(code, end, place, InstrKind::Enter(c)),
+        NodeKind::Ret(temp) => put_before(code, end, place, InstrKind::Leave(temp)),
+        NodeKind::Step(s) => put_before(code, end, place, InstrKind::Step(s)),
+        NodeKind::Look(slot, base) => put_before(code, end, place, InstrKind::Look(slot, base)),
+        NodeKind::Safepoint(slots) => put_before(code, end, place, InstrKind::Safe(slots)),
     }
 }
 
@@ -157,12 +166,12 @@ fn emit_if(
     next: usize,
     place: u32,
     temp: u32,
-    one: &[Node],
-    other: &[Node],
+    one: Vec<Node>,
+    other: Vec<Node>,
 ) -> Result<usize, NoMemory>
-    requires { node_long (if_ place temp (nodes_view one.now) (nodes_view other.now)) ≤ end }
-    ensures index { IfOk result (λ at. at + node_long (if_ place temp (nodes_view one.now) (nodes_view other.now)) ≡ end) }
-    ensures code { IfOk result (λ at. map instr_view code.new.items ≡ map instr_view code.old.items ++ reverse (emit_node at out next (if_ place temp (nodes_view one.now) (nodes_view other.now)))) }
+    requires { node_long (if_ place temp (nodes_view one.items) (nodes_view other.items)) ≤ end }
+    ensures index { IfOk result (λ at. at + node_long (if_ place temp (nodes_view one.items) (nodes_view other.items)) ≡ end) }
+    ensures code { IfOk result (λ at. map instr_view code.new.items ≡ map instr_view code.old.items ++ reverse (emit_node at out next (if_ place temp (nodes_view one.items) (nodes_view other.items)))) }
 {
     let other_at = emit_row(alloc, code, end, out, next, other)?;
     put(code, place, InstrKind::Jump(end))?;
@@ -178,12 +187,12 @@ fn emit_loop(
     code: &mut Vec<Instr>,
     end: usize,
     place: u32,
-    body: &[Node],
-    step: &[Node],
+    body: Vec<Node>,
+    step: Vec<Node>,
 ) -> Result<usize, NoMemory>
-    requires { node_long (loop_ place (nodes_view body.now) (nodes_view step.now)) ≤ end }
-    ensures index { IfOk result (λ at. at + node_long (loop_ place (nodes_view body.now) (nodes_view step.now)) ≡ end) }
-    ensures code { IfOk result (λ at. map instr_view code.new.items ≡ map instr_view code.old.items ++ reverse (emit_node at 0 0 (loop_ place (nodes_view body.now) (nodes_view step.now)))) }
+    requires { node_long (loop_ place (nodes_view body.items) (nodes_view step.items)) ≤ end }
+    ensures index { IfOk result (λ at. at + node_long (loop_ place (nodes_view body.items) (nodes_view step.items)) ≡ end) }
+    ensures code { IfOk result (λ at. map instr_view code.new.items ≡ map instr_view code.old.items ++ reverse (emit_node at 0 0 (loop_ place (nodes_view body.items) (nodes_view step.items)))) }
 {
     let round = code.len();
     put(code, place, InstrKind::Round(0))?;

@@ -27,7 +27,7 @@ module _ (slot b : ℕ) where
   abbrev ends : Nodes → State → Nodes
   ends ns t = dropped b (lifted slot b ns) t
 
-  assigns_lifted : (ns : Nodes) → some_act (act_assigns b) (lifted slot b ns) ≡ some_act (act_assigns b) ns
+  pub assigns_lifted : (ns : Nodes) → some_act (act_assigns b) (lifted slot b ns) ≡ some_act (act_assigns b) ns
   assigns_lifted ns =
       sym (some_sifted (no_look_of b) (act_assigns b) (look_assigns_none b b) (lifted slot b ns))
       ∙ (ap (some_act (act_assigns b)) (strip_lifted b slot ns) ∙ some_sifted (no_look_of b) (act_assigns b) (look_assigns_none b b) ns)

@@ -9,3 +9,4 @@ pub mod DropRows
 pub mod LiftRows
 pub mod Stays
 pub mod Programs
+pub mod Within

@@ -1,15 +1,13 @@
-ghost use Rattle.std.specs.Prelude.{◌≡◌, ◌<◌, ◌^◌, length, map, IfOk, true};
+ghost use Rattle.std.specs.Prelude.{◌≡◌, ◌<◌, ◌^◌, length, map, IfOk, OnOk, true};
 ghost use Rattle.struct_ir.specs.Erased.{ir_erased};
 ghost use Rattle.struct_ir.specs.Valid.{is_valid};
 ghost use Rattle.struct_ir.specs.Views.{nodes_view, func_view};
 ghost use Rattle.struct_ir.specs.WholeViews.{ir_view};
 ghost use Rattle.pin_flow.specs.Funcs.{EveryFunc, IsCovered, IsHoisted};
-ghost use Rattle.pin_flow.specs.Marks.{bad};
 ghost use Rattle.pin_flow.specs.Slots.{HasOwnSlots, slot_if};
-ghost use Rattle.hoist_pass.specs.inner.Hoist.{lifted, dropped, hoisted_one, hoisted_for, hoisted_each, func_hoisted, ir_hoisted};
+ghost use Rattle.hoist_pass.specs.inner.Hoist.{lifted, hoisted_one, hoisted_for, hoisted_each, func_hoisted, ir_hoisted};
 
 use crate::dropping::drop_row;
-use crate::keeping::keeps_row;
 use crate::lifting::{lift_row, some_wants};
 use ak_words::NoMemory;
 use pin_flow::programs::copy_ir;
@@ -114,30 +112,20 @@ fn hoist_base(alloc: Global, bases: &[u32], b: u32, code: Vec<Node>) -> Result<V
 }
 
 // With Looks before loops; most registers have none there, and their code stays as it is.
-fn lift_looks(alloc: Global, slot: u32, b: u32, code: Vec<Node>) -> Result<Vec<Node>, NoMemory>
-    ensures { IfOk result (λ v. nodes_view v.items ≡ lifted slot b (nodes_view code.items)) }
+fn lift_looks(alloc: Global, slot: u32, b: u32, code: &mut Vec<Node>) -> Result<(), NoMemory>
+    ensures { OnOk result (nodes_view code.new.items ≡ lifted slot b (nodes_view code.old.items)) }
 {
-    if some_wants(b, &code) {
-        lift_row(alloc, slot, b, code)
-    } else {
-        Ok(code)
+    if some_wants(b, code) {
+        lift_row(alloc, slot, b, code)?;
     }
-}
-
-// Without the Looks that aren't needed; where all are, the code stays as it is.
-fn drop_looks(alloc: Global, b: u32, code: Vec<Node>) -> Result<Vec<Node>, NoMemory>
-    ensures { IfOk result (λ v. nodes_view v.items ≡ dropped b (nodes_view code.items) bad) }
-{
-    if keeps_row(b, &code, State::Bad).all {
-        Ok(code)
-    } else {
-        drop_row(alloc, b, code, State::Bad)
-    }
+    Ok(())
 }
 
 fn hoist_one(alloc: Global, slot: u32, b: u32, code: Vec<Node>) -> Result<Vec<Node>, NoMemory>
     ensures { IfOk result (λ v. nodes_view v.items ≡ hoisted_one slot b (nodes_view code.items)) }
 {
-    let first = lift_looks(alloc, slot, b, code)?;
-    drop_looks(alloc, b, first)
+    let mut code = code;
+    lift_looks(alloc, slot, b, &mut code)?;
+    drop_row(alloc, b, &mut code, State::Bad)?;
+    Ok(code)
 }

@@ -5,7 +5,6 @@
 
 pub mod dropping;
 pub mod hoisting;
-mod keeping;
 pub mod lifting;
 
 pub use hoisting::{hoist, hoist_owned};

@@ -24,20 +24,26 @@ abbrev pub IsCleanIn : Search → Node → State → Type 0
 IsCleanIn s n t = report_node s n t None ≡ None
 
 -- one node more
-pub clean_more : (G : Type 0) (s : Search) (rows : List CodeNode) (i : ℕ) (x : CodeNode) (t t' : State) (all more all' : Bool) → i < length rows → x ≡ get_or rows i x → (all ≡ true → IsClean s (nodes_view (drop i rows)) t → G)
-    → (more ≡ true → IsCleanIn s (node_view x) t) → all' ≡ (all && more) → t' ≡ (flow_node s.mark (node_view x) t).on → all' ≡ true → IsClean s (nodes_view (drop (i + 1) rows)) t' → G
+pub clean_more : (G : Type 0) (s : Search) (rows : List CodeNode) (i : ℕ) (x : CodeNode) (t t' : State) (all all' : Bool) → i < length rows → x ≡ get_or rows i x → (all ≡ true → IsClean s (nodes_view (drop i rows)) t → G)
+    → (all' ≡ true → (all ≡ true) × IsCleanIn s (node_view x) t) → t' ≡ (flow_node s.mark (node_view x) t).on → all' ≡ true → IsClean s (nodes_view (drop (i + 1) rows)) t' → G
 unfolding report
-clean_more G s rows i x t t' all more all' le is inv m e f h rest =
-    let p = and_parts all more (sym e ∙ h) in
+clean_more G s rows i x t t' all all' le is inv m f h rest =
+    let p = m h in
     let tail = nodes_view (drop (i + 1) rows) in
     let here : report s tail (flow_node s.mark (node_view x) t).on (report_node s (node_view x) t None) ≡ None =
-    ap (report s tail (flow_node s.mark (node_view x) t).on) (m p.1) ∙ (ap (λ u. report s tail u None) (sym f) ∙ rest) in
+    ap (report s tail (flow_node s.mark (node_view x) t).on) p.1 ∙ (ap (λ u. report s tail u None) (sym f) ∙ rest) in
     inv p.0 (subst (λ l. IsClean s (nodes_view l) t) (sym (split_at rows i x le is)) here)
 
 -- no node more
 pub clean_end : (G : Type 0) (s : Search) (rows : List CodeNode) (i : ℕ) (t : State) (all : Bool) → length rows ≤ i → (all ≡ true → IsClean s (nodes_view (drop i rows)) t → G) → all ≡ true → G
 unfolding report
 clean_end G s rows i t all le inv h = inv h (subst (λ l. IsClean s (nodes_view l) t) (sym (drop_all i rows le)) refl)
+
+-- behind others: a and n both find nothing
+pub behind_clean : (s : Search) (x : Node) (t : State) (a n r : Bool) → r ≡ (a && n) → (n ≡ true → IsCleanIn s x t) → r ≡ true → (a ≡ true) × IsCleanIn s x t
+behind_clean s x t a n r e f h =
+    let p = and_parts a n (sym e ∙ h) in
+    (p.0, f p.1)
 
 pub if_clean : (s : Search) (n : CodeNode) (temp : ℕ) (v w : Vec CodeNode) (t : State) (r x y : Bool) → n.kind ≡ views.If temp v w → r ≡ (x && y) → (x ≡ true → IsClean s (nodes_view v.items) t) → (y ≡ true → IsClean s (nodes_view w.items) t)
     → r ≡ true → IsCleanIn s (node_view n) t

@@ -21,6 +21,14 @@ impl Checked {
     {
         &self.ir
     }
+
+    /// The code itself, which is safe for moves.
+    pub fn into_ir(self) -> Ir
+        ensures same { ir_view result ≡ code_of self }
+        ensures safe { IsSafe (code_of self) }
+    {
+        self.ir
+    }
 }
 
 /// Accepts code exactly where it is safe for moves, and else tells the first node that fails and

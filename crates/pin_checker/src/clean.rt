@@ -8,7 +8,7 @@ ghost use Rattle.pin_checker.specs.inner.Reports.{report, report_node};
 ghost use Rattle.pin_checker.specs.inner.SearchViews.{search_view, blames_at};
 
 use crate::search::Search;
-use pin_flow::flow::{head_from, ways_of_node};
+use pin_flow::flow::{behind, head_from};
 use pin_flow::state::{State, Ways, all_on, around, both_ways, end_of, one_behind};
 use struct_ir::{Node, NodeKind};
 
@@ -54,14 +54,14 @@ fn looped(body: Clean, step: Clean) -> Clean
     }
 }
 
-// A node that holds no others.
-fn alone(search: Search, n: &Node, before: State) -> Clean
-    ensures ways { ways_view result.ways ≡ flow_node (search_view search).mark (node_view n.now) (state_view before) }
-    ensures none { result.none ≡ not (blames_at (search_view search) (node_view n.now) (state_view before)) }
+// A node that holds no others, behind others.
+fn alone(search: Search, n: &Node, before: Clean) -> Clean
+    ensures ways { ways_view result.ways ≡ in_turn (ways_view before.ways) (flow_node (search_view search).mark (node_view n.now) (ways_view before.ways).on) }
+    ensures none { result.none ≡ (before.none && not (blames_at (search_view search) (node_view n.now) (ways_view before.ways).on)) }
 {
     Clean {
-        ways: ways_of_node(search.mark(), n, before),
-        none: !search.blames(n, before),
+        ways: behind(search.mark(), n, before.ways),
+        none: before.none && !search.blames(n, before.ways.on),
     }
 }
 
@@ -76,25 +76,30 @@ pub(crate) fn clean_row(search: Search, rows: &[Node], before: State) -> Clean
         none: true,
     };
     for n in rows {
-        clean = one_more(clean, clean_node(search, n, clean.ways.on));
+        clean = clean_node(search, n, clean);
     }
     clean
 }
 
+// The same with a node more behind others.
 #[cycle(cleans)]
-fn clean_node(search: Search, n: &Node, before: State) -> Clean
-    ensures ways { ways_view result.ways ≡ flow_node (search_view search).mark (node_view n.now) (state_view before) }
-    ensures none { result.none ≡ true → report_node (search_view search) (node_view n.now) (state_view before) None ≡ None }
+fn clean_node(search: Search, n: &Node, before: Clean) -> Clean
+    ensures ways { ways_view result.ways ≡ in_turn (ways_view before.ways) (flow_node (search_view search).mark (node_view n.now) (ways_view before.ways).on) }
+    ensures none { result.none ≡ true → (before.none ≡ true) × (report_node (search_view search) (node_view n.now) (ways_view before.ways).on None ≡ None) }
 {
     match &n.kind {
         NodeKind::If(_, one, other) => {
-            let first = clean_row(search, one, before);
-            one_of(first, clean_row(search, other, before))
+            let first = clean_row(search, one, before.ways.on);
+            one_more(
+                before,
+                one_of(first, clean_row(search, other, before.ways.on)),
+            )
         }
         NodeKind::Loop(body, step) => {
-            let head = head_from(search.mark(), body, step, before);
+            let head = head_from(search.mark(), body, step, before.ways.on);
             let first = clean_row(search, body, head);
-            looped(first, clean_row(search, step, end_of(first.ways)))
+            let second = clean_row(search, step, end_of(first.ways));
+            one_more(before, looped(first, second))
         }
         NodeKind::Set(..) | NodeKind::Call(_) | NodeKind::Step(_) | NodeKind::Look(..) => {
             alone(search, n, before)

@@ -4,7 +4,7 @@ use Rattle.std.proofs.lemmas.Bool.{or_parts, or_cases}
 use Rattle.struct_ir.specs.Nodes.{Act, Node, plain, if_, loop, break_, next_, ret, Nodes, no_nodes, more_nodes}
 use Rattle.struct_ir.specs.Flow.{does}
 use Rattle.struct_ir.specs.Structured.{Position, then_, in_body, in_latch, here}
-use Rattle.pin_flow.specs.Marks.{Mark, IsFair, State, Ways, head_of, end_state, flow, flow_node, Each, EachIn, EveryAct, EveryActIn}
+use Rattle.pin_flow.specs.Marks.{Mark, IsFair, State, Ways, head_of, end_state, flow, Each, EachIn, EveryAct, EveryActIn}
 use Rattle.pin_flow.specs.Looks.{some_act, some_in}
 use Rattle.pin_flow.proofs.Switch.{flow_agree, node_agree}
 pub use Rattle.pin_flow.proofs.EachAt.{EachAt, EachAtIn}

@@ -1,9 +1,9 @@
 -- The bases of a function's accesses, and their slots.
 use Rattle.std.proofs.Common.{◌≡◌, ℕ, zero, suc, ◌+◌, ◌<◌, ◌≤◌, List, [], ◌∷◌, ◌++◌, length, map, Option, Some, None, Bool, true, false, ◌==◌, ◌||◌, ◌⊎◌, inl, inr, if◌then◌else◌, refl, sym, ap, ◌∙◌, arith}
 use Rattle.std.proofs.lemmas.Bool.{eqb-true, eq-eqb, cases_lt}
-use Rattle.struct_ir.specs.Nodes.{Place, Act, set, call, step, look, safepoint, begin_object, end_object, Node, plain, if_, loop, break_, next_, ret, Nodes, no_nodes, more_nodes, places_of}
+use Rattle.struct_ir.specs.Nodes.{Place, Act, set, call, step, look, safepoint, begin_object, end_object, Node, plain, if_, loop, break_, next_, ret, Nodes, no_nodes, more_nodes}
 use Rattle.struct_ir.specs.Lists.{bare_place, bare_act}
-use Rattle.struct_ir.specs.Erased.{is_kept, stays, put, node_erased, erased}
+use Rattle.struct_ir.specs.Erased.{is_kept, put, node_erased, erased}
 use Rattle.pin_flow.specs.Looks.{some_act, some_in}
 use Rattle.pin_flow.specs.Slots.{has_base, accesses, bases_below, slot_in, slot_if, one_more, IsIn, AreApart}
 use Rattle.pin_flow.proofs.Strip.{by_bool}

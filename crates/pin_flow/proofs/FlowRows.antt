@@ -8,8 +8,8 @@ use Rattle.struct_ir.specs.Nodes.{Node, plain, if_, loop, break_, next_, ret, No
 use Rattle.struct_ir.specs.declared.code.NodeKind.{NodeKind}
 use Rattle.struct_ir.specs.Views.{kind_view, node_view, nodes_view}
 use Rattle.struct_ir.proofs.Views.{if_is, loop_is}
-use Rattle.pin_flow.specs.Marks.{Mark, State, unreached, good, bad, join, Ways, at, either, in_turn, end_state, turned, round_of, head_of, flow, flow_node}
-use Rattle.pin_flow.specs.Views.{is_same, leaf}
+use Rattle.pin_flow.specs.Marks.{Mark, State, unreached, good, bad, join, after, Ways, at, either, in_turn, end_state, turned, round_of, head_of, flow, flow_node}
+use Rattle.pin_flow.specs.Views.{is_same, leaf, node_marked}
 
 join_assoc : (t u v : State) → join (join t u) v ≡ join t (join u v)
 join_assoc unreached u v = refl
@@ -30,6 +30,13 @@ in_turn_at o = λ i. record { on = o.on; broken = join_none o.broken i; next = j
 
 in_turn_assoc : (o p q : Ways) → in_turn (in_turn o p) q ≡ in_turn o (in_turn p q)
 in_turn_assoc o p q = λ i. record { on = q.on; broken = join_assoc o.broken p.broken q.broken i; next = join_assoc o.next p.next q.next i }
+
+-- what goes on to a state leaves the row as it did, and there
+pub on_from : (o : Ways) (t : State) → record { on = t; broken = o.broken; next = o.next } ≡ in_turn o (at t)
+on_from o t =
+    let b = sym (join_none o.broken) in
+    let n = sym (join_none o.next) in
+    λ i. record { on = t; broken = b i; next = n i }
 
 same_is : (t u : State) → is_same t u ≡ true → t ≡ u
 same_is unreached unreached e = refl
@@ -114,3 +121,29 @@ leaf_at m (ret p x) e t = refl
 
 pub leaf_is : (m : Mark) (n : CodeNode) (s : State) (c : Ways) → is_leaf (node_view n) ≡ true → c ≡ leaf m (node_view n) s → c ≡ flow_node m (node_view n) s
 leaf_is m n s c l e = e ∙ leaf_at m (node_view n) l s
+
+-- ---- acts
+
+abbrev pub is_plain : Node → Bool
+is_plain (plain p a) = true
+is_plain (if_ p x one other) = false
+is_plain (loop p body latch) = false
+is_plain (break_ p) = false
+is_plain (next_ p) = false
+is_plain (ret p x) = false
+
+pub plain_of : (n : CodeNode) (k : NodeKind) → n.kind ≡ k → is_plain (kind_view n.place k) ≡ true → is_plain (node_view n) ≡ true
+plain_of n k e l = ap (λ x. is_plain (kind_view n.place x)) e ∙ l
+
+plain_at : (m : Mark) (x : Node) → is_plain x ≡ true → (t : State) → at (after (λ v. node_marked m x v) t) ≡ flow_node m x t
+unfolding flow
+plain_at m (plain p a) e t = refl
+plain_at m (if_ p x one other) e t = absurd (let h : false ≡ true = e in cc)
+plain_at m (loop p body latch) e t = absurd (let h : false ≡ true = e in cc)
+plain_at m (break_ p) e t = absurd (let h : false ≡ true = e in cc)
+plain_at m (next_ p) e t = absurd (let h : false ≡ true = e in cc)
+plain_at m (ret p x) e t = absurd (let h : false ≡ true = e in cc)
+
+-- an act behind a row goes on to its state
+pub act_behind : (m : Mark) (n : CodeNode) (o c : Ways) (s : State) → is_plain (node_view n) ≡ true → s ≡ after (λ v. node_marked m (node_view n) v) o.on → c ≡ in_turn o (at s) → c ≡ in_turn o (flow_node m (node_view n) o.on)
+act_behind m n o c s l f e = e ∙ (ap (λ t. in_turn o (at t)) f ∙ ap (in_turn o) (plain_at m (node_view n) l o.on))

@@ -1,5 +1,5 @@
 -- Lists of which each item is made into another, as the program makes them.
-use Rattle.std.proofs.Common.{◌≡◌, ℕ, List, [], ◌∷◌, ◌++◌, map, length, append-nil, arith, sym, ap, ◌∙◌}
+use Rattle.std.proofs.Common.{◌≡◌, List, [], ◌∷◌, ◌++◌, map, length, append-nil, arith, sym, ap, ◌∙◌}
 
 one_put : {A B : Type 0} (v : A → B) (out : List A) (y : A) (rest : List B) → map v (out ++ (y ∷ [])) ++ rest ≡ map v out ++ (v y ∷ rest)
 one_put v [] y rest = λ i. v y ∷ rest

@@ -1,5 +1,5 @@
 -- What the code's states, tables and marks are.
-use Rattle.std.specs.Prelude.{◌≡◌, ℕ, Bool, true, false}
+use Rattle.std.specs.Prelude.{ℕ, Bool, true, false}
 use Rattle.struct_ir.specs.Nodes.{Act, Node, plain, if_, loop, break_, next_, ret, list_of}
 use Rattle.struct_ir.specs.Pins.{lacks_if}
 use Rattle.pin_flow.specs.declared.state.State.{State as CodeState}

@@ -2,11 +2,13 @@
 
 ghost use Rattle.std.specs.Prelude.{◌≡◌};
 ghost use Rattle.struct_ir.specs.Views.{node_view, nodes_view};
-ghost use Rattle.pin_flow.specs.Marks.{flow, flow_node, head_of};
+ghost use Rattle.pin_flow.specs.Marks.{in_turn, flow, flow_node, head_of};
 ghost use Rattle.pin_flow.specs.Views.{mark_view, state_view, ways_view, leaf};
 
 use crate::mark::Mark;
-use crate::state::{State, Ways, all_on, around, both_ways, end_of, is_same, joined, one_behind};
+use crate::state::{
+    State, Ways, all_on, around, both_ways, end_of, is_same, joined, on_to, one_behind,
+};
 use struct_ir::{Node, NodeKind};
 
 fn leaf_at(mark: Mark, n: &Node, before: State) -> Ways
@@ -37,9 +39,26 @@ pub fn ways_of(mark: Mark, rows: &[Node], before: State) -> Ways
 {
     let mut ahead = all_on(before);
     for n in rows {
-        ahead = one_behind(ahead, ways_of_node(mark, n, ahead.on));
+        ahead = behind(mark, n, ahead);
     }
     ahead
+}
+
+/// Where control leaves a row with this node behind it, from where it leaves the row. An act
+/// changes no more than where control goes on.
+#[cycle(flows)]
+pub fn behind(mark: Mark, n: &Node, ahead: Ways) -> Ways
+    ensures { ways_view result ≡ in_turn (ways_view ahead) (flow_node (mark_view mark) (node_view n.now) (ways_view ahead).on) }
+{
+    match &n.kind {
+        NodeKind::Set(..) | NodeKind::Call(_) | NodeKind::Step(_) | NodeKind::Look(..) => {
+            on_to(ahead, mark.state(n, ahead.on))
+        }
+        NodeKind::Safepoint(_) | NodeKind::Begin(_) | NodeKind::End(_) => {
+            on_to(ahead, mark.state(n, ahead.on))
+        }
+        _ => one_behind(ahead, ways_of_node(mark, n, ahead.on)),
+    }
 }
 
 /// Where control leaves the node, from the state before it.

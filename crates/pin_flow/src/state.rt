@@ -71,6 +71,18 @@ pub fn one_behind(a: Ways, b: Ways) -> Ways
     }
 }
 
+/// Control goes through the row and then on to this state.
+#[tactic(auto, using(crate::proofs::FlowRows::on_from))]
+pub fn on_to(a: Ways, on: State) -> Ways
+    ensures { ways_view result ≡ in_turn (ways_view a) (at (state_view on)) }
+{
+    Ways {
+        on,
+        broken: a.broken,
+        next: a.next,
+    }
+}
+
 /// Control goes through a loop's body and then through its step.
 pub fn around(a: Ways, b: Ways) -> Ways
     ensures { ways_view result ≡ turned (ways_view a) (ways_view b) }

@@ -1,6 +1,5 @@
 -- Rows that have no list in which a slot is wanted.
-use Rattle.std.proofs.Common.{◌≡◌, ℕ, List, ◌∷◌, Bool, true, ◌&&◌, sym, ap, ◌∙◌}
-use Rattle.std.proofs.lemmas.Bool.{and_parts}
+use Rattle.std.proofs.Common.{◌≡◌, ℕ, List, ◌∷◌, Bool, sym, ap, ◌∙◌}
 use Rattle.std.specs.Global.{Vec}
 use Rattle.struct_ir.specs.declared.code.Node.{Node as CodeNode}
 use Rattle.struct_ir.specs.declared.code.NodeKind.TheViews as views
@@ -30,26 +29,23 @@ free_more slot b x rest l m on e g h f t =
     let here : listed_one_in slot b (node_view x) t (lives (live slot b (nodes_view rest) l) l.out l.end) ≡ node_view x = ap (listed_one_in slot b (node_view x) t) (sym k) ∙ h t in
     λ i. more_nodes (here i) (f (Rattle.pin_flow.specs.Marks.flow_node (held b) (node_view x) t).on i)
 
-pub if_free : (slot b : ℕ) (n : CodeNode) (temp : ℕ) (v w : Vec CodeNode) (l : Live) (r x y : Bool) → n.kind ≡ views.If temp v w → r ≡ (x && y) → (x ≡ true → IsFree slot b (nodes_view v.items) l) → (y ≡ true → IsFree slot b (nodes_view w.items) l)
-    → r ≡ true → IsFreeIn slot b (node_view n) l
-if_free slot b n temp v w l r x y is e f g h t =
-    let p = and_parts x y (sym e ∙ h) in
-    let a = f p.0 t in
-    let c = g p.1 t in
+pub if_free : (slot b : ℕ) (n : CodeNode) (temp : ℕ) (v w : Vec CodeNode) (l : Live) → n.kind ≡ views.If temp v w → IsFree slot b (nodes_view v.items) l → IsFree slot b (nodes_view w.items) l → IsFreeIn slot b (node_view n) l
+if_free slot b n temp v w l is f g t =
+    let a = f t in
+    let c = g t in
     rw (if_is n temp v w is) (λ i. if_ n.place temp (a i) (c i))
 
-pub loop_free : (slot b : ℕ) (n : CodeNode) (v w : Vec CodeNode) (l p q : Live) (top end r x y : Bool) → n.kind ≡ views.Loop v w
+pub loop_free : (slot b : ℕ) (n : CodeNode) (v w : Vec CodeNode) (l p q : Live) (top end : Bool) → n.kind ≡ views.Loop v w
     → top ≡ head_live slot b (nodes_view v.items) (nodes_view w.items) l.on → end ≡ latch_live slot b (nodes_view v.items) (nodes_view w.items) l.on → p ≡ lives end l.on end → q ≡ lives top l.on top
-    → r ≡ (x && y) → (x ≡ true → IsFree slot b (nodes_view v.items) p) → (y ≡ true → IsFree slot b (nodes_view w.items) q) → r ≡ true → IsFreeIn slot b (node_view n) l
-loop_free slot b n v w l p q top end r x y is te ee pe qe e f g h t =
+    → IsFree slot b (nodes_view v.items) p → IsFree slot b (nodes_view w.items) q → IsFreeIn slot b (node_view n) l
+loop_free slot b n v w l p q top end is te ee pe qe f g t =
     let m = held b in
     let body = nodes_view v.items in
     let latch = nodes_view w.items in
     let s = head_of (flow m body) (flow m latch) t in
     let z = end_state (flow m body s) in
-    let k = and_parts x y (sym e ∙ h) in
     let pp : p ≡ body_lives slot b body latch l.on = pe ∙ (λ i. lives (ee i) l.on (ee i)) in
     let qq : q ≡ latch_lives slot b body latch l.on = qe ∙ (λ i. lives (te i) l.on (te i)) in
-    let a : listed_one slot b body s (body_lives slot b body latch l.on) ≡ body = ap (listed_one slot b body s) (sym pp) ∙ f k.0 s in
-    let c : listed_one slot b latch z (latch_lives slot b body latch l.on) ≡ latch = ap (listed_one slot b latch z) (sym qq) ∙ g k.1 z in
+    let a : listed_one slot b body s (body_lives slot b body latch l.on) ≡ body = ap (listed_one slot b body s) (sym pp) ∙ f s in
+    let c : listed_one slot b latch z (latch_lives slot b body latch l.on) ≡ latch = ap (listed_one slot b latch z) (sym qq) ∙ g z in
     rw (loop_is n v w is) (λ i. loop n.place (a i) (c i))

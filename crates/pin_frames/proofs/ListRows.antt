@@ -1,12 +1,14 @@
 -- Rows with one slot more in their lists, as the program makes them.
 use Rattle.std.proofs.Math.Seq.{take-append_seam}
-use Rattle.std.proofs.Common.{sym, ◌≤◌, ◌-◌, length, length-append, take, slice_index_or, ◌≡◌, ◌+◌, ℕ, List, [], ◌∷◌, ◌++◌, Bool, false, refl, ap, ◌∙◌, arith}
+use Rattle.std.proofs.lemmas.List.{at_drop_more, take_more_set, with_items_is}
+use Rattle.std.proofs.Common.{sym, ◌≤◌, ◌-◌, ◌<◌, length, length-append, take, drop, get_or, set, take_all, drop_of_length-le, drop-set-lt, slice_index_or, ◌≡◌, ◌+◌, ℕ, List, [], ◌∷◌, ◌++◌, Bool, false, refl, ap, ◌∙◌, arith}
 use Rattle.std.specs.Global.{Vec}
+use Rattle.std.specs.Vec.{with_items}
 use Rattle.struct_ir.specs.declared.code.Node.{Node as CodeNode}
 use Rattle.struct_ir.specs.declared.code.NodeKind.TheViews as views
 use Rattle.struct_ir.specs.Nodes.{if_, loop, Nodes, no_nodes, more_nodes}
-use Rattle.struct_ir.specs.Views.{node_view, nodes_view, followed}
-use Rattle.struct_ir.proofs.Views.{if_is, loop_is, followed_none}
+use Rattle.struct_ir.specs.Views.{kind_view, node_view, nodes_view, followed}
+use Rattle.struct_ir.proofs.Views.{if_is, if_view, loop_is, loop_view, followed_none, put_view}
 use Rattle.pin_flow.specs.Marks.{State, Ways, end_state, head_of, flow, flow_node}
 use Rattle.pin_flow.specs.Held.{held}
 use Rattle.pin_flow.specs.Live.{Live, lives, live, live_node, head_live, latch_live, body_lives, latch_lives}
@@ -70,22 +72,62 @@ row_step slot b x y rest old new s s' l m later o all inv e e' me le' ye made =
     ∙ (made (listed_one slot b left (flow_node h (node_view x) s).on l)
     ∙ (ap (λ z. followed old (more_nodes z (listed_one slot b left (flow_node h (node_view x) s).on l))) node ∙ inv))
 
+-- one node more, in its own place
+pub row_step_at : (slot b : ℕ) (xs : List CodeNode) (i : ℕ) (d y : CodeNode) (s s' : State) (l m : Live) (later : Bool) (o : Ways) (all : Nodes)
+    → i < length xs → followed (take i xs) (listed_one slot b (nodes_view (drop i xs)) s l) ≡ all → o ≡ flow_node (held b) (node_view (get_or xs i d)) s → s' ≡ o.on
+    → m ≡ lives later l.out l.end → later ≡ live slot b (nodes_view (drop (i + 1) xs)) l → node_view y ≡ listed_one_in slot b (node_view (get_or xs i d)) s m
+    → followed (take (i + 1) (set xs i y)) (listed_one slot b (nodes_view (drop (i + 1) (set xs i y))) s' l) ≡ all
+row_step_at slot b xs i d y s s' l m later o all lt inv e e' me le' ye =
+    let x = get_or xs i d in
+    let rest = drop (i + 1) xs in
+    let at : drop i xs ≡ x ∷ rest = at_drop_more (λ z. z) xs i d lt in
+    let left : drop (i + 1) (set xs i y) ≡ rest = drop-set-lt (i + 1) xs i y (omega arith) in
+    let front : take (i + 1) (set xs i y) ≡ take i xs ++ (y ∷ []) = take_more_set xs i y lt in
+    ap (λ r. followed (take (i + 1) (set xs i y)) (listed_one slot b (nodes_view r) s' l)) left
+    ∙ row_step slot b x y rest (take i xs) (take (i + 1) (set xs i y)) s s' l m later o all (ap (λ r. followed (take i xs) (listed_one slot b (nodes_view r) s l)) (sym at) ∙ inv) e e' me le' ye
+    (λ tail. ap (λ z. followed z tail) front ∙ put_view y (take i xs) tail)
+
+pub popped_at : (slot b : ℕ) (xs : List CodeNode) (i : ℕ) (d : CodeNode) (l : Live) (old new : List Bool) (n : ℕ) → i < length xs → old ≡ behind slot b (nodes_view (drop i xs)) l → n ≡ length old
+    → new ≡ take (n - 1) old → new ≡ behind slot b (nodes_view (drop (i + 1) xs)) l
+popped_at slot b xs i d l old new n lt e ne f =
+    let at : drop i xs ≡ get_or xs i d ∷ drop (i + 1) xs = at_drop_more (λ z. z) xs i d lt in
+    behind_popped slot b (get_or xs i d) (drop (i + 1) xs) l old new n (e ∙ ap (λ r. behind slot b (nodes_view r) l) at) ne f
+
+pub popped_set : (slot b : ℕ) (xs : List CodeNode) (i : ℕ) (y : CodeNode) (l : Live) (new : List Bool) → new ≡ behind slot b (nodes_view (drop (i + 1) xs)) l
+    → new ≡ behind slot b (nodes_view (drop (i + 1) (set xs i y))) l
+popped_set slot b xs i y l new e =
+    let left : drop (i + 1) (set xs i y) ≡ drop (i + 1) xs = drop-set-lt (i + 1) xs i y (omega arith) in
+    e ∙ ap (λ r. behind slot b (nodes_view r) l) (sym left)
+
 -- no node more
-pub row_end : (slot b : ℕ) (out rest : List CodeNode) (s : State) (l : Live) (all : Nodes) → length rest ≡ 0 → followed out (listed_one slot b (nodes_view rest) s l) ≡ all → nodes_view out ≡ all
-row_end slot b out [] s l all e inv = sym (followed_none out) ∙ inv
-row_end slot b out (x ∷ rest) s l all e inv = absurd (omega (arith, e))
+pub row_end : (slot b : ℕ) (xs : List CodeNode) (i : ℕ) (s : State) (l : Live) (all : Nodes) → length xs ≤ i → followed (take i xs) (listed_one slot b (nodes_view (drop i xs)) s l) ≡ all → nodes_view xs ≡ all
+row_end slot b xs i s l all le inv =
+    let front : xs ≡ take i xs = sym (take_all i xs le) in
+    let none : [] ≡ drop i xs = sym (drop_of_length-le xs le) in
+    sym (followed_none xs) ∙ ((λ j. followed (front j) (listed_one slot b (nodes_view (none j)) s l)) ∙ inv)
 
-pub if_listed : (slot b : ℕ) (n x : CodeNode) (temp : ℕ) (v w one other : Vec CodeNode) (s : State) (l : Live) → n.kind ≡ views.If temp v w → node_view x ≡ if_ n.place temp (nodes_view one.items) (nodes_view other.items)
-    → nodes_view one.items ≡ listed_one slot b (nodes_view v.items) s l → nodes_view other.items ≡ listed_one slot b (nodes_view w.items) s l → node_view x ≡ listed_one_in slot b (node_view n) s l
-if_listed slot b n x temp v w one other s l is e f g = e ∙ ((λ i. if_ n.place temp (f i) (g i)) ∙ ap (λ y. listed_one_in slot b y s l) (sym (if_is n temp v w is)))
+-- what two rows become, and where
+pub if_listed : (slot b temp : ℕ) (n : CodeNode) (v w one other : Vec CodeNode) (s : State) (l : Live) → n.kind ≡ views.If temp v w
+    → nodes_view one.items ≡ listed_one slot b (nodes_view v.items) s l → nodes_view other.items ≡ listed_one slot b (nodes_view w.items) s l
+    → kind_view n.place (views.If temp one other) ≡ listed_one_in slot b (node_view n) s l
+if_listed slot b temp n v w one other s l is f g = if_view n.place temp one other ∙ ((λ i. if_ n.place temp (f i) (g i)) ∙ ap (λ y. listed_one_in slot b y s l) (sym (if_is n temp v w is)))
 
-pub loop_listed : (slot b : ℕ) (n x : CodeNode) (v w first second : Vec CodeNode) (s h z : State) (l p q : Live) (top end : Bool) → n.kind ≡ views.Loop v w → node_view x ≡ loop n.place (nodes_view first.items) (nodes_view second.items)
+pub loop_listed : (slot b : ℕ) (n : CodeNode) (v w first second : Vec CodeNode) (s h z : State) (l p q : Live) (top end : Bool) → n.kind ≡ views.Loop v w
     → h ≡ head_of (flow (held b) (nodes_view v.items)) (flow (held b) (nodes_view w.items)) s → z ≡ end_state (flow (held b) (nodes_view v.items) h)
     → top ≡ head_live slot b (nodes_view v.items) (nodes_view w.items) l.on → end ≡ latch_live slot b (nodes_view v.items) (nodes_view w.items) l.on → p ≡ lives end l.on end → q ≡ lives top l.on top
-    → nodes_view first.items ≡ listed_one slot b (nodes_view v.items) h p → nodes_view second.items ≡ listed_one slot b (nodes_view w.items) z q → node_view x ≡ listed_one_in slot b (node_view n) s l
-loop_listed slot b n x v w first second s h z l p q top end is e he ze te ee pe qe f g =
+    → nodes_view first.items ≡ listed_one slot b (nodes_view v.items) h p → nodes_view second.items ≡ listed_one slot b (nodes_view w.items) z q
+    → kind_view n.place (views.Loop first second) ≡ listed_one_in slot b (node_view n) s l
+loop_listed slot b n v w first second s h z l p q top end is he ze te ee pe qe f g =
     let m = held b in
     let zz : z ≡ end_state (flow m (nodes_view v.items) (head_of (flow m (nodes_view v.items)) (flow m (nodes_view w.items)) s)) = ze ∙ ap (λ t. end_state (flow m (nodes_view v.items) t)) he in
     let pp : p ≡ body_lives slot b (nodes_view v.items) (nodes_view w.items) l.on = pe ∙ (λ i. lives (ee i) l.on (ee i)) in
     let qq : q ≡ latch_lives slot b (nodes_view v.items) (nodes_view w.items) l.on = qe ∙ (λ i. lives (te i) l.on (te i)) in
-    e ∙ ((λ i. loop n.place (f i) (g i)) ∙ ((λ i. loop n.place (listed_one slot b (nodes_view v.items) (he i) (pp i)) (listed_one slot b (nodes_view w.items) (zz i) (qq i))) ∙ ap (λ y. listed_one_in slot b y s l) (sym (loop_is n v w is))))
+    loop_view n.place first second ∙ ((λ i. loop n.place (f i) (g i)) ∙ ((λ i. loop n.place (listed_one slot b (nodes_view v.items) (he i) (pp i)) (listed_one slot b (nodes_view w.items) (zz i) (qq i))) ∙ ap (λ y. listed_one_in slot b y s l) (sym (loop_is n v w is))))
+
+-- a row in its Vec again
+pub row_within : (slot b : ℕ) (v : Vec CodeNode) (xs ys : List CodeNode) (s : State) (l : Live) → xs ≡ v.items → length ys ≡ v.len → nodes_view ys ≡ listed_one slot b (nodes_view xs) s l
+    → nodes_view (with_items v ys).items ≡ listed_one slot b (nodes_view v.items) s l
+row_within slot b v xs ys s l e k f = ap nodes_view (with_items_is v ys k) ∙ (f ∙ ap (λ r. listed_one slot b (nodes_view r) s l) e)
+
+pub temp_of_if : (place x y : ℕ) (one other : Vec CodeNode) → x ≡ y → kind_view place (views.If x one other) ≡ kind_view place (views.If y one other)
+temp_of_if place x y one other e = ap (λ t. kind_view place (views.If t one other)) e

@@ -5,10 +5,10 @@ use Rattle.std.specs.Global.{Vec}
 use Rattle.struct_ir.specs.declared.code.Node.{Node as CodeNode}
 use Rattle.struct_ir.specs.declared.code.NodeKind.TheViews as views
 use Rattle.struct_ir.specs.declared.code.NodeKind.{NodeKind}
-use Rattle.struct_ir.specs.Nodes.{Node, plain, if_, loop, break_, next_, ret}
+use Rattle.struct_ir.specs.Nodes.{Node, Nodes, plain, if_, loop, break_, next_, ret}
 use Rattle.struct_ir.specs.Views.{kind_view, node_view, nodes_view}
 use Rattle.struct_ir.proofs.Views.{if_is, loop_is}
-use Rattle.pin_flow.specs.Live.{Live, lives, live, live_node, uses}
+use Rattle.pin_flow.specs.Live.{Live, lives, live, live_node, head_live, latch_live, uses}
 use Rattle.pin_flow.specs.Views.{act_is, looks_slot}
 
 pub live_start : (slot b : ℕ) (l : Live) → l.on ≡ live slot b (nodes_view []) l
@@ -31,6 +31,16 @@ unfolding live
 live_loop slot b n v w l m k x y is e g h f =
     let end : x ≡ live slot b (nodes_view w.items) (lives false l.on false) = g ∙ ap (live slot b (nodes_view w.items)) e in
     f ∙ (ap (live slot b (nodes_view v.items)) (h ∙ (λ i. lives (end i) l.on (end i))) ∙ ap (λ z. live_node slot b z l) (sym (loop_is n v w is)))
+
+-- at a loop, by the start of each round
+pub live_head : (slot b : ℕ) (n : CodeNode) (v w : Vec CodeNode) (l : Live) (top : Bool) → n.kind ≡ views.Loop v w → top ≡ head_live slot b (nodes_view v.items) (nodes_view w.items) l.on → top ≡ live_node slot b (node_view n) l
+unfolding live head_live
+live_head slot b n v w l top is e = e ∙ ap (λ z. live_node slot b z l) (sym (loop_is n v w is))
+
+-- at the end of a body, by the start of each round
+pub latch_from : (slot b : ℕ) (body latch : Nodes) (on top end : Bool) (m : Live) → top ≡ head_live slot b body latch on → m ≡ lives top on top → end ≡ live slot b latch m → end ≡ latch_live slot b body latch on
+unfolding latch_live
+latch_from slot b body latch on top end m te me e = e ∙ (ap (live slot b latch) me ∙ (λ i. live slot b latch (lives (te i) on (te i))))
 
 abbrev pub is_act : Node → Bool
 is_act (plain p a) = true

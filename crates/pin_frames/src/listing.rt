@@ -1,21 +1,20 @@
 //! One slot more in each list that wants it.
 
-ghost use Rattle.std.specs.Prelude.{◌≡◌, ◌&&◌, IfOk};
+ghost use Rattle.std.specs.Prelude.{◌≡◌, ◌&&◌, IfOk, OnOk};
 ghost use Rattle.struct_ir.specs.Nodes.{may_wait};
-ghost use Rattle.struct_ir.specs.Views.{call_view, step_view, node_view, nodes_view};
+ghost use Rattle.struct_ir.specs.Views.{step_view, node_view, nodes_view};
 ghost use Rattle.pin_flow.specs.Views.{state_view};
 ghost use Rattle.pin_frames.specs.Views.{lives_view};
 ghost use Rattle.pin_frames.specs.inner.Place.{added, node_wants, listed_one, listed_one_in, behind, last_in};
 
-use crate::lives::{Lives, act_live, head_live, latch_live, live_node, lives_of};
+use crate::lives::{Lives, act_live, head_live, live_node, live_row, lives_of};
 use ak_words::NoMemory;
-use pin_flow::copies::{add, branches, node, rounds};
 use pin_flow::flow::{head_from, ways_of, ways_of_node};
 use pin_flow::mark::Mark;
 use pin_flow::seen::uses;
 use pin_flow::state::{State, end_of};
 use std::alloc::Global;
-use struct_ir::{CallNode, Node, NodeKind, Numbers, StepNode};
+use struct_ir::{Node, NodeKind, Numbers, StepNode};
 
 fn is_wanted(slot: u32, b: u32, n: &Node, before: State, later: bool) -> bool
     ensures { result ≡ node_wants slot b (node_view n.now) (state_view before) later }
@@ -23,27 +22,14 @@ fn is_wanted(slot: u32, b: u32, n: &Node, before: State, later: bool) -> bool
     (before != State::Bad && act_live(slot, b, n, later)) || uses(slot, b, n)
 }
 
-// The slots with one more, or as they are.
-fn with_slot(slot: u32, more: bool, slots: Vec<u32>) -> Result<Vec<u32>, NoMemory>
-    ensures { IfOk result (λ v. v.items ≡ added slot more slots.items) }
+// Puts one slot more at the end of a list, or leaves it.
+fn with_slot(slot: u32, more: bool, slots: &mut Vec<u32>) -> Result<(), NoMemory>
+    ensures { OnOk result (slots.new.items ≡ added slot more slots.old.items) }
 {
-    let mut out = slots;
     if more {
-        out.push(slot)?;
+        slots.push(slot)?;
     }
-    Ok(out)
-}
-
-fn list_call(slot: u32, more: bool, c: CallNode) -> Result<CallNode, NoMemory>
-    ensures { IfOk result (λ x. call_view x ≡ record { to = (call_view c).to; function = (call_view c).function; temps = (call_view c).temps; slots = added slot more (call_view c).slots }) }
-{
-    let slots = with_slot(slot, more, c.slots)?;
-    Ok(CallNode {
-        to: c.to,
-        function: c.function,
-        temps: c.temps,
-        slots,
-    })
+    Ok(())
 }
 
 fn both(a: bool, b: bool) -> bool
@@ -52,28 +38,20 @@ fn both(a: bool, b: bool) -> bool
     a && b
 }
 
-fn with_number(slot: u32, more: bool, slots: Numbers) -> Result<Numbers, NoMemory>
-    ensures { IfOk result (λ v. v.items ≡ added slot more slots.items) }
+fn with_number(slot: u32, more: bool, slots: &mut Numbers) -> Result<(), NoMemory>
+    ensures { OnOk result (slots.new.items ≡ added slot more slots.old.items) }
 {
-    let mut out = slots;
     if more {
-        out.push(slot)?;
+        slots.push(slot)?;
     }
-    Ok(out)
+    Ok(())
 }
 
-fn list_step(slot: u32, more: bool, s: StepNode) -> Result<StepNode, NoMemory>
-    ensures { IfOk result (λ x. step_view x ≡ record { action = (step_view s).action; places = (step_view s).places; to = (step_view s).to; temps = (step_view s).temps; slots = added slot (more && may_wait (step_view s).action) (step_view s).slots }) }
+fn list_step(slot: u32, more: bool, s: &mut StepNode) -> Result<(), NoMemory>
+    ensures { OnOk result (step_view s.new ≡ record { action = (step_view s.old).action; places = (step_view s.old).places; to = (step_view s.old).to; temps = (step_view s.old).temps; slots = added slot (more && may_wait (step_view s.old).action) (step_view s.old).slots }) }
 {
     let listed = both(more, s.action.may_wait());
-    let slots = with_number(slot, listed, s.slots)?;
-    Ok(StepNode {
-        action: s.action,
-        places: s.places,
-        to: s.to,
-        temps: s.temps,
-        slots,
-    })
+    with_number(slot, listed, &mut s.slots)
 }
 
 // Whether an access comes later behind each node of the row, the last node first.
@@ -107,7 +85,7 @@ fn last_of(lives: &[bool]) -> bool
     }
 }
 
-/// The row with the slot in each list that wants it.
+/// Puts the slot in each list of the row that wants it.
 ///
 /// # Errors
 ///
@@ -117,23 +95,22 @@ pub fn list_row(
     alloc: Global,
     slot: u32,
     b: u32,
-    rows: Vec<Node>,
+    rows: &mut [Node],
     before: State,
     after: Lives,
-) -> Result<Vec<Node>, NoMemory>
-    ensures { IfOk result (λ v. nodes_view v.items ≡ listed_one slot b (nodes_view rows.items) (state_view before) (lives_view after)) }
+) -> Result<(), NoMemory>
+    ensures { OnOk result (nodes_view rows.new ≡ listed_one slot b (nodes_view rows.old) (state_view before) (lives_view after)) }
 {
-    let mut lives = lives_behind(alloc, slot, b, &rows, after)?;
-    let mut out = Vec::with_capacity(alloc, rows.len())?;
+    let mut lives = lives_behind(alloc, slot, b, rows, after)?;
     let mut here = before;
-    for n in rows {
+    for n in rows.iter_mut() {
         lives.pop();
         let later = lives_of(last_of(&lives), after.out, after.end);
-        let ways = ways_of_node(Mark::Held(b), &n, here);
-        add(&mut out, list_node(alloc, slot, b, n, here, later)?)?;
+        let ways = ways_of_node(Mark::Held(b), n, here);
+        list_node(alloc, slot, b, n, here, later)?;
         here = ways.on;
     }
-    Ok(out)
+    Ok(())
 }
 
 #[cycle(lists)]
@@ -141,41 +118,30 @@ fn list_node(
     alloc: Global,
     slot: u32,
     b: u32,
-    n: Node,
+    n: &mut Node,
     before: State,
     after: Lives,
-) -> Result<Node, NoMemory>
-    ensures { IfOk result (λ x. node_view x ≡ listed_one_in slot b (node_view n) (state_view before) (lives_view after)) }
+) -> Result<(), NoMemory>
+    ensures { OnOk result (node_view n.new ≡ listed_one_in slot b (node_view n.old) (state_view before) (lives_view after)) }
 {
-    let more = is_wanted(slot, b, &n, before, after.on);
-    let Node { place, kind } = n;
-    match kind {
-        NodeKind::If(temp, one, other) => {
-            let yes = list_row(alloc, slot, b, one, before, after)?;
-            let no = list_row(alloc, slot, b, other, before, after)?;
-            Ok(branches(place, temp, yes, no))
+    let more = is_wanted(slot, b, n, before, after.on);
+    match &mut n.kind {
+        NodeKind::If(_, one, other) => {
+            list_row(alloc, slot, b, one, before, after)?;
+            list_row(alloc, slot, b, other, before, after)
         }
         NodeKind::Loop(body, step) => {
-            let head = head_from(Mark::Held(b), &body, &step, before);
-            let turned = end_of(ways_of(Mark::Held(b), &body, head));
-            let top = head_live(slot, b, &body, &step, after.on);
-            let end = latch_live(slot, b, &body, &step, after.on);
-            let first = list_row(alloc, slot, b, body, head, lives_of(end, after.on, end))?;
-            let second = list_row(alloc, slot, b, step, turned, lives_of(top, after.on, top))?;
-            Ok(rounds(place, first, second))
+            let head = head_from(Mark::Held(b), body, step, before);
+            let turned = end_of(ways_of(Mark::Held(b), body, head));
+            let top = head_live(slot, b, body, step, after.on);
+            let latch = lives_of(top, after.on, top);
+            let end = live_row(slot, b, step, latch);
+            list_row(alloc, slot, b, body, head, lives_of(end, after.on, end))?;
+            list_row(alloc, slot, b, step, turned, latch)
         }
-        NodeKind::Call(c) => {
-            let call = list_call(slot, more, c)?;
-            Ok(node(place, NodeKind::Call(call)))
-        }
-        NodeKind::Step(s) => {
-            let step = list_step(slot, more, s)?;
-            Ok(node(place, NodeKind::Step(step)))
-        }
-        NodeKind::Safepoint(slots) => {
-            let list = with_slot(slot, more, slots)?;
-            Ok(node(place, NodeKind::Safepoint(list)))
-        }
-        leaf => Ok(node(place, leaf)),
+        NodeKind::Call(c) => with_slot(slot, more, &mut c.slots),
+        NodeKind::Step(s) => list_step(slot, more, s),
+        NodeKind::Safepoint(slots) => with_slot(slot, more, slots),
+        _ => Ok(()),
     }
 }

@@ -2,7 +2,7 @@
 
 ghost use Rattle.std.specs.Prelude.{◌≡◌, ◌||◌, ◌&&◌, not};
 ghost use Rattle.struct_ir.specs.Views.{node_view, nodes_view};
-ghost use Rattle.pin_flow.specs.Live.{live, live_node, head_live, latch_live, lives};
+ghost use Rattle.pin_flow.specs.Live.{live, live_node, head_live, lives};
 ghost use Rattle.pin_flow.specs.Live as lively;
 ghost use Rattle.pin_flow.specs.Views.{act_is, looks_slot};
 ghost use Rattle.pin_frames.specs.Views.{lives_view};
@@ -90,13 +90,4 @@ pub fn head_live(slot: u32, b: u32, body: &[Node], step: &[Node], on: bool) -> b
 {
     let end = live_row(slot, b, step, lives_of(false, on, false));
     live_row(slot, b, body, lives_of(end, on, end))
-}
-
-/// At the end of each body of a loop, whose rounds start so.
-#[tactic(auto, unfolding(pin_flow::specs::Live::latch_live))]
-pub fn latch_live(slot: u32, b: u32, body: &[Node], step: &[Node], on: bool) -> bool
-    ensures { result ≡ latch_live slot b (nodes_view body.now) (nodes_view step.now) on }
-{
-    let head = head_live(slot, b, body, step, on);
-    live_row(slot, b, step, lives_of(head, on, head))
 }

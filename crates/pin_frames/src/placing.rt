@@ -16,7 +16,7 @@ ghost use Rattle.pin_frames.specs.inner.Place.{seated, cleared, listed_one, list
 use crate::listing::list_row;
 use crate::lives::lives_of;
 use crate::seating::seat_row;
-use crate::unlisted::is_unlisted;
+use crate::unlisted::free_row;
 use ak_words::NoMemory;
 use pin_flow::programs::copy_ir;
 use pin_flow::slots::{bases_of, slot_of};
@@ -125,9 +125,11 @@ fn list_one(alloc: Global, slot: u32, b: u32, code: Vec<Node>) -> Result<Vec<Nod
     ensures { IfOk result (λ v. nodes_view v.items ≡ listed_one slot b (nodes_view code.items) bad (lives false false false)) }
 {
     let nothing = lives_of(false, false, false);
-    if is_unlisted(slot, b, &code, nothing) {
+    if free_row(slot, b, &code, nothing).is_some() {
         Ok(code)
     } else {
-        list_row(alloc, slot, b, code, State::Bad, nothing)
+        let mut code = code;
+        list_row(alloc, slot, b, &mut code, State::Bad, nothing)?;
+        Ok(code)
     }
 }

@@ -84,12 +84,12 @@ fn around_calls(rt: HostRuntime) -> Result<(), Fail> {
     let alloc = rt.alloc();
     let look = at(NodeKind::Look(0, 1));
     let nodes = vec![in alloc; look, call(alloc), read(alloc)?, call(alloc)]?;
-    let seated = seat_row(alloc, nodes)?;
-    let listed = list_row(
+    let mut listed = seat_row(alloc, nodes)?;
+    list_row(
         alloc,
         0,
         1,
-        seated,
+        &mut listed,
         State::Bad,
         lives_of(false, false, false),
     )?;

@@ -55,9 +55,10 @@ fn shown(alloc: Global, nodes: Vec<Node>) -> Result<Vec<u8>, NoMemory> {
 fn out_of_a_loop(rt: HostRuntime) -> Result<(), Fail> {
     let alloc = rt.alloc();
     let body = vec![in alloc; at(NodeKind::Look(0, 1)), at(NodeKind::Set(2, Calc::Null))]?;
-    let nodes = vec![in alloc; at(NodeKind::Loop(body, Vec::new(alloc)))]?;
-    let lifted = lift_row(alloc, 0, 1, nodes)?;
-    let hoisted = drop_row(alloc, 1, copy_row(alloc, &lifted)?, State::Bad)?;
+    let mut lifted = vec![in alloc; at(NodeKind::Loop(body, Vec::new(alloc)))]?;
+    lift_row(alloc, 0, 1, &mut lifted)?;
+    let mut hoisted = copy_row(alloc, &lifted)?;
+    drop_row(alloc, 1, &mut hoisted, State::Bad)?;
     assert_eq!(rt;
         shown(alloc, lifted)?.as_slice(),
         "function 0: 0 parameters, 3 registers, 1 slots, 0 objects\nlook s0 t1\nloop\n+ look s0 t1\n+ t2 = null\n".as_bytes()

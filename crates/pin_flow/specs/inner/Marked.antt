@@ -1,5 +1,5 @@
 -- Registers that are marked, by their numbers.
-use Rattle.std.specs.Prelude.{◌≡◌, ◌<◌, ℕ, length, List, [], ◌∷◌, zero, suc, Bool, true, false, ◌||◌}
+use Rattle.std.specs.Prelude.{◌≡◌, ◌<◌, ℕ, length, List, [], ◌∷◌, zero, suc, Bool, false, ◌||◌}
 
 -- the register is marked
 abbrev pub is_marked : List Bool → (b : ℕ) → Bool

@@ -1,7 +1,24 @@
-use Rattle.std.proofs.Common.{ap, ◌∙◌}
+use Rattle.std.proofs.Common.{map, ap, ◌++◌, ◌∙◌, arith}
+use Rattle.struct_ir.specs.LinearViews.{linear_func_view}
 use Rattle.struct_ir.specs.Views.{func_view}
-use Rattle.emit_code.proofs.Program.{is_placed, placed_at}
+use Rattle.emit_code.specs.inner.Layout.{func_linear}
+use Rattle.emit_code.proofs.Program.{placed_first, placed_rest, linear_step, linear_end}
 use Rattle.emit_code.proofs.emitting.emit_funcs.Goals as goal
 
 pub emit_func-requires : goal.emit_func-requires
-emit_func-requires c = ap (λ f. is_placed (func_view f)) c.f-item.is ∙ placed_at c.args.funcs.now c.loop-f.f-index c.f-item.result c.loop-f-test.true c.requires
+emit_func-requires c = placed_first c.loop-f.f-iterator.rest.items c.in-Some.f c.next.new.self.rest.items c.in-Some.ensures.steps.0 c.loop-f.invariant.placed
+
+pub loop-f-preserved : goal.loop-f-preserved
+loop-f-preserved c =
+    let rest = c.next.new.self.rest.items in
+    record {
+      made = ap (λ l. map linear_func_view l ++ map func_linear (map func_view rest)) c.in_ok-push.ensures.items
+          ∙ linear_step c.loop-f.out.items c.in-Some.f c.in_ok-emit_func.field-0 c.loop-f.f-iterator.rest.items rest _ c.in-Some.ensures.steps.0 c.in_ok-emit_func.ensures c.loop-f.invariant.made;
+      placed = placed_rest c.loop-f.f-iterator.rest.items c.in-Some.f rest c.in-Some.ensures.steps.0 c.loop-f.invariant.placed;
+    }
+
+pub returns : goal.returns
+returns c =
+    let h = c.in-None.ensures.steps.0 in
+    let k = c.loop-f.f-iterator.rest.ok.0 in
+    linear_end c.loop-f.out.items c.loop-f.f-iterator.rest.items _ (omega (arith, h, k)) c.loop-f.invariant.made

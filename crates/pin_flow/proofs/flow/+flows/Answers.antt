@@ -1,17 +1,36 @@
 use Rattle.std.proofs.Common.{◌≡◌, true, refl, sym, ap, ◌∙◌, inl, inr}
 use Rattle.struct_ir.specs.Views.{node_view, nodes_view}
-use Rattle.pin_flow.specs.Marks.{flow, head_of, round_of}
+use Rattle.pin_flow.specs.Marks.{flow, round_of}
 use Rattle.pin_flow.specs.Views.{mark_view, state_view, ways_view}
-use Rattle.pin_flow.proofs.FlowRows.{row_on, row_over, either_is, round_is, head_is, loop_from, loop_once, is_leaf, leaf_of, leaf_is}
+use Rattle.pin_flow.proofs.FlowRows.{row_on, row_over, either_is, round_is, head_is, loop_from, loop_once, is_leaf, leaf_of, leaf_is, plain_of, is_plain, act_behind}
 use Rattle.pin_flow.proofs.flow.+flows.Goals as goal
 
 pub ways_of-loop-n-preserved : goal.ways_of-loop-n-preserved
 ways_of-loop-n-preserved t c =
-    row_on (mark_view c.args.mark) c.args.rows.now c.loop-n.n-index c.n-item.result (ways_view c.loop-n.ahead) (ways_view c.one_behind-ahead.result) (ways_view c.ways_of_node.result) _
-    c.loop-n-test.true c.n-item.is c.loop-n.invariant c.ways_of_node.ensures c.one_behind-ahead.ensures
+    row_on (mark_view c.args.mark) c.args.rows.now c.loop-n.n-index c.n-item.result (ways_view c.loop-n.ahead) (ways_view c.behind-ahead.result) _ _
+    c.loop-n-test.true c.n-item.is c.loop-n.invariant refl c.behind-ahead.ensures
 
 pub ways_of-returns : goal.ways_of-returns
 ways_of-returns t c = row_over (mark_view c.args.mark) c.args.rows.now c.loop-n.n-index (ways_view c.loop-n.ahead) _ c.loop-n-test.false c.loop-n.invariant
+
+pub behind-returns-in-Set : goal.behind-returns-in-Set
+behind-returns-in-Set t c =
+    let l : is_plain (node_view c.args.n.now) ≡ true = elim c.in-Set.is [
+      | inl (x, y, e) ↦ plain_of c.args.n.now _ e refl
+      | inr (inl (x, e)) ↦ plain_of c.args.n.now _ e refl
+      | inr (inr (inl (x, e))) ↦ plain_of c.args.n.now _ e refl
+      | inr (inr (inr (x, y, e))) ↦ plain_of c.args.n.now _ e refl
+    ] in
+    act_behind (mark_view c.args.mark) c.args.n.now (ways_view c.args.ahead) (ways_view c.on_to-in-Set.result) (state_view c.state-in-Set.result) l c.state-in-Set.ensures c.on_to-in-Set.ensures
+
+pub behind-returns-in-Safepoint : goal.behind-returns-in-Safepoint
+behind-returns-in-Safepoint t c =
+    let l : is_plain (node_view c.args.n.now) ≡ true = elim c.in-Safepoint.is [
+      | inl (x, e) ↦ plain_of c.args.n.now _ e refl
+      | inr (inl (x, e)) ↦ plain_of c.args.n.now _ e refl
+      | inr (inr (x, e)) ↦ plain_of c.args.n.now _ e refl
+    ] in
+    act_behind (mark_view c.args.mark) c.args.n.now (ways_view c.args.ahead) (ways_view c.on_to.result) (state_view c.state.result) l c.state.ensures c.on_to.ensures
 
 pub ways_of_node-returns-in-If : goal.ways_of_node-returns-in-If
 ways_of_node-returns-in-If t c =
