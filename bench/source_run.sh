@@ -1,13 +1,45 @@
 #!/usr/bin/env bash
-# How fast the interpreter of the source runs: a loop of so many rounds, with a load and a store each, by thread 0 alone.
-# Use: bench/source_run.sh [ROUNDS]     1000000 if left out: at most 3 seconds
-# It measures crates/source_bench/out/source_bench as `rt ci` left it in this checkout; where there is none, it proves and builds it first. The printed seconds are those of the run alone, without reading the text.
+# How fast the interpreter of the source runs, by thread 0 alone: a loop of 1,000,000 rounds, with a load and a store each (at most 3 seconds); and
+# the time of a turn where the program has many functions or a long row of statements, where many calls wait, and where many blocks were made.
+# Use: bench/source_run.sh      prints turns, seconds and nanoseconds a turn. The seconds are those of the run alone, without the reading.
+# It measures crates/source_bench/out/source_bench as `rt ci` left it in this checkout; where there is none, it proves and builds it first.
+# Each run has a native stack of 1 MiB.
 set -eu
 cd "$(dirname "$0")/../crates/source_bench"
 [ -x out/source_bench ] || rt run >/dev/null 2>&1 || { echo "source_bench was not proved or not built" >&2; exit 1; }
+program=$PWD/out/source_bench
 work=$(mktemp -d)
 trap 'rm -rf "$work"' EXIT
-rounds=${1:-1000000}
-out/source_bench "$rounds" >"$work/out" 2>"$work/micros"
-grep -qx 'main ended: true, it counted so many: true' "$work/out" || { echo "the run didn't end as it should" >&2; cat "$work/out" >&2; exit 1; }
-awk -v n="$rounds" '{ printf "%d rounds: %.3f s, %.0f rounds a second\n", n, $1 / 1e6, n / $1 * 1e6 }' "$work/micros"
+ulimit -s 1024
+
+measure() { # name, with the text in $work/text.c
+  (cd "$work" && "$program" text.c >out 2>micros) || { echo "$1: it didn't run" >&2; exit 1; }
+  grep -q '^main ended: true' "$work/out" || { echo "$1: it didn't end as it should" >&2; cat "$work/out" >&2; exit 1; }
+  tail -n 1 "$work/micros" | awk -v name="$1" '{ printf "%-22s %9d %9.3f %9.0f\n", name, $1, $2 / 1e6, $2 * 1e3 / $1 }'
+}
+
+# A loop of so many rounds.
+rounds() { echo "*p=0;for(int i=0;i<$1;i++)*p=*p+1;"; }
+
+printf '%-22s %9s %9s %9s\n' text turns seconds ns/turn
+echo "int main(void){int *p=malloc(4);$(rounds 1000000)return 0;}" >"$work/text.c"
+measure "1000000 rounds"
+for n in 100 1000 8000; do
+  { awk -v n="$n" 'BEGIN { for (i = 0; i < n; i++) printf "int f%d(int n){return n;}\n", i }'
+    echo "int main(void){int *p=malloc(4);$(rounds 100000)return 0;}"; } >"$work/text.c"
+  measure "$n functions"
+done
+for n in 100 1000 10000 60000; do
+  { echo 'int main(void){int *p=malloc(4);*p=0;'
+    awk -v n="$n" 'BEGIN { for (i = 0; i < n; i++) print "*p=*p+1;" }'
+    echo 'return 0;}'; } >"$work/text.c"
+  measure "$n statements"
+done
+for n in 100 1000 10000 100000; do
+  echo "int go(int n){if(n>0)return go(n-1);int *p=malloc(4);$(rounds 100000)return 0;}int main(void){return go($n);}" >"$work/text.c"
+  measure "$n calls deep"
+done
+for n in 100 1000 10000 100000; do
+  echo "int main(void){int *p;for(int i=0;i<$n;i++)p=malloc(4);$(rounds 100000)return 0;}" >"$work/text.c"
+  measure "$n blocks"
+done

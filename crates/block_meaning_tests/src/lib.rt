@@ -3,5 +3,6 @@
 //! Stands on c_reader, which reads the texts, and on block_meaning.
 #![tactic(auto)]
 
+pub mod order_runs;
 #[cfg(test)]
 mod tests;

@@ -84,6 +84,11 @@ pub head_is : (f g : State → Ways) (s h : State) (o : Ways) → o ≡ round_of
 unfolding head_of
 head_is f g s h o a e = e ∙ ap (λ (p : Ways). join s p.on) a
 
+-- nothing in a loop makes good what is bad before it
+pub bad_head : (f g : State → Ways) (s : State) → s ≡ bad → bad ≡ head_of f g s
+unfolding head_of
+bad_head f g s e = sym (ap (head_of f g) e)
+
 -- a loop whose rounds start so, by such a round
 pub loop_from : (m : Mark) (n : CodeNode) (v w : Vec CodeNode) (s h : State) (p c : Ways) → n.kind ≡ views.Loop v w → h ≡ head_of (flow m (nodes_view v.items)) (flow m (nodes_view w.items)) s
     → p ≡ round_of (flow m (nodes_view v.items)) (flow m (nodes_view w.items)) h → c ≡ at p.broken → c ≡ flow_node m (node_view n) s

@@ -94,6 +94,11 @@ pub fn ways_of_node(mark: Mark, n: &Node, before: State) -> Ways
 pub fn head_from(mark: Mark, body: &[Node], step: &[Node], before: State) -> State
     ensures { state_view result ≡ head_of (flow (mark_view mark) (nodes_view body.now)) (flow (mark_view mark) (nodes_view step.now)) (state_view before) }
 {
-    let one = ways_of(mark, body, before);
-    joined(before, around(one, ways_of(mark, step, end_of(one))).on)
+    match before {
+        State::Bad => State::Bad,
+        _ => {
+            let one = ways_of(mark, body, before);
+            joined(before, around(one, ways_of(mark, step, end_of(one))).on)
+        }
+    }
 }

@@ -1,13 +1,14 @@
-//! Measures the interpreter of the source: a loop of so many rounds, with a load and a store each, run by thread 0 alone.
-//! Promises nothing upward: it is a program. What it prints on standard output is the same at each run, and the time goes to standard error.
-//! Stands on c_reader, which reads the text of the loop, and on block_meaning.
+//! Measures the interpreter of the source: thread 0 of a C text, run alone as far as it comes.
+//! Promises nothing upward: it is a program. What it prints on standard output is the same at each run of one text, and the time goes to standard error.
+//! Stands on c_reader, which reads the text, on block_meaning, and on ak_io for the file.
 #![tactic(auto)]
 
+use ak_io::{FileShelf, ReadEnd, Shelf};
 use ak_words::NoMemory;
 use block_meaning::{Answer, SourceRun, Turned};
 use c_lex::CompileFault;
 use c_reader::{Reading, read};
-use std::alloc::{Alloc, Global};
+use std::alloc::Global;
 use std::env::Env;
 use std::time::Instant;
 use std::{env, io};
@@ -15,11 +16,20 @@ use std::{env, io};
 // The most bytes that a text may have.
 const MOST_BYTES: usize = 1_048_576;
 
-// The text of a loop of so many rounds.
-fn text_of(alloc: Global, rounds: u32) -> io::Result<String> {
-    Ok(format!(in alloc;
-        "int main(void){{int *p=malloc(4);*p=0;for(int i=0;i<{rounds};i++)*p=*p+1;printf(\"%d\\n\",*p);free(p);return 0;}}"
-    )?)
+// The text where the command line names no file: a loop with a load and a store in each round.
+const SMALL_TEXT: &[u8] =
+    b"int main(void){int *p=malloc(4);*p=0;for(int i=0;i<1000;i++)*p=*p+1;printf(\"%d\\n\",*p);free(p);return 0;}\n";
+
+// The bytes of a file.
+fn load(rt: &HostRuntime, name: &str) -> io::Result<Vec<u8>> {
+    let mut text = vec![in rt.alloc(); 0u8; MOST_BYTES]?;
+    match FileShelf::new(rt).read(name, &mut text) {
+        Ok(ReadEnd::Whole(count)) => {
+            text.truncate(count);
+            Ok(text)
+        }
+        _ => Err(io::Error::from(io::ErrorKind::InvalidData)),
+    }
 }
 
 // A run of this text that is about to begin.
@@ -66,27 +76,22 @@ fn all_turns(run: &mut SourceRun) -> u64 {
     u64::MAX
 }
 
-// The first argument as a number of rounds; 1,000 where there is none.
-fn rounds_of<R: Env + Alloc>(rt: &R) -> io::Result<u32> {
-    let word = env::args(rt)?.nth(1);
-    Ok(word.and_then(|word| word.parse().ok()).unwrap_or(1000))
-}
-
 fn main(rt: HostRuntime) -> io::Result<()> {
-    let rounds = rounds_of(&rt)?;
-    let text = text_of(rt.alloc(), rounds)?;
-    let Ok(mut run) = run_of(rt.alloc(), text.as_bytes()) else {
-        return Err(io::Error::from(io::ErrorKind::OutOfMemory));
+    let text = match env::args(&rt)?.nth(1) {
+        Some(name) => load(&rt, &name)?,
+        None => SMALL_TEXT.to_vec(rt.alloc())?,
+    };
+    let Ok(mut run) = run_of(rt.alloc(), &text) else {
+        return Err(io::Error::from(io::ErrorKind::InvalidData));
     };
     let start = Instant::now(&rt)?;
     let turns = all_turns(&mut run);
     let micros = start.elapsed(&rt)?.as_micros();
-    let counted = format!(in rt.alloc(); "{rounds}\n")?;
-    println!(rt; "{rounds} rounds, {turns} turns, {} blocks", run.made())?;
+    println!(rt; "{turns} turns, {} blocks", run.made())?;
     println!(rt;
-        "main ended: {}, it counted so many: {}",
-        run.ended(0).is_some(),
-        run.output() == counted.as_bytes()
+        "main ended: {}, with {} bytes of output",
+        run.ended(0) == Some(0),
+        run.output().len()
     )?;
-    eprintln!(rt; "{micros}")
+    eprintln!(rt; "{turns} {micros}")
 }

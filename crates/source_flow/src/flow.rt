@@ -1,12 +1,16 @@
 //! How far an expression gets in a turn.
 
-ghost use Rattle.std.specs.Prelude.{◌≡◌, IfOk, map};
+ghost use Rattle.std.specs.Prelude.{◌≡◌, IfOk, IfSome, map};
+ghost use Rattle.block_store.specs.Blocks.{Blocks};
 ghost use Rattle.c_tree.specs.TypedViews.{type_view, layout_view};
+ghost use Rattle.c_meaning.specs.Control as control;
 ghost use Rattle.c_meaning.specs.Turns.{pointer_in};
 ghost use Rattle.c_meaning.specs.Values as values;
 ghost use Rattle.c_meaning.specs.Values.{truth_of, int_result};
+ghost use Rattle.source_tree.specs.declared.tree.SharedProgram.{SharedProgram};
 ghost use Rattle.source_tree.specs.SharedViews.{expr_of, args_of};
 ghost use Rattle.source_values.specs.Operations.{unary_of, binary_of};
+ghost use Rattle.source_control.specs.declared.control.Flow.TheVariants as flows;
 ghost use Rattle.source_control.specs.Variables.{variable_of};
 ghost use Rattle.source_control.specs.Views.{use_of, wait_of, values_of, callee_of};
 ghost use Rattle.source_flow.specs.Flow.{Flows, FlowsPlace, FlowsRead, FlowsSecond, FlowsOnly, FlowsTest, FlowsCall, FlowsVariable, FindsVariable, Reads, done_with, binary_for, unary_for, block_pointer};
@@ -128,6 +132,30 @@ pub fn second_test(store: &Store, place: u32, v: Value) -> Flow
     }
 }
 
+// The value that a local holds, if it has no block.
+fn held(variable: Variable) -> Option<Value>
+    ensures { IfSome result (λ v. variable_of variable ≡ control.holds v) }
+{
+    match variable {
+        Variable::Holds(v) => Some(v),
+        _ => None,
+    }
+}
+
+// The value of an expression that is there without any step: of a number, a null pointer or a local without a block.
+// It needs no name of what follows.
+#[tactic(auto, using(crate::proofs::Forms::run_forms))]
+fn at_once(e: &SharedExpr, locals: &Locals) -> Option<Value>
+    ensures { IfSome result (λ v. (p : SharedProgram) (blocks : Blocks) (k : control.Use) → Flows p locals.now.now blocks (expr_of e.now) k (flows.Gives v)) }
+{
+    match &e.node {
+        SharedNode::Num(n) => Some(Value::Num(Num::wrapping(n.ty, n.value))),
+        SharedNode::Null => Some(Value::Pointer(Ptr::Null)),
+        SharedNode::Local(number) => held(locals.get(*number)),
+        _ => None,
+    }
+}
+
 /// An expression.
 #[cycle(eval)]
 #[tactic(auto, using(crate::proofs::Forms::run_forms))]
@@ -152,8 +180,7 @@ pub fn expr(
         }
         SharedNode::Two(form, a, b) => {
             let op = binary(*form, &a.ty, &program.structs)?;
-            let after = after_first(alloc, e.place, op, b, k)?;
-            match expr(a, alloc, program, locals, store, &after)? {
+            match first(a, b, alloc, program, locals, store, e.place, op, k)? {
                 Flow::Ends(q) => Ok(Flow::Ends(q)),
                 Flow::Gives(v) => {
                     let flow = second(b, alloc, program, locals, store, e.place, op, v, k)?;
@@ -290,6 +317,31 @@ fn under(
     }
 }
 
+// The left operand of an operation.
+#[cycle(eval)]
+fn first(
+    a: &SharedExpr,
+    b: &Rc<SharedExpr>,
+    alloc: Global,
+    program: &SharedProgram,
+    locals: &Locals,
+    store: &Store,
+    place: u32,
+    op: Binary,
+    k: &Rc<Use>,
+) -> Result<Flow, NoMemory>
+    ensures { IfOk result (λ g. Flows program.now locals.now.now store.now (expr_of a.now) (control.first_of place (binary_of op) (expr_of b.now.value) (use_of k.now.value)) g) }
+{
+    match at_once(a, locals) {
+        Some(v) => Ok(Flow::Gives(v)),
+        None => {
+            let after = after_first(alloc, place, op, b, k)?;
+            let flow = expr(a, alloc, program, locals, store, &after)?;
+            Ok(flow)
+        }
+    }
+}
+
 /// The right operand of an operation whose left one is there.
 #[cycle(eval)]
 pub fn second(
@@ -305,6 +357,9 @@ pub fn second(
 ) -> Result<Flow, NoMemory>
     ensures { IfOk result (λ g. FlowsSecond program.now locals.now.now store.now place (binary_of op) left (expr_of b.now) (use_of k.now.value) g) }
 {
+    if let Some(v) = at_once(b, locals) {
+        return Ok(done(of_two(store, op, left, v)?, place));
+    }
     let after = after_second(alloc, place, op, left, k)?;
     match expr(b, alloc, program, locals, store, &after)? {
         Flow::Ends(q) => Ok(Flow::Ends(q)),

@@ -29,6 +29,13 @@ use Rattle.source_walk.proofs.Names.{name_todo, name_use}
 
 -- ---- what is left to do
 
+-- nothing of it where the turn has ended
+pub finish_ended : (p : SharedProgram) (function : ℕ) (k : control.Todo) (locals : List control.Variable) (blocks : Blocks) (e : Exit) (q : Pending)
+    → e ≡ exits.Ends q → Finishes p function k e locals blocks locals blocks q
+finish_ended p function k locals blocks e q is_over = record {
+  goes = λ r x. ap (λ (g : Exit). exit (here_at p function r) (way_of (here_at p function r) k) (now_in locals blocks x) g) is_over;
+}
+
 -- the end of a function's body
 pub finish_leaves : (p : SharedProgram) (function : ℕ) (k : control.Todo) (locals : List control.Variable) (blocks : Blocks) (e : Exit) (q : Pending)
     → k ≡ control.leaves → ((h : Here) (x : Now) → exit h (leave_way h) x e ≡ ends h q x)

@@ -71,8 +71,33 @@ fn after_stmt(
     }
 }
 
-/// What is left to do behind a statement that was left so.
+/// What is left to do behind a statement that was left so: none of it where the turn has ended.
+#[cycle(work)]
 pub fn finish(
+    k: &Todo,
+    left: Exit,
+    alloc: Global,
+    program: &SharedProgram,
+    function: u32,
+    locals: &mut Locals,
+    store: &mut KeptStore,
+) -> Result<Pending, NoMemory>
+    ensures comes { IfOk result (λ q. Finishes program.now function (todo_of k.now) left locals.old.now store.old.now locals.new.now store.new.now q) }
+    ensures locals { OnOk result (locals.new.kept ≡ locals.old.kept) }
+    ensures store { OnOk result (store.new.kept ≡ store.old.kept) }
+{
+    match left {
+        Exit::Ends(q) => Ok(q),
+        _ => {
+            let q = work_off(k, left, alloc, program, function, locals, store)?;
+            Ok(q)
+        }
+    }
+}
+
+// The same, part by part.
+#[cycle(work)]
+fn work_off(
     k: &Todo,
     left: Exit,
     alloc: Global,

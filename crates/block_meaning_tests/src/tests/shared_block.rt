@@ -1,6 +1,7 @@
 //! A thread frees the block that main shares with it.
 
 use super::running::{run_of, step};
+use crate::order_runs::{OrderEnd, Pick, take_turns};
 use ak_words::Rule;
 use block_meaning::{Answer, Turned};
 use std::test::Fail;
@@ -67,5 +68,43 @@ fn freed_after_its_last_use(rt: HostRuntime) -> Result<(), Fail> {
     );
     assert_eq!(rt; run.made(), 3);
     assert_eq!(rt; run.runs(0), false);
+    Ok(())
+}
+
+// Turns of main that take no answer of their own, and those of malloc and start; turns of the other thread.
+const MAIN: Pick = Pick {
+    thread: 0,
+    answer: Answer::Plain,
+};
+
+const GOT: Pick = Pick {
+    thread: 0,
+    answer: Answer::Got,
+};
+
+const OTHER: Pick = Pick {
+    thread: 1,
+    answer: Answer::Plain,
+};
+
+const FREED_BEFORE: [Pick; 9] = [GOT, MAIN, MAIN, MAIN, GOT, MAIN, OTHER, OTHER, MAIN];
+
+const FREED_AFTER: [Pick; 14] = [
+    GOT, MAIN, MAIN, MAIN, GOT, MAIN, MAIN, MAIN, OTHER, OTHER, OTHER, MAIN, MAIN, MAIN,
+];
+
+const NOT_STARTED: [Pick; 2] = [GOT, OTHER];
+
+#[test]
+fn whole_orders(rt: HostRuntime) -> Result<(), Fail> {
+    for (order, end) in [
+        (FREED_BEFORE.as_slice(), OrderEnd::Broke(Rule::C5, 8)),
+        (FREED_AFTER.as_slice(), OrderEnd::Reached),
+        (NOT_STARTED.as_slice(), OrderEnd::NoRun(1)),
+        (&[MAIN], OrderEnd::NoRun(0)),
+    ] {
+        let mut run = run_of(rt.alloc(), TEXT)?;
+        assert_eq!(rt; take_turns(&mut run, order)?, end);
+    }
     Ok(())
 }
