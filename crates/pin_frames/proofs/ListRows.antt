@@ -6,10 +6,10 @@ use Rattle.std.specs.Global.{Vec}
 use Rattle.std.specs.Vec.{with_items}
 use Rattle.struct_ir.specs.declared.code.Node.{Node as CodeNode}
 use Rattle.struct_ir.specs.declared.code.NodeKind.TheViews as views
-use Rattle.struct_ir.specs.Nodes.{if_, loop, Nodes, no_nodes, more_nodes}
+use Rattle.struct_ir.specs.Nodes.{Node, if_, loop, Nodes, no_nodes, more_nodes}
 use Rattle.struct_ir.specs.Views.{kind_view, node_view, nodes_view, followed}
 use Rattle.struct_ir.proofs.Views.{if_is, if_view, loop_is, loop_view, followed_none, put_view}
-use Rattle.pin_flow.specs.Marks.{State, Ways, end_state, head_of, flow, flow_node}
+use Rattle.pin_flow.specs.Marks.{State, Ways, in_turn, end_state, head_of, flow, flow_node}
 use Rattle.pin_flow.specs.Held.{held}
 use Rattle.pin_flow.specs.Live.{Live, lives, live, live_node, head_live, latch_live, body_lives, latch_lives}
 use Rattle.pin_frames.specs.inner.Place.{listed_one, listed_one_in, behind, last_in}
@@ -58,34 +58,12 @@ behind_popped slot b x rest l old new n e ne f =
     f ∙ (ap (λ m. take (m - 1) old) ne ∙ (ap (λ o. take (length o - 1) o) e ∙ take_last front on))
 
 -- one node more
-pub row_step : (slot b : ℕ) (x y : CodeNode) (rest old new : List CodeNode) (s s' : State) (l m : Live) (later : Bool) (o : Ways) (all : Nodes)
-    → followed old (listed_one slot b (nodes_view (x ∷ rest)) s l) ≡ all → o ≡ flow_node (held b) (node_view x) s → s' ≡ o.on
-    → m ≡ lives later l.out l.end → later ≡ live slot b (nodes_view rest) l → node_view y ≡ listed_one_in slot b (node_view x) s m
-    → ((tail : Nodes) → followed new tail ≡ followed old (more_nodes (node_view y) tail))
-    → followed new (listed_one slot b (nodes_view rest) s' l) ≡ all
-row_step slot b x y rest old new s s' l m later o all inv e e' me le' ye made =
-    let h = held b in
-    let left = nodes_view rest in
-    let next : s' ≡ (flow_node h (node_view x) s).on = e' ∙ ap (λ (p : Ways). p.on) e in
-    let node : node_view y ≡ listed_one_in slot b (node_view x) s (lives (live slot b left l) l.out l.end) = ye ∙ (ap (listed_one_in slot b (node_view x) s) me ∙ ap (λ z. listed_one_in slot b (node_view x) s (lives z l.out l.end)) le') in
-    ap (λ u. followed new (listed_one slot b left u l)) next
-    ∙ (made (listed_one slot b left (flow_node h (node_view x) s).on l)
-    ∙ (ap (λ z. followed old (more_nodes z (listed_one slot b left (flow_node h (node_view x) s).on l))) node ∙ inv))
-
--- one node more, in its own place
-pub row_step_at : (slot b : ℕ) (xs : List CodeNode) (i : ℕ) (d y : CodeNode) (s s' : State) (l m : Live) (later : Bool) (o : Ways) (all : Nodes)
-    → i < length xs → followed (take i xs) (listed_one slot b (nodes_view (drop i xs)) s l) ≡ all → o ≡ flow_node (held b) (node_view (get_or xs i d)) s → s' ≡ o.on
-    → m ≡ lives later l.out l.end → later ≡ live slot b (nodes_view (drop (i + 1) xs)) l → node_view y ≡ listed_one_in slot b (node_view (get_or xs i d)) s m
-    → followed (take (i + 1) (set xs i y)) (listed_one slot b (nodes_view (drop (i + 1) (set xs i y))) s' l) ≡ all
-row_step_at slot b xs i d y s s' l m later o all lt inv e e' me le' ye =
-    let x = get_or xs i d in
-    let rest = drop (i + 1) xs in
-    let at : drop i xs ≡ x ∷ rest = at_drop_more (λ z. z) xs i d lt in
-    let left : drop (i + 1) (set xs i y) ≡ rest = drop-set-lt (i + 1) xs i y (omega arith) in
-    let front : take (i + 1) (set xs i y) ≡ take i xs ++ (y ∷ []) = take_more_set xs i y lt in
-    ap (λ r. followed (take (i + 1) (set xs i y)) (listed_one slot b (nodes_view r) s' l)) left
-    ∙ row_step slot b x y rest (take i xs) (take (i + 1) (set xs i y)) s s' l m later o all (ap (λ r. followed (take i xs) (listed_one slot b (nodes_view r) s l)) (sym at) ∙ inv) e e' me le' ye
-    (λ tail. ap (λ z. followed z tail) front ∙ put_view y (take i xs) tail)
+pub listed_more : (slot b : ℕ) (x : Node) (y : CodeNode) (rest : Nodes) (a o : Ways) (l m : Live) (later : Bool) → m ≡ lives later l.out l.end → later ≡ live slot b rest l
+    → node_view y ≡ listed_one_in slot b x a.on m → o ≡ in_turn a (flow_node (held b) x a.on) → listed_one slot b (more_nodes x rest) a.on l ≡ more_nodes (node_view y) (listed_one slot b rest o.on l)
+listed_more slot b x y rest a o l m later me le ye oe =
+    let node : node_view y ≡ listed_one_in slot b x a.on (lives (live slot b rest l) l.out l.end) = ye ∙ (ap (listed_one_in slot b x a.on) me ∙ ap (λ z. listed_one_in slot b x a.on (lives z l.out l.end)) le) in
+    let on : o.on ≡ (flow_node (held b) x a.on).on = ap (λ (p : Ways). p.on) oe in
+    λ j. more_nodes (sym node j) (listed_one slot b rest (sym on j) l)
 
 pub popped_at : (slot b : ℕ) (xs : List CodeNode) (i : ℕ) (d : CodeNode) (l : Live) (old new : List Bool) (n : ℕ) → i < length xs → old ≡ behind slot b (nodes_view (drop i xs)) l → n ≡ length old
     → new ≡ take (n - 1) old → new ≡ behind slot b (nodes_view (drop (i + 1) xs)) l
@@ -98,13 +76,6 @@ pub popped_set : (slot b : ℕ) (xs : List CodeNode) (i : ℕ) (y : CodeNode) (l
 popped_set slot b xs i y l new e =
     let left : drop (i + 1) (set xs i y) ≡ drop (i + 1) xs = drop-set-lt (i + 1) xs i y (omega arith) in
     e ∙ ap (λ r. behind slot b (nodes_view r) l) (sym left)
-
--- no node more
-pub row_end : (slot b : ℕ) (xs : List CodeNode) (i : ℕ) (s : State) (l : Live) (all : Nodes) → length xs ≤ i → followed (take i xs) (listed_one slot b (nodes_view (drop i xs)) s l) ≡ all → nodes_view xs ≡ all
-row_end slot b xs i s l all le inv =
-    let front : xs ≡ take i xs = sym (take_all i xs le) in
-    let none : [] ≡ drop i xs = sym (drop_of_length-le xs le) in
-    sym (followed_none xs) ∙ ((λ j. followed (front j) (listed_one slot b (nodes_view (none j)) s l)) ∙ inv)
 
 -- what two rows become, and where
 pub if_listed : (slot b temp : ℕ) (n : CodeNode) (v w one other : Vec CodeNode) (s : State) (l : Live) → n.kind ≡ views.If temp v w
@@ -123,11 +94,3 @@ loop_listed slot b n v w first second s h z l p q top end is he ze te ee pe qe f
     let pp : p ≡ body_lives slot b (nodes_view v.items) (nodes_view w.items) l.on = pe ∙ (λ i. lives (ee i) l.on (ee i)) in
     let qq : q ≡ latch_lives slot b (nodes_view v.items) (nodes_view w.items) l.on = qe ∙ (λ i. lives (te i) l.on (te i)) in
     loop_view n.place first second ∙ ((λ i. loop n.place (f i) (g i)) ∙ ((λ i. loop n.place (listed_one slot b (nodes_view v.items) (he i) (pp i)) (listed_one slot b (nodes_view w.items) (zz i) (qq i))) ∙ ap (λ y. listed_one_in slot b y s l) (sym (loop_is n v w is))))
-
--- a row in its Vec again
-pub row_within : (slot b : ℕ) (v : Vec CodeNode) (xs ys : List CodeNode) (s : State) (l : Live) → xs ≡ v.items → length ys ≡ v.len → nodes_view ys ≡ listed_one slot b (nodes_view xs) s l
-    → nodes_view (with_items v ys).items ≡ listed_one slot b (nodes_view v.items) s l
-row_within slot b v xs ys s l e k f = ap nodes_view (with_items_is v ys k) ∙ (f ∙ ap (λ r. listed_one slot b (nodes_view r) s l) e)
-
-pub temp_of_if : (place x y : ℕ) (one other : Vec CodeNode) → x ≡ y → kind_view place (views.If x one other) ≡ kind_view place (views.If y one other)
-temp_of_if place x y one other e = ap (λ t. kind_view place (views.If t one other)) e

@@ -188,6 +188,15 @@ wants slot b a t later = (not (is_bad t) && live_act slot b a later) || uses slo
 abbrev pub node_wants : (slot b : ℕ) → Node → State → Bool → Bool
 node_wants slot b n t later = (not (is_bad t) && (act_is (uses slot b) n || (not (looks_slot slot n) && later))) || act_is (uses slot b) n
 
+-- with the slot in the node's own list too, if it has one
+abbrev pub listed_own : (slot : ℕ) → Bool → Node → Node
+listed_own slot y (plain place a) = plain place (act_adding slot y a)
+listed_own slot y (if_ place temp one other) = if_ place temp one other
+listed_own slot y (loop place body latch) = loop place body latch
+listed_own slot y (break_ place) = break_ place
+listed_own slot y (next_ place) = next_ place
+listed_own slot y (ret place temp) = ret place temp
+
 abbrev mutual
   pub listed_one : (slot b : ℕ) → Nodes → State → Live → Nodes
   listed_one slot b no_nodes t l = no_nodes
