@@ -1,5 +1,5 @@
 -- How far a piece gets in a turn: to its value, or to what ends the turn.
-use Rattle.std.specs.Prelude.{ℕ, ◌≡◌, Bool, if◌then◌else◌, List, Result, Ok, Err}
+use Rattle.std.specs.Prelude.{ℕ, ◌≡◌, Bool, if◌then◌else◌, List, [], Result, Ok, Err}
 use Rattle.ak_words.specs.declared.rule.Rule.{Rule}
 use Rattle.block_store.specs.declared.values.Access.{Access}
 use Rattle.block_store.specs.declared.values.Ptr.TheVariants.{To}
@@ -92,6 +92,12 @@ pub record FlowsSecond (p : SharedProgram) (locals : List control.Variable) (blo
   pub goes : (function : ℕ) (r : Rest) (w : turns.WayOfUse) (x : actions.World) → w.k ≡ k →
       turns.run (here_at p function r) e (turns.second_way place op left w) (now_in locals blocks x) ≡ flow (here_at p function r) w (now_in locals blocks x) g
 
+-- what is left so is used as the left operand of an operation
+pub record FlowsLeft (p : SharedProgram) (locals : List control.Variable) (blocks : Blocks) (place : ℕ) (op : values.Binary) (e : tree.Expr) (left : Flow) (k : control.Use) (g : Flow) : Type 0 where
+  pub goes : (function : ℕ) (r : Rest) (w : turns.WayOfUse) (x : actions.World) → w.k ≡ k →
+      flow (here_at p function r) (turns.first_way place op e (turns.run (here_at p function r) e) w) (now_in locals blocks x) left
+      ≡ flow (here_at p function r) w (now_in locals blocks x) g
+
 -- what follows the test of the left operand of && or || (C11 6.5.13, 6.5.14)
 abbrev pub after_test : turns.Here → (decides holds : Bool) → tree.Expr → turns.WayOfUse → turns.Does
 after_test h decides holds e w x =
@@ -107,3 +113,14 @@ pub record FlowsRead (p : SharedProgram) (locals : List control.Variable) (block
   pub goes : (function : ℕ) (r : Rest) (w : turns.WayOfUse) (x : actions.World) → w.k ≡ k →
       turns.run_place (here_at p function r) e (turns.read_way (here_at p function r) (tree.place_of e) (values.access_of_type (tree.type_of e)) w) (now_in locals blocks x)
       ≡ flow (here_at p function r) w (now_in locals blocks x) g
+
+-- what is left so is used as the left operand of && or ||
+pub record FlowsTested (p : SharedProgram) (locals : List control.Variable) (blocks : Blocks) (place : ℕ) (decides : Bool) (e : tree.Expr) (left : Flow) (k : control.Use) (g : Flow) : Type 0 where
+  pub goes : (function : ℕ) (r : Rest) (w : turns.WayOfUse) (x : actions.World) → w.k ≡ k →
+      flow (here_at p function r) (turns.first_test_way place decides e (turns.run (here_at p function r) e) w) (now_in locals blocks x) left
+      ≡ flow (here_at p function r) w (now_in locals blocks x) g
+
+-- a call whose value is used gets so far
+pub record FlowsWanted (p : SharedProgram) (locals : List control.Variable) (blocks : Blocks) (place : ℕ) (callee : control.Callee) (all : tree.Exprs) (k : control.Use) (g : Flow) : Type 0 where
+  pub goes : (function : ℕ) (r : Rest) (w : turns.WayOfUse) (x : actions.World) → w.k ≡ k →
+      turns.run_arguments (here_at p function r) place callee all [] (control.wanted place w.k) (now_in locals blocks x) ≡ flow (here_at p function r) w (now_in locals blocks x) g

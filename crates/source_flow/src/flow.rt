@@ -13,7 +13,7 @@ ghost use Rattle.source_values.specs.Operations.{unary_of, binary_of};
 ghost use Rattle.source_control.specs.declared.control.Flow.TheVariants as flows;
 ghost use Rattle.source_control.specs.Variables.{variable_of};
 ghost use Rattle.source_control.specs.Views.{use_of, wait_of, values_of, callee_of};
-ghost use Rattle.source_flow.specs.Flow.{Flows, FlowsPlace, FlowsRead, FlowsSecond, FlowsOnly, FlowsTest, FlowsCall, FlowsVariable, FindsVariable, Reads, done_with, binary_for, unary_for, block_pointer};
+ghost use Rattle.source_flow.specs.Flow.{Flows, FlowsPlace, FlowsRead, FlowsLeft, FlowsSecond, FlowsOnly, FlowsTest, FlowsTested, FlowsCall, FlowsWanted, FlowsVariable, FindsVariable, Reads, done_with, binary_for, unary_for, block_pointer};
 
 use ak_words::{NoMemory, Num, Rule};
 use block_store::{Access, Ptr, Store, Value};
@@ -180,26 +180,13 @@ pub fn expr(
         }
         SharedNode::Two(form, a, b) => {
             let op = binary(*form, &a.ty, &program.structs)?;
-            match first(a, b, alloc, program, locals, store, e.place, op, k)? {
-                Flow::Ends(q) => Ok(Flow::Ends(q)),
-                Flow::Gives(v) => {
-                    let flow = second(b, alloc, program, locals, store, e.place, op, v, k)?;
-                    Ok(flow)
-                }
-            }
+            let left = first(a, b, alloc, program, locals, store, e.place, op, k)?;
+            with_left(left, b, alloc, program, locals, store, e.place, op, k)
         }
         SharedNode::Either(decides, a, b) => {
             let after = after_first_test(alloc, a.place, *decides, b, k)?;
-            match expr(a, alloc, program, locals, store, &after)? {
-                Flow::Ends(q) => Ok(Flow::Ends(q)),
-                Flow::Gives(v) => match truth_of(store, v) {
-                    Err(rule) => Ok(Flow::Ends(Pending::Broke(rule, a.place))),
-                    Ok(holds) => {
-                        let flow = either(b, alloc, program, locals, store, *decides, holds, k)?;
-                        Ok(flow)
-                    }
-                },
-            }
+            let left = expr(a, alloc, program, locals, store, &after)?;
+            with_test(left, b, alloc, program, locals, store, a.place, *decides, k)
         }
         SharedNode::Choose(c, one, other) => {
             let after = after_choice(alloc, c.place, one, other, k)?;
@@ -207,30 +194,86 @@ pub fn expr(
                 Flow::Ends(q) => Ok(Flow::Ends(q)),
                 Flow::Gives(v) => match truth_of(store, v) {
                     Err(rule) => Ok(Flow::Ends(Pending::Broke(rule, c.place))),
-                    Ok(true) => {
-                        let flow = expr(one, alloc, program, locals, store, k)?;
-                        Ok(flow)
-                    }
-                    Ok(false) => {
-                        let flow = expr(other, alloc, program, locals, store, k)?;
-                        Ok(flow)
-                    }
+                    Ok(true) => expr(one, alloc, program, locals, store, k),
+                    Ok(false) => expr(other, alloc, program, locals, store, k),
                 },
             }
         }
         SharedNode::Call(callee, all) => {
-            let none = Rc::new(alloc, Values::None)?;
-            let wait = Wait::Wanted(e.place, k.clone()?);
-            let q = arguments(
-                all, alloc, program, locals, store, e.place, callee, &none, &wait,
-            )?;
-            Ok(Flow::Ends(q))
+            call(all, alloc, program, locals, store, e.place, callee, k)
         }
         SharedNode::Literal(_) => object(e, alloc, program, locals, store, k),
         SharedNode::Global(_) => object(e, alloc, program, locals, store, k),
         SharedNode::Deref(_) => object(e, alloc, program, locals, store, k),
         SharedNode::Member(_, _) => object(e, alloc, program, locals, store, k),
     }
+}
+
+// The value of a left operand, if it is there, is used with the right one.
+#[cycle(eval)]
+fn with_left(
+    left: Flow,
+    b: &SharedExpr,
+    alloc: Global,
+    program: &SharedProgram,
+    locals: &Locals,
+    store: &Store,
+    place: u32,
+    op: Binary,
+    k: &Rc<Use>,
+) -> Result<Flow, NoMemory>
+    ensures { IfOk result (λ g. FlowsLeft program.now locals.now.now store.now place (binary_of op) (expr_of b.now) left (use_of k.now.value) g) }
+{
+    match left {
+        Flow::Ends(q) => Ok(Flow::Ends(q)),
+        Flow::Gives(v) => second(b, alloc, program, locals, store, place, op, v, k),
+    }
+}
+
+// The value of the left operand of `&&` or `||`, if it is there, is tested.
+#[cycle(eval)]
+fn with_test(
+    left: Flow,
+    b: &SharedExpr,
+    alloc: Global,
+    program: &SharedProgram,
+    locals: &Locals,
+    store: &Store,
+    place: u32,
+    decides: bool,
+    k: &Rc<Use>,
+) -> Result<Flow, NoMemory>
+    ensures { IfOk result (λ g. FlowsTested program.now locals.now.now store.now place decides (expr_of b.now) left (use_of k.now.value) g) }
+{
+    match left {
+        Flow::Ends(q) => Ok(Flow::Ends(q)),
+        Flow::Gives(v) => match truth_of(store, v) {
+            Err(rule) => Ok(Flow::Ends(Pending::Broke(rule, place))),
+            Ok(holds) => either(b, alloc, program, locals, store, decides, holds, k),
+        },
+    }
+}
+
+// A call whose value is used.
+#[cycle(eval)]
+fn call(
+    all: &SharedArgs,
+    alloc: Global,
+    program: &SharedProgram,
+    locals: &Locals,
+    store: &Store,
+    place: u32,
+    callee: &Rc<Callee>,
+    k: &Rc<Use>,
+) -> Result<Flow, NoMemory>
+    ensures { IfOk result (λ g. FlowsWanted program.now locals.now.now store.now place (callee_of callee.now.value) (args_of all.now) (use_of k.now.value) g) }
+{
+    let none = Rc::new(alloc, Values::None)?;
+    let wait = Wait::Wanted(place, k.clone()?);
+    let q = arguments(
+        all, alloc, program, locals, store, place, callee, &none, &wait,
+    )?;
+    Ok(Flow::Ends(q))
 }
 
 // An lvalue that is read.
