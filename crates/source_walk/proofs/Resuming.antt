@@ -240,6 +240,11 @@ next_call p locals blocks b place callee found all given before k q call same_bl
 
 -- ---- a value is used
 
+pub gives_at : (p : SharedProgram) (function : ℕ) (found k : control.Use) (v : Value) (locals : List control.Variable) (blocks : Blocks) (new_locals : List control.Variable) (new_blocks : Blocks) (q : Pending)
+    → found ≡ k → GivesTo p function found v locals blocks new_locals new_blocks q
+    → GivesTo p function k v locals blocks new_locals new_blocks q
+gives_at p function found k v locals blocks new_locals new_blocks q same g = subst (λ (m : control.Use). GivesTo p function m v locals blocks new_locals new_blocks q) same g
+
 pub give_flow : (used : Here → WayOfUse → WayOfUse) (p : SharedProgram) (function : ℕ) (k form rest : control.Use) (v : Value) (g : Flow) (locals : List control.Variable) (blocks : Blocks) (new_locals : List control.Variable) (new_blocks : Blocks) (q : Pending)
     → k ≡ form → ((h : Here) → use_of h form ≡ used h (use_of h rest))
     → Continues used p locals blocks v rest g

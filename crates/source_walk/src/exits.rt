@@ -155,56 +155,32 @@ pub fn stmt(
     ensures store { OnOk result (store.new.kept ≡ store.old.kept) }
 {
     match &**s {
-        SharedStmt::Block(_, all) => {
-            let block_exit = block(all, alloc, program, function, locals, store, k)?;
-            Ok(block_exit)
-        }
-        SharedStmt::Declare(place, number, init) => {
-            let set_exit = declare(
-                *place, *number, init, alloc, program, function, locals, store, k,
-            )?;
-            Ok(set_exit)
-        }
+        SharedStmt::Block(_, all) => block(all, alloc, program, function, locals, store, k),
+        SharedStmt::Declare(place, number, init) => declare(
+            *place, *number, init, alloc, program, function, locals, store, k,
+        ),
         SharedStmt::If(place, c, one) => {
-            let if_exit = if_then(*place, c, one, alloc, program, function, locals, store, k)?;
-            Ok(if_exit)
+            if_then(*place, c, one, alloc, program, function, locals, store, k)
         }
         SharedStmt::IfElse(_, c, one, other) => {
-            let else_exit = if_else(c, one, other, alloc, program, function, locals, store, k)?;
-            Ok(else_exit)
+            if_else(c, one, other, alloc, program, function, locals, store, k)
         }
-        SharedStmt::While(place, c, body) => {
-            let while_exit = while_holds(
-                *place, c, body, alloc, program, function, locals, store, k,
-            )?;
-            Ok(while_exit)
-        }
-        SharedStmt::For(place, first, c, step, body) => {
-            let for_exit = for_each(
-                *place, first, c, step, body, alloc, program, function, locals, store, k,
-            )?;
-            Ok(for_exit)
-        }
+        SharedStmt::While(place, c, body) => while_holds(
+            *place, c, body, alloc, program, function, locals, store, k,
+        ),
+        SharedStmt::For(place, first, c, step, body) => for_each(
+            *place, first, c, step, body, alloc, program, function, locals, store, k,
+        ),
         SharedStmt::Break(_) => Ok(Exit::Break),
         SharedStmt::Continue(_) => Ok(Exit::Next),
-        SharedStmt::Return(_, value) => {
-            let return_exit = return_value(value, alloc, program, locals, store)?;
-            Ok(return_exit)
-        }
+        SharedStmt::Return(_, value) => return_value(value, alloc, program, locals, store),
         SharedStmt::Assign(_, left, right) => {
-            let assign_exit = assign(left, right, alloc, program, function, locals, store, k)?;
-            Ok(assign_exit)
+            assign(left, right, alloc, program, function, locals, store, k)
         }
-        SharedStmt::Update(place, left, op, right) => {
-            let update_exit = update(
-                left, right, alloc, program, function, locals, store, *place, *op, k,
-            )?;
-            Ok(update_exit)
-        }
-        SharedStmt::Eval(_, e) => {
-            let eval_exit = drop_value(e, alloc, program, locals, store, k)?;
-            Ok(eval_exit)
-        }
+        SharedStmt::Update(place, left, op, right) => update(
+            left, right, alloc, program, function, locals, store, *place, *op, k,
+        ),
+        SharedStmt::Eval(_, e) => drop_value(e, alloc, program, locals, store, k),
         SharedStmt::Empty(_) => Ok(Exit::End),
     }
 }

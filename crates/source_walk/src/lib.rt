@@ -6,5 +6,7 @@
 pub mod exits;
 mod inside;
 mod resume;
+mod uses;
 
-pub use resume::{finish, give};
+pub use resume::finish;
+pub use uses::give;

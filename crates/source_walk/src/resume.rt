@@ -1,34 +1,21 @@
 //! How far a work list gets in a turn.
 
-ghost use Rattle.std.specs.Prelude.{◌≡◌, ◌∷◌, ◌++◌, [], ℕ, List, IfOk, OnOk};
+ghost use Rattle.std.specs.Prelude.{◌≡◌, IfOk, OnOk};
 ghost use Rattle.c_meaning.specs.Control as control;
 ghost use Rattle.c_meaning.specs.Turns as turns;
-ghost use Rattle.source_tree.specs.declared.tree.SharedProgram.{SharedProgram};
-ghost use Rattle.source_tree.specs.SharedViews.{expr_of, args_of, stmt_of, row_from};
-ghost use Rattle.source_values.specs.Operations.{unary_of, binary_of};
-ghost use Rattle.source_control.specs.Views.{todo_of, use_of, loop_of, stmt_or_nothing, updating_of, callee_of, values_of, wait_of};
+ghost use Rattle.source_tree.specs.SharedViews.{row_from};
+ghost use Rattle.source_control.specs.Views.{todo_of, loop_of};
 ghost use Rattle.source_calls.specs.Ends.{ends};
-ghost use Rattle.source_flow.specs.Flow.{FlowsCall};
-ghost use Rattle.source_assign.specs.Assigning.{exit, ExitsAs, StoresUpdated};
-ghost use Rattle.source_walk.specs.Walks.{Continues, Finishes, FlowsOn, GivesTo, Passes};
+ghost use Rattle.source_assign.specs.Assigning.{exit};
+ghost use Rattle.source_walk.specs.Walks.{Finishes, Passes};
 
-use crate::exits::{
-    after_body, after_first, after_step, close_first, close_row, enter_body, row, stmt,
-};
+use crate::exits::{after_body, after_first, after_step, close_first, close_row, row};
 use ak_words::NoMemory;
-use block_store::Value;
 use kept_store::KeptStore;
 use source_assign::Exit;
-use source_assign::assigning::{
-    assign_place, assign_struct, copy_struct, store_value, update_left, update_right,
-    update_variable,
-};
-use source_control::control::{Flow, LoopParts, Pending, Todo, Updating, Use, Values, Wait};
-use source_control::frames::one_more;
-use source_control::{Locals, Variable};
-use source_flow::flow::{arguments, done, either, expr, read, second, second_test};
-use source_tree::tree::{Callee, SharedArgs, SharedExpr, SharedProgram, SharedRow, SharedStmt};
-use source_values::{Binary, Unary, of_one, of_two, truth_of, updated};
+use source_control::Locals;
+use source_control::control::{LoopParts, Pending, Todo};
+use source_tree::tree::{SharedProgram, SharedRow, SharedStmt};
 use std::alloc::Global;
 use std::rc::Rc;
 
@@ -88,10 +75,7 @@ pub fn finish(
 {
     match left {
         Exit::Ends(q) => Ok(q),
-        _ => {
-            let q = work_off(k, left, alloc, program, function, locals, store)?;
-            Ok(q)
-        }
+        _ => work_off(k, left, alloc, program, function, locals, store),
     }
 }
 
@@ -111,300 +95,31 @@ fn work_off(
     ensures store { OnOk result (store.new.kept ≡ store.old.kept) }
 {
     match k {
-        Todo::Leaves => {
-            let q = left_whole(left);
-            Ok(q)
-        }
+        Todo::Leaves => Ok(left_whole(left)),
         Todo::ThenRow(all, from, k) => {
             let exit = after_stmt(left, all, alloc, program, function, locals, store, *from, k)?;
-            let q = finish(k, exit, alloc, program, function, locals, store)?;
-            Ok(q)
+            finish(k, exit, alloc, program, function, locals, store)
         }
         Todo::ThenEnd(all, k) => {
             let exit = close_row(left, all, locals, store)?;
-            let q = finish(k, exit, alloc, program, function, locals, store)?;
-            Ok(q)
+            finish(k, exit, alloc, program, function, locals, store)
         }
         Todo::ThenEndFirst(s, k) => {
             let exit = close_first(left, s, locals, store)?;
-            let q = finish(k, exit, alloc, program, function, locals, store)?;
-            Ok(q)
+            finish(k, exit, alloc, program, function, locals, store)
         }
         Todo::ThenLoop(l, k) => {
-            let exit = after_first(
-                left, &l.body, alloc, program, function, locals, store, &l.step, l, k,
-            )?;
-            let q = finish(k, exit, alloc, program, function, locals, store)?;
-            Ok(q)
+            behind_first(l, k, left, alloc, program, function, locals, store)
         }
-        Todo::InBody(l, k) => {
-            let exit = after_body(left, alloc, program, function, locals, store, &l.step, l, k)?;
-            let q = finish(k, exit, alloc, program, function, locals, store)?;
-            Ok(q)
-        }
-        Todo::InStep(l, k) => {
-            let exit = after_step(left, l, k)?;
-            let q = finish(k, exit, alloc, program, function, locals, store)?;
-            Ok(q)
-        }
+        Todo::InBody(l, k) => behind_body(l, k, left, alloc, program, function, locals, store),
+        Todo::InStep(l, k) => behind_step(l, k, left, alloc, program, function, locals, store),
     }
 }
 
-// The left operand of an operation has its value.
-fn first_given(
-    v: Value,
-    right: &Rc<SharedExpr>,
-    alloc: Global,
-    program: &SharedProgram,
-    locals: &Locals,
-    store: &KeptStore,
-    place: u32,
-    op: Binary,
-    k: &Rc<Use>,
-) -> Result<Flow, NoMemory>
-    ensures { IfOk result (λ g. Continues (λ h. turns.first_way place (binary_of op) (expr_of right.now.value) (turns.run h (expr_of right.now.value))) program.now locals.now.now store.now.now v (use_of k.now.value) g) }
-{
-    let flow = second(
-        right,
-        alloc,
-        program,
-        locals,
-        store.store(),
-        place,
-        op,
-        v,
-        k,
-    )?;
-    Ok(flow)
-}
-
-// The right operand of an operation has its value.
-fn second_given(
-    v: Value,
-    store: &KeptStore,
-    place: u32,
-    op: Binary,
-    left: Value,
-) -> Result<Flow, NoMemory>
-    ensures { IfOk result (λ g. (p : SharedProgram) (locals : List control.Variable) (k : control.Use) → Continues (λ h. turns.second_way place (binary_of op) left) p locals store.now.now v k g) }
-{
-    let answer = of_two(store.store(), op, left, v)?;
-    Ok(done(answer, place))
-}
-
-// The only operand of an operation has its value.
-fn only_given(v: Value, store: &KeptStore, place: u32, op: &Rc<Unary>) -> Flow
-    ensures { (p : SharedProgram) (locals : List control.Variable) (k : control.Use) → Continues (λ h. turns.only_way place (unary_of op.now.value)) p locals store.now.now v k result }
-{
-    done(of_one(store.store(), op, v), place)
-}
-
-// The right operand of `&&` or `||` has its value.
-fn second_tested(v: Value, store: &KeptStore, place: u32) -> Flow
-    ensures { (p : SharedProgram) (locals : List control.Variable) (k : control.Use) → Continues (λ h. turns.second_test_way place) p locals store.now.now v k result }
-{
-    second_test(store.store(), place, v)
-}
-
-// The left operand of `&&` or `||` has its value.
-fn first_tested(
-    v: Value,
-    right: &Rc<SharedExpr>,
-    alloc: Global,
-    program: &SharedProgram,
-    locals: &Locals,
-    store: &KeptStore,
-    place: u32,
-    decides: bool,
-    k: &Rc<Use>,
-) -> Result<Flow, NoMemory>
-    ensures { IfOk result (λ g. Continues (λ h. turns.first_test_way place decides (expr_of right.now.value) (turns.run h (expr_of right.now.value))) program.now locals.now.now store.now.now v (use_of k.now.value) g) }
-{
-    match truth_of(store.store(), v) {
-        Err(rule) => Ok(Flow::Ends(Pending::Broke(rule, place))),
-        Ok(holds) => {
-            let found = store.store();
-            let flow = either(right, alloc, program, locals, found, decides, holds, k)?;
-            Ok(flow)
-        }
-    }
-}
-
-// The condition of `?:` has its value.
-fn chosen(
-    v: Value,
-    one: &Rc<SharedExpr>,
-    other: &Rc<SharedExpr>,
-    alloc: Global,
-    program: &SharedProgram,
-    locals: &Locals,
-    store: &KeptStore,
-    place: u32,
-    k: &Rc<Use>,
-) -> Result<Flow, NoMemory>
-    ensures { IfOk result (λ g. Continues (λ h. turns.choice_way place (expr_of one.now.value) (expr_of other.now.value) (turns.run h (expr_of one.now.value)) (turns.run h (expr_of other.now.value))) program.now locals.now.now store.now.now v (use_of k.now.value) g) }
-{
-    match truth_of(store.store(), v) {
-        Err(rule) => Ok(Flow::Ends(Pending::Broke(rule, place))),
-        Ok(holds) => {
-            if holds {
-                let one_flow = expr(one, alloc, program, locals, store.store(), k)?;
-                Ok(one_flow)
-            } else {
-                let other_flow = expr(other, alloc, program, locals, store.store(), k)?;
-                Ok(other_flow)
-            }
-        }
-    }
-}
-
-// The second statement of an `if`, if there is one.
-fn otherwise(
-    other: &Option<Rc<SharedStmt>>,
-    alloc: Global,
-    program: &SharedProgram,
-    function: u32,
-    locals: &mut Locals,
-    store: &mut KeptStore,
-    at: u32,
-    k: &Rc<Todo>,
-) -> Result<Exit, NoMemory>
-    ensures exits { IfOk result (λ g. ExitsAs (λ h w. turns.run_stmt h (stmt_or_nothing at other.now) w) program.now function (todo_of k.now.value) locals.old.now store.old.now locals.new.now store.new.now g) }
-    ensures locals { OnOk result (locals.new.kept ≡ locals.old.kept) }
-    ensures store { OnOk result (store.new.kept ≡ store.old.kept) }
-{
-    match other {
-        None => Ok(Exit::End),
-        Some(s) => {
-            let exit = stmt(s, alloc, program, function, locals, store, k)?;
-            Ok(exit)
-        }
-    }
-}
-
-// The condition of an `if` has its value.
-fn branch(
-    v: Value,
-    one: &Rc<SharedStmt>,
-    other: &Option<Rc<SharedStmt>>,
-    alloc: Global,
-    program: &SharedProgram,
-    function: u32,
-    locals: &mut Locals,
-    store: &mut KeptStore,
-    place: u32,
-    at: u32,
-    k: &Rc<Todo>,
-) -> Result<Exit, NoMemory>
-    ensures exits { IfOk result (λ g. ExitsAs (λ h w. (turns.if_way place (stmt_of one.now.value) (stmt_or_nothing at other.now) (turns.run_stmt h (stmt_of one.now.value)) (turns.run_stmt h (stmt_or_nothing at other.now)) w).go v) program.now function (todo_of k.now.value) locals.old.now store.old.now locals.new.now store.new.now g) }
-    ensures locals { OnOk result (locals.new.kept ≡ locals.old.kept) }
-    ensures store { OnOk result (store.new.kept ≡ store.old.kept) }
-{
-    match truth_of(store.store(), v) {
-        Err(rule) => Ok(Exit::Ends(Pending::Broke(rule, place))),
-        Ok(holds) => {
-            if holds {
-                let one_exit = stmt(one, alloc, program, function, locals, store, k)?;
-                Ok(one_exit)
-            } else {
-                let other_exit = otherwise(other, alloc, program, function, locals, store, at, k)?;
-                Ok(other_exit)
-            }
-        }
-    }
-}
-
-// The condition of a loop has its value.
-fn round_if(
-    v: Value,
-    alloc: Global,
-    program: &SharedProgram,
-    function: u32,
-    locals: &mut Locals,
-    store: &mut KeptStore,
-    place: u32,
+// A loop behind the first statement of a `for`.
+#[cycle(work)]
+fn behind_first(
     l: &Rc<LoopParts>,
-    k: &Rc<Todo>,
-) -> Result<Exit, NoMemory>
-    ensures exits { IfOk result (λ g. ExitsAs (λ h w. (turns.loop_test_way h place (loop_of l.now.value) (turns.run_stmt h (loop_of l.now.value).body) (turns.run_stmt h (loop_of l.now.value).step) w).go v) program.now function (todo_of k.now.value) locals.old.now store.old.now locals.new.now store.new.now g) }
-    ensures locals { OnOk result (locals.new.kept ≡ locals.old.kept) }
-    ensures store { OnOk result (store.new.kept ≡ store.old.kept) }
-{
-    match truth_of(store.store(), v) {
-        Err(rule) => Ok(Exit::Ends(Pending::Broke(rule, place))),
-        Ok(holds) => {
-            if holds {
-                let exit = enter_body(
-                    &l.body, alloc, program, function, locals, store, &l.step, l, k,
-                )?;
-                Ok(exit)
-            } else {
-                Ok(Exit::End)
-            }
-        }
-    }
-}
-
-// What waits for a call's value that is used.
-fn wanted(at: u32, k: &Rc<Use>) -> Result<Wait, NoMemory>
-    ensures { IfOk result (λ wait. wait_of wait ≡ control.wanted at (use_of k.now.value)) }
-{
-    Ok(Wait::Wanted(at, k.clone()?))
-}
-
-// What waits for a call's value that is dropped.
-fn dropping(k: &Rc<Todo>) -> Result<Wait, NoMemory>
-    ensures { IfOk result (λ wait. wait_of wait ≡ control.dropped (todo_of k.now.value)) }
-{
-    Ok(Wait::Dropped(k.clone()?))
-}
-
-// An argument of a call is there: the others follow, and the call.
-fn next_argument(
-    v: Value,
-    rest: &Rc<SharedArgs>,
-    alloc: Global,
-    program: &SharedProgram,
-    locals: &Locals,
-    store: &KeptStore,
-    place: u32,
-    callee: &Rc<Callee>,
-    before: &Rc<Values>,
-    wait: &Wait,
-) -> Result<Pending, NoMemory>
-    ensures { IfOk result (λ q. FlowsCall program.now locals.now.now store.now.now place (callee_of callee.now.value) (args_of rest.now.value) (values_of before.now.value ++ v ∷ []) (wait_of wait.now) q) }
-{
-    let all = one_more(alloc, v, before)?;
-    let found = store.store();
-    let q = arguments(
-        rest, alloc, program, locals, found, place, callee, &all, wait,
-    )?;
-    Ok(q)
-}
-
-// The value of a in `a op= b` is there: the result is stored, which ends the turn.
-fn update_read(
-    program: &SharedProgram,
-    store: &KeptStore,
-    u: &Updating,
-    at: Value,
-    by: Value,
-    v: Value,
-    k: &Rc<Todo>,
-) -> Result<Pending, NoMemory>
-    ensures { IfOk result (λ q. StoresUpdated program.now store.now.now (updating_of u.now) at by v (todo_of k.now.value) q) }
-{
-    match updated(&program.structs, store.store(), &u.ty, u.op, v, by)? {
-        Ok(r) => {
-            let q = store_value(u.place, at, r, k)?;
-            Ok(q)
-        }
-        Err(rule) => Ok(Pending::Broke(rule, u.operator)),
-    }
-}
-
-// The same of what is left to do, by the name that it is kept under.
-fn complete(
     k: &Rc<Todo>,
     left: Exit,
     alloc: Global,
@@ -413,160 +128,52 @@ fn complete(
     locals: &mut Locals,
     store: &mut KeptStore,
 ) -> Result<Pending, NoMemory>
-    ensures comes { IfOk result (λ q. Finishes program.now function (todo_of k.now.value) left locals.old.now store.old.now locals.new.now store.new.now q) }
+    ensures comes { IfOk result (λ q. Finishes program.now function (control.then_loop (loop_of l.now.value) (todo_of k.now.value)) left locals.old.now store.old.now locals.new.now store.new.now q) }
     ensures locals { OnOk result (locals.new.kept ≡ locals.old.kept) }
     ensures store { OnOk result (store.new.kept ≡ store.old.kept) }
 {
-    let q = finish(k, left, alloc, program, function, locals, store)?;
-    Ok(q)
+    let exit = after_first(
+        left, &l.body, alloc, program, function, locals, store, &l.step, l, k,
+    )?;
+    finish(k, exit, alloc, program, function, locals, store)
 }
 
-// How an expression that got so far goes on.
-#[cycle(uses)]
-fn pass(
-    flow: Flow,
-    k: &Rc<Use>,
+// The step of a loop, behind its body.
+#[cycle(work)]
+fn behind_body(
+    l: &Rc<LoopParts>,
+    k: &Rc<Todo>,
+    left: Exit,
     alloc: Global,
     program: &SharedProgram,
     function: u32,
     locals: &mut Locals,
     store: &mut KeptStore,
 ) -> Result<Pending, NoMemory>
-    ensures comes { IfOk result (λ q. FlowsOn program.now function (use_of k.now.value) flow locals.old.now store.old.now locals.new.now store.new.now q) }
+    ensures comes { IfOk result (λ q. Finishes program.now function (control.in_body (loop_of l.now.value) (todo_of k.now.value)) left locals.old.now store.old.now locals.new.now store.new.now q) }
     ensures locals { OnOk result (locals.new.kept ≡ locals.old.kept) }
     ensures store { OnOk result (store.new.kept ≡ store.old.kept) }
 {
-    match flow {
-        Flow::Ends(q) => Ok(q),
-        Flow::Gives(v) => {
-            let q = give(k, v, alloc, program, function, locals, store)?;
-            Ok(q)
-        }
-    }
+    let exit = after_body(left, alloc, program, function, locals, store, &l.step, l, k)?;
+    finish(k, exit, alloc, program, function, locals, store)
 }
 
-/// What uses a value.
-#[cycle(uses)]
-pub fn give(
-    k: &Use,
-    v: Value,
+// The next round of a loop, behind its step.
+#[cycle(work)]
+fn behind_step(
+    l: &Rc<LoopParts>,
+    k: &Rc<Todo>,
+    left: Exit,
     alloc: Global,
     program: &SharedProgram,
     function: u32,
     locals: &mut Locals,
     store: &mut KeptStore,
 ) -> Result<Pending, NoMemory>
-    ensures comes { IfOk result (λ q. GivesTo program.now function (use_of k.now) v locals.old.now store.old.now locals.new.now store.new.now q) }
+    ensures comes { IfOk result (λ q. Finishes program.now function (control.in_step (loop_of l.now.value) (todo_of k.now.value)) left locals.old.now store.old.now locals.new.now store.new.now q) }
     ensures locals { OnOk result (locals.new.kept ≡ locals.old.kept) }
     ensures store { OnOk result (store.new.kept ≡ store.old.kept) }
 {
-    match k {
-        Use::FirstOf(place, op, right, k) => {
-            let flow = first_given(v, right, alloc, program, locals, store, *place, *op, k)?;
-            let q = pass(flow, k, alloc, program, function, locals, store)?;
-            Ok(q)
-        }
-        Use::SecondOf(place, op, left, k) => {
-            let flow = second_given(v, store, *place, *op, *left)?;
-            let q = pass(flow, k, alloc, program, function, locals, store)?;
-            Ok(q)
-        }
-        Use::OnlyOf(place, op, k) => {
-            let flow = only_given(v, store, *place, op);
-            let q = pass(flow, k, alloc, program, function, locals, store)?;
-            Ok(q)
-        }
-        Use::PlaceRead(place, how, k) => {
-            let flow = read(*place, *how, v, k)?;
-            let q = pass(flow, k, alloc, program, function, locals, store)?;
-            Ok(q)
-        }
-        Use::FirstTest(place, decides, right, k) => {
-            let flow = first_tested(v, right, alloc, program, locals, store, *place, *decides, k)?;
-            let q = pass(flow, k, alloc, program, function, locals, store)?;
-            Ok(q)
-        }
-        Use::SecondTest(place, k) => {
-            let flow = second_tested(v, store, *place);
-            let q = pass(flow, k, alloc, program, function, locals, store)?;
-            Ok(q)
-        }
-        Use::Choice(place, one, other, k) => {
-            let flow = chosen(v, one, other, alloc, program, locals, store, *place, k)?;
-            let q = pass(flow, k, alloc, program, function, locals, store)?;
-            Ok(q)
-        }
-        Use::Argument(place, callee, before, rest, at, k) => {
-            let wait = wanted(*at, k)?;
-            let q = next_argument(
-                v, rest, alloc, program, locals, store, *place, callee, before, &wait,
-            )?;
-            Ok(q)
-        }
-        Use::DroppedArgument(place, callee, before, rest, k) => {
-            let wait = dropping(k)?;
-            let q = next_argument(
-                v, rest, alloc, program, locals, store, *place, callee, before, &wait,
-            )?;
-            Ok(q)
-        }
-        Use::ToCaller => Ok(Pending::Leave(Some(v))),
-        Use::ToPlace(place, to, k) => {
-            let q = store_value(*place, *to, v, k)?;
-            Ok(q)
-        }
-        Use::StructRight(place, ty, to, k) => {
-            let q = copy_struct(program, *place, ty, *to, v, k)?;
-            Ok(q)
-        }
-        Use::UpdateRight(u, at, k) => {
-            let q = update_right(u, alloc, *at, v, k)?;
-            Ok(q)
-        }
-        Use::UpdateRead(u, at, by, k) => {
-            let q = update_read(program, store, u, *at, *by, v, k)?;
-            Ok(q)
-        }
-        Use::ToNowhere(k) => {
-            let q = complete(k, Exit::End, alloc, program, function, locals, store)?;
-            Ok(q)
-        }
-        Use::ToLocal(number, k) => {
-            locals.set(*number, Variable::Holds(v))?;
-            let q = complete(k, Exit::End, alloc, program, function, locals, store)?;
-            Ok(q)
-        }
-        Use::LeftPlace(place, right, k) => {
-            let exit = assign_place(right, alloc, program, locals, store, *place, v, k)?;
-            let q = complete(k, exit, alloc, program, function, locals, store)?;
-            Ok(q)
-        }
-        Use::StructLeft(place, ty, right, k) => {
-            let exit = assign_struct(right, alloc, program, locals, store, *place, ty, v, k)?;
-            let q = complete(k, exit, alloc, program, function, locals, store)?;
-            Ok(q)
-        }
-        Use::UpdateLeft(u, right, k) => {
-            let exit = update_left(right, alloc, program, locals, store, u, v, k)?;
-            let q = complete(k, exit, alloc, program, function, locals, store)?;
-            Ok(q)
-        }
-        Use::UpdateLocal(u, number, k) => {
-            let exit = update_variable(program, locals, store, u, *number, v)?;
-            let q = complete(k, exit, alloc, program, function, locals, store)?;
-            Ok(q)
-        }
-        Use::IfTest(place, at, one, other, k) => {
-            let exit = branch(
-                v, one, other, alloc, program, function, locals, store, *place, *at, k,
-            )?;
-            let q = complete(k, exit, alloc, program, function, locals, store)?;
-            Ok(q)
-        }
-        Use::LoopTest(place, l, k) => {
-            let exit = round_if(v, alloc, program, function, locals, store, *place, l, k)?;
-            let q = complete(k, exit, alloc, program, function, locals, store)?;
-            Ok(q)
-        }
-    }
+    let exit = after_step(left, l, k)?;
+    finish(k, exit, alloc, program, function, locals, store)
 }

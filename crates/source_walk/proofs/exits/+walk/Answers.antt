@@ -1,4 +1,5 @@
 use Rattle.std.proofs.Common.{◌≡◌, ◌∙◌, ◌+◌, [], refl, ap, sym, rules, arith}
+use Rattle.std.proofs.lemmas.Result.{IfOk-weaker}
 use Rattle.c_tree.specs.Typed as tree
 use Rattle.c_meaning.specs.Control as control
 use Rattle.c_meaning.specs.Turns as turns
@@ -13,56 +14,56 @@ use Rattle.source_walk.proofs.exits.+walk.Goals as goal
 
 -- ---- statements, by their forms
 
-pub stmt-returns-in_ok-block_exit-in-Block-clause-exits : goal.stmt-returns-in_ok-block_exit-in-Block-clause-exits
-stmt-returns-in_ok-block_exit-in-Block-clause-exits t c =
+pub stmt-returns-in-Block-clause-exits : goal.stmt-returns-in-Block-clause-exits
+stmt-returns-in-Block-clause-exits t c =
     let body = row_of c.in-Block.all.value in
-    stmt_like (λ h w. turns.run_row h body (turns.end_way (turns.declared body) w)) c.args.program.now c.args.function (stmt_of c.args.s.now.value) (tree.at_stmt c.in-Block.field-0 (tree.block body)) (todo_of c.args.k.now.value) _ _ _ _ _
-    (let a = ap stmt_of c.in-Block.is in let b = shared_block c.in-Block.field-0 c.in-Block.all in search (rules, a, b)) (λ h w x. refl) c.in_ok-block_exit-in-Block.ensures.exits
+    IfOk-weaker c.block.result _ _ (λ g e. stmt_like (λ h w. turns.run_row h body (turns.end_way (turns.declared body) w)) c.args.program.now c.args.function (stmt_of c.args.s.now.value) (tree.at_stmt c.in-Block.field-0 (tree.block body)) (todo_of c.args.k.now.value) _ _ _ _ _
+    (let a = ap stmt_of c.in-Block.is in let b = shared_block c.in-Block.field-0 c.in-Block.all in search (rules, a, b)) (λ h w x. refl) e) c.block.ensures.exits
 
-pub stmt-returns-in_ok-set_exit-in-Declare-clause-exits : goal.stmt-returns-in_ok-set_exit-in-Declare-clause-exits
-stmt-returns-in_ok-set_exit-in-Declare-clause-exits t c =
-    stmt_like (λ h w. turns.declares h c.in-Declare.place c.in-Declare.number (optional_expr_of c.in-Declare.init) w) c.args.program.now c.args.function (stmt_of c.args.s.now.value) (tree.at_stmt c.in-Declare.place (tree.declare c.in-Declare.number (optional_expr_of c.in-Declare.init))) (todo_of c.args.k.now.value) _ _ _ _ _
-    (search rules) (λ h w x. refl) c.in_ok-set_exit-in-Declare.ensures.exits
+pub stmt-returns-in-Declare-clause-exits : goal.stmt-returns-in-Declare-clause-exits
+stmt-returns-in-Declare-clause-exits t c =
+    IfOk-weaker c.declare.result _ _ (λ g e. stmt_like (λ h w. turns.declares h c.in-Declare.place c.in-Declare.number (optional_expr_of c.in-Declare.init) w) c.args.program.now c.args.function (stmt_of c.args.s.now.value) (tree.at_stmt c.in-Declare.place (tree.declare c.in-Declare.number (optional_expr_of c.in-Declare.init))) (todo_of c.args.k.now.value) _ _ _ _ _
+    (search rules) (λ h w x. refl) e) c.declare.ensures.exits
 
-pub stmt-returns-in_ok-if_exit-in-If-clause-exits : goal.stmt-returns-in_ok-if_exit-in-If-clause-exits
-stmt-returns-in_ok-if_exit-in-If-clause-exits t c =
-    stmt_like (λ h w. turns.run h (expr_of c.in-If.c.value) (turns.if_way (tree.place_of (expr_of c.in-If.c.value)) (stmt_of c.in-If.one.value) (turns.nothing c.in-If.place) (turns.run_stmt h (stmt_of c.in-If.one.value)) (turns.run_stmt h (turns.nothing c.in-If.place)) w)) c.args.program.now c.args.function (stmt_of c.args.s.now.value) (tree.at_stmt c.in-If.place (tree.if_ (expr_of c.in-If.c.value) (stmt_of c.in-If.one.value))) (todo_of c.args.k.now.value) _ _ _ _ _
-    (search rules) (λ h w x. refl) c.in_ok-if_exit-in-If.ensures.exits
+pub stmt-returns-in-If-clause-exits : goal.stmt-returns-in-If-clause-exits
+stmt-returns-in-If-clause-exits t c =
+    IfOk-weaker c.if_then.result _ _ (λ g e. stmt_like (λ h w. turns.run h (expr_of c.in-If.c.value) (turns.if_way (tree.place_of (expr_of c.in-If.c.value)) (stmt_of c.in-If.one.value) (turns.nothing c.in-If.place) (turns.run_stmt h (stmt_of c.in-If.one.value)) (turns.run_stmt h (turns.nothing c.in-If.place)) w)) c.args.program.now c.args.function (stmt_of c.args.s.now.value) (tree.at_stmt c.in-If.place (tree.if_ (expr_of c.in-If.c.value) (stmt_of c.in-If.one.value))) (todo_of c.args.k.now.value) _ _ _ _ _
+    (search rules) (λ h w x. refl) e) c.if_then.ensures.exits
 
-pub stmt-returns-in_ok-else_exit-in-IfElse-clause-exits : goal.stmt-returns-in_ok-else_exit-in-IfElse-clause-exits
-stmt-returns-in_ok-else_exit-in-IfElse-clause-exits t c =
-    stmt_like (λ h w. turns.run h (expr_of c.in-IfElse.c.value) (turns.if_way (tree.place_of (expr_of c.in-IfElse.c.value)) (stmt_of c.in-IfElse.one.value) (stmt_of c.in-IfElse.other.value) (turns.run_stmt h (stmt_of c.in-IfElse.one.value)) (turns.run_stmt h (stmt_of c.in-IfElse.other.value)) w)) c.args.program.now c.args.function (stmt_of c.args.s.now.value) (tree.at_stmt c.in-IfElse.field-0 (tree.if_else (expr_of c.in-IfElse.c.value) (stmt_of c.in-IfElse.one.value) (stmt_of c.in-IfElse.other.value))) (todo_of c.args.k.now.value) _ _ _ _ _
-    (search rules) (λ h w x. refl) c.in_ok-else_exit-in-IfElse.ensures.exits
+pub stmt-returns-in-IfElse-clause-exits : goal.stmt-returns-in-IfElse-clause-exits
+stmt-returns-in-IfElse-clause-exits t c =
+    IfOk-weaker c.if_else.result _ _ (λ g e. stmt_like (λ h w. turns.run h (expr_of c.in-IfElse.c.value) (turns.if_way (tree.place_of (expr_of c.in-IfElse.c.value)) (stmt_of c.in-IfElse.one.value) (stmt_of c.in-IfElse.other.value) (turns.run_stmt h (stmt_of c.in-IfElse.one.value)) (turns.run_stmt h (stmt_of c.in-IfElse.other.value)) w)) c.args.program.now c.args.function (stmt_of c.args.s.now.value) (tree.at_stmt c.in-IfElse.field-0 (tree.if_else (expr_of c.in-IfElse.c.value) (stmt_of c.in-IfElse.one.value) (stmt_of c.in-IfElse.other.value))) (todo_of c.args.k.now.value) _ _ _ _ _
+    (search rules) (λ h w x. refl) e) c.if_else.ensures.exits
 
-pub stmt-returns-in_ok-while_exit-in-While-clause-exits : goal.stmt-returns-in_ok-while_exit-in-While-clause-exits
-stmt-returns-in_ok-while_exit-in-While-clause-exits t c =
-    stmt_like (λ h w. turns.rounds h (turns.while_loop c.in-While.place (expr_of c.in-While.c.value) (stmt_of c.in-While.body.value)) (turns.run_stmt h (stmt_of c.in-While.body.value)) (turns.run_stmt h (turns.nothing c.in-While.place)) w) c.args.program.now c.args.function (stmt_of c.args.s.now.value) (tree.at_stmt c.in-While.place (tree.while_ (expr_of c.in-While.c.value) (stmt_of c.in-While.body.value))) (todo_of c.args.k.now.value) _ _ _ _ _
-    (search rules) (λ h w x. refl) c.in_ok-while_exit-in-While.ensures.exits
+pub stmt-returns-in-While-clause-exits : goal.stmt-returns-in-While-clause-exits
+stmt-returns-in-While-clause-exits t c =
+    IfOk-weaker c.while_holds.result _ _ (λ g e. stmt_like (λ h w. turns.rounds h (turns.while_loop c.in-While.place (expr_of c.in-While.c.value) (stmt_of c.in-While.body.value)) (turns.run_stmt h (stmt_of c.in-While.body.value)) (turns.run_stmt h (turns.nothing c.in-While.place)) w) c.args.program.now c.args.function (stmt_of c.args.s.now.value) (tree.at_stmt c.in-While.place (tree.while_ (expr_of c.in-While.c.value) (stmt_of c.in-While.body.value))) (todo_of c.args.k.now.value) _ _ _ _ _
+    (search rules) (λ h w x. refl) e) c.while_holds.ensures.exits
 
-pub stmt-returns-in_ok-for_exit-in-For-clause-exits : goal.stmt-returns-in_ok-for_exit-in-For-clause-exits
-stmt-returns-in_ok-for_exit-in-For-clause-exits t c =
-    stmt_like (λ h w. turns.run_stmt h (stmt_of c.in-For.first.value) (turns.loop_way h (turns.for_loop (optional_expr_of c.in-For.c) (stmt_of c.in-For.step.value) (stmt_of c.in-For.body.value)) (turns.run_stmt h (stmt_of c.in-For.body.value)) (turns.run_stmt h (stmt_of c.in-For.step.value)) (turns.end_way (turns.declared_by (stmt_of c.in-For.first.value) []) w))) c.args.program.now c.args.function (stmt_of c.args.s.now.value) (tree.at_stmt c.in-For.place (tree.for_ (stmt_of c.in-For.first.value) (optional_expr_of c.in-For.c) (stmt_of c.in-For.step.value) (stmt_of c.in-For.body.value))) (todo_of c.args.k.now.value) _ _ _ _ _
-    (search rules) (λ h w x. refl) c.in_ok-for_exit-in-For.ensures.exits
+pub stmt-returns-in-For-clause-exits : goal.stmt-returns-in-For-clause-exits
+stmt-returns-in-For-clause-exits t c =
+    IfOk-weaker c.for_each.result _ _ (λ g e. stmt_like (λ h w. turns.run_stmt h (stmt_of c.in-For.first.value) (turns.loop_way h (turns.for_loop (optional_expr_of c.in-For.c) (stmt_of c.in-For.step.value) (stmt_of c.in-For.body.value)) (turns.run_stmt h (stmt_of c.in-For.body.value)) (turns.run_stmt h (stmt_of c.in-For.step.value)) (turns.end_way (turns.declared_by (stmt_of c.in-For.first.value) []) w))) c.args.program.now c.args.function (stmt_of c.args.s.now.value) (tree.at_stmt c.in-For.place (tree.for_ (stmt_of c.in-For.first.value) (optional_expr_of c.in-For.c) (stmt_of c.in-For.step.value) (stmt_of c.in-For.body.value))) (todo_of c.args.k.now.value) _ _ _ _ _
+    (search rules) (λ h w x. refl) e) c.for_each.ensures.exits
 
-pub stmt-returns-in_ok-return_exit-in-Return-clause-exits : goal.stmt-returns-in_ok-return_exit-in-Return-clause-exits
-stmt-returns-in_ok-return_exit-in-Return-clause-exits t c =
-    stmt_like (λ h w. turns.returns h (optional_expr_of c.in-Return.value)) c.args.program.now c.args.function (stmt_of c.args.s.now.value) (tree.at_stmt c.in-Return.field-0 (tree.return_ (optional_expr_of c.in-Return.value))) (todo_of c.args.k.now.value) _ _ _ _ _
-    (search rules) (λ h w x. refl) (c.in_ok-return_exit-in-Return.ensures c.args.function (todo_of c.args.k.now.value))
+pub stmt-returns-in-Return-clause-exits : goal.stmt-returns-in-Return-clause-exits
+stmt-returns-in-Return-clause-exits t c =
+    IfOk-weaker c.return_value.result _ _ (λ g e. stmt_like (λ h w. turns.returns h (optional_expr_of c.in-Return.value)) c.args.program.now c.args.function (stmt_of c.args.s.now.value) (tree.at_stmt c.in-Return.field-0 (tree.return_ (optional_expr_of c.in-Return.value))) (todo_of c.args.k.now.value) _ _ _ _ _
+    (search rules) (λ h w x. refl) (e c.args.function (todo_of c.args.k.now.value))) c.return_value.ensures
 
-pub stmt-returns-in_ok-assign_exit-in-Assign-clause-exits : goal.stmt-returns-in_ok-assign_exit-in-Assign-clause-exits
-stmt-returns-in_ok-assign_exit-in-Assign-clause-exits t c =
-    stmt_like (λ h w. turns.assigns h (tree.node_of (expr_of c.deref-in-Assign.result.now)) (expr_of c.deref-in-Assign.result.now) (expr_of c.in-Assign.right.value) w) c.args.program.now c.args.function (stmt_of c.args.s.now.value) (tree.at_stmt c.in-Assign.field-0 (tree.assign (expr_of c.deref-in-Assign.result.now) (expr_of c.in-Assign.right.value))) (todo_of c.args.k.now.value) _ _ _ _ _
-    (search rules) (λ h w x. refl) c.in_ok-assign_exit-in-Assign.ensures.exits
+pub stmt-returns-in-Assign-clause-exits : goal.stmt-returns-in-Assign-clause-exits
+stmt-returns-in-Assign-clause-exits t c =
+    IfOk-weaker c.assign.result _ _ (λ g e. stmt_like (λ h w. turns.assigns h (tree.node_of (expr_of c.deref-in-Assign.result.now)) (expr_of c.deref-in-Assign.result.now) (expr_of c.in-Assign.right.value) w) c.args.program.now c.args.function (stmt_of c.args.s.now.value) (tree.at_stmt c.in-Assign.field-0 (tree.assign (expr_of c.deref-in-Assign.result.now) (expr_of c.in-Assign.right.value))) (todo_of c.args.k.now.value) _ _ _ _ _
+    (search rules) (λ h w x. refl) e) c.assign.ensures.exits
 
-pub stmt-returns-in_ok-update_exit-in-Update-clause-exits : goal.stmt-returns-in_ok-update_exit-in-Update-clause-exits
-stmt-returns-in_ok-update_exit-in-Update-clause-exits t c =
-    stmt_like (λ h w. turns.updates h (turns.update_of c.in-Update.place (expr_of c.deref-in-Update.result.now) c.in-Update.op) (tree.node_of (expr_of c.deref-in-Update.result.now)) (expr_of c.deref-in-Update.result.now) (expr_of c.in-Update.right.value) w) c.args.program.now c.args.function (stmt_of c.args.s.now.value) (tree.at_stmt c.in-Update.place (tree.update (expr_of c.deref-in-Update.result.now) c.in-Update.op (expr_of c.in-Update.right.value))) (todo_of c.args.k.now.value) _ _ _ _ _
-    (search rules) (λ h w x. refl) c.in_ok-update_exit-in-Update.ensures.exits
+pub stmt-returns-in-Update-clause-exits : goal.stmt-returns-in-Update-clause-exits
+stmt-returns-in-Update-clause-exits t c =
+    IfOk-weaker c.update.result _ _ (λ g e. stmt_like (λ h w. turns.updates h (turns.update_of c.in-Update.place (expr_of c.deref-in-Update.result.now) c.in-Update.op) (tree.node_of (expr_of c.deref-in-Update.result.now)) (expr_of c.deref-in-Update.result.now) (expr_of c.in-Update.right.value) w) c.args.program.now c.args.function (stmt_of c.args.s.now.value) (tree.at_stmt c.in-Update.place (tree.update (expr_of c.deref-in-Update.result.now) c.in-Update.op (expr_of c.in-Update.right.value))) (todo_of c.args.k.now.value) _ _ _ _ _
+    (search rules) (λ h w x. refl) e) c.update.ensures.exits
 
-pub stmt-returns-in_ok-eval_exit-in-Eval-clause-exits : goal.stmt-returns-in_ok-eval_exit-in-Eval-clause-exits
-stmt-returns-in_ok-eval_exit-in-Eval-clause-exits t c =
-    stmt_like (λ h w. turns.run_dropped h (expr_of c.deref-in-Eval.result.now) w) c.args.program.now c.args.function (stmt_of c.args.s.now.value) (tree.at_stmt c.in-Eval.field-0 (tree.evaluate (expr_of c.deref-in-Eval.result.now))) (todo_of c.args.k.now.value) _ _ _ _ _
-    (search rules) (λ h w x. refl) (c.in_ok-eval_exit-in-Eval.ensures c.args.function)
+pub stmt-returns-in-Eval-clause-exits : goal.stmt-returns-in-Eval-clause-exits
+stmt-returns-in-Eval-clause-exits t c =
+    IfOk-weaker c.drop_value.result _ _ (λ g e. stmt_like (λ h w. turns.run_dropped h (expr_of c.deref-in-Eval.result.now) w) c.args.program.now c.args.function (stmt_of c.args.s.now.value) (tree.at_stmt c.in-Eval.field-0 (tree.evaluate (expr_of c.deref-in-Eval.result.now))) (todo_of c.args.k.now.value) _ _ _ _ _
+    (search rules) (λ h w x. refl) (e c.args.function)) c.drop_value.ensures
 
 -- ---- blocks and ifs
 

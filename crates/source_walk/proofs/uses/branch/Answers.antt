@@ -3,7 +3,7 @@ use Rattle.c_meaning.specs.Turns.{run_stmt}
 use Rattle.source_tree.specs.SharedViews.{stmt_of}
 use Rattle.source_control.specs.Views.{stmt_or_nothing}
 use Rattle.source_walk.proofs.Resuming.{branch_broke, branch_one, branch_other}
-use Rattle.source_walk.proofs.resume.branch.Goals as goal
+use Rattle.source_walk.proofs.uses.branch.Goals as goal
 
 pub returns-in-Err-clause-exits : goal.returns-in-Err-clause-exits
 returns-in-Err-clause-exits c =

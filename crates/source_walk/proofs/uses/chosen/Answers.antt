@@ -1,7 +1,7 @@
 use Rattle.std.proofs.Common.{rules}
 use Rattle.source_tree.specs.SharedViews.{expr_of}
 use Rattle.source_walk.proofs.Resuming.{choice_broke, choice_one, choice_other}
-use Rattle.source_walk.proofs.resume.chosen.Goals as goal
+use Rattle.source_walk.proofs.uses.chosen.Goals as goal
 
 pub returns-in-Err : goal.returns-in-Err
 returns-in-Err c =

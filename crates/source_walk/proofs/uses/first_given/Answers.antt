@@ -2,7 +2,7 @@ use Rattle.std.proofs.Common.{rules}
 use Rattle.source_tree.specs.SharedViews.{expr_of}
 use Rattle.source_values.specs.Operations.{binary_of}
 use Rattle.source_walk.proofs.Resuming.{first_continues}
-use Rattle.source_walk.proofs.resume.first_given.Goals as goal
+use Rattle.source_walk.proofs.uses.first_given.Goals as goal
 
 pub returns : goal.returns
 returns c =

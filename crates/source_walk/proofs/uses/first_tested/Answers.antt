@@ -1,7 +1,7 @@
 use Rattle.std.proofs.Common.{rules}
 use Rattle.source_tree.specs.SharedViews.{expr_of}
 use Rattle.source_walk.proofs.Resuming.{test_continues, test_continues_broke}
-use Rattle.source_walk.proofs.resume.first_tested.Goals as goal
+use Rattle.source_walk.proofs.uses.first_tested.Goals as goal
 
 pub returns-in-Err : goal.returns-in-Err
 returns-in-Err c =

@@ -2,7 +2,7 @@ use Rattle.std.proofs.Common.{◌++◌, ◌∷◌, [], rules}
 use Rattle.source_tree.specs.SharedViews.{args_of}
 use Rattle.source_control.specs.Views.{callee_of, values_of, wait_of}
 use Rattle.source_walk.proofs.Resuming.{next_call}
-use Rattle.source_walk.proofs.resume.next_argument.Goals as goal
+use Rattle.source_walk.proofs.uses.next_argument.Goals as goal
 
 pub returns : goal.returns
 returns c =

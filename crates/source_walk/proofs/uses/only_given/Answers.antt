@@ -1,7 +1,7 @@
 use Rattle.std.proofs.Common.{rules}
 use Rattle.source_values.specs.Operations.{unary_of}
 use Rattle.source_walk.proofs.Resuming.{only_continues}
-use Rattle.source_walk.proofs.resume.only_given.Goals as goal
+use Rattle.source_walk.proofs.uses.only_given.Goals as goal
 
 pub returns : goal.returns
 returns c =

@@ -1,5 +1,5 @@
 use Rattle.source_walk.proofs.Resuming.{no_other, one_other}
-use Rattle.source_walk.proofs.resume.otherwise.Goals as goal
+use Rattle.source_walk.proofs.uses.otherwise.Goals as goal
 
 pub returns-in-None-clause-exits : goal.returns-in-None-clause-exits
 returns-in-None-clause-exits c =

@@ -6,7 +6,7 @@ use Rattle.source_control.specs.Views.{loop_of, stmt_or_nothing}
 use Rattle.source_control.specs.declared.control.LoopParts.{LoopParts}
 use Rattle.source_walk.proofs.Walking.{as_like}
 use Rattle.source_walk.proofs.Resuming.{branch_broke, branch_one, branch_other, loop_left}
-use Rattle.source_walk.proofs.resume.round_if.Goals as goal
+use Rattle.source_walk.proofs.uses.round_if.Goals as goal
 
 pub returns-in-Err-clause-exits : goal.returns-in-Err-clause-exits
 returns-in-Err-clause-exits c =

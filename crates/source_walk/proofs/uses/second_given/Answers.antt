@@ -1,7 +1,7 @@
 use Rattle.std.proofs.Common.{rules}
 use Rattle.source_values.specs.Operations.{binary_of}
 use Rattle.source_walk.proofs.Resuming.{second_continues}
-use Rattle.source_walk.proofs.resume.second_given.Goals as goal
+use Rattle.source_walk.proofs.uses.second_given.Goals as goal
 
 pub returns : goal.returns
 returns c =

@@ -1,7 +1,7 @@
 use Rattle.std.proofs.Common.{ap}
 use Rattle.c_meaning.specs.Values.{truth_of}
 use Rattle.source_walk.proofs.Resuming.{second_test_continues}
-use Rattle.source_walk.proofs.resume.second_tested.Goals as goal
+use Rattle.source_walk.proofs.uses.second_tested.Goals as goal
 
 pub returns : goal.returns
 returns c =

@@ -1,7 +1,7 @@
 use Rattle.std.proofs.Common.{rules}
 use Rattle.source_control.specs.Views.{updating_of}
 use Rattle.source_walk.proofs.Resuming.{update_stores, update_broke}
-use Rattle.source_walk.proofs.resume.update_read.Goals as goal
+use Rattle.source_walk.proofs.uses.update_read.Goals as goal
 
 pub returns-in_ok-q-in-Ok : goal.returns-in_ok-q-in-Ok
 returns-in_ok-q-in-Ok c =
