@@ -345,7 +345,9 @@ pub fn give(
             pass(flow, k, alloc, program, function, locals, store)
         }
         Use::SecondOf(place, op, left, k) => {
-            pass_second(*place, *op, *left, k, v, alloc, program, function, locals, store)
+            pass_second(
+                *place, *op, *left, k, v, alloc, program, function, locals, store,
+            )
         }
         Use::OnlyOf(place, op, k) => {
             pass_only(*place, op, k, v, alloc, program, function, locals, store)
@@ -365,10 +367,14 @@ pub fn give(
             pass(flow, k, alloc, program, function, locals, store)
         }
         Use::Argument(place, callee, before, rest, at, k) => {
-            call_wanted(*place, callee, before, rest, *at, k, v, alloc, program, locals, store)
+            call_wanted(
+                *place, callee, before, rest, *at, k, v, alloc, program, locals, store,
+            )
         }
         Use::DroppedArgument(place, callee, before, rest, k) => {
-            call_dropping(*place, callee, before, rest, k, v, alloc, program, locals, store)
+            call_dropping(
+                *place, callee, before, rest, k, v, alloc, program, locals, store,
+            )
         }
         Use::ToCaller => Ok(Pending::Leave(Some(v))),
         Use::ToPlace(place, to, k) => store_value(*place, *to, v, k),
@@ -384,7 +390,9 @@ pub fn give(
             finish_place(*place, right, k, v, alloc, program, function, locals, store)
         }
         Use::StructLeft(place, ty, right, k) => {
-            finish_struct(*place, ty, right, k, v, alloc, program, function, locals, store)
+            finish_struct(
+                *place, ty, right, k, v, alloc, program, function, locals, store,
+            )
         }
         Use::UpdateLeft(u, right, k) => {
             finish_left(u, right, k, v, alloc, program, function, locals, store)
@@ -393,7 +401,9 @@ pub fn give(
             finish_variable(u, *number, k, v, alloc, program, function, locals, store)
         }
         Use::IfTest(place, at, one, other, k) => {
-            finish_if(*place, *at, one, other, k, v, alloc, program, function, locals, store)
+            finish_if(
+                *place, *at, one, other, k, v, alloc, program, function, locals, store,
+            )
         }
         Use::LoopTest(place, l, k) => {
             finish_round(*place, l, k, v, alloc, program, function, locals, store)
@@ -584,7 +594,9 @@ fn finish_if(
     ensures locals { OnOk result (locals.new.kept ≡ locals.old.kept) }
     ensures store { OnOk result (store.new.kept ≡ store.old.kept) }
 {
-    let exit = branch(v, one, other, alloc, program, function, locals, store, place, at, k)?;
+    let exit = branch(
+        v, one, other, alloc, program, function, locals, store, place, at, k,
+    )?;
     complete(k, exit, alloc, program, function, locals, store)
 }
 
