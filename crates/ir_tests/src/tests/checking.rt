@@ -130,50 +130,58 @@ fn fault_of(alloc: Global, nodes: Vec<Node>) -> Result<Option<(u32, Why)>, NoMem
     }
 }
 
+// Of the node alone.
+fn fault_at(alloc: Global, n: Node) -> Result<Option<(u32, Why)>, NoMemory> {
+    fault_of(alloc, vec![in alloc; n]?)
+}
+
+// Of a read behind the node.
+fn fault_behind(alloc: Global, n: Node) -> Result<Option<(u32, Why)>, NoMemory> {
+    fault_of(alloc, vec![in alloc; n, read(alloc, 7)?]?)
+}
+
+// Of a read whose Look stands before the node.
+fn fault_between(alloc: Global, n: Node) -> Result<Option<(u32, Why)>, NoMemory> {
+    fault_of(alloc, vec![in alloc; look(0, 0, 1), n, read(alloc, 7)?]?)
+}
+
+// Of two reads, the second of another register than its Look.
+fn first_of_two(alloc: Global) -> Result<Option<(u32, Why)>, NoMemory> {
+    let first = read(alloc, 7)?;
+    fault_of(
+        alloc,
+        vec![in alloc; first, look(0, 0, 2), read(alloc, 3)?]?,
+    )
+}
+
 #[test]
 fn first_faults(rt: HostRuntime) -> Result<(), Fail> {
     let alloc = rt.alloc();
-    let none = Vec::new(alloc);
-    for (nodes, fault) in vec![in alloc;
-        (vec![in alloc; look(0, 0, 1), read(alloc, 1)?]?, None),
-        (vec![in alloc; read(alloc, 7)?]?, Some((7, Why::NoLook))),
-        (
-            vec![in alloc; look(0, 1, 1), read(alloc, 7)?]?,
-            Some((7, Why::NoLook))
-        ),
-        (
-            vec![in alloc; look(0, 0, 2), read(alloc, 7)?]?,
-            Some((7, Why::BadTemp))
-        ),
-        (
-            vec![in alloc; look(0, 0, 1), set(1, 1), read(alloc, 7)?]?,
-            Some((7, Why::StaleLook))
-        ),
-        (
-            vec![in alloc; look(0, 0, 1), safepoint(1, none), read(alloc, 7)?]?,
-            Some((7, Why::NotPinned))
-        ),
-        (
-            vec![in alloc; read(alloc, 7)?, look(0, 0, 2), read(alloc, 3)?]?,
-            Some((3, Why::BadTemp))
-        ),
-        (
-            vec![in alloc; call(alloc, 7, Vec::new(alloc))]?,
-            Some((7, Why::BadTemp))
-        ),
-        (
-            vec![in alloc;
-                look(0, 0, 1),
-                Node {
-                    place: 7,
-                    kind: NodeKind::Break
-                }
-            ]?,
-            Some((7, Why::BadTemp))
-        ),
-    ]? {
-        assert_eq!(rt; fault_of(alloc, nodes)?, fault);
-    }
+    assert_eq!(rt; fault_behind(alloc, look(0, 0, 1))?, None);
+    assert_eq!(rt; fault_behind(alloc, look(0, 1, 1))?, Some((7, Why::NoLook)));
+    assert_eq!(rt;
+        fault_behind(alloc, look(0, 0, 2))?,
+        Some((7, Why::BadTemp))
+    );
+    assert_eq!(rt; fault_between(alloc, set(1, 1))?, Some((7, Why::StaleLook)));
+    let unlisted = safepoint(1, Vec::new(alloc));
+    assert_eq!(rt; fault_between(alloc, unlisted)?, Some((7, Why::NotPinned)));
+    assert_eq!(rt; first_of_two(alloc)?, Some((3, Why::BadTemp)));
+    Ok(())
+}
+
+#[test]
+fn faults_of_one_node(rt: HostRuntime) -> Result<(), Fail> {
+    let alloc = rt.alloc();
+    assert_eq!(rt; fault_at(alloc, read(alloc, 7)?)?, Some((7, Why::NoLook)));
+    let bare = call(alloc, 7, Vec::new(alloc));
+    assert_eq!(rt; fault_at(alloc, bare)?, Some((7, Why::BadTemp)));
+    let place = 7;
+    let kind = NodeKind::Break;
+    assert_eq!(rt;
+        fault_at(alloc, Node { place, kind })?,
+        Some((7, Why::BadTemp))
+    );
     Ok(())
 }
 

@@ -80,19 +80,40 @@ fn a_loop(alloc: Global) -> Result<Node, NoMemory> {
     Ok(at(NodeKind::Loop(body, step)))
 }
 
+// Each form of control once.
+fn each_form(alloc: Global) -> Result<Vec<Node>, NoMemory> {
+    let mut nodes = vec![in alloc; set(1), at(NodeKind::Look(0, 1)), a_loop(alloc)?]?;
+    nodes.push(safepoint(alloc, 0)?)?;
+    nodes.push(call(alloc, 0)?)?;
+    nodes.push(safepoint(alloc, 1)?)?;
+    nodes.push(at(NodeKind::Ret(Some(6))))?;
+    Ok(nodes)
+}
+
+// Nothing but a safepoint may end the step of a loop.
+fn no_step(alloc: Global) -> Result<Node, NoMemory> {
+    let body = vec![in alloc; set(1)]?;
+    let step = vec![in alloc; set(2)]?;
+    Ok(at(NodeKind::Loop(body, step)))
+}
+
+fn is_misplaced(alloc: Global, first: Node, second: Node) -> Result<bool, NoMemory> {
+    let ir = program(alloc, vec![in alloc; first, second]?)?;
+    Ok(emit_if_placed(alloc, &ir)?.is_none())
+}
+
+// A call between safepoints of another list.
+fn is_another_list_misplaced(alloc: Global) -> Result<bool, NoMemory> {
+    let before = safepoint(alloc, 1)?;
+    let held = call(alloc, 0)?;
+    let ir = program(alloc, vec![in alloc; before, held, safepoint(alloc, 0)?]?)?;
+    Ok(emit_if_placed(alloc, &ir)?.is_none())
+}
+
 #[test]
 fn each_form_of_control_once(rt: HostRuntime) -> Result<(), Fail> {
     let alloc = rt.alloc();
-    let nodes = vec![in alloc;
-        set(1),
-        at(NodeKind::Look(0, 1)),
-        a_loop(alloc)?,
-        safepoint(alloc, 0)?,
-        call(alloc, 0)?,
-        safepoint(alloc, 1)?,
-        at(NodeKind::Ret(Some(6))),
-    ]?;
-    let ir = program(alloc, nodes)?;
+    let ir = program(alloc, each_form(alloc)?)?;
     let Some(code) = emit_if_placed(alloc, &ir)? else {
         panic!(&rt; "safepoints stand as they should");
     };
@@ -106,17 +127,11 @@ fn each_form_of_control_once(rt: HostRuntime) -> Result<(), Fail> {
 #[test]
 fn misplaced_safepoints(rt: HostRuntime) -> Result<(), Fail> {
     let alloc = rt.alloc();
-    let no_step = at(NodeKind::Loop(vec![in alloc; set(1)]?, vec![in alloc; set(2)]?));
-    for (n, other) in vec![in alloc;
-        (no_step, set(0)),
-        (call(alloc, 0)?, safepoint(alloc, 0)?),
-        (safepoint(alloc, 0)?, call(alloc, 0)?),
-    ]? {
-        let ir = program(alloc, vec![in alloc; n, other]?)?;
-        assert!(rt; emit_if_placed(alloc, &ir)?.is_none());
-    }
-    let another_list = vec![in alloc; safepoint(alloc, 1)?, call(alloc, 0)?, safepoint(alloc, 0)?]?;
-    let ir = program(alloc, another_list)?;
-    assert!(rt; emit_if_placed(alloc, &ir)?.is_none());
+    assert!(rt; is_misplaced(alloc, no_step(alloc)?, set(0))?);
+    let held = call(alloc, 0)?;
+    assert!(rt; is_misplaced(alloc, held, safepoint(alloc, 0)?)?);
+    let before = safepoint(alloc, 0)?;
+    assert!(rt; is_misplaced(alloc, before, call(alloc, 0)?)?);
+    assert!(rt; is_another_list_misplaced(alloc)?);
     Ok(())
 }
