@@ -35,17 +35,20 @@ fn answer(alloc: Global) -> Result<Typed, NoMemory> {
         place: 15,
         node: StmtNode::Return(Some(value)),
     };
-    let main = Func {
+    let mut body = Vec::new(alloc);
+    body.push(leave)?;
+    let mut funcs = Vec::new(alloc);
+    funcs.push(Func {
         params: 0,
         locals: Vec::new(alloc),
         result: CType::Int(IntType::INT),
-        body: vec![in alloc; leave]?,
-    };
+        body,
+    })?;
     Ok(Typed {
         structs: Vec::new(alloc),
         globals: Vec::new(alloc),
         literals: Vec::new(alloc),
-        funcs: vec![in alloc; main]?,
+        funcs,
         main: 0,
     })
 }

@@ -59,15 +59,13 @@ fn sum(
     })
 }
 
-// `sizeof(struct TAG)` of these specifiers.
-fn size_of(alloc: Global, spec: Spec) -> Result<tree::Expr, AllocError> {
-    Ok(tree::Expr::SizeofType {
-        place: 0,
-        of: TypeName {
-            specs: vec![in alloc; spec]?,
-            pointers: Vec::new(alloc),
-        },
-    })
+// `sizeof` of a type, by its specifier.
+fn size_of(alloc: Global, place: u32, spec: Spec) -> Result<tree::Expr, AllocError> {
+    let mut specs = Vec::new(alloc);
+    specs.push(spec)?;
+    let pointers = Vec::new(alloc);
+    let of = TypeName { specs, pointers };
+    Ok(tree::Expr::SizeofType { place, of })
 }
 
 // A member of this type.
@@ -81,10 +79,19 @@ fn member(alloc: Global, word: TypeWord, name: Name) -> Result<Member, AllocErro
         name,
         dims: Vec::new(alloc),
     };
-    Ok(Member {
-        specs: vec![in alloc; spec]?,
-        declarators: vec![in alloc; declarator]?,
-    })
+    let mut specs = Vec::new(alloc);
+    specs.push(spec)?;
+    let mut declarators = Vec::new(alloc);
+    declarators.push(declarator)?;
+    Ok(Member { specs, declarators })
+}
+
+// The members of a struct: an int, and a char.
+fn members(alloc: Global) -> Result<Vec<Member>, AllocError> {
+    let mut all = Vec::new(alloc);
+    all.push(member(alloc, TypeWord::Int, Name { from: 15, to: 16 })?)?;
+    all.push(member(alloc, TypeWord::Char, Name { from: 23, to: 24 })?)?;
+    Ok(all)
 }
 
 // The least place is named, and there the least number: of two names that aren't declared the left one.
@@ -113,18 +120,11 @@ fn gives_a_sum_the_common_type(rt: HostRuntime) -> Result<(), Fail> {
         place: 0,
         value: Num::int(1),
     };
-    let right = tree::Expr::SizeofType {
-        place: 4,
-        of: TypeName {
-            specs: vec![in alloc;
-                Spec::Word {
-                    place: 11,
-                    word: TypeWord::Char
-                },
-            ]?,
-            pointers: Vec::new(alloc),
-        },
+    let word = Spec::Word {
+        place: 11,
+        word: TypeWord::Char,
     };
+    let right = size_of(alloc, 4, word)?;
     let both = sum(alloc, 2, left, right)?;
     match judged_at_start(alloc, b"1 + sizeof(char)", &both) {
         Ok(
@@ -170,7 +170,7 @@ fn declares_a_struct_in_a_type_name(rt: HostRuntime) -> Result<(), Fail> {
     let text = b"struct s { int n; char c; }";
     let tag = Name { from: 7, to: 8 };
     let mut context = Context::at_start(alloc, text);
-    let before = size_of(alloc, Spec::Struct { place: 0, tag })?;
+    let before = size_of(alloc, 0, Spec::Struct { place: 0, tag })?;
     assert!(rt;
         matches!(
             expression(&mut context, &before),
@@ -180,17 +180,12 @@ fn declares_a_struct_in_a_type_name(rt: HostRuntime) -> Result<(), Fail> {
             }))
         )
     );
-    let number = member(alloc, TypeWord::Int, Name { from: 15, to: 16 })?;
-    let letter = member(alloc, TypeWord::Char, Name { from: 23, to: 24 })?;
-    let members = vec![in alloc; number, letter]?;
-    let braces = size_of(
-        alloc,
-        Spec::StructBody {
-            place: 0,
-            tag,
-            members,
-        },
-    )?;
+    let braced = Spec::StructBody {
+        place: 0,
+        tag,
+        members: members(alloc)?,
+    };
+    let braces = size_of(alloc, 0, braced)?;
     assert!(rt; number_of(&mut context, &braces).is_some_and(|n| n.value == 8));
     assert!(rt; number_of(&mut context, &before).is_some_and(|n| n.value == 8));
     Ok(())
@@ -202,17 +197,12 @@ fn refuses_a_member_twice(rt: HostRuntime) -> Result<(), Fail> {
     let alloc = rt.alloc();
     let text = b"struct s { int n; char n; }";
     let tag = Name { from: 7, to: 8 };
-    let number = member(alloc, TypeWord::Int, Name { from: 15, to: 16 })?;
-    let letter = member(alloc, TypeWord::Char, Name { from: 23, to: 24 })?;
-    let members = vec![in alloc; number, letter]?;
-    let braces = size_of(
-        alloc,
-        Spec::StructBody {
-            place: 0,
-            tag,
-            members,
-        },
-    )?;
+    let braced = Spec::StructBody {
+        place: 0,
+        tag,
+        members: members(alloc)?,
+    };
+    let braces = size_of(alloc, 0, braced)?;
     let refusal = refusal_of(alloc, text, &braces);
     assert!(rt;
         refusal

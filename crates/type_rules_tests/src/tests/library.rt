@@ -44,6 +44,13 @@ fn number_at_9(ty: IntType, value: i128) -> Expr {
     }
 }
 
+// One argument of a call: an int.
+fn argument(alloc: Global, value: i128) -> Result<Vec<Expr>, AllocError> {
+    let mut all = Vec::new(alloc);
+    all.push(number_at_9(IntType::int(), value))?;
+    Ok(all)
+}
+
 // What was refused.
 fn refusal(outcome: Result<Expr, CompileFault>) -> Option<Refusal> {
     match outcome {
@@ -83,7 +90,7 @@ fn printf_wants_an_argument_for_each_piece(rt: HostRuntime) -> Result<(), Fail> 
     let alloc = rt.alloc();
     let text = b"\"%d\\n\"";
     let parts = [Span { from: 0, to: 6 }];
-    let one = vec![in alloc; number_at_9(IntType::int(), 1)]?;
+    let one = argument(alloc, 1)?;
     let call = written(alloc, 5, text, &parts, one)?;
     assert!(rt; matches!(call.node, ExprNode::Lib(Lib::Print(_), _)));
     let none = written(alloc, 5, text, &parts, Vec::new(alloc));
@@ -105,7 +112,7 @@ fn printf_wants_an_argument_for_each_piece(rt: HostRuntime) -> Result<(), Fail> 
 #[test]
 fn malloc_gives_a_pointer_to_void(rt: HostRuntime) -> Result<(), Fail> {
     let alloc = rt.alloc();
-    let size = vec![in alloc; number_at_9(IntType::int(), 40)]?;
+    let size = argument(alloc, 40)?;
     let block = called_library(alloc, 5, Library::Malloc, size)?;
     let to_void = match &block.ty {
         CType::Pointer(to) => matches!(&**to, CType::Void),
@@ -124,7 +131,7 @@ fn a_thread_begins_with_a_function(rt: HostRuntime) -> Result<(), Fail> {
         ty: CType::Pointer(Box::new(alloc, unsigned_long).map_err(AllocError::from)?),
         node: ExprNode::Null,
     };
-    let argument = vec![in alloc; number_at_9(IntType::int(), 0)]?;
+    let argument = argument(alloc, 0)?;
     let call = started(alloc, 5, number, Some(3), argument)?;
     assert!(rt; matches!(call.node, ExprNode::Lib(Lib::Start(3), _)));
     let none = started(

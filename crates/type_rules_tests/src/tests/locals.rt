@@ -25,17 +25,29 @@ fn int_param(place: u32) -> Param {
     Param { place, ty: int() }
 }
 
+fn three_ints(alloc: Global) -> Result<Vec<CType>, AllocError> {
+    let mut all = Vec::new(alloc);
+    all.push(int())?;
+    all.push(int())?;
+    all.push(int())?;
+    Ok(all)
+}
+
 // `int f(int a, int b){int c; .. &b ..}`: the function has a further local in memory for b, and c is number 3.
 #[test]
 fn an_addressed_parameter(rt: HostRuntime) -> Result<(), Fail> {
     let alloc = rt.alloc();
-    let params = vec![in alloc; int_param(10), int_param(17)]?;
-    let types = vec![in alloc; int(), int(), int()]?;
+    let mut params = Vec::new(alloc);
+    params.push(int_param(10))?;
+    params.push(int_param(17))?;
+    let types = three_ints(alloc)?;
     let c = Stmt {
         place: 24,
         node: StmtNode::Declare(2, None),
     };
-    let f = func_of(alloc, &params, &types, &[1], int(), vec![in alloc; c]?)?;
+    let mut body = Vec::new(alloc);
+    body.push(c)?;
+    let f = func_of(alloc, &params, &types, &[1], int(), body)?;
     let mut in_memory = Vec::new(alloc);
     for l in &f.locals {
         in_memory.push(l.in_memory)?;

@@ -38,9 +38,12 @@ fn external(alloc: Global, place: u32, rest: Rest) -> Result<External, AllocErro
         place,
         word: TypeWord::Int,
     };
+    let storage = Vec::new(alloc);
+    let mut specs = Vec::new(alloc);
+    specs.push(spec)?;
     Ok(External {
-        storage: Vec::new(alloc),
-        specs: vec![in alloc; spec]?,
+        storage,
+        specs,
         rest,
     })
 }
@@ -56,38 +59,51 @@ fn global(alloc: Global, place: u32, name: Name) -> Result<External, AllocError>
         declarator,
         value: None,
     };
-    external(alloc, place, Rest::Variables(vec![in alloc; one]?))
+    let mut all = Vec::new(alloc);
+    all.push(one)?;
+    external(alloc, place, Rest::Variables(all))
 }
 
-// `int main(void) { return 0; }`
-fn main_alone(alloc: Global) -> Result<External, AllocError> {
-    let none = Param {
-        specs: vec![in alloc;
-            Spec::Word {
-                place: 9,
-                word: TypeWord::Void
-            },
-        ]?,
+// `void`, alone between the brackets.
+fn no_parameter(alloc: Global) -> Result<Vec<Param>, AllocError> {
+    let word = Spec::Word {
+        place: 9,
+        word: TypeWord::Void,
+    };
+    let mut specs = Vec::new(alloc);
+    specs.push(word)?;
+    let mut all = Vec::new(alloc);
+    all.push(Param {
+        specs,
         pointers: Vec::new(alloc),
         name: None,
         dims: Vec::new(alloc),
-    };
+    })?;
+    Ok(all)
+}
+
+// `{ return 0; }`
+fn body(alloc: Global) -> Result<Block, AllocError> {
     let value = Expr::Int {
         place: 24,
         value: Num::int(0),
     };
-    let last = Stmt::Return {
+    let mut items = Vec::new(alloc);
+    items.push(Stmt::Return {
         place: 17,
         value: Some(value),
-    };
-    let body = Block {
-        place: 15,
-        items: vec![in alloc; last]?,
-    };
+    })?;
+    Ok(Block { place: 15, items })
+}
+
+// `int main(void) { return 0; }`
+fn main_alone(alloc: Global) -> Result<External, AllocError> {
+    let params = no_parameter(alloc)?;
+    let body = body(alloc)?;
     let function = Rest::Function {
         pointers: Vec::new(alloc),
         name: Name { from: 4, to: 8 },
-        params: vec![in alloc; none]?,
+        params,
         body: Some(body),
     };
     external(alloc, 0, function)
@@ -97,7 +113,8 @@ fn main_alone(alloc: Global) -> Result<External, AllocError> {
 #[test]
 fn types_a_function(rt: HostRuntime) -> Result<(), Fail> {
     let alloc = rt.alloc();
-    let all = vec![in alloc; main_alone(alloc)?]?;
+    let mut all = Vec::new(alloc);
+    all.push(main_alone(alloc)?)?;
     match typed_of(alloc, b"int main(void) { return 0; }", all) {
         Ok(typed) => {
             assert!(rt; typed.main == 0 && typed.funcs.len() == 1);
@@ -117,7 +134,8 @@ fn types_a_function(rt: HostRuntime) -> Result<(), Fail> {
 #[test]
 fn refuses_a_file_without_main(rt: HostRuntime) -> Result<(), Fail> {
     let alloc = rt.alloc();
-    let all = vec![in alloc; global(alloc, 0, Name { from: 4, to: 5 })?]?;
+    let mut all = Vec::new(alloc);
+    all.push(global(alloc, 0, Name { from: 4, to: 5 })?)?;
     let wanted = Refusal {
         place: 6,
         kind: Kind::UnknownName,
@@ -130,9 +148,9 @@ fn refuses_a_file_without_main(rt: HostRuntime) -> Result<(), Fail> {
 #[test]
 fn refuses_a_global_twice(rt: HostRuntime) -> Result<(), Fail> {
     let alloc = rt.alloc();
-    let first = global(alloc, 0, Name { from: 4, to: 5 })?;
-    let second = global(alloc, 7, Name { from: 11, to: 12 })?;
-    let all = vec![in alloc; first, second]?;
+    let mut all = Vec::new(alloc);
+    all.push(global(alloc, 0, Name { from: 4, to: 5 })?)?;
+    all.push(global(alloc, 7, Name { from: 11, to: 12 })?)?;
     let wanted = Refusal {
         place: 11,
         kind: Kind::DoubleName,

@@ -48,6 +48,15 @@ fn count_of(alloc: Global, text: &[u8], items: &[tree::Stmt]) -> Option<usize> {
     }
 }
 
+// Locals without a value, by one declaration.
+fn locals(alloc: Global, place: u32, names: &[Name]) -> Result<tree::Stmt, AllocError> {
+    let mut all = Vec::new(alloc);
+    for name in names {
+        all.push(named(alloc, *name, None))?;
+    }
+    ints(alloc, place, all)
+}
+
 // A declarator of a name alone.
 fn named(alloc: Global, name: Name, value: Option<tree::Expr>) -> InitDeclarator {
     InitDeclarator {
@@ -70,10 +79,9 @@ fn ints(
         place,
         word: TypeWord::Int,
     };
-    Ok(tree::Stmt::Declare(Declaration {
-        specs: vec![in alloc; word]?,
-        declarators,
-    }))
+    let mut specs = Vec::new(alloc);
+    specs.push(word)?;
+    Ok(tree::Stmt::Declare(Declaration { specs, declarators }))
 }
 
 // A loop that breaks at once.
@@ -98,9 +106,10 @@ fn is_local(s: &Stmt, number: u32) -> bool {
 fn refuses_a_break_outside_of_a_loop(rt: HostRuntime) -> Result<(), Fail> {
     let alloc = rt.alloc();
     let text = b"while (1) break; break;";
-    let items = vec![in alloc; broken_loop(alloc)?]?;
+    let mut items = Vec::new(alloc);
+    items.push(broken_loop(alloc)?)?;
     assert!(rt; count_of(alloc, text, &items) == Some(1));
-    let items = vec![in alloc; broken_loop(alloc)?, tree::Stmt::Break { place: 17 }]?;
+    items.push(tree::Stmt::Break { place: 17 })?;
     let refusal = refusal_of(alloc, text, &items);
     assert!(rt;
         refusal
@@ -121,8 +130,11 @@ fn numbers_locals_in_order(rt: HostRuntime) -> Result<(), Fail> {
         value: Num::int(1),
     };
     let first = named(alloc, Name { from: 4, to: 5 }, Some(one));
-    let second = named(alloc, Name { from: 11, to: 12 }, None);
-    let items = vec![in alloc; ints(alloc, 0, vec![in alloc; first, second]?)?]?;
+    let mut both = Vec::new(alloc);
+    both.push(first)?;
+    both.push(named(alloc, Name { from: 11, to: 12 }, None))?;
+    let mut items = Vec::new(alloc);
+    items.push(ints(alloc, 0, both)?)?;
     let fits = match judged_at_start(alloc, b"int a = 1, b;", &items) {
         Ok(all) => all.len() == 2 && is_local(&all[0], 0) && is_local(&all[1], 1),
         Err(_) => false,
@@ -135,15 +147,15 @@ fn numbers_locals_in_order(rt: HostRuntime) -> Result<(), Fail> {
 #[test]
 fn declares_a_name_again_in_a_block(rt: HostRuntime) -> Result<(), Fail> {
     let alloc = rt.alloc();
-    let first = vec![in alloc; named(alloc, Name { from: 4, to: 5 }, None)]?;
-    let first = ints(alloc, 0, first)?;
-    let second = vec![in alloc; named(alloc, Name { from: 13, to: 14 }, None)]?;
-    let second = ints(alloc, 9, second)?;
+    let mut inner = Vec::new(alloc);
+    inner.push(locals(alloc, 9, &[Name { from: 13, to: 14 }])?)?;
     let block = tree::Stmt::Block {
         place: 7,
-        items: vec![in alloc; second]?,
+        items: inner,
     };
-    let items = vec![in alloc; first, block]?;
+    let mut items = Vec::new(alloc);
+    items.push(locals(alloc, 0, &[Name { from: 4, to: 5 }])?)?;
+    items.push(block)?;
     assert!(rt; count_of(alloc, b"int a; { int a; }", &items) == Some(2));
     Ok(())
 }
@@ -151,9 +163,9 @@ fn declares_a_name_again_in_a_block(rt: HostRuntime) -> Result<(), Fail> {
 #[test]
 fn refuses_a_name_twice_in_a_scope(rt: HostRuntime) -> Result<(), Fail> {
     let alloc = rt.alloc();
-    let first = named(alloc, Name { from: 4, to: 5 }, None);
-    let second = named(alloc, Name { from: 7, to: 8 }, None);
-    let items = vec![in alloc; ints(alloc, 0, vec![in alloc; first, second]?)?]?;
+    let names = [Name { from: 4, to: 5 }, Name { from: 7, to: 8 }];
+    let mut items = Vec::new(alloc);
+    items.push(locals(alloc, 0, &names)?)?;
     let refusal = refusal_of(alloc, b"int a, a;", &items);
     assert!(rt;
         refusal
