@@ -16,3 +16,4 @@ pub mod SlotRows
 pub mod MarkedRows
 pub mod Bases
 pub mod MadeEach
+pub mod InPlace

@@ -2,7 +2,6 @@ pub mod Backwards
 pub mod Below
 pub mod Exact
 pub mod FreeRows
-pub mod InPlace
 pub mod ListRows
 pub mod Listed
 pub mod LiveRows

@@ -86,8 +86,8 @@ pub enum Action {
     Join,
 }
 
-/// The places of an action: two at most, but for the texts of a print.
-pub type Places = SmallVec<Place, 2>;
+/// The places of an action: most that have any have one, and each Step has room for it.
+pub type Places = SmallVec<Place, 1>;
 
 /// The registers that an action reads, or the slots of its list: most have few.
 pub type Numbers = SmallVec<u32, 4>;

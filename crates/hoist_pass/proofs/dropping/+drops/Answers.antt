@@ -12,7 +12,8 @@ use Rattle.pin_flow.specs.Views.{state_view, ways_view}
 use Rattle.pin_flow.proofs.FlowRows.{row_over, either_is, round_is, loop_from}
 use Rattle.hoist_pass.specs.inner.Hoist.{needed, all_needed, dropped, dropped_within}
 use Rattle.hoist_pass.proofs.DropRows.{if_dropped, loop_dropped}
-use Rattle.hoist_pass.proofs.Within.{dropped_is, kept_is, row_set, row_done, ways_set, needs_set, temp_of_if, row_within}
+use Rattle.pin_flow.proofs.InPlace.{row_set, row_done, ways_set, temp_of_if, row_within}
+use Rattle.hoist_pass.proofs.Within.{dropped_is, kept_is, needs_set}
 use Rattle.hoist_pass.proofs.dropping.+drops.Goals.{drop_row-then-not-kept+in_ok-rows, drop_row-else-not-kept}
 use Rattle.hoist_pass.proofs.dropping.+drops.Goals as goal
 

@@ -7,7 +7,8 @@ use Rattle.struct_ir.specs.Nodes.{more_nodes}
 use Rattle.struct_ir.specs.Views.{nodes_view}
 use Rattle.hoist_pass.specs.inner.Hoist.{lifted, lifted_within, with_looks}
 use Rattle.hoist_pass.proofs.LiftRows.{if_lifted, loop_lifted}
-use Rattle.hoist_pass.proofs.Within.{lifted_is, row_set, row_done, temp_of_if, row_within}
+use Rattle.pin_flow.proofs.InPlace.{row_set, row_done, temp_of_if, row_within}
+use Rattle.hoist_pass.proofs.Within.{lifted_is}
 use Rattle.hoist_pass.proofs.lifting.+lifts.Goals as goal
 
 pub lift_node-returns-in_ok-lift_row-in-If : goal.lift_node-returns-in_ok-lift_row-in-If
