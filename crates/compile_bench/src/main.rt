@@ -15,7 +15,6 @@ use ir_lower::lower;
 use std::env::Env;
 use std::time::Instant;
 use std::{env, io};
-use struct_ir::Ir;
 use struct_ir::linear::Code;
 
 // The most bytes that a text may have.
@@ -37,7 +36,7 @@ struct Times {
 #[derive(Drop)]
 enum Outcome {
     Refused(Refusal),
-    Built(Reading, Ir, Code, Times),
+    Built(Reading, Code, Times),
 }
 
 // The memory ran out.
@@ -61,14 +60,14 @@ fn measure(rt: &HostRuntime, text: &[u8]) -> io::Result<Outcome>
     let ir = lower(alloc, &reading.typed).map_err(no_memory)?;
     let lowered = start.elapsed(rt)?.as_micros();
     let start = Instant::now(rt)?;
-    let code = compile(alloc, &ir).map_err(no_memory)?;
+    let code = compile(alloc, ir).map_err(no_memory)?;
     let compiled = start.elapsed(rt)?.as_micros();
     let times = Times {
         read,
         lowered,
         compiled,
     };
-    Ok(Outcome::Built(reading, ir, code, times))
+    Ok(Outcome::Built(reading, code, times))
 }
 
 // The bytes of a file.
@@ -87,11 +86,11 @@ fn load(rt: &HostRuntime, name: &str) -> io::Result<Vec<u8>> {
 fn report(rt: &HostRuntime, bytes: usize, outcome: &Outcome) -> io::Result<()> {
     match outcome {
         Outcome::Refused(refusal) => println!(rt; "refused at {}", refusal.place),
-        Outcome::Built(reading, ir, code, times) => {
+        Outcome::Built(reading, code, times) => {
             println!(rt; "{bytes} bytes, {} tokens", reading.tokens.len())?;
             println!(rt;
                 "{} functions, {} of them compiled",
-                ir.funcs.len(),
+                reading.typed.funcs.len(),
                 code.funcs.len()
             )?;
             eprintln!(rt;

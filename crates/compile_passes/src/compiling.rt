@@ -5,8 +5,6 @@ ghost use Rattle.struct_ir.specs.Erased.{ir_erased};
 ghost use Rattle.struct_ir.specs.LinearViews.{code_view};
 ghost use Rattle.struct_ir.specs.Valid.{is_valid};
 ghost use Rattle.struct_ir.specs.WholeViews.{ir_view};
-ghost use Rattle.pin_flow.specs.Funcs.{EveryFunc, IsCovered, IsExact, IsHoisted};
-ghost use Rattle.pin_flow.specs.Slots.{HasOwnSlots};
 ghost use Rattle.pin_checker.specs.CheckedViews.{code_of};
 ghost use Rattle.pin_checker.specs.Safe.{IsSafe};
 ghost use Rattle.compile_passes.specs.Compiled.{IsCompiled, IsPrepared};
@@ -19,19 +17,19 @@ use pin_frames::place_owned;
 use std::alloc::Global;
 use struct_ir::Ir;
 use struct_ir::linear::Code;
-use translate_pass::insert;
+use translate_pass::insert_owned;
 
 /// The code with its Looks, hoisted, with safepoints and exact lists: the same once erased.
 ///
 /// # Errors
 ///
 /// Only want of memory.
-pub fn prepare(alloc: Global, ir: &Ir) -> Result<Ir, NoMemory>
-    requires valid { is_valid (ir_view ir.now) ≡ true }
-    requires bare { ir_erased (ir_view ir.now) ≡ ir_view ir.now }
-    ensures { IfOk result (λ x. IsPrepared (ir_view ir.now) (ir_view x)) }
+pub fn prepare(alloc: Global, ir: Ir) -> Result<Ir, NoMemory>
+    requires valid { is_valid (ir_view ir) ≡ true }
+    requires bare { ir_erased (ir_view ir) ≡ ir_view ir }
+    ensures { IfOk result (λ x. IsPrepared (ir_view ir) (ir_view x)) }
 {
-    let looked = insert(alloc, ir)?;
+    let looked = insert_owned(alloc, ir)?;
     let hoisted = hoist_owned(alloc, looked)?;
     place_owned(alloc, hoisted)
 }
@@ -53,10 +51,10 @@ fn checked(alloc: Global, ir: Ir) -> Result<Checked, NoMemory>
 /// # Errors
 ///
 /// Only want of memory.
-pub fn compile(alloc: Global, ir: &Ir) -> Result<Code, NoMemory>
-    requires valid { is_valid (ir_view ir.now) ≡ true }
-    requires bare { ir_erased (ir_view ir.now) ≡ ir_view ir.now }
-    ensures { IfOk result (λ code. IsCompiled (ir_view ir.now) (code_view code)) }
+pub fn compile(alloc: Global, ir: Ir) -> Result<Code, NoMemory>
+    requires valid { is_valid (ir_view ir) ≡ true }
+    requires bare { ir_erased (ir_view ir) ≡ ir_view ir }
+    ensures { IfOk result (λ code. IsCompiled (ir_view ir) (code_view code)) }
 {
     let ready = prepare(alloc, ir)?;
     let checked = checked(alloc, ready)?;

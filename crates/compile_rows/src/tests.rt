@@ -38,7 +38,7 @@ fn prepared(alloc: Global, bytes: &[u8]) -> Result<Vec<u8>, CompileFault>
 {
     let reading = read(alloc, bytes)?;
     let ir = lower(alloc, &reading.typed).map_err(no_memory)?;
-    let ready = prepare(alloc, &ir).map_err(no_memory)?;
+    let ready = prepare(alloc, ir).map_err(no_memory)?;
     text(alloc, &ready).map_err(no_memory)
 }
 
@@ -48,7 +48,7 @@ fn emitted(alloc: Global, bytes: &[u8]) -> Result<Vec<u8>, CompileFault>
 {
     let reading = read(alloc, bytes)?;
     let ir = lower(alloc, &reading.typed).map_err(no_memory)?;
-    let code = compile(alloc, &ir).map_err(no_memory)?;
+    let code = compile(alloc, ir).map_err(no_memory)?;
     code_text(alloc, &code).map_err(no_memory)
 }
 

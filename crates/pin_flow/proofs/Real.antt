@@ -1,7 +1,7 @@
 -- What a state says, some path shows. v: the answer before the code.
 use Rattle.std.proofs.Common.{◌≡◌, ℕ, List, ◌∷◌, Bool, true, false, refl, ap, subst, ◌∙◌}
 use Rattle.struct_ir.specs.Nodes.{Act, Node, plain, if_, loop, break_, next_, ret, Nodes, no_nodes, more_nodes}
-use Rattle.struct_ir.specs.Flow.{Here, does, Stays, Path, entry, on}
+use Rattle.struct_ir.specs.Flow.{Here, does, Stays, Path, on}
 use Rattle.struct_ir.specs.Structured.{Position, then_, in_body, in_latch, out_of, end_of, here, next, structured}
 use Rattle.pin_flow.specs.Marks.{Mark, IsFair, marked, answer_from, State, unreached, good, bad, join, state_of, after, Ways, at, either, in_turn, end_state, round_of, head_of, flow, flow_node, Each, EachIn, EveryAct, EveryActIn}
 use Rattle.pin_flow.proofs.Sound.{after_same}

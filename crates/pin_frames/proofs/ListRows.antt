@@ -1,14 +1,13 @@
 -- Rows with one slot more in their lists, as the program makes them.
 use Rattle.std.proofs.Math.Seq.{take-append_seam}
-use Rattle.std.proofs.lemmas.List.{at_drop_more, take_more_set, with_items_is}
-use Rattle.std.proofs.Common.{sym, ◌≤◌, ◌-◌, ◌<◌, length, length-append, take, drop, get_or, set, take_all, drop_of_length-le, drop-set-lt, slice_index_or, ◌≡◌, ◌+◌, ℕ, List, [], ◌∷◌, ◌++◌, Bool, false, refl, ap, ◌∙◌, arith}
+use Rattle.std.proofs.lemmas.List.{at_drop_more}
+use Rattle.std.proofs.Common.{sym, ◌≤◌, ◌-◌, ◌<◌, length, length-append, take, drop, get_or, set, drop-set-lt, slice_index_or, ◌≡◌, ◌+◌, ℕ, List, [], ◌∷◌, ◌++◌, Bool, false, refl, ap, ◌∙◌, arith}
 use Rattle.std.specs.Global.{Vec}
-use Rattle.std.specs.Vec.{with_items}
 use Rattle.struct_ir.specs.declared.code.Node.{Node as CodeNode}
 use Rattle.struct_ir.specs.declared.code.NodeKind.TheViews as views
 use Rattle.struct_ir.specs.Nodes.{Node, if_, loop, Nodes, no_nodes, more_nodes}
-use Rattle.struct_ir.specs.Views.{kind_view, node_view, nodes_view, followed}
-use Rattle.struct_ir.proofs.Views.{if_is, if_view, loop_is, loop_view, followed_none, put_view}
+use Rattle.struct_ir.specs.Views.{kind_view, node_view, nodes_view}
+use Rattle.struct_ir.proofs.Views.{if_is, if_view, loop_is, loop_view}
 use Rattle.pin_flow.specs.Marks.{State, Ways, in_turn, end_state, head_of, flow, flow_node}
 use Rattle.pin_flow.specs.Held.{held}
 use Rattle.pin_flow.specs.Live.{Live, lives, live, live_node, head_live, latch_live, body_lives, latch_lives}

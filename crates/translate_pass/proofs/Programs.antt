@@ -1,5 +1,5 @@
 -- Programs with Looks.
-use Rattle.std.proofs.Common.{◌≡◌, ℕ, List, [], ◌∷◌, map, length, Some, Bool, true, false, inl, inr, refl, sym, ap, subst, ◌∙◌, arith}
+use Rattle.std.proofs.Common.{◌≡◌, ℕ, List, [], ◌∷◌, map, length, Some, Bool, true, false, inl, inr, refl, sym, ap, subst, arith}
 use Rattle.std.proofs.lemmas.Bool.{and_parts, and_from, both_ways, lt-ltb}
 use Rattle.std.specs.List.{list_all}
 use Rattle.struct_ir.specs.Nodes.{Func, Ir, Nodes}

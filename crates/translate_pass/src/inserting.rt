@@ -1,15 +1,16 @@
-ghost use Rattle.std.specs.Prelude.{◌≡◌, ◌<◌, ◌^◌, length, map, IfOk, OnOk, true};
-ghost use Rattle.struct_ir.specs.Nodes.{Nodes, if_, loop, more_nodes};
+ghost use Rattle.std.specs.Prelude.{◌≡◌, ◌≤◌, ◌<◌, ◌^◌, length, map, IfOk, OnOk, true};
+ghost use Rattle.struct_ir.specs.Nodes.{Nodes, plain, step};
 ghost use Rattle.struct_ir.specs.Erased.{ir_erased};
 ghost use Rattle.struct_ir.specs.Valid.{is_valid};
 ghost use Rattle.struct_ir.specs.Views.{place_view, step_view, node_view, nodes_view, func_view, followed};
 ghost use Rattle.struct_ir.specs.WholeViews.{ir_view};
 ghost use Rattle.pin_flow.specs.Funcs.{EveryFunc, IsCovered};
 ghost use Rattle.pin_flow.specs.Slots.{slot_if, HasOwnSlots};
-ghost use Rattle.translate_pass.specs.inner.Insert.{place_through, step_through, with_look, with_looks, places_in, place_of, inserted, inserted_in, func_inserted, ir_inserted};
+ghost use Rattle.translate_pass.specs.inner.Insert.{place_through, step_through, with_look, with_looks, places_in, inserted, with_node, func_inserted, ir_inserted};
 
 use ak_words::NoMemory;
-use pin_flow::copies::{add, branches, copy_action, copy_call, copy_literals, node, rounds};
+use pin_flow::copies::{add, branches, node, rounds};
+use pin_flow::programs::copy_ir;
 use pin_flow::slots::{bases_of, slot_of};
 use smallvec::SmallVec;
 use std::alloc::Global;
@@ -29,103 +30,137 @@ pub fn insert(alloc: Global, ir: &Ir) -> Result<Ir, NoMemory>
     ensures covered { IfOk result (λ x. EveryFunc IsCovered (ir_view x)) }
     ensures slots { IfOk result (λ x. EveryFunc HasOwnSlots (ir_view x)) }
 {
+    let own = copy_ir(alloc, ir)?;
+    insert_owned(alloc, own)
+}
+
+/// The same, of code that nothing needs any more: what stays of it isn't copied.
+///
+/// # Errors
+///
+/// Only want of memory.
+pub fn insert_owned(alloc: Global, ir: Ir) -> Result<Ir, NoMemory>
+    requires valid { is_valid (ir_view ir) ≡ true }
+    requires bare { ir_erased (ir_view ir) ≡ ir_view ir }
+    ensures valid { IfOk result (λ x. is_valid (ir_view x) ≡ true) }
+    ensures erased { IfOk result (λ x. ir_erased (ir_view x) ≡ ir_view ir) }
+    ensures covered { IfOk result (λ x. EveryFunc IsCovered (ir_view x)) }
+    ensures slots { IfOk result (λ x. EveryFunc HasOwnSlots (ir_view x)) }
+{
     insert_all(alloc, ir)
 }
 
-fn insert_all(alloc: Global, ir: &Ir) -> Result<Ir, NoMemory>
-    ensures { IfOk result (λ x. ir_view x ≡ ir_inserted (ir_view ir.now)) }
+fn insert_all(alloc: Global, ir: Ir) -> Result<Ir, NoMemory>
+    ensures { IfOk result (λ x. ir_view x ≡ ir_inserted (ir_view ir)) }
 {
-    let literals = copy_literals(alloc, &ir.literals)?;
-    let funcs = insert_funcs(alloc, &ir.funcs)?;
+    let funcs = insert_funcs(alloc, ir.funcs)?;
     Ok(Ir {
-        globals: ir.globals.to_vec(alloc)?,
-        literals,
+        globals: ir.globals,
+        literals: ir.literals,
         funcs,
         main: ir.main,
     })
 }
 
-fn insert_funcs(alloc: Global, funcs: &[IrFunc]) -> Result<Vec<IrFunc>, NoMemory>
-    ensures { IfOk result (λ v. map func_view v.items ≡ map func_inserted (map func_view funcs.now)) }
+fn insert_funcs(alloc: Global, funcs: Vec<IrFunc>) -> Result<Vec<IrFunc>, NoMemory>
+    ensures { IfOk result (λ v. map func_view v.items ≡ map func_inserted (map func_view funcs.items)) }
 {
-    let mut out = Vec::new(alloc);
+    let mut out = Vec::with_capacity(alloc, funcs.len())?;
     for f in funcs {
         out.push(insert_func(alloc, f)?)?;
     }
     Ok(out)
 }
 
-fn insert_func(alloc: Global, f: &IrFunc) -> Result<IrFunc, NoMemory>
-    ensures { IfOk result (λ x. func_view x ≡ func_inserted (func_view f.now)) }
+fn insert_func(alloc: Global, f: IrFunc) -> Result<IrFunc, NoMemory>
+    ensures { IfOk result (λ x. func_view x ≡ func_inserted (func_view f)) }
 {
     let temps = f.temps;
-    let bases = bases_of(alloc, f)?;
-    let nodes = insert_row(alloc, &bases, &f.nodes)?;
+    let bases = bases_of(alloc, &f)?;
+    let nodes = insert_row(alloc, &bases, f.nodes)?;
     Ok(IrFunc {
         params: f.params,
         temps,
         slots: bases.len() as u32,
-        objects: f.objects.to_vec(alloc)?,
+        objects: f.objects,
         nodes,
     })
 }
 
-#[cycle(inserts)]
-fn insert_row(alloc: Global, bases: &[u32], rows: &[Node]) -> Result<Vec<Node>, NoMemory>
-    requires { length bases.now < 2 ^ 32 }
-    ensures { IfOk result (λ v. nodes_view v.items ≡ inserted (slot_if bases.now) (nodes_view rows.now)) }
+// How many accesses a node makes itself.
+fn accesses(n: &Node) -> usize
+    ensures { result ≡ length (places_in (node_view n.now)) }
 {
-    let mut out = Vec::with_capacity(alloc, rows.len())?;
+    match &n.kind {
+        NodeKind::Step(s) => s.places.len(),
+        _ => 0,
+    }
+}
+
+// Room for the nodes and a Look for each of their accesses.
+fn room(rows: &[Node]) -> usize
+    ensures { length rows.now ≤ result }
+{
+    let mut all = rows.len();
     for n in rows {
-        add_looks(bases, n, &mut out)?;
-        add(&mut out, insert_node(alloc, bases, n)?)?;
+        all = all.saturating_add(accesses(n));
+    }
+    all
+}
+
+#[cycle(inserts)]
+fn insert_row(alloc: Global, bases: &[u32], rows: Vec<Node>) -> Result<Vec<Node>, NoMemory>
+    requires { length bases.now < 2 ^ 32 }
+    ensures { IfOk result (λ v. nodes_view v.items ≡ inserted (slot_if bases.now) (nodes_view rows.items)) }
+{
+    let mut out = Vec::with_capacity(alloc, room(&rows))?;
+    for n in rows {
+        insert_node(alloc, bases, n, &mut out)?;
     }
     Ok(out)
 }
 
 #[cycle(inserts)]
-fn insert_node(alloc: Global, bases: &[u32], n: &Node) -> Result<Node, NoMemory>
+fn insert_node(
+    alloc: Global,
+    bases: &[u32],
+    n: Node,
+    out: &mut Vec<Node>,
+) -> Result<(), NoMemory>
     requires { length bases.now < 2 ^ 32 }
-    ensures { IfOk result (λ x. node_view x ≡ inserted_in (slot_if bases.now) (node_view n.now)) }
+    ensures { OnOk result ((rest : Nodes) → followed out.new.items rest ≡ followed out.old.items (with_node (slot_if bases.now) (node_view n) rest)) }
 {
-    match &n.kind {
-        NodeKind::Set(to, calc) => Ok(node(n.place, NodeKind::Set(*to, *calc))),
+    let Node { place, kind } = n;
+    match kind {
         NodeKind::If(temp, one, other) => {
             let yes = insert_row(alloc, bases, one)?;
             let no = insert_row(alloc, bases, other)?;
-            Ok(branches(n.place, *temp, yes, no))
+            add(out, branches(place, temp, yes, no))
         }
         NodeKind::Loop(body, step) => {
             let first = insert_row(alloc, bases, body)?;
             let second = insert_row(alloc, bases, step)?;
-            Ok(rounds(n.place, first, second))
+            add(out, rounds(place, first, second))
         }
-        NodeKind::Break => Ok(node(n.place, NodeKind::Break)),
-        NodeKind::Next => Ok(node(n.place, NodeKind::Next)),
-        NodeKind::Call(c) => Ok(node(n.place, NodeKind::Call(copy_call(alloc, c)?))),
-        NodeKind::Ret(temp) => Ok(node(n.place, NodeKind::Ret(*temp))),
-        NodeKind::Step(s) => {
-            let step = insert_step(alloc, bases, s)?;
-            Ok(node(n.place, NodeKind::Step(step)))
-        }
-        NodeKind::Look(slot, base) => Ok(node(n.place, NodeKind::Look(*slot, *base))),
-        NodeKind::Safepoint(slots) => {
-            Ok(node(n.place, NodeKind::Safepoint(slots.to_vec(alloc)?)))
-        }
-        NodeKind::Begin(i) => Ok(node(n.place, NodeKind::Begin(*i))),
-        NodeKind::End(i) => Ok(node(n.place, NodeKind::End(*i))),
+        NodeKind::Step(s) => add_step(alloc, bases, place, s, out),
+        leaf => add(out, node(place, leaf)),
     }
 }
 
-// The Looks for the accesses that a node makes itself.
-fn add_looks(bases: &[u32], n: &Node, out: &mut Vec<Node>) -> Result<(), NoMemory>
+// A step, behind the Looks for its accesses.
+fn add_step(
+    alloc: Global,
+    bases: &[u32],
+    place: u32,
+    s: StepNode,
+    out: &mut Vec<Node>,
+) -> Result<(), NoMemory>
     requires { length bases.now < 2 ^ 32 }
-    ensures { OnOk result ((rest : Nodes) → followed out.new.items rest ≡ followed out.old.items (with_looks (slot_if bases.now) (place_of (node_view n.now)) (places_in (node_view n.now)) rest)) }
+    ensures { OnOk result ((rest : Nodes) → followed out.new.items rest ≡ followed out.old.items (with_node (slot_if bases.now) (plain place (step (step_view s))) rest)) }
 {
-    match &n.kind {
-        NodeKind::Step(s) => look_for(bases, n.place, &s.places, out),
-        _ => Ok(()),
-    }
+    look_for(bases, place, &s.places, out)?;
+    let through = insert_step(alloc, bases, s)?;
+    add(out, node(place, NodeKind::Step(through)))
 }
 
 fn look_for(
@@ -177,15 +212,16 @@ fn insert_places(alloc: Global, bases: &[u32], places: &[Place]) -> Result<Place
     Ok(out)
 }
 
-fn insert_step(alloc: Global, bases: &[u32], s: &StepNode) -> Result<StepNode, NoMemory>
+fn insert_step(alloc: Global, bases: &[u32], s: StepNode) -> Result<StepNode, NoMemory>
     requires { length bases.now < 2 ^ 32 }
-    ensures { IfOk result (λ x. step_view x ≡ step_through (slot_if bases.now) (step_view s.now)) }
+    ensures { IfOk result (λ x. step_view x ≡ step_through (slot_if bases.now) (step_view s)) }
 {
+    let places = insert_places(alloc, bases, &s.places)?;
     Ok(StepNode {
-        action: copy_action(alloc, &s.action)?,
-        places: insert_places(alloc, bases, &s.places)?,
+        action: s.action,
+        places,
         to: s.to,
-        temps: SmallVec::from_slice(alloc, &s.temps)?,
-        slots: SmallVec::from_slice(alloc, &s.slots)?,
+        temps: s.temps,
+        slots: s.slots,
     })
 }

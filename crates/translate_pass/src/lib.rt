@@ -5,4 +5,4 @@
 
 pub mod inserting;
 
-pub use inserting::insert;
+pub use inserting::{insert, insert_owned};

@@ -15,9 +15,9 @@ use struct_ir::Ir;
 use struct_ir::linear::Code;
 
 // A caller, proved from the contracts alone: code that is safe for moves.
-fn safe_code(alloc: Global, ir: &Ir) -> Result<Code, NoMemory>
-    requires valid { is_valid (ir_view ir.now) ≡ true }
-    requires bare { ir_erased (ir_view ir.now) ≡ ir_view ir.now }
+fn safe_code(alloc: Global, ir: Ir) -> Result<Code, NoMemory>
+    requires valid { is_valid (ir_view ir) ≡ true }
+    requires bare { ir_erased (ir_view ir) ≡ ir_view ir }
     ensures { IfOk result (λ code. (f : ℕ) → PinSafe (linear (code_view code).funcs) (entry_of f)) }
 {
     compile(alloc, ir)

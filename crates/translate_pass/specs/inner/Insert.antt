@@ -63,6 +63,10 @@ abbrev mutual
   inserted_in slot_of (next_ place) = next_ place
   inserted_in slot_of (ret place temp) = ret place temp
 
+-- a node behind its Looks, and then the rest
+abbrev pub with_node : (ℕ → Option ℕ) → Node → Nodes → Nodes
+with_node slot_of n rest = with_looks slot_of (place_of n) (places_in n) (more_nodes (inserted_in slot_of n) rest)
+
 -- a function with its Looks and slots
 abbrev pub func_inserted : Func → Func
 func_inserted f = record { params = f.params; temps = f.temps; slots = length (bases_of f); objects = f.objects; nodes = inserted (slot_if (bases_of f)) f.nodes }

@@ -3,7 +3,7 @@ use Rattle.std.specs.Global.{Vec}
 use Rattle.std.specs.Vec.{with_items}
 use Rattle.struct_ir.specs.declared.code.Node.{Node as CodeNode}
 use Rattle.struct_ir.specs.declared.code.NodeKind.TheViews as views
-use Rattle.struct_ir.specs.Views.{kind_view, node_view, nodes_view}
+use Rattle.struct_ir.specs.Views.{kind_view, nodes_view}
 use Rattle.pin_flow.specs.Marks.{Ways, in_turn, turned, end_state, head_of, flow}
 use Rattle.pin_flow.specs.Held.{held}
 use Rattle.pin_flow.specs.Live.{live, head_live}
