@@ -1,5 +1,5 @@
 -- Functions of a program, one by one.
-use Rattle.std.proofs.Common.{◌≡◌, ℕ, zero, suc, ◌≤◌, List, [], ◌∷◌, ◌++◌, length, map, append-nil, Bool, true, None, refl, sym, ap, ◌∙◌, subst, arith}
+use Rattle.std.proofs.Common.{◌≡◌, ℕ, zero, suc, ◌≤◌, List, [], ◌∷◌, length, map, Bool, true, None, refl, sym, ap, ◌∙◌, subst}
 use Rattle.std.specs.Prelude.{slice_get}
 use Rattle.std.specs.List.{list_all}
 use Rattle.c_tree.specs.declared.typed.Literal.{Literal}
@@ -19,26 +19,12 @@ use Rattle.emit_code.proofs.Safepoints.{left_of, right_of}
 abbrev pub is_placed : Func → Bool
 is_placed f = are_placed None f.nodes
 
-map-append_step : (out : List CodeFunc) (x : CodeFunc) (rest : List LinearFunc) → map linear_func_view (out ++ (x ∷ [])) ++ rest ≡ map linear_func_view out ++ (linear_func_view x ∷ rest)
-map-append_step [] x rest = refl
-map-append_step (y ∷ out) x rest = ap (λ l. linear_func_view y ∷ l) (map-append_step out x rest)
-
 -- one function more: of those that are left, the first and the others have their safepoints
 pub placed_first : (all : List IrFunc) (f : IrFunc) (rest : List IrFunc) → all ≡ f ∷ rest → list_all is_placed (map func_view all) ≡ true → is_placed (func_view f) ≡ true
 placed_first all f rest e h = left_of (is_placed (func_view f)) (list_all is_placed (map func_view rest)) (ap (λ l. list_all is_placed (map func_view l)) (sym e) ∙ h)
 
 pub placed_rest : (all : List IrFunc) (f : IrFunc) (rest : List IrFunc) → all ≡ f ∷ rest → list_all is_placed (map func_view all) ≡ true → list_all is_placed (map func_view rest) ≡ true
 placed_rest all f rest e h = right_of (is_placed (func_view f)) (list_all is_placed (map func_view rest)) (ap (λ l. list_all is_placed (map func_view l)) (sym e) ∙ h)
-
-pub linear_step : (out : List CodeFunc) (f : IrFunc) (x : CodeFunc) (all rest : List IrFunc) (whole : List LinearFunc) → all ≡ f ∷ rest → linear_func_view x ≡ func_linear (func_view f)
-    → map linear_func_view out ++ map func_linear (map func_view all) ≡ whole → map linear_func_view (out ++ (x ∷ [])) ++ map func_linear (map func_view rest) ≡ whole
-linear_step out f x all rest whole e made inv =
-    map-append_step out x (map func_linear (map func_view rest)) ∙ (ap (λ y. map linear_func_view out ++ (y ∷ map func_linear (map func_view rest))) made
-    ∙ (ap (λ l. map linear_func_view out ++ map func_linear (map func_view l)) (sym e) ∙ inv))
-
-pub linear_end : (out : List CodeFunc) (rest : List IrFunc) (whole : List LinearFunc) → length rest ≡ 0 → map linear_func_view out ++ map func_linear (map func_view rest) ≡ whole → map linear_func_view out ≡ whole
-linear_end out [] whole e inv = sym (append-nil (map linear_func_view out)) ∙ inv
-linear_end out (x ∷ rest) whole e inv = absurd (omega (arith, e))
 
 params_of : (xs : List CodeFunc) → map (λ f. f.params) xs ≡ map (λ g. g.params) (map linear_func_view xs)
 params_of [] = refl
