@@ -121,12 +121,7 @@ fn insert_row(alloc: Global, bases: &[u32], rows: Vec<Node>) -> Result<Vec<Node>
 }
 
 #[cycle(inserts)]
-fn insert_node(
-    alloc: Global,
-    bases: &[u32],
-    n: Node,
-    out: &mut Vec<Node>,
-) -> Result<(), NoMemory>
+fn insert_node(alloc: Global, bases: &[u32], n: Node, out: &mut Vec<Node>) -> Result<(), NoMemory>
     requires { length bases.now < 2 ^ 32 }
     ensures { OnOk result ((rest : Nodes) → followed out.new.items rest ≡ followed out.old.items (with_node (slot_if bases.now) (node_view n) rest)) }
 {
