@@ -1,4 +1,4 @@
-ghost use Rattle.std.specs.Prelude.{◌≡◌, ◌<◌, ◌≤◌, length, nat_eq, IfSome};
+ghost use Rattle.std.specs.Prelude.{◌≡◌, ◌<◌, ◌≤◌, ℕ, List, ◌∷◌, Some, length, nat_eq, IfSome};
 ghost use Rattle.c_lex.specs.Spellings.{word_text, word_of, mark_text, mark_of, library_names, is_one_of, is_taken};
 
 use crate::token::{Mark, Word};
@@ -248,9 +248,31 @@ pub(crate) fn word_of(run: &[u8]) -> Option<Word>
     None
 }
 
-/// The longest mark that the bytes begin with, if they begin with one.
+// The mark of a byte that begins no other mark. Most marks of a text are such.
+#[tactic(auto, unfolding(crate::specs::Spellings::mark_of, crate::specs::Spellings::longest_marks_first, crate::specs::Spellings::mark_text))]
+fn sole_mark(first: u8) -> Option<Mark>
+    ensures mark { IfSome result (λ mark. (rest : List ℕ) → mark_of (first ∷ rest) ≡ Some mark) }
+    ensures one { IfSome result (λ mark. length (mark_text mark) ≡ 1) }
+{
+    match first {
+        b'~' => Some(Mark::Tilde),
+        b'?' => Some(Mark::Question),
+        b':' => Some(Mark::Colon),
+        b';' => Some(Mark::Semicolon),
+        b',' => Some(Mark::Comma),
+        b'(' => Some(Mark::OpenParen),
+        b')' => Some(Mark::CloseParen),
+        b'[' => Some(Mark::OpenBracket),
+        b']' => Some(Mark::CloseBracket),
+        b'{' => Some(Mark::OpenBrace),
+        b'}' => Some(Mark::CloseBrace),
+        _ => None,
+    }
+}
+
+// The first of the marks that the bytes begin with, the longest first.
 #[tactic(auto, unfolding(crate::specs::Spellings::mark_of, crate::specs::Spellings::longest_marks_first))]
-pub(crate) fn mark_of(bytes: &[u8]) -> Option<Mark>
+fn longest_mark(bytes: &[u8]) -> Option<Mark>
     ensures mark { result ≡ mark_of bytes.now }
     ensures within { IfSome result (λ mark. length (mark_text mark) ≤ length bytes.now) }
 {
@@ -260,6 +282,21 @@ pub(crate) fn mark_of(bytes: &[u8]) -> Option<Mark>
         }
     }
     None
+}
+
+/// The longest mark that the bytes begin with, if they begin with one.
+pub(crate) fn mark_of(bytes: &[u8]) -> Option<Mark>
+    ensures mark { result ≡ mark_of bytes.now }
+    ensures within { IfSome result (λ mark. length (mark_text mark) ≤ length bytes.now) }
+{
+    let sole = match bytes.first() {
+        Some(first) => sole_mark(*first),
+        None => None,
+    };
+    match sole {
+        Some(mark) => Some(mark),
+        None => longest_mark(bytes),
+    }
 }
 
 /// Whether `#define` may not take the name.

@@ -3,7 +3,7 @@ use Rattle.c_lex.specs.declared.token.Mark.TheVariants as marks
 use Rattle.std.specs.List.{starts_with}
 use Rattle.c_lex.specs.Spellings.{mark_text, longest_marks_first}
 use Rattle.c_lex.proofs.Finds.{find-drop_yes, find-drop_no}
-use Rattle.c_lex.proofs.spelling.mark_of.Goals as goal
+use Rattle.c_lex.proofs.spelling.longest_mark.Goals as goal
 
 pub returns-then-starts_with-clause-mark : goal.returns-then-starts_with-clause-mark
 unfolding longest_marks_first
