@@ -1,6 +1,8 @@
 -- Rows of the code's typed trees, and the numbers of locals in them.
-use Rattle.std.proofs.Common.{◌≡◌, ℕ, List, [], ◌∷◌, map, refl, sym, ap, ◌∙◌, rules}
+use Rattle.std.proofs.Common.{◌≡◌, ℕ, List, [], ◌∷◌, map, length, refl, sym, ap, ◌∙◌, rules}
+use Rattle.std.proofs.lemmas.List.{with_items_is}
 use Rattle.std.specs.Global.{Vec}
+use Rattle.std.specs.Vec.{with_items}
 use Rattle.c_tree.specs.declared.typed.Lib.{Lib}
 use Rattle.c_tree.specs.declared.typed.Expr.{Expr as CodeExpr}
 use Rattle.c_tree.specs.declared.typed.ExprNode.{Row_of-Expr, end_of-Expr, more_of-Expr, items-the_row-Expr}
@@ -8,8 +10,8 @@ use Rattle.c_tree.specs.declared.typed.ExprNode.TheViews as views
 use Rattle.c_tree.specs.declared.typed.Stmt.{Stmt as CodeStmt}
 use Rattle.c_tree.specs.declared.typed.StmtNode.{Row_of-Stmt, end_of-Stmt, more_of-Stmt, items-the_row-Stmt}
 use Rattle.c_tree.specs.declared.typed.StmtNode.TheViews as stmt_views
-use Rattle.c_tree.specs.Typed.{call, lib, more_exprs, block, more_stmts}
-use Rattle.c_tree.specs.TypedViews.{expr_view, expr_node_view, expr_row_view, exprs_of, lib_view, stmt_view, stmt_node_view, stmt_row_view, stmts_of}
+use Rattle.c_tree.specs.Typed.{call, lib, more_exprs, at, block, more_stmts, at_stmt}
+use Rattle.c_tree.specs.TypedViews.{type_view, expr_view, expr_node_view, expr_row_view, exprs_of, lib_view, stmt_view, stmt_node_view, stmt_row_view, stmts_of}
 use Rattle.c_typing.specs.Numbering.{renumbered, renumbered_node, renumbered_all, renumbered_stmt, renumbered_stmt_node, renumbered_stmts}
 
 expr_row : (n : _) (k : Row_of-Expr n) → expr_row_view k ≡ exprs_of (map expr_view (items-the_row-Expr n k))
@@ -28,14 +30,23 @@ exprs_renumbered : (f : ℕ → ℕ) (es : List CodeExpr) → exprs_of (map (λ 
 exprs_renumbered f [] = refl
 exprs_renumbered f (e ∷ es) = ap (more_exprs (renumbered f (expr_view e))) (exprs_renumbered f es)
 
-pub call_renumbered : (f : ℕ → ℕ) (n : ℕ) (v w : Vec CodeExpr) → map expr_view w.items ≡ map (λ e. renumbered f (expr_view e)) v.items
-    → expr_node_view (views.Call n w) ≡ renumbered_node f (expr_node_view (views.Call n v))
-call_renumbered f n v w h = call_view n w ∙ ap (λ l. call n (exprs_of l)) h ∙ ap (call n) (exprs_renumbered f v.items) ∙ ap (renumbered_node f) (sym (call_view n v))
+-- what stands in a Vec again, each item as f made it
+pub items_put : {A B : Type 0} (view : A → B) (f : B → B) (v : Vec A) (xs ys : List A) → xs ≡ v.items → length ys ≡ v.len → map view ys ≡ map (λ x. f (view x)) xs → map view (with_items v ys).items ≡ map (λ x. f (view x)) v.items
+items_put view f v xs ys e k h = ap (map view) (with_items_is v ys k) ∙ (h ∙ ap (map (λ x. f (view x))) e)
 
-pub lib_renumbered : (f : ℕ → ℕ) (which : Lib) (v w : Vec CodeExpr) → map expr_view w.items ≡ map (λ e. renumbered f (expr_view e)) v.items
-    → expr_node_view (views.Lib which w) ≡ renumbered_node f (expr_node_view (views.Lib which v))
-lib_renumbered f which v w h =
-    lib_call_view which w ∙ ap (λ l. lib (lib_view which) (exprs_of l)) h ∙ ap (lib (lib_view which)) (exprs_renumbered f v.items) ∙ ap (renumbered_node f) (sym (lib_call_view which v))
+pub call_renumbered : (f : ℕ → ℕ) (e : CodeExpr) (n : ℕ) (v : Vec CodeExpr) (xs ys : List CodeExpr) → e.node ≡ views.Call n v → xs ≡ v.items → length ys ≡ v.len → map expr_view ys ≡ map (λ x. renumbered f (expr_view x)) xs
+    → at e.place (type_view e.ty) (expr_node_view (views.Call n (with_items v ys))) ≡ renumbered f (expr_view e)
+call_renumbered f e n v xs ys is same k h =
+    let w = with_items v ys in
+    ap (at e.place (type_view e.ty)) (call_view n w ∙ (ap (λ l. call n (exprs_of l)) (items_put expr_view (renumbered f) v xs ys same k h) ∙ (ap (call n) (exprs_renumbered f v.items)
+    ∙ ap (renumbered_node f) (sym (call_view n v) ∙ ap expr_node_view (sym is)))))
+
+pub lib_renumbered : (f : ℕ → ℕ) (e : CodeExpr) (which : Lib) (v : Vec CodeExpr) (xs ys : List CodeExpr) → e.node ≡ views.Lib which v → xs ≡ v.items → length ys ≡ v.len → map expr_view ys ≡ map (λ x. renumbered f (expr_view x)) xs
+    → at e.place (type_view e.ty) (expr_node_view (views.Lib which (with_items v ys))) ≡ renumbered f (expr_view e)
+lib_renumbered f e which v xs ys is same k h =
+    let w = with_items v ys in
+    ap (at e.place (type_view e.ty)) (lib_call_view which w ∙ (ap (λ l. lib (lib_view which) (exprs_of l)) (items_put expr_view (renumbered f) v xs ys same k h) ∙ (ap (lib (lib_view which)) (exprs_renumbered f v.items)
+    ∙ ap (renumbered_node f) (sym (lib_call_view which v) ∙ ap expr_node_view (sym is)))))
 
 -- ---- statements
 
@@ -50,6 +61,9 @@ pub stmts_renumbered : (f : ℕ → ℕ) (ss : List CodeStmt) → stmts_of (map 
 stmts_renumbered f [] = refl
 stmts_renumbered f (s ∷ ss) = ap (more_stmts (renumbered_stmt f (stmt_view s))) (stmts_renumbered f ss)
 
-pub block_renumbered : (f : ℕ → ℕ) (v w : Vec CodeStmt) → map stmt_view w.items ≡ map (λ s. renumbered_stmt f (stmt_view s)) v.items
-    → stmt_node_view (stmt_views.Block w) ≡ renumbered_stmt_node f (stmt_node_view (stmt_views.Block v))
-block_renumbered f v w h = block_view w ∙ ap (λ l. block (stmts_of l)) h ∙ ap block (stmts_renumbered f v.items) ∙ ap (renumbered_stmt_node f) (sym (block_view v))
+pub block_renumbered : (f : ℕ → ℕ) (s : CodeStmt) (v : Vec CodeStmt) (xs ys : List CodeStmt) → s.node ≡ stmt_views.Block v → xs ≡ v.items → length ys ≡ v.len → map stmt_view ys ≡ map (λ x. renumbered_stmt f (stmt_view x)) xs
+    → at_stmt s.place (stmt_node_view (stmt_views.Block (with_items v ys))) ≡ renumbered_stmt f (stmt_view s)
+block_renumbered f s v xs ys is same k h =
+    let w = with_items v ys in
+    ap (at_stmt s.place) (block_view w ∙ (ap (λ l. block (stmts_of l)) (items_put stmt_view (renumbered_stmt f) v xs ys same k h) ∙ (ap block (stmts_renumbered f v.items)
+    ∙ ap (renumbered_stmt_node f) (sym (block_view v) ∙ ap stmt_node_view (sym is)))))

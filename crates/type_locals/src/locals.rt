@@ -202,7 +202,7 @@ pub fn func_of(
     types: &[CType],
     addressed: &[u32],
     returned: CType,
-    body: Vec<Stmt>,
+    mut body: Vec<Stmt>,
 ) -> Result<Func, AllocError>
     ensures { IfOk result (λ f. func_view f ≡ func_of (params_view params.now) (types_view types.now) addressed.now (type_view returned) (stmts_of (map stmt_view body.items))) }
 {
@@ -215,7 +215,7 @@ pub fn func_of(
     };
     let locals = locals_of(alloc, params, &further, types, &addressed)?;
     let mut all = copies(alloc, count, &further)?;
-    let mut body = numbers.statements(body)?;
+    numbers.statements(&mut body)?;
     all.append(&mut body)?;
     Ok(Func {
         params: count,

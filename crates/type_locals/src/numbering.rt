@@ -6,7 +6,6 @@ ghost use Rattle.type_locals.specs.inner.Numbers.{new_number};
 
 use c_tree::typed::{Expr, ExprNode, Stmt, StmtNode};
 use std::alloc::AllocError;
-use std::mem;
 
 /// The numbers that the locals of a function get: those of the parameters, and how many more the
 /// others.
@@ -32,81 +31,73 @@ impl Numbers {
     fn renumber(&self, e: &mut Expr) -> Result<(), AllocError>
         ensures { OnOk result (expr_view e.new ≡ renumbered (new_number self.now) (expr_view e.old)) }
     {
-        let node = mem::replace(&mut e.node, ExprNode::Null);
-        e.node = self.renumbered(node)?;
+        match &mut e.node {
+            ExprNode::Num(_) | ExprNode::Null | ExprNode::Literal(_) | ExprNode::Global(_) => {}
+            ExprNode::Local(n) => *n = self.of(*n)?,
+            ExprNode::Deref(e) => self.renumber(e)?,
+            ExprNode::Member(e, _) => self.renumber(e)?,
+            ExprNode::AddrOf(e) => self.renumber(e)?,
+            ExprNode::Decay(e) => self.renumber(e)?,
+            ExprNode::Convert(e) => self.renumber(e)?,
+            ExprNode::Not(e) => self.renumber(e)?,
+            ExprNode::Binary(_, a, b) => {
+                self.renumber(a)?;
+                self.renumber(b)?;
+            }
+            ExprNode::AndAlso(a, b) => {
+                self.renumber(a)?;
+                self.renumber(b)?;
+            }
+            ExprNode::OrElse(a, b) => {
+                self.renumber(a)?;
+                self.renumber(b)?;
+            }
+            ExprNode::Choose(e, a, b) => {
+                self.renumber(e)?;
+                self.renumber(a)?;
+                self.renumber(b)?;
+            }
+            ExprNode::PtrAdd(p, n) => {
+                self.renumber(p)?;
+                self.renumber(n)?;
+            }
+            ExprNode::PtrSub(p, n) => {
+                self.renumber(p)?;
+                self.renumber(n)?;
+            }
+            ExprNode::PtrDiff(p, q) => {
+                self.renumber(p)?;
+                self.renumber(q)?;
+            }
+            ExprNode::PtrCompare(_, p, q) => {
+                self.renumber(p)?;
+                self.renumber(q)?;
+            }
+            ExprNode::PtrTest(p) => self.renumber(p)?,
+            ExprNode::Call(_, args) => self.row(args)?,
+            ExprNode::Lib(_, args) => self.row(args)?,
+        }
         Ok(())
     }
 
-    // What an expression does, with the numbers of its locals.
+    // The same of expressions in a row.
     #[cycle(renumbering)]
-    fn renumbered(&self, node: ExprNode) -> Result<ExprNode, AllocError>
-        ensures { IfOk result (λ x. expr_node_view x ≡ renumbered_node (new_number self.now) (expr_node_view node)) }
-    {
-        match node {
-            ExprNode::Num(_) | ExprNode::Null | ExprNode::Literal(_) | ExprNode::Global(_) => {
-                Ok(node)
-            }
-            ExprNode::Local(n) => Ok(ExprNode::Local(self.of(n)?)),
-            ExprNode::Deref(e) => Ok(ExprNode::Deref(self.boxed(e)?)),
-            ExprNode::Member(e, m) => Ok(ExprNode::Member(self.boxed(e)?, m)),
-            ExprNode::AddrOf(e) => Ok(ExprNode::AddrOf(self.boxed(e)?)),
-            ExprNode::Decay(e) => Ok(ExprNode::Decay(self.boxed(e)?)),
-            ExprNode::Convert(e) => Ok(ExprNode::Convert(self.boxed(e)?)),
-            ExprNode::Not(e) => Ok(ExprNode::Not(self.boxed(e)?)),
-            ExprNode::Binary(op, a, b) => Ok(ExprNode::Binary(op, self.boxed(a)?, self.boxed(b)?)),
-            ExprNode::AndAlso(a, b) => Ok(ExprNode::AndAlso(self.boxed(a)?, self.boxed(b)?)),
-            ExprNode::OrElse(a, b) => Ok(ExprNode::OrElse(self.boxed(a)?, self.boxed(b)?)),
-            ExprNode::Choose(e, a, b) => {
-                let condition = self.boxed(e)?;
-                Ok(ExprNode::Choose(condition, self.boxed(a)?, self.boxed(b)?))
-            }
-            ExprNode::PtrAdd(p, n) => Ok(ExprNode::PtrAdd(self.boxed(p)?, self.boxed(n)?)),
-            ExprNode::PtrSub(p, n) => Ok(ExprNode::PtrSub(self.boxed(p)?, self.boxed(n)?)),
-            ExprNode::PtrDiff(p, q) => Ok(ExprNode::PtrDiff(self.boxed(p)?, self.boxed(q)?)),
-            ExprNode::PtrCompare(op, p, q) => {
-                Ok(ExprNode::PtrCompare(op, self.boxed(p)?, self.boxed(q)?))
-            }
-            ExprNode::PtrTest(p) => Ok(ExprNode::PtrTest(self.boxed(p)?)),
-            ExprNode::Call(f, args) => Ok(ExprNode::Call(f, self.row(args)?)),
-            ExprNode::Lib(which, args) => Ok(ExprNode::Lib(which, self.row(args)?)),
-        }
-    }
-
-    // An expression behind a pointer, with the numbers of its locals.
-    #[cycle(renumbering)]
-    fn boxed(&self, mut e: Box<Expr>) -> Result<Box<Expr>, AllocError>
-        ensures { IfOk result (λ x. expr_view x.value ≡ renumbered (new_number self.now) (expr_view e.value)) }
-    {
-        self.renumber(&mut e)?;
-        Ok(e)
-    }
-
-    // Expressions in a row, with the numbers of their locals.
-    #[cycle(renumbering)]
-    fn row(&self, mut all: Vec<Expr>) -> Result<Vec<Expr>, AllocError>
-        ensures { IfOk result (λ v. map expr_view v.items ≡ map (λ e. renumbered (new_number self.now) (expr_view e)) all.items) }
+    fn row(&self, all: &mut [Expr]) -> Result<(), AllocError>
+        ensures { OnOk result (map expr_view all.new ≡ map (λ e. renumbered (new_number self.now) (expr_view e)) all.old) }
     {
         for i in 0..all.len() {
             self.renumber(&mut all[i])?;
         }
-        Ok(all)
-    }
-
-    // The whole of an expression, with the numbers of its locals.
-    fn expression(&self, mut e: Expr) -> Result<Expr, AllocError>
-        ensures { IfOk result (λ x. expr_view x ≡ renumbered (new_number self.now) (expr_view e)) }
-    {
-        self.renumber(&mut e)?;
-        Ok(e)
+        Ok(())
     }
 
     // The same of one that may lack.
-    fn optional(&self, e: Option<Expr>) -> Result<Option<Expr>, AllocError>
-        ensures { IfOk result (λ x. optional_expr_view x ≡ renumbered_if (new_number self.now) (optional_expr_view e)) }
+    fn optional(&self, e: &mut Option<Expr>) -> Result<(), AllocError>
+        ensures { OnOk result (optional_expr_view e.new ≡ renumbered_if (new_number self.now) (optional_expr_view e.old)) }
     {
         match e {
-            Some(e) => Ok(Some(self.expression(e)?)),
-            None => Ok(None),
+            Some(e) => self.renumber(e),
+            None => Ok(()),
         }
     }
 
@@ -115,67 +106,53 @@ impl Numbers {
     fn renumber_stmt(&self, s: &mut Stmt) -> Result<(), AllocError>
         ensures { OnOk result (stmt_view s.new ≡ renumbered_stmt (new_number self.now) (stmt_view s.old)) }
     {
-        let node = mem::replace(&mut s.node, StmtNode::Empty);
-        s.node = self.renumbered_stmt(node)?;
-        Ok(())
-    }
-
-    // What a statement does, with the numbers of its locals.
-    #[cycle(statements)]
-    fn renumbered_stmt(&self, node: StmtNode) -> Result<StmtNode, AllocError>
-        ensures { IfOk result (λ x. stmt_node_view x ≡ renumbered_stmt_node (new_number self.now) (stmt_node_view node)) }
-    {
-        match node {
-            StmtNode::Block(body) => Ok(StmtNode::Block(self.statements(body)?)),
+        match &mut s.node {
+            StmtNode::Break | StmtNode::Continue | StmtNode::Empty => {}
+            StmtNode::Block(body) => self.statements(body)?,
             StmtNode::Declare(n, init) => {
-                Ok(StmtNode::Declare(self.of(n)?, self.optional(init)?))
+                *n = self.of(*n)?;
+                self.optional(init)?;
             }
-            StmtNode::If(e, s, other) => {
-                let condition = self.expression(e)?;
-                let then = self.boxed_stmt(s)?;
+            StmtNode::If(e, then, other) => {
+                self.renumber(e)?;
+                self.renumber_stmt(then)?;
                 match other {
-                    None => Ok(StmtNode::If(condition, then, None)),
-                    Some(t) => Ok(StmtNode::If(condition, then, Some(self.boxed_stmt(t)?))),
+                    Some(s) => self.renumber_stmt(s)?,
+                    None => {}
                 }
             }
             StmtNode::While(e, s) => {
-                Ok(StmtNode::While(self.expression(e)?, self.boxed_stmt(s)?))
+                self.renumber(e)?;
+                self.renumber_stmt(s)?;
             }
             StmtNode::For(first, e, step, s) => {
-                let first = self.boxed_stmt(first)?;
-                let condition = self.optional(e)?;
-                let step = self.boxed_stmt(step)?;
-                Ok(StmtNode::For(first, condition, step, self.boxed_stmt(s)?))
+                self.renumber_stmt(first)?;
+                self.optional(e)?;
+                self.renumber_stmt(step)?;
+                self.renumber_stmt(s)?;
             }
-            StmtNode::Break | StmtNode::Continue | StmtNode::Empty => Ok(node),
-            StmtNode::Return(value) => Ok(StmtNode::Return(self.optional(value)?)),
+            StmtNode::Return(value) => self.optional(value)?,
             StmtNode::Assign(left, right) => {
-                Ok(StmtNode::Assign(self.expression(left)?, self.expression(right)?))
+                self.renumber(left)?;
+                self.renumber(right)?;
             }
-            StmtNode::Update(left, op, right) => {
-                Ok(StmtNode::Update(self.expression(left)?, op, self.expression(right)?))
+            StmtNode::Update(left, _, right) => {
+                self.renumber(left)?;
+                self.renumber(right)?;
             }
-            StmtNode::Eval(e) => Ok(StmtNode::Eval(self.expression(e)?)),
+            StmtNode::Eval(e) => self.renumber(e)?,
         }
+        Ok(())
     }
 
-    // A statement behind a pointer, with the numbers of its locals.
+    /// Gives the locals of statements in a row their numbers.
     #[cycle(statements)]
-    fn boxed_stmt(&self, mut s: Box<Stmt>) -> Result<Box<Stmt>, AllocError>
-        ensures { IfOk result (λ x. stmt_view x.value ≡ renumbered_stmt (new_number self.now) (stmt_view s.value)) }
-    {
-        self.renumber_stmt(&mut s)?;
-        Ok(s)
-    }
-
-    /// Statements in a row, with the numbers of their locals.
-    #[cycle(statements)]
-    pub fn statements(&self, mut all: Vec<Stmt>) -> Result<Vec<Stmt>, AllocError>
-        ensures { IfOk result (λ v. map stmt_view v.items ≡ map (λ s. renumbered_stmt (new_number self.now) (stmt_view s)) all.items) }
+    pub fn statements(&self, all: &mut [Stmt]) -> Result<(), AllocError>
+        ensures { OnOk result (map stmt_view all.new ≡ map (λ s. renumbered_stmt (new_number self.now) (stmt_view s)) all.old) }
     {
         for i in 0..all.len() {
             self.renumber_stmt(&mut all[i])?;
         }
-        Ok(all)
+        Ok(())
     }
 }

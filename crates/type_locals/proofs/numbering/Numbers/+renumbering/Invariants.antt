@@ -8,5 +8,5 @@ use Rattle.type_locals.proofs.numbering.Numbers.+renumbering.Given as goal
 -- those before the index have their numbers, and the others are as they were
 abbrev pub invariant-row-loop-i : goal.invariant-row-loop-i
 invariant-row-loop-i l =
-    ((length l.all.items ≡ length l.initial.all.items) × ((k : ℕ) (d : Expr) → l.i ≤ k → get_or l.all.items k d ≡ get_or l.initial.all.items k d))
-    × (map expr_view (take l.i l.all.items) ≡ map (λ e. renumbered (new_number l.self) (expr_view e)) (take l.i l.initial.all.items))
+    ((length l.all ≡ length l.fn.all) × ((k : ℕ) (d : Expr) → l.i ≤ k → get_or l.all k d ≡ get_or l.fn.all k d))
+    × (map expr_view (take l.i l.all) ≡ map (λ e. renumbered (new_number l.self) (expr_view e)) (take l.i l.fn.all))

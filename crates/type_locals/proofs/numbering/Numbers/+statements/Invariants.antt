@@ -8,5 +8,5 @@ use Rattle.type_locals.proofs.numbering.Numbers.+statements.Given as goal
 -- those before the index have their numbers, and the others are as they were
 abbrev pub invariant-statements-loop-i : goal.invariant-statements-loop-i
 invariant-statements-loop-i l =
-    ((length l.all.items ≡ length l.initial.all.items) × ((k : ℕ) (d : Stmt) → l.i ≤ k → get_or l.all.items k d ≡ get_or l.initial.all.items k d))
-    × (map stmt_view (take l.i l.all.items) ≡ map (λ s. renumbered_stmt (new_number l.self) (stmt_view s)) (take l.i l.initial.all.items))
+    ((length l.all ≡ length l.fn.all) × ((k : ℕ) (d : Stmt) → l.i ≤ k → get_or l.all k d ≡ get_or l.fn.all k d))
+    × (map stmt_view (take l.i l.all) ≡ map (λ s. renumbered_stmt (new_number l.self) (stmt_view s)) (take l.i l.fn.all))
