@@ -70,6 +70,10 @@ type_name_layer t = trees.type_name (trees.specs_of t.specs.items) t.pointers.it
 abbrev pub expr_view : CodeExpr → trees.Expr
 expr_view = fold-Expr trees.Expr trees.Spec trees.Declarator trees.Member trees.TypeName expr_layer spec_layer declarator_layer member_layer type_name_layer
 
+-- the expression in a box
+abbrev pub boxed_expr_view : Box CodeExpr Global → trees.Expr
+boxed_expr_view b = expr_view b.value
+
 -- the specifier that one of the code stands for
 abbrev pub spec_view : CodeSpec → trees.Spec
 spec_view = fold-Spec trees.Expr trees.Spec trees.Declarator trees.Member trees.TypeName expr_layer spec_layer declarator_layer member_layer type_name_layer
@@ -146,6 +150,10 @@ stmt_layer (Stmt-F.Simple s) = trees.simple (simple_view s)
 -- the statement that one of the code stands for
 abbrev pub stmt_view : CodeStmt → trees.Stmt
 stmt_view = fold-Stmt trees.Stmt stmt_layer
+
+-- the statement in a box
+abbrev pub boxed_stmt_view : Box CodeStmt Global → trees.Stmt
+boxed_stmt_view b = stmt_view b.value
 
 -- ---- files
 

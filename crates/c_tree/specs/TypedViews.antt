@@ -1,5 +1,6 @@
 -- What the code's typed trees are.
-use Rattle.std.specs.Prelude.{ℕ, List, [], ◌∷◌, map, Option, Some, None}
+use Rattle.std.specs.Prelude.{ℕ, List, [], ◌∷◌, map, Option, Some, None, Box}
+use Rattle.std.specs.declared.alloc.Global.{Global}
 use Rattle.c_tree.specs.declared.typed.CType.{CType}
 use Rattle.c_tree.specs.declared.typed.CType.TheVariants as types
 use Rattle.c_tree.specs.declared.typed.Layout.{Layout as CodeLayout}
@@ -100,6 +101,10 @@ abbrev mutual
 abbrev pub expr_view : CodeExpr → trees.Expr
 expr_view e = trees.at e.place (type_view e.ty) (expr_node_view e.node)
 
+-- the expression in a box
+abbrev pub boxed_expr_view : Box CodeExpr Global → trees.Expr
+boxed_expr_view b = expr_view b.value
+
 -- a list of expressions
 abbrev pub exprs_of : List trees.Expr → trees.Exprs
 exprs_of [] = trees.no_exprs
@@ -141,6 +146,10 @@ abbrev mutual
 -- the statement that one of the code stands for
 abbrev pub stmt_view : CodeStmt → trees.Stmt
 stmt_view s = trees.at_stmt s.place (stmt_node_view s.node)
+
+-- the statement in a box
+abbrev pub boxed_stmt_view : Box CodeStmt Global → trees.Stmt
+boxed_stmt_view b = stmt_view b.value
 
 -- a list of statements
 abbrev pub stmts_of : List trees.Stmt → trees.Stmts
