@@ -1,5 +1,5 @@
 -- What each kind of node tells, as the code has it.
-use Rattle.std.proofs.Common.{◌≡◌, ℕ, map, List, [], ◌∷◌, ◌++◌, Option, Result, Ok, Err, refl, ap, sym, subst, ◌∙◌, false}
+use Rattle.std.proofs.Common.{◌≡◌, ℕ, map, List, [], ◌∷◌, ◌++◌, Result, Ok, ap, sym, subst, ◌∙◌}
 use Rattle.std.specs.Prelude.{Vec, Box}
 use Rattle.std.specs.declared.alloc.Global.{Global}
 use Rattle.ak_words.specs.declared.number.Num.{Num}
@@ -22,15 +22,15 @@ use Rattle.c_tree.specs.declared.typed.Expr.{Expr as CodeExpr}
 use Rattle.c_tree.specs.declared.typed.CType.{CType}
 use Rattle.c_tree.specs.Syntax as source
 use Rattle.c_tree.specs.SyntaxViews.{expr_view as seen, type_name_view, spec_view, member_view, declarator_view}
-use Rattle.c_tree.specs.Typed.{Ty, Expr, type_of, at, pointer, void, null, integer, num}
-use Rattle.c_tree.specs.TypedViews.{type_view, expr_view}
-use Rattle.c_typing.specs.Faults.{Judged, typed, Gives}
+use Rattle.c_tree.specs.Typed.{type_of, at, pointer, void, null, integer, num}
+use Rattle.c_tree.specs.TypedViews.{type_view, boxed_expr_view}
+use Rattle.c_typing.specs.Faults.{typed, Gives}
 use Rattle.c_typing.specs.Literals.{joined_bytes, place_of_parts}
 use Rattle.c_typing.specs.Types.{behind_pointers}
 use Rattle.c_typing.specs.Scope.{Context, meaning_of}
 use Rattle.c_typing.specs.Rules.{selected, pointed, element, cast, size_number}
 use Rattle.c_typing.specs.Statements.{judged_declarator}
-use Rattle.c_typing.specs.Judgement.{judged, valued, judged_type, judged_specs, judged_spec, judged_members, judged_member, judged_declarators, judged_dims, member_objects, names_in, names_of_member, named, spelled, prefixed, name_in, combined, braced, Part, word, tag}
+use Rattle.c_typing.specs.Judgement.{judged, valued, judged_type, judged_specs, judged_spec, judged_members, judged_member, judged_declarators, judged_dims, member_objects, names_in, names_of_member, named, spelled, prefixed, name_in, combined, braced, word}
 use Rattle.type_context.specs.declared.context.Context.{Context as CodeContext}
 use Rattle.type_context.specs.ContextViews.{context_view}
 use Rattle.type_context.specs.inner.Outcomes.{joined}
@@ -46,149 +46,149 @@ use Rattle.type_nodes.proofs.Types as types
 use Rattle.c_types.proofs.Views as views
 
 -- what is told of a tree that is seen so
-as_seen : (x : Tree) (y : source.Expr) (c : Context) (n : CodeContext) (r : Result CodeExpr CompileFault) → seen x ≡ y → Tells expr_view r n (judged y c) → Tells expr_view r n (judged (seen x) c)
-as_seen x y c n r is h = subst (λ (z : source.Expr). Tells expr_view r n (judged z c)) (sym is) h
+as_seen : (x : Tree) (y : source.Expr) (c : Context) (n : CodeContext) (r : Result (Box CodeExpr Global) CompileFault) → seen x ≡ y → Tells boxed_expr_view r n (judged y c) → Tells boxed_expr_view r n (judged (seen x) c)
+as_seen x y c n r is h = subst (λ (z : source.Expr). Tells boxed_expr_view r n (judged z c)) (sym is) h
 
 spec_as_seen : (x : CodeSpec) (y : source.Spec) (c : Context) (n : CodeContext) (r : Result CodePart CompileFault) → spec_view x ≡ y → Tells part_view r n (judged_spec y c) → Tells part_view r n (judged_spec (spec_view x) c)
 spec_as_seen x y c n r is h = subst (λ (z : source.Spec). Tells part_view r n (judged_spec z c)) (sym is) h
 
-pub name_told : (x : Tree) (name : Name) (n : CodeContext) (r : Result CodeExpr CompileFault)
+pub name_told : (x : Tree) (name : Name) (n : CodeContext) (r : Result (Box CodeExpr Global) CompileFault)
     → x ≡ codes.Name name
-    → Gives expr_view r (named name.from (meaning_of (context_view n) name))
-    → Tells expr_view r n (judged (seen x) (context_view n))
+    → Gives boxed_expr_view r (named name.from (meaning_of (context_view n) name))
+    → Tells boxed_expr_view r n (judged (seen x) (context_view n))
 name_told x name n r is h =
-    as_seen x _ (context_view n) n r (ap seen is ∙ views.name_seen name) (lone_tells expr_view r n (named name.from (meaning_of (context_view n) name)) h)
+    as_seen x _ (context_view n) n r (ap seen is ∙ views.name_seen name) (lone_tells boxed_expr_view r n (named name.from (meaning_of (context_view n) name)) h)
 
-pub int_told : (x : Tree) (place : ℕ) (v : Num) (n : CodeContext) (r : Result CodeExpr CompileFault)
+pub int_told : (x : Tree) (place : ℕ) (v : Num) (n : CodeContext) (r : Result (Box CodeExpr Global) CompileFault)
     → x ≡ codes.Int place v
-    → Gives expr_view r (typed (at place (integer v.ty) (num v.ty v.value)))
-    → Tells expr_view r n (judged (seen x) (context_view n))
+    → Gives boxed_expr_view r (typed (at place (integer v.ty) (num v.ty v.value)))
+    → Tells boxed_expr_view r n (judged (seen x) (context_view n))
 int_told x place v n r is h =
-    as_seen x _ (context_view n) n r (ap seen is ∙ views.int_seen place v) (lone_tells expr_view r n (typed (at place (integer v.ty) (num v.ty v.value))) h)
+    as_seen x _ (context_view n) n r (ap seen is ∙ views.int_seen place v) (lone_tells boxed_expr_view r n (typed (at place (integer v.ty) (num v.ty v.value))) h)
 
-pub char_told : (x : Tree) (place : ℕ) (v : Num) (n : CodeContext) (r : Result CodeExpr CompileFault)
+pub char_told : (x : Tree) (place : ℕ) (v : Num) (n : CodeContext) (r : Result (Box CodeExpr Global) CompileFault)
     → x ≡ codes.Char place v
-    → Gives expr_view r (typed (at place (integer v.ty) (num v.ty v.value)))
-    → Tells expr_view r n (judged (seen x) (context_view n))
+    → Gives boxed_expr_view r (typed (at place (integer v.ty) (num v.ty v.value)))
+    → Tells boxed_expr_view r n (judged (seen x) (context_view n))
 char_told x place v n r is h =
-    as_seen x _ (context_view n) n r (ap seen is ∙ views.char_seen place v) (lone_tells expr_view r n (typed (at place (integer v.ty) (num v.ty v.value))) h)
+    as_seen x _ (context_view n) n r (ap seen is ∙ views.char_seen place v) (lone_tells boxed_expr_view r n (typed (at place (integer v.ty) (num v.ty v.value))) h)
 
-pub null_told : (x : Tree) (place : ℕ) (n : CodeContext) (r : Result CodeExpr CompileFault)
+pub null_told : (x : Tree) (place : ℕ) (n : CodeContext) (r : Result (Box CodeExpr Global) CompileFault)
     → x ≡ codes.Null place
-    → Gives expr_view r (typed (at place (pointer void) null))
-    → Tells expr_view r n (judged (seen x) (context_view n))
+    → Gives boxed_expr_view r (typed (at place (pointer void) null))
+    → Tells boxed_expr_view r n (judged (seen x) (context_view n))
 null_told x place n r is h =
-    as_seen x _ (context_view n) n r (ap seen is ∙ views.null_seen place) (lone_tells expr_view r n (typed (at place (pointer void) null)) h)
+    as_seen x _ (context_view n) n r (ap seen is ∙ views.null_seen place) (lone_tells boxed_expr_view r n (typed (at place (pointer void) null)) h)
 
-pub text_told : (x : Tree) (parts : Vec Span Global) (spans : List Span) (c : Context) (n : CodeContext) (r : Result CodeExpr CompileFault)
+pub text_told : (x : Tree) (parts : Vec Span Global) (spans : List Span) (c : Context) (n : CodeContext) (r : Result (Box CodeExpr Global) CompileFault)
     → x ≡ codes.Text parts
     → spans ≡ parts.items
-    → Tells expr_view r n (spelled (place_of_parts spans) (joined_bytes c.text spans) c)
-    → Tells expr_view r n (judged (seen x) c)
+    → Tells boxed_expr_view r n (spelled (place_of_parts spans) (joined_bytes c.text spans) c)
+    → Tells boxed_expr_view r n (judged (seen x) c)
 text_told x parts spans c n r is same h =
-    as_seen x (source.text parts.items) c n r (ap seen is ∙ views.text_seen parts) (subst (λ (s : List Span). Tells expr_view r n (spelled (place_of_parts s) (joined_bytes c.text s) c)) same h)
+    as_seen x (source.text parts.items) c n r (ap seen is ∙ views.text_seen parts) (subst (λ (s : List Span). Tells boxed_expr_view r n (spelled (place_of_parts s) (joined_bytes c.text s) c)) same h)
 
-pub group_told : (x : Tree) (b : Box Tree Global) (y : Tree) (c : Context) (n : CodeContext) (r : Result CodeExpr CompileFault)
+pub group_told : (x : Tree) (b : Box Tree Global) (y : Tree) (c : Context) (n : CodeContext) (r : Result (Box CodeExpr Global) CompileFault)
     → x ≡ codes.Group b
     → y ≡ b.value
-    → Tells expr_view r n (judged (seen y) c)
-    → Tells expr_view r n (judged (seen x) c)
+    → Tells boxed_expr_view r n (judged (seen y) c)
+    → Tells boxed_expr_view r n (judged (seen x) c)
 group_told x b y c n r is is_y h =
     as_seen x (source.group (seen y)) c n r (ap seen is ∙ views.group_seen b ∙ ap (λ (z : Tree). source.group (seen z)) (sym is_y)) h
 
-pub call_told : (x : Tree) (callee : Name) (args : Vec Tree Global) (all : List Tree) (c : Context) (n : CodeContext) (r : Result CodeExpr CompileFault)
+pub call_told : (x : Tree) (callee : Name) (args : Vec Tree Global) (all : List Tree) (c : Context) (n : CodeContext) (r : Result (Box CodeExpr Global) CompileFault)
     → x ≡ codes.Call callee args
     → all ≡ args.items
-    → Tells expr_view r n (judged (source.call callee (source.exprs_of (map seen all))) c)
-    → Tells expr_view r n (judged (seen x) c)
+    → Tells boxed_expr_view r n (judged (source.call callee (source.exprs_of (map seen all))) c)
+    → Tells boxed_expr_view r n (judged (seen x) c)
 call_told x callee args all c n r is same h =
     as_seen x (source.call callee (source.exprs_of (map seen all))) c n r (ap seen is ∙ views.call_seen callee args ∙ ap (λ (l : List Tree). source.call callee (source.exprs_of (map seen l))) (sym same)) h
 
-pub prefix_told : (x : Tree) (place : ℕ) (op : PrefixOp) (b : Box Tree Global) (y : Tree) (c : Context) (n : CodeContext) (r : Result CodeExpr CompileFault)
+pub prefix_told : (x : Tree) (place : ℕ) (op : PrefixOp) (b : Box Tree Global) (y : Tree) (c : Context) (n : CodeContext) (r : Result (Box CodeExpr Global) CompileFault)
     → x ≡ codes.Prefix place op b
     → y ≡ b.value
-    → Tells expr_view r n (prefixed place op (name_in (seen y)) (judged (seen y)) c)
-    → Tells expr_view r n (judged (seen x) c)
+    → Tells boxed_expr_view r n (prefixed place op (name_in (seen y)) (judged (seen y)) c)
+    → Tells boxed_expr_view r n (judged (seen x) c)
 prefix_told x place op b y c n r is is_y h =
     as_seen x (source.prefix place op (seen y)) c n r (ap seen is ∙ views.prefix_seen place op b ∙ ap (λ (z : Tree). source.prefix place op (seen z)) (sym is_y)) h
 
-pub sizeof_type_told : (x : Tree) (place : ℕ) (t : CodeTypeName) (c : Context) (n : CodeContext) (a : Result CType CompileFault) (r : Result CodeExpr CompileFault)
+pub sizeof_type_told : (x : Tree) (place : ℕ) (t : CodeTypeName) (c : Context) (n : CodeContext) (a : Result CType CompileFault) (r : Result (Box CodeExpr Global) CompileFault)
     → x ≡ codes.SizeofType place t
     → Tells type_view a n (judged_type (type_name_view t) c)
-    → Finishes expr_view a (λ s. size_number (context_view n) place (type_view s)) r
-    → Tells expr_view r n (judged (seen x) c)
+    → Finishes boxed_expr_view a (λ s. size_number (context_view n) place (type_view s)) r
+    → Tells boxed_expr_view r n (judged (seen x) c)
 sizeof_type_told x place t c n a r is h f =
     as_seen x (source.sizeof_type place (type_name_view t)) c n r (ap seen is ∙ views.sizeof_type_seen place t) (tellings.size_of_type_tells place (type_name_view t) c n a r h f)
 
-pub sizeof_expr_told : (x : Tree) (place : ℕ) (b : Box Tree Global) (y : Tree) (c : Context) (n : CodeContext) (a : Result CodeExpr CompileFault) (r : Result CodeExpr CompileFault)
+pub sizeof_expr_told : (x : Tree) (place : ℕ) (b : Box Tree Global) (y : Tree) (c : Context) (n : CodeContext) (a : Result (Box CodeExpr Global) CompileFault) (r : Result (Box CodeExpr Global) CompileFault)
     → x ≡ codes.SizeofExpr place b
     → y ≡ b.value
-    → Tells expr_view a n (judged (seen y) c)
-    → Finishes expr_view a (λ e. size_number (context_view n) place (type_of (expr_view e))) r
-    → Tells expr_view r n (judged (seen x) c)
+    → Tells boxed_expr_view a n (judged (seen y) c)
+    → Finishes boxed_expr_view a (λ e. size_number (context_view n) place (type_of (boxed_expr_view e))) r
+    → Tells boxed_expr_view r n (judged (seen x) c)
 sizeof_expr_told x place b y c n a r is is_y h f =
     as_seen x (source.sizeof_expr place (seen y)) c n r (ap seen is ∙ views.sizeof_expr_seen place b ∙ ap (λ (z : Tree). source.sizeof_expr place (seen z)) (sym is_y)) (tellings.size_of_expression_tells place (seen y) c n a r h f)
 
-pub selection_told : (x : Tree) (place : ℕ) (b : Box Tree Global) (name : Name) (y : Tree) (c : Context) (n : CodeContext) (a : Result CodeExpr CompileFault) (r : Result CodeExpr CompileFault)
+pub selection_told : (x : Tree) (place : ℕ) (b : Box Tree Global) (name : Name) (y : Tree) (c : Context) (n : CodeContext) (a : Result (Box CodeExpr Global) CompileFault) (r : Result (Box CodeExpr Global) CompileFault)
     → x ≡ codes.Member place b name
     → y ≡ b.value
-    → Tells expr_view a n (judged (seen y) c)
-    → Finishes expr_view a (λ e. selected (context_view n) place (expr_view e) name) r
-    → Tells expr_view r n (judged (seen x) c)
+    → Tells boxed_expr_view a n (judged (seen y) c)
+    → Finishes boxed_expr_view a (λ e. selected (context_view n) place (boxed_expr_view e) name) r
+    → Tells boxed_expr_view r n (judged (seen x) c)
 selection_told x place b name y c n a r is is_y h f =
     as_seen x (source.member place (seen y) name) c n r (ap seen is ∙ views.selection_seen place b name ∙ ap (λ (z : Tree). source.member place (seen z) name) (sym is_y)) (tellings.member_tells place (seen y) name c n a r h f)
 
-pub arrow_told : (x : Tree) (place : ℕ) (b : Box Tree Global) (name : Name) (y : Tree) (c : Context) (n : CodeContext) (a : Result CodeExpr CompileFault) (r : Result CodeExpr CompileFault)
+pub arrow_told : (x : Tree) (place : ℕ) (b : Box Tree Global) (name : Name) (y : Tree) (c : Context) (n : CodeContext) (a : Result (Box CodeExpr Global) CompileFault) (r : Result (Box CodeExpr Global) CompileFault)
     → x ≡ codes.Arrow place b name
     → y ≡ b.value
-    → Tells expr_view a n (valued (judged (seen y)) c)
-    → Finishes expr_view a (λ e. pointed (context_view n) place (expr_view e) name) r
-    → Tells expr_view r n (judged (seen x) c)
+    → Tells boxed_expr_view a n (valued (judged (seen y)) c)
+    → Finishes boxed_expr_view a (λ e. pointed (context_view n) place (boxed_expr_view e) name) r
+    → Tells boxed_expr_view r n (judged (seen x) c)
 arrow_told x place b name y c n a r is is_y h f =
     as_seen x (source.arrow place (seen y) name) c n r (ap seen is ∙ views.arrow_seen place b name ∙ ap (λ (z : Tree). source.arrow place (seen z) name) (sym is_y)) (tellings.arrow_tells place (seen y) name c n a r h f)
 
-pub cast_told : (x : Tree) (place : ℕ) (t : CodeTypeName) (b : Box Tree Global) (y : Tree) (c : Context) (n : CodeContext) (m : CodeContext) (a : Result CType CompileFault) (d : Result CodeExpr CompileFault) (r : Result CodeExpr CompileFault)
+pub cast_told : (x : Tree) (place : ℕ) (t : CodeTypeName) (b : Box Tree Global) (y : Tree) (c : Context) (n : CodeContext) (m : CodeContext) (a : Result CType CompileFault) (d : Result (Box CodeExpr Global) CompileFault) (r : Result (Box CodeExpr Global) CompileFault)
     → x ≡ codes.Cast place t b
     → y ≡ b.value
     → Tells type_view a n (judged_type (type_name_view t) c)
-    → Tells expr_view d m (valued (judged (seen y)) (context_view n))
-    → Finishes expr_view (joined a d) (λ p. cast place (type_view p.0) (expr_view p.1)) r
-    → Tells expr_view r m (judged (seen x) c)
+    → Tells boxed_expr_view d m (valued (judged (seen y)) (context_view n))
+    → Finishes boxed_expr_view (joined a d) (λ p. cast place (type_view p.0) (boxed_expr_view p.1)) r
+    → Tells boxed_expr_view r m (judged (seen x) c)
 cast_told x place t b y c n m a d r is is_y h k f =
     as_seen x (source.cast place (type_name_view t) (seen y)) c m r (ap seen is ∙ views.cast_seen place t b ∙ ap (λ (z : Tree). source.cast place (type_name_view t) (seen z)) (sym is_y)) (tellings.cast_tells place (type_name_view t) (seen y) c n m a d r h k f)
 
-pub index_told : (x : Tree) (place : ℕ) (b : Box Tree Global) (b2 : Box Tree Global) (y : Tree) (z : Tree) (c : Context) (n : CodeContext) (m : CodeContext) (a : Result CodeExpr CompileFault) (d : Result CodeExpr CompileFault) (r : Result CodeExpr CompileFault)
+pub index_told : (x : Tree) (place : ℕ) (b : Box Tree Global) (b2 : Box Tree Global) (y : Tree) (z : Tree) (c : Context) (n : CodeContext) (m : CodeContext) (a : Result (Box CodeExpr Global) CompileFault) (d : Result (Box CodeExpr Global) CompileFault) (r : Result (Box CodeExpr Global) CompileFault)
     → x ≡ codes.Index place b b2
     → y ≡ b.value
     → z ≡ b2.value
-    → Tells expr_view a n (valued (judged (seen y)) c)
-    → Tells expr_view d m (valued (judged (seen z)) (context_view n))
-    → Finishes expr_view (joined a d) (λ p. element (context_view m) place (expr_view p.0) (expr_view p.1)) r
-    → Tells expr_view r m (judged (seen x) c)
+    → Tells boxed_expr_view a n (valued (judged (seen y)) c)
+    → Tells boxed_expr_view d m (valued (judged (seen z)) (context_view n))
+    → Finishes boxed_expr_view (joined a d) (λ p. element (context_view m) place (boxed_expr_view p.0) (boxed_expr_view p.1)) r
+    → Tells boxed_expr_view r m (judged (seen x) c)
 index_told x place b b2 y z c n m a d r is is_y is_z h k f =
     as_seen x (source.index place (seen y) (seen z)) c m r (ap seen is ∙ views.index_seen place b b2 ∙ ap (λ (w : Tree). source.index place (seen w) (seen b2.value)) (sym is_y) ∙ ap (λ (w : Tree). source.index place (seen y) (seen w)) (sym is_z)) (tellings.index_tells place (seen y) (seen z) c n m a d r h k f)
 
-pub binary_told : (x : Tree) (place : ℕ) (op : BinaryOp) (b : Box Tree Global) (b2 : Box Tree Global) (y : Tree) (z : Tree) (c : Context) (n : CodeContext) (m : CodeContext) (a : Result CodeExpr CompileFault) (d : Result CodeExpr CompileFault) (r : Result CodeExpr CompileFault)
+pub binary_told : (x : Tree) (place : ℕ) (op : BinaryOp) (b : Box Tree Global) (b2 : Box Tree Global) (y : Tree) (z : Tree) (c : Context) (n : CodeContext) (m : CodeContext) (a : Result (Box CodeExpr Global) CompileFault) (d : Result (Box CodeExpr Global) CompileFault) (r : Result (Box CodeExpr Global) CompileFault)
     → x ≡ codes.Binary place op b b2
     → y ≡ b.value
     → z ≡ b2.value
-    → Tells expr_view a n (valued (judged (seen y)) c)
-    → Tells expr_view d m (valued (judged (seen z)) (context_view n))
-    → Finishes expr_view (joined a d) (λ p. combined (context_view m) place op (expr_view p.0) (expr_view p.1)) r
-    → Tells expr_view r m (judged (seen x) c)
+    → Tells boxed_expr_view a n (valued (judged (seen y)) c)
+    → Tells boxed_expr_view d m (valued (judged (seen z)) (context_view n))
+    → Finishes boxed_expr_view (joined a d) (λ p. combined (context_view m) place op (boxed_expr_view p.0) (boxed_expr_view p.1)) r
+    → Tells boxed_expr_view r m (judged (seen x) c)
 binary_told x place op b b2 y z c n m a d r is is_y is_z h k f =
     as_seen x (source.binary place op (seen y) (seen z)) c m r (ap seen is ∙ views.binary_seen place op b b2 ∙ ap (λ (w : Tree). source.binary place op (seen w) (seen b2.value)) (sym is_y) ∙ ap (λ (w : Tree). source.binary place op (seen y) (seen w)) (sym is_z)) (tellings.binary_tells place op (seen y) (seen z) c n m a d r h k f)
 
-pub conditional_told : (x : Tree) (place : ℕ) (b : Box Tree Global) (b2 : Box Tree Global) (b3 : Box Tree Global) (y : Tree) (z : Tree) (w : Tree) (c : Context) (n : CodeContext) (m : CodeContext) (o : CodeContext) (a : Result CodeExpr CompileFault) (d : Result CodeExpr CompileFault) (e : Result CodeExpr CompileFault) (r : Result CodeExpr CompileFault)
+pub conditional_told : (x : Tree) (place : ℕ) (b : Box Tree Global) (b2 : Box Tree Global) (b3 : Box Tree Global) (y : Tree) (z : Tree) (w : Tree) (c : Context) (n : CodeContext) (m : CodeContext) (o : CodeContext) (a : Result (Box CodeExpr Global) CompileFault) (d : Result (Box CodeExpr Global) CompileFault) (e : Result (Box CodeExpr Global) CompileFault) (r : Result (Box CodeExpr Global) CompileFault)
     → x ≡ codes.Conditional place b b2 b3
     → y ≡ b.value
     → z ≡ b2.value
     → w ≡ b3.value
-    → Tells expr_view a n (valued (judged (seen y)) c)
-    → Tells expr_view d m (valued (judged (seen z)) (context_view n))
-    → Tells expr_view e o (valued (judged (seen w)) (context_view m))
-    → Finishes expr_view (joined a (joined d e)) (λ p. choice place (expr_view p.0) (expr_view p.1.0) (expr_view p.1.1)) r
-    → Tells expr_view r o (judged (seen x) c)
+    → Tells boxed_expr_view a n (valued (judged (seen y)) c)
+    → Tells boxed_expr_view d m (valued (judged (seen z)) (context_view n))
+    → Tells boxed_expr_view e o (valued (judged (seen w)) (context_view m))
+    → Finishes boxed_expr_view (joined a (joined d e)) (λ p. choice place (boxed_expr_view p.0) (boxed_expr_view p.1.0) (boxed_expr_view p.1.1)) r
+    → Tells boxed_expr_view r o (judged (seen x) c)
 conditional_told x place b b2 b3 y z w c n m o a d e r is is_y is_z is_w h k l f =
     let is_all = ap seen is ∙ views.conditional_seen place b b2 b3
     ∙ ap (λ (q : Tree). source.conditional place (seen q) (seen b2.value) (seen b3.value)) (sym is_y)

@@ -16,7 +16,6 @@ use Rattle.c_tree.specs.declared.syntax.Expr.TheVariants as codes
 use Rattle.c_tree.specs.declared.syntax.TypeName.{TypeName}
 use Rattle.c_tree.specs.declared.syntax.Member.{Member}
 use Rattle.c_tree.specs.declared.syntax.Declarator.{Declarator}
-use Rattle.c_tree.specs.declared.syntax.Spec.{Spec}
 use Rattle.c_tree.specs.declared.syntax.Spec.TheVariants as specs
 use Rattle.c_tree.specs.Syntax as source
 use Rattle.c_tree.specs.SyntaxViews.{expr_view, type_name_view, spec_view, declarator_view, member_view, expr_layer, spec_layer, declarator_layer, member_layer, type_name_layer}

@@ -2,7 +2,7 @@
 ghost use Rattle.std.specs.Prelude.{map};
 ghost use Rattle.c_tree.specs.Syntax as trees;
 ghost use Rattle.c_tree.specs.SyntaxViews as source;
-ghost use Rattle.c_tree.specs.TypedViews.{expr_view};
+ghost use Rattle.c_tree.specs.TypedViews.{boxed_expr_view};
 ghost use Rattle.c_typing.specs.Judgement.{judged, judged_all, judged_print, judged_start, judged_started, valued, prefixed, name_in, text_in, node_place, starting_or, meaning_in, format_or};
 ghost use Rattle.type_context.specs.ContextViews.{context_view};
 ghost use Rattle.type_rules.specs.ListViews.{exprs_view, pieces_view};
@@ -21,20 +21,20 @@ use type_nodes::callees::{begun, called_by, few_enough, is_printf, is_thrd_creat
 use type_nodes::leaves::{named, null, number, text};
 use type_nodes::operators::{
     addressed, cast_to, choice_of, combination, element_of, member_of, no_format, no_function,
-    pointed_by, prefixed, print_of, size_of_expression, size_of_type, start_of, valued,
+    pointed_by, prefixed, print_of, size_of_expression, size_of_type, start_of, unboxed, valued,
 };
 use type_outcomes::outcomes::pushed;
 use type_specifiers::places::{name_in, node_place, text_in};
 
 /// An expression, judged where it stands.
 #[cycle(nodes)]
-pub fn expression(context: &mut Context<'_>, e: &tree::Expr) -> Result<Expr, CompileFault>
-    ensures { Tells expr_view result context.new (judged (source.expr_view e.now) (context_view context.old)) }
+pub fn expression(context: &mut Context<'_>, e: &tree::Expr) -> Result<Box<Expr>, CompileFault>
+    ensures { Tells boxed_expr_view result context.new (judged (source.expr_view e.now) (context_view context.old)) }
 {
     match e {
         tree::Expr::Name(name) => named(context, *name),
-        tree::Expr::Int { place, value } => number(*place, *value),
-        tree::Expr::Char { place, value } => number(*place, *value),
+        tree::Expr::Int { place, value } => number(context.alloc, *place, *value),
+        tree::Expr::Char { place, value } => number(context.alloc, *place, *value),
         tree::Expr::Text(parts) => text(context, parts),
         tree::Expr::Null { place } => null(context.alloc, *place),
         tree::Expr::Group(e) => expression(context, e),
@@ -100,8 +100,8 @@ pub fn expression(context: &mut Context<'_>, e: &tree::Expr) -> Result<Expr, Com
 
 /// The value of an expression: of an array a pointer to its first element (C11 6.3.2.1 p3).
 #[cycle(nodes)]
-pub fn value(context: &mut Context<'_>, e: &tree::Expr) -> Result<Expr, CompileFault>
-    ensures { Tells expr_view result context.new (valued (judged (source.expr_view e.now)) (context_view context.old)) }
+pub fn value(context: &mut Context<'_>, e: &tree::Expr) -> Result<Box<Expr>, CompileFault>
+    ensures { Tells boxed_expr_view result context.new (valued (judged (source.expr_view e.now)) (context_view context.old)) }
 {
     let e = expression(context, e);
     valued(context.alloc, e)
@@ -114,8 +114,8 @@ fn prefix(
     place: u32,
     op: PrefixOp,
     e: &tree::Expr,
-) -> Result<Expr, CompileFault>
-    ensures { Tells expr_view result context.new (prefixed place op (name_in (source.expr_view e.now)) (judged (source.expr_view e.now)) (context_view context.old)) }
+) -> Result<Box<Expr>, CompileFault>
+    ensures { Tells boxed_expr_view result context.new (prefixed place op (name_in (source.expr_view e.now)) (judged (source.expr_view e.now)) (context_view context.old)) }
 {
     match op {
         PrefixOp::AddressOf => {
@@ -132,8 +132,12 @@ fn prefix(
 
 // A call of a name (C11 6.5.2.2).
 #[cycle(nodes)]
-fn call(context: &mut Context<'_>, callee: Name, args: &[tree::Expr]) -> Result<Expr, CompileFault>
-    ensures { Tells expr_view result context.new (judged (trees.call callee (trees.exprs_of (map source.expr_view args.now))) (context_view context.old)) }
+fn call(
+    context: &mut Context<'_>,
+    callee: Name,
+    args: &[tree::Expr],
+) -> Result<Box<Expr>, CompileFault>
+    ensures { Tells boxed_expr_view result context.new (judged (trees.call callee (trees.exprs_of (map source.expr_view args.now))) (context_view context.old)) }
 {
     let meaning = context.meaning_of(callee)?;
     if is_printf(&meaning) {
@@ -154,15 +158,19 @@ fn arguments(context: &mut Context<'_>, args: &[tree::Expr]) -> Result<Vec<Expr>
     let mut all = Ok(Vec::new(context.alloc));
     'arguments: for e in args {
         let next = value(context, e);
-        all = pushed(all, next);
+        all = pushed(all, unboxed(next));
     }
     all
 }
 
 // `printf`: its format, and then the arguments behind it (C11 7.21.6.3).
 #[cycle(nodes)]
-fn print(context: &mut Context<'_>, place: u32, args: &[tree::Expr]) -> Result<Expr, CompileFault>
-    ensures { Tells expr_view result context.new (judged_print place (trees.exprs_of (map source.expr_view args.now)) (context_view context.old)) }
+fn print(
+    context: &mut Context<'_>,
+    place: u32,
+    args: &[tree::Expr],
+) -> Result<Box<Expr>, CompileFault>
+    ensures { Tells boxed_expr_view result context.new (judged_print place (trees.exprs_of (map source.expr_view args.now)) (context_view context.old)) }
 {
     let [first, rest @ ..] = args else {
         arguments(context, args)?;
@@ -191,8 +199,12 @@ fn format(context: &mut Context<'_>, e: &tree::Expr) -> Result<Vec<Piece>, Compi
 
 // `thrd_create`: the function is its second argument (C11 7.26.5.1).
 #[cycle(nodes)]
-fn start(context: &mut Context<'_>, place: u32, args: &[tree::Expr]) -> Result<Expr, CompileFault>
-    ensures { Tells expr_view result context.new (judged_start place (trees.exprs_of (map source.expr_view args.now)) (context_view context.old)) }
+fn start(
+    context: &mut Context<'_>,
+    place: u32,
+    args: &[tree::Expr],
+) -> Result<Box<Expr>, CompileFault>
+    ensures { Tells boxed_expr_view result context.new (judged_start place (trees.exprs_of (map source.expr_view args.now)) (context_view context.old)) }
 {
     let [first, rest @ ..] = args else {
         function_and_rest(context, args)?;

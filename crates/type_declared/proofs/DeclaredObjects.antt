@@ -1,13 +1,12 @@
 -- Declared objects, and the header of a for.
 use Rattle.std.proofs.Common.{◌≡◌, ℕ, List, [], ◌∷◌, ◌++◌, Some, Result, map, refl, sym, ap, subst, ◌∙◌}
-use Rattle.std.specs.Global.{Vec}
 use Rattle.std.proofs.lemmas.List.{map-append}
 use Rattle.ak_words.specs.IntType.{int}
 use Rattle.c_lex.specs.declared.refusal.Refusal.{Refusal}
 use Rattle.c_lex.specs.declared.refusal.CompileFault.{CompileFault}
 use Rattle.c_tree.specs.declared.typed.Stmt.{Stmt as CodeStmt}
 use Rattle.c_tree.specs.Typed.{Ty, integer, Stmt, at_stmt, block, more_stmts, no_stmts}
-use Rattle.c_tree.specs.TypedViews.{stmt_view, stmts_of}
+use Rattle.c_tree.specs.TypedViews.{stmt_view}
 use Rattle.c_typing.specs.Faults.{Judged, typed, faulty, first, Gives, ◌>>=◌}
 use Rattle.c_typing.specs.Statements.{or_int, headed}
 use Rattle.type_declared.specs.inner.Objects.{wrapped}

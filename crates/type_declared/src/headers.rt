@@ -1,7 +1,8 @@
 //! The header of a `for` (C11 6.8.5.3).
 ghost use Rattle.std.specs.Prelude.{◌≡◌, IfOk, map};
+ghost use Rattle.std.specs.Option.{option_map};
 ghost use Rattle.c_tree.specs.Typed.{at_stmt, for_, block, more_stmts, no_stmts, empty};
-ghost use Rattle.c_tree.specs.TypedViews.{optional_expr_view, stmt_view};
+ghost use Rattle.c_tree.specs.TypedViews.{optional_expr_view, boxed_expr_view, stmt_view, boxed_stmt_view};
 ghost use Rattle.c_typing.specs.Statements.{headed};
 ghost use Rattle.type_declared.specs.inner.Objects.{wrapped};
 
@@ -18,17 +19,30 @@ pub fn nothing(place: u32) -> Stmt
     }
 }
 
+/// An expression that may be there, without its box.
+pub fn unboxed(e: Option<Box<Expr>>) -> Option<Expr>
+    ensures { optional_expr_view result ≡ option_map boxed_expr_view e }
+{
+    match e {
+        Some(e) => Some(Box::into_inner(e)),
+        None => None,
+    }
+}
+
 // Two statements in a block.
-fn block_of(alloc: Global, place: u32, first: Stmt, second: Stmt) -> Result<Stmt, AllocError>
-    ensures { IfOk result (λ s. stmt_view s ≡ at_stmt place (block (more_stmts (stmt_view first) (more_stmts (stmt_view second) no_stmts)))) }
+fn block_of(
+    alloc: Global,
+    place: u32,
+    first: Box<Stmt>,
+    second: Box<Stmt>,
+) -> Result<Box<Stmt>, AllocError>
+    ensures { IfOk result (λ s. boxed_stmt_view s ≡ at_stmt place (block (more_stmts (boxed_stmt_view first) (more_stmts (boxed_stmt_view second) no_stmts)))) }
 {
     let mut all = Vec::new(alloc);
-    all.push(first)?;
-    all.push(second)?;
-    Ok(Stmt {
-        place,
-        node: StmtNode::Block(all),
-    })
+    all.push(Box::into_inner(first))?;
+    all.push(Box::into_inner(second))?;
+    let node = StmtNode::Block(all);
+    Ok(Box::new(alloc, Stmt { place, node })?)
 }
 
 // Each of these in a block around what is behind it.
@@ -36,12 +50,13 @@ fn wrapped(
     alloc: Global,
     place: u32,
     mut header: Vec<Stmt>,
-    inside: Stmt,
-) -> Result<Stmt, AllocError>
-    ensures { IfOk result (λ s. stmt_view s ≡ wrapped place (map stmt_view header.items) (stmt_view inside)) }
+    inside: Box<Stmt>,
+) -> Result<Box<Stmt>, AllocError>
+    ensures { IfOk result (λ s. boxed_stmt_view s ≡ wrapped place (map stmt_view header.items) (boxed_stmt_view inside)) }
 {
     let mut whole = inside;
     'header: while let Some(s) = header.pop() {
+        let s = Box::new(alloc, s)?;
         whole = block_of(alloc, place, s, whole)?;
     }
     Ok(whole)
@@ -51,20 +66,15 @@ fn wrapped(
 fn loop_of(
     alloc: Global,
     place: u32,
-    first: Stmt,
-    condition: Option<Expr>,
-    step: Stmt,
-    body: Stmt,
-) -> Result<Stmt, AllocError>
-    ensures { IfOk result (λ s. stmt_view s ≡ at_stmt place (for_ (stmt_view first) (optional_expr_view condition) (stmt_view step) (stmt_view body))) }
+    first: Box<Stmt>,
+    condition: Option<Box<Expr>>,
+    step: Box<Stmt>,
+    body: Box<Stmt>,
+) -> Result<Box<Stmt>, AllocError>
+    ensures { IfOk result (λ s. boxed_stmt_view s ≡ at_stmt place (for_ (boxed_stmt_view first) (option_map boxed_expr_view condition) (boxed_stmt_view step) (boxed_stmt_view body))) }
 {
-    let first = Box::new(alloc, first)?;
-    let step = Box::new(alloc, step)?;
-    let body = Box::new(alloc, body)?;
-    Ok(Stmt {
-        place,
-        node: StmtNode::For(first, condition, step, body),
-    })
+    let node = StmtNode::For(first, unboxed(condition), step, body);
+    Ok(Box::new(alloc, Stmt { place, node })?)
 }
 
 /// A `for` with its header: where that declares several locals, all but the last stand in a block
@@ -73,17 +83,21 @@ pub fn headed(
     alloc: Global,
     place: u32,
     mut header: Vec<Stmt>,
-    condition: Option<Expr>,
-    step: Stmt,
-    body: Stmt,
-) -> Result<Stmt, AllocError>
-    ensures { IfOk result (λ s. stmt_view s ≡ headed place (map stmt_view header.items) (λ first. at_stmt place (for_ first (optional_expr_view condition) (stmt_view step) (stmt_view body)))) }
+    condition: Option<Box<Expr>>,
+    step: Box<Stmt>,
+    body: Box<Stmt>,
+) -> Result<Box<Stmt>, AllocError>
+    ensures { IfOk result (λ s. boxed_stmt_view s ≡ headed place (map stmt_view header.items) (λ first. at_stmt place (for_ first (option_map boxed_expr_view condition) (boxed_stmt_view step) (boxed_stmt_view body)))) }
 {
     match header.pop() {
         Some(first) => {
+            let first = Box::new(alloc, first)?;
             let inside = loop_of(alloc, place, first, condition, step, body)?;
             wrapped(alloc, place, header, inside)
         }
-        None => loop_of(alloc, place, nothing(place), condition, step, body),
+        None => {
+            let first = Box::new(alloc, nothing(place))?;
+            loop_of(alloc, place, first, condition, step, body)
+        }
     }
 }

@@ -3,7 +3,7 @@ ghost use Rattle.std.specs.Prelude.{◌≡◌, ◌∷◌, ◌<◌, ◌≢◌, []
 ghost use Rattle.std.specs.List.{find, starts_with};
 ghost use Rattle.std.specs.Option.{option_map};
 ghost use Rattle.c_tree.specs.Typed as trees;
-ghost use Rattle.c_tree.specs.TypedViews.{type_view, piece_view, expr_view};
+ghost use Rattle.c_tree.specs.TypedViews.{type_view, piece_view, expr_view, boxed_expr_view};
 ghost use Rattle.c_typing.specs.Faults.{Gives, Fails};
 ghost use Rattle.c_typing.specs.Rules.{or_mismatch};
 ghost use Rattle.c_typing.specs.Formats.{Conversion, before_pieces, conversion_at, pieces_from, pieces_of, number_for, text_for, argument_for, arguments_for};
@@ -192,8 +192,8 @@ pub fn pieces_of(alloc: Global, place: u32, bytes: &[u8]) -> Result<Vec<Piece>, 
 }
 
 // A number for a piece that writes one of so many bits (C11 6.5.2.2 p6).
-fn number_for(alloc: Global, place: u32, bits: u8, e: Expr) -> Result<Expr, CompileFault>
-    ensures { Gives expr_view result (or_mismatch place (number_for bits (type_view e.ty) (expr_view e))) }
+fn number_for(alloc: Global, place: u32, bits: u8, e: Box<Expr>) -> Result<Box<Expr>, CompileFault>
+    ensures { Gives boxed_expr_view result (or_mismatch place (number_for bits (type_view e.value.ty) (boxed_expr_view e))) }
 {
     match &e.ty {
         CType::Int(t) => {
@@ -210,8 +210,8 @@ fn number_for(alloc: Global, place: u32, bits: u8, e: Expr) -> Result<Expr, Comp
 }
 
 // A pointer to char, signed or not.
-fn text_for(place: u32, e: Expr) -> Result<Expr, CompileFault>
-    ensures { Gives expr_view result (or_mismatch place (text_for (type_view e.ty) (expr_view e))) }
+fn text_for(place: u32, e: Box<Expr>) -> Result<Box<Expr>, CompileFault>
+    ensures { Gives boxed_expr_view result (or_mismatch place (text_for (type_view e.value.ty) (boxed_expr_view e))) }
 {
     let CType::Pointer(target) = &e.ty else {
         return refused(place, Kind::TypeMismatch);
@@ -229,8 +229,13 @@ fn text_for(place: u32, e: Expr) -> Result<Expr, CompileFault>
 }
 
 // What a piece takes of the arguments.
-fn argument_for(alloc: Global, place: u32, piece: &Piece, e: Expr) -> Result<Expr, CompileFault>
-    ensures { Gives expr_view result (or_mismatch place (argument_for (piece_view piece.now) (expr_view e))) }
+fn argument_for(
+    alloc: Global,
+    place: u32,
+    piece: &Piece,
+    e: Box<Expr>,
+) -> Result<Box<Expr>, CompileFault>
+    ensures { Gives boxed_expr_view result (or_mismatch place (argument_for (piece_view piece.now) (boxed_expr_view e))) }
 {
     match piece {
         Piece::Bytes(_) => refused(place, Kind::TypeMismatch),
@@ -240,6 +245,15 @@ fn argument_for(alloc: Global, place: u32, piece: &Piece, e: Expr) -> Result<Exp
         Piece::Char => number_for(alloc, place, 32, e),
         Piece::Text => text_for(place, e),
     }
+}
+
+// What a piece takes of an argument of a list.
+fn argument_of(alloc: Global, place: u32, piece: &Piece, e: Expr) -> Result<Expr, CompileFault>
+    ensures { Gives expr_view result (or_mismatch place (argument_for (piece_view piece.now) (expr_view e))) }
+{
+    let e = Box::new(alloc, e)?;
+    let e = argument_for(alloc, place, piece, e)?;
+    Ok(Box::into_inner(e))
 }
 
 // Whether a piece takes no argument.
@@ -267,7 +281,7 @@ fn arguments_for(
         let Some(e) = rest.next() else {
             return refused(place, Kind::TypeMismatch);
         };
-        let e = argument_for(alloc, place, piece, e)?;
+        let e = argument_of(alloc, place, piece, e)?;
         all.push(e)?;
     }
     match rest.next() {
@@ -283,10 +297,10 @@ pub fn printed(
     place: u32,
     pieces: Vec<Piece>,
     args: Vec<Expr>,
-) -> Result<Expr, CompileFault>
-    ensures { Gives expr_view result (printed place (pieces_view pieces, exprs_view args)) }
+) -> Result<Box<Expr>, CompileFault>
+    ensures { Gives boxed_expr_view result (printed place (pieces_view pieces, exprs_view args)) }
 {
     let args = arguments_for(alloc, place, &pieces, args)?;
     let ty = CType::Int(IntType::int());
-    Ok(library_call(place, ty, Lib::Print(pieces), args))
+    library_call(alloc, place, ty, Lib::Print(pieces), args)
 }

@@ -2,7 +2,7 @@
 ghost use Rattle.std.specs.Prelude.{◌≡◌, ◌∷◌, []};
 ghost use Rattle.c_tree.specs.Typed as trees;
 ghost use Rattle.c_tree.specs.Typed.{pointer, mutex};
-ghost use Rattle.c_tree.specs.TypedViews.{type_view, lib_view, expr_view};
+ghost use Rattle.c_tree.specs.TypedViews.{type_view, lib_view, expr_view, boxed_expr_view};
 ghost use Rattle.c_typing.specs.Faults.{Judged, Gives, typed, both};
 ghost use Rattle.c_typing.specs.Scope as library;
 ghost use Rattle.c_typing.specs.Judgement.{called_lib, started, plain_kind, init_by, called_library};
@@ -27,11 +27,11 @@ fn pointer(alloc: Global, to: CType) -> Result<CType, CompileFault>
 }
 
 // An argument before others.
-fn joined(alloc: Global, first: Expr, mut behind: Vec<Expr>) -> Result<Vec<Expr>, CompileFault>
-    ensures { Gives exprs_view result (typed (expr_view first ∷ exprs_view behind)) }
+fn joined(alloc: Global, first: Box<Expr>, mut behind: Vec<Expr>) -> Result<Vec<Expr>, CompileFault>
+    ensures { Gives exprs_view result (typed (boxed_expr_view first ∷ exprs_view behind)) }
 {
     let mut all = Vec::new(alloc);
-    all.push(first)?;
+    all.push(Box::into_inner(first))?;
     all.append(&mut behind)?;
     Ok(all)
 }
@@ -42,11 +42,11 @@ fn joined(alloc: Global, first: Expr, mut behind: Vec<Expr>) -> Result<Vec<Expr>
 pub fn started(
     alloc: Global,
     place: u32,
-    first: Expr,
+    first: Box<Expr>,
     function: Option<u32>,
     behind: Vec<Expr>,
-) -> Result<Expr, CompileFault>
-    ensures { Gives expr_view result (started place (expr_view first ∷ []) function (exprs_view behind)) }
+) -> Result<Box<Expr>, CompileFault>
+    ensures { Gives boxed_expr_view result (started place (boxed_expr_view first ∷ []) function (exprs_view behind)) }
 {
     let Some(function) = function else {
         return refused(place, Kind::TypeMismatch);
@@ -56,30 +56,30 @@ pub fn started(
     let args = joined(alloc, first, behind)?;
     let args = fitted_all(alloc, place, &[number, argument], args)?;
     let ty = CType::Int(IntType::int());
-    Ok(library_call(place, ty, Lib::Start(function), args))
+    library_call(alloc, place, ty, Lib::Start(function), args)
 }
 
 // The kind of a mutex is the constant 0, which is no operand.
-fn plain_kind(e: &Expr) -> Result<(), CompileFault>
-    ensures { Gives (λ _. tt) result (plain_kind (expr_view e.now)) }
+fn plain_kind(e: Expr) -> Result<(), CompileFault>
+    ensures { Gives (λ _. tt) result (plain_kind (expr_view e)) }
 {
-    unless(e.place, Kind::OutsideSubset(14), is_zero(e))
+    unless(e.place, Kind::OutsideSubset(14), is_zero(&e))
 }
 
 // A call, and whether its kind is plain.
 #[tactic(auto, using(type_context::proofs::Judging::gives_both))]
 fn call_and_kind(
-    call: Result<Expr, CompileFault>,
+    call: Result<Box<Expr>, CompileFault>,
     kind: Result<(), CompileFault>,
-) -> Result<(Expr, ()), CompileFault>
-    ensures { (j : Judged trees.Expr) (k : Judged (Unit {0})) → Gives expr_view call j → Gives (λ _. tt) kind k → Gives call_and_kind_view result (both j k) }
+) -> Result<(Box<Expr>, ()), CompileFault>
+    ensures { (j : Judged trees.Expr) (k : Judged (Unit {0})) → Gives boxed_expr_view call j → Gives (λ _. tt) kind k → Gives call_and_kind_view result (both j k) }
 {
     both(call, kind)
 }
 
 // `mtx_init`, at its name: the mutex, and its kind (C11 7.26.4.2).
-fn init_by(alloc: Global, place: u32, mut args: Vec<Expr>) -> Result<Expr, CompileFault>
-    ensures { Gives expr_view result (init_by place (exprs_view args)) }
+fn init_by(alloc: Global, place: u32, mut args: Vec<Expr>) -> Result<Box<Expr>, CompileFault>
+    ensures { Gives boxed_expr_view result (init_by place (exprs_view args)) }
 {
     if args.len() != 2 {
         return refused(place, Kind::TypeMismatch);
@@ -87,7 +87,7 @@ fn init_by(alloc: Global, place: u32, mut args: Vec<Expr>) -> Result<Expr, Compi
     let Some(kind) = args.pop() else {
         return refused(place, Kind::TypeMismatch);
     };
-    let plain = plain_kind(&kind);
+    let plain = plain_kind(kind);
     let returned = CType::Int(IntType::int());
     let call = on_mutex(alloc, place, Lib::MutexInit, returned, args);
     let (call, ()) = call_and_kind(call, plain)?;
@@ -102,8 +102,8 @@ fn on_mutex(
     which: Lib,
     returned: CType,
     args: Vec<Expr>,
-) -> Result<Expr, CompileFault>
-    ensures { Gives expr_view result (called_lib place (lib_view which) (pointer mutex ∷ []) (type_view returned) (exprs_view args)) }
+) -> Result<Box<Expr>, CompileFault>
+    ensures { Gives boxed_expr_view result (called_lib place (lib_view which) (pointer mutex ∷ []) (type_view returned) (exprs_view args)) }
 {
     let mutex = pointer(alloc, CType::Mutex)?;
     called_lib(alloc, place, which, &[mutex], returned, args)
@@ -111,8 +111,8 @@ fn on_mutex(
 
 // `malloc`, at its name (C11 7.22.3.4).
 #[tactic(auto, using(type_context::proofs::Judging::fails_part))]
-fn malloc(alloc: Global, place: u32, args: Vec<Expr>) -> Result<Expr, CompileFault>
-    ensures { Gives expr_view result (called_library place library.malloc (exprs_view args)) }
+fn malloc(alloc: Global, place: u32, args: Vec<Expr>) -> Result<Box<Expr>, CompileFault>
+    ensures { Gives boxed_expr_view result (called_library place library.malloc (exprs_view args)) }
 {
     let size = CType::Int(IntType::unsigned_long());
     let returned = pointer(alloc, CType::Void)?;
@@ -121,8 +121,8 @@ fn malloc(alloc: Global, place: u32, args: Vec<Expr>) -> Result<Expr, CompileFau
 
 // `free`, at its name (C11 7.22.3.3).
 #[tactic(auto, using(type_context::proofs::Judging::fails_part))]
-fn free(alloc: Global, place: u32, args: Vec<Expr>) -> Result<Expr, CompileFault>
-    ensures { Gives expr_view result (called_library place library.free (exprs_view args)) }
+fn free(alloc: Global, place: u32, args: Vec<Expr>) -> Result<Box<Expr>, CompileFault>
+    ensures { Gives boxed_expr_view result (called_library place library.free (exprs_view args)) }
 {
     let block = pointer(alloc, CType::Void)?;
     called_lib(alloc, place, Lib::Free, &[block], CType::Void, args)
@@ -130,8 +130,8 @@ fn free(alloc: Global, place: u32, args: Vec<Expr>) -> Result<Expr, CompileFault
 
 // `memcpy`, at its name (C11 7.24.2.1).
 #[tactic(auto, using(type_context::proofs::Judging::fails_part))]
-fn memcpy(alloc: Global, place: u32, args: Vec<Expr>) -> Result<Expr, CompileFault>
-    ensures { Gives expr_view result (called_library place library.memcpy (exprs_view args)) }
+fn memcpy(alloc: Global, place: u32, args: Vec<Expr>) -> Result<Box<Expr>, CompileFault>
+    ensures { Gives boxed_expr_view result (called_library place library.memcpy (exprs_view args)) }
 {
     let to = pointer(alloc, CType::Void)?;
     let from = pointer(alloc, CType::Void)?;
@@ -142,8 +142,8 @@ fn memcpy(alloc: Global, place: u32, args: Vec<Expr>) -> Result<Expr, CompileFau
 
 // `thrd_join`, at its name (C11 7.26.5.6).
 #[tactic(auto, using(type_context::proofs::Judging::fails_part))]
-fn thrd_join(alloc: Global, place: u32, args: Vec<Expr>) -> Result<Expr, CompileFault>
-    ensures { Gives expr_view result (called_library place library.thrd_join (exprs_view args)) }
+fn thrd_join(alloc: Global, place: u32, args: Vec<Expr>) -> Result<Box<Expr>, CompileFault>
+    ensures { Gives boxed_expr_view result (called_library place library.thrd_join (exprs_view args)) }
 {
     let thread = CType::Int(IntType::unsigned_long());
     let outcome = pointer(alloc, CType::Int(IntType::int()))?;
@@ -157,8 +157,8 @@ pub fn called_library(
     place: u32,
     which: Library,
     args: Vec<Expr>,
-) -> Result<Expr, CompileFault>
-    ensures { Gives expr_view result (called_library place (library_view which) (exprs_view args)) }
+) -> Result<Box<Expr>, CompileFault>
+    ensures { Gives boxed_expr_view result (called_library place (library_view which) (exprs_view args)) }
 {
     let int = CType::Int(IntType::int());
     match which {

@@ -1,7 +1,7 @@
 -- The forms in which the code walks over nodes.
 use Rattle.std.proofs.Common.{◌≡◌, ℕ, ◌+◌, ◌-◌, ◌<◌, ◌≤◌, length, map, get_or, take, drop, arith, true, false, Bool, List, [], ◌∷◌, ◌++◌, Option, Some, None, Result, Ok, Err, refl, ap, sym, subst, ◌∙◌, append_assoc, append-nil}
 use Rattle.std.proofs.lemmas.List.{take_all, take_more, map-append}
-use Rattle.std.specs.Prelude.{Vec}
+use Rattle.std.specs.Prelude.{Vec, Box}
 use Rattle.std.specs.declared.alloc.Global.{Global}
 use Rattle.c_lex.specs.declared.refusal.CompileFault.{CompileFault}
 use Rattle.c_lex.specs.declared.refusal.CompileFault.TheVariants.{Refused, NoMemory}
@@ -12,7 +12,7 @@ use Rattle.c_tree.specs.declared.syntax.PrefixOp.{PrefixOp}
 use Rattle.c_tree.specs.declared.syntax.PrefixOp.TheVariants as prefixes
 use Rattle.c_tree.specs.declared.typed.Expr.{Expr as CodeExpr}
 use Rattle.c_tree.specs.Typed.{Ty, Expr}
-use Rattle.c_tree.specs.TypedViews.{expr_view}
+use Rattle.c_tree.specs.TypedViews.{expr_view, boxed_expr_view}
 use Rattle.c_typing.specs.Faults.{Judged, typed, faulty, Gives, both, ◌>>=◌}
 use Rattle.c_typing.specs.Rules.{address}
 use Rattle.c_typing.specs.Scope.{Context, with_tag, tag_number, is_begun, with_begun, Meaning, global_name, local_name, function_name, library_name, printf, malloc, free, memcpy, thrd_create, thrd_join, mtx_init, mtx_lock, mtx_unlock, mtx_destroy, constant}
@@ -37,6 +37,17 @@ pub finishes : {A B C D : Type 0} (va : A → C) (vr : B → D) (J : Judging C) 
     → Tells va a n (J c) → Finishes vr a (λ x. rule (context_view n) (va x)) r → Tells vr r n (ruled J rule c)
 finishes va vr J rule c n (Ok x) r h f = ok_tells va vr J rule c n (Ok x) x r h refl f
 finishes va vr J rule c n (Err e) r h f = subst (λ q. Tells vr q n (ruled J rule c)) (sym f) (err_tells va vr J rule c n (Err e) e h refl)
+
+-- what came in a box, without the box
+pub unboxed_tells : (J : Judging Expr) (c : Context) (n : CodeContext) (a : Result (Box CodeExpr Global) CompileFault) (r : Result CodeExpr CompileFault)
+    → Tells boxed_expr_view a n (J c) → Finishes expr_view a (λ x. typed (boxed_expr_view x)) r → Tells expr_view r n (J c)
+unboxed_tells J c n (Ok x) r h f =
+    record {
+      gives = subst (λ j. Gives expr_view r j) (sym h.gives) f;
+      leaves = leaves_any r n (J c).1 h.leaves;
+    }
+unboxed_tells J c n (Err NoMemory) r h f = subst (λ q. Tells expr_view q n (J c)) (sym f) (memory_tells expr_view n (J c))
+unboxed_tells J c n (Err (Refused q)) r h f = subst (λ p. Tells expr_view p n (J c)) (sym f) (record { gives = h.gives; leaves = h.leaves })
 
 -- on two parts, one behind the other
 pub finishes_both : {A B C D R E : Type 0} (va : A → C) (vb : B → D) (vr : R → E) (J : Judging C) (K : Judging D) (rule : Context → C × D → Judged E)
@@ -271,33 +282,33 @@ prefixed_value prefixes.Deref place n e c other = refl
 prefixed_value prefixes.AddressOf place n e c other = absurd (other refl)
 
 -- the address of an operand, whose local is marked behind it
-pub addressed_ok : (place : ℕ) (n : Option Name) (J : Judging Expr) (c : Context) (k m : CodeContext) (a : Result CodeExpr CompileFault) (x : CodeExpr) (r : Result CodeExpr CompileFault)
-    → Tells expr_view a k (J c) → a ≡ Ok x → context_view m ≡ with_addressed (context_view k) (meaning_in (context_view k) n) → Gives expr_view r (address place (expr_view x))
-    → Tells expr_view r m (addressing place n J c)
+pub addressed_ok : (place : ℕ) (n : Option Name) (J : Judging Expr) (c : Context) (k m : CodeContext) (a : Result (Box CodeExpr Global) CompileFault) (x : Box CodeExpr Global) (r : Result (Box CodeExpr Global) CompileFault)
+    → Tells boxed_expr_view a k (J c) → a ≡ Ok x → context_view m ≡ with_addressed (context_view k) (meaning_in (context_view k) n) → Gives boxed_expr_view r (address place (boxed_expr_view x))
+    → Tells boxed_expr_view r m (addressing place n J c)
 addressed_ok place n J c k m a x r h is l g =
-    let here : Tells expr_view (Ok x) k (J c) = subst (λ b. Tells expr_view b k (J c)) is h in
+    let here : Tells boxed_expr_view (Ok x) k (J c) = subst (λ b. Tells boxed_expr_view b k (J c)) is h in
     record {
-      gives = subst (λ j. Gives expr_view r (j >>= address place)) (sym here.gives) g;
+      gives = subst (λ j. Gives boxed_expr_view r (j >>= address place)) (sym here.gives) g;
       leaves = leaves_any r m (with_addressed (J c).1 (meaning_in (J c).1 n)) (l ∙ ap (λ d. with_addressed d (meaning_in d n)) here.leaves);
     }
 
-pub addressed_err : (place : ℕ) (n : Option Name) (J : Judging Expr) (c : Context) (k m : CodeContext) (a : Result CodeExpr CompileFault) (e : CompileFault)
-    → Tells expr_view a k (J c) → a ≡ Err e → context_view m ≡ with_addressed (context_view k) (meaning_in (context_view k) n)
-    → Tells expr_view (Err e) m (addressing place n J c)
-addressed_err place n J c k m a NoMemory h is l = memory_tells expr_view m (addressing place n J c)
+pub addressed_err : (place : ℕ) (n : Option Name) (J : Judging Expr) (c : Context) (k m : CodeContext) (a : Result (Box CodeExpr Global) CompileFault) (e : CompileFault)
+    → Tells boxed_expr_view a k (J c) → a ≡ Err e → context_view m ≡ with_addressed (context_view k) (meaning_in (context_view k) n)
+    → Tells boxed_expr_view (Err e) m (addressing place n J c)
+addressed_err place n J c k m a NoMemory h is l = memory_tells boxed_expr_view m (addressing place n J c)
 addressed_err place n J c k m a (Refused r) h is l =
-    let here : Tells expr_view (Err (Refused r)) k (J c) = subst (λ b. Tells expr_view b k (J c)) is h in
+    let here : Tells boxed_expr_view (Err (Refused r)) k (J c) = subst (λ b. Tells boxed_expr_view b k (J c)) is h in
     record {
       gives = fails_part (J c).0 (address place) (Refused r) here.gives;
       leaves = l ∙ ap (λ d. with_addressed d (meaning_in d n)) here.leaves;
     }
 
 -- the address of an operand, or its fault
-pub addressed_tells : (place : ℕ) (n : Option Name) (J : Judging Expr) (c : Context) (k m : CodeContext) (a r : Result CodeExpr CompileFault)
-    → Tells expr_view a k (J c) → context_view m ≡ with_addressed (context_view k) (meaning_in (context_view k) n) → Finishes expr_view a (λ x. address place (expr_view x)) r
-    → Tells expr_view r m (addressing place n J c)
+pub addressed_tells : (place : ℕ) (n : Option Name) (J : Judging Expr) (c : Context) (k m : CodeContext) (a r : Result (Box CodeExpr Global) CompileFault)
+    → Tells boxed_expr_view a k (J c) → context_view m ≡ with_addressed (context_view k) (meaning_in (context_view k) n) → Finishes boxed_expr_view a (λ x. address place (boxed_expr_view x)) r
+    → Tells boxed_expr_view r m (addressing place n J c)
 addressed_tells place n J c k m (Ok x) r h l f = addressed_ok place n J c k m (Ok x) x r h refl l f
-addressed_tells place n J c k m (Err e) r h l f = subst (λ q. Tells expr_view q m (addressing place n J c)) (sym f) (addressed_err place n J c k m (Err e) e h refl l)
+addressed_tells place n J c k m (Err e) r h l f = subst (λ q. Tells boxed_expr_view q m (addressing place n J c)) (sym f) (addressed_err place n J c k m (Err e) e h refl l)
 
 -- ---- slices, and lists of numbers
 

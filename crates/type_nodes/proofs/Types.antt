@@ -1,6 +1,6 @@
 -- What each node of a type or a declarator tells, by what its parts tell.
 use Rattle.std.proofs.Common.{◌≡◌, ℕ, List, Result, Ok, Err, ap, sym, subst}
-use Rattle.std.specs.Prelude.{Vec}
+use Rattle.std.specs.Prelude.{Vec, Box}
 use Rattle.std.specs.declared.alloc.Global.{Global}
 use Rattle.c_lex.specs.declared.refusal.CompileFault.{CompileFault}
 use Rattle.c_tree.specs.declared.syntax.Name.{Name}
@@ -8,11 +8,11 @@ use Rattle.c_tree.specs.declared.syntax.Pointer.{Pointer}
 use Rattle.c_tree.specs.declared.typed.Expr.{Expr as CodeExpr}
 use Rattle.c_tree.specs.declared.typed.CType.{CType}
 use Rattle.c_tree.specs.Syntax as source
-use Rattle.c_tree.specs.TypedViews.{type_view, expr_view}
+use Rattle.c_tree.specs.TypedViews.{type_view, boxed_expr_view}
 use Rattle.c_typing.specs.Faults.{typed, Gives}
 use Rattle.c_typing.specs.Types.{behind_pointers}
 use Rattle.c_typing.specs.Scope.{Context, with_tag, tag_number}
-use Rattle.c_typing.specs.Judgement.{Judging, ruled, judged, valued, judged_type, judged_specs, judged_parts, judged_spec, judged_member, judged_declarators, judged_dims, specified, place_of_specs, dimension, fresh_member, member_objects, tag, Declarator}
+use Rattle.c_typing.specs.Judgement.{Judging, ruled, judged, valued, judged_type, judged_specs, judged_parts, judged_spec, judged_member, judged_declarators, judged_dims, specified, place_of_specs, dimension, fresh_member, member_objects, tag}
 use Rattle.type_context.specs.declared.context.Context.{Context as CodeContext}
 use Rattle.type_context.specs.declared.context.MemberType.{MemberType}
 use Rattle.type_context.specs.ContextViews.{context_view}
@@ -39,9 +39,9 @@ pub tag_tells : (place : ℕ) (t : Name) (c : Context) (n : CodeContext) (number
     → context_view n ≡ with_tag c t → number ≡ tag_number (with_tag c t) t → Tells part_view (Ok (parts.Tag number)) n (judged_spec (source.struct place t) c)
 tag_tells place t c n number is_n is_number = record { gives = ap (λ (i : ℕ). typed (tag i)) (sym is_number); leaves = is_n }
 
-pub dimension_tells : (e : source.Expr) (c : Context) (n : CodeContext) (a : Result CodeExpr CompileFault) (r : Result ℕ CompileFault)
-    → Tells expr_view a n (valued (judged e) c) → Finishes (λ (i : ℕ). i) a (λ x. dimension e (context_view n) (expr_view x)) r → Tells (λ (i : ℕ). i) r n (ruled (valued (judged e)) (dimension e) c)
-dimension_tells e c n a r = finishes expr_view (λ (i : ℕ). i) (valued (judged e)) (dimension e) c n a r
+pub dimension_tells : (e : source.Expr) (c : Context) (n : CodeContext) (a : Result (Box CodeExpr Global) CompileFault) (r : Result ℕ CompileFault)
+    → Tells boxed_expr_view a n (valued (judged e) c) → Finishes (λ (i : ℕ). i) a (λ x. dimension e (context_view n) (boxed_expr_view x)) r → Tells (λ (i : ℕ). i) r n (ruled (valued (judged e)) (dimension e) c)
+dimension_tells e c n a r = finishes boxed_expr_view (λ (i : ℕ). i) (valued (judged e)) (dimension e) c n a r
 
 pub member_tells : (before : List Name) (specs : source.Specs) (ds : source.Declarators) (c : Context) (n m : CodeContext) (a : Result CType CompileFault) (b : Result (Vec Declared Global) CompileFault) (r : Result (Vec MemberType Global) CompileFault)
     → Tells type_view a n (judged_specs specs c) → Tells all_declared_view b m (judged_declarators before ds (context_view n))

@@ -5,7 +5,7 @@ ghost use Rattle.c_lex.specs.declared.refusal.CompileFault.TheVariants.{NoMemory
 ghost use Rattle.c_tree.specs.Syntax as trees;
 ghost use Rattle.c_tree.specs.SyntaxViews as source;
 ghost use Rattle.c_tree.specs.Typed.{Expr as TypedExpr};
-ghost use Rattle.c_tree.specs.TypedViews.{type_view, expr_view};
+ghost use Rattle.c_tree.specs.TypedViews.{type_view, boxed_expr_view};
 ghost use Rattle.c_typing.specs.Faults.{Judged, Gives, refuse};
 ghost use Rattle.c_typing.specs.Scope as scopes;
 ghost use Rattle.c_typing.specs.Judgement.{none_past, place_past, meaning_in, starting_by};
@@ -50,8 +50,8 @@ fn call_fault(
     place: u32,
     kind: Kind,
     args: Result<Vec<Expr>, CompileFault>,
-) -> Result<Expr, CompileFault>
-    ensures { Finishes expr_view (joined {A = Unit {0}} (Err (Refused (record { place = place; kind = kind }))) args) (λ _. refuse place kind) result }
+) -> Result<Box<Expr>, CompileFault>
+    ensures { Finishes boxed_expr_view (joined {A = Unit {0}} (Err (Refused (record { place = place; kind = kind }))) args) (λ _. refuse place kind) result }
 {
     let none: Result<(), CompileFault> = refused(place, kind);
     both(none, args)?;
@@ -63,8 +63,8 @@ fn no_call(
     place: u32,
     kind: Kind,
     args: Result<Vec<Expr>, CompileFault>,
-) -> Result<Expr, CompileFault>
-    ensures { (n : CodeContext) (p : Judged (List TypedExpr) × scopes.Context) → Tells exprs_view args n p → Tells expr_view result n (no_call_of place kind p.0, p.1) }
+) -> Result<Box<Expr>, CompileFault>
+    ensures { (n : CodeContext) (p : Judged (List TypedExpr) × scopes.Context) → Tells exprs_view args n p → Tells boxed_expr_view result n (no_call_of place kind p.0, p.1) }
 {
     call_fault(place, kind, args)
 }
@@ -75,8 +75,8 @@ fn library_called(
     place: u32,
     which: Library,
     args: Result<Vec<Expr>, CompileFault>,
-) -> Result<Expr, CompileFault>
-    ensures { (n : CodeContext) (p : Judged (List TypedExpr) × scopes.Context) → Tells exprs_view args n p → Tells expr_view result n (library_of place (library_view which) p.0, p.1) }
+) -> Result<Box<Expr>, CompileFault>
+    ensures { (n : CodeContext) (p : Judged (List TypedExpr) × scopes.Context) → Tells exprs_view args n p → Tells boxed_expr_view result n (library_of place (library_view which) p.0, p.1) }
 {
     let args = args?;
     called_library(alloc, place, which, args)
@@ -90,8 +90,8 @@ fn function_called(
     params: &[CType],
     returned: &CType,
     args: Result<Vec<Expr>, CompileFault>,
-) -> Result<Expr, CompileFault>
-    ensures { (n : CodeContext) (p : Judged (List TypedExpr) × scopes.Context) → Tells exprs_view args n p → Tells expr_view result n (function_of place number (types_view params.now) (type_view returned.now) p.0, p.1) }
+) -> Result<Box<Expr>, CompileFault>
+    ensures { (n : CodeContext) (p : Judged (List TypedExpr) × scopes.Context) → Tells exprs_view args n p → Tells boxed_expr_view result n (function_of place number (types_view params.now) (type_view returned.now) p.0, p.1) }
 {
     let args = args?;
     called(alloc, place, number, params, returned, args)
@@ -103,8 +103,8 @@ pub fn called_by(
     place: u32,
     meaning: Option<Meaning>,
     args: Result<Vec<Expr>, CompileFault>,
-) -> Result<Expr, CompileFault>
-    ensures { (n : CodeContext) (p : Judged (List TypedExpr) × scopes.Context) → Tells exprs_view args n p → Tells expr_view result n (called_of place (option_map meaning_view meaning) p.0, p.1) }
+) -> Result<Box<Expr>, CompileFault>
+    ensures { (n : CodeContext) (p : Judged (List TypedExpr) × scopes.Context) → Tells exprs_view args n p → Tells boxed_expr_view result n (called_of place (option_map meaning_view meaning) p.0, p.1) }
 {
     match meaning {
         Some(

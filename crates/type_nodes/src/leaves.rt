@@ -1,7 +1,7 @@
 //! Expressions with no parts (C11 6.5.1).
 ghost use Rattle.ak_words.specs.IntType.{int};
 ghost use Rattle.c_tree.specs.Typed.{at, integer, num, null, pointer, void};
-ghost use Rattle.c_tree.specs.TypedViews.{expr_view};
+ghost use Rattle.c_tree.specs.TypedViews.{boxed_expr_view};
 ghost use Rattle.c_typing.specs.Faults.{Gives, typed};
 ghost use Rattle.c_typing.specs.Scope.{meaning_of};
 ghost use Rattle.c_typing.specs.Literals.{joined_bytes, place_of_parts};
@@ -18,72 +18,63 @@ use type_context::context::{Context, count};
 use type_context::faults::refused;
 use type_context::names::{Library, Meaning};
 use type_library::literals::joined;
+use type_rules::trees::made;
 use type_specifiers::places::place_of_parts;
 
 /// A name is an object or a constant.
-pub fn named(context: &Context<'_>, name: Name) -> Result<Expr, CompileFault>
-    ensures { Gives expr_view result (named name.from (meaning_of (context_view context.now) name)) }
+pub fn named(context: &Context<'_>, name: Name) -> Result<Box<Expr>, CompileFault>
+    ensures { Gives boxed_expr_view result (named name.from (meaning_of (context_view context.now) name)) }
 {
     let place = name.from;
     match context.meaning_of(name)? {
-        Some(Meaning::Global(n, ty)) => Ok(Expr {
+        Some(Meaning::Global(n, ty)) => made(context.alloc, place, ty, ExprNode::Global(n)),
+        Some(Meaning::Local(n, ty)) => made(context.alloc, place, ty, ExprNode::Local(n)),
+        Some(Meaning::Library(Library::Constant(value))) => number(
+            context.alloc,
             place,
-            ty,
-            node: ExprNode::Global(n),
-        }),
-        Some(Meaning::Local(n, ty)) => Ok(Expr {
-            place,
-            ty,
-            node: ExprNode::Local(n),
-        }),
-        Some(Meaning::Library(Library::Constant(value))) => number(place, Num::int(value)),
+            Num::int(value),
+        ),
         Some(_) => refused(place, Kind::OutsideSubset(12)),
         None => refused(place, Kind::UnknownName),
     }
 }
 
 /// A string literal is an array of char, and a block of its own (C11 6.4.5 p6).
-pub fn text(context: &mut Context<'_>, parts: &[Span]) -> Result<Expr, CompileFault>
-    ensures { Tells expr_view result context.new (spelled (place_of_parts parts.now) (joined_bytes (context_view context.old).text parts.now) (context_view context.old)) }
+pub fn text(context: &mut Context<'_>, parts: &[Span]) -> Result<Box<Expr>, CompileFault>
+    ensures { Tells boxed_expr_view result context.new (spelled (place_of_parts parts.now) (joined_bytes (context_view context.old).text parts.now) (context_view context.old)) }
 {
     let bytes = joined(context.alloc, context.text, parts)?;
     spelled(context, place_of_parts(parts), bytes)
 }
 
 // A literal of these bytes.
-fn spelled(context: &mut Context<'_>, place: u32, bytes: Vec<u8>) -> Result<Expr, CompileFault>
-    ensures { Tells expr_view result context.new (spelled place bytes.items (context_view context.old)) }
+fn spelled(context: &mut Context<'_>, place: u32, bytes: Vec<u8>) -> Result<Box<Expr>, CompileFault>
+    ensures { Tells boxed_expr_view result context.new (spelled place bytes.items (context_view context.old)) }
 {
     let length = count(bytes.len())?;
     let fits = context.fits_plain(place, length);
     let number = context.add_literal(bytes)?;
     let element = Box::new(context.alloc, CType::Int(IntType::char()))?;
     fits?;
-    Ok(Expr {
-        place,
-        ty: CType::Array(element, length),
-        node: ExprNode::Literal(number),
-    })
+    let ty = CType::Array(element, length);
+    made(context.alloc, place, ty, ExprNode::Literal(number))
 }
 
 /// A number.
-pub fn number(place: u32, value: Num) -> Result<Expr, CompileFault>
-    ensures { Gives expr_view result (typed (at place (integer value.ty) (num value.ty value.value))) }
+pub fn number(alloc: Global, place: u32, value: Num) -> Result<Box<Expr>, CompileFault>
+    ensures { Gives boxed_expr_view result (typed (at place (integer value.ty) (num value.ty value.value))) }
 {
-    Ok(Expr {
-        place,
-        ty: CType::Int(value.ty),
-        node: ExprNode::Num(value),
-    })
+    made(alloc, place, CType::Int(value.ty), ExprNode::Num(value))
 }
 
 /// `NULL`.
-pub fn null(alloc: Global, place: u32) -> Result<Expr, CompileFault>
-    ensures { Gives expr_view result (typed (at place (pointer void) null)) }
+pub fn null(alloc: Global, place: u32) -> Result<Box<Expr>, CompileFault>
+    ensures { Gives boxed_expr_view result (typed (at place (pointer void) null)) }
 {
-    Ok(Expr {
+    made(
+        alloc,
         place,
-        ty: CType::Pointer(Box::new(alloc, CType::Void)?),
-        node: ExprNode::Null,
-    })
+        CType::Pointer(Box::new(alloc, CType::Void)?),
+        ExprNode::Null,
+    )
 }

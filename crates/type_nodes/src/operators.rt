@@ -2,7 +2,7 @@
 ghost use Rattle.std.specs.Prelude.{◌∷◌, [], None};
 ghost use Rattle.c_lex.specs.declared.refusal.Kind.TheVariants.{OutsideSubset};
 ghost use Rattle.c_tree.specs.Typed.{type_of};
-ghost use Rattle.c_tree.specs.TypedViews.{type_view, expr_view};
+ghost use Rattle.c_tree.specs.TypedViews.{type_view, expr_view, boxed_expr_view};
 ghost use Rattle.c_typing.specs.Faults.{Gives, typed, refuse};
 ghost use Rattle.c_typing.specs.Rules.{value_of, address, selected, pointed, element, cast, size_number};
 ghost use Rattle.c_typing.specs.Judgement.{combined, printed, started};
@@ -26,17 +26,30 @@ use type_rules::operators::{chosen, element};
 use type_rules::unary::{address, complement, minus, not, plus, target};
 use type_specifiers::logical::combined;
 
+/// What came in a box, without the box.
+pub fn unboxed(e: Result<Box<Expr>, CompileFault>) -> Result<Expr, CompileFault>
+    ensures { Finishes expr_view e (λ x. typed (boxed_expr_view x)) result }
+{
+    let e = e?;
+    Ok(Box::into_inner(e))
+}
+
 /// The value of an expression (C11 6.3.2.1 p3).
-pub fn valued(alloc: Global, e: Result<Expr, CompileFault>) -> Result<Expr, CompileFault>
-    ensures { Finishes expr_view e (λ x. typed (value_of (expr_view x))) result }
+pub fn valued(alloc: Global, e: Result<Box<Expr>, CompileFault>) -> Result<Box<Expr>, CompileFault>
+    ensures { Finishes boxed_expr_view e (λ x. typed (value_of (boxed_expr_view x))) result }
 {
     let e = e?;
     value_of(alloc, e)
 }
 
 // A prefix operator on a value; `&` of a value that is an object takes its address.
-fn operated(alloc: Global, place: u32, op: PrefixOp, e: Expr) -> Result<Expr, CompileFault>
-    ensures { Gives expr_view result (prefixed_by place op (expr_view e)) }
+fn operated(
+    alloc: Global,
+    place: u32,
+    op: PrefixOp,
+    e: Box<Expr>,
+) -> Result<Box<Expr>, CompileFault>
+    ensures { Gives boxed_expr_view result (prefixed_by place op (boxed_expr_view e)) }
 {
     match op {
         PrefixOp::Minus => minus(alloc, place, e),
@@ -53,9 +66,9 @@ pub fn prefixed(
     alloc: Global,
     place: u32,
     op: PrefixOp,
-    e: Result<Expr, CompileFault>,
-) -> Result<Expr, CompileFault>
-    ensures { Finishes expr_view e (λ x. prefixed_by place op (expr_view x)) result }
+    e: Result<Box<Expr>, CompileFault>,
+) -> Result<Box<Expr>, CompileFault>
+    ensures { Finishes boxed_expr_view e (λ x. prefixed_by place op (boxed_expr_view x)) result }
 {
     let e = e?;
     operated(alloc, place, op, e)
@@ -65,9 +78,9 @@ pub fn prefixed(
 pub fn addressed(
     alloc: Global,
     place: u32,
-    e: Result<Expr, CompileFault>,
-) -> Result<Expr, CompileFault>
-    ensures { Finishes expr_view e (λ x. address place (expr_view x)) result }
+    e: Result<Box<Expr>, CompileFault>,
+) -> Result<Box<Expr>, CompileFault>
+    ensures { Finishes boxed_expr_view e (λ x. address place (boxed_expr_view x)) result }
 {
     let e = e?;
     address(alloc, place, e)
@@ -78,8 +91,8 @@ pub fn size_of_type(
     context: &Context<'_>,
     place: u32,
     of: Result<CType, CompileFault>,
-) -> Result<Expr, CompileFault>
-    ensures { Finishes expr_view of (λ t. size_number (context_view context.now) place (type_view t)) result }
+) -> Result<Box<Expr>, CompileFault>
+    ensures { Finishes boxed_expr_view of (λ t. size_number (context_view context.now) place (type_view t)) result }
 {
     let of = of?;
     size_number(context, place, &of)
@@ -89,9 +102,9 @@ pub fn size_of_type(
 pub fn size_of_expression(
     context: &Context<'_>,
     place: u32,
-    e: Result<Expr, CompileFault>,
-) -> Result<Expr, CompileFault>
-    ensures { Finishes expr_view e (λ x. size_number (context_view context.now) place (type_of (expr_view x))) result }
+    e: Result<Box<Expr>, CompileFault>,
+) -> Result<Box<Expr>, CompileFault>
+    ensures { Finishes boxed_expr_view e (λ x. size_number (context_view context.now) place (type_of (boxed_expr_view x))) result }
 {
     let e = e?;
     size_number(context, place, &e.ty)
@@ -101,10 +114,10 @@ pub fn size_of_expression(
 pub fn member_of(
     context: &Context<'_>,
     place: u32,
-    base: Result<Expr, CompileFault>,
+    base: Result<Box<Expr>, CompileFault>,
     member: Name,
-) -> Result<Expr, CompileFault>
-    ensures { Finishes expr_view base (λ x. selected (context_view context.now) place (expr_view x) member) result }
+) -> Result<Box<Expr>, CompileFault>
+    ensures { Finishes boxed_expr_view base (λ x. selected (context_view context.now) place (boxed_expr_view x) member) result }
 {
     let base = base?;
     selected(context, place, base, member)
@@ -114,10 +127,10 @@ pub fn member_of(
 pub fn pointed_by(
     context: &Context<'_>,
     place: u32,
-    base: Result<Expr, CompileFault>,
+    base: Result<Box<Expr>, CompileFault>,
     member: Name,
-) -> Result<Expr, CompileFault>
-    ensures { Finishes expr_view base (λ x. pointed (context_view context.now) place (expr_view x) member) result }
+) -> Result<Box<Expr>, CompileFault>
+    ensures { Finishes boxed_expr_view base (λ x. pointed (context_view context.now) place (boxed_expr_view x) member) result }
 {
     let base = base?;
     pointed(context, place, base, member)
@@ -128,9 +141,9 @@ pub fn cast_to(
     alloc: Global,
     place: u32,
     to: Result<CType, CompileFault>,
-    e: Result<Expr, CompileFault>,
-) -> Result<Expr, CompileFault>
-    ensures { Finishes expr_view (joined to e) (λ p. cast place (type_view p.0) (expr_view p.1)) result }
+    e: Result<Box<Expr>, CompileFault>,
+) -> Result<Box<Expr>, CompileFault>
+    ensures { Finishes boxed_expr_view (joined to e) (λ p. cast place (type_view p.0) (boxed_expr_view p.1)) result }
 {
     let (to, e) = both(to, e)?;
     cast(alloc, place, to, e)
@@ -140,10 +153,10 @@ pub fn cast_to(
 pub fn element_of(
     context: &Context<'_>,
     place: u32,
-    base: Result<Expr, CompileFault>,
-    index: Result<Expr, CompileFault>,
-) -> Result<Expr, CompileFault>
-    ensures { Finishes expr_view (joined base index) (λ p. element (context_view context.now) place (expr_view p.0) (expr_view p.1)) result }
+    base: Result<Box<Expr>, CompileFault>,
+    index: Result<Box<Expr>, CompileFault>,
+) -> Result<Box<Expr>, CompileFault>
+    ensures { Finishes boxed_expr_view (joined base index) (λ p. element (context_view context.now) place (boxed_expr_view p.0) (boxed_expr_view p.1)) result }
 {
     let (base, index) = both(base, index)?;
     element(context, place, base, index)
@@ -154,10 +167,10 @@ pub fn combination(
     context: &Context<'_>,
     place: u32,
     op: BinaryOp,
-    left: Result<Expr, CompileFault>,
-    right: Result<Expr, CompileFault>,
-) -> Result<Expr, CompileFault>
-    ensures { Finishes expr_view (joined left right) (λ p. combined (context_view context.now) place op (expr_view p.0) (expr_view p.1)) result }
+    left: Result<Box<Expr>, CompileFault>,
+    right: Result<Box<Expr>, CompileFault>,
+) -> Result<Box<Expr>, CompileFault>
+    ensures { Finishes boxed_expr_view (joined left right) (λ p. combined (context_view context.now) place op (boxed_expr_view p.0) (boxed_expr_view p.1)) result }
 {
     let (left, right) = both(left, right)?;
     combined(context, place, op, left, right)
@@ -165,8 +178,14 @@ pub fn combination(
 
 // A choice between two by a condition.
 #[tactic(auto, using(type_context::proofs::Judging::fails_part))]
-fn choice(alloc: Global, place: u32, e: Expr, a: Expr, b: Expr) -> Result<Expr, CompileFault>
-    ensures { Gives expr_view result (choice place (expr_view e) (expr_view a) (expr_view b)) }
+fn choice(
+    alloc: Global,
+    place: u32,
+    e: Box<Expr>,
+    a: Box<Expr>,
+    b: Box<Expr>,
+) -> Result<Box<Expr>, CompileFault>
+    ensures { Gives boxed_expr_view result (choice place (boxed_expr_view e) (boxed_expr_view a) (boxed_expr_view b)) }
 {
     let condition = tested(alloc, place, e)?;
     chosen(alloc, place, condition, a, b)
@@ -176,11 +195,11 @@ fn choice(alloc: Global, place: u32, e: Expr, a: Expr, b: Expr) -> Result<Expr, 
 pub fn choice_of(
     alloc: Global,
     place: u32,
-    condition: Result<Expr, CompileFault>,
-    then: Result<Expr, CompileFault>,
-    otherwise: Result<Expr, CompileFault>,
-) -> Result<Expr, CompileFault>
-    ensures { Finishes expr_view (joined condition (joined then otherwise)) (λ p. choice place (expr_view p.0) (expr_view p.1.0) (expr_view p.1.1)) result }
+    condition: Result<Box<Expr>, CompileFault>,
+    then: Result<Box<Expr>, CompileFault>,
+    otherwise: Result<Box<Expr>, CompileFault>,
+) -> Result<Box<Expr>, CompileFault>
+    ensures { Finishes boxed_expr_view (joined condition (joined then otherwise)) (λ p. choice place (boxed_expr_view p.0) (boxed_expr_view p.1.0) (boxed_expr_view p.1.1)) result }
 {
     let (condition, (then, otherwise)) = both(condition, both(then, otherwise))?;
     choice(alloc, place, condition, then, otherwise)
@@ -193,15 +212,15 @@ pub fn print_of(
     few: Result<(), CompileFault>,
     format: Result<Vec<Piece>, CompileFault>,
     args: Result<Vec<Expr>, CompileFault>,
-) -> Result<Expr, CompileFault>
-    ensures { Finishes expr_view (joined few (joined format args)) (λ p. printed place (pieces_view p.1.0, exprs_view p.1.1)) result }
+) -> Result<Box<Expr>, CompileFault>
+    ensures { Finishes boxed_expr_view (joined few (joined format args)) (λ p. printed place (pieces_view p.1.0, exprs_view p.1.1)) result }
 {
     let (_, (format, args)) = both(few, both(format, args))?;
     printed(alloc, place, format, args)
 }
 
 /// What stands for a format, and is none.
-pub fn no_format(place: u32, e: Result<Expr, CompileFault>) -> Result<Vec<Piece>, CompileFault>
+pub fn no_format(place: u32, e: Result<Box<Expr>, CompileFault>) -> Result<Vec<Piece>, CompileFault>
     ensures { Finishes pieces_view e (λ _. refuse place (OutsideSubset 15)) result }
 {
     e?;
@@ -213,17 +232,17 @@ pub fn no_format(place: u32, e: Result<Expr, CompileFault>) -> Result<Vec<Piece>
 pub fn start_of(
     alloc: Global,
     place: u32,
-    first: Result<Expr, CompileFault>,
+    first: Result<Box<Expr>, CompileFault>,
     rest: Result<(Option<u32>, Vec<Expr>), CompileFault>,
-) -> Result<Expr, CompileFault>
-    ensures { Finishes expr_view (joined first rest) (λ p. started place (expr_view p.0 ∷ []) p.1.0 (exprs_view p.1.1)) result }
+) -> Result<Box<Expr>, CompileFault>
+    ensures { Finishes boxed_expr_view (joined first rest) (λ p. started place (boxed_expr_view p.0 ∷ []) p.1.0 (exprs_view p.1.1)) result }
 {
     let (first, (function, rest)) = both(first, rest)?;
     started(alloc, place, first, function, rest)
 }
 
 /// What stands for a function that a thread begins with, and names none.
-pub fn no_function(e: Result<Expr, CompileFault>) -> Result<Option<u32>, CompileFault>
+pub fn no_function(e: Result<Box<Expr>, CompileFault>) -> Result<Option<u32>, CompileFault>
     ensures { Finishes (λ f. f) e (λ _. typed None) result }
 {
     e?;

@@ -6,7 +6,7 @@ ghost use Rattle.c_lex.specs.declared.refusal.CompileFault.TheVariants.{NoMemory
 ghost use Rattle.c_tree.specs.Syntax as trees;
 ghost use Rattle.c_tree.specs.SyntaxViews as source;
 ghost use Rattle.c_tree.specs.Typed.{Ty};
-ghost use Rattle.c_tree.specs.TypedViews.{type_view, expr_view};
+ghost use Rattle.c_tree.specs.TypedViews.{type_view, boxed_expr_view};
 ghost use Rattle.c_typing.specs.Faults as faults;
 ghost use Rattle.c_typing.specs.Faults.{Judged, Gives};
 ghost use Rattle.c_typing.specs.Types.{behind_pointers};
@@ -235,9 +235,9 @@ pub fn pointers_to(
 pub fn size_of_dimension(
     context: &Context<'_>,
     e: &tree::Expr,
-    typed: Result<Expr, CompileFault>,
+    typed: Result<Box<Expr>, CompileFault>,
 ) -> Result<u32, CompileFault>
-    ensures { Finishes (λ n. n) typed (λ x. dimension (source.expr_view e.now) (context_view context.now) (expr_view x)) result }
+    ensures { Finishes (λ n. n) typed (λ x. dimension (source.expr_view e.now) (context_view context.now) (boxed_expr_view x)) result }
 {
     let typed = typed?;
     dimension(context, e, &typed)

@@ -11,7 +11,7 @@ ghost use Rattle.type_context.specs.inner.Outcomes as outcomes;
 ghost use Rattle.type_declared.specs.FunctionNames.{IsDefined};
 ghost use Rattle.type_outcomes.specs.Telling.{Tells};
 ghost use Rattle.type_statements.specs.Gathering.{each};
-ghost use Rattle.type_program.specs.inner.Files.{made_view, IsMade, functions_of, globals_of};
+ghost use Rattle.type_program.specs.inner.Files.{made_view, IsMade, functions_of, globals_of, whole_file};
 
 use crate::definitions::function;
 use crate::globals::globals;
@@ -21,6 +21,7 @@ use c_tree::syntax::{Block, External, InitDeclarator, Name, Pointer, Program, Re
 use c_tree::typed::{CType, Func, GlobalVar, Typed};
 use c_types::declarators::specifiers;
 use std::alloc::Global;
+use std::mem;
 use type_context::context::Context;
 use type_context::faults::both;
 use type_declared::functions::{Defined, all_defined, main_of};
@@ -154,6 +155,23 @@ fn externals(
     all
 }
 
+// A file, judged from its first declaration on in this context.
+fn whole_file(context: &mut Context<'_>, file: &Program) -> Result<Typed, CompileFault>
+    ensures { Gives typed_view result (whole_file (source.view file.now) (context_view context.old)) }
+{
+    let defined = all_defined(context, &file.externals)?;
+    let made = externals(context, &defined, &file.externals);
+    let main = main_of(context, &defined);
+    let (made, main) = both(made, main)?;
+    Ok(Typed {
+        structs: mem::replace(&mut context.structs, Vec::new(context.alloc)),
+        globals: made.globals,
+        literals: mem::replace(&mut context.literals, Vec::new(context.alloc)),
+        funcs: made.funcs,
+        main,
+    })
+}
+
 /// The typed tree of a file, or the first of all its faults: at the least place, and there the one
 /// of the least number.
 ///
@@ -164,15 +182,5 @@ pub fn check(alloc: Global, text: &[u8], file: &Program) -> Result<Typed, Compil
     ensures { Gives typed_view result (judged_file text.now (source.view file.now)) }
 {
     let mut context = Context::at_start(alloc, text);
-    let defined = all_defined(&context, &file.externals)?;
-    let made = externals(&mut context, &defined, &file.externals);
-    let main = main_of(&context, &defined);
-    let (made, main) = both(made, main)?;
-    Ok(Typed {
-        structs: context.structs,
-        globals: made.globals,
-        literals: context.literals,
-        funcs: made.funcs,
-        main,
-    })
+    whole_file(&mut context, file)
 }

@@ -1,5 +1,5 @@
 -- A call's arguments, as they lie in the tree.
-use Rattle.std.proofs.Common.{◌≡◌, ℕ, List, map, refl, ap, rules}
+use Rattle.std.proofs.Common.{◌≡◌, ℕ, map, refl, ap, rules}
 use Rattle.std.specs.Prelude.{Vec}
 use Rattle.std.specs.declared.alloc.Global.{Global}
 use Rattle.c_tree.specs.declared.typed.Lib.{Lib as CodeLib}

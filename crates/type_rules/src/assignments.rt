@@ -2,12 +2,13 @@
 ghost use Rattle.std.specs.Prelude.{◌≡◌, pos};
 ghost use Rattle.ak_words.specs.IntType.{int};
 ghost use Rattle.c_tree.specs.Typed.{integer, at, num};
-ghost use Rattle.c_tree.specs.TypedViews.{type_view, expr_view, stmt_view};
-ghost use Rattle.c_typing.specs.Faults.{Gives};
+ghost use Rattle.c_tree.specs.TypedViews.{type_view, expr_view, stmt_view, boxed_expr_view};
+ghost use Rattle.c_typing.specs.Faults.{Gives, typed};
 ghost use Rattle.c_typing.specs.Statements.{assignable, assigned, moves, updates, updated, step_op, stepped, assign_op, assigned_by, initialised, returned_by};
 ghost use Rattle.type_context.specs.ContextViews.{context_view};
 
 use crate::conversions::{fitted, value_of};
+use crate::trees::made;
 use crate::unary::is_lvalue;
 use ak_words::{IntType, Num, Op};
 use c_lex::{CompileFault, Kind};
@@ -28,15 +29,20 @@ fn assignable(place: u32, e: &Expr) -> Result<(), CompileFault>
 
 // `left = right` (C11 6.5.16.1).
 #[tactic(auto, using(type_context::proofs::Judging::fails_part))]
-fn assigned(alloc: Global, place: u32, left: Expr, right: Expr) -> Result<Stmt, CompileFault>
-    ensures { Gives stmt_view result (assigned place (expr_view left) (expr_view right)) }
+fn assigned(
+    alloc: Global,
+    place: u32,
+    left: Box<Expr>,
+    right: Box<Expr>,
+) -> Result<Stmt, CompileFault>
+    ensures { Gives stmt_view result (assigned place (boxed_expr_view left) (boxed_expr_view right)) }
 {
     assignable(place, &left)?;
     let right = value_of(alloc, right)?;
     let right = fitted(alloc, place, &left.ty, right)?;
     Ok(Stmt {
         place,
-        node: StmtNode::Assign(left, right),
+        node: StmtNode::Assign(Box::into_inner(left), Box::into_inner(right)),
     })
 }
 
@@ -74,16 +80,16 @@ fn updated(
     context: &Context<'_>,
     place: u32,
     op: Op,
-    left: Expr,
-    right: Expr,
+    left: Box<Expr>,
+    right: Box<Expr>,
 ) -> Result<Stmt, CompileFault>
-    ensures { Gives stmt_view result (updated (context_view context.now) place op (expr_view left) (expr_view right)) }
+    ensures { Gives stmt_view result (updated (context_view context.now) place op (boxed_expr_view left) (boxed_expr_view right)) }
 {
     assignable(place, &left)?;
     updates(context, place, op, &left.ty, &right.ty)?;
     Ok(Stmt {
         place,
-        node: StmtNode::Update(left, op, right),
+        node: StmtNode::Update(Box::into_inner(left), op, Box::into_inner(right)),
     })
 }
 
@@ -98,21 +104,28 @@ fn step_op(op: StepOp) -> Op
 }
 
 // The number 1.
-fn one(place: u32) -> Expr
-    ensures { expr_view result ≡ at place (integer int) (num int (pos 1)) }
+fn one(alloc: Global, place: u32) -> Result<Box<Expr>, CompileFault>
+    ensures { Gives boxed_expr_view result (typed (at place (integer int) (num int (pos 1)))) }
 {
-    Expr {
+    made(
+        alloc,
         place,
-        ty: CType::Int(IntType::int()),
-        node: ExprNode::Num(Num::int(1)),
-    }
+        CType::Int(IntType::int()),
+        ExprNode::Num(Num::int(1)),
+    )
 }
 
 /// `e++` and its kin (C11 6.5.2.4, 6.5.3.1).
-pub fn stepped(context: &Context<'_>, place: u32, op: StepOp, e: Expr) -> Result<Stmt, CompileFault>
-    ensures { Gives stmt_view result (stepped (context_view context.now) place op (expr_view e)) }
+pub fn stepped(
+    context: &Context<'_>,
+    place: u32,
+    op: StepOp,
+    e: Box<Expr>,
+) -> Result<Stmt, CompileFault>
+    ensures { Gives stmt_view result (stepped (context_view context.now) place op (boxed_expr_view e)) }
 {
-    updated(context, place, step_op(op), e, one(place))
+    let one = one(context.alloc, place)?;
+    updated(context, place, step_op(op), e, one)
 }
 
 /// The operation of an assignment: `=` has none.
@@ -139,10 +152,10 @@ pub fn assigned_by(
     context: &Context<'_>,
     place: u32,
     op: Option<Op>,
-    left: Expr,
-    right: Expr,
+    left: Box<Expr>,
+    right: Box<Expr>,
 ) -> Result<Stmt, CompileFault>
-    ensures { Gives stmt_view result (assigned_by (context_view context.now) place op (expr_view left) (expr_view right)) }
+    ensures { Gives stmt_view result (assigned_by (context_view context.now) place op (boxed_expr_view left) (boxed_expr_view right)) }
 {
     match op {
         None => assigned(context.alloc, place, left, right),
@@ -155,8 +168,13 @@ pub fn assigned_by(
 
 /// An initialiser, of a number or a pointer (C11 6.7.9 p11).
 #[tactic(auto, using(type_context::proofs::Judging::fails_part))]
-pub fn initialised(alloc: Global, place: u32, t: &CType, value: Expr) -> Result<Expr, CompileFault>
-    ensures { Gives expr_view result (initialised place (type_view t.now) (expr_view value)) }
+pub fn initialised(
+    alloc: Global,
+    place: u32,
+    t: &CType,
+    value: Box<Expr>,
+) -> Result<Box<Expr>, CompileFault>
+    ensures { Gives boxed_expr_view result (initialised place (type_view t.now) (boxed_expr_view value)) }
 {
     unless(place, Kind::TypeMismatch, is_scalar(t))?;
     fitted(alloc, place, t, value)
@@ -168,14 +186,14 @@ pub fn returned_by(
     alloc: Global,
     place: u32,
     returned: &CType,
-    value: Expr,
+    value: Box<Expr>,
 ) -> Result<Stmt, CompileFault>
-    ensures { Gives stmt_view result (returned_by place (type_view returned.now) (expr_view value)) }
+    ensures { Gives stmt_view result (returned_by place (type_view returned.now) (boxed_expr_view value)) }
 {
     unless(place, Kind::TypeMismatch, !is_void(returned))?;
     let value = fitted(alloc, place, returned, value)?;
     Ok(Stmt {
         place,
-        node: StmtNode::Return(Some(value)),
+        node: StmtNode::Return(Some(Box::into_inner(value))),
     })
 }

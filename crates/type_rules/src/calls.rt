@@ -1,18 +1,28 @@
 //! Calls (C11 6.5.2.2).
 ghost use Rattle.std.specs.Prelude.{◌≡◌, map};
 ghost use Rattle.c_tree.specs.Typed.{integer, at, call, lib};
-ghost use Rattle.c_tree.specs.TypedViews.{type_view, lib_view, expr_view};
-ghost use Rattle.c_typing.specs.Faults.{Gives};
-ghost use Rattle.c_typing.specs.Rules.{or_mismatch};
+ghost use Rattle.c_tree.specs.TypedViews.{type_view, lib_view, expr_view, boxed_expr_view};
+ghost use Rattle.c_typing.specs.Faults.{Gives, typed};
+ghost use Rattle.c_typing.specs.Rules.{fitted, or_mismatch};
 ghost use Rattle.c_typing.specs.Judgement.{exprs_of, fitted_all, called, called_lib};
 ghost use Rattle.type_rules.specs.ListViews.{exprs_view};
 
 use crate::conversions::fitted;
+use crate::trees::made;
 use c_lex::{CompileFault, Kind};
 use c_tree::typed::{CType, Expr, ExprNode, Lib};
 use std::alloc::Global;
 use type_context::faults::refused;
 use type_context::kinds::copy_type;
+
+// An argument of a list, fitted to its parameter.
+fn fitted_argument(alloc: Global, place: u32, t: &CType, e: Expr) -> Result<Expr, CompileFault>
+    ensures { Gives expr_view result (or_mismatch place (fitted (type_view t.now) (expr_view e))) }
+{
+    let e = Box::new(alloc, e)?;
+    let e = fitted(alloc, place, t, e)?;
+    Ok(Box::into_inner(e))
+}
 
 /// As many arguments as parameters, each fitted to its own.
 pub fn fitted_all(
@@ -29,7 +39,7 @@ pub fn fitted_all(
         let Some(e) = rest.next() else {
             return refused(place, Kind::TypeMismatch);
         };
-        let e = fitted(alloc, place, t, e)?;
+        let e = fitted_argument(alloc, place, t, e)?;
         all.push(e)?;
     }
     match rest.next() {
@@ -39,26 +49,30 @@ pub fn fitted_all(
 }
 
 // A call of the function of a number.
-fn call(place: u32, ty: CType, number: u32, args: Vec<Expr>) -> Expr
-    ensures { expr_view result ≡ at place (type_view ty) (call number (exprs_of (exprs_view args))) }
+fn call(
+    alloc: Global,
+    place: u32,
+    ty: CType,
+    number: u32,
+    args: Vec<Expr>,
+) -> Result<Box<Expr>, CompileFault>
+    ensures { Gives boxed_expr_view result (typed (at place (type_view ty) (call number (exprs_of (exprs_view args))))) }
 {
-    Expr {
-        place,
-        ty,
-        node: ExprNode::Call(number, args),
-    }
+    made(alloc, place, ty, ExprNode::Call(number, args))
 }
 
 /// A call of a function of the library.
 #[tactic(auto, using(crate::proofs::Rowed::lib_seen))]
-pub fn library_call(place: u32, ty: CType, which: Lib, args: Vec<Expr>) -> Expr
-    ensures { expr_view result ≡ at place (type_view ty) (lib (lib_view which) (exprs_of (exprs_view args))) }
+pub fn library_call(
+    alloc: Global,
+    place: u32,
+    ty: CType,
+    which: Lib,
+    args: Vec<Expr>,
+) -> Result<Box<Expr>, CompileFault>
+    ensures { Gives boxed_expr_view result (typed (at place (type_view ty) (lib (lib_view which) (exprs_of (exprs_view args))))) }
 {
-    Expr {
-        place,
-        ty,
-        node: ExprNode::Lib(which, args),
-    }
+    made(alloc, place, ty, ExprNode::Lib(which, args))
 }
 
 /// A call of a function, at its name.
@@ -70,12 +84,12 @@ pub fn called(
     params: &[CType],
     returned: &CType,
     args: Vec<Expr>,
-) -> Result<Expr, CompileFault>
-    ensures { Gives expr_view result (called place number (map type_view params.now) (type_view returned.now) (exprs_view args)) }
+) -> Result<Box<Expr>, CompileFault>
+    ensures { Gives boxed_expr_view result (called place number (map type_view params.now) (type_view returned.now) (exprs_view args)) }
 {
     let args = fitted_all(alloc, place, params, args)?;
     let ty = copy_type(alloc, returned)?;
-    Ok(call(place, ty, number, args))
+    call(alloc, place, ty, number, args)
 }
 
 /// A call of a name of the library, at its name.
@@ -87,9 +101,9 @@ pub fn called_lib(
     params: &[CType],
     returned: CType,
     args: Vec<Expr>,
-) -> Result<Expr, CompileFault>
-    ensures { Gives expr_view result (called_lib place (lib_view which) (map type_view params.now) (type_view returned) (exprs_view args)) }
+) -> Result<Box<Expr>, CompileFault>
+    ensures { Gives boxed_expr_view result (called_lib place (lib_view which) (map type_view params.now) (type_view returned) (exprs_view args)) }
 {
     let args = fitted_all(alloc, place, params, args)?;
-    Ok(library_call(place, returned, which, args))
+    library_call(alloc, place, returned, which, args)
 }

@@ -1,10 +1,11 @@
 //! Casts (C11 6.5.4).
 ghost use Rattle.c_tree.specs.Typed.{at, convert};
-ghost use Rattle.c_tree.specs.TypedViews.{type_view, expr_view};
+ghost use Rattle.c_tree.specs.TypedViews.{type_view, boxed_expr_view};
 ghost use Rattle.c_typing.specs.Faults.{Gives, typed};
 ghost use Rattle.c_typing.specs.Rules.{cast};
 
 use crate::conversions::is_zero;
+use crate::trees::made;
 use c_lex::{CompileFault, Kind};
 use c_tree::typed::{CType, Expr, ExprNode};
 use std::alloc::Global;
@@ -12,8 +13,8 @@ use type_context::faults::refused;
 
 /// `(t)e`: anything to `void`, a number to a number, a pointer to a pointer, and the constant 0 to
 /// a pointer; between other numbers and pointers there are no casts in the language.
-pub fn cast(alloc: Global, place: u32, t: CType, e: Expr) -> Result<Expr, CompileFault>
-    ensures { Gives expr_view result (cast place (type_view t) (expr_view e)) }
+pub fn cast(alloc: Global, place: u32, t: CType, e: Box<Expr>) -> Result<Box<Expr>, CompileFault>
+    ensures { Gives boxed_expr_view result (cast place (type_view t) (boxed_expr_view e)) }
 {
     match (&e.ty, &t) {
         (_, CType::Void) => converted_to(alloc, place, t, e),
@@ -21,11 +22,7 @@ pub fn cast(alloc: Global, place: u32, t: CType, e: Expr) -> Result<Expr, Compil
         (CType::Pointer(_), CType::Pointer(_)) => converted_to(alloc, place, t, e),
         (CType::Int(_), CType::Pointer(_)) => {
             if is_zero(&e) {
-                Ok(Expr {
-                    place: e.place,
-                    ty: t,
-                    node: ExprNode::Null,
-                })
+                made(alloc, e.place, t, ExprNode::Null)
             } else {
                 refused(place, Kind::OutsideSubset(11))
             }
@@ -36,12 +33,13 @@ pub fn cast(alloc: Global, place: u32, t: CType, e: Expr) -> Result<Expr, Compil
 }
 
 // The conversion, at the place of the cast.
-fn converted_to(alloc: Global, place: u32, t: CType, e: Expr) -> Result<Expr, CompileFault>
-    ensures { Gives expr_view result (typed (at place (type_view t) (convert (expr_view e)))) }
+fn converted_to(
+    alloc: Global,
+    place: u32,
+    t: CType,
+    e: Box<Expr>,
+) -> Result<Box<Expr>, CompileFault>
+    ensures { Gives boxed_expr_view result (typed (at place (type_view t) (convert (boxed_expr_view e)))) }
 {
-    Ok(Expr {
-        place,
-        ty: t,
-        node: ExprNode::Convert(Box::new(alloc, e)?),
-    })
+    made(alloc, place, t, ExprNode::Convert(e))
 }

@@ -10,4 +10,5 @@ pub mod constants;
 pub mod conversions;
 pub mod members;
 pub mod operators;
+pub mod trees;
 pub mod unary;

@@ -1,10 +1,11 @@
 //! Members of structs, and sizes of types (C11 6.5.2.3, 6.5.3.4).
 ghost use Rattle.std.specs.Prelude.{◌≡◌};
-ghost use Rattle.c_tree.specs.TypedViews.{type_view, expr_view};
+ghost use Rattle.c_tree.specs.TypedViews.{type_view, boxed_expr_view};
 ghost use Rattle.c_typing.specs.Faults.{Gives};
 ghost use Rattle.c_typing.specs.Rules.{selected, pointed, size_number};
 ghost use Rattle.type_context.specs.ContextViews.{context_view};
 
+use crate::trees::made;
 use crate::unary::target;
 use ak_words::{IntType, Num};
 use c_lex::{CompileFault, Kind};
@@ -19,28 +20,29 @@ use type_context::layouts::size_in;
 pub fn selected(
     context: &Context<'_>,
     place: u32,
-    e: Expr,
+    e: Box<Expr>,
     name: Name,
-) -> Result<Expr, CompileFault>
-    ensures { Gives expr_view result (selected (context_view context.now) place (expr_view e) name) }
+) -> Result<Box<Expr>, CompileFault>
+    ensures { Gives boxed_expr_view result (selected (context_view context.now) place (boxed_expr_view e) name) }
 {
     let CType::Struct(number) = &e.ty else {
         return refused(place, Kind::TypeMismatch);
     };
     match context.member_of(*number, name)? {
-        Some((member, ty)) => Ok(Expr {
-            place,
-            ty,
-            node: ExprNode::Member(Box::new(context.alloc, e)?, member),
-        }),
+        Some((member, ty)) => made(context.alloc, place, ty, ExprNode::Member(e, member)),
         None => refused(place, Kind::UnknownName),
     }
 }
 
 /// `p->m` is `(*p).m`.
 #[tactic(auto, using(type_context::proofs::Judging::fails_part))]
-pub fn pointed(context: &Context<'_>, place: u32, p: Expr, name: Name) -> Result<Expr, CompileFault>
-    ensures { Gives expr_view result (pointed (context_view context.now) place (expr_view p) name) }
+pub fn pointed(
+    context: &Context<'_>,
+    place: u32,
+    p: Box<Expr>,
+    name: Name,
+) -> Result<Box<Expr>, CompileFault>
+    ensures { Gives boxed_expr_view result (pointed (context_view context.now) place (boxed_expr_view p) name) }
 {
     let e = target(context.alloc, place, p)?;
     selected(context, place, e, name)
@@ -49,19 +51,21 @@ pub fn pointed(context: &Context<'_>, place: u32, p: Expr, name: Name) -> Result
 /// `sizeof`, of a type that has a size (C11 6.5.3.4). No type is so large that its size passes 64
 /// bits; there the answer would be want of memory.
 #[tactic(auto, using(type_context::proofs::Judging::fails_part))]
-pub fn size_number(context: &Context<'_>, place: u32, t: &CType) -> Result<Expr, CompileFault>
-    ensures { Gives expr_view result (size_number (context_view context.now) place (type_view t.now)) }
+pub fn size_number(context: &Context<'_>, place: u32, t: &CType) -> Result<Box<Expr>, CompileFault>
+    ensures { Gives boxed_expr_view result (size_number (context_view context.now) place (type_view t.now)) }
 {
     unless(place, Kind::BadSize, has_size(&context.structs, t))?;
     let Some(size) = size_in(&context.structs, t) else {
         return Err(CompileFault::NoMemory);
     };
-    Ok(Expr {
+    let size = Num {
+        ty: IntType::unsigned_long(),
+        value: i128::from(size),
+    };
+    made(
+        context.alloc,
         place,
-        ty: CType::Int(IntType::unsigned_long()),
-        node: ExprNode::Num(Num {
-            ty: IntType::unsigned_long(),
-            value: i128::from(size),
-        }),
-    })
+        CType::Int(size.ty),
+        ExprNode::Num(size),
+    )
 }

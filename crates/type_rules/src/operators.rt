@@ -3,13 +3,14 @@ ghost use Rattle.std.specs.Prelude.{◌≡◌};
 ghost use Rattle.ak_words.specs.IntType.{long};
 ghost use Rattle.ak_words.specs.Op.{result_type};
 ghost use Rattle.c_tree.specs.Typed.{at, integer, pointer_diff};
-ghost use Rattle.c_tree.specs.TypedViews.{type_view, expr_view};
+ghost use Rattle.c_tree.specs.TypedViews.{type_view, boxed_expr_view};
 ghost use Rattle.type_context.specs.ContextViews.{context_view};
 ghost use Rattle.c_typing.specs.Faults.{Gives, typed};
 ghost use Rattle.c_typing.specs.Rules.{numbers, operands, arithmetic, shifted, sized, moved_up, moved_down, sum, difference, compared, equality, order, shift, on_numbers, operated, element, chosen_by, chosen};
 ghost use Rattle.type_rules.specs.inner.Operands.{operands_view};
 
 use crate::conversions::{converted, is_zero, null_for};
+use crate::trees::made;
 use crate::unary::target;
 use ak_words::{IntType, Op, common, promote};
 use c_lex::{CompileFault, Kind};
@@ -58,20 +59,21 @@ pub fn arithmetic(
     place: u32,
     op: Op,
     s: IntType,
-    a: Expr,
+    a: Box<Expr>,
     t: IntType,
-    b: Expr,
-) -> Result<Expr, CompileFault>
-    ensures { Gives expr_view result (typed (arithmetic place op s (expr_view a) t (expr_view b))) }
+    b: Box<Expr>,
+) -> Result<Box<Expr>, CompileFault>
+    ensures { Gives boxed_expr_view result (typed (arithmetic place op s (boxed_expr_view a) t (boxed_expr_view b))) }
 {
     let both = common(s, t);
     let left = converted(alloc, s, both, a)?;
     let right = converted(alloc, t, both, b)?;
-    Ok(Expr {
+    made(
+        alloc,
         place,
-        ty: CType::Int(result_type(op, both)),
-        node: ExprNode::Binary(op, Box::new(alloc, left)?, Box::new(alloc, right)?),
-    })
+        CType::Int(result_type(op, both)),
+        ExprNode::Binary(op, left, right),
+    )
 }
 
 // A shift: each operand is promoted by itself, and the left one has the result's type (C11 6.5.7 p3).
@@ -80,19 +82,20 @@ fn shifted(
     place: u32,
     op: Op,
     s: IntType,
-    a: Expr,
+    a: Box<Expr>,
     t: IntType,
-    b: Expr,
-) -> Result<Expr, CompileFault>
-    ensures { Gives expr_view result (typed (shifted place op s (expr_view a) t (expr_view b))) }
+    b: Box<Expr>,
+) -> Result<Box<Expr>, CompileFault>
+    ensures { Gives boxed_expr_view result (typed (shifted place op s (boxed_expr_view a) t (boxed_expr_view b))) }
 {
     let left = converted(alloc, s, promote(s), a)?;
     let right = converted(alloc, t, promote(t), b)?;
-    Ok(Expr {
+    made(
+        alloc,
         place,
-        ty: CType::Int(promote(s)),
-        node: ExprNode::Binary(op, Box::new(alloc, left)?, Box::new(alloc, right)?),
-    })
+        CType::Int(promote(s)),
+        ExprNode::Binary(op, left, right),
+    )
 }
 
 // Two pointers compared, if they fit.
@@ -101,19 +104,20 @@ fn compared(
     place: u32,
     op: Op,
     fits: bool,
-    p: Expr,
-    q: Expr,
-) -> Result<Expr, CompileFault>
-    ensures { Gives expr_view result (compared place op fits (expr_view p) (expr_view q)) }
+    p: Box<Expr>,
+    q: Box<Expr>,
+) -> Result<Box<Expr>, CompileFault>
+    ensures { Gives boxed_expr_view result (compared place op fits (boxed_expr_view p) (boxed_expr_view q)) }
 {
     if !fits {
         return refused(place, Kind::TypeMismatch);
     }
-    Ok(Expr {
+    made(
+        alloc,
         place,
-        ty: CType::Int(IntType::int()),
-        node: ExprNode::PtrCompare(op, Box::new(alloc, p)?, Box::new(alloc, q)?),
-    })
+        CType::Int(IntType::int()),
+        ExprNode::PtrCompare(op, p, q),
+    )
 }
 
 // Whether a pointer leads to elements that have a size, and so can be counted (C11 6.5.6 p2).
@@ -129,19 +133,20 @@ fn moved_up(
     context: &Context<'_>,
     place: u32,
     target: &CType,
-    p: Expr,
-    n: Expr,
-) -> Result<Expr, CompileFault>
-    ensures { Gives expr_view result (moved_up (context_view context.now) place (type_view target.now) (expr_view p) (expr_view n)) }
+    p: Box<Expr>,
+    n: Box<Expr>,
+) -> Result<Box<Expr>, CompileFault>
+    ensures { Gives boxed_expr_view result (moved_up (context_view context.now) place (type_view target.now) (boxed_expr_view p) (boxed_expr_view n)) }
 {
     let alloc = context.alloc;
     sized(context, place, target)?;
     let target = copy_type(alloc, target)?;
-    Ok(Expr {
+    made(
+        alloc,
         place,
-        ty: CType::Pointer(Box::new(alloc, target)?),
-        node: ExprNode::PtrAdd(Box::new(alloc, p)?, Box::new(alloc, n)?),
-    })
+        CType::Pointer(Box::new(alloc, target)?),
+        ExprNode::PtrAdd(p, n),
+    )
 }
 
 // A pointer moved down by a number of elements.
@@ -150,36 +155,43 @@ fn moved_down(
     context: &Context<'_>,
     place: u32,
     target: &CType,
-    p: Expr,
-    n: Expr,
-) -> Result<Expr, CompileFault>
-    ensures { Gives expr_view result (moved_down (context_view context.now) place (type_view target.now) (expr_view p) (expr_view n)) }
+    p: Box<Expr>,
+    n: Box<Expr>,
+) -> Result<Box<Expr>, CompileFault>
+    ensures { Gives boxed_expr_view result (moved_down (context_view context.now) place (type_view target.now) (boxed_expr_view p) (boxed_expr_view n)) }
 {
     let alloc = context.alloc;
     sized(context, place, target)?;
     let target = copy_type(alloc, target)?;
-    Ok(Expr {
+    made(
+        alloc,
         place,
-        ty: CType::Pointer(Box::new(alloc, target)?),
-        node: ExprNode::PtrSub(Box::new(alloc, p)?, Box::new(alloc, n)?),
-    })
+        CType::Pointer(Box::new(alloc, target)?),
+        ExprNode::PtrSub(p, n),
+    )
 }
 
 // The number of elements between two pointers.
-fn between(alloc: Global, place: u32, p: Expr, q: Expr) -> Result<Expr, CompileFault>
-    ensures { Gives expr_view result (typed (at place (integer long) (pointer_diff (expr_view p) (expr_view q)))) }
+fn between(alloc: Global, place: u32, p: Box<Expr>, q: Box<Expr>) -> Result<Box<Expr>, CompileFault>
+    ensures { Gives boxed_expr_view result (typed (at place (integer long) (pointer_diff (boxed_expr_view p) (boxed_expr_view q)))) }
 {
-    Ok(Expr {
+    made(
+        alloc,
         place,
-        ty: CType::Int(IntType::long()),
-        node: ExprNode::PtrDiff(Box::new(alloc, p)?, Box::new(alloc, q)?),
-    })
+        CType::Int(IntType::long()),
+        ExprNode::PtrDiff(p, q),
+    )
 }
 
 /// `a + b` (C11 6.5.6).
 #[tactic(auto, using(type_context::proofs::Judging::fails_part))]
-pub fn sum(context: &Context<'_>, place: u32, a: Expr, b: Expr) -> Result<Expr, CompileFault>
-    ensures { Gives expr_view result (sum (context_view context.now) place (operands (type_view a.ty) (type_view b.ty)) (expr_view a) (expr_view b)) }
+pub fn sum(
+    context: &Context<'_>,
+    place: u32,
+    a: Box<Expr>,
+    b: Box<Expr>,
+) -> Result<Box<Expr>, CompileFault>
+    ensures { Gives boxed_expr_view result (sum (context_view context.now) place (operands (type_view a.value.ty) (type_view b.value.ty)) (boxed_expr_view a) (boxed_expr_view b)) }
 {
     match operands_of(&a.ty, &b.ty) {
         Operands::Numbers(s, t) => arithmetic(context.alloc, place, Op::Add, s, a, t, b),
@@ -197,8 +209,13 @@ pub fn sum(context: &Context<'_>, place: u32, a: Expr, b: Expr) -> Result<Expr, 
 
 /// `a - b` (C11 6.5.6).
 #[tactic(auto, using(type_context::proofs::Judging::fails_part))]
-pub fn difference(context: &Context<'_>, place: u32, a: Expr, b: Expr) -> Result<Expr, CompileFault>
-    ensures { Gives expr_view result (difference (context_view context.now) place (operands (type_view a.ty) (type_view b.ty)) (expr_view a) (expr_view b)) }
+pub fn difference(
+    context: &Context<'_>,
+    place: u32,
+    a: Box<Expr>,
+    b: Box<Expr>,
+) -> Result<Box<Expr>, CompileFault>
+    ensures { Gives boxed_expr_view result (difference (context_view context.now) place (operands (type_view a.value.ty) (type_view b.value.ty)) (boxed_expr_view a) (boxed_expr_view b)) }
 {
     match operands_of(&a.ty, &b.ty) {
         Operands::Numbers(s, t) => arithmetic(context.alloc, place, Op::Sub, s, a, t, b),
@@ -216,8 +233,14 @@ pub fn difference(context: &Context<'_>, place: u32, a: Expr, b: Expr) -> Result
 }
 
 /// `a == b` and `a != b` (C11 6.5.9).
-pub fn equality(alloc: Global, place: u32, op: Op, a: Expr, b: Expr) -> Result<Expr, CompileFault>
-    ensures { Gives expr_view result (equality place op (operands (type_view a.ty) (type_view b.ty)) (expr_view a) (expr_view b)) }
+pub fn equality(
+    alloc: Global,
+    place: u32,
+    op: Op,
+    a: Box<Expr>,
+    b: Box<Expr>,
+) -> Result<Box<Expr>, CompileFault>
+    ensures { Gives boxed_expr_view result (equality place op (operands (type_view a.value.ty) (type_view b.value.ty)) (boxed_expr_view a) (boxed_expr_view b)) }
 {
     match operands_of(&a.ty, &b.ty) {
         Operands::Numbers(s, t) => arithmetic(alloc, place, op, s, a, t, b),
@@ -240,8 +263,14 @@ pub fn equality(alloc: Global, place: u32, op: Op, a: Expr, b: Expr) -> Result<E
 }
 
 /// `a < b` and its kin (C11 6.5.8).
-pub fn order(alloc: Global, place: u32, op: Op, a: Expr, b: Expr) -> Result<Expr, CompileFault>
-    ensures { Gives expr_view result (order place op (operands (type_view a.ty) (type_view b.ty)) (expr_view a) (expr_view b)) }
+pub fn order(
+    alloc: Global,
+    place: u32,
+    op: Op,
+    a: Box<Expr>,
+    b: Box<Expr>,
+) -> Result<Box<Expr>, CompileFault>
+    ensures { Gives boxed_expr_view result (order place op (operands (type_view a.value.ty) (type_view b.value.ty)) (boxed_expr_view a) (boxed_expr_view b)) }
 {
     match operands_of(&a.ty, &b.ty) {
         Operands::Numbers(s, t) => arithmetic(alloc, place, op, s, a, t, b),
@@ -254,8 +283,14 @@ pub fn order(alloc: Global, place: u32, op: Op, a: Expr, b: Expr) -> Result<Expr
 }
 
 /// A shift of numbers (C11 6.5.7).
-pub fn shift(alloc: Global, place: u32, op: Op, a: Expr, b: Expr) -> Result<Expr, CompileFault>
-    ensures { Gives expr_view result (shift place op (operands (type_view a.ty) (type_view b.ty)) (expr_view a) (expr_view b)) }
+pub fn shift(
+    alloc: Global,
+    place: u32,
+    op: Op,
+    a: Box<Expr>,
+    b: Box<Expr>,
+) -> Result<Box<Expr>, CompileFault>
+    ensures { Gives boxed_expr_view result (shift place op (operands (type_view a.value.ty) (type_view b.value.ty)) (boxed_expr_view a) (boxed_expr_view b)) }
 {
     match operands_of(&a.ty, &b.ty) {
         Operands::Numbers(s, t) => shifted(alloc, place, op, s, a, t, b),
@@ -264,8 +299,14 @@ pub fn shift(alloc: Global, place: u32, op: Op, a: Expr, b: Expr) -> Result<Expr
 }
 
 /// The operators that are for numbers alone (C11 6.5.5, 6.5.10 to 6.5.12).
-pub fn on_numbers(alloc: Global, place: u32, op: Op, a: Expr, b: Expr) -> Result<Expr, CompileFault>
-    ensures { Gives expr_view result (on_numbers place op (operands (type_view a.ty) (type_view b.ty)) (expr_view a) (expr_view b)) }
+pub fn on_numbers(
+    alloc: Global,
+    place: u32,
+    op: Op,
+    a: Box<Expr>,
+    b: Box<Expr>,
+) -> Result<Box<Expr>, CompileFault>
+    ensures { Gives boxed_expr_view result (on_numbers place op (operands (type_view a.value.ty) (type_view b.value.ty)) (boxed_expr_view a) (boxed_expr_view b)) }
 {
     match operands_of(&a.ty, &b.ty) {
         Operands::Numbers(s, t) => arithmetic(alloc, place, op, s, a, t, b),
@@ -277,31 +318,34 @@ pub fn on_numbers(alloc: Global, place: u32, op: Op, a: Expr, b: Expr) -> Result
 fn choice(
     alloc: Global,
     place: u32,
-    e: Expr,
+    e: Box<Expr>,
     s: IntType,
-    a: Expr,
+    a: Box<Expr>,
     t: IntType,
-    b: Expr,
-) -> Result<Expr, CompileFault>
-    ensures { Gives expr_view result (chosen_by place (numbers s t) (expr_view e) (expr_view a) (expr_view b)) }
+    b: Box<Expr>,
+) -> Result<Box<Expr>, CompileFault>
+    ensures { Gives boxed_expr_view result (chosen_by place (numbers s t) (boxed_expr_view e) (boxed_expr_view a) (boxed_expr_view b)) }
 {
     let both = common(s, t);
     let then = converted(alloc, s, both, a)?;
     let otherwise = converted(alloc, t, both, b)?;
-    Ok(Expr {
+    made(
+        alloc,
         place,
-        ty: CType::Int(both),
-        node: ExprNode::Choose(
-            Box::new(alloc, e)?,
-            Box::new(alloc, then)?,
-            Box::new(alloc, otherwise)?,
-        ),
-    })
+        CType::Int(both),
+        ExprNode::Choose(e, then, otherwise),
+    )
 }
 
 /// `e ? a : b`, where both are numbers (C11 6.5.15).
-pub fn chosen(alloc: Global, place: u32, e: Expr, a: Expr, b: Expr) -> Result<Expr, CompileFault>
-    ensures { Gives expr_view result (chosen place (expr_view e) (expr_view a) (expr_view b)) }
+pub fn chosen(
+    alloc: Global,
+    place: u32,
+    e: Box<Expr>,
+    a: Box<Expr>,
+    b: Box<Expr>,
+) -> Result<Box<Expr>, CompileFault>
+    ensures { Gives boxed_expr_view result (chosen place (boxed_expr_view e) (boxed_expr_view a) (boxed_expr_view b)) }
 {
     match operands_of(&a.ty, &b.ty) {
         Operands::Numbers(s, t) => choice(alloc, place, e, s, a, t, b),
@@ -315,10 +359,10 @@ pub fn operated(
     context: &Context<'_>,
     place: u32,
     op: Op,
-    a: Expr,
-    b: Expr,
-) -> Result<Expr, CompileFault>
-    ensures { Gives expr_view result (operated (context_view context.now) place op (expr_view a) (expr_view b)) }
+    a: Box<Expr>,
+    b: Box<Expr>,
+) -> Result<Box<Expr>, CompileFault>
+    ensures { Gives boxed_expr_view result (operated (context_view context.now) place op (boxed_expr_view a) (boxed_expr_view b)) }
 {
     let alloc = context.alloc;
     match op {
@@ -333,8 +377,13 @@ pub fn operated(
 
 /// `a[b]` is `*(a + b)` (C11 6.5.2.1).
 #[tactic(auto, using(type_context::proofs::Judging::fails_part))]
-pub fn element(context: &Context<'_>, place: u32, a: Expr, b: Expr) -> Result<Expr, CompileFault>
-    ensures { Gives expr_view result (element (context_view context.now) place (expr_view a) (expr_view b)) }
+pub fn element(
+    context: &Context<'_>,
+    place: u32,
+    a: Box<Expr>,
+    b: Box<Expr>,
+) -> Result<Box<Expr>, CompileFault>
+    ensures { Gives boxed_expr_view result (element (context_view context.now) place (boxed_expr_view a) (boxed_expr_view b)) }
 {
     let sum = sum(context, place, a, b)?;
     target(context.alloc, place, sum)

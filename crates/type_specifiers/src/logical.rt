@@ -1,6 +1,6 @@
 //! `&&` and `||`, and any binary operator (C11 6.5.13, 6.5.14).
 ghost use Rattle.c_tree.specs.declared.syntax.BinaryOp.TheVariants.{AndAnd, OrOr};
-ghost use Rattle.c_tree.specs.TypedViews.{expr_view};
+ghost use Rattle.c_tree.specs.TypedViews.{boxed_expr_view};
 ghost use Rattle.type_context.specs.ContextViews.{context_view};
 ghost use Rattle.c_typing.specs.Faults.{Gives, both};
 ghost use Rattle.c_typing.specs.Scope as scopes;
@@ -17,38 +17,51 @@ use type_context::context::Context;
 use type_context::faults::both;
 use type_rules::conversions::tested;
 use type_rules::operators::operated;
+use type_rules::trees::made;
 
 // Both operands are conditions.
-fn conditions(alloc: Global, place: u32, a: Expr, b: Expr) -> Result<(Expr, Expr), CompileFault>
-    ensures { Gives expr_pair_view result (both (tested place (expr_view a)) (tested place (expr_view b))) }
+fn conditions(
+    alloc: Global,
+    place: u32,
+    a: Box<Expr>,
+    b: Box<Expr>,
+) -> Result<(Box<Expr>, Box<Expr>), CompileFault>
+    ensures { Gives expr_pair_view result (both (tested place (boxed_expr_view a)) (tested place (boxed_expr_view b))) }
 {
     both(tested(alloc, place, a), tested(alloc, place, b))
 }
 
 // `a && b`.
 #[tactic(auto, using(type_context::proofs::Judging::fails_part))]
-fn and_also(alloc: Global, place: u32, a: Expr, b: Expr) -> Result<Expr, CompileFault>
-    ensures { (c : scopes.Context) → Gives expr_view result (combined c place AndAnd (expr_view a) (expr_view b)) }
+fn and_also(
+    alloc: Global,
+    place: u32,
+    a: Box<Expr>,
+    b: Box<Expr>,
+) -> Result<Box<Expr>, CompileFault>
+    ensures { (c : scopes.Context) → Gives boxed_expr_view result (combined c place AndAnd (boxed_expr_view a) (boxed_expr_view b)) }
 {
     let (a, b) = conditions(alloc, place, a, b)?;
-    Ok(Expr {
+    made(
+        alloc,
         place,
-        ty: CType::Int(IntType::int()),
-        node: ExprNode::AndAlso(Box::new(alloc, a)?, Box::new(alloc, b)?),
-    })
+        CType::Int(IntType::int()),
+        ExprNode::AndAlso(a, b),
+    )
 }
 
 // `a || b`.
 #[tactic(auto, using(type_context::proofs::Judging::fails_part))]
-fn or_else(alloc: Global, place: u32, a: Expr, b: Expr) -> Result<Expr, CompileFault>
-    ensures { (c : scopes.Context) → Gives expr_view result (combined c place OrOr (expr_view a) (expr_view b)) }
+fn or_else(alloc: Global, place: u32, a: Box<Expr>, b: Box<Expr>) -> Result<Box<Expr>, CompileFault>
+    ensures { (c : scopes.Context) → Gives boxed_expr_view result (combined c place OrOr (boxed_expr_view a) (boxed_expr_view b)) }
 {
     let (a, b) = conditions(alloc, place, a, b)?;
-    Ok(Expr {
+    made(
+        alloc,
         place,
-        ty: CType::Int(IntType::int()),
-        node: ExprNode::OrElse(Box::new(alloc, a)?, Box::new(alloc, b)?),
-    })
+        CType::Int(IntType::int()),
+        ExprNode::OrElse(a, b),
+    )
 }
 
 /// A binary operator on two values; the operands of `&&` and `||` are conditions.
@@ -56,10 +69,10 @@ pub fn combined(
     context: &Context<'_>,
     place: u32,
     op: BinaryOp,
-    a: Expr,
-    b: Expr,
-) -> Result<Expr, CompileFault>
-    ensures { Gives expr_view result (combined (context_view context.now) place op (expr_view a) (expr_view b)) }
+    a: Box<Expr>,
+    b: Box<Expr>,
+) -> Result<Box<Expr>, CompileFault>
+    ensures { Gives boxed_expr_view result (combined (context_view context.now) place op (boxed_expr_view a) (boxed_expr_view b)) }
 {
     match op {
         BinaryOp::Value(op) => operated(context, place, op, a, b),

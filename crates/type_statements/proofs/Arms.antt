@@ -1,5 +1,5 @@
 -- What a statement of the code tells, by what it is.
-use Rattle.std.proofs.Common.{◌≡◌, ℕ, Bool, true, List, [], ◌∷◌, map, Option, Some, None, Result, Vec, Box, Global, sym, ap, subst, ◌∙◌}
+use Rattle.std.proofs.Common.{◌≡◌, ℕ, Bool, List, [], ◌∷◌, map, Option, Some, None, Result, Vec, Box, Global, sym, ap, subst, ◌∙◌}
 use Rattle.std.specs.Option.{option_map}
 use Rattle.c_lex.specs.declared.refusal.CompileFault.{CompileFault}
 use Rattle.c_tree.specs.Syntax as source
@@ -13,7 +13,7 @@ use Rattle.c_tree.specs.declared.syntax.Stmt.TheVariants as codes
 use Rattle.c_tree.specs.declared.typed.Stmt.{Stmt as CodeStmt}
 use Rattle.c_tree.specs.Typed.{Ty, Stmt, at_stmt, empty, break_, continue_}
 use Rattle.c_tree.specs.TypedViews.{stmt_view}
-use Rattle.c_typing.specs.Faults.{Judged, typed, Gives}
+use Rattle.c_typing.specs.Faults.{typed, Gives}
 use Rattle.c_typing.specs.Scope.{Context}
 use Rattle.c_typing.specs.Judgement.{ruled}
 use Rattle.c_typing.specs.Statements.{judged_declaration, judged_simple, judged_stmt, returned}

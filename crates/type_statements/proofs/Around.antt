@@ -1,5 +1,5 @@
 -- The scopes around are as they were behind what is judged, whatever it gives.
-use Rattle.std.proofs.Common.{◌≡◌, ℕ, Bool, true, false, refl, ◌∙◌, length, List, [], ◌∷◌, ◌++◌, Option, Some, None, if◌then◌else◌}
+use Rattle.std.proofs.Common.{◌≡◌, ℕ, Bool, true, false, refl, ◌∙◌, List, [], ◌∷◌, ◌++◌, Option, Some, None, if◌then◌else◌}
 use Rattle.std.specs.List.{list_any}
 use Rattle.std.specs.Str.{bytes_eq}
 use Rattle.c_tree.specs.declared.syntax.Name.{Name}
@@ -7,14 +7,14 @@ use Rattle.c_tree.specs.declared.syntax.Span.{Span}
 use Rattle.c_tree.specs.declared.syntax.PrefixOp.{PrefixOp}
 use Rattle.c_tree.specs.declared.syntax.PrefixOp.TheVariants as prefixes
 use Rattle.c_tree.specs.Syntax as source
-use Rattle.c_tree.specs.Typed.{Ty, Expr, Stmt}
+use Rattle.c_tree.specs.Typed.{Ty, Expr}
 use Rattle.c_tree.specs.TypedLayout.{laid_out}
 use Rattle.c_typing.specs.Faults.{Judged, typed, faulty, ◌>>=◌}
 use Rattle.c_typing.specs.Scope.{printf, malloc, free, memcpy, thrd_create, thrd_join, mtx_init, mtx_lock, mtx_unlock, mtx_destroy, constant}
-use Rattle.c_typing.specs.Scope.{Meaning, global_name, local_name, function_name, library_name, Frame, Context, bytes_of, meaning_of, is_double, with_tag, tag_number, is_begun, with_begun, inside, declared}
+use Rattle.c_typing.specs.Scope.{Meaning, global_name, local_name, function_name, library_name, Context, bytes_of, meaning_of, is_double, with_tag, tag_number, is_begun, with_begun, declared}
 use Rattle.c_typing.specs.Judgement.{Judging, in_turn, name_in, text_in, node_place, with_addressed, meaning_in, valued, prefixed, format_or, starting_or, called_by, struct_fits, closed, braced, specs_by}
 use Rattle.c_typing.specs.Judgement.{judged, judged_all, judged_print, judged_start, judged_started, judged_type, judged_parts, judged_spec, judged_members, judged_member, judged_declarators, judged_dims, judged_specs}
-use Rattle.c_typing.specs.Statements.{judged_simple, judged_init, judged_declarator, judged_local, judged_locals, judged_declaration, one_of, returned, condition, judged_first, judged_condition, judged_step, looped, judged_stmt, judged_stmts}
+use Rattle.c_typing.specs.Statements.{judged_simple, judged_init, judged_declarator, judged_local, judged_locals, judged_declaration, one_of, returned, condition, judged_first, judged_condition, judged_step, judged_stmt, judged_stmts}
 
 -- judging leaves the scopes around as they are
 abbrev pub Still : {A : Type 0} → Judging A → Type 0

@@ -1,5 +1,5 @@
 -- What a node tells at the exits of its body.
-use Rattle.std.proofs.Common.{◌≡◌, Bool, true, false, List, [], ◌∷◌, ◌++◌, Result, Ok, Err, refl, ap, sym, subst, ◌∙◌}
+use Rattle.std.proofs.Common.{◌≡◌, [], ◌∷◌, ◌++◌, Result, Ok, Err, ap, sym, subst, ◌∙◌}
 use Rattle.std.specs.Result.{IsErrAnd}
 use Rattle.std.proofs.lemmas.Result.{err_from_is_err_and}
 use Rattle.c_lex.specs.declared.refusal.CompileFault.{CompileFault}
@@ -7,16 +7,16 @@ use Rattle.c_lex.specs.declared.refusal.CompileFault.TheVariants.{Refused, NoMem
 use Rattle.c_tree.specs.declared.typed.CType.{CType}
 use Rattle.c_tree.specs.Typed.{Ty, void, mutex}
 use Rattle.c_tree.specs.TypedViews.{type_view}
-use Rattle.c_typing.specs.Faults.{Judged, typed, faulty, Fails, Gives, both, ◌>>=◌}
+use Rattle.c_typing.specs.Faults.{Judged, typed, Fails, Gives, both, ◌>>=◌}
 use Rattle.c_typing.specs.Scope.{Context, inside, back_to}
-use Rattle.c_typing.specs.Judgement.{Judging, lone, in_turn, ruled}
+use Rattle.c_typing.specs.Judgement.{Judging, in_turn, ruled}
 use Rattle.c_typing.specs.Statements.{or_int, scoped}
 use Rattle.type_context.specs.declared.context.Context.{Context as CodeContext}
 use Rattle.type_context.specs.ContextViews.{context_view}
 use Rattle.type_context.specs.inner.Outcomes.{joined}
-use Rattle.type_context.proofs.Judging.{gives_both, fails_part}
-use Rattle.type_outcomes.specs.Telling.{Leaves, Tells}
-use Rattle.type_outcomes.proofs.Walks.{memory_tells, known_tells, both_tell, ok_tells, err_tells, err_finishes}
+use Rattle.type_context.proofs.Judging.{gives_both}
+use Rattle.type_outcomes.specs.Telling.{Tells}
+use Rattle.type_outcomes.proofs.Walks.{leaves_fault, memory_tells, known_tells, both_tell, ok_tells, err_tells, err_finishes}
 
 -- ---- exits by `?`
 
@@ -43,6 +43,19 @@ fails_passes view r e j h p =
 pub one_rules : {A B C D : Type 0} (va : A → C) (vr : B → D) (J : Judging C) (rule : Context → C → Judged D) (c : Context) (n : CodeContext) (a : Result A CompileFault) (x : A) (r : Result B CompileFault)
     → Tells va a n (J c) → a ≡ Ok x → Gives vr r (rule (context_view n) (va x)) → Tells vr r n (ruled J rule c)
 one_rules va vr J rule c n a x r h is g = ok_tells va vr J rule c n a x r h is g
+
+-- the same value of another type
+pub ok_again : {A B C : Type 0} (va : A → C) (vr : B → C) (p : Judged C × Context) (n : CodeContext) (a : Result A CompileFault) (x : A) (y : B) → Tells va a n p → a ≡ Ok x → vr y ≡ va x → Tells vr (Ok y) n p
+ok_again va vr p n a x y h is same =
+    let here : Tells va (Ok x) n p = subst (λ b. Tells va b n p) is h in
+    record { gives = here.gives ∙ ap typed (sym same); leaves = here.leaves }
+
+-- the same fault
+pub err_again : {A B C : Type 0} (va : A → C) (vr : B → C) (p : Judged C × Context) (n : CodeContext) (a : Result A CompileFault) (e : CompileFault) (r : Result B CompileFault) → Tells va a n p → a ≡ Err e → IsErrAnd r (λ f. f ≡ e) → Tells vr r n p
+err_again {A = A} {B = B} va vr p n a e r h is back =
+    let q = err_from_is_err_and r back in
+    let here : Tells va (Err e) n p = subst (λ b. Tells va b n p) is h in
+    subst (λ s. Tells vr s n p) (sym (q.1 ∙ ap Err q.2)) (record { gives = here.gives; leaves = leaves_fault A B e n p.1 here.leaves })
 
 -- two parts, one behind the other
 pub two_pass : {A B R C D E : Type 0} (va : A → C) (vb : B → D) (vr : R → E) (J : Judging C) (K : Judging D) (rule : Context → (C × D) → Judged E) (c : Context) (n m : CodeContext)

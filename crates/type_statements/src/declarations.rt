@@ -4,7 +4,7 @@ ghost use Rattle.std.specs.Option.{option_map};
 ghost use Rattle.c_lex.specs.declared.refusal.CompileFault.TheVariants.{NoMemory};
 ghost use Rattle.c_tree.specs.SyntaxViews as source;
 ghost use Rattle.c_tree.specs.Typed.{Ty};
-ghost use Rattle.c_tree.specs.TypedViews.{type_view, expr_view, optional_expr_view, stmt_view};
+ghost use Rattle.c_tree.specs.TypedViews.{type_view, boxed_expr_view, stmt_view};
 ghost use Rattle.c_typing.specs.Faults.{Judged, Gives};
 ghost use Rattle.c_typing.specs.Statements.{judged_init, judged_local, judged_locals, judged_declaration};
 ghost use Rattle.type_context.specs.ContextViews.{context_view};
@@ -22,6 +22,7 @@ use c_types::expressions::value;
 use std::alloc::Global;
 use type_context::context::{Context, count, within};
 use type_context::faults::both;
+use type_declared::headers::unboxed;
 use type_declared::objects::{again, declare_local, or_int};
 use type_outcomes::outcomes::pushed;
 use type_rules::assignments::initialised;
@@ -50,8 +51,8 @@ fn initialiser(
     place: u32,
     t: &Result<CType, CompileFault>,
     e: &tree::Expr,
-) -> Result<Option<Expr>, CompileFault>
-    ensures { (j : Judged Ty) → Gives type_view t.now j → Tells optional_expr_view result context.new (initialiser place j (source.expr_view e.now) (context_view context.old)) }
+) -> Result<Option<Box<Expr>>, CompileFault>
+    ensures { (j : Judged Ty) → Gives type_view t.now j → Tells (option_map boxed_expr_view) result context.new (initialiser place j (source.expr_view e.now) (context_view context.old)) }
 {
     let t = again(context.alloc, t);
     let value = value(context, e);
@@ -61,8 +62,13 @@ fn initialiser(
 
 // The value of an initialiser.
 #[tactic(auto, using(type_context::proofs::Judging::fails_part))]
-fn initial(alloc: Global, place: u32, t: &CType, value: Expr) -> Result<Option<Expr>, CompileFault>
-    ensures { Gives optional_expr_view result (initial_of place (type_view t.now) (expr_view value)) }
+fn initial(
+    alloc: Global,
+    place: u32,
+    t: &CType,
+    value: Box<Expr>,
+) -> Result<Option<Box<Expr>>, CompileFault>
+    ensures { Gives (option_map boxed_expr_view) result (initial_of place (type_view t.now) (boxed_expr_view value)) }
 {
     let value = initialised(alloc, place, t, value)?;
     Ok(Some(value))
@@ -74,8 +80,8 @@ fn init(
     place: u32,
     t: &Result<CType, CompileFault>,
     e: &Option<tree::Expr>,
-) -> Result<Option<Expr>, CompileFault>
-    ensures { (j : Judged Ty) → Gives type_view t.now j → Tells optional_expr_view result context.new (judged_init place j (option_map source.expr_view e.now) (context_view context.old)) }
+) -> Result<Option<Box<Expr>>, CompileFault>
+    ensures { (j : Judged Ty) → Gives type_view t.now j → Tells (option_map boxed_expr_view) result context.new (judged_init place j (option_map source.expr_view e.now) (context_view context.old)) }
 {
     match e {
         Some(e) => initialiser(context, place, t, e),
@@ -117,7 +123,7 @@ fn local(
     let (_, init) = both(both(fine, t), init)?;
     Ok(Stmt {
         place: name.from,
-        node: StmtNode::Declare(number, init),
+        node: StmtNode::Declare(number, unboxed(init)),
     })
 }
 

@@ -1,7 +1,8 @@
 //! Statements of several parts, made (C11 6.8.2, 6.8.4, 6.8.5).
-ghost use Rattle.std.specs.Prelude.{◌≡◌, ◌∷◌, [], IfOk};
+ghost use Rattle.std.specs.Prelude.{◌≡◌, ◌∷◌, []};
+ghost use Rattle.std.specs.Option.{option_map};
 ghost use Rattle.c_tree.specs.Typed.{at_stmt, block, if_, if_else, while_, for_};
-ghost use Rattle.c_tree.specs.TypedViews.{expr_view, optional_expr_view, stmt_view};
+ghost use Rattle.c_tree.specs.TypedViews.{boxed_expr_view, stmt_view, boxed_stmt_view};
 ghost use Rattle.c_typing.specs.Faults.{Gives, typed};
 ghost use Rattle.c_typing.specs.Statements as rules;
 ghost use Rattle.type_statements.specs.Gathering.{each};
@@ -9,7 +10,7 @@ ghost use Rattle.type_statements.specs.Gathering.{each};
 use crate::parts::alone;
 use c_lex::CompileFault;
 use c_tree::typed::{Expr, Stmt, StmtNode};
-use std::alloc::{AllocError, Global};
+use std::alloc::Global;
 use type_declared::headers::{headed, nothing};
 
 // A block.
@@ -23,43 +24,33 @@ fn block(place: u32, items: Vec<Stmt>) -> Stmt
 }
 
 // An `if` without an `else`.
-fn if_then(alloc: Global, place: u32, condition: Expr, then: Stmt) -> Result<Stmt, AllocError>
-    ensures { IfOk result (λ s. stmt_view s ≡ at_stmt place (if_ (expr_view condition) (stmt_view then))) }
+fn if_then(place: u32, condition: Box<Expr>, then: Box<Stmt>) -> Stmt
+    ensures { stmt_view result ≡ at_stmt place (if_ (boxed_expr_view condition) (boxed_stmt_view then)) }
 {
-    let then = Box::new(alloc, then)?;
-    Ok(Stmt {
+    Stmt {
         place,
-        node: StmtNode::If(condition, then, None),
-    })
+        node: StmtNode::If(Box::into_inner(condition), then, None),
+    }
 }
 
 // An `if` with an `else`.
-fn if_otherwise(
-    alloc: Global,
-    place: u32,
-    condition: Expr,
-    then: Stmt,
-    otherwise: Stmt,
-) -> Result<Stmt, AllocError>
-    ensures { IfOk result (λ s. stmt_view s ≡ at_stmt place (if_else (expr_view condition) (stmt_view then) (stmt_view otherwise))) }
+fn if_otherwise(place: u32, condition: Box<Expr>, then: Box<Stmt>, otherwise: Box<Stmt>) -> Stmt
+    ensures { stmt_view result ≡ at_stmt place (if_else (boxed_expr_view condition) (boxed_stmt_view then) (boxed_stmt_view otherwise)) }
 {
-    let then = Box::new(alloc, then)?;
-    let otherwise = Box::new(alloc, otherwise)?;
-    Ok(Stmt {
+    Stmt {
         place,
-        node: StmtNode::If(condition, then, Some(otherwise)),
-    })
+        node: StmtNode::If(Box::into_inner(condition), then, Some(otherwise)),
+    }
 }
 
 // A `while`.
-fn while_true(alloc: Global, place: u32, condition: Expr, body: Stmt) -> Result<Stmt, AllocError>
-    ensures { IfOk result (λ s. stmt_view s ≡ at_stmt place (while_ (expr_view condition) (stmt_view body))) }
+fn while_true(place: u32, condition: Box<Expr>, body: Box<Stmt>) -> Stmt
+    ensures { stmt_view result ≡ at_stmt place (while_ (boxed_expr_view condition) (boxed_stmt_view body)) }
 {
-    let body = Box::new(alloc, body)?;
-    Ok(Stmt {
+    Stmt {
         place,
-        node: StmtNode::While(condition, body),
-    })
+        node: StmtNode::While(Box::into_inner(condition), body),
+    }
 }
 
 /// A block, in a list.
@@ -77,40 +68,37 @@ pub(crate) fn block_made(
 pub(crate) fn if_made(
     alloc: Global,
     place: u32,
-    condition: Expr,
-    then: Stmt,
+    condition: Box<Expr>,
+    then: Box<Stmt>,
 ) -> Result<Vec<Stmt>, CompileFault>
-    ensures { Gives (each stmt_view) result (typed (at_stmt place (if_ (expr_view condition) (stmt_view then)) ∷ [])) }
+    ensures { Gives (each stmt_view) result (typed (at_stmt place (if_ (boxed_expr_view condition) (boxed_stmt_view then)) ∷ [])) }
 {
-    let s = if_then(alloc, place, condition, then)?;
-    alone(alloc, s)
+    alone(alloc, if_then(place, condition, then))
 }
 
 /// An `if` with an `else`, in a list.
 pub(crate) fn if_else_made(
     alloc: Global,
     place: u32,
-    condition: Expr,
-    then: Stmt,
-    otherwise: Stmt,
+    condition: Box<Expr>,
+    then: Box<Stmt>,
+    otherwise: Box<Stmt>,
 ) -> Result<Vec<Stmt>, CompileFault>
-    ensures { Gives (each stmt_view) result (typed (at_stmt place (if_else (expr_view condition) (stmt_view then) (stmt_view otherwise)) ∷ [])) }
+    ensures { Gives (each stmt_view) result (typed (at_stmt place (if_else (boxed_expr_view condition) (boxed_stmt_view then) (boxed_stmt_view otherwise)) ∷ [])) }
 {
-    let s = if_otherwise(alloc, place, condition, then, otherwise)?;
-    alone(alloc, s)
+    alone(alloc, if_otherwise(place, condition, then, otherwise))
 }
 
 /// A `while`, in a list.
 pub(crate) fn while_made(
     alloc: Global,
     place: u32,
-    condition: Expr,
-    body: Stmt,
+    condition: Box<Expr>,
+    body: Box<Stmt>,
 ) -> Result<Vec<Stmt>, CompileFault>
-    ensures { Gives (each stmt_view) result (typed (at_stmt place (while_ (expr_view condition) (stmt_view body)) ∷ [])) }
+    ensures { Gives (each stmt_view) result (typed (at_stmt place (while_ (boxed_expr_view condition) (boxed_stmt_view body)) ∷ [])) }
 {
-    let s = while_true(alloc, place, condition, body)?;
-    alone(alloc, s)
+    alone(alloc, while_true(place, condition, body))
 }
 
 /// A `for`, with its header.
@@ -118,11 +106,11 @@ pub(crate) fn for_made(
     alloc: Global,
     place: u32,
     header: Vec<Stmt>,
-    condition: Option<Expr>,
-    step: Stmt,
-    body: Stmt,
-) -> Result<Stmt, CompileFault>
-    ensures { Gives stmt_view result (typed (rules.headed place (each stmt_view header) (λ s. at_stmt place (for_ s (optional_expr_view condition) (stmt_view step) (stmt_view body))))) }
+    condition: Option<Box<Expr>>,
+    step: Box<Stmt>,
+    body: Box<Stmt>,
+) -> Result<Box<Stmt>, CompileFault>
+    ensures { Gives boxed_stmt_view result (typed (rules.headed place (each stmt_view header) (λ s. at_stmt place (for_ s (option_map boxed_expr_view condition) (boxed_stmt_view step) (boxed_stmt_view body))))) }
 {
     let whole = headed(alloc, place, header, condition, step, body)?;
     Ok(whole)

@@ -2,7 +2,7 @@
 ghost use Rattle.std.specs.Prelude.{◌∷◌, [], Some};
 ghost use Rattle.std.specs.Option.{option_map};
 ghost use Rattle.c_tree.specs.SyntaxViews as source;
-ghost use Rattle.c_tree.specs.TypedViews.{type_view, expr_view, optional_expr_view, stmt_view, stmt_node_view};
+ghost use Rattle.c_tree.specs.TypedViews.{type_view, boxed_expr_view, stmt_view, boxed_stmt_view, stmt_node_view};
 ghost use Rattle.c_typing.specs.Faults.{Gives, typed};
 ghost use Rattle.c_typing.specs.Judgement.{ruled};
 ghost use Rattle.c_typing.specs.Statements as rules;
@@ -40,8 +40,8 @@ pub(crate) fn condition(
     context: &mut Context<'_>,
     place: u32,
     e: &tree::Expr,
-) -> Result<Expr, CompileFault>
-    ensures { Tells expr_view result context.new (rules.condition place (source.expr_view e.now) (context_view context.old)) }
+) -> Result<Box<Expr>, CompileFault>
+    ensures { Tells boxed_expr_view result context.new (rules.condition place (source.expr_view e.now) (context_view context.old)) }
 {
     let e = value(context, e)?;
     tested(context.alloc, place, e)
@@ -96,8 +96,9 @@ pub(crate) fn jump(
 ) -> Result<Vec<Stmt>, CompileFault>
     ensures { Gives (each stmt_view) result (jump_of place in_loop (stmt_node_view node)) }
 {
+    let all = alone(alloc, Stmt { place, node })?;
     unless(place, Kind::TypeMismatch, in_loop)?;
-    alone(alloc, Stmt { place, node })
+    Ok(all)
 }
 
 // What stands first in a `for`, where it is no declaration.
@@ -131,8 +132,8 @@ fn some_condition(
     context: &mut Context<'_>,
     place: u32,
     e: &tree::Expr,
-) -> Result<Option<Expr>, CompileFault>
-    ensures { Tells optional_expr_view result context.new (ruled (rules.condition place (source.expr_view e.now)) (λ c x. typed (Some x)) (context_view context.old)) }
+) -> Result<Option<Box<Expr>>, CompileFault>
+    ensures { Tells (option_map boxed_expr_view) result context.new (ruled (rules.condition place (source.expr_view e.now)) (λ c x. typed (Some x)) (context_view context.old)) }
 {
     let e = condition(context, place, e)?;
     Ok(Some(e))
@@ -143,8 +144,8 @@ pub(crate) fn for_condition(
     context: &mut Context<'_>,
     place: u32,
     e: &Option<tree::Expr>,
-) -> Result<Option<Expr>, CompileFault>
-    ensures { Tells optional_expr_view result context.new (judged_condition place (option_map source.expr_view e.now) (context_view context.old)) }
+) -> Result<Option<Box<Expr>>, CompileFault>
+    ensures { Tells (option_map boxed_expr_view) result context.new (judged_condition place (option_map source.expr_view e.now) (context_view context.old)) }
 {
     match e {
         Some(e) => some_condition(context, place, e),
@@ -152,17 +153,25 @@ pub(crate) fn for_condition(
     }
 }
 
+// The step of a `for` that has one.
+fn some_step(context: &mut Context<'_>, s: &tree::Simple) -> Result<Box<Stmt>, CompileFault>
+    ensures { Tells boxed_stmt_view result context.new (judged_simple (source.simple_view s.now) (context_view context.old)) }
+{
+    let s = simple(context, s)?;
+    Ok(Box::new(context.alloc, s)?)
+}
+
 // The step of a `for`.
 pub(crate) fn for_step(
     context: &mut Context<'_>,
     place: u32,
     s: &Option<tree::Simple>,
-) -> Result<Stmt, CompileFault>
-    ensures { Tells stmt_view result context.new (judged_step place (option_map source.simple_view s.now) (context_view context.old)) }
+) -> Result<Box<Stmt>, CompileFault>
+    ensures { Tells boxed_stmt_view result context.new (judged_step place (option_map source.simple_view s.now) (context_view context.old)) }
 {
     match s {
-        Some(s) => simple(context, s),
-        None => Ok(nothing(place)),
+        Some(s) => some_step(context, s),
+        None => Ok(Box::new(context.alloc, nothing(place))?),
     }
 }
 

@@ -52,7 +52,7 @@ fn evaluation(context: &mut Context<'_>, e: &tree::Expr) -> Result<Stmt, Compile
     let value = value(context, e)?;
     Ok(Stmt {
         place: node_place(e),
-        node: StmtNode::Eval(value),
+        node: StmtNode::Eval(Box::into_inner(value)),
     })
 }
 

@@ -3,7 +3,7 @@ ghost use Rattle.std.specs.Prelude.{map};
 ghost use Rattle.std.specs.Option.{option_map};
 ghost use Rattle.c_tree.specs.Syntax as trees;
 ghost use Rattle.c_tree.specs.SyntaxViews as source;
-ghost use Rattle.c_tree.specs.TypedViews.{type_view, stmt_view};
+ghost use Rattle.c_tree.specs.TypedViews.{type_view, stmt_view, boxed_stmt_view};
 ghost use Rattle.c_typing.specs.Statements.{one_of, judged_stmt, judged_stmts};
 ghost use Rattle.type_context.specs.ContextViews.{context_view};
 ghost use Rattle.type_outcomes.specs.Telling.{Tells};
@@ -31,11 +31,11 @@ fn one(
     t: &CType,
     in_loop: bool,
     s: &tree::Stmt,
-) -> Result<Stmt, CompileFault>
-    ensures { Tells stmt_view result context.new (one_of (judged_stmt (type_view t.now) in_loop (source.stmt_view s.now)) (context_view context.old)) }
+) -> Result<Box<Stmt>, CompileFault>
+    ensures { Tells boxed_stmt_view result context.new (one_of (judged_stmt (type_view t.now) in_loop (source.stmt_view s.now)) (context_view context.old)) }
 {
     let all = stmt(context, t, in_loop, s)?;
-    Ok(only(all))
+    Ok(Box::new(context.alloc, only(all))?)
 }
 
 // A block, in a scope of its own.
@@ -121,8 +121,8 @@ fn for_inside(
     e: &Option<tree::Expr>,
     last: &Option<tree::Simple>,
     s: &tree::Stmt,
-) -> Result<Stmt, CompileFault>
-    ensures { Tells stmt_view result context.new (for_inside place (type_view t.now) (source.for_first_view head.now) (option_map source.expr_view e.now) (option_map source.simple_view last.now) (source.stmt_view s.now) (context_view context.old)) }
+) -> Result<Box<Stmt>, CompileFault>
+    ensures { Tells boxed_stmt_view result context.new (for_inside place (type_view t.now) (source.for_first_view head.now) (option_map source.expr_view e.now) (option_map source.simple_view last.now) (source.stmt_view s.now) (context_view context.old)) }
 {
     let header = first(context, place, head);
     let test = for_condition(context, place, e);
@@ -149,7 +149,7 @@ fn for_loop(
     let whole = for_inside(context, t, place, head, e, last, s);
     context.leave();
     let whole = whole?;
-    alone(context.alloc, whole)
+    alone(context.alloc, Box::into_inner(whole))
 }
 
 /// A statement, in a function of a result, in a loop or not; a declaration may give several.

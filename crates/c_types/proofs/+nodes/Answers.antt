@@ -1,4 +1,4 @@
-use Rattle.std.proofs.Common.{◌≡◌, ℕ, ◌<◌, ◌≤◌, ◌+◌, ◌-◌, [], ◌∷◌, ◌++◌, List, map, take, drop, length, get_or, false, true, refl, ap, sym, subst, ◌∙◌, arith, Option, Some, None}
+use Rattle.std.proofs.Common.{ℕ, ◌-◌, [], ◌∷◌, ◌++◌, List, map, take, drop, length, refl, ap, sym, subst, ◌∙◌, arith, Option}
 use Rattle.std.specs.Prelude.{Vec}
 use Rattle.std.specs.declared.alloc.Global.{Global}
 use Rattle.c_tree.specs.declared.syntax.Name.{Name}
@@ -12,7 +12,7 @@ use Rattle.type_specifiers.specs.ListViews.{part_view, parts_view, parts_seen, d
 use Rattle.type_outcomes.specs.Telling.{Tells}
 use Rattle.type_outcomes.proofs.Rows.{starts, pushed_next, state_next, ends}
 use Rattle.type_nodes.specs.Nodes.{types_of_members, behind_member, declarator_node, behind_declarator, begun_by}
-use Rattle.type_nodes.proofs.Telling.{args_are, dims_are, parts_are, members_are, declarators_are, members_next, appended_keeps, braces_tell, numbers_told, keeps_second}
+use Rattle.type_nodes.proofs.Telling.{args_are, dims_are, parts_are, members_are, declarators_are, members_next, appended_keeps, braces_tell, numbers_told, keeps_second, unboxed_tells}
 use Rattle.type_nodes.proofs.Expressions.{value_tells, prefixed_tells, starting_known, starting_other}
 use Rattle.type_nodes.proofs.Types as types
 use Rattle.c_types.proofs.Sizes.{most_rest}
@@ -127,7 +127,9 @@ expressions::arguments-arguments-init t c =
 pub expressions::arguments-arguments-preserved : goal.expressions::arguments-arguments-preserved
 expressions::arguments-arguments-preserved t c =
     pushed_next expr_view (λ (u : Unit {0}) (e : source.Expr). valued (judged e)) (λ u e. u) tt sources.expr_view c.args.args.now c.arguments.e-index c.e-item.result (context_view c.args.context.now)
-    c.arguments.all c.value-next.result c.pushed-all.result c.arguments.context c.value-next.new.context c.arguments.invariant (omega arith) c.e-item.is (λ fine. c.value-next.ensures) c.pushed-all.ensures
+    c.arguments.all c.unboxed.result c.pushed-all.result c.arguments.context c.value-next.new.context c.arguments.invariant (omega arith) c.e-item.is
+    (λ fine. unboxed_tells (valued (judged (sources.expr_view c.e-item.result))) (context_view c.arguments.context) c.value-next.new.context c.value-next.result c.unboxed.result c.value-next.ensures c.unboxed.ensures)
+    c.pushed-all.ensures
 
 pub expressions::arguments-returns : goal.expressions::arguments-returns
 expressions::arguments-returns t c =

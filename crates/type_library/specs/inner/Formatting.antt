@@ -2,7 +2,6 @@
 use Rattle.std.specs.Prelude.{ℕ, Bool, true, false, List, [], ◌∷◌, ◌++◌, length}
 use Rattle.std.specs.Borrow.{Bor}
 use Rattle.c_tree.specs.Typed.{Piece, bytes, signed, unsigned, hexadecimal, character, text}
-use Rattle.c_tree.specs.TypedViews.{piece_view}
 use Rattle.type_library.specs.declared.formats.Spelled.{Spelled}
 use Rattle.type_library.specs.declared.formats.Spelled.TheVariants as codes
 use Rattle.type_library.specs.declared.formats.Pieces.{Pieces}

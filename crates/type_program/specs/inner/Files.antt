@@ -5,11 +5,12 @@ use Rattle.c_lex.specs.declared.refusal.CompileFault.TheVariants.{Refused, NoMem
 use Rattle.c_tree.specs.declared.syntax.Name.{Name}
 use Rattle.c_tree.specs.declared.syntax.Pointer.{Pointer}
 use Rattle.c_tree.specs.Syntax as source
-use Rattle.c_tree.specs.Typed.{Ty}
+use Rattle.c_tree.specs.Typed.{Ty, Typed}
 use Rattle.c_tree.specs.TypedViews.{global_view, func_view}
-use Rattle.c_typing.specs.Faults.{Judged, typed}
+use Rattle.c_typing.specs.Faults.{Judged, typed, both, ◌>>=◌}
+use Rattle.c_typing.specs.Scope.{Context}
 use Rattle.c_typing.specs.Judgement.{Judging, ruled}
-use Rattle.c_typing.specs.Programs.{Made, joined, judged_function, judged_globals}
+use Rattle.c_typing.specs.Programs.{Made, joined, judged_function, judged_globals, judged_externals, defined_names, has_main, program_of}
 use Rattle.type_program.specs.declared.files.Made.{Made as CodeMade}
 
 -- what an external declaration of the code makes
@@ -31,3 +32,10 @@ functions_of names base pointers n params body = ruled (judged_function names ba
 -- globals, and no function
 abbrev pub globals_of : Judged Ty → List source.InitDeclarator → Judging Made
 globals_of base declarators = ruled (judged_globals base declarators) (λ d gs. typed (record { globals = gs; funcs = [] }))
+
+-- a file, judged in this context from its first declaration on
+abbrev pub whole_file : source.File → Context → Judged Typed
+whole_file f c =
+    let names = defined_names c.text f.externals in
+    let x = judged_externals names f.externals c in
+    both x.0 (has_main x.1 names) >>= λ p. typed (program_of x.1 p.0 p.1)

@@ -1,6 +1,6 @@
 //! Expressions that stand before any declaration, by trees that are built by hand.
 ghost use Rattle.c_tree.specs.SyntaxViews as source;
-ghost use Rattle.c_tree.specs.TypedViews.{expr_view};
+ghost use Rattle.c_tree.specs.TypedViews.{boxed_expr_view};
 ghost use Rattle.c_typing.specs.Faults.{Gives};
 ghost use Rattle.c_typing.specs.Judgement.{judged};
 ghost use Rattle.c_typing.specs.Scope.{at_start};
@@ -17,8 +17,8 @@ use type_context::context::Context;
 
 /// An expression at the beginning of a text, as a layer above judges it: a caller that rests on the
 /// contract alone.
-fn judged_at_start(alloc: Global, text: &[u8], e: &tree::Expr) -> Result<Expr, CompileFault>
-    ensures { Gives expr_view result (judged (source.expr_view e.now) (at_start text.now)).0 }
+fn judged_at_start(alloc: Global, text: &[u8], e: &tree::Expr) -> Result<Box<Expr>, CompileFault>
+    ensures { Gives boxed_expr_view result (judged (source.expr_view e.now) (at_start text.now)).0 }
 {
     let mut context = Context::at_start(alloc, text);
     expression(&mut context, e)
@@ -35,37 +35,43 @@ fn refusal_of(alloc: Global, text: &[u8], e: &tree::Expr) -> Option<Refusal> {
 // The number that an expression is at once, as `sizeof` is.
 fn number_of(context: &mut Context<'_>, e: &tree::Expr) -> Option<Num> {
     match expression(context, e) {
-        Ok(
-            Expr {
-                node: ExprNode::Num(n),
-                ..
-            },
-        ) => Some(n),
-        _ => None,
+        Ok(e) => match &e.node {
+            ExprNode::Num(n) => Some(*n),
+            _ => None,
+        },
+        Err(_) => None,
     }
+}
+
+fn boxed(alloc: Global, e: tree::Expr) -> Result<Box<tree::Expr>, AllocError> {
+    Ok(Box::new(alloc, e)?)
 }
 
 fn sum(
     alloc: Global,
     place: u32,
-    left: tree::Expr,
-    right: tree::Expr,
-) -> Result<tree::Expr, AllocError> {
-    Ok(tree::Expr::Binary {
-        place,
-        op: BinaryOp::Value(Op::Add),
-        left: Box::new(alloc, left)?,
-        right: Box::new(alloc, right)?,
-    })
+    left: Box<tree::Expr>,
+    right: Box<tree::Expr>,
+) -> Result<Box<tree::Expr>, AllocError> {
+    let op = BinaryOp::Value(Op::Add);
+    boxed(
+        alloc,
+        tree::Expr::Binary {
+            place,
+            op,
+            left,
+            right,
+        },
+    )
 }
 
 // `sizeof` of a type, by its specifier.
-fn size_of(alloc: Global, place: u32, spec: Spec) -> Result<tree::Expr, AllocError> {
+fn size_of(alloc: Global, place: u32, spec: Spec) -> Result<Box<tree::Expr>, AllocError> {
     let mut specs = Vec::new(alloc);
     specs.push(spec)?;
     let pointers = Vec::new(alloc);
     let of = TypeName { specs, pointers };
-    Ok(tree::Expr::SizeofType { place, of })
+    boxed(alloc, tree::Expr::SizeofType { place, of })
 }
 
 // A member of this type.
@@ -98,8 +104,8 @@ fn members(alloc: Global) -> Result<Vec<Member>, AllocError> {
 #[test]
 fn refuses_the_first_of_two_names(rt: HostRuntime) -> Result<(), Fail> {
     let alloc = rt.alloc();
-    let left = tree::Expr::Name(Name { from: 0, to: 2 });
-    let right = tree::Expr::Name(Name { from: 5, to: 7 });
+    let left = boxed(alloc, tree::Expr::Name(Name { from: 0, to: 2 }))?;
+    let right = boxed(alloc, tree::Expr::Name(Name { from: 5, to: 7 }))?;
     let both = sum(alloc, 3, left, right)?;
     let refusal = refusal_of(alloc, b"ab + cd", &both);
     assert!(rt;
@@ -116,26 +122,24 @@ fn refuses_the_first_of_two_names(rt: HostRuntime) -> Result<(), Fail> {
 #[test]
 fn gives_a_sum_the_common_type(rt: HostRuntime) -> Result<(), Fail> {
     let alloc = rt.alloc();
-    let left = tree::Expr::Int {
+    let one = tree::Expr::Int {
         place: 0,
         value: Num::int(1),
     };
+    let left = boxed(alloc, one)?;
     let word = Spec::Word {
         place: 11,
         word: TypeWord::Char,
     };
     let right = size_of(alloc, 4, word)?;
     let both = sum(alloc, 2, left, right)?;
-    match judged_at_start(alloc, b"1 + sizeof(char)", &both) {
-        Ok(
-            Expr {
-                place,
-                ty: CType::Int(t),
-                ..
-            },
-        ) => assert!(rt; place == 2 && t == IntType::unsigned_long()),
-        _ => assert!(rt; false),
-    }
+    let fits = match judged_at_start(alloc, b"1 + sizeof(char)", &both) {
+        Ok(e) => {
+            e.place == 2 && matches!(&e.ty, CType::Int(t) if *t == IntType::unsigned_long())
+        }
+        Err(_) => false,
+    };
+    assert!(rt; fits);
     Ok(())
 }
 
@@ -145,7 +149,7 @@ fn gives_a_sum_the_common_type(rt: HostRuntime) -> Result<(), Fail> {
 fn joins_literals_side_by_side(rt: HostRuntime) -> Result<(), Fail> {
     let alloc = rt.alloc();
     let spans = vec![in alloc; Span { from: 0, to: 4 }, Span { from: 5, to: 8 }]?;
-    let text = tree::Expr::Text(spans);
+    let text = boxed(alloc, tree::Expr::Text(spans))?;
     let mut context = Context::at_start(alloc, b"\"ab\" \"c\"");
     let found = value(&mut context, &text);
     let fits = match &found {
@@ -156,8 +160,11 @@ fn joins_literals_side_by_side(rt: HostRuntime) -> Result<(), Fail> {
         Err(_) => false,
     };
     assert!(rt; fits);
-    let operand = Box::new(alloc, text).map_err(AllocError::from)?;
-    let size = tree::Expr::SizeofExpr { place: 0, operand };
+    let size = tree::Expr::SizeofExpr {
+        place: 0,
+        operand: text,
+    };
+    let size = boxed(alloc, size)?;
     assert!(rt; number_of(&mut context, &size).is_some_and(|n| n.value == 4));
     assert!(rt; context.literals.len() == 2);
     Ok(())

@@ -1,6 +1,6 @@
 //! Literals, formats and calls of the library.
 
-ghost use Rattle.c_tree.specs.TypedViews.{expr_view};
+ghost use Rattle.c_tree.specs.TypedViews.{boxed_expr_view};
 ghost use Rattle.c_typing.specs.Faults.{Gives};
 ghost use Rattle.c_typing.specs.Formats.{pieces_of};
 ghost use Rattle.c_typing.specs.Judgement.{lone, ruled, format_by, printed};
@@ -28,8 +28,8 @@ fn written(
     text: &[u8],
     parts: &[Span],
     args: Vec<Expr>,
-) -> Result<Expr, CompileFault>
-    ensures { (c : scopes.Context) → Gives expr_view result (ruled (lone (format_by place (pieces_of (joined_bytes text.now parts.now)))) (λ d pieces. printed place (pieces, exprs_view args)) c).0 }
+) -> Result<Box<Expr>, CompileFault>
+    ensures { (c : scopes.Context) → Gives boxed_expr_view result (ruled (lone (format_by place (pieces_of (joined_bytes text.now parts.now)))) (λ d pieces. printed place (pieces, exprs_view args)) c).0 }
 {
     let pieces = format_of(alloc, place, text, parts)?;
     printed(alloc, place, pieces, args)
@@ -44,6 +44,10 @@ fn number_at_9(ty: IntType, value: i128) -> Expr {
     }
 }
 
+fn boxed(alloc: Global, e: Expr) -> Result<Box<Expr>, AllocError> {
+    Ok(Box::new(alloc, e)?)
+}
+
 // One argument of a call: an int.
 fn argument(alloc: Global, value: i128) -> Result<Vec<Expr>, AllocError> {
     let mut all = Vec::new(alloc);
@@ -52,7 +56,7 @@ fn argument(alloc: Global, value: i128) -> Result<Vec<Expr>, AllocError> {
 }
 
 // What was refused.
-fn refusal(outcome: Result<Expr, CompileFault>) -> Option<Refusal> {
+fn refusal(outcome: Result<Box<Expr>, CompileFault>) -> Option<Refusal> {
     match outcome {
         Err(CompileFault::Refused(r)) => Some(r),
         _ => None,
@@ -92,7 +96,7 @@ fn printf_wants_an_argument_for_each_piece(rt: HostRuntime) -> Result<(), Fail> 
     let parts = [Span { from: 0, to: 6 }];
     let one = argument(alloc, 1)?;
     let call = written(alloc, 5, text, &parts, one)?;
-    assert!(rt; matches!(call.node, ExprNode::Lib(Lib::Print(_), _)));
+    assert!(rt; matches!(&call.node, ExprNode::Lib(Lib::Print(_), _)));
     let none = written(alloc, 5, text, &parts, Vec::new(alloc));
     let wanted = Refusal {
         place: 5,
@@ -131,16 +135,12 @@ fn a_thread_begins_with_a_function(rt: HostRuntime) -> Result<(), Fail> {
         ty: CType::Pointer(Box::new(alloc, unsigned_long).map_err(AllocError::from)?),
         node: ExprNode::Null,
     };
+    let number = boxed(alloc, number)?;
     let argument = argument(alloc, 0)?;
     let call = started(alloc, 5, number, Some(3), argument)?;
-    assert!(rt; matches!(call.node, ExprNode::Lib(Lib::Start(3), _)));
-    let none = started(
-        alloc,
-        5,
-        number_at_9(IntType::int(), 0),
-        None,
-        Vec::new(alloc),
-    );
+    assert!(rt; matches!(&call.node, ExprNode::Lib(Lib::Start(3), _)));
+    let zero = boxed(alloc, number_at_9(IntType::int(), 0))?;
+    let none = started(alloc, 5, zero, None, Vec::new(alloc));
     let wanted = Refusal {
         place: 5,
         kind: Kind::TypeMismatch,

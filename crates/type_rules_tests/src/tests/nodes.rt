@@ -1,5 +1,5 @@
 ghost use Rattle.c_tree.specs.Syntax as trees;
-ghost use Rattle.c_tree.specs.TypedViews.{expr_view};
+ghost use Rattle.c_tree.specs.TypedViews.{boxed_expr_view};
 ghost use Rattle.c_typing.specs.Judgement.{judged};
 ghost use Rattle.type_context.specs.ContextViews.{context_view};
 ghost use Rattle.type_outcomes.specs.Telling.{Tells};
@@ -8,6 +8,7 @@ use ak_words::Num;
 use c_lex::{CompileFault, Kind, Refusal};
 use c_tree::syntax::Name;
 use c_tree::typed::{CType, Expr};
+use std::alloc::Global;
 use std::test::Fail;
 use type_context::context::Context;
 use type_nodes::leaves::{named, null, number};
@@ -20,14 +21,19 @@ fn element_named(
     place: u32,
     base: Name,
     index: Name,
-) -> Result<Expr, CompileFault>
-    ensures { Tells expr_view result context.now (judged (trees.index place (trees.name base) (trees.name index)) (context_view context.now)) }
+) -> Result<Box<Expr>, CompileFault>
+    ensures { Tells boxed_expr_view result context.now (judged (trees.index place (trees.name base) (trees.name index)) (context_view context.now)) }
 {
     let base_found = named(context, base);
     let base_value = valued(context.alloc, base_found);
     let index_found = named(context, index);
     let index_value = valued(context.alloc, index_found);
     element_of(context, place, base_value, index_value)
+}
+
+// The number 1, at a place.
+fn one_at(alloc: Global, place: u32) -> Result<Box<Expr>, CompileFault> {
+    number(alloc, place, Num::int(1))
 }
 
 // Of two names that mean nothing the first is refused; a choice is between two numbers, and has
@@ -47,19 +53,18 @@ fn judges_nodes_by_their_parts(rt: HostRuntime) -> Result<(), Fail> {
         kind: Kind::UnknownName,
     };
     assert_eq!(rt; refusal, Some(wanted));
-    let one = Num::int(1);
-    let chosen = choice_of(alloc, 2, number(0, one), number(4, one), number(8, one));
-    assert!(rt;
-        matches!(
-            chosen,
-            Ok(Expr {
-                place: 2,
-                ty: CType::Int(_),
-                ..
-            })
-        )
-    );
-    let refusal = match choice_of(alloc, 2, number(0, one), number(4, one), null(alloc, 8)) {
+    let fits = match choice_of(
+        alloc,
+        2,
+        one_at(alloc, 0),
+        one_at(alloc, 4),
+        one_at(alloc, 8),
+    ) {
+        Ok(e) => e.place == 2 && matches!(&e.ty, CType::Int(_)),
+        Err(_) => false,
+    };
+    assert!(rt; fits);
+    let refusal = match choice_of(alloc, 2, one_at(alloc, 0), one_at(alloc, 4), null(alloc, 8)) {
         Err(CompileFault::Refused(refusal)) => Some(refusal),
         _ => None,
     };

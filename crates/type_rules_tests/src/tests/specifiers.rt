@@ -34,12 +34,13 @@ fn declared_object(
 }
 
 // A number, as an int at place 7.
-fn int_at_7(value: i32) -> Expr {
-    Expr {
+fn int_at_7(alloc: Global, value: i32) -> Result<Box<Expr>, AllocError> {
+    let all = Expr {
         place: 7,
         ty: CType::Int(IntType::int()),
         node: ExprNode::Num(Num::int(value)),
-    }
+    };
+    Ok(Box::new(alloc, all)?)
 }
 
 #[test]
@@ -84,27 +85,42 @@ fn no_object_is_void(rt: HostRuntime) -> Result<(), Fail> {
     Ok(())
 }
 
+// The size of an array of which a number stands between the brackets, if it may have one.
+fn size_by(alloc: Global, value: i32) -> Result<Option<u32>, AllocError> {
+    let context = Context::at_start(alloc, b"");
+    let typed = int_at_7(alloc, value)?;
+    let source = syntax::Expr::Int {
+        place: 7,
+        value: Num::int(value),
+    };
+    Ok(dimension(&context, &source, &typed).ok())
+}
+
 #[test]
 fn a_size_is_a_constant_from_1(rt: HostRuntime) -> Result<(), Fail> {
-    let context = Context::at_start(rt.alloc(), b"");
     for (value, wanted) in [(0, None), (1, Some(1)), (-1, None), (12, Some(12))] {
-        let source = syntax::Expr::Int {
-            place: 7,
-            value: Num::int(value),
-        };
-        let size = dimension(&context, &source, &int_at_7(value)).ok();
-        assert_eq!(rt; size, wanted, "of {value}");
+        assert_eq!(rt; size_by(rt.alloc(), value)?, wanted, "of {value}");
     }
     Ok(())
 }
 
+// `1 && 0` or `1 || 0`, at place 3.
+fn of_one_and_zero(alloc: Global, op: BinaryOp) -> Result<Box<Expr>, CompileFault> {
+    let context = Context::at_start(alloc, b"");
+    let one = int_at_7(alloc, 1)?;
+    let zero = int_at_7(alloc, 0)?;
+    combined(&context, 3, op, one, zero)
+}
+
 #[test]
 fn both_operands_are_conditions(rt: HostRuntime) -> Result<(), Fail> {
-    let context = Context::at_start(rt.alloc(), b"");
-    let both = combined(&context, 3, BinaryOp::AndAnd, int_at_7(1), int_at_7(0))?;
-    assert!(rt; matches!(both.node, ExprNode::AndAlso(_, _)));
-    let either = combined(&context, 3, BinaryOp::OrOr, int_at_7(1), int_at_7(0))?;
-    assert!(rt; matches!(either.node, ExprNode::OrElse(_, _)));
+    let both = of_one_and_zero(rt.alloc(), BinaryOp::AndAnd)?;
+    let either = of_one_and_zero(rt.alloc(), BinaryOp::OrOr)?;
+    let fit = (
+        matches!(&both.node, ExprNode::AndAlso(_, _)),
+        matches!(&either.node, ExprNode::OrElse(_, _)),
+    );
+    assert_eq!(rt; fit, (true, true));
     Ok(())
 }
 

@@ -8,7 +8,7 @@ use Rattle.c_tree.specs.Typed.{Ty, Expr, Stmt, at_stmt, StmtNode, block, if_, if
 use Rattle.c_typing.specs.Faults.{Judged, typed, unless, both, ◌>>=◌}
 use Rattle.c_lex.specs.declared.refusal.Kind.TheVariants.{TypeMismatch}
 use Rattle.c_typing.specs.Types.{is_void}
-use Rattle.c_typing.specs.Scope.{Context, fresh, inside, within}
+use Rattle.c_typing.specs.Scope.{Context, fresh, within}
 use Rattle.c_typing.specs.Judgement.{Judging, lone, in_turn, ruled, judged, valued, node_place}
 use Rattle.c_typing.specs.Statements.{stepped, assign_op, assigned_by, initialised, most_locals, stmts_of, condition, one_of, returned_by, headed, judged_first, judged_condition, judged_step, looped, scoped, judged_stmt, judged_stmts}
 

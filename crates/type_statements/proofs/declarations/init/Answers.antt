@@ -1,5 +1,6 @@
 use Rattle.std.proofs.Common.{None, refl}
-use Rattle.c_tree.specs.TypedViews.{optional_expr_view}
+use Rattle.std.specs.Option.{option_map}
+use Rattle.c_tree.specs.TypedViews.{boxed_expr_view}
 use Rattle.c_typing.specs.Faults.{typed}
 use Rattle.type_outcomes.proofs.Walks.{lone_tells}
 use Rattle.type_statements.proofs.declarations.init.Goals as goal
@@ -8,4 +9,4 @@ pub returns-in-Some : goal.returns-in-Some
 returns-in-Some c = λ j h. rw c.in-Some.is (c.initialiser.ensures j h)
 
 pub returns-in-None : goal.returns-in-None
-returns-in-None c = λ j h. rw c.in-None.is (lone_tells optional_expr_view _ c.args.context.now (typed None) refl)
+returns-in-None c = λ j h. rw c.in-None.is (lone_tells (option_map boxed_expr_view) _ c.args.context.now (typed None) refl)

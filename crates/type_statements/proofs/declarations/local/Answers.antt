@@ -1,7 +1,8 @@
 use Rattle.std.proofs.Common.{ap, sym, ◌∙◌}
+use Rattle.std.specs.Option.{option_map}
 use Rattle.c_tree.specs.SyntaxViews as source
 use Rattle.c_tree.specs.Typed.{at_stmt, declare}
-use Rattle.c_tree.specs.TypedViews.{stmt_view, optional_expr_view}
+use Rattle.c_tree.specs.TypedViews.{boxed_expr_view, stmt_view}
 use Rattle.c_typing.specs.Faults.{typed}
 use Rattle.c_typing.specs.Statements.{judged_local}
 use Rattle.type_context.specs.ContextViews.{context_view}
@@ -38,4 +39,5 @@ returns c = λ j h.
     c.object_of-t.result c.fine_local-fine.result c.in_ok-declared.declared c.init-init.result c.both-2.result (c.in_ok-init.field-0-0, c.in_ok-init.init) _
     (declared_name c.args.x.now.declarator) (c.object_of-t.ensures j h) c.fine_local-fine.ensures c.in_ok-declared.ensures.declared c.in_ok-declare_local.ensures.after c.init-init.ensures
     (c.both-2.ensures ∙ ap (λ q. joined q c.init-init.result) c.both.ensures) c.in_ok-init.was
-    (ap (λ k. typed (at_stmt c.args.x.now.declarator.name.from (declare k (optional_expr_view c.in_ok-init.init)))) (sym c.in_ok-number.ensures.number))
+    (ap (λ k. typed (at_stmt c.args.x.now.declarator.name.from (declare k (option_map boxed_expr_view c.in_ok-init.init)))) (sym c.in_ok-number.ensures.number)
+    ∙ ap (λ i. typed (at_stmt c.args.x.now.declarator.name.from (declare c.in_ok-number.number i))) (sym c.unboxed.ensures))

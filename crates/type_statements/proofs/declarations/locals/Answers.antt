@@ -1,4 +1,3 @@
-use Rattle.std.proofs.Common.{refl}
 use Rattle.c_tree.specs.SyntaxViews as source
 use Rattle.c_tree.specs.TypedViews.{stmt_view}
 use Rattle.c_typing.specs.Statements.{judged_local, judged_locals}

@@ -6,4 +6,4 @@ use Rattle.type_statements.specs.Gathering.{each}
 use Rattle.type_statements.proofs.makers.if_else_made.Goals as goal
 
 pub returns : goal.returns
-returns c = subst (λ (s : Stmt). Gives (each stmt_view) c.alone.result (typed (s ∷ []))) c.in_ok-s.ensures c.alone.ensures
+returns c = subst (λ (s : Stmt). Gives (each stmt_view) c.alone.result (typed (s ∷ []))) c.if_otherwise.ensures c.alone.ensures

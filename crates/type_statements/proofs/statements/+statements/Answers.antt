@@ -1,13 +1,13 @@
-use Rattle.std.proofs.Common.{true, [], ◌∷◌, map, Option, Ok, ap, sym, ◌∙◌, arith}
+use Rattle.std.proofs.Common.{true, [], ◌∷◌, map, Option, ap, sym, ◌∙◌, arith}
 use Rattle.std.specs.Option.{option_map}
-use Rattle.std.specs.Prelude.{Vec}
+use Rattle.std.specs.Prelude.{Box, Vec}
 use Rattle.std.specs.declared.alloc.Global.{Global}
 use Rattle.c_tree.specs.declared.typed.Expr.{Expr as CodeExpr}
 use Rattle.c_tree.specs.declared.typed.Stmt.{Stmt as CodeStmt}
 use Rattle.c_tree.specs.Syntax.{stmts_of}
 use Rattle.c_tree.specs.SyntaxViews as source
 use Rattle.c_tree.specs.Typed.{at_stmt, block, if_, if_else, while_, for_}
-use Rattle.c_tree.specs.TypedViews.{type_view, expr_view, optional_expr_view, stmt_view}
+use Rattle.c_tree.specs.TypedViews.{type_view, boxed_expr_view, stmt_view, boxed_stmt_view}
 use Rattle.c_typing.specs.Faults.{typed}
 use Rattle.c_typing.specs.Judgement.{in_turn}
 use Rattle.c_typing.specs.Statements as rules
@@ -28,13 +28,13 @@ use Rattle.type_statements.proofs.statements.+statements.Goals as goal
 -- one statement
 pub one-returns-in_err-all : goal.one-returns-in_err-all
 one-returns-in_err-all t c =
-    err_passes (each stmt_view) stmt_view (judged_stmt (type_view c.args.t.now) c.args.in_loop (source.stmt_view c.args.s.now)) (λ d ss. typed (only ss)) (context_view c.args.context.now) c.stmt.new.context c.stmt.result c.in_err-all.field-0.0 c.from_residual.result
+    err_passes (each stmt_view) boxed_stmt_view (judged_stmt (type_view c.args.t.now) c.args.in_loop (source.stmt_view c.args.s.now)) (λ d ss. typed (only ss)) (context_view c.args.context.now) c.stmt.new.context c.stmt.result c.in_err-all.field-0.0 c.from_residual.result
     c.stmt.ensures c.in_err-all.was c.from_residual.ensures.1
 
 pub one-returns : goal.one-returns
 one-returns t c =
-    one_rules (each stmt_view) stmt_view (judged_stmt (type_view c.args.t.now) c.args.in_loop (source.stmt_view c.args.s.now)) (λ d ss. typed (only ss)) (context_view c.args.context.now) c.stmt.new.context c.stmt.result c.in_ok-all.all (Ok c.only.result)
-    c.stmt.ensures c.in_ok-all.was (ap typed (sym c.only.ensures))
+    one_rules (each stmt_view) boxed_stmt_view (judged_stmt (type_view c.args.t.now) c.args.in_loop (source.stmt_view c.args.s.now)) (λ d ss. typed (only ss)) (context_view c.args.context.now) c.stmt.new.context c.stmt.result c.in_ok-all.all _
+    c.stmt.ensures c.in_ok-all.was (ap typed (sym (ap stmt_view c.in_ok-new.ensures.ok ∙ c.only.ensures)))
 
 -- a block
 pub block-returns-in_err-enter : goal.block-returns-in_err-enter
@@ -63,13 +63,13 @@ block-returns t c =
 -- an if
 pub if_then-returns-in_err-test : goal.if_then-returns-in_err-test
 if_then-returns-in_err-test t c =
-    two_pass expr_view stmt_view (each stmt_view) (condition c.args.place (source.expr_view c.args.e.now)) (one_of (judged_stmt (type_view c.args.t.now) c.args.in_loop (source.stmt_view c.args.s.now))) (λ d p. typed (at_stmt c.args.place (if_ p.0 p.1) ∷ [])) (context_view c.args.context.now)
+    two_pass boxed_expr_view boxed_stmt_view (each stmt_view) (condition c.args.place (source.expr_view c.args.e.now)) (one_of (judged_stmt (type_view c.args.t.now) c.args.in_loop (source.stmt_view c.args.s.now))) (λ d p. typed (at_stmt c.args.place (if_ p.0 p.1) ∷ [])) (context_view c.args.context.now)
     c.condition-test.new.context c.one-then.new.context c.condition-test.result c.one-then.result c.both.result c.in_err-test.field-0.0 c.from_residual.result
     c.condition-test.ensures c.one-then.ensures c.both.ensures c.in_err-test.was c.from_residual.ensures.1
 
 pub if_then-returns : goal.if_then-returns
 if_then-returns t c =
-    two_rule expr_view stmt_view (each stmt_view) (condition c.args.place (source.expr_view c.args.e.now)) (one_of (judged_stmt (type_view c.args.t.now) c.args.in_loop (source.stmt_view c.args.s.now))) (λ d p. typed (at_stmt c.args.place (if_ p.0 p.1) ∷ [])) (context_view c.args.context.now)
+    two_rule boxed_expr_view boxed_stmt_view (each stmt_view) (condition c.args.place (source.expr_view c.args.e.now)) (one_of (judged_stmt (type_view c.args.t.now) c.args.in_loop (source.stmt_view c.args.s.now))) (λ d p. typed (at_stmt c.args.place (if_ p.0 p.1) ∷ [])) (context_view c.args.context.now)
     c.condition-test.new.context c.one-then.new.context c.condition-test.result c.one-then.result c.both.result (c.in_ok-test.test, c.in_ok-test.then) c.if_made.result
     c.condition-test.ensures c.one-then.ensures c.both.ensures c.in_ok-test.was c.if_made.ensures
 
@@ -79,9 +79,9 @@ if_else-returns-in_err-test t c =
     let j = condition c.args.place (source.expr_view c.args.e.now) in
     let s = one_of (judged_stmt (type_view c.args.t.now) c.args.in_loop (source.stmt_view c.args.s.now)) in
     let o = one_of (judged_stmt (type_view c.args.t.now) c.args.in_loop (source.stmt_view c.args.o.now)) in
-    err_passes (λ (z : CodeExpr × (CodeStmt × CodeStmt)). (expr_view z.0, (stmt_view z.1.0, stmt_view z.1.1))) (each stmt_view) (in_turn j (in_turn s o)) (λ d p. typed (at_stmt c.args.place (if_else p.0 p.1.0 p.1.1) ∷ [])) (context_view c.args.context.now)
+    err_passes (λ (z : Box CodeExpr Global × (Box CodeStmt Global × Box CodeStmt Global)). (boxed_expr_view z.0, (boxed_stmt_view z.1.0, boxed_stmt_view z.1.1))) (each stmt_view) (in_turn j (in_turn s o)) (λ d p. typed (at_stmt c.args.place (if_else p.0 p.1.0 p.1.1) ∷ [])) (context_view c.args.context.now)
     c.one-otherwise.new.context (joined c.condition-test.result (joined c.one-then.result c.one-otherwise.result)) c.in_err-test.field-0.0 c.from_residual.result
-    (three_told expr_view stmt_view stmt_view j s o (context_view c.args.context.now) c.condition-test.new.context c.one-then.new.context c.one-otherwise.new.context c.condition-test.result c.one-then.result c.one-otherwise.result
+    (three_told boxed_expr_view boxed_stmt_view boxed_stmt_view j s o (context_view c.args.context.now) c.condition-test.new.context c.one-then.new.context c.one-otherwise.new.context c.condition-test.result c.one-then.result c.one-otherwise.result
     c.condition-test.ensures c.one-then.ensures c.one-otherwise.ensures)
     (sym (c.both-2.ensures ∙ ap (joined c.condition-test.result) c.both.ensures) ∙ c.in_err-test.was) c.from_residual.ensures.1
 
@@ -90,22 +90,22 @@ if_else-returns t c =
     let j = condition c.args.place (source.expr_view c.args.e.now) in
     let s = one_of (judged_stmt (type_view c.args.t.now) c.args.in_loop (source.stmt_view c.args.s.now)) in
     let o = one_of (judged_stmt (type_view c.args.t.now) c.args.in_loop (source.stmt_view c.args.o.now)) in
-    ok_tells (λ (z : CodeExpr × (CodeStmt × CodeStmt)). (expr_view z.0, (stmt_view z.1.0, stmt_view z.1.1))) (each stmt_view) (in_turn j (in_turn s o)) (λ d p. typed (at_stmt c.args.place (if_else p.0 p.1.0 p.1.1) ∷ [])) (context_view c.args.context.now)
+    ok_tells (λ (z : Box CodeExpr Global × (Box CodeStmt Global × Box CodeStmt Global)). (boxed_expr_view z.0, (boxed_stmt_view z.1.0, boxed_stmt_view z.1.1))) (each stmt_view) (in_turn j (in_turn s o)) (λ d p. typed (at_stmt c.args.place (if_else p.0 p.1.0 p.1.1) ∷ [])) (context_view c.args.context.now)
     c.one-otherwise.new.context (joined c.condition-test.result (joined c.one-then.result c.one-otherwise.result)) (c.in_ok-test.test, (c.in_ok-test.then, c.in_ok-test.otherwise)) c.if_else_made.result
-    (three_told expr_view stmt_view stmt_view j s o (context_view c.args.context.now) c.condition-test.new.context c.one-then.new.context c.one-otherwise.new.context c.condition-test.result c.one-then.result c.one-otherwise.result
+    (three_told boxed_expr_view boxed_stmt_view boxed_stmt_view j s o (context_view c.args.context.now) c.condition-test.new.context c.one-then.new.context c.one-otherwise.new.context c.condition-test.result c.one-then.result c.one-otherwise.result
     c.condition-test.ensures c.one-then.ensures c.one-otherwise.ensures)
     (sym (c.both-2.ensures ∙ ap (joined c.condition-test.result) c.both.ensures) ∙ c.in_ok-test.was) c.if_else_made.ensures
 
 -- a while
 pub while_loop-returns-in_err-test : goal.while_loop-returns-in_err-test
 while_loop-returns-in_err-test t c =
-    two_pass expr_view stmt_view (each stmt_view) (condition c.args.place (source.expr_view c.args.e.now)) (one_of (judged_stmt (type_view c.args.t.now) true (source.stmt_view c.args.s.now))) (λ d p. typed (at_stmt c.args.place (while_ p.0 p.1) ∷ [])) (context_view c.args.context.now)
+    two_pass boxed_expr_view boxed_stmt_view (each stmt_view) (condition c.args.place (source.expr_view c.args.e.now)) (one_of (judged_stmt (type_view c.args.t.now) true (source.stmt_view c.args.s.now))) (λ d p. typed (at_stmt c.args.place (while_ p.0 p.1) ∷ [])) (context_view c.args.context.now)
     c.condition-test.new.context c.one-body.new.context c.condition-test.result c.one-body.result c.both.result c.in_err-test.field-0.0 c.from_residual.result
     c.condition-test.ensures c.one-body.ensures c.both.ensures c.in_err-test.was c.from_residual.ensures.1
 
 pub while_loop-returns : goal.while_loop-returns
 while_loop-returns t c =
-    two_rule expr_view stmt_view (each stmt_view) (condition c.args.place (source.expr_view c.args.e.now)) (one_of (judged_stmt (type_view c.args.t.now) true (source.stmt_view c.args.s.now))) (λ d p. typed (at_stmt c.args.place (while_ p.0 p.1) ∷ [])) (context_view c.args.context.now)
+    two_rule boxed_expr_view boxed_stmt_view (each stmt_view) (condition c.args.place (source.expr_view c.args.e.now)) (one_of (judged_stmt (type_view c.args.t.now) true (source.stmt_view c.args.s.now))) (λ d p. typed (at_stmt c.args.place (while_ p.0 p.1) ∷ [])) (context_view c.args.context.now)
     c.condition-test.new.context c.one-body.new.context c.condition-test.result c.one-body.result c.both.result (c.in_ok-test.test, c.in_ok-test.body) c.while_made.result
     c.condition-test.ensures c.one-body.ensures c.both.ensures c.in_ok-test.was c.while_made.ensures
 
@@ -117,10 +117,10 @@ for_inside-returns-in_err-header t c =
     let k = judged_condition place (option_map source.expr_view c.args.e.now) in
     let l = judged_step place (option_map source.simple_view c.args.last.now) in
     let m = one_of (judged_stmt (type_view c.args.t.now) true (source.stmt_view c.args.s.now)) in
-    err_passes (λ (z : Vec CodeStmt Global × (Option CodeExpr × (CodeStmt × CodeStmt))). (each stmt_view z.0, (optional_expr_view z.1.0, (stmt_view z.1.1.0, stmt_view z.1.1.1)))) stmt_view (in_turn j (in_turn k (in_turn l m)))
+    err_passes (λ (z : Vec CodeStmt Global × (Option (Box CodeExpr Global) × (Box CodeStmt Global × Box CodeStmt Global))). (each stmt_view z.0, (option_map boxed_expr_view z.1.0, (boxed_stmt_view z.1.1.0, boxed_stmt_view z.1.1.1)))) boxed_stmt_view (in_turn j (in_turn k (in_turn l m)))
     (λ d p. typed (headed place p.0 (λ f. at_stmt place (for_ f p.1.0 p.1.1.0 p.1.1.1)))) (context_view c.args.context.now)
     c.one-body.new.context (joined c.first-header.result (joined c.for_condition-test.result (joined c.for_step-step.result c.one-body.result))) c.in_err-header.field-0.0 c.from_residual.result
-    (four_told (each stmt_view) optional_expr_view stmt_view stmt_view j k l m (context_view c.args.context.now) c.first-header.new.context c.for_condition-test.new.context c.for_step-step.new.context c.one-body.new.context
+    (four_told (each stmt_view) (option_map boxed_expr_view) boxed_stmt_view boxed_stmt_view j k l m (context_view c.args.context.now) c.first-header.new.context c.for_condition-test.new.context c.for_step-step.new.context c.one-body.new.context
     c.first-header.result c.for_condition-test.result c.for_step-step.result c.one-body.result c.first-header.ensures c.for_condition-test.ensures c.for_step-step.ensures c.one-body.ensures)
     (sym (c.both-3.ensures ∙ ap (joined c.first-header.result) (c.both-2.ensures ∙ ap (joined c.for_condition-test.result) c.both.ensures)) ∙ c.in_err-header.was) c.from_residual.ensures.1
 
@@ -131,11 +131,11 @@ for_inside-returns t c =
     let k = judged_condition place (option_map source.expr_view c.args.e.now) in
     let l = judged_step place (option_map source.simple_view c.args.last.now) in
     let m = one_of (judged_stmt (type_view c.args.t.now) true (source.stmt_view c.args.s.now)) in
-    ok_tells (λ (z : Vec CodeStmt Global × (Option CodeExpr × (CodeStmt × CodeStmt))). (each stmt_view z.0, (optional_expr_view z.1.0, (stmt_view z.1.1.0, stmt_view z.1.1.1)))) stmt_view (in_turn j (in_turn k (in_turn l m)))
+    ok_tells (λ (z : Vec CodeStmt Global × (Option (Box CodeExpr Global) × (Box CodeStmt Global × Box CodeStmt Global))). (each stmt_view z.0, (option_map boxed_expr_view z.1.0, (boxed_stmt_view z.1.1.0, boxed_stmt_view z.1.1.1)))) boxed_stmt_view (in_turn j (in_turn k (in_turn l m)))
     (λ d p. typed (headed place p.0 (λ f. at_stmt place (for_ f p.1.0 p.1.1.0 p.1.1.1)))) (context_view c.args.context.now)
     c.one-body.new.context (joined c.first-header.result (joined c.for_condition-test.result (joined c.for_step-step.result c.one-body.result)))
     (c.in_ok-header.header, (c.in_ok-header.test, (c.in_ok-header.step, c.in_ok-header.body))) c.for_made.result
-    (four_told (each stmt_view) optional_expr_view stmt_view stmt_view j k l m (context_view c.args.context.now) c.first-header.new.context c.for_condition-test.new.context c.for_step-step.new.context c.one-body.new.context
+    (four_told (each stmt_view) (option_map boxed_expr_view) boxed_stmt_view boxed_stmt_view j k l m (context_view c.args.context.now) c.first-header.new.context c.for_condition-test.new.context c.for_step-step.new.context c.one-body.new.context
     c.first-header.result c.for_condition-test.result c.for_step-step.result c.one-body.result c.first-header.ensures c.for_condition-test.ensures c.for_step-step.ensures c.one-body.ensures)
     (sym (c.both-3.ensures ∙ ap (joined c.first-header.result) (c.both-2.ensures ∙ ap (joined c.for_condition-test.result) c.both.ensures)) ∙ c.in_ok-header.was) c.for_made.ensures
 
@@ -152,9 +152,9 @@ for_loop-returns-in_err-whole t c =
     let last = option_map source.simple_view c.args.last.now in
     let s = source.stmt_view c.args.s.now in
     let r = type_view c.args.t.now in
-    err_passes stmt_view (each stmt_view) (scoped (for_inside c.args.place r first e last s)) (λ d x. typed (x ∷ [])) (context_view c.args.context.now)
+    err_passes boxed_stmt_view (each stmt_view) (scoped (for_inside c.args.place r first e last s)) (λ d x. typed (x ∷ [])) (context_view c.args.context.now)
     c.leave.new.self c.for_inside-whole.result c.in_err-whole.field-0.0 c.from_residual-in_err-whole.result
-    (scope_tells stmt_view (for_inside c.args.place r first e last s) (context_view c.args.context.now) c.enter.new.self c.for_inside-whole.new.context c.leave.new.self c.for_inside-whole.result
+    (scope_tells boxed_stmt_view (for_inside c.args.place r first e last s) (context_view c.args.context.now) c.enter.new.self c.for_inside-whole.new.context c.leave.new.self c.for_inside-whole.result
     (entered c.enter.new.self (context_view c.args.context.now) c.new.result.entries c.in_ok-enter.ensures.after c.new.ensures.empty) c.for_inside-whole.ensures (for_around r c.args.place first e last s) c.leave.ensures.around)
     c.in_err-whole.was c.from_residual-in_err-whole.ensures.1
 
@@ -165,11 +165,11 @@ for_loop-returns t c =
     let last = option_map source.simple_view c.args.last.now in
     let s = source.stmt_view c.args.s.now in
     let r = type_view c.args.t.now in
-    one_rules stmt_view (each stmt_view) (scoped (for_inside c.args.place r first e last s)) (λ d x. typed (x ∷ [])) (context_view c.args.context.now)
+    one_rules boxed_stmt_view (each stmt_view) (scoped (for_inside c.args.place r first e last s)) (λ d x. typed (x ∷ [])) (context_view c.args.context.now)
     c.leave.new.self c.for_inside-whole.result c.in_ok-whole.whole c.alone.result
-    (scope_tells stmt_view (for_inside c.args.place r first e last s) (context_view c.args.context.now) c.enter.new.self c.for_inside-whole.new.context c.leave.new.self c.for_inside-whole.result
+    (scope_tells boxed_stmt_view (for_inside c.args.place r first e last s) (context_view c.args.context.now) c.enter.new.self c.for_inside-whole.new.context c.leave.new.self c.for_inside-whole.result
     (entered c.enter.new.self (context_view c.args.context.now) c.new.result.entries c.in_ok-enter.ensures.after c.new.ensures.empty) c.for_inside-whole.ensures (for_around r c.args.place first e last s) c.leave.ensures.around)
-    c.in_ok-whole.was c.alone.ensures
+    c.in_ok-whole.was (rw c.into_inner.ensures at c.alone.ensures)
 
 -- a statement, by what it is
 pub stmt-returns-in-Block : goal.stmt-returns-in-Block

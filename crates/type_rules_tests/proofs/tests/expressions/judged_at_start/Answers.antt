@@ -1,6 +1,6 @@
 use Rattle.std.proofs.Common.{subst}
 use Rattle.c_tree.specs.SyntaxViews as source
-use Rattle.c_tree.specs.TypedViews.{expr_view}
+use Rattle.c_tree.specs.TypedViews.{boxed_expr_view}
 use Rattle.c_typing.specs.Faults.{Gives}
 use Rattle.c_typing.specs.Judgement.{judged}
 use Rattle.c_typing.specs.Scope.{Context}
@@ -8,4 +8,4 @@ use Rattle.type_rules_tests.proofs.tests.expressions.judged_at_start.Goals as go
 
 pub returns : goal.returns
 returns c =
-    subst (λ (d : Context). Gives expr_view c.expression.result (judged (source.expr_view c.args.e.now) d).0) c.at_start-context.ensures c.expression.ensures.gives
+    subst (λ (d : Context). Gives boxed_expr_view c.expression.result (judged (source.expr_view c.args.e.now) d).0) c.at_start-context.ensures c.expression.ensures.gives
