@@ -104,6 +104,20 @@ behind_reads r q c ts a d us b e vs p h = rw p (rw h refl)
 pub pair_reads : {A B : Type 0} (r : Reads A) (q : Reads B) (c : ℕ) (ts : List Token) (a : A) (d : ℕ) (us : List Token) (b : B) (e : ℕ) (vs : List Token) → r c ts ≡ got a d us → q d us ≡ got b e vs → (r & q) c ts ≡ got (a, b) e vs
 pair_reads r q c ts a d us b e vs p h = rw p (rw h refl)
 
+-- the first part isn't read
+pub front_stops : {A B : Type 0} (r : Reads A) (q : A → Reads B) (c : ℕ) (ts : List Token) (e : Stop) → Fails e (r c ts) → Fails e (made (λ (_, b). b) (r ▸ q) c ts)
+front_stops r q c ts e = passes e (r c ts) (made (λ (_, b). b) (r ▸ q) c ts) (λ f h. rw h refl)
+
+pub pair_stops : {A B : Type 0} (r : Reads A) (q : Reads B) (c : ℕ) (ts : List Token) (e : Stop) → Fails e (r c ts) → Fails e ((r & q) c ts)
+pair_stops r q c ts e = passes e (r c ts) ((r & q) c ts) (λ f h. rw h refl)
+
+-- the part behind it isn't read
+pub behind_stops : {A B : Type 0} (r : Reads A) (q : A → Reads B) (c : ℕ) (ts : List Token) (a : A) (d : ℕ) (us : List Token) (e : Stop) → r c ts ≡ got a d us → Fails e (q a d us) → Fails e (made (λ (_, b). b) (r ▸ q) c ts)
+behind_stops r q c ts a d us e p = passes e (q a d us) (made (λ (_, b). b) (r ▸ q) c ts) (λ f h. rw p (rw h refl))
+
+pub second_stops : {A B : Type 0} (r : Reads A) (q : Reads B) (c : ℕ) (ts : List Token) (a : A) (d : ℕ) (us : List Token) (e : Stop) → r c ts ≡ got a d us → Fails e (q d us) → Fails e ((r & q) c ts)
+second_stops r q c ts a d us e p = passes e (q d us) ((r & q) c ts) (λ f h. rw p (rw h refl))
+
 -- links behind a part
 pub begins_behind : {A X : Type 0} (r : Reads A) (start : Sort → Bool) (link : A → Reads X) (join : A → X → A) (c : ℕ) (ts : List Token) (a : A) (d : ℕ) (us : List Token) → r c ts ≡ got a d us → Going start link join (chain r start link join c ts) a d us
 begins_behind r start link join c ts a d us p = record { turns_left = length us; enough = omega arith; same = rw p refl }

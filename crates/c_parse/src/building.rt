@@ -1,19 +1,46 @@
 //! Trees in boxes.
 
 ghost use Rattle.std.specs.Prelude.{◌≡◌, map};
+ghost use Rattle.std.specs.Option.{option_map};
 ghost use Rattle.c_tree.specs.Syntax as trees;
-ghost use Rattle.c_tree.specs.SyntaxViews.{expr_view, type_name_view, spec_view, declarator_view, member_view};
+ghost use Rattle.c_tree.specs.SyntaxViews.{expr_view, boxed_expr_view, type_name_view, spec_view, declarator_view, member_view, stmt_view, boxed_stmt_view};
 ghost use Rattle.c_parse.specs.inner.Moves.{Makes};
 
 use crate::parser::Stop;
-use c_tree::syntax::{BinaryOp, Declarator, Expr, Member, Name, Pointer, PrefixOp, Spec, TypeName};
+use c_tree::syntax::{
+    BinaryOp, Declarator, Expr, Member, Name, Pointer, PrefixOp, Spec, Stmt, TypeName,
+};
 use std::alloc::Global;
 
-/// `"(" expr ")"`
-pub fn group(alloc: Global, inside: Expr) -> Result<Expr, Stop>
-    ensures { Makes expr_view (trees.group (expr_view inside)) result }
+/// An expression in a box.
+pub fn boxed_expr(alloc: Global, expr: Expr) -> Result<Box<Expr>, Stop>
+    ensures { Makes boxed_expr_view (expr_view expr) result }
 {
-    Ok(Expr::Group(Box::new(alloc, inside)?))
+    Ok(Box::new(alloc, expr)?)
+}
+
+/// The expression in the box, if there is one.
+pub fn unboxed(expr: Option<Box<Expr>>) -> Option<Expr>
+    ensures { option_map expr_view result ≡ option_map boxed_expr_view expr }
+{
+    match expr {
+        Some(expr) => Some(Box::into_inner(expr)),
+        None => None,
+    }
+}
+
+/// A statement in a box.
+pub fn boxed_stmt(alloc: Global, stmt: Stmt) -> Result<Box<Stmt>, Stop>
+    ensures { Makes boxed_stmt_view (stmt_view stmt) result }
+{
+    Ok(Box::new(alloc, stmt)?)
+}
+
+/// `"(" expr ")"`
+pub fn group(alloc: Global, inside: Box<Expr>) -> Result<Box<Expr>, Stop>
+    ensures { Makes boxed_expr_view (trees.group (boxed_expr_view inside)) result }
+{
+    boxed_expr(alloc, Expr::Group(inside))
 }
 
 /// `specs ptr`
@@ -31,68 +58,69 @@ pub fn member_of(specs: Vec<Spec>, declarators: Vec<Declarator>) -> Member
 }
 
 /// A prefix operator and its operand.
-pub fn prefixed(alloc: Global, place: u32, op: PrefixOp, operand: Expr) -> Result<Expr, Stop>
-    ensures { Makes expr_view (trees.prefix place op (expr_view operand)) result }
+pub fn prefixed(
+    alloc: Global,
+    place: u32,
+    op: PrefixOp,
+    operand: Box<Expr>,
+) -> Result<Box<Expr>, Stop>
+    ensures { Makes boxed_expr_view (trees.prefix place op (boxed_expr_view operand)) result }
 {
-    Ok(Expr::Prefix {
-        place,
-        op,
-        operand: Box::new(alloc, operand)?,
-    })
+    boxed_expr(alloc, Expr::Prefix { place, op, operand })
 }
 
 /// `sizeof` and its operand.
-pub fn sizeof_expr(alloc: Global, place: u32, operand: Expr) -> Result<Expr, Stop>
-    ensures { Makes expr_view (trees.sizeof_expr place (expr_view operand)) result }
+pub fn sizeof_expr(alloc: Global, place: u32, operand: Box<Expr>) -> Result<Box<Expr>, Stop>
+    ensures { Makes boxed_expr_view (trees.sizeof_expr place (boxed_expr_view operand)) result }
 {
-    Ok(Expr::SizeofExpr {
-        place,
-        operand: Box::new(alloc, operand)?,
-    })
+    boxed_expr(alloc, Expr::SizeofExpr { place, operand })
 }
 
 /// A cast and its operand.
-pub fn cast(alloc: Global, place: u32, to: TypeName, operand: Expr) -> Result<Expr, Stop>
-    ensures { Makes expr_view (trees.cast place (type_name_view to) (expr_view operand)) result }
+pub fn cast(alloc: Global, place: u32, to: TypeName, operand: Box<Expr>) -> Result<Box<Expr>, Stop>
+    ensures { Makes boxed_expr_view (trees.cast place (type_name_view to) (boxed_expr_view operand)) result }
 {
-    Ok(Expr::Cast {
-        place,
-        to,
-        operand: Box::new(alloc, operand)?,
-    })
+    boxed_expr(alloc, Expr::Cast { place, to, operand })
 }
 
 /// `postfix "[" expr "]"`
-pub fn index(alloc: Global, place: u32, base: Expr, at: Expr) -> Result<Expr, Stop>
-    ensures { Makes expr_view (trees.index place (expr_view base) (expr_view at)) result }
+pub fn index(
+    alloc: Global,
+    place: u32,
+    base: Box<Expr>,
+    index: Box<Expr>,
+) -> Result<Box<Expr>, Stop>
+    ensures { Makes boxed_expr_view (trees.index place (boxed_expr_view base) (boxed_expr_view index)) result }
 {
-    let base = Box::new(alloc, base)?;
-    let index = Box::new(alloc, at)?;
-    Ok(Expr::Index { place, base, index })
+    boxed_expr(alloc, Expr::Index { place, base, index })
 }
 
 /// `postfix "." NAME`
-pub fn member(alloc: Global, place: u32, base: Expr, member: Name) -> Result<Expr, Stop>
-    ensures { Makes expr_view (trees.member place (expr_view base) member) result }
+pub fn member(alloc: Global, place: u32, base: Box<Expr>, member: Name) -> Result<Box<Expr>, Stop>
+    ensures { Makes boxed_expr_view (trees.member place (boxed_expr_view base) member) result }
 {
-    let base = Box::new(alloc, base)?;
-    Ok(Expr::Member {
-        place,
-        base,
-        member,
-    })
+    boxed_expr(
+        alloc,
+        Expr::Member {
+            place,
+            base,
+            member,
+        },
+    )
 }
 
 /// `postfix "->" NAME`
-pub fn arrow(alloc: Global, place: u32, base: Expr, member: Name) -> Result<Expr, Stop>
-    ensures { Makes expr_view (trees.arrow place (expr_view base) member) result }
+pub fn arrow(alloc: Global, place: u32, base: Box<Expr>, member: Name) -> Result<Box<Expr>, Stop>
+    ensures { Makes boxed_expr_view (trees.arrow place (boxed_expr_view base) member) result }
 {
-    let base = Box::new(alloc, base)?;
-    Ok(Expr::Arrow {
-        place,
-        base,
-        member,
-    })
+    boxed_expr(
+        alloc,
+        Expr::Arrow {
+            place,
+            base,
+            member,
+        },
+    )
 }
 
 /// A binary operator and its operands.
@@ -100,38 +128,39 @@ pub fn binary(
     alloc: Global,
     place: u32,
     op: BinaryOp,
-    left: Expr,
-    right: Expr,
-) -> Result<Expr, Stop>
-    ensures { Makes expr_view (trees.binary place op (expr_view left) (expr_view right)) result }
+    left: Box<Expr>,
+    right: Box<Expr>,
+) -> Result<Box<Expr>, Stop>
+    ensures { Makes boxed_expr_view (trees.binary place op (boxed_expr_view left) (boxed_expr_view right)) result }
 {
-    let left = Box::new(alloc, left)?;
-    let right = Box::new(alloc, right)?;
-    Ok(Expr::Binary {
-        place,
-        op,
-        left,
-        right,
-    })
+    boxed_expr(
+        alloc,
+        Expr::Binary {
+            place,
+            op,
+            left,
+            right,
+        },
+    )
 }
 
 /// `or "?" expr ":" expr`
 pub fn conditional(
     alloc: Global,
     place: u32,
-    condition: Expr,
-    then: Expr,
-    otherwise: Expr,
-) -> Result<Expr, Stop>
-    ensures { Makes expr_view (trees.conditional place (expr_view condition) (expr_view then) (expr_view otherwise)) result }
+    condition: Box<Expr>,
+    then: Box<Expr>,
+    otherwise: Box<Expr>,
+) -> Result<Box<Expr>, Stop>
+    ensures { Makes boxed_expr_view (trees.conditional place (boxed_expr_view condition) (boxed_expr_view then) (boxed_expr_view otherwise)) result }
 {
-    let condition = Box::new(alloc, condition)?;
-    let then = Box::new(alloc, then)?;
-    let otherwise = Box::new(alloc, otherwise)?;
-    Ok(Expr::Conditional {
-        place,
-        condition,
-        then,
-        otherwise,
-    })
+    boxed_expr(
+        alloc,
+        Expr::Conditional {
+            place,
+            condition,
+            then,
+            otherwise,
+        },
+    )
 }

@@ -2,7 +2,7 @@
 
 ghost use Rattle.std.specs.Prelude.{ℕ, ◌-◌, ◌<◌, [], ◌∷◌, map};
 ghost use Rattle.std.specs.Option.{option_map};
-ghost use Rattle.c_tree.specs.SyntaxViews.{expr_view, init_declarator_view, declaration_view};
+ghost use Rattle.c_tree.specs.SyntaxViews.{expr_view, boxed_expr_view, init_declarator_view, declaration_view};
 
 use crate::parser::{Parser, Stop};
 use c_lex::Mark;
@@ -15,8 +15,8 @@ impl Parser<'_> {
 
     /// `"=" expr`
     #[tactic(auto, unfolding(c_grammar::specs::inner::Reading::value))]
-    fn value(&mut self, room: u32, braces: bool) -> Result<Expr, Stop>
-        ensures reads { Moves expr_view (value room (level_at braces room)) self.old self.new result }
+    fn value(&mut self, room: u32, braces: bool) -> Result<Box<Expr>, Stop>
+        ensures reads { Moves boxed_expr_view (value room (level_at braces room)) self.old self.new result }
         ensures takes { Takes self.old self.new result }
     {
         self.expected(Mark::Assign, room)?;
@@ -33,7 +33,7 @@ impl Parser<'_> {
             return Ok(None);
         }
         let value = self.value(room, braces)?;
-        Ok(Some(value))
+        Ok(Some(Box::into_inner(value)))
     }
 
     /// `ptr NAME dims [ "=" expr ]`, behind specifiers.

@@ -1,10 +1,10 @@
 //! Expressions (C11 6.5), at the level that leaves so much room; braces of a struct may stand in their types or not.
 
 ghost use Rattle.std.specs.Prelude.{◌≡◌, ℕ, ◌-◌, ◌<◌, ◌≤◌, [], map};
-ghost use Rattle.c_tree.specs.SyntaxViews.{expr_view, type_name_view};
+ghost use Rattle.c_tree.specs.SyntaxViews.{expr_view, boxed_expr_view};
 
 use crate::building::{
-    arrow, binary, cast, conditional, group, index, member, prefixed, sizeof_expr,
+    arrow, binary, boxed_expr, cast, conditional, group, index, member, prefixed, sizeof_expr,
 };
 use crate::parser::{Parser, Stop};
 use crate::peeking::{OperandStart, PostStart, UnaryStart};
@@ -15,7 +15,7 @@ use c_tree::syntax::{Expr, Span, TypeName};
 #[derive(Drop)]
 pub enum Sized {
     Type(TypeName),
-    Expr(Expr),
+    Expr(Box<Expr>),
 }
 
 impl Parser<'_> {
@@ -28,8 +28,8 @@ impl Parser<'_> {
     /// expr
     #[cycle(expressions)]
     #[tactic(auto, using(crate::proofs::CodeLoops::chooses, crate::proofs::CodeLoops::choice_fails, crate::proofs::CodeLevels::expr_at, crate::proofs::CodeLevels::no_expr), unfolding(c_grammar::specs::inner::Reading::expr))]
-    pub fn expr(&mut self, room: u32, braces: bool) -> Result<Expr, Stop>
-        ensures reads { Moves expr_view (level_at braces room).expr self.old self.new result }
+    pub fn expr(&mut self, room: u32, braces: bool) -> Result<Box<Expr>, Stop>
+        ensures reads { Moves boxed_expr_view (level_at braces room).expr self.old self.new result }
         ensures takes { Takes self.old self.new result }
     {
         if room == 0 {
@@ -49,9 +49,9 @@ impl Parser<'_> {
     /// An expression of so many heights of binary operators.
     #[cycle(expressions)]
     #[tactic(auto, using(crate::proofs::CodeLoops::chooses, crate::proofs::CodeLoops::choice_fails), unfolding(c_grammar::specs::inner::Reading::ladder, c_grammar::specs::inner::Readers::turns))]
-    fn ladder(&mut self, heights: u32, room: u32, braces: bool) -> Result<Expr, Stop>
+    fn ladder(&mut self, heights: u32, room: u32, braces: bool) -> Result<Box<Expr>, Stop>
         requires { 0 < room }
-        ensures reads { Moves expr_view (ladder room (casted room (room - 1) (level_at braces (room - 1))) heights) self.old self.new result }
+        ensures reads { Moves boxed_expr_view (ladder room (casted room (room - 1) (level_at braces (room - 1))) heights) self.old self.new result }
         ensures takes { Takes self.old self.new result }
     {
         if heights == 0 {
@@ -70,9 +70,9 @@ impl Parser<'_> {
     /// cast, where there is room
     #[cycle(expressions)]
     #[tactic(auto, using(crate::proofs::CodeLoops::chooses, crate::proofs::CodeLoops::choice_fails), unfolding(c_grammar::specs::inner::Reading::casted))]
-    fn casted(&mut self, room: u32, braces: bool) -> Result<Expr, Stop>
+    fn casted(&mut self, room: u32, braces: bool) -> Result<Box<Expr>, Stop>
         requires { 0 < room }
-        ensures reads { Moves expr_view (casted room (room - 1) (level_at braces (room - 1))) self.old self.new result }
+        ensures reads { Moves boxed_expr_view (casted room (room - 1) (level_at braces (room - 1))) self.old self.new result }
         ensures takes { Takes self.old self.new result }
     {
         match self.unary_start()? {
@@ -87,8 +87,8 @@ impl Parser<'_> {
     /// cast
     #[cycle(expressions)]
     #[tactic(auto, using(crate::proofs::CodeLevels::cast_at, crate::proofs::CodeLevels::no_cast))]
-    fn cast(&mut self, room: u32, braces: bool) -> Result<Expr, Stop>
-        ensures reads { Moves expr_view (level_at braces room).cast self.old self.new result }
+    fn cast(&mut self, room: u32, braces: bool) -> Result<Box<Expr>, Stop>
+        ensures reads { Moves boxed_expr_view (level_at braces room).cast self.old self.new result }
         ensures takes { Takes self.old self.new result }
     {
         if room == 0 {
@@ -100,9 +100,9 @@ impl Parser<'_> {
     /// `specs ptr ")" cast | expr ")"` with postfix operators, behind the opening bracket at the place
     #[cycle(expressions)]
     #[tactic(auto, using(crate::proofs::CodeLoops::chooses, crate::proofs::CodeLoops::choice_fails), unfolding(c_grammar::specs::inner::Reading::paren_rest))]
-    fn paren_rest(&mut self, place: u32, room: u32, braces: bool) -> Result<Expr, Stop>
+    fn paren_rest(&mut self, place: u32, room: u32, braces: bool) -> Result<Box<Expr>, Stop>
         requires { 0 < room }
-        ensures reads { Moves expr_view (paren_rest room (room - 1) (level_at braces (room - 1)) place) self.old self.new result }
+        ensures reads { Moves boxed_expr_view (paren_rest room (room - 1) (level_at braces (room - 1)) place) self.old self.new result }
         ensures takes { Takes self.old self.new result }
     {
         if !self.is_type_next()? {
@@ -117,9 +117,9 @@ impl Parser<'_> {
     /// `expr ")"`, behind the opening bracket, with the postfix operators behind it
     #[cycle(expressions)]
     #[tactic(auto, unfolding(c_grammar::specs::inner::Reading::group_rest))]
-    fn group_rest(&mut self, room: u32, braces: bool) -> Result<Expr, Stop>
+    fn group_rest(&mut self, room: u32, braces: bool) -> Result<Box<Expr>, Stop>
         requires { 0 < room }
-        ensures reads { Moves expr_view (group_rest room (room - 1) (level_at braces (room - 1))) self.old self.new result }
+        ensures reads { Moves boxed_expr_view (group_rest room (room - 1) (level_at braces (room - 1))) self.old self.new result }
         ensures takes { Takes self.old self.new result }
     {
         let inside = self.expr(room - 1, braces)?;
@@ -131,9 +131,9 @@ impl Parser<'_> {
     /// Postfix operators behind a primary
     #[cycle(expressions)]
     #[tactic(auto, using(crate::proofs::CodeLoops::chooses, crate::proofs::CodeLoops::choice_fails), unfolding(c_grammar::specs::inner::Readers::turns))]
-    fn posted(&mut self, first: Expr, room: u32, braces: bool) -> Result<Expr, Stop>
+    fn posted(&mut self, first: Box<Expr>, room: u32, braces: bool) -> Result<Box<Expr>, Stop>
         requires { 0 < room }
-        ensures reads { Moves expr_view (links begins_post (λ _. post room (room - 1) (level_at braces (room - 1))) posted (expr_view first)) self.old self.new result }
+        ensures reads { Moves boxed_expr_view (links begins_post (λ _. post room (room - 1) (level_at braces (room - 1))) posted (boxed_expr_view first)) self.old self.new result }
         ensures keeps { Keeps self.old self.new result }
     {
         let mut base = first;
@@ -146,9 +146,9 @@ impl Parser<'_> {
     /// `"[" expr "]" | "." NAME | "->" NAME`, behind its base
     #[cycle(expressions)]
     #[tactic(auto, using(crate::proofs::CodeLoops::chooses, crate::proofs::CodeLoops::choice_fails), unfolding(c_grammar::specs::inner::Reading::post))]
-    fn post(&mut self, base: Expr, room: u32, braces: bool) -> Result<Expr, Stop>
+    fn post(&mut self, base: Box<Expr>, room: u32, braces: bool) -> Result<Box<Expr>, Stop>
         requires { 0 < room }
-        ensures reads { Moves expr_view (made (posted (expr_view base)) (post room (room - 1) (level_at braces (room - 1)))) self.old self.new result }
+        ensures reads { Moves boxed_expr_view (made (posted (boxed_expr_view base)) (post room (room - 1) (level_at braces (room - 1)))) self.old self.new result }
         ensures takes { Takes self.old self.new result }
     {
         match self.post_start()? {
@@ -174,9 +174,9 @@ impl Parser<'_> {
     /// What a unary expression is that begins so
     #[cycle(expressions)]
     #[tactic(auto, using(crate::proofs::CodeLoops::chooses, crate::proofs::CodeLoops::choice_fails))]
-    fn unary_by(&mut self, start: UnaryStart, room: u32, braces: bool) -> Result<Expr, Stop>
+    fn unary_by(&mut self, start: UnaryStart, room: u32, braces: bool) -> Result<Box<Expr>, Stop>
         requires { 0 < room }
-        ensures reads { Moves expr_view (unary_by room (room - 1) (level_at braces (room - 1)) (unary_view start)) self.old self.new result }
+        ensures reads { Moves boxed_expr_view (unary_by room (room - 1) (level_at braces (room - 1)) (unary_view start)) self.old self.new result }
         ensures takes { Takes self.old self.new result }
     {
         match start {
@@ -196,7 +196,7 @@ impl Parser<'_> {
             UnaryStart::Sizeof => {
                 let place = self.place_of_word(Word::Sizeof, room)?;
                 match self.sized(room - 1, braces)? {
-                    Sized::Type(of) => Ok(Expr::SizeofType { place, of }),
+                    Sized::Type(of) => boxed_expr(self.alloc, Expr::SizeofType { place, of }),
                     Sized::Expr(operand) => sizeof_expr(self.alloc, place, operand),
                 }
             }
@@ -231,35 +231,35 @@ impl Parser<'_> {
     /// A primary that isn't in brackets
     #[cycle(expressions)]
     #[tactic(auto, using(crate::proofs::CodeLoops::chooses, crate::proofs::CodeLoops::choice_fails), unfolding(c_grammar::specs::inner::Reading::operand, c_grammar::specs::inner::Reading::named, c_grammar::specs::inner::Reading::texts))]
-    fn operand(&mut self, room: u32, braces: bool) -> Result<Expr, Stop>
+    fn operand(&mut self, room: u32, braces: bool) -> Result<Box<Expr>, Stop>
         requires { 0 < room }
-        ensures reads { Moves expr_view (operand room (room - 1) (level_at braces (room - 1))) self.old self.new result }
+        ensures reads { Moves boxed_expr_view (operand room (room - 1) (level_at braces (room - 1))) self.old self.new result }
         ensures takes { Takes self.old self.new result }
     {
         match self.operand_start()? {
             OperandStart::Name => {
                 let callee = self.name(room)?;
                 if !self.is_next(Mark::OpenParen)? {
-                    return Ok(Expr::Name(callee));
+                    return boxed_expr(self.alloc, Expr::Name(callee));
                 }
                 let args = self.arguments(room, braces)?;
-                Ok(Expr::Call { callee, args })
+                boxed_expr(self.alloc, Expr::Call { callee, args })
             }
             OperandStart::Int => {
                 let (place, value) = self.int(room)?;
-                Ok(Expr::Int { place, value })
+                boxed_expr(self.alloc, Expr::Int { place, value })
             }
             OperandStart::Char => {
                 let (place, value) = self.char(room)?;
-                Ok(Expr::Char { place, value })
+                boxed_expr(self.alloc, Expr::Char { place, value })
             }
             OperandStart::Text => {
                 let parts = self.texts(room)?;
-                Ok(Expr::Text(parts))
+                boxed_expr(self.alloc, Expr::Text(parts))
             }
             OperandStart::Null => {
                 let place = self.place_of_word(Word::Null, room)?;
-                Ok(Expr::Null { place })
+                boxed_expr(self.alloc, Expr::Null { place })
             }
         }
     }
@@ -291,19 +291,19 @@ impl Parser<'_> {
         }
         let first = self.expr(room - 1, braces)?;
         let mut all = Vec::new(self.alloc);
-        all.push(first)?;
+        all.push(Box::into_inner(first))?;
         'exprs: while self.is_next(Mark::Comma)? {
             self.expected(Mark::Comma, room - 1)?;
             let more = self.expr(room - 1, braces)?;
-            all.push(more)?;
+            all.push(Box::into_inner(more))?;
         }
         Ok(all)
     }
 
     /// unary
     #[tactic(auto, using(crate::proofs::CodeLoops::chooses, crate::proofs::CodeLoops::choice_fails, crate::proofs::CodeLevels::unary_at, crate::proofs::CodeLevels::no_unary), unfolding(c_grammar::specs::inner::Reading::unary))]
-    fn unary(&mut self, room: u32, braces: bool) -> Result<Expr, Stop>
-        ensures reads { Moves expr_view (level_at braces room).unary self.old self.new result }
+    fn unary(&mut self, room: u32, braces: bool) -> Result<Box<Expr>, Stop>
+        ensures reads { Moves boxed_expr_view (level_at braces room).unary self.old self.new result }
         ensures takes { Takes self.old self.new result }
     {
         if room == 0 {
@@ -314,8 +314,8 @@ impl Parser<'_> {
     }
 
     /// expr, a full expression, whose operators are counted from none on
-    pub fn full_expr(&mut self, room: u32, braces: bool) -> Result<Expr, Stop>
-        ensures reads { Moves expr_view (full (level_at braces room).expr) self.old self.new result }
+    pub fn full_expr(&mut self, room: u32, braces: bool) -> Result<Box<Expr>, Stop>
+        ensures reads { Moves boxed_expr_view (full (level_at braces room).expr) self.old self.new result }
         ensures takes { Takes self.old self.new result }
     {
         let count = self.count;
@@ -326,8 +326,8 @@ impl Parser<'_> {
     }
 
     /// unary, a full expression
-    pub fn full_unary(&mut self, room: u32, braces: bool) -> Result<Expr, Stop>
-        ensures reads { Moves expr_view (full (level_at braces room).unary) self.old self.new result }
+    pub fn full_unary(&mut self, room: u32, braces: bool) -> Result<Box<Expr>, Stop>
+        ensures reads { Moves boxed_expr_view (full (level_at braces room).unary) self.old self.new result }
         ensures takes { Takes self.old self.new result }
     {
         let count = self.count;

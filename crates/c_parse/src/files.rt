@@ -4,6 +4,7 @@ ghost use Rattle.std.specs.Prelude.{◌≡◌, ℕ, ◌+◌, ◌^◌, ◌<◌, [
 ghost use Rattle.std.specs.Option.{option_map};
 ghost use Rattle.c_tree.specs.SyntaxViews.{spec_view, init_declarator_view, param_dim_view, param_view, body_view, rest_view, external_view, view};
 
+use crate::building::unboxed;
 use crate::parser::{Parser, Stop};
 use crate::pointers::stars;
 use c_lex::Mark;
@@ -36,7 +37,10 @@ impl Parser<'_> {
         let place = self.place_of_dimension(Mark::OpenBracket, before, INMOST)?;
         let size = self.maybe_expr(INMOST)?;
         let size = self.marked(size, Mark::CloseBracket, INMOST)?;
-        Ok(ParamDim { place, size })
+        Ok(ParamDim {
+            place,
+            size: unboxed(size),
+        })
     }
 
     /// `{ "[" [ expr ] "]" }`, behind so many stars

@@ -7,7 +7,7 @@ use c_lex::{Kind, Token};
 use std::alloc::{AllocError, AllocFailed, Global};
 
 /// Why a production isn't read.
-#[derive(Clone, Copy, Debug, PartialEq, Eq)]
+#[derive(Clone, Copy)]
 pub enum Stop {
     /// A token that may not stand here: so many tokens are left, it among them.
     Unexpected(usize),

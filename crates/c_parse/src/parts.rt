@@ -2,7 +2,7 @@
 
 ghost use Rattle.std.specs.Prelude.{◌≡◌, false, IfOk};
 ghost use Rattle.std.specs.Option.{option_map};
-ghost use Rattle.c_tree.specs.SyntaxViews.{expr_view};
+ghost use Rattle.c_tree.specs.SyntaxViews.{boxed_expr_view};
 
 use crate::parser::{Parser, Stop};
 use c_lex::Mark;
@@ -26,8 +26,8 @@ impl Parser<'_> {
 
     /// `[ expr ]`
     #[tactic(auto, using(crate::proofs::CodeLoops::chooses, crate::proofs::CodeLoops::choice_fails))]
-    pub fn maybe_expr(&mut self, room: u32) -> Result<Option<Expr>, Stop>
-        ensures reads { Moves (option_map expr_view) (maybe begins_expr (full (level_at false room).expr)) self.old self.new result }
+    pub fn maybe_expr(&mut self, room: u32) -> Result<Option<Box<Expr>>, Stop>
+        ensures reads { Moves (option_map boxed_expr_view) (maybe begins_expr (full (level_at false room).expr)) self.old self.new result }
         ensures keeps { Keeps self.old self.new result }
     {
         if !self.is_expr_next()? {

@@ -11,7 +11,7 @@ use c_lex::{Mark, TokenKind, Word};
 use c_tree::syntax::Pointer;
 
 /// What a primary that isn't in brackets begins with.
-#[derive(Clone, Copy, Debug, PartialEq, Eq)]
+#[derive(Clone, Copy)]
 pub enum OperandStart {
     Name,
     Int,
@@ -21,7 +21,7 @@ pub enum OperandStart {
 }
 
 /// What a postfix operator begins with.
-#[derive(Clone, Copy, Debug, PartialEq, Eq)]
+#[derive(Clone, Copy)]
 pub enum PostStart {
     Bracket,
     Dot,
@@ -29,7 +29,7 @@ pub enum PostStart {
 }
 
 /// What a unary expression begins with.
-#[derive(Clone, Copy, Debug, PartialEq, Eq)]
+#[derive(Clone, Copy)]
 pub enum UnaryStart {
     Primary,
     Paren,
@@ -38,7 +38,7 @@ pub enum UnaryStart {
 }
 
 /// What a specifier begins with.
-#[derive(Clone, Copy, Debug, PartialEq, Eq)]
+#[derive(Clone, Copy)]
 pub enum SpecStart {
     Word,
     Struct,

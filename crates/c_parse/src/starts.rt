@@ -11,7 +11,7 @@ use crate::parser::{Parser, Stop};
 use c_lex::{Mark, TokenKind, Word};
 
 /// What stands behind the expression of a simple statement.
-#[derive(Clone, Copy, Debug, PartialEq, Eq)]
+#[derive(Clone, Copy)]
 pub enum TailStart {
     Step,
     Assign,
@@ -19,7 +19,7 @@ pub enum TailStart {
 }
 
 /// What stands first between the brackets of a `for`.
-#[derive(Clone, Copy, Debug, PartialEq, Eq)]
+#[derive(Clone, Copy)]
 pub enum FirstStart {
     Declaration,
     Nothing,
@@ -27,7 +27,7 @@ pub enum FirstStart {
 }
 
 /// What a statement begins with.
-#[derive(Clone, Copy, Debug, PartialEq, Eq)]
+#[derive(Clone, Copy)]
 pub enum StmtStart {
     Block,
     Empty,

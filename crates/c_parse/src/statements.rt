@@ -1,10 +1,11 @@
 //! Statements (C11 6.8).
 
-ghost use Rattle.std.specs.Prelude.{◌≡◌, ℕ, ◌-◌, ◌<◌, ◌==◌, map, IfOk};
+ghost use Rattle.std.specs.Prelude.{◌≡◌, ℕ, ◌-◌, ◌<◌, ◌==◌, map};
 ghost use Rattle.std.specs.Option.{option_map};
-ghost use Rattle.c_tree.specs.SyntaxViews.{expr_view, simple_view, for_first_view, stmt_view};
+ghost use Rattle.c_tree.specs.SyntaxViews.{expr_view, boxed_expr_view, simple_view, for_first_view, stmt_view, boxed_stmt_view};
 ghost use Rattle.c_grammar.specs.Grammar.{rank};
 
+use crate::building::{boxed_stmt, unboxed};
 use crate::parser::{Parser, Stop};
 use crate::starts::{FirstStart, StmtStart, TailStart};
 use c_lex::{Mark, Word};
@@ -35,14 +36,18 @@ impl Parser<'_> {
 
     /// `assign expr | "++" | "--"` behind an expression, or nothing.
     #[tactic(auto, using(crate::proofs::CodeLoops::chooses, crate::proofs::CodeLoops::choice_fails))]
-    fn behind(&mut self, target: Expr, room: u32) -> Result<Simple, Stop>
-        ensures reads { Moves simple_view (behind room (expr_view target)) self.old self.new result }
+    fn behind(&mut self, target: Box<Expr>, room: u32) -> Result<Simple, Stop>
+        ensures reads { Moves simple_view (behind room (boxed_expr_view target)) self.old self.new result }
         ensures keeps { Keeps self.old self.new result }
     {
         match self.tail_start(is_postfix(&target))? {
             TailStart::Step => {
                 let (place, op) = self.step_op(room)?;
-                Ok(Simple::After { place, op, target })
+                Ok(Simple::After {
+                    place,
+                    op,
+                    target: Box::into_inner(target),
+                })
             }
             TailStart::Assign => {
                 let (place, op) = self.assign_op(room)?;
@@ -50,11 +55,11 @@ impl Parser<'_> {
                 Ok(Simple::Assign {
                     place,
                     op,
-                    target,
-                    value,
+                    target: Box::into_inner(target),
+                    value: Box::into_inner(value),
                 })
             }
-            TailStart::Nothing => Ok(Simple::Eval(target)),
+            TailStart::Nothing => Ok(Simple::Eval(Box::into_inner(target))),
         }
     }
 
@@ -85,7 +90,11 @@ impl Parser<'_> {
         }
         let (place, op) = self.step_op(room)?;
         let target = self.full_unary(room - 1, false)?;
-        Ok(Simple::Before { place, op, target })
+        Ok(Simple::Before {
+            place,
+            op,
+            target: Box::into_inner(target),
+        })
     }
 
     /// `[ simple ]`
@@ -103,8 +112,8 @@ impl Parser<'_> {
 
     /// `"(" expr ")"` behind a word.
     #[tactic(auto, unfolding(c_grammar::specs::inner::Reading::condition))]
-    fn condition(&mut self, room: u32) -> Result<Expr, Stop>
-        ensures reads { Moves expr_view (condition room) self.old self.new result }
+    fn condition(&mut self, room: u32) -> Result<Box<Expr>, Stop>
+        ensures reads { Moves boxed_expr_view (condition room) self.old self.new result }
         ensures takes { Takes self.old self.new result }
     {
         self.expected(Mark::OpenParen, room)?;
@@ -155,42 +164,40 @@ impl Parser<'_> {
     ghost use Rattle.c_parse.specs.inner.Moves.{Moves, Takes};
     ghost use Rattle.c_parse.specs.inner.Parts.{for_condition, for_step, for_head, head_view};
 
-    /// `[ expr ] ";"`, behind what was read.
-    fn for_condition<T: Drop>(&mut self, before: T, room: u32) -> Result<(T, Option<Expr>), Stop>
-        ensures reads { Moves (λ (_, e). option_map expr_view e) (for_condition room) self.old self.new result }
+    /// `[ expr ] ";"`
+    fn for_condition(&mut self, room: u32) -> Result<Option<Box<Expr>>, Stop>
+        ensures reads { Moves (option_map boxed_expr_view) (for_condition room) self.old self.new result }
         ensures takes { Takes self.old self.new result }
-        ensures same { IfOk result (λ (b, _). b ≡ before) }
     {
         let condition = self.maybe_expr(room)?;
-        let condition = self.marked(condition, Mark::Semicolon, room)?;
-        Ok((before, condition))
+        self.marked(condition, Mark::Semicolon, room)
     }
 
-    /// `[ simple ] ")"`, behind what was read.
-    fn for_step<T: Drop>(&mut self, before: T, room: u32) -> Result<(T, Option<Simple>), Stop>
-        ensures reads { Moves (λ (_, s). option_map simple_view s) (for_step room) self.old self.new result }
+    /// `[ simple ] ")"`
+    fn for_step(&mut self, room: u32) -> Result<Option<Simple>, Stop>
+        ensures reads { Moves (option_map simple_view) (for_step room) self.old self.new result }
         ensures takes { Takes self.old self.new result }
-        ensures same { IfOk result (λ (b, _). b ≡ before) }
     {
         let step = self.maybe_simple(room)?;
-        let step = self.marked(step, Mark::CloseParen, room)?;
-        Ok((before, step))
+        self.marked(step, Mark::CloseParen, room)
     }
 
     /// `"(" ( decl | [ simple ] ";" ) [ expr ] ";" [ simple ] ")"`
-    fn for_head(&mut self, room: u32) -> Result<ForHead, Stop>
-        ensures reads { Moves head_view (for_head room) self.old self.new result }
+    fn for_head(&mut self, room: u32) -> Result<Box<ForHead>, Stop>
+        ensures reads { Moves (λ h. head_view h.value) (for_head room) self.old self.new result }
         ensures takes { Takes self.old self.new result }
     {
         self.expected(Mark::OpenParen, room)?;
         let first = self.first(room)?;
-        let (first, condition) = self.for_condition(first, room)?;
-        let ((first, condition), step) = self.for_step((first, condition), room)?;
-        Ok(ForHead {
-            first,
-            condition,
+        let first = Box::new(self.alloc, first)?;
+        let condition = self.for_condition(room)?;
+        let step = self.for_step(room)?;
+        let head = ForHead {
+            first: Box::into_inner(first),
+            condition: unboxed(condition),
             step,
-        })
+        };
+        Ok(Box::new(self.alloc, head)?)
     }
 }
 
@@ -200,53 +207,59 @@ impl Parser<'_> {
     ghost use Rattle.c_parse.specs.inner.Parts.{empty_at, break_at, continue_at, return_at, simple_stmt_at};
 
     /// `";"`
-    fn empty(&mut self, room: u32) -> Result<Stmt, Stop>
-        ensures reads { Moves stmt_view (empty_at room) self.old self.new result }
+    fn empty(&mut self, room: u32) -> Result<Box<Stmt>, Stop>
+        ensures reads { Moves boxed_stmt_view (empty_at room) self.old self.new result }
         ensures takes { Takes self.old self.new result }
     {
         let place = self.place_of(Mark::Semicolon, room)?;
-        Ok(Stmt::Empty { place })
+        boxed_stmt(self.alloc, Stmt::Empty { place })
     }
 
     /// `"break" ";"`
-    fn break_off(&mut self, room: u32) -> Result<Stmt, Stop>
-        ensures reads { Moves stmt_view (break_at room) self.old self.new result }
+    fn break_off(&mut self, room: u32) -> Result<Box<Stmt>, Stop>
+        ensures reads { Moves boxed_stmt_view (break_at room) self.old self.new result }
         ensures takes { Takes self.old self.new result }
     {
         let place = self.place_of_word(Word::Break, room)?;
         self.expected(Mark::Semicolon, room)?;
-        Ok(Stmt::Break { place })
+        boxed_stmt(self.alloc, Stmt::Break { place })
     }
 
     /// `"continue" ";"`
-    fn go_on(&mut self, room: u32) -> Result<Stmt, Stop>
-        ensures reads { Moves stmt_view (continue_at room) self.old self.new result }
+    fn go_on(&mut self, room: u32) -> Result<Box<Stmt>, Stop>
+        ensures reads { Moves boxed_stmt_view (continue_at room) self.old self.new result }
         ensures takes { Takes self.old self.new result }
     {
         let place = self.place_of_word(Word::Continue, room)?;
         self.expected(Mark::Semicolon, room)?;
-        Ok(Stmt::Continue { place })
+        boxed_stmt(self.alloc, Stmt::Continue { place })
     }
 
     /// `"return" [ expr ] ";"`
-    fn return_back(&mut self, room: u32) -> Result<Stmt, Stop>
-        ensures reads { Moves stmt_view (return_at room) self.old self.new result }
+    fn return_back(&mut self, room: u32) -> Result<Box<Stmt>, Stop>
+        ensures reads { Moves boxed_stmt_view (return_at room) self.old self.new result }
         ensures takes { Takes self.old self.new result }
     {
         let place = self.place_of_word(Word::Return, room)?;
         let value = self.maybe_expr(room)?;
         let value = self.marked(value, Mark::Semicolon, room)?;
-        Ok(Stmt::Return { place, value })
+        boxed_stmt(
+            self.alloc,
+            Stmt::Return {
+                place,
+                value: unboxed(value),
+            },
+        )
     }
 
     /// `simple ";"`
-    fn simple_stmt(&mut self, room: u32) -> Result<Stmt, Stop>
-        ensures reads { Moves stmt_view (simple_stmt_at room) self.old self.new result }
+    fn simple_stmt(&mut self, room: u32) -> Result<Box<Stmt>, Stop>
+        ensures reads { Moves boxed_stmt_view (simple_stmt_at room) self.old self.new result }
         ensures takes { Takes self.old self.new result }
     {
         let simple = self.simply(room)?;
         let simple = self.marked(simple, Mark::Semicolon, room)?;
-        Ok(Stmt::Simple(simple))
+        boxed_stmt(self.alloc, Stmt::Simple(simple))
     }
 }
 
@@ -259,8 +272,8 @@ impl Parser<'_> {
     /// `stmt`
     #[cycle(statements)]
     #[tactic(auto, using(crate::proofs::CodeLoops::chooses, crate::proofs::CodeLoops::choice_fails, crate::proofs::CodeStatements::stmt_is, crate::proofs::CodeStatements::no_stmt))]
-    fn stmt(&mut self, room: u32) -> Result<Stmt, Stop>
-        ensures reads { Moves stmt_view (stmt_at room) self.old self.new result }
+    fn stmt(&mut self, room: u32) -> Result<Box<Stmt>, Stop>
+        ensures reads { Moves boxed_stmt_view (stmt_at room) self.old self.new result }
         ensures takes { Takes self.old self.new result }
     {
         if room == 0 {
@@ -282,15 +295,15 @@ impl Parser<'_> {
     /// `decl | stmt`
     #[cycle(statements)]
     #[tactic(auto, using(crate::proofs::CodeLoops::chooses, crate::proofs::CodeLoops::choice_fails))]
-    fn item(&mut self, room: u32) -> Result<Stmt, Stop>
-        ensures reads { Moves stmt_view (item_at room) self.old self.new result }
+    fn item(&mut self, room: u32) -> Result<Box<Stmt>, Stop>
+        ensures reads { Moves boxed_stmt_view (item_at room) self.old self.new result }
         ensures takes { Takes self.old self.new result }
     {
         if !self.is_type_next()? {
             return self.stmt(room);
         }
         let declaration = self.declaration(room)?;
-        Ok(Stmt::Declare(declaration))
+        boxed_stmt(self.alloc, Stmt::Declare(declaration))
     }
 
     /// `{ decl | stmt }`
@@ -303,7 +316,7 @@ impl Parser<'_> {
         let mut all = Vec::new(self.alloc);
         'items: while self.is_item_next()? {
             let item = self.item(room)?;
-            all.push(item)?;
+            all.push(Box::into_inner(item))?;
         }
         Ok(all)
     }
@@ -323,24 +336,13 @@ impl Parser<'_> {
 
     /// A `body` that is a statement.
     #[cycle(statements)]
-    fn block_stmt(&mut self, room: u32) -> Result<Stmt, Stop>
+    fn block_stmt(&mut self, room: u32) -> Result<Box<Stmt>, Stop>
         requires { 0 < room }
-        ensures reads { Moves stmt_view (stmt_by room (room - 1) (stmt_at (room - 1)) ABlock) self.old self.new result }
+        ensures reads { Moves boxed_stmt_view (stmt_by room (room - 1) (stmt_at (room - 1)) ABlock) self.old self.new result }
         ensures takes { Takes self.old self.new result }
     {
         let Block { place, items } = self.block(room - 1)?;
-        Ok(Stmt::Block { place, items })
-    }
-
-    /// A statement in another one.
-    #[cycle(statements)]
-    fn inner(&mut self, room: u32) -> Result<Box<Stmt>, Stop>
-        ensures reads { Moves (λ b. stmt_view b.value) (stmt_at room) self.old self.new result }
-        ensures takes { Takes self.old self.new result }
-    {
-        let stmt = self.stmt(room)?;
-        let inner = Box::new(self.alloc, stmt)?;
-        Ok(inner)
+        boxed_stmt(self.alloc, Stmt::Block { place, items })
     }
 
     /// `[ "else" stmt ]`
@@ -348,69 +350,83 @@ impl Parser<'_> {
     #[tactic(auto, using(crate::proofs::CodeLoops::chooses, crate::proofs::CodeLoops::choice_fails))]
     fn otherwise(&mut self, room: u32) -> Result<Option<Box<Stmt>>, Stop>
         requires { 0 < room }
-        ensures reads { Moves (option_map (λ b. stmt_view b.value)) (otherwise room (stmt_at (room - 1))) self.old self.new result }
+        ensures reads { Moves (option_map boxed_stmt_view) (otherwise room (stmt_at (room - 1))) self.old self.new result }
         ensures keeps { Keeps self.old self.new result }
     {
         if !self.is_word_next(Word::Else)? {
             return Ok(None);
         }
         self.expected_word(Word::Else, room)?;
-        let otherwise = self.inner(room - 1)?;
+        let otherwise = self.stmt(room - 1)?;
         Ok(Some(otherwise))
     }
 
     /// `"if" "(" expr ")" stmt [ "else" stmt ]`
     #[cycle(statements)]
-    fn if_stmt(&mut self, room: u32) -> Result<Stmt, Stop>
+    fn if_stmt(&mut self, room: u32) -> Result<Box<Stmt>, Stop>
         requires { 0 < room }
-        ensures reads { Moves stmt_view (stmt_by room (room - 1) (stmt_at (room - 1)) AnIf) self.old self.new result }
+        ensures reads { Moves boxed_stmt_view (stmt_by room (room - 1) (stmt_at (room - 1)) AnIf) self.old self.new result }
         ensures takes { Takes self.old self.new result }
     {
         let place = self.place_of_word(Word::If, room)?;
         let condition = self.condition(room - 1)?;
-        let then = self.inner(room - 1)?;
+        let then = self.stmt(room - 1)?;
         let otherwise = self.otherwise(room)?;
-        Ok(Stmt::If {
-            place,
-            condition,
-            then,
-            otherwise,
-        })
+        boxed_stmt(
+            self.alloc,
+            Stmt::If {
+                place,
+                condition: Box::into_inner(condition),
+                then,
+                otherwise,
+            },
+        )
     }
 
     /// `"while" "(" expr ")" stmt`
     #[cycle(statements)]
-    fn while_stmt(&mut self, room: u32) -> Result<Stmt, Stop>
+    fn while_stmt(&mut self, room: u32) -> Result<Box<Stmt>, Stop>
         requires { 0 < room }
-        ensures reads { Moves stmt_view (stmt_by room (room - 1) (stmt_at (room - 1)) AWhile) self.old self.new result }
+        ensures reads { Moves boxed_stmt_view (stmt_by room (room - 1) (stmt_at (room - 1)) AWhile) self.old self.new result }
         ensures takes { Takes self.old self.new result }
     {
         let place = self.place_of_word(Word::While, room)?;
         let condition = self.condition(room - 1)?;
-        let body = self.inner(room - 1)?;
-        Ok(Stmt::While {
-            place,
-            condition,
-            body,
-        })
+        let body = self.stmt(room - 1)?;
+        boxed_stmt(
+            self.alloc,
+            Stmt::While {
+                place,
+                condition: Box::into_inner(condition),
+                body,
+            },
+        )
     }
 
     /// `"for" "(" ( decl | [ simple ] ";" ) [ expr ] ";" [ simple ] ")" stmt`
     #[cycle(statements)]
-    fn for_stmt(&mut self, room: u32) -> Result<Stmt, Stop>
+    fn for_stmt(&mut self, room: u32) -> Result<Box<Stmt>, Stop>
         requires { 0 < room }
-        ensures reads { Moves stmt_view (stmt_by room (room - 1) (stmt_at (room - 1)) AFor) self.old self.new result }
+        ensures reads { Moves boxed_stmt_view (stmt_by room (room - 1) (stmt_at (room - 1)) AFor) self.old self.new result }
         ensures takes { Takes self.old self.new result }
     {
         let place = self.place_of_word(Word::For, room)?;
         let head = self.for_head(room - 1)?;
-        let body = self.inner(room - 1)?;
-        Ok(Stmt::For {
-            place,
-            first: head.first,
-            condition: head.condition,
-            step: head.step,
-            body,
-        })
+        let body = self.stmt(room - 1)?;
+        let ForHead {
+            first,
+            condition,
+            step,
+        } = Box::into_inner(head);
+        boxed_stmt(
+            self.alloc,
+            Stmt::For {
+                place,
+                first,
+                condition,
+                step,
+                body,
+            },
+        )
     }
 }

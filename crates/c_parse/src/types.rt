@@ -3,7 +3,7 @@
 ghost use Rattle.std.specs.Prelude.{◌≡◌, ℕ, ◌+◌, ◌-◌, ◌<◌, ◌≤◌, map, true, IfOk};
 ghost use Rattle.std.specs.Option.{option_map};
 ghost use Rattle.c_grammar.specs.Grammar.{stars};
-ghost use Rattle.c_tree.specs.SyntaxViews.{expr_view, type_name_view, spec_view, member_view, declarator_view};
+ghost use Rattle.c_tree.specs.SyntaxViews.{expr_view, boxed_expr_view, type_name_view, spec_view, member_view, declarator_view};
 
 use crate::building::{member_of, type_name_of};
 use crate::parser::{Parser, Stop};
@@ -207,7 +207,7 @@ impl Parser<'_> {
         'dims: while self.is_next(Mark::OpenBracket)? {
             let dim = self.dim(count, room, braces)?;
             count += 1;
-            all.push(dim)?;
+            all.push(Box::into_inner(dim))?;
         }
         Ok(all)
     }
@@ -215,9 +215,9 @@ impl Parser<'_> {
     /// `"[" expr "]"`, behind so many stars and dimensions
     #[cycle(expressions)]
     #[tactic(auto, unfolding(c_grammar::specs::inner::Reading::dim))]
-    fn dim(&mut self, before: usize, room: u32, braces: bool) -> Result<Expr, Stop>
+    fn dim(&mut self, before: usize, room: u32, braces: bool) -> Result<Box<Expr>, Stop>
         requires { 0 < room }
-        ensures reads { Moves expr_view (dim (room - 1) (level_at braces (room - 1)) before) self.old self.new result }
+        ensures reads { Moves boxed_expr_view (dim (room - 1) (level_at braces (room - 1)) before) self.old self.new result }
         ensures takes { Takes self.old self.new result }
         ensures few { IfOk result (λ _. before < 64) }
     {

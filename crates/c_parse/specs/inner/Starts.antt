@@ -7,7 +7,7 @@ use Rattle.c_parse.specs.declared.peeking.UnaryStart.{UnaryStart}
 use Rattle.c_parse.specs.declared.peeking.UnaryStart.TheVariants as unaries
 use Rattle.c_parse.specs.declared.peeking.SpecStart.{SpecStart}
 use Rattle.c_parse.specs.declared.peeking.SpecStart.TheVariants as specs
-use Rattle.c_tree.specs.SyntaxViews.{expr_view, type_name_view}
+use Rattle.c_tree.specs.SyntaxViews.{boxed_expr_view, type_name_view}
 use Rattle.c_parse.specs.declared.expressions.Sized.{Sized}
 use Rattle.c_parse.specs.declared.expressions.Sized.TheVariants as sizeds
 use Rattle.c_grammar.specs.inner.Reading as reading
@@ -41,4 +41,4 @@ spec_view specs.Struct = reading.StructWord
 -- the operand of sizeof that the code read, a type or an expression, as the readers have it
 abbrev pub sized_view : Sized → reading.Sized
 sized_view (sizeds.Type t) = reading.a_type (type_name_view t)
-sized_view (sizeds.Expr e) = reading.an_expr (expr_view e)
+sized_view (sizeds.Expr e) = reading.an_expr (boxed_expr_view e)

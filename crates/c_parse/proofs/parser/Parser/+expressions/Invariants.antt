@@ -1,7 +1,7 @@
 use Rattle.std.proofs.Common.{◌≡◌, ◌+◌, ◌-◌, ◌*◌, ◌<◌, ◌≤◌, [], map, length, true}
 use Rattle.c_lex.specs.declared.token.Mark.TheVariants.{Comma, OpenBracket}
 use Rattle.c_tree.specs.Syntax.{binary}
-use Rattle.c_tree.specs.SyntaxViews.{expr_view, spec_view, member_view, declarator_view}
+use Rattle.c_tree.specs.SyntaxViews.{expr_view, boxed_expr_view, spec_view, member_view, declarator_view}
 use Rattle.c_grammar.specs.inner.Readers.{◌&◌, made, links, nothing, row_from, pushed}
 use Rattle.c_grammar.specs.inner.Tokens.{tok, counted_tok, mark_is, is_mark, binary_of, is_binary, begins_type, begins_expr}
 use Rattle.c_grammar.specs.inner.Reading.{level_at, commas, either, post, posted, begins_post, casted, ladder, spec, specs, declared, bare_declared, dim, dims}
@@ -125,7 +125,7 @@ decreases-dims-dims l = length l.self.rest.now
 
 abbrev pub invariant-posted-posts : goal.invariant-posted-posts
 invariant-posted-posts l = record {
-  going : Going begins_post (λ _. post l.room (l.room - 1) (level_at l.braces (l.room - 1))) posted (links begins_post (λ _. post l.room (l.room - 1) (level_at l.braces (l.room - 1))) posted (expr_view l.fn.first) l.fn.self.count l.fn.self.rest.now) (expr_view l.base) l.self.count l.self.rest.now;
+  going : Going begins_post (λ _. post l.room (l.room - 1) (level_at l.braces (l.room - 1))) posted (links begins_post (λ _. post l.room (l.room - 1) (level_at l.braces (l.room - 1))) posted (boxed_expr_view l.fn.first) l.fn.self.count l.fn.self.rest.now) (boxed_expr_view l.base) l.self.count l.self.rest.now;
   keeps : length l.self.rest.now ≤ length l.fn.self.rest.now;
 }
 
@@ -134,7 +134,7 @@ decreases-posted-posts l = length l.self.rest.now
 
 abbrev pub invariant-ladder-operators : goal.invariant-ladder-operators
 invariant-ladder-operators l = record {
-  going : Going (is_binary (l.heights - 1)) (λ _. counted_tok l.room (binary_of (l.heights - 1)) & ladder l.room (casted l.room (l.room - 1) (level_at l.braces (l.room - 1))) (l.heights - 1)) (λ a ((place, op), b). binary place op a b) (ladder l.room (casted l.room (l.room - 1) (level_at l.braces (l.room - 1))) l.heights l.fn.self.count l.fn.self.rest.now) (expr_view l.left) l.self.count l.self.rest.now;
+  going : Going (is_binary (l.heights - 1)) (λ _. counted_tok l.room (binary_of (l.heights - 1)) & ladder l.room (casted l.room (l.room - 1) (level_at l.braces (l.room - 1))) (l.heights - 1)) (λ a ((place, op), b). binary place op a b) (ladder l.room (casted l.room (l.room - 1) (level_at l.braces (l.room - 1))) l.heights l.fn.self.count l.fn.self.rest.now) (boxed_expr_view l.left) l.self.count l.self.rest.now;
   takes : length l.self.rest.now < length l.fn.self.rest.now;
 }
 

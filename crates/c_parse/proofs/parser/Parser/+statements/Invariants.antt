@@ -12,9 +12,6 @@ decreases-stmt l = l.room * 8 + 3
 abbrev pub decreases-block_stmt : goal.decreases-block_stmt
 decreases-block_stmt l = l.room * 8 + 2
 
-abbrev pub decreases-inner : goal.decreases-inner
-decreases-inner l = l.room * 8 + 4
-
 abbrev pub decreases-if_stmt : goal.decreases-if_stmt
 decreases-if_stmt l = l.room * 8 + 2
 

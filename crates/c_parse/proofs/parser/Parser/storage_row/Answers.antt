@@ -1,5 +1,7 @@
-use Rattle.std.proofs.Common.{arith}
-use Rattle.c_parse.proofs.CodeLoops.{goes}
+use Rattle.std.proofs.Common.{[], arith}
+use Rattle.c_grammar.specs.inner.Readers.{pushed}
+use Rattle.c_grammar.specs.inner.Tokens.{tok, storage_of, is_storage}
+use Rattle.c_parse.proofs.CodeLoops.{begins, goes}
 use Rattle.c_parse.proofs.parser.Parser.storage_row.Goals as goal
 
 pub storages-preserved : goal.storages-preserved
@@ -9,3 +11,9 @@ storages-preserved c =
       going = rw c.in_ok-push.ensures.items (goes _ _ _ _ _ _ _ _ _ _ c.storages.invariant.going open_ c.in_ok-storage.ensures.reads c.in_ok-storage.ensures.takes);
       keeps = omega (arith, c.in_ok-storage.ensures.takes, c.storages.invariant.keeps);
     }
+
+pub storages-init : goal.storages-init
+storages-init c = record {
+  going = rw c.new-all.ensures.items (begins is_storage (λ _. tok 129 storage_of) pushed [] c.args.self.now.count c.args.self.now.rest.now);
+  keeps = omega arith;
+}
