@@ -19,49 +19,32 @@ use Rattle.lower_forms.specs.Programs.{homes_from, next_home, objects_of, frame_
 use Rattle.ir_lower.proofs.Views.{call_view, lib_call_view, block_view}
 
 module _ (F : Frame) where
-  pub call_done : (e : Expr) (fn : ℕ) (v : Vec Expr) (t : ℕ) (o0 o1 o2 o3 : List Node) (d1 d2 : List Expr) (temps : List ℕ) → e.node ≡ expr_views.Call fn v → d1 ≡ v.items → d2 ≡ v.items
-      → temps ≡ temps_of (exprs_of (map expr_view d2)) t
-      → ((r : Nodes) → followed o1 r ≡ followed o0 (args_nodes F (exprs_of (map expr_view d1)) t r))
-      → ((r : Nodes) → followed o2 r ≡ followed o1 (calls e.place (Some t) fn temps r))
-      → ((r : Nodes) → followed o3 r ≡ followed o2 (sets e.place t (copy t) r))
-      → (r : Nodes) → followed o3 r ≡ followed o0 (expr_nodes F (expr_view e) t r)
-  call_done e fn v t o0 o1 o2 o3 d1 d2 temps is e1 e2 et h1 h2 h3 r =
-      let whole : temps ≡ temps_of (exprs_of (map expr_view v.items)) t = et ∙ ap (λ d. temps_of (exprs_of (map expr_view d)) t) e2 in
-      h3 r ∙ h2 (sets e.place t (copy t) r) ∙ h1 (calls e.place (Some t) fn temps (sets e.place t (copy t) r))
-      ∙ (λ i. followed o0 (args_nodes F (exprs_of (map expr_view (e1 i))) t (calls e.place (Some t) fn (whole i) (sets e.place t (copy t) r))))
+  pub call_done : (e : Expr) (fn : ℕ) (v : Vec Expr) (t : ℕ) (o0 o1 : List Node) (d : List Expr) → e.node ≡ expr_views.Call fn v → d ≡ v.items
+      → ((r : Nodes) → followed o1 r ≡ followed o0 (args_nodes F (exprs_of (map expr_view d)) t (calls e.place (Some t) fn (temps_of (exprs_of (map expr_view d)) t) (sets e.place t (copy t) r))))
+      → (r : Nodes) → followed o1 r ≡ followed o0 (expr_nodes F (expr_view e) t r)
+  call_done e fn v t o0 o1 d is i h r =
+      h r ∙ ap (λ l. followed o0 (args_nodes F (exprs_of (map expr_view l)) t (calls e.place (Some t) fn (temps_of (exprs_of (map expr_view l)) t) (sets e.place t (copy t) r)))) i
       ∙ ap (λ n. followed o0 (value_nodes F e.place (type_view e.ty) n t r)) (sym (ap expr_node_view is ∙ call_view fn v))
 
-  pub call_dropped : (e : Expr) (fn : ℕ) (v : Vec Expr) (t : ℕ) (o0 o1 o2 : List Node) (d1 d2 : List Expr) (temps : List ℕ) → e.node ≡ expr_views.Call fn v → d1 ≡ v.items → d2 ≡ v.items
-      → temps ≡ temps_of (exprs_of (map expr_view d2)) t
-      → ((r : Nodes) → followed o1 r ≡ followed o0 (args_nodes F (exprs_of (map expr_view d1)) t r))
-      → ((r : Nodes) → followed o2 r ≡ followed o1 (calls e.place None fn temps r))
-      → (r : Nodes) → followed o2 r ≡ followed o0 (dropped_nodes F (expr_view e) t r)
-  call_dropped e fn v t o0 o1 o2 d1 d2 temps is e1 e2 et h1 h2 r =
-      let whole : temps ≡ temps_of (exprs_of (map expr_view v.items)) t = et ∙ ap (λ d. temps_of (exprs_of (map expr_view d)) t) e2 in
-      h2 r ∙ h1 (calls e.place None fn temps r)
-      ∙ (λ i. followed o0 (args_nodes F (exprs_of (map expr_view (e1 i))) t (calls e.place None fn (whole i) r)))
+  pub call_dropped : (e : Expr) (fn : ℕ) (v : Vec Expr) (t : ℕ) (o0 o1 : List Node) (d : List Expr) → e.node ≡ expr_views.Call fn v → d ≡ v.items
+      → ((r : Nodes) → followed o1 r ≡ followed o0 (args_nodes F (exprs_of (map expr_view d)) t (calls e.place None fn (temps_of (exprs_of (map expr_view d)) t) r)))
+      → (r : Nodes) → followed o1 r ≡ followed o0 (dropped_nodes F (expr_view e) t r)
+  call_dropped e fn v t o0 o1 d is i h r =
+      h r ∙ ap (λ l. followed o0 (args_nodes F (exprs_of (map expr_view l)) t (calls e.place None fn (temps_of (exprs_of (map expr_view l)) t) r))) i
       ∙ ap (λ n. followed o0 (dropped_value F e.place (type_view e.ty) n t r)) (sym (ap expr_node_view is ∙ call_view fn v))
 
-  pub lib_done : (e : Expr) (lib : Lib) (v : Vec Expr) (t : ℕ) (o0 o1 o2 : List Node) (d1 d2 : List Expr) → e.node ≡ expr_views.Lib lib v → d1 ≡ v.items → d2 ≡ v.items
-      → ((r : Nodes) → followed o1 r ≡ followed o0 (args_nodes F (exprs_of (map expr_view d1)) t r))
-      → ((r : Nodes) → followed o2 r ≡ followed o1 (lib_nodes e.place (lib_view lib) (exprs_of (map expr_view d2)) t r))
-      → (r : Nodes) → followed o2 r ≡ followed o0 (expr_nodes F (expr_view e) t r)
-  lib_done e lib v t o0 o1 o2 d1 d2 is e1 e2 h1 h2 r =
-      h2 r ∙ h1 (lib_nodes e.place (lib_view lib) (exprs_of (map expr_view d2)) t r)
-      ∙ (λ i. followed o0 (args_nodes F (exprs_of (map expr_view (e1 i))) t (lib_nodes e.place (lib_view lib) (exprs_of (map expr_view (e2 i))) t r)))
+  pub lib_done : (e : Expr) (lib : Lib) (v : Vec Expr) (t : ℕ) (o0 o1 : List Node) (d : List Expr) → e.node ≡ expr_views.Lib lib v → d ≡ v.items
+      → ((r : Nodes) → followed o1 r ≡ followed o0 (args_nodes F (exprs_of (map expr_view d)) t (lib_nodes e.place (lib_view lib) (exprs_of (map expr_view d)) t r)))
+      → (r : Nodes) → followed o1 r ≡ followed o0 (expr_nodes F (expr_view e) t r)
+  lib_done e lib v t o0 o1 d is i h r =
+      h r ∙ ap (λ l. followed o0 (args_nodes F (exprs_of (map expr_view l)) t (lib_nodes e.place (lib_view lib) (exprs_of (map expr_view l)) t r))) i
       ∙ ap (λ n. followed o0 (value_nodes F e.place (type_view e.ty) n t r)) (sym (ap expr_node_view is ∙ lib_call_view lib v))
 
-  pub block_done : (place : ℕ) (node : StmtNode) (v : Vec Stmt) (left own inner d_own d_inner d_ends : List ℕ) (o0 o1 o2 : List Node) (d1 d2 : List Stmt) → node ≡ stmt_views.Block v
-      → d1 ≡ v.items → own ≡ objects_in F (stmts_of (map stmt_view d1)) → d_own ≡ own → inner ≡ d_own ++ left → d2 ≡ v.items → d_inner ≡ inner → d_ends ≡ own
-      → ((r : Nodes) → followed o1 r ≡ followed o0 (row_nodes F (stmts_of (map stmt_view d2)) d_inner r))
-      → ((r : Nodes) → followed o2 r ≡ followed o1 (ends place d_ends r))
-      → (r : Nodes) → followed o2 r ≡ followed o0 (form_nodes F place (stmt_node_view node) left r)
-  block_done place node v left own inner d_own d_inner d_ends o0 o1 o2 d1 d2 is e1 eo e2 ei e3 e4 e5 h1 h2 r =
-      let whole : own ≡ objects_in F (stmts_of (map stmt_view v.items)) = eo ∙ ap (λ d. objects_in F (stmts_of (map stmt_view d))) e1 in
-      let ending : d_ends ≡ objects_in F (stmts_of (map stmt_view v.items)) = e5 ∙ whole in
-      let around : d_inner ≡ objects_in F (stmts_of (map stmt_view v.items)) ++ left = e4 ∙ (ei ∙ ap (λ o. o ++ left) (e2 ∙ whole)) in
-      h2 r ∙ h1 (ends place d_ends r)
-      ∙ (λ i. followed o0 (row_nodes F (stmts_of (map stmt_view (e3 i))) (around i) (ends place (ending i) r)))
+  pub block_done : (place : ℕ) (node : StmtNode) (v : Vec Stmt) (left : List ℕ) (o0 o1 : List Node) (d : List Stmt) → node ≡ stmt_views.Block v → d ≡ v.items
+      → ((r : Nodes) → followed o1 r ≡ followed o0 (row_nodes F (stmts_of (map stmt_view d)) (objects_in F (stmts_of (map stmt_view d)) ++ left) (ends place (objects_in F (stmts_of (map stmt_view d))) r)))
+      → (r : Nodes) → followed o1 r ≡ followed o0 (form_nodes F place (stmt_node_view node) left r)
+  block_done place node v left o0 o1 d is e h r =
+      h r ∙ ap (λ l. followed o0 (row_nodes F (stmts_of (map stmt_view l)) (objects_in F (stmts_of (map stmt_view l)) ++ left) (ends place (objects_in F (stmts_of (map stmt_view l))) r))) e
       ∙ ap (λ n. followed o0 (form_nodes F place n left r)) (sym (ap stmt_node_view is ∙ block_view v))
 
 -- the condition of a loop

@@ -1,15 +1,16 @@
 -- The views of rows, and rows that are made.
-use Rattle.std.proofs.Common.{◌≡◌, ℕ, map, Result, Ok, Err, OnOk, IfOk, refl, ap, rules}
+use Rattle.std.proofs.Common.{◌≡◌, ℕ, List, map, Result, Ok, Err, OnOk, IfOk, refl, sym, ap, ◌∙◌, rules}
 use Rattle.std.specs.Global.{Vec}
 use Rattle.c_tree.specs.declared.typed.Expr.{Expr}
-use Rattle.c_tree.specs.declared.typed.ExprNode.{Row_of-Expr, end_of-Expr, more_of-Expr, items-the_row-Expr}
+use Rattle.c_tree.specs.declared.typed.ExprNode.{ExprNode, Row_of-Expr, end_of-Expr, more_of-Expr, items-the_row-Expr, items_hidden-the_row-Expr-0}
 use Rattle.c_tree.specs.declared.typed.ExprNode.TheViews as expr_views
 use Rattle.c_tree.specs.declared.typed.Lib.{Lib}
 use Rattle.c_tree.specs.declared.typed.Stmt.{Stmt}
-use Rattle.c_tree.specs.declared.typed.StmtNode.{Row_of-Stmt, end_of-Stmt, more_of-Stmt, items-the_row-Stmt}
+use Rattle.c_tree.specs.declared.typed.StmtNode.{StmtNode, Row_of-Stmt, end_of-Stmt, more_of-Stmt, items-the_row-Stmt, items_hidden-the_row-Stmt-0}
 use Rattle.c_tree.specs.declared.typed.StmtNode.TheViews as stmt_views
 use Rattle.c_tree.specs.Typed as trees
 use Rattle.c_tree.specs.TypedViews.{type_view, expr_view, expr_node_view, expr_row_view, exprs_of, lib_view, stmt_view, stmt_node_view, stmt_row_view, stmts_of}
+use Rattle.lower_forms.specs.Counts.{count_parts, count_all, greatest_in, greatest_row}
 
 pub on_ok_map : {A B : Type 0} (P Q : Type 0) (r : Result A B) → (P → Q) → OnOk r P → OnOk r Q
 on_ok_map P Q (Ok x) f h = f h
@@ -24,14 +25,25 @@ args_view _ end_of-Expr = refl
 args_view _ (more_of-Expr place ty node rest) = ap (trees.more_exprs (trees.at place (type_view ty) (expr_node_view node))) (args_view _ rest)
 
 pub call_view : (f : ℕ) (v : Vec Expr) → expr_node_view (expr_views.Call f v) ≡ trees.call f (exprs_of (map expr_view v.items))
-call_view f v = search (rules, expr_views.the_lemmas, args_view)
+call_view f v = search (rules, items_hidden-the_row-Expr-0, args_view)
 
 pub lib_call_view : (lib : Lib) (v : Vec Expr) → expr_node_view (expr_views.Lib lib v) ≡ trees.lib (lib_view lib) (exprs_of (map expr_view v.items))
-lib_call_view lib v = search (rules, expr_views.the_lemmas, args_view)
+lib_call_view lib v = search (rules, items_hidden-the_row-Expr-0, args_view)
 
 pub row_view : (n : _) (k : Row_of-Stmt n) → stmt_row_view k ≡ stmts_of (map stmt_view (items-the_row-Stmt n k))
 row_view _ end_of-Stmt = refl
 row_view _ (more_of-Stmt place node rest) = ap (trees.more_stmts (trees.at_stmt place (stmt_node_view node))) (row_view _ rest)
 
 pub block_view : (v : Vec Stmt) → stmt_node_view (stmt_views.Block v) ≡ trees.block (stmts_of (map stmt_view v.items))
-block_view v = search (rules, stmt_views.the_lemmas, row_view)
+block_view v = search (rules, items_hidden-the_row-Stmt-0, row_view)
+
+-- ---- counts of rows
+
+pub call_counted : (node : ExprNode) (f : ℕ) (v : Vec Expr) (d : List Expr) (n : ℕ) → node ≡ expr_views.Call f v → d ≡ v.items → n ≡ count_all (exprs_of (map expr_view d)) → n ≡ count_parts (expr_node_view node)
+call_counted node f v d n is e h = h ∙ ap (λ l. count_all (exprs_of (map expr_view l))) e ∙ ap count_parts (sym (ap expr_node_view is ∙ call_view f v))
+
+pub lib_call_counted : (node : ExprNode) (lib : Lib) (v : Vec Expr) (d : List Expr) (n : ℕ) → node ≡ expr_views.Lib lib v → d ≡ v.items → n ≡ count_all (exprs_of (map expr_view d)) → n ≡ count_parts (expr_node_view node)
+lib_call_counted node lib v d n is e h = h ∙ ap (λ l. count_all (exprs_of (map expr_view l))) e ∙ ap count_parts (sym (ap expr_node_view is ∙ lib_call_view lib v))
+
+pub block_counted : (node : StmtNode) (v : Vec Stmt) (d : List Stmt) (n : ℕ) → node ≡ stmt_views.Block v → d ≡ v.items → n ≡ greatest_row (stmts_of (map stmt_view d)) → n ≡ greatest_in (stmt_node_view node)
+block_counted node v d n is e h = h ∙ ap (λ l. greatest_row (stmts_of (map stmt_view l))) e ∙ ap greatest_in (sym (ap stmt_node_view is ∙ block_view v))

@@ -1,6 +1,6 @@
 //! How large an expression is.
 
-ghost use Rattle.std.specs.Prelude.{◌≡◌, ◌+◌, suc, IfOk, map};
+ghost use Rattle.std.specs.Prelude.{◌≡◌, ◌+◌, suc, max, IfOk, map};
 ghost use Rattle.c_tree.specs.TypedViews.{expr_view, expr_node_view, exprs_of, optional_expr_view, stmt_view, stmt_node_view, stmts_of};
 ghost use Rattle.lower_forms.specs.Counts.{count, count_parts, count_all, count_if, greatest, greatest_in, greatest_row};
 
@@ -49,11 +49,25 @@ fn count_parts(node: &ExprNode) -> Result<u32, NoMemory>
         | ExprNode::PtrAdd(a, b)
         | ExprNode::PtrSub(a, b)
         | ExprNode::PtrDiff(a, b)
-        | ExprNode::PtrCompare(_, a, b) => sum(count(a)?, count(b)?),
-        ExprNode::Choose(c, a, b) => sum(sum(count(c)?, count(a)?)?, count(b)?),
+        | ExprNode::PtrCompare(_, a, b) => count_two(a, b),
+        ExprNode::Choose(c, a, b) => count_three(c, a, b),
         ExprNode::Call(_, args) => count_all(args),
         ExprNode::Lib(_, args) => count_all(args),
     }
+}
+
+#[cycle(counts)]
+fn count_two(a: &Expr, b: &Expr) -> Result<u32, NoMemory>
+    ensures { IfOk result (λ n. n ≡ count (expr_view a.now) + count (expr_view b.now)) }
+{
+    sum(count(a)?, count(b)?)
+}
+
+#[cycle(counts)]
+fn count_three(a: &Expr, b: &Expr, c: &Expr) -> Result<u32, NoMemory>
+    ensures { IfOk result (λ n. n ≡ count (expr_view a.now) + count (expr_view b.now) + count (expr_view c.now)) }
+{
+    sum(count_two(a, b)?, count(c)?)
 }
 
 #[cycle(counts)]
@@ -80,7 +94,7 @@ fn count_if(e: &Option<Expr>) -> Result<u32, NoMemory>
 fn count_both(a: &Expr, b: &Expr) -> Result<u32, NoMemory>
     ensures { IfOk result (λ n. n ≡ suc (count (expr_view a.now) + count (expr_view b.now))) }
 {
-    after(sum(count(a)?, count(b)?)?)
+    after(count_two(a, b)?)
 }
 
 // The nodes of the greatest full expression of a statement.
@@ -98,23 +112,50 @@ fn greatest_in(node: &StmtNode) -> Result<u32, NoMemory>
     match node {
         StmtNode::Block(body) => greatest_row(body),
         StmtNode::Declare(_, init) => count_if(init),
-        StmtNode::If(e, one, None) => Ok(count(e)?.max(greatest(one)?)),
-        StmtNode::If(e, one, Some(other)) => {
-            let branches = greatest(one)?.max(greatest(other)?);
-            Ok(count(e)?.max(branches))
-        }
-        StmtNode::While(e, body) => Ok(count(e)?.max(greatest(body)?)),
-        StmtNode::For(first, e, step, body) => {
-            let header = greatest(first)?.max(count_if(e)?);
-            let rounds = greatest(step)?.max(greatest(body)?);
-            Ok(header.max(rounds))
-        }
+        StmtNode::If(e, one, None) | StmtNode::While(e, one) => greatest_under(one, e),
+        StmtNode::If(e, one, Some(other)) => greatest_of_if(one, other, e),
+        StmtNode::For(first, e, step, body) => greatest_of_for(first, step, body, e),
         StmtNode::Break | StmtNode::Continue | StmtNode::Empty => Ok(0),
         StmtNode::Return(value) => count_if(value),
         StmtNode::Assign(a, b) => count_both(a, b),
         StmtNode::Update(a, _, b) => count_both(a, b),
         StmtNode::Eval(e) => count(e),
     }
+}
+
+// A statement with a condition.
+#[cycle(greatest)]
+fn greatest_under(one: &Stmt, e: &Expr) -> Result<u32, NoMemory>
+    ensures { IfOk result (λ n. n ≡ max (count (expr_view e.now)) (greatest (stmt_view one.now))) }
+{
+    Ok(count(e)?.max(greatest(one)?))
+}
+
+#[cycle(greatest)]
+fn greatest_of_if(one: &Stmt, other: &Stmt, e: &Expr) -> Result<u32, NoMemory>
+    ensures { IfOk result (λ n. n ≡ max (count (expr_view e.now)) (max (greatest (stmt_view one.now)) (greatest (stmt_view other.now)))) }
+{
+    Ok(count(e)?.max(greater(one, other)?))
+}
+
+#[cycle(greatest)]
+fn greatest_of_for(
+    first: &Stmt,
+    step: &Stmt,
+    body: &Stmt,
+    e: &Option<Expr>,
+) -> Result<u32, NoMemory>
+    ensures { IfOk result (λ n. n ≡ max (max (greatest (stmt_view first.now)) (count_if (optional_expr_view e.now))) (max (greatest (stmt_view step.now)) (greatest (stmt_view body.now)))) }
+{
+    let header = greatest(first)?.max(count_if(e)?);
+    Ok(header.max(greater(step, body)?))
+}
+
+#[cycle(greatest)]
+fn greater(a: &Stmt, b: &Stmt) -> Result<u32, NoMemory>
+    ensures { IfOk result (λ n. n ≡ max (greatest (stmt_view a.now)) (greatest (stmt_view b.now))) }
+{
+    Ok(greatest(a)?.max(greatest(b)?))
 }
 
 /// The nodes of the greatest full expression in these statements.

@@ -1,18 +1,20 @@
 //! Expressions.
 
-ghost use Rattle.std.specs.Prelude.{◌≡◌, IfOk, OnOk, map};
-ghost use Rattle.c_tree.specs.TypedViews.{type_view, expr_view, expr_node_view, exprs_of};
-ghost use Rattle.struct_ir.specs.Nodes.{Nodes, no_nodes};
+ghost use Rattle.std.specs.Prelude.{◌≡◌, IfOk, OnOk, map, suc, None, Some};
+ghost use Rattle.c_tree.specs.TypedViews.{type_view, expr_view, expr_node_view, exprs_of, lib_view};
+ghost use Rattle.struct_ir.specs.Nodes.{Nodes, no_nodes, copy};
 ghost use Rattle.struct_ir.specs.Views.{nodes_view, followed};
-ghost use Rattle.lower_forms.specs.Forms.{reach, expr_nodes, place_nodes, args_nodes, dropped_object, dropped_nodes, sets_truth};
+ghost use Rattle.lower_forms.specs.Forms.{branches, calls, lib_nodes, loads, reach, sets, temps_of, expr_nodes, place_nodes, args_nodes, dropped_object, dropped_nodes, sets_int, sets_truth};
 ghost use Rattle.ir_lower.specs.inner.Views.{frame_view, reach_view};
+ghost use Rattle.ir_lower.specs.inner.Operators.{unary_nodes, operation};
 
-use crate::forms::{converts, lib_nodes, loads, local_place, local_value, member_nodes, temps_of};
+use crate::forms::{called, calls_with, lib_nodes, loads, local_place, local_value, member_nodes};
 use crate::frame::{Frame, Reach};
-use crate::nodes::{after, branches, calls, one_int, sets, sets_truth};
-use crate::types::{element_size, is_scalar, is_void, member_offset, number_type};
+use crate::nodes::{after, branches, one_int, sets, sets_truth};
+use crate::operators::{operation, unary_nodes};
+use crate::types::{is_scalar, is_void, member_offset};
 use ak_words::NoMemory;
-use c_tree::typed::{Expr, ExprNode};
+use c_tree::typed::{Expr, ExprNode, Lib};
 use std::alloc::Global;
 use struct_ir::{Calc, Node};
 
@@ -28,107 +30,133 @@ pub fn expr(alloc: Global, e: &Expr, f: &Frame, t: u32, out: &mut Vec<Node>) -> 
     match &e.node {
         ExprNode::Num(n) => sets(out, e.place, t, Calc::Num(*n)),
         ExprNode::Null => sets(out, e.place, t, Calc::Null),
-        ExprNode::Literal(n) => {
-            sets(out, e.place, t, Calc::Literal(*n))?;
-            loads(alloc, out, e.place, &e.ty, Reach::Found, t)
-        }
-        ExprNode::Global(n) => {
-            sets(out, e.place, t, Calc::Global(*n))?;
-            loads(alloc, out, e.place, &e.ty, Reach::Found, t)
-        }
         ExprNode::Local(n) => local_value(alloc, out, e.place, &e.ty, *n, t, f.home(*n)),
-        ExprNode::Deref(p) => {
-            expr(alloc, p, f, t, out)?;
-            loads(alloc, out, e.place, &e.ty, f.pointed(p)?, t)
+        ExprNode::Literal(_) | ExprNode::Global(_) | ExprNode::Deref(_) | ExprNode::Member(..) =>
+            read(alloc, e, f, t, out),
+        ExprNode::AddrOf(x) | ExprNode::Decay(x) => address(alloc, x, f, t, out),
+        ExprNode::Convert(x) | ExprNode::Not(x) | ExprNode::PtrTest(x) => {
+            unary(alloc, e, x, f, t, out)
         }
-        ExprNode::Member(s, n) => {
-            let r = place(alloc, s, f, t, out)?;
-            let offset = member_offset(&s.ty, *n, f.structs);
-            member_nodes(out, e.place, offset, r, t)?;
-            loads(alloc, out, e.place, &e.ty, r.member(offset), t)
-        }
-        ExprNode::AddrOf(x) => {
-            place(alloc, x, f, t, out)?;
-            Ok(())
-        }
-        ExprNode::Decay(x) => {
-            place(alloc, x, f, t, out)?;
-            Ok(())
-        }
-        ExprNode::Convert(x) => {
-            expr(alloc, x, f, t, out)?;
-            converts(out, e.place, &e.ty, t)
-        }
-        ExprNode::Not(x) => {
-            expr(alloc, x, f, t, out)?;
-            sets_truth(alloc, out, e.place, t, 0, 1)
-        }
-        ExprNode::Binary(op, a, b) => {
-            expr(alloc, a, f, t, out)?;
-            let u = after(t)?;
-            expr(alloc, b, f, u, out)?;
-            sets(out, e.place, t, Calc::Apply(*op, number_type(&a.ty), t, u))
-        }
-        ExprNode::AndAlso(a, b) => {
-            expr(alloc, a, f, t, out)?;
-            let yes = tested(alloc, b, f, t)?;
-            let no = one_int(alloc, a.place, t, 0)?;
-            branches(out, a.place, t, yes, no)
-        }
-        ExprNode::OrElse(a, b) => {
-            expr(alloc, a, f, t, out)?;
-            let yes = one_int(alloc, a.place, t, 1)?;
-            let no = tested(alloc, b, f, t)?;
-            branches(out, a.place, t, yes, no)
-        }
-        ExprNode::Choose(c, a, b) => {
-            expr(alloc, c, f, t, out)?;
-            let yes = row_of(alloc, a, f, t)?;
-            let no = row_of(alloc, b, f, t)?;
-            branches(out, c.place, t, yes, no)
-        }
-        ExprNode::PtrAdd(p, n) => {
-            expr(alloc, p, f, t, out)?;
-            let u = after(t)?;
-            expr(alloc, n, f, u, out)?;
-            let scale = element_size(&p.ty, f.structs)?;
-            sets(out, e.place, t, Calc::PtrAdd(t, u, scale))
-        }
-        ExprNode::PtrSub(p, n) => {
-            expr(alloc, p, f, t, out)?;
-            let u = after(t)?;
-            expr(alloc, n, f, u, out)?;
-            let scale = element_size(&p.ty, f.structs)?;
-            sets(out, e.place, t, Calc::PtrSub(t, u, scale))
-        }
-        ExprNode::PtrDiff(p, q) => {
-            expr(alloc, p, f, t, out)?;
-            let u = after(t)?;
-            expr(alloc, q, f, u, out)?;
-            let scale = element_size(&p.ty, f.structs)?;
-            sets(out, e.place, t, Calc::PtrDiff(t, u, scale))
-        }
-        ExprNode::PtrCompare(op, p, q) => {
-            expr(alloc, p, f, t, out)?;
-            let u = after(t)?;
-            expr(alloc, q, f, u, out)?;
-            sets(out, e.place, t, Calc::PtrCompare(*op, t, u))
-        }
-        ExprNode::PtrTest(p) => {
-            expr(alloc, p, f, t, out)?;
-            sets(out, e.place, t, Calc::PtrTest(t))
-        }
-        ExprNode::Call(function, all) => {
-            args(alloc, all, f, t, out)?;
-            let temps = temps_of(alloc, all, t)?;
-            calls(alloc, out, e.place, Some(t), *function, temps)?;
-            sets(out, e.place, t, Calc::Copy(t))
-        }
-        ExprNode::Lib(lib, all) => {
-            args(alloc, all, f, t, out)?;
-            lib_nodes(alloc, out, e.place, lib, all, t)
-        }
+        ExprNode::Binary(_, a, b)
+        | ExprNode::PtrAdd(a, b)
+        | ExprNode::PtrSub(a, b)
+        | ExprNode::PtrDiff(a, b)
+        | ExprNode::PtrCompare(_, a, b) => binary(alloc, e, a, b, f, t, out),
+        ExprNode::AndAlso(a, b) => and_also(alloc, a, b, f, t, out),
+        ExprNode::OrElse(a, b) => or_else(alloc, a, b, f, t, out),
+        ExprNode::Choose(c, a, b) => choose(alloc, c, a, b, f, t, out),
+        ExprNode::Call(function, all) => call(alloc, all, e.place, *function, f, t, out),
+        ExprNode::Lib(lib, all) => lib_call(alloc, all, e.place, lib, f, t, out),
     }
+}
+
+// The pointer to an object is the value.
+#[cycle(exprs)]
+fn address(alloc: Global, e: &Expr, f: &Frame, t: u32, out: &mut Vec<Node>) -> Result<(), NoMemory>
+    ensures { OnOk result ((rest : Nodes) → followed out.new.items rest ≡ followed out.old.items (place_nodes (frame_view f.now) (expr_view e.now) t rest)) }
+{
+    place(alloc, e, f, t, out)?;
+    Ok(())
+}
+
+// An operator of one operand.
+#[cycle(exprs)]
+fn unary(
+    alloc: Global,
+    e: &Expr,
+    a: &Expr,
+    f: &Frame,
+    t: u32,
+    out: &mut Vec<Node>,
+) -> Result<(), NoMemory>
+    ensures { OnOk result ((rest : Nodes) → followed out.new.items rest ≡ followed out.old.items (expr_nodes (frame_view f.now) (expr_view a.now) t (unary_nodes e.now.place (type_view e.now.ty) (expr_node_view e.now.node) t rest))) }
+{
+    expr(alloc, a, f, t, out)?;
+    unary_nodes(alloc, out, e, t)
+}
+
+// An operator of two operands, the second of which comes to the register behind `t`.
+#[cycle(exprs)]
+fn binary(
+    alloc: Global,
+    e: &Expr,
+    a: &Expr,
+    b: &Expr,
+    f: &Frame,
+    t: u32,
+    out: &mut Vec<Node>,
+) -> Result<(), NoMemory>
+    ensures { OnOk result ((rest : Nodes) → followed out.new.items rest ≡ followed out.old.items (expr_nodes (frame_view f.now) (expr_view a.now) t (expr_nodes (frame_view f.now) (expr_view b.now) (suc t) (sets e.now.place t (operation (frame_view f.now).structs (type_view a.now.ty) (expr_node_view e.now.node) t (suc t)) rest)))) }
+{
+    expr(alloc, a, f, t, out)?;
+    let u = after(t)?;
+    expr(alloc, b, f, u, out)?;
+    let calc = operation(f.structs, &a.ty, &e.node, t, u)?;
+    sets(out, e.place, t, calc)
+}
+
+// `a && b`.
+#[cycle(exprs)]
+fn and_also(
+    alloc: Global,
+    a: &Expr,
+    b: &Expr,
+    f: &Frame,
+    t: u32,
+    out: &mut Vec<Node>,
+) -> Result<(), NoMemory>
+    ensures { OnOk result ((rest : Nodes) → followed out.new.items rest ≡ followed out.old.items (expr_nodes (frame_view f.now) (expr_view a.now) t (branches a.now.place t (expr_nodes (frame_view f.now) (expr_view b.now) t (sets_truth b.now.place t 1 0 no_nodes)) (sets_int a.now.place t 0 no_nodes) rest))) }
+{
+    expr(alloc, a, f, t, out)?;
+    let yes = tested(alloc, b, f, t)?;
+    let no = one_int(alloc, a.place, t, 0)?;
+    branches(out, a.place, t, yes, no)
+}
+
+// `a || b`.
+#[cycle(exprs)]
+fn or_else(
+    alloc: Global,
+    a: &Expr,
+    b: &Expr,
+    f: &Frame,
+    t: u32,
+    out: &mut Vec<Node>,
+) -> Result<(), NoMemory>
+    ensures { OnOk result ((rest : Nodes) → followed out.new.items rest ≡ followed out.old.items (expr_nodes (frame_view f.now) (expr_view a.now) t (branches a.now.place t (sets_int a.now.place t 1 no_nodes) (expr_nodes (frame_view f.now) (expr_view b.now) t (sets_truth b.now.place t 1 0 no_nodes)) rest))) }
+{
+    expr(alloc, a, f, t, out)?;
+    let yes = one_int(alloc, a.place, t, 1)?;
+    let no = tested(alloc, b, f, t)?;
+    branches(out, a.place, t, yes, no)
+}
+
+// `c ? a : b`.
+#[cycle(exprs)]
+fn choose(
+    alloc: Global,
+    c: &Expr,
+    a: &Expr,
+    b: &Expr,
+    f: &Frame,
+    t: u32,
+    out: &mut Vec<Node>,
+) -> Result<(), NoMemory>
+    ensures { OnOk result ((rest : Nodes) → followed out.new.items rest ≡ followed out.old.items (expr_nodes (frame_view f.now) (expr_view c.now) t (branches c.now.place t (expr_nodes (frame_view f.now) (expr_view a.now) t no_nodes) (expr_nodes (frame_view f.now) (expr_view b.now) t no_nodes) rest))) }
+{
+    expr(alloc, c, f, t, out)?;
+    let yes = row_of(alloc, a, f, t)?;
+    let no = row_of(alloc, b, f, t)?;
+    branches(out, c.place, t, yes, no)
+}
+
+// An object is read.
+#[cycle(exprs)]
+fn read(alloc: Global, e: &Expr, f: &Frame, t: u32, out: &mut Vec<Node>) -> Result<(), NoMemory>
+    ensures { OnOk result ((rest : Nodes) → followed out.new.items rest ≡ followed out.old.items (place_nodes (frame_view f.now) (expr_view e.now) t (loads e.now.place (type_view e.now.ty) (reach (frame_view f.now) (expr_view e.now)) t rest))) }
+{
+    let r = place(alloc, e, f, t, out)?;
+    loads(alloc, out, e.place, &e.ty, r, t)
 }
 
 /// The pointer to the object that an lvalue is comes to the register `t`; how it is reached.
@@ -168,6 +196,40 @@ pub fn place(
         }
         _ => Ok(Reach::Found),
     }
+}
+
+// A call of a function of the program.
+#[cycle(exprs)]
+fn call(
+    alloc: Global,
+    all: &[Expr],
+    at: u32,
+    function: u32,
+    f: &Frame,
+    t: u32,
+    out: &mut Vec<Node>,
+) -> Result<(), NoMemory>
+    ensures { OnOk result ((rest : Nodes) → followed out.new.items rest ≡ followed out.old.items (args_nodes (frame_view f.now) (exprs_of (map expr_view all.now)) t (calls at (Some t) function (temps_of (exprs_of (map expr_view all.now)) t) (sets at t (copy t) rest)))) }
+{
+    args(alloc, all, f, t, out)?;
+    called(alloc, out, at, function, all, t)
+}
+
+// A call of a function of the library.
+#[cycle(exprs)]
+fn lib_call(
+    alloc: Global,
+    all: &[Expr],
+    at: u32,
+    lib: &Lib,
+    f: &Frame,
+    t: u32,
+    out: &mut Vec<Node>,
+) -> Result<(), NoMemory>
+    ensures { OnOk result ((rest : Nodes) → followed out.new.items rest ≡ followed out.old.items (args_nodes (frame_view f.now) (exprs_of (map expr_view all.now)) t (lib_nodes at (lib_view lib.now) (exprs_of (map expr_view all.now)) t rest))) }
+{
+    args(alloc, all, f, t, out)?;
+    lib_nodes(alloc, out, at, lib, all, t)
 }
 
 // The values of arguments come to the registers from `t` on.
@@ -222,11 +284,7 @@ pub fn dropped(
     ensures { OnOk result ((rest : Nodes) → followed out.new.items rest ≡ followed out.old.items (dropped_nodes (frame_view f.now) (expr_view e.now) t rest)) }
 {
     match &e.node {
-        ExprNode::Call(function, all) => {
-            args(alloc, all, f, t, out)?;
-            let temps = temps_of(alloc, all, t)?;
-            calls(alloc, out, e.place, None, *function, temps)
-        }
+        ExprNode::Call(function, all) => call_dropped(alloc, all, e.place, *function, f, t, out),
         ExprNode::Convert(x) => {
             if is_void(&e.ty) {
                 dropped(alloc, x, f, t, out)
@@ -243,6 +301,22 @@ pub fn dropped(
     }
 }
 
+// A call whose value is dropped.
+fn call_dropped(
+    alloc: Global,
+    all: &[Expr],
+    at: u32,
+    function: u32,
+    f: &Frame,
+    t: u32,
+    out: &mut Vec<Node>,
+) -> Result<(), NoMemory>
+    ensures { OnOk result ((rest : Nodes) → followed out.new.items rest ≡ followed out.old.items (args_nodes (frame_view f.now) (exprs_of (map expr_view all.now)) t (calls at None function (temps_of (exprs_of (map expr_view all.now)) t) rest))) }
+{
+    args(alloc, all, f, t, out)?;
+    calls_with(alloc, out, at, None, function, all, t)
+}
+
 // An object whose value is dropped: it is read where it is a number or a pointer, and else found.
 fn object(alloc: Global, e: &Expr, f: &Frame, t: u32, out: &mut Vec<Node>) -> Result<(), NoMemory>
     ensures { OnOk result ((rest : Nodes) → followed out.new.items rest ≡ followed out.old.items (dropped_object (frame_view f.now) e.now.place (type_view e.now.ty) (expr_node_view e.now.node) t rest)) }
@@ -250,7 +324,6 @@ fn object(alloc: Global, e: &Expr, f: &Frame, t: u32, out: &mut Vec<Node>) -> Re
     if is_scalar(&e.ty) {
         expr(alloc, e, f, t, out)
     } else {
-        place(alloc, e, f, t, out)?;
-        Ok(())
+        address(alloc, e, f, t, out)
     }
 }

@@ -1,17 +1,17 @@
 //! The parts of which forms are made.
 
 ghost use Rattle.std.specs.Prelude.{◌≡◌, OnOk, IfOk, map, suc, [], ◌∷◌, None, Some, false};
-ghost use Rattle.c_tree.specs.Typed.{print};
+ghost use Rattle.c_tree.specs.Typed.{print, mutex_init, no_exprs};
 ghost use Rattle.c_tree.specs.TypedViews.{type_view, layout_view, expr_view, exprs_of, lib_view, piece_view};
 ghost use Rattle.c_meaning.specs.Values.{access_of_type, operand_types};
-ghost use Rattle.struct_ir.specs.Nodes.{Nodes, copy_bytes, load, store};
+ghost use Rattle.struct_ir.specs.Nodes.{Nodes, copy, copy_bytes, load, store};
 ghost use Rattle.struct_ir.specs.Views.{place_view, calc_view, action_view, followed};
 ghost use Rattle.lower_forms.specs.Forms as forms;
 ghost use Rattle.lower_forms.specs.Forms.{sized_copy};
 ghost use Rattle.ir_lower.specs.inner.Views.{reach_view};
 
 use crate::frame::{Reach, at_temp};
-use crate::nodes::{acts, after, sets, sets_int, sets_long};
+use crate::nodes::{acts, after, calls, sets, sets_int, sets_long};
 use crate::types::{
     access_of_type, align_in, element_size, is_number, number_type, operand_types, size_in,
 };
@@ -121,8 +121,8 @@ pub fn converts(out: &mut Vec<Node>, place: u32, ty: &CType, t: u32) -> Result<(
     }
 }
 
-/// The registers of arguments, the first of them in `t`.
-pub fn temps_of(alloc: Global, args: &[Expr], t: u32) -> Result<Vec<u32>, NoMemory>
+// The registers of arguments, the first of them in `t`.
+fn temps_of(alloc: Global, args: &[Expr], t: u32) -> Result<Vec<u32>, NoMemory>
     ensures { IfOk result (λ v. v.items ≡ forms.temps_of (exprs_of (map expr_view args.now)) t) }
 {
     let mut temps = Vec::new(alloc);
@@ -132,6 +132,37 @@ pub fn temps_of(alloc: Global, args: &[Expr], t: u32) -> Result<Vec<u32>, NoMemo
         u = after(u)?;
     }
     Ok(temps)
+}
+
+/// A function is called with the arguments in the registers from `t` on.
+pub fn calls_with(
+    alloc: Global,
+    out: &mut Vec<Node>,
+    place: u32,
+    to: Option<u32>,
+    function: u32,
+    args: &[Expr],
+    t: u32,
+) -> Result<(), NoMemory>
+    ensures { OnOk result ((rest : Nodes) → followed out.new.items rest ≡ followed out.old.items (forms.calls place to function (forms.temps_of (exprs_of (map expr_view args.now)) t) rest)) }
+{
+    let temps = temps_of(alloc, args, t)?;
+    calls(alloc, out, place, to, function, temps)
+}
+
+/// A function is called, and its value, which is missed at once where there is none, comes to `t`.
+pub fn called(
+    alloc: Global,
+    out: &mut Vec<Node>,
+    place: u32,
+    function: u32,
+    args: &[Expr],
+    t: u32,
+) -> Result<(), NoMemory>
+    ensures { OnOk result ((rest : Nodes) → followed out.new.items rest ≡ followed out.old.items (forms.calls place (Some t) function (forms.temps_of (exprs_of (map expr_view args.now)) t) (forms.sets place t (copy t) rest))) }
+{
+    calls_with(alloc, out, place, Some(t), function, args, t)?;
+    sets(out, place, t, Calc::Copy(t))
 }
 
 /// The registers of those arguments that are numbers.
@@ -189,21 +220,9 @@ pub fn lib_nodes(
             let u = after(t)?;
             place_nodes(alloc, out, place, Action::Join, u, Some(t), t)
         }
-        Lib::MutexInit => {
-            let u = after(t)?;
-            sets_long(out, place, u, 0)?;
-            let store = Action::Store(Access::Number(IntType::unsigned_long()));
-            place_nodes(alloc, out, place, store, t, None, u)?;
-            sets_int(out, place, t, 0)
-        }
-        Lib::MutexLock => {
-            mutex_nodes(alloc, out, place, Action::Lock, t)?;
-            sets_int(out, place, t, 0)
-        }
-        Lib::MutexUnlock => {
-            mutex_nodes(alloc, out, place, Action::Unlock, t)?;
-            sets_int(out, place, t, 0)
-        }
+        Lib::MutexInit => mutex_init(alloc, out, place, t),
+        Lib::MutexLock => mutex_call(alloc, out, place, Action::Lock, t),
+        Lib::MutexUnlock => mutex_call(alloc, out, place, Action::Unlock, t),
         Lib::MutexDestroy => mutex_nodes(alloc, out, place, Action::Destroy, t),
     }
 }
@@ -300,6 +319,31 @@ fn mutex_nodes(
 {
     let places = vec![in alloc; at_temp(at)]?;
     acts(alloc, out, place, action, places, None, Vec::new(alloc))
+}
+
+// A call of a mutex that gives 0.
+fn mutex_call(
+    alloc: Global,
+    out: &mut Vec<Node>,
+    place: u32,
+    action: Action,
+    t: u32,
+) -> Result<(), NoMemory>
+    ensures { OnOk result ((rest : Nodes) → followed out.new.items rest ≡ followed out.old.items (forms.acts place (action_view action) (forms.at_temp t ∷ []) None [] (forms.sets_int place t 0 rest))) }
+{
+    mutex_nodes(alloc, out, place, action, t)?;
+    sets_int(out, place, t, 0)
+}
+
+// A mutex that nobody holds: the register behind `t` takes what is stored.
+fn mutex_init(alloc: Global, out: &mut Vec<Node>, place: u32, t: u32) -> Result<(), NoMemory>
+    ensures { OnOk result ((rest : Nodes) → followed out.new.items rest ≡ followed out.old.items (forms.lib_nodes place mutex_init no_exprs t rest)) }
+{
+    let u = after(t)?;
+    sets_long(out, place, u, 0)?;
+    let store = Action::Store(Access::Number(IntType::unsigned_long()));
+    place_nodes(alloc, out, place, store, t, None, u)?;
+    sets_int(out, place, t, 0)
 }
 
 // memcpy of the bytes at `t` + 1 to `t`, so many as `t` + 2 says.

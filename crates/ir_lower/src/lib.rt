@@ -10,6 +10,7 @@ mod frame;
 mod homes;
 mod lowering;
 mod nodes;
+mod operators;
 mod stmts;
 mod types;
 

@@ -2,9 +2,9 @@
 
 ghost use Rattle.std.specs.Prelude.{◌≡◌, ◌++◌, [], IfOk, OnOk, map, Some};
 ghost use Rattle.c_tree.specs.TypedViews.{expr_view, optional_expr_view, stmt_view, stmts_of};
-ghost use Rattle.struct_ir.specs.Nodes.{Nodes, no_nodes};
+ghost use Rattle.struct_ir.specs.Nodes.{Nodes, no_nodes, more_nodes, loop};
 ghost use Rattle.struct_ir.specs.Views.{place_view, nodes_view, followed};
-ghost use Rattle.lower_forms.specs.Forms.{declared_home, ends, objects_by, objects_in, store_nodes, copy_nodes, object_assign, assign_nodes, update_register, update_at, update_object, update_nodes, test_nodes, declare_nodes, return_nodes, stmt_nodes, row_nodes};
+ghost use Rattle.lower_forms.specs.Forms.{branches, expr_nodes, declared_home, ends, objects_by, objects_in, store_nodes, copy_nodes, object_assign, assign_nodes, update_register, update_at, update_object, update_nodes, test_nodes, declare_nodes, return_nodes, stmt_nodes, row_nodes};
 ghost use Rattle.ir_lower.specs.inner.Views.{frame_view};
 
 use crate::exprs::{dropped, expr, place};
@@ -292,34 +292,13 @@ fn stmt(
     ensures { OnOk result ((rest : Nodes) → followed out.new.items rest ≡ followed out.old.items (stmt_nodes (frame_view f.now) (stmt_view s.now) left.now rest)) }
 {
     match &s.node {
-        StmtNode::Block(body) => {
-            let own = objects_in(alloc, f, body)?;
-            let inner = joined(alloc, &own, left)?;
-            row(alloc, body, f, &inner, out)?;
-            ends(out, s.place, &own)
-        }
+        StmtNode::Block(body) => block(alloc, body, s.place, f, left, out),
         StmtNode::Declare(n, init) => declares(alloc, f, s.place, *n, init, out),
-        StmtNode::If(e, one, None) => {
-            expr(alloc, e, f, f.first_temp, out)?;
-            let yes = row_of(alloc, one, f, left)?;
-            branches(out, e.place, f.first_temp, yes, Vec::new(alloc))
-        }
-        StmtNode::If(e, one, Some(other)) => {
-            expr(alloc, e, f, f.first_temp, out)?;
-            let yes = row_of(alloc, one, f, left)?;
-            let no = row_of(alloc, other, f, left)?;
-            branches(out, e.place, f.first_temp, yes, no)
-        }
-        StmtNode::While(e, body) => {
-            let round = while_round(alloc, body, f, e)?;
-            rounds(out, s.place, round, Vec::new(alloc))
-        }
+        StmtNode::If(e, one, None) => if_alone(alloc, one, e, f, left, out),
+        StmtNode::If(e, one, Some(other)) => if_else(alloc, one, other, e, f, left, out),
+        StmtNode::While(e, body) => while_loop(alloc, body, s.place, e, f, out),
         StmtNode::For(first, e, step, body) => {
-            stmt(alloc, first, f, left, out)?;
-            let round = for_round(alloc, body, f, e)?;
-            let last = row_of(alloc, step, f, &[])?;
-            rounds(out, s.place, round, last)?;
-            ends_of(f, first, s.place, out)
+            for_loop(alloc, first, body, step, s.place, e, f, left, out)
         }
         StmtNode::Break => {
             ends(out, s.place, left)?;
@@ -341,6 +320,113 @@ fn stmt(
         StmtNode::Eval(e) => dropped(alloc, e, f, f.first_temp, out),
         StmtNode::Empty => Ok(()),
     }
+}
+
+// A block: its objects end behind it.
+#[cycle(stmts)]
+fn block(
+    alloc: Global,
+    body: &[Stmt],
+    at: u32,
+    f: &Frame,
+    left: &[u32],
+    out: &mut Vec<Node>,
+) -> Result<(), NoMemory>
+    ensures { OnOk result ((rest : Nodes) → followed out.new.items rest ≡ followed out.old.items (row_nodes (frame_view f.now) (stmts_of (map stmt_view body.now)) (objects_in (frame_view f.now) (stmts_of (map stmt_view body.now)) ++ left.now) (ends at (objects_in (frame_view f.now) (stmts_of (map stmt_view body.now))) rest))) }
+{
+    let own = objects_in(alloc, f, body)?;
+    let inner = joined(alloc, &own, left)?;
+    row(alloc, body, f, &inner, out)?;
+    ends(out, at, &own)
+}
+
+// An if without an else.
+#[cycle(stmts)]
+fn if_alone(
+    alloc: Global,
+    one: &Stmt,
+    e: &Expr,
+    f: &Frame,
+    left: &[u32],
+    out: &mut Vec<Node>,
+) -> Result<(), NoMemory>
+    ensures { OnOk result ((rest : Nodes) → followed out.new.items rest ≡ followed out.old.items (expr_nodes (frame_view f.now) (expr_view e.now) f.now.first_temp (branches e.now.place f.now.first_temp (stmt_nodes (frame_view f.now) (stmt_view one.now) left.now no_nodes) no_nodes rest))) }
+{
+    expr(alloc, e, f, f.first_temp, out)?;
+    let yes = row_of(alloc, one, f, left)?;
+    branches(out, e.place, f.first_temp, yes, Vec::new(alloc))
+}
+
+// An if with an else.
+#[cycle(stmts)]
+fn if_else(
+    alloc: Global,
+    one: &Stmt,
+    other: &Stmt,
+    e: &Expr,
+    f: &Frame,
+    left: &[u32],
+    out: &mut Vec<Node>,
+) -> Result<(), NoMemory>
+    ensures { OnOk result ((rest : Nodes) → followed out.new.items rest ≡ followed out.old.items (expr_nodes (frame_view f.now) (expr_view e.now) f.now.first_temp (branches e.now.place f.now.first_temp (stmt_nodes (frame_view f.now) (stmt_view one.now) left.now no_nodes) (stmt_nodes (frame_view f.now) (stmt_view other.now) left.now no_nodes) rest))) }
+{
+    expr(alloc, e, f, f.first_temp, out)?;
+    let yes = row_of(alloc, one, f, left)?;
+    let no = row_of(alloc, other, f, left)?;
+    branches(out, e.place, f.first_temp, yes, no)
+}
+
+#[cycle(stmts)]
+fn while_loop(
+    alloc: Global,
+    body: &Stmt,
+    at: u32,
+    e: &Expr,
+    f: &Frame,
+    out: &mut Vec<Node>,
+) -> Result<(), NoMemory>
+    ensures { OnOk result ((rest : Nodes) → followed out.new.items rest ≡ followed out.old.items (more_nodes (loop at (test_nodes (frame_view f.now) (Some (expr_view e.now)) (stmt_nodes (frame_view f.now) (stmt_view body.now) [] no_nodes)) no_nodes) rest)) }
+{
+    let round = while_round(alloc, body, f, e)?;
+    rounds(out, at, round, Vec::new(alloc))
+}
+
+// A for: its first clause, its rounds, and the end of the object that the first clause declares.
+#[cycle(stmts)]
+fn for_loop(
+    alloc: Global,
+    first: &Stmt,
+    body: &Stmt,
+    step: &Stmt,
+    at: u32,
+    e: &Option<Expr>,
+    f: &Frame,
+    left: &[u32],
+    out: &mut Vec<Node>,
+) -> Result<(), NoMemory>
+    ensures { OnOk result ((rest : Nodes) → followed out.new.items rest ≡ followed out.old.items (stmt_nodes (frame_view f.now) (stmt_view first.now) left.now (more_nodes (loop at (test_nodes (frame_view f.now) (optional_expr_view e.now) (stmt_nodes (frame_view f.now) (stmt_view body.now) [] no_nodes)) (stmt_nodes (frame_view f.now) (stmt_view step.now) [] no_nodes)) (ends at (objects_by (frame_view f.now) (stmt_view first.now) []) rest)))) }
+{
+    stmt(alloc, first, f, left, out)?;
+    for_rounds(alloc, body, step, at, e, f, out)?;
+    ends_of(f, first, at, out)
+}
+
+// The rounds of a for.
+#[cycle(stmts)]
+fn for_rounds(
+    alloc: Global,
+    body: &Stmt,
+    step: &Stmt,
+    at: u32,
+    e: &Option<Expr>,
+    f: &Frame,
+    out: &mut Vec<Node>,
+) -> Result<(), NoMemory>
+    ensures { OnOk result ((rest : Nodes) → followed out.new.items rest ≡ followed out.old.items (more_nodes (loop at (test_nodes (frame_view f.now) (optional_expr_view e.now) (stmt_nodes (frame_view f.now) (stmt_view body.now) [] no_nodes)) (stmt_nodes (frame_view f.now) (stmt_view step.now) [] no_nodes)) rest)) }
+{
+    let round = for_round(alloc, body, f, e)?;
+    let last = row_of(alloc, step, f, &[])?;
+    rounds(out, at, round, last)
 }
 
 // A row of a statement alone.
