@@ -105,7 +105,7 @@ impl Mark {
         ensures { result ≡ node_marked (mark_view self) (node_view n.now) before }
     {
         match self {
-            Mark::Held(b) => looks_at(b, n) || (!assigns(b, n) && before),
+            Mark::Held(b) => looks_at(b, n) || (before && !assigns(b, n)),
             Mark::Filled(slot) => looks_into(slot, n) || before,
             Mark::FilledFor(slot, b) => {
                 if looks_into(slot, n) {
@@ -118,14 +118,14 @@ impl Mark {
                 if looks_into(slot, n) {
                     looks_at(b, n)
                 } else {
-                    !assigns(b, n) && before
+                    before && !assigns(b, n)
                 }
             }
             Mark::Pinned(slot, b) => {
                 if looks_into(slot, n) {
                     looks_at(b, n)
                 } else {
-                    !assigns(b, n) && (!lacks(slot, n) && before)
+                    before && (!assigns(b, n) && !lacks(slot, n))
                 }
             }
         }
