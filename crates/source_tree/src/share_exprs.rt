@@ -3,7 +3,7 @@
 ghost use Rattle.std.specs.Prelude.{◌≡◌, IfOk};
 ghost use Rattle.c_tree.specs.Typed as tree;
 ghost use Rattle.c_tree.specs.TypedViews.{type_view, expr_view, expr_node_view, optional_expr_view, lib_view};
-ghost use Rattle.source_tree.specs.SharedViews.{expr_of, node_of, args_of, exprs_view, call_of, optional_expr_of};
+ghost use Rattle.source_tree.specs.SharedViews.{expr_of, node_of, args_of, exprs_view, two_of_form, either_of, call_of, optional_expr_of};
 
 use crate::copies::{copy_lib, copy_type};
 use crate::tree::{AddressForm, Callee, OneForm, SharedArgs, SharedExpr, SharedNode, TwoForm};
@@ -17,8 +17,8 @@ use std::rc::Rc;
 pub fn share_expr(alloc: Global, e: &Expr) -> Result<Rc<SharedExpr>, NoMemory>
     ensures { IfOk result (λ shared. expr_of shared.value ≡ expr_view e.now) }
 {
-    let node = share_node(alloc, &e.node)?;
     let ty = shared_type(alloc, &e.ty)?;
+    let node = share_node(alloc, &e.node)?;
     Ok(Rc::new(
         alloc,
         SharedExpr {
@@ -56,41 +56,13 @@ fn share_node(alloc: Global, node: &ExprNode) -> Result<SharedNode, NoMemory>
         ExprNode::Convert(e) => Ok(SharedNode::One(OneForm::Convert, share_expr(alloc, e)?)),
         ExprNode::Not(e) => Ok(SharedNode::One(OneForm::Not, share_expr(alloc, e)?)),
         ExprNode::PtrTest(e) => Ok(SharedNode::One(OneForm::Test, share_expr(alloc, e)?)),
-        ExprNode::Binary(op, a, b) => {
-            let a = share_expr(alloc, a)?;
-            let b = share_expr(alloc, b)?;
-            Ok(SharedNode::Two(TwoForm::Numbers(*op), a, b))
-        }
-        ExprNode::PtrAdd(a, b) => {
-            let a = share_expr(alloc, a)?;
-            let b = share_expr(alloc, b)?;
-            Ok(SharedNode::Two(TwoForm::Forward, a, b))
-        }
-        ExprNode::PtrSub(a, b) => {
-            let a = share_expr(alloc, a)?;
-            let b = share_expr(alloc, b)?;
-            Ok(SharedNode::Two(TwoForm::Backward, a, b))
-        }
-        ExprNode::PtrDiff(a, b) => {
-            let a = share_expr(alloc, a)?;
-            let b = share_expr(alloc, b)?;
-            Ok(SharedNode::Two(TwoForm::Distance, a, b))
-        }
-        ExprNode::PtrCompare(op, a, b) => {
-            let a = share_expr(alloc, a)?;
-            let b = share_expr(alloc, b)?;
-            Ok(SharedNode::Two(TwoForm::Pointers(*op), a, b))
-        }
-        ExprNode::AndAlso(a, b) => {
-            let a = share_expr(alloc, a)?;
-            let b = share_expr(alloc, b)?;
-            Ok(SharedNode::Either(false, a, b))
-        }
-        ExprNode::OrElse(a, b) => {
-            let a = share_expr(alloc, a)?;
-            let b = share_expr(alloc, b)?;
-            Ok(SharedNode::Either(true, a, b))
-        }
+        ExprNode::Binary(op, a, b) => share_two(alloc, TwoForm::Numbers(*op), a, b),
+        ExprNode::PtrAdd(a, b) => share_two(alloc, TwoForm::Forward, a, b),
+        ExprNode::PtrSub(a, b) => share_two(alloc, TwoForm::Backward, a, b),
+        ExprNode::PtrDiff(a, b) => share_two(alloc, TwoForm::Distance, a, b),
+        ExprNode::PtrCompare(op, a, b) => share_two(alloc, TwoForm::Pointers(*op), a, b),
+        ExprNode::AndAlso(a, b) => share_either(alloc, false, a, b),
+        ExprNode::OrElse(a, b) => share_either(alloc, true, a, b),
         ExprNode::Choose(c, a, b) => {
             let c = share_expr(alloc, c)?;
             let a = share_expr(alloc, a)?;
@@ -108,6 +80,26 @@ fn share_node(alloc: Global, node: &ExprNode) -> Result<SharedNode, NoMemory>
             Ok(shared_call(callee, all))
         }
     }
+}
+
+// An operation on two values.
+#[cycle(share)]
+fn share_two(alloc: Global, form: TwoForm, a: &Expr, b: &Expr) -> Result<SharedNode, NoMemory>
+    ensures { IfOk result (λ shared. node_of shared ≡ two_of_form form (expr_view a.now) (expr_view b.now)) }
+{
+    let a = share_expr(alloc, a)?;
+    let b = share_expr(alloc, b)?;
+    Ok(SharedNode::Two(form, a, b))
+}
+
+// `||`, which true decides, or `&&`, which false does.
+#[cycle(share)]
+fn share_either(alloc: Global, decides: bool, a: &Expr, b: &Expr) -> Result<SharedNode, NoMemory>
+    ensures { IfOk result (λ shared. node_of shared ≡ either_of decides (expr_view a.now) (expr_view b.now)) }
+{
+    let a = share_expr(alloc, a)?;
+    let b = share_expr(alloc, b)?;
+    Ok(SharedNode::Either(decides, a, b))
 }
 
 // The arguments of a call.
