@@ -47,13 +47,29 @@ fn read_surely(shelf: &mut MemShelf, name: &str, into: &mut [u8]) -> ReadEnd
 /// What a read of that name into so many bytes answers, and leaves in a buffer of four dashes.
 pub(crate) type ReadRow<'a> = (&'a str, usize, Result<ReadEnd, ReadFault>, &'a str);
 
+/// What a read into the front of a buffer of four dashes answers, and leaves there.
+fn read_over_dashes<S: Shelf>(
+    shelf: &mut S,
+    name: &str,
+    room: usize,
+) -> (Result<ReadEnd, ReadFault>, [u8; 4])
+    requires { room ≤ 4 }
+{
+    let mut buffer = [b'-'; 4];
+    let end = shelf.read(name, &mut buffer[..room]);
+    (end, buffer)
+}
+
 /// Reads each row in order.
 pub(crate) fn check_reads<S: Shelf>(rt: &impl Abort, shelf: &mut S, rows: &[ReadRow<'_>]) {
     for (name, room, end, left) in rows {
-        let mut buffer = [b'-'; 4];
         assert!(rt; *room <= 4);
-        assert_eq!(rt; shelf.read(name, &mut buffer[..*room]), *end, "{name}");
-        assert_eq!(rt; buffer.as_slice(), left.as_bytes(), "{name}");
+        let read = read_over_dashes(shelf, name, *room);
+        assert_eq!(rt;
+            (read.0, read.1.as_slice()),
+            (*end, left.as_bytes()),
+            "{name}"
+        );
     }
 }
 
@@ -86,6 +102,22 @@ fn memory_reads(rt: HostRuntime) -> Result<(), Fail> {
     Ok(())
 }
 
+/// Writes each row in order: a piece, what the sink answers, and what it then holds.
+fn check_writes(
+    rt: &impl Abort,
+    sink: &mut MemSink,
+    rows: &[(&str, Result<(), WriteFault>, &str)],
+) {
+    for (piece, answer, held) in rows {
+        let written = sink.write_all(piece.as_bytes());
+        assert_eq!(rt;
+            (written, sink.bytes()),
+            (*answer, held.as_bytes()),
+            "{piece}"
+        );
+    }
+}
+
 #[test]
 fn memory_writes(rt: HostRuntime) -> Result<(), Fail> {
     let alloc = rt.alloc();
@@ -97,10 +129,7 @@ fn memory_writes(rt: HostRuntime) -> Result<(), Fail> {
         ("de", Ok(()), "abcde"),
         ("f", Err(WriteFault), "abcde"),
     ];
-    for (piece, answer, held) in rows {
-        assert_eq!(rt; sink.write_all(piece.as_bytes()), answer, "{piece}");
-        assert_eq!(rt; sink.bytes(), held.as_bytes(), "{piece}");
-    }
+    check_writes(&rt, &mut sink, &rows);
     Ok(())
 }
 
@@ -109,7 +138,7 @@ fn callers(rt: HostRuntime) -> Result<(), Fail> {
     let alloc = rt.alloc();
     let mut sink = MemSink::new(alloc, 7, Vec::new(alloc))?;
     write_surely(&mut sink, b"1");
-    assert_eq!(rt; write_both(&mut sink, b"2", b"34"), Ok(()));
-    assert_eq!(rt; sink.bytes(), b"1234".as_slice());
+    let written = write_both(&mut sink, b"2", b"34");
+    assert_eq!(rt; (written, sink.bytes()), (Ok(()), b"1234".as_slice()));
     Ok(())
 }

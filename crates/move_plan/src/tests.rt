@@ -1,4 +1,4 @@
-ghost use Rattle.std.specs.Prelude.{◌≡◌, ◌≤◌};
+ghost use Rattle.std.specs.Prelude.{◌≡◌, ◌≤◌, [], length};
 ghost use Rattle.std.specs.FinSet as set;
 ghost use Rattle.move_plan.specs.Holding.{is_pinned};
 ghost use Rattle.move_plan.specs.Moving.{AreLegal, after_moves};
@@ -10,6 +10,7 @@ use crate::rooms::room;
 use crate::sliding::slide;
 use ak_words::NoMemory;
 use std::alloc::Global;
+use std::process::Abort;
 use std::test::Fail;
 use sub_heaps::{Heaps, Object};
 
@@ -45,25 +46,40 @@ fn pin(pins: &mut Pins, choice: u32)
     }
 }
 
-#[test]
-fn slides_down_and_stays_above_a_pin(rt: HostRuntime) -> Result<(), Fail> {
-    let mut heaps = Heaps::new(rt.alloc(), 1, 4096, 8)?;
+// Places four objects, one behind the other, and frees the second.
+fn leave_a_gap(rt: &impl Abort, heaps: &mut Heaps)
+    requires { heaps.old.most ≡ 8 }
+{
     for (bytes, at) in [(16, 0), (32, 16), (16, 48), (64, 64)] {
         assert!(rt; heaps.live().0 < 8);
         assert_eq!(rt; heaps.place(bytes, 0), Some(at));
     }
-    take_away(&mut heaps, 16);
-    let mut pins = Pins::with_room(rt.alloc(), 1)?;
-    let mut plan = Plan::with_room(rt.alloc(), 8)?;
+    take_away(heaps, 16);
+}
+
+// With the third object pinned no object moves.
+fn stay_above_a_pin(rt: &impl Abort, heaps: &Heaps, pins: &mut Pins, plan: &mut Plan)
+    requires objects { length heaps.now.objects ≤ 8 }
+    requires pins { pins.old ≡ record { room = 1; places = set.empty } }
+    requires plan { plan.old ≡ record { room = 8; moves = [] } }
+    ensures { plan.new.room ≡ 8 }
+{
     pins.add(48);
-    slide(&heaps, &pins, &mut plan);
+    slide(heaps, pins, plan);
     assert_eq!(rt;
-        (pins.has(48), plan.len(), room(&heaps, &pins)),
+        (pins.has(48), plan.len(), room(heaps, pins)),
         (true, 0, 3968)
     );
+}
+
+// With none pinned the upper two move down.
+fn slide_down(rt: &impl Abort, heaps: &mut Heaps, pins: &mut Pins, plan: &mut Plan)
+    requires objects { length heaps.old.objects ≤ 8 }
+    requires room { plan.old.room ≡ 8 }
+{
     pins.clear();
     plan.clear();
-    slide(&heaps, &pins, &mut plan);
+    slide(heaps, pins, plan);
     let low = Move {
         from: 48,
         to: 16,
@@ -74,12 +90,20 @@ fn slides_down_and_stays_above_a_pin(rt: HostRuntime) -> Result<(), Fail> {
         to: 32,
         size: 64,
     };
-    assert_eq!(rt;
-        (plan.len(), plan.get(0), plan.get(1)),
-        (2, Some(low), Some(high))
-    );
-    assert_eq!(rt; room(&heaps, &pins), 4000);
-    make_moves(&mut heaps, &pins, &plan);
+    assert_eq!(rt; (plan.len(), room(heaps, pins)), (2, 4000));
+    assert_eq!(rt; [plan.get(0), plan.get(1)], [Some(low), Some(high)]);
+    make_moves(heaps, pins, plan);
+}
+
+#[test]
+fn slides_down_and_stays_above_a_pin(rt: HostRuntime) -> Result<(), Fail> {
+    let mut pins = Pins::with_room(rt.alloc(), 1)?;
+    let mut plan = Plan::with_room(rt.alloc(), 8)?;
+    let mut heaps = Heaps::new(rt.alloc(), 1, 4096, 8)?;
+    leave_a_gap(&rt, &mut heaps);
+    assert!(rt; heaps.live().0 <= 8);
+    stay_above_a_pin(&rt, &heaps, &mut pins, &mut plan);
+    slide_down(&rt, &mut heaps, &mut pins, &mut plan);
     let moved = [(0, 16), (16, 16), (32, 64)].map(|(at, size)| Some(Object { at, size, owner: 0 }));
     assert_eq!(rt;
         [
@@ -228,28 +252,35 @@ fn slides_like_the_definition(rt: HostRuntime) -> Result<(), Fail> {
     Ok(())
 }
 
-#[test]
-fn tells_legal_plans(rt: HostRuntime) -> Result<(), Fail> {
-    let mut heaps = Heaps::new(rt.alloc(), 1, 64, 8)?;
-    assert_eq!(rt; heaps.place(16, 0), Some(0));
-    let pins = Pins::with_room(rt.alloc(), 1)?;
-    let mut plan = Plan::with_room(rt.alloc(), 2)?;
+// Whether a move up onto free bytes is legal, and whether it is with a move back behind it.
+fn judge_up_and_down(heaps: &Heaps, pins: &Pins, plan: &mut Plan) -> [bool; 2]
+    requires { plan.old ≡ record { room = 2; moves = [] } }
+{
     let up = Move {
         from: 0,
         to: 16,
         size: 16,
     };
     plan.push(up);
-    assert!(rt; is_legal(&heaps, &pins, &plan));
+    let alone = is_legal(heaps, pins, plan);
     let down = Move {
         from: 16,
         to: 0,
         size: 16,
     };
     plan.push(down);
-    assert!(rt; !is_legal(&heaps, &pins, &plan));
+    [alone, is_legal(heaps, pins, plan)]
+}
+
+#[test]
+fn tells_legal_plans(rt: HostRuntime) -> Result<(), Fail> {
+    let pins = Pins::with_room(rt.alloc(), 1)?;
+    let mut plan = Plan::with_room(rt.alloc(), 2)?;
+    let mut heaps = Heaps::new(rt.alloc(), 1, 64, 8)?;
+    assert_eq!(rt; heaps.place(16, 0), Some(0));
+    let legal = judge_up_and_down(&heaps, &pins, &mut plan);
     plan.clear();
-    assert_eq!(rt; plan.len(), 0);
+    assert_eq!(rt; (legal, plan.len()), ([true, false], 0));
     Ok(())
 }
 
@@ -277,11 +308,11 @@ fn take_half(heaps: &mut Heaps, objects: u32)
 // Forty thousand moves are judged at once: a walk over all earlier ones and all objects at each would take minutes.
 #[test]
 fn judges_many_moves(rt: HostRuntime) -> Result<(), Fail> {
+    let pins = Pins::with_room(rt.alloc(), 1)?;
+    let mut plan = Plan::with_room(rt.alloc(), 80_000)?;
     let mut heaps = Heaps::new(rt.alloc(), 1, 2_097_152, 80_000)?;
     place_each(&mut heaps, 80_000);
     take_half(&mut heaps, 80_000);
-    let pins = Pins::with_room(rt.alloc(), 1)?;
-    let mut plan = Plan::with_room(rt.alloc(), 80_000)?;
     assert_eq!(rt; heaps.live(), (40_000, 640_000));
     slide(&heaps, &pins, &mut plan);
     assert_eq!(rt; plan.len(), 40_000);
@@ -305,10 +336,10 @@ fn up(from: u32) -> Move
 // Each object goes up to where the one above it stood: that one has to go first.
 #[test]
 fn judges_moves_in_their_order(rt: HostRuntime) -> Result<(), Fail> {
-    let mut heaps = Heaps::new(rt.alloc(), 1, 64, 3)?;
-    place_each(&mut heaps, 3);
     let pins = Pins::with_room(rt.alloc(), 1)?;
     let mut plan = Plan::with_room(rt.alloc(), 3)?;
+    let mut heaps = Heaps::new(rt.alloc(), 1, 64, 3)?;
+    place_each(&mut heaps, 3);
     plan.push(up(32));
     plan.push(up(16));
     plan.push(up(0));

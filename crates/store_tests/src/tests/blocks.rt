@@ -2,12 +2,15 @@ ghost use Rattle.std.specs.Prelude.{◌≡◌, IsTrue};
 
 use ak_words::{IntType, Num, Rule};
 use block_store::{Access, BlockKind, Cell, LockEnd, Ptr, Store, Value};
+use std::process::Abort;
 use std::test::Fail;
 
-const UNSIGNED_CHAR: Access = Access::Number(IntType {
+const BYTE: IntType = IntType {
     signed: false,
     bits: 8,
-});
+};
+
+const UNSIGNED_CHAR: Access = Access::Number(BYTE);
 
 const INT: Access = Access::Number(IntType::INT);
 
@@ -21,6 +24,13 @@ fn number(ty: IntType, value: i128) -> Value {
     Value::Num(Num::wrapping(ty, value))
 }
 
+// Loads by each row, and compares the answer.
+fn check_loads(rt: &impl Abort, store: &Store, rows: &[(Ptr, Access, Result<Value, Rule>)]) {
+    for (at, how, answer) in rows {
+        assert_eq!(rt; store.load(*at, *how), *answer);
+    }
+}
+
 // -2 is the bytes fe ff ff ff from the lowest on.
 #[test]
 fn numbers_lie_lowest_byte_first(rt: HostRuntime) -> Result<(), Fail> {
@@ -31,30 +41,13 @@ fn numbers_lie_lowest_byte_first(rt: HostRuntime) -> Result<(), Fail> {
         store.store(to(block, 4), minus_two.access(), minus_two),
         Ok(())
     );
-    for (offset, how, ty, value) in [
-        (
-            4,
-            UNSIGNED_CHAR,
-            IntType {
-                signed: false,
-                bits: 8,
-            },
-            254,
-        ),
-        (
-            7,
-            UNSIGNED_CHAR,
-            IntType {
-                signed: false,
-                bits: 8,
-            },
-            255,
-        ),
-        (4, INT, IntType::INT, -2),
-        (0, LONG, IntType::LONG, -8589934592),
-    ] {
-        assert_eq!(rt; store.load(to(block, offset), how), Ok(number(ty, value)));
-    }
+    let rows = [
+        (to(block, 4), UNSIGNED_CHAR, Ok(number(BYTE, 254))),
+        (to(block, 7), UNSIGNED_CHAR, Ok(number(BYTE, 255))),
+        (to(block, 4), INT, Ok(minus_two)),
+        (to(block, 0), LONG, Ok(number(IntType::LONG, -8589934592))),
+    ];
+    check_loads(&rt, &store, &rows);
     Ok(())
 }
 
@@ -64,30 +57,32 @@ fn the_first_broken_rule(rt: HostRuntime) -> Result<(), Fail> {
     let block = store.make(16, BlockKind::Heap, Cell::Unknown)?;
     let pointer = Value::Pointer(to(block, 3));
     assert_eq!(rt; store.store(to(block, 0), Access::Pointer, pointer), Ok(()));
-    assert_eq!(rt; store.load(to(block, 0), Access::Pointer), Ok(pointer));
-    for (at, how, rule) in [
-        (Ptr::Null, INT, Rule::C5),
-        (to(1, 0), INT, Rule::C5),
-        (to(block, 16), UNSIGNED_CHAR, Rule::C5),
-        (to(block, 13), INT, Rule::C5),
-        (to(block, 5), INT, Rule::C6),
-        (to(block, 8), INT, Rule::C4),
-        (to(block, 8), Access::Pointer, Rule::C4),
-        (to(block, 0), LONG, Rule::C16),
-        (to(block, 7), UNSIGNED_CHAR, Rule::C16),
-    ] {
-        assert_eq!(rt; store.load(at, how), Err(rule));
-    }
+    let rows = [
+        (to(block, 0), Access::Pointer, Ok(pointer)),
+        (Ptr::Null, INT, Err(Rule::C5)),
+        (to(1, 0), INT, Err(Rule::C5)),
+        (to(block, 16), UNSIGNED_CHAR, Err(Rule::C5)),
+        (to(block, 13), INT, Err(Rule::C5)),
+        (to(block, 5), INT, Err(Rule::C6)),
+        (to(block, 8), INT, Err(Rule::C4)),
+        (to(block, 8), Access::Pointer, Err(Rule::C4)),
+        (to(block, 0), LONG, Err(Rule::C16)),
+        (to(block, 7), UNSIGNED_CHAR, Err(Rule::C16)),
+    ];
+    check_loads(&rt, &store, &rows);
     let null = Value::Pointer(Ptr::Null);
-    assert_eq!(rt; store.store(to(block, 8), Access::Pointer, null), Ok(()));
-    assert_eq!(rt;
-        store.load(to(block, 8), LONG),
-        Ok(number(IntType::LONG, 0))
-    );
-    assert_eq!(rt; store.load(to(block, 8), Access::Pointer), Ok(null));
     let one = number(IntType::INT, 1);
-    assert_eq!(rt; store.store(to(block, 0), one.access(), one), Ok(()));
-    assert_eq!(rt; store.load(to(block, 0), Access::Pointer), Err(Rule::C16));
+    let stored = [
+        store.store(to(block, 8), Access::Pointer, null),
+        store.store(to(block, 0), one.access(), one),
+    ];
+    assert_eq!(rt; stored, [Ok(()); 2]);
+    let rows = [
+        (to(block, 8), LONG, Ok(number(IntType::LONG, 0))),
+        (to(block, 8), Access::Pointer, Ok(null)),
+        (to(block, 0), Access::Pointer, Err(Rule::C16)),
+    ];
+    check_loads(&rt, &store, &rows);
     Ok(())
 }
 
@@ -96,28 +91,30 @@ fn ends_of_blocks(rt: HostRuntime) -> Result<(), Fail> {
     let mut store = Store::new(rt.alloc());
     let literal = store.make_literal(&[65, 0])?;
     let heap = store.make(4, BlockKind::Heap, Cell::Unknown)?;
-    assert_eq!(rt; (literal, heap), (0, 1));
+    assert_eq!(rt; [literal, heap], [0, 1]);
     let one = number(IntType::CHAR, 1);
-    assert_eq!(rt;
+    let answers = [
         store.store(to(literal, 0), one.access(), one),
-        Err(Rule::C12)
-    );
-    for (at, answer) in [
-        (Ptr::Null, Ok(())),
-        (to(literal, 0), Err(Rule::C10)),
-        (to(heap, 1), Err(Rule::C10)),
-        (to(heap, 0), Ok(())),
-        (to(heap, 0), Err(Rule::C10)),
-    ] {
-        assert_eq!(rt; store.free(at), answer);
-    }
-    assert_eq!(rt; store.live_size(heap), None);
-    assert_eq!(rt; store.live_size(literal), Some(2));
+        store.free(Ptr::Null),
+        store.free(to(literal, 0)),
+        store.free(to(heap, 1)),
+        store.free(to(heap, 0)),
+        store.free(to(heap, 0)),
+    ];
+    let wanted = [
+        Err(Rule::C12),
+        Ok(()),
+        Err(Rule::C10),
+        Err(Rule::C10),
+        Ok(()),
+        Err(Rule::C10),
+    ];
+    assert_eq!(rt; answers, wanted);
+    let sizes = [store.live_size(heap), store.live_size(literal)];
+    assert_eq!(rt; sizes, [None, Some(2)]);
     let letter = Access::Number(IntType::CHAR);
-    assert_eq!(rt;
-        store.load(to(literal, 0), letter),
-        Ok(number(IntType::CHAR, 65))
-    );
+    let row = (to(literal, 0), letter, Ok(number(IntType::CHAR, 65)));
+    check_loads(&rt, &store, &[row]);
     Ok(())
 }
 
@@ -125,9 +122,9 @@ fn ends_of_blocks(rt: HostRuntime) -> Result<(), Fail> {
 fn an_ended_name(rt: HostRuntime) -> Result<(), Fail> {
     let mut store = Store::new(rt.alloc());
     let local = store.make(0, BlockKind::Local, Cell::Unknown)?;
-    assert_eq!(rt; store.live_size(local), Some(0));
+    let before = store.live_size(local);
     store.end(local);
-    assert_eq!(rt; store.live_size(local), None);
+    assert_eq!(rt; [before, store.live_size(local)], [Some(0), None]);
     Ok(())
 }
 
@@ -143,13 +140,17 @@ fn must_wait(store: &mut Store, at: Ptr, thread: u32) -> bool
 fn one_holder(rt: HostRuntime) -> Result<(), Fail> {
     let mut store = Store::new(rt.alloc());
     let mutex = to(store.make(8, BlockKind::Global, Cell::Byte(0))?, 0);
-    assert_eq!(rt; store.lock(mutex, 1), Ok(LockEnd::Got));
-    assert_eq!(rt; store.lock(mutex, 1), Err(Rule::C13));
+    let locked = [store.lock(mutex, 1), store.lock(mutex, 1)];
+    assert_eq!(rt; locked, [Ok(LockEnd::Got), Err(Rule::C13)]);
     assert!(rt; must_wait(&mut store, mutex, 0));
-    assert_eq!(rt; store.may_destroy(mutex), Err(Rule::C13));
-    assert_eq!(rt; store.unlock(mutex, 0), Err(Rule::C13));
-    assert_eq!(rt; store.unlock(mutex, 1), Ok(()));
-    assert_eq!(rt; store.may_destroy(mutex), Ok(()));
+    let answers = [
+        store.may_destroy(mutex),
+        store.unlock(mutex, 0),
+        store.unlock(mutex, 1),
+        store.may_destroy(mutex),
+    ];
+    let wanted = [Err(Rule::C13), Err(Rule::C13), Ok(()), Ok(())];
+    assert_eq!(rt; answers, wanted);
     Ok(())
 }
 
@@ -159,21 +160,34 @@ fn copies(rt: HostRuntime) -> Result<(), Fail> {
     let mut store = Store::new(rt.alloc());
     let literal = store.make_literal(&[104, 105, 0])?;
     let block = store.make(8, BlockKind::Heap, Cell::Unknown)?;
-    for (target, source, n, align, same, answer) in [
-        (to(block, 1), to(9, 0), 4, 4, false, Err(Rule::C6)),
-        (to(literal, 0), to(9, 0), 2, 1, false, Err(Rule::C5)),
-        (to(literal, 0), to(literal, 0), 2, 1, false, Err(Rule::C12)),
-        (to(block, 0), to(block, 1), 2, 1, false, Err(Rule::C11)),
-        (to(block, 0), to(block, 0), 8, 4, true, Ok(())),
-        (Ptr::Null, Ptr::Null, 0, 1, false, Ok(())),
-        (to(block, 1), to(literal, 0), 3, 1, false, Ok(())),
-        (to(block, 4), to(block, 1), 3, 1, false, Ok(())),
-    ] {
-        assert_eq!(rt; store.copy(target, source, n, align, same), answer);
-    }
-    assert_eq!(rt; store.text_len(to(block, 4)), Ok(2));
-    assert_eq!(rt; store.text_len(to(block, 2)), Ok(1));
-    assert_eq!(rt; store.text_len(to(block, 7)), Err(Rule::C4));
-    assert_eq!(rt; store.text_len(to(literal, 3)), Err(Rule::C5));
+    let answers = [
+        store.copy(to(block, 1), to(9, 0), 4, 4, false),
+        store.copy(to(literal, 0), to(9, 0), 2, 1, false),
+        store.copy(to(literal, 0), to(literal, 0), 2, 1, false),
+        store.copy(to(block, 0), to(block, 1), 2, 1, false),
+        store.copy(to(block, 0), to(block, 0), 8, 4, true),
+        store.copy(Ptr::Null, Ptr::Null, 0, 1, false),
+        store.copy(to(block, 1), to(literal, 0), 3, 1, false),
+        store.copy(to(block, 4), to(block, 1), 3, 1, false),
+    ];
+    let wanted = [
+        Err(Rule::C6),
+        Err(Rule::C5),
+        Err(Rule::C12),
+        Err(Rule::C11),
+        Ok(()),
+        Ok(()),
+        Ok(()),
+        Ok(()),
+    ];
+    assert_eq!(rt; answers, wanted);
+    let lengths = [
+        store.text_len(to(block, 4)),
+        store.text_len(to(block, 2)),
+        store.text_len(to(block, 7)),
+        store.text_len(to(literal, 3)),
+    ];
+    let wanted = [Ok(2), Ok(1), Err(Rule::C4), Err(Rule::C5)];
+    assert_eq!(rt; lengths, wanted);
     Ok(())
 }

@@ -1,5 +1,6 @@
 ghost use Rattle.std.specs.Prelude.{◌≡◌, ◌≤◌};
 
+use std::process::Abort;
 use std::test::Fail;
 use sub_heaps::{Heaps, Object};
 
@@ -27,10 +28,19 @@ fn free_at(heaps: &mut Heaps, at: u32) -> Option<u32>
     Some(object.size)
 }
 
+// Places objects of so many bytes in turn, of which eight may live, and compares each place.
+fn check_places(rt: &impl Abort, heaps: &mut Heaps, rows: &[(u64, Option<u32>)])
+    requires { heaps.old.most ≡ 8 }
+{
+    for (bytes, place) in rows {
+        assert_eq!(rt; place_below(heaps, 8, *bytes), *place, "{bytes} bytes");
+    }
+}
+
 #[test]
 fn takes_the_lowest_places(rt: HostRuntime) -> Result<(), Fail> {
     let mut heaps = Heaps::new(rt.alloc(), 2, 64, 8)?;
-    let wanted = [
+    let rows = [
         (0, Some(0)),
         (49, Some(64)),
         (32, Some(16)),
@@ -39,12 +49,12 @@ fn takes_the_lowest_places(rt: HostRuntime) -> Result<(), Fail> {
         (65, None),
         (u64::MAX, None),
     ];
-    for (bytes, place) in wanted {
-        assert_eq!(rt; place_below(&mut heaps, 8, bytes), place, "{bytes} bytes");
-    }
-    assert_eq!(rt; (heaps.count(), heaps.size()), (2, 64));
-    assert_eq!(rt; heaps.live(), (4, 128));
-    assert_eq!(rt; heaps.extent(), 128);
+    check_places(&rt, &mut heaps, &rows);
+    let shape = (heaps.count(), heaps.size());
+    assert_eq!(rt;
+        (shape, heaps.live(), heaps.extent()),
+        ((2, 64), (4, 128), 128)
+    );
     Ok(())
 }
 
@@ -58,9 +68,9 @@ fn moves_and_frees_an_object(rt: HostRuntime) -> Result<(), Fail> {
         size: 16,
         owner: 7,
     };
-    assert_eq!(rt; heaps.next_object(1), Some(moved));
-    assert_eq!(rt; heaps.next_object(65), None);
+    let found = [heaps.next_object(1), heaps.next_object(65)];
     heaps.free(64);
+    assert_eq!(rt; found, [Some(moved), None]);
     assert_eq!(rt; heaps.live(), (0, 0));
     Ok(())
 }

@@ -1,5 +1,5 @@
 use Rattle.std.proofs.Common.{◌≡◌}
-use Rattle.store_tests.proofs.tests.heaps.takes_the_lowest_places.Given as goal
+use Rattle.move_plan.proofs.tests.leave_a_gap.Given as goal
 
 abbrev pub invariant-loop-bytes : goal.invariant-loop-bytes
 invariant-loop-bytes g l = l.heaps.most ≡ 8
