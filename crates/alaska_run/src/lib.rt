@@ -21,6 +21,3 @@ pub use laws::{
     small_programs_mean_what_they_should,
 };
 pub use status::{Ending, Status, Trap, TrapKind};
-
-#[cfg(test)]
-mod tests;

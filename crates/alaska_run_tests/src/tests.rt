@@ -1,6 +1,6 @@
-use crate::{Status, TrapKind, alaska};
 use ak_io::{MemShelf, MemSink};
 use ak_words::NoMemory;
+use alaska_run::{Status, TrapKind, alaska};
 use c_lex::Kind;
 use std::alloc::Global;
 use std::process::Abort;
