@@ -10,8 +10,6 @@ pub mod memory;
 pub mod number;
 pub mod operation;
 pub mod rule;
-#[cfg(test)]
-mod tests;
 pub mod wrapping;
 
 pub use conversion::{common, convert, promote};

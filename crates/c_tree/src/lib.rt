@@ -7,8 +7,6 @@ pub mod syntax;
 pub mod typed;
 pub mod typed_laws;
 pub mod typed_layout;
-#[cfg(test)]
-mod typed_tests;
 
 pub use syntax::Program;
 pub use typed_layout::{align_of, size_of};

@@ -1,11 +1,12 @@
+//! Sizes and alignments of types.
 ghost use Rattle.std.specs.Prelude.{◌≡◌, ◌+◌, ◌*◌, ◌<◌, ◌≤◌, map};
 ghost use Rattle.c_tree.specs.Typed.{array};
 ghost use Rattle.c_tree.specs.TypedViews.{type_view, layout_view};
 ghost use Rattle.c_tree.specs.TypedLayout.{IsSized, size_in};
 
-use crate::typed::{CType, Layout};
-use crate::{align_of, size_of};
 use ak_words::IntType;
+use c_tree::typed::{CType, Layout};
+use c_tree::{align_of, size_of};
 use std::alloc::{AllocError, AllocFailed, Global};
 use std::test::Fail;
 

@@ -1,4 +1,5 @@
-use crate::{IntType, NoMemory, Num, Op, Rule, apply, common, convert, promote, wrap_apply};
+//! Operations on C integers, against what gcc's programs print.
+use ak_words::{IntType, NoMemory, Num, Op, Rule, apply, common, convert, promote, wrap_apply};
 use std::test::Fail;
 
 const UNSIGNED_CHAR: IntType = IntType {

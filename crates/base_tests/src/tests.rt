@@ -1,0 +1,4 @@
+//! A module for each crate.
+mod journal;
+mod sizes;
+mod words;
