@@ -1,6 +1,6 @@
 -- What threads share, and what one action of a thread makes of it. The meaning of the source and that of structured code stand on
 -- these; neither knows anything else of what other threads did.
-use Rattle.std.specs.Prelude.{ℕ, ◌^◌, ◌==◌, nat_lt, Bool, if◌then◌else◌, List, [], ◌∷◌, ◌++◌, length, set, slice_get, Option, Some, None, Result, Ok, Err, ℤ, pos}
+use Rattle.std.specs.Prelude.{ℕ, zero, suc, ◌^◌, ◌==◌, nat_lt, Bool, true, false, if◌then◌else◌, List, [], ◌∷◌, ◌++◌, length, drop, set, slice_get, Option, Some, None, Result, Ok, Err, ℤ, pos}
 use Rattle.ak_words.specs.declared.rule.Rule.{Rule}
 use Rattle.ak_words.specs.declared.rule.Rule.TheVariants.{C14}
 use Rattle.ak_words.specs.IntType.{int, unsigned_long}
@@ -10,12 +10,13 @@ use Rattle.block_store.specs.declared.values.Answer.{Answer}
 use Rattle.block_store.specs.declared.values.Answer.TheVariants as answers
 use Rattle.block_store.specs.declared.values.BlockKind.TheVariants as kinds
 use Rattle.block_store.specs.declared.values.Cell.{Cell}
-use Rattle.block_store.specs.declared.values.Cell.TheVariants.{Unknown}
+use Rattle.block_store.specs.declared.values.Cell.TheVariants.{Unknown, Byte, Part}
 use Rattle.block_store.specs.declared.values.Ptr.{Ptr}
 use Rattle.block_store.specs.declared.values.Ptr.TheVariants.{Null, To}
 use Rattle.block_store.specs.declared.values.Value.{Value}
 use Rattle.block_store.specs.declared.values.Value.TheVariants as values
-use Rattle.block_store.specs.Blocks.{Blocks, made, ended, loaded, stored, copied, freed}
+use Rattle.block_store.specs.Blocks.{Block, Blocks, live, made, ended, loaded, stored, copied, freed}
+use Rattle.block_store.specs.Cells.{size_of, access_of}
 use Rattle.block_store.specs.Mutexes.{locked, unlocked, destroyed}
 use Rattle.block_store.specs.Texts.{text_at}
 
@@ -33,11 +34,20 @@ pub record Thread : Type 0 where
   pub argument : Ptr
   pub stage : Stage
 
--- what threads share: the blocks, the bytes that were printed, and the threads by number, in the order in which they were made
+-- bytes of a block that an action reaches: so many from an offset on, which it reads or writes
+pub record Reached : Type 0 where
+  pub block : ℕ
+  pub offset : ℕ
+  pub bytes : ℕ
+  pub writes : Bool
+
+-- what threads share: the blocks, the bytes that were printed, and the threads by number, in the order in which they were made; and
+-- beside these what the last action that was done reached
 pub record World : Type 0 where
   pub blocks : Blocks
   pub output : List ℕ
   pub threads : List Thread
+  pub reached : List Reached
 
 -- a thread that begins
 abbrev pub beginning : (function : ℕ) → (argument : Ptr) → Thread
@@ -45,11 +55,11 @@ beginning function argument = record { function = function; argument = argument;
 
 -- the world in which a run begins: the blocks of the globals and literals, and thread 0, which is in main
 abbrev pub first_world : Blocks → (main : ℕ) → World
-first_world blocks main = record { blocks = blocks; output = []; threads = beginning main Null ∷ [] }
+first_world blocks main = record { blocks = blocks; output = []; threads = beginning main Null ∷ []; reached = [] }
 
 -- the world with these blocks in place of its own
 abbrev pub with_blocks : World → Blocks → World
-with_blocks w blocks = record { blocks = blocks; output = w.output; threads = w.threads }
+with_blocks w blocks = record { blocks = blocks; output = w.output; threads = w.threads; reached = w.reached }
 
 -- a thread that has come to this stage
 abbrev pub at_stage : Stage → Thread → Thread
@@ -58,7 +68,7 @@ at_stage stage t = record { function = t.function; argument = t.argument; stage 
 -- the world with this thread, which has that number, at the stage; where there is no such thread, nothing changes
 abbrev pub staged_if : World → ℕ → Stage → Option Thread → World
 staged_if w number stage None = w
-staged_if w number stage (Some t) = record { blocks = w.blocks; output = w.output; threads = set w.threads number (at_stage stage t) }
+staged_if w number stage (Some t) = record { blocks = w.blocks; output = w.output; threads = set w.threads number (at_stage stage t); reached = w.reached }
 
 -- the world after the thread of this number has come to the stage
 abbrev pub staged : World → (number : ℕ) → Stage → World
@@ -183,13 +193,13 @@ all_bytes blocks (part ∷ parts) = joined_bytes (printed_bytes blocks part) (al
 -- they are printed, all or none, and the value is their number as an int, modulo 2^32 (C11 7.21.6.3; this project's profile where it is too great)
 abbrev pub prints : World → Result (List ℕ) Rule → Done
 prints w (Err rule) = broke rule
-prints w (Ok all) = went (int_value (pos (length all))) (record { blocks = w.blocks; output = w.output ++ all; threads = w.threads })
+prints w (Ok all) = went (int_value (pos (length all))) (record { blocks = w.blocks; output = w.output ++ all; threads = w.threads; reached = w.reached })
 
 -- a thread is made where its number could be stored, and the value is thrd_success (C11 7.26.5.1)
 abbrev pub starts : World → (function : ℕ) → (argument : Ptr) → Result Blocks Rule → Done
 starts w function argument (Err rule) = broke rule
 starts w function argument (Ok blocks) =
-    went (int_value (pos 0)) (record { blocks = blocks; output = w.output; threads = w.threads ++ beginning function argument ∷ [] })
+    went (int_value (pos 0)) (record { blocks = blocks; output = w.output; threads = w.threads ++ beginning function argument ∷ []; reached = w.reached })
 
 -- the number of the next thread, as a thrd_t
 abbrev pub next_number : World → Value
@@ -247,6 +257,89 @@ outcomes w thread (start to function argument) =
 outcomes w thread (join number to) = settled (joined_by w thread number to)
 outcomes w thread (finish value) = settled (went None (staged w thread (returned (result_of value))))
 
+-- ---- which bytes an action reaches
+
+-- so many bytes at a pointer; none at null
+abbrev pub bytes_at : (writes : Bool) → (bytes : ℕ) → Ptr → List Reached
+bytes_at writes n Null = []
+bytes_at writes n (To block offset) = record { block = block; offset = offset; bytes = n; writes = writes } ∷ []
+
+-- how many cells are read of a text: those up to the first zero byte, and with it, or up to the first that is no byte
+abbrev pub cells_read : List Cell → ℕ
+cells_read [] = 0
+cells_read (Byte zero ∷ cells) = 1
+cells_read (Byte (suc n) ∷ cells) = suc (cells_read cells)
+cells_read (Unknown ∷ cells) = 1
+cells_read (Part block offset part ∷ cells) = 1
+
+-- the cells from an offset of a block on, if it lives
+abbrev pub cells_from : (offset : ℕ) → Option Block → List Cell
+cells_from offset None = []
+cells_from offset (Some b) = drop offset b.cells
+
+-- the bytes that are read of the text at a pointer
+abbrev pub text_reads : Blocks → Ptr → List Reached
+text_reads blocks Null = []
+text_reads blocks (To name offset) = bytes_at false (cells_read (cells_from offset (live blocks name))) (To name offset)
+
+-- the bytes that are read for a part of what one call prints
+abbrev pub printed_reads : Blocks → Printed → List Reached
+printed_reads blocks (bytes all) = []
+printed_reads blocks (text at) = text_reads blocks at
+
+-- those of the parts behind one, which are read only where that one breaks no rule
+abbrev pub unless_broken : Result (List ℕ) Rule → List Reached → List Reached
+unless_broken (Ok all) reached = reached
+unless_broken (Err rule) reached = []
+
+-- those of all parts, in order
+abbrev pub parts_reads : Blocks → List Printed → List Reached
+parts_reads blocks [] = []
+parts_reads blocks (part ∷ parts) = printed_reads blocks part ++ unless_broken (printed_bytes blocks part) (parts_reads blocks parts)
+
+-- what an action reads, also where it then waits or breaks a rule: a mutex is a number of 8 bytes
+abbrev pub reads_of : World → Action → List Reached
+reads_of w (load at how) = bytes_at false (size_of how) at
+reads_of w (store at value) = []
+reads_of w (copy to from n align same) = if n == 0 then [] else bytes_at false n from
+reads_of w (allocate size first) = []
+reads_of w (free at) = []
+reads_of w (print parts) = parts_reads w.blocks parts
+reads_of w (lock at) = bytes_at false 8 at
+reads_of w (unlock at) = bytes_at false 8 at
+reads_of w (destroy at) = bytes_at false 8 at
+reads_of w (start to function argument) = []
+reads_of w (join number to) = []
+reads_of w (finish value) = []
+
+-- the number of a thread is written where it is made
+abbrev pub start_writes : Answer → Ptr → List Reached
+start_writes answers.Plain to = []
+start_writes answers.Got to = bytes_at true 8 to
+start_writes answers.None to = []
+
+-- what an action writes, where it is done under this answer: the number of a thread has 8 bytes, and its result 4
+abbrev pub writes_of : Answer → Action → List Reached
+writes_of answer (load at how) = []
+writes_of answer (store at value) = bytes_at true (size_of (access_of value)) at
+writes_of answer (copy to from n align same) = if n == 0 then [] else bytes_at true n to
+writes_of answer (allocate size first) = []
+writes_of answer (free at) = []
+writes_of answer (print parts) = []
+writes_of answer (lock at) = bytes_at true 8 at
+writes_of answer (unlock at) = bytes_at true 8 at
+writes_of answer (destroy at) = []
+writes_of answer (start to function argument) = start_writes answer to
+writes_of answer (join number to) = bytes_at true 4 to
+writes_of answer (finish value) = []
+
+-- what is done, in a world that tells what it reached
+abbrev pub noted : List Reached → Done → Done
+noted reached (went v w) = went v (record { blocks = w.blocks; output = w.output; threads = w.threads; reached = reached })
+noted reached blocked = blocked
+noted reached unfit = unfit
+noted reached (broke rule) = broke rule
+
 -- what an action of a thread does under an answer
 abbrev pub acted : World → (thread : ℕ) → Answer → Action → Done
-acted w thread answer action = under answer (outcomes w thread action)
+acted w thread answer action = noted (reads_of w action ++ writes_of answer action) (under answer (outcomes w thread action))

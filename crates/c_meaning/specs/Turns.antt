@@ -326,7 +326,7 @@ abbrev mutual
   run_node h place ty (tree.and_also a b) w x = run h a (first_test_way (tree.place_of a) false b (run h b) w) x
   run_node h place ty (tree.or_else a b) w x = run h a (first_test_way (tree.place_of a) true b (run h b) w) x
   run_node h place ty (tree.choose c a b) w x = run h c (choice_way (tree.place_of c) a b (run h a) (run h b) w) x
-  run_node h place ty (tree.pointer_add p n) w x = run h p (first_way place (forward (size_of_elements h p)) n (run h n) w) x
+  run_node h place ty (tree.pointer_add a b) w x = run h a (first_way place (forward (element_size h.typed.structs ty)) b (run h b) w) x
   run_node h place ty (tree.pointer_sub p n) w x = run h p (first_way place (backward (size_of_elements h p)) n (run h n) w) x
   run_node h place ty (tree.pointer_diff p q) w x = run h p (first_way place (distance (size_of_elements h p)) q (run h q) w) x
   run_node h place ty (tree.pointer_compare op p q) w x = run h p (first_way place (on_pointers op) q (run h q) w) x

@@ -104,8 +104,8 @@ pub data Unary : Type 0 where
   tests : Unary
   selects : (offset : ℕ) → Unary
 
--- on two values: an operator on numbers; a pointer plus, or minus, a number of elements of a size; the elements between two
--- pointers; a comparison of two pointers
+-- on two values: an operator on numbers; a pointer plus a number of elements of a size, whichever stands first, or minus one; the
+-- elements between two pointers; a comparison of two pointers
 pub data Binary : Type 0 where
   on_numbers : (op : Op) → Binary
   forward : (size : ℕ) → Binary
@@ -129,6 +129,7 @@ of_one blocks (selects offset) v = selected blocks offset v
 abbrev pub of_two : Blocks → Binary → Value → Value → Result Value Rule
 of_two blocks (on_numbers op) (values.Num a) (values.Num b) = value_of (result_of op a b)
 of_two blocks (forward size) (values.Pointer p) (values.Num n) = pointer_of (indexed blocks p n.value size)
+of_two blocks (forward size) (values.Num n) (values.Pointer p) = pointer_of (indexed blocks p n.value size)
 of_two blocks (backward size) (values.Pointer p) (values.Num n) = pointer_of (indexed blocks p (neg_ℤ n.value) size)
 of_two blocks (distance size) (values.Pointer p) (values.Pointer q) = long_result (difference blocks p q size)
 of_two blocks (on_pointers op) (values.Pointer p) (values.Pointer q) = int_result (compared blocks op p q)

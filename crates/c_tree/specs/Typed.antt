@@ -72,7 +72,7 @@ mutual
     and_also : (left right : Expr) → ExprNode
     or_else : (left right : Expr) → ExprNode
     choose : (condition yes_ no_ : Expr) → ExprNode
-    pointer_add : (p n : Expr) → ExprNode
+    pointer_add : (left right : Expr) → ExprNode
     pointer_sub : (p n : Expr) → ExprNode
     pointer_diff : (p q : Expr) → ExprNode
     pointer_compare : (op : Op) (p q : Expr) → ExprNode

@@ -44,6 +44,12 @@ abbrev pub PointsToSized : List Layout → Ty → Type 0
 PointsToSized structs (pointer t) = IsSized structs t
 PointsToSized structs t = ⊥
 
+-- one of the two is a pointer of this type to what has a size, and the other a number, whichever stands first (6.5.6 p2)
+abbrev pub MovesPointer : List Layout → (a b ty : Ty) → Type 0
+MovesPointer structs (pointer s) (integer t) ty = IsSized structs s × (ty ≡ pointer s)
+MovesPointer structs (integer t) (pointer s) ty = IsSized structs s × (ty ≡ pointer s)
+MovesPointer structs a b ty = ⊥
+
 -- at least 32 bits
 abbrev pub IsPromoted : IntType → Type 0
 IsPromoted t = promoted_type t ≡ t
@@ -192,7 +198,7 @@ abbrev mutual
   IsTypedNode c ty (and_also a b) = IsTyped c a × IsTyped c b × IsScalar (type_of a) × IsScalar (type_of b) × (ty ≡ integer int)
   IsTypedNode c ty (or_else a b) = IsTyped c a × IsTyped c b × IsScalar (type_of a) × IsScalar (type_of b) × (ty ≡ integer int)
   IsTypedNode c ty (choose a b d) = IsTyped c a × IsTyped c b × IsTyped c d × IsScalar (type_of a) × IsInteger ty × (type_of b ≡ ty) × (type_of d ≡ ty)
-  IsTypedNode c ty (pointer_add p n) = IsTyped c p × IsTyped c n × PointsToSized c.structs (type_of p) × IsInteger (type_of n) × (ty ≡ type_of p)
+  IsTypedNode c ty (pointer_add a b) = IsTyped c a × IsTyped c b × MovesPointer c.structs (type_of a) (type_of b) ty
   IsTypedNode c ty (pointer_sub p n) = IsTyped c p × IsTyped c n × PointsToSized c.structs (type_of p) × IsInteger (type_of n) × (ty ≡ type_of p)
   IsTypedNode c ty (pointer_diff p q) = IsTyped c p × IsTyped c q × PointsToSized c.structs (type_of p) × IsPointer (type_of q) × (ty ≡ integer long)
   IsTypedNode c ty (pointer_compare op p q) = IsTyped c p × IsTyped c q × IsPointer (type_of p) × IsPointer (type_of q) × (is_comparison op ≡ true) × (ty ≡ integer int)

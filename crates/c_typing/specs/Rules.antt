@@ -171,9 +171,9 @@ operands (pointer t) (integer s) = pointer_number t s
 operands (pointer s) (pointer t) = pointers s t
 operands s t = others
 
--- a pointer moved up or down by a number of elements
+-- a pointer moved up by a number of elements, whichever of the two stands first (C11 6.5.6 p8)
 abbrev pub moved_up : Context → ℕ → Ty → Expr → Expr → Judged Expr
-moved_up c place target p n = sized c place target >>= λ u. typed (at place (pointer target) (pointer_add p n))
+moved_up c place target a b = sized c place target >>= λ u. typed (at place (pointer target) (pointer_add a b))
 
 -- a pointer moved down by a number of elements (C11 6.5.6 p8)
 abbrev pub moved_down : Context → ℕ → Ty → Expr → Expr → Judged Expr
@@ -183,7 +183,7 @@ moved_down c place target p n = sized c place target >>= λ u. typed (at place (
 abbrev pub sum : Context → ℕ → Operands → Expr → Expr → Judged Expr
 sum c place (numbers s t) a b = typed (arithmetic place ops.Add s a t b)
 sum c place (pointer_number target s) a b = moved_up c place target a b
-sum c place (number_pointer s target) a b = moved_up c place target b a
+sum c place (number_pointer s target) a b = moved_up c place target a b
 sum c place (pointers s t) a b = refuse place TypeMismatch
 sum c place others a b = refuse place TypeMismatch
 

@@ -132,9 +132,13 @@ abbrev pub indexed_if : (scale : ℕ) → Option ℕ → Reach
 indexed_if scale None = found
 indexed_if scale (Some base) = indexed base scale 0
 
--- what this pointer points to: p[i] goes by the register of p and an index
+-- the register of a pointer that stands first in a sum; a number has none there
+abbrev pub pointer_register : Frame → tree.Expr → Option ℕ
+pointer_register f e = if is_pointer (tree.type_of e) then register_of f e else None
+
+-- what this pointer points to: p[i] goes by the register of p and an index, and i[p] by the sum
 abbrev pub pointed_in : Frame → tree.Ty → tree.ExprNode → Reach
-pointed_in f ty (tree.pointer_add p n) = indexed_if (element_size f.structs (tree.type_of p)) (register_of f p)
+pointed_in f ty (tree.pointer_add a b) = indexed_if (element_size f.structs ty) (pointer_register f a)
 pointed_in f ty node = direct_if (register_in f ty node)
 
 -- by its form
@@ -180,6 +184,11 @@ member_nodes place offset w t rest = sets_long place w offset (sets place t (ir.
 abbrev pub converts : (place : ℕ) → tree.Ty → (t : ℕ) → Nodes → Nodes
 converts place (tree.integer s) t rest = sets place t (ir.convert s t) rest
 converts place ty t rest = rest
+
+-- the sum of a pointer and a number of elements, of which the first stands in t and the other in u
+abbrev pub sum_calc : (pointer_first : Bool) → (t u size : ℕ) → Calc
+sum_calc true t u size = ir.pointer_add t u size
+sum_calc false t u size = ir.pointer_add u t size
 
 -- the type of the numbers of an operand; in a well formed tree there's no other operand
 abbrev pub number_type : tree.Ty → IntType
@@ -255,8 +264,8 @@ abbrev mutual
       expr_nodes f a t (branches (tree.place_of a) t (sets_int (tree.place_of a) t 1 no_nodes) (expr_nodes f b t (sets_truth (tree.place_of b) t 1 0 no_nodes)) rest)
   value_nodes f place ty (tree.choose c a b) t rest =
       expr_nodes f c t (branches (tree.place_of c) t (expr_nodes f a t no_nodes) (expr_nodes f b t no_nodes) rest)
-  value_nodes f place ty (tree.pointer_add p n) t rest =
-      expr_nodes f p t (expr_nodes f n (suc t) (sets place t (ir.pointer_add t (suc t) (element_size f.structs (tree.type_of p))) rest))
+  value_nodes f place ty (tree.pointer_add a b) t rest =
+      expr_nodes f a t (expr_nodes f b (suc t) (sets place t (sum_calc (is_pointer (tree.type_of a)) t (suc t) (element_size f.structs ty)) rest))
   value_nodes f place ty (tree.pointer_sub p n) t rest =
       expr_nodes f p t (expr_nodes f n (suc t) (sets place t (ir.pointer_sub t (suc t) (element_size f.structs (tree.type_of p))) rest))
   value_nodes f place ty (tree.pointer_diff p q) t rest =
