@@ -77,7 +77,7 @@ mutual
   node_too f e ls c ty (and_also (at p t x) (at q u y)) h = (node_too f e ls c t x h.0, node_too f e ls c u y h.1, h.2, h.3, h.4)
   node_too f e ls c ty (or_else (at p t x) (at q u y)) h = (node_too f e ls c t x h.0, node_too f e ls c u y h.1, h.2, h.3, h.4)
   node_too f e ls c ty (choose (at p t x) (at q u y) (at r v z)) h = (node_too f e ls c t x h.0, node_too f e ls c u y h.1, node_too f e ls c v z h.2, h.3, h.4, h.5, h.6)
-  node_too f e ls c ty (pointer_add (at p t x) (at q u y)) h = (node_too f e ls c t x h.0, node_too f e ls c u y h.1, h.2, h.3, h.4)
+  node_too f e ls c ty (pointer_add (at p t x) (at q u y)) h = (node_too f e ls c t x h.0, node_too f e ls c u y h.1, h.2)
   node_too f e ls c ty (pointer_sub (at p t x) (at q u y)) h = (node_too f e ls c t x h.0, node_too f e ls c u y h.1, h.2, h.3, h.4)
   node_too f e ls c ty (pointer_diff (at p t x) (at q u y)) h = (node_too f e ls c t x h.0, node_too f e ls c u y h.1, h.2, h.3, h.4)
   node_too f e ls c ty (pointer_compare op (at p t x) (at q u y)) h = (node_too f e ls c t x h.0, node_too f e ls c u y h.1, h.2, h.3, h.4, h.5)

@@ -14,7 +14,7 @@ use Rattle.ak_words.proofs.Types.{int_type_is, half_twice}
 use Rattle.c_tree.specs.Typed.{Ty, void, integer, mutex, pointer, array, structure, Layout, Lib, print, malloc, free, copy, start, join, mutex_init, mutex_lock, mutex_unlock, mutex_destroy}
 use Rattle.c_tree.specs.Typed.{Expr, at, ExprNode, num, null, literal, global, local, deref, member, address_of, decay, convert, not_, binary, and_also, or_else, choose}
 use Rattle.c_tree.specs.Typed.{pointer_add, pointer_sub, pointer_diff, pointer_compare, pointer_test, call, lib, Exprs, type_of, node_of, place_of}
-use Rattle.c_tree.specs.TypedForm.{IsInteger, IsPointer, IsScalar, IsResult, Fits, PointsToSized, IsPromoted, AreOperands, type_of_result, is_comparison, Converts, IsNth, IsLvalue, IsInMemory, IsLibCall, IsTyped, IsTypedNode}
+use Rattle.c_tree.specs.TypedForm.{IsInteger, IsPointer, IsScalar, IsResult, Fits, PointsToSized, MovesPointer, IsPromoted, AreOperands, type_of_result, is_comparison, Converts, IsNth, IsLvalue, IsInMemory, IsLibCall, IsTyped, IsTypedNode}
 use Rattle.c_tree.specs.TypedForm as form
 use Rattle.c_lex.specs.declared.refusal.Kind.TheVariants.{TypeMismatch, BadSize}
 use Rattle.c_typing.specs.Faults.{typed, unless, ◌>>=◌}
@@ -124,6 +124,24 @@ no_sized_pointer s mutex h a = h
 no_sized_pointer s (array t n) h a = h
 no_sized_pointer s (structure n) h a = h
 
+moved_pointer : (s : List Layout) (a b ty : Ty) → MovesPointer s a b ty → (t : Ty) × (ty ≡ pointer t)
+moved_pointer s (pointer p) (integer i) ty h = (p, h.1)
+moved_pointer s (pointer p) void ty h = elim h [ ]
+moved_pointer s (pointer p) mutex ty h = elim h [ ]
+moved_pointer s (pointer p) (pointer q) ty h = elim h [ ]
+moved_pointer s (pointer p) (array t n) ty h = elim h [ ]
+moved_pointer s (pointer p) (structure n) ty h = elim h [ ]
+moved_pointer s (integer i) (pointer p) ty h = (p, h.1)
+moved_pointer s (integer i) void ty h = elim h [ ]
+moved_pointer s (integer i) mutex ty h = elim h [ ]
+moved_pointer s (integer i) (integer j) ty h = elim h [ ]
+moved_pointer s (integer i) (array t n) ty h = elim h [ ]
+moved_pointer s (integer i) (structure n) ty h = elim h [ ]
+moved_pointer s void b ty h = elim h [ ]
+moved_pointer s mutex b ty h = elim h [ ]
+moved_pointer s (array t n) b ty h = elim h [ ]
+moved_pointer s (structure n) b ty h = elim h [ ]
+
 no_conversion : (s t : Ty) → Converts s t → IsAggregate t → ⊥
 no_conversion s void h a = a
 no_conversion s (integer t) h a = a
@@ -198,7 +216,7 @@ object_node e s ty (binary op x y) h a =
 object_node e s ty (and_also x y) h a = absurd (subst IsAggregate h.4 a)
 object_node e s ty (or_else x y) h a = absurd (subst IsAggregate h.4 a)
 object_node e s ty (choose x y z) h a = absurd (no_integer ty h.4 a)
-object_node e s ty (pointer_add p n) h a = absurd (no_sized_pointer e.structs (type_of p) h.2 (subst IsAggregate h.4 a))
+object_node e s ty (pointer_add x y) h a = absurd (subst IsAggregate (moved_pointer e.structs (type_of x) (type_of y) ty h.2).1 a)
 object_node e s ty (pointer_sub p n) h a = absurd (no_sized_pointer e.structs (type_of p) h.2 (subst IsAggregate h.4 a))
 object_node e s ty (pointer_diff p q) h a = absurd (subst IsAggregate h.4 a)
 object_node e s ty (pointer_compare op p q) h a = absurd (subst IsAggregate h.5 a)
@@ -385,7 +403,17 @@ sized_target w d e o x t h p k =
 
 up_made : (w : World) (d : Context) (e : form.Context) → Over w d e → (place : ℕ) (t : Ty) (i : IntType) (p n : Expr) → Fine e p → Fine e n → type_of p ≡ pointer t → type_of n ≡ integer i → OnTyped (Made e) (moved_up d place t p n)
 up_made w d e o place t i p n h l hp ln = on_bind _ (Made e) (sized d place t) _ (on_unless place _ (has_size d.structs t))
-    (λ u k. (((h.0, l.0, sized_target w d e o p t h hp k, subst IsInteger (sym ln) tt, sym hp), ready_target e p t h hp), tt))
+    (λ u k. (((h.0, l.0,
+      subst (λ x. MovesPointer e.structs x (type_of n) (pointer t)) (sym hp)
+          (subst (λ y. MovesPointer e.structs (pointer t) y (pointer t)) (sym ln) (subst (PointsToSized e.structs) hp (sized_target w d e o p t h hp k), refl))),
+      ready_target e p t h hp), tt))
+
+up_from : (w : World) (d : Context) (e : form.Context) → Over w d e → (place : ℕ) (t : Ty) (i : IntType) (n p : Expr) → Fine e n → Fine e p → type_of p ≡ pointer t → type_of n ≡ integer i → OnTyped (Made e) (moved_up d place t n p)
+up_from w d e o place t i n p l h hp ln = on_bind _ (Made e) (sized d place t) _ (on_unless place _ (has_size d.structs t))
+    (λ u k. (((l.0, h.0,
+      subst (λ x. MovesPointer e.structs (type_of n) x (pointer t)) (sym hp)
+          (subst (λ y. MovesPointer e.structs y (pointer t) (pointer t)) (sym ln) (subst (PointsToSized e.structs) hp (sized_target w d e o p t h hp k), refl))),
+      ready_target e p t h hp), tt))
 
 down_made : (w : World) (d : Context) (e : form.Context) → Over w d e → (place : ℕ) (t : Ty) (i : IntType) (p n : Expr) → Fine e p → Fine e n → type_of p ≡ pointer t → type_of n ≡ integer i → OnTyped (Made e) (moved_down d place t p n)
 down_made w d e o place t i p n h l hp ln = on_bind _ (Made e) (sized d place t) _ (on_unless place _ (has_size d.structs t))
@@ -394,7 +422,7 @@ down_made w d e o place t i p n h l hp ln = on_bind _ (Made e) (sized d place t)
 sum_made : (w : World) (d : Context) (e : form.Context) → Over w d e → (place : ℕ) (what : Operands) (a b : Expr) → Fine e a → Fine e b → Describes what (type_of a) (type_of b) → OnTyped (Made e) (sum d place what a b)
 sum_made w d e o place (numbers s t) a b h l k = arithmetic_made e place ops.Add s t a b (h.0, k.0) (l.0, k.1) (common_promoted s t, refl)
 sum_made w d e o place (pointer_number t s) a b h l k = up_made w d e o place t s a b h l k.0 k.1
-sum_made w d e o place (number_pointer s t) a b h l k = up_made w d e o place t s b a l h k.1 k.0
+sum_made w d e o place (number_pointer s t) a b h l k = up_from w d e o place t s a b h l k.1 k.0
 sum_made w d e o place (pointers s t) a b h l k = tt
 sum_made w d e o place others a b h l k = tt
 

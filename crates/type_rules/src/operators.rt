@@ -127,16 +127,16 @@ fn sized(context: &Context<'_>, place: u32, target: &CType) -> Result<(), Compil
     unless(place, Kind::BadSize, has_size(&context.structs, target))
 }
 
-// A pointer moved up by a number of elements.
+// A pointer moved up by a number of elements, whichever of the two stands first.
 #[tactic(auto, using(type_context::proofs::Judging::fails_part))]
 fn moved_up(
     context: &Context<'_>,
     place: u32,
     target: &CType,
-    p: Box<Expr>,
-    n: Box<Expr>,
+    a: Box<Expr>,
+    b: Box<Expr>,
 ) -> Result<Box<Expr>, CompileFault>
-    ensures { Gives boxed_expr_view result (moved_up (context_view context.now) place (type_view target.now) (boxed_expr_view p) (boxed_expr_view n)) }
+    ensures { Gives boxed_expr_view result (moved_up (context_view context.now) place (type_view target.now) (boxed_expr_view a) (boxed_expr_view b)) }
 {
     let alloc = context.alloc;
     sized(context, place, target)?;
@@ -145,7 +145,7 @@ fn moved_up(
         alloc,
         place,
         CType::Pointer(Box::new(alloc, target)?),
-        ExprNode::PtrAdd(p, n),
+        ExprNode::PtrAdd(a, b),
     )
 }
 
@@ -201,7 +201,7 @@ pub fn sum(
         }
         Operands::NumberPointer(_, target) => {
             let target = copy_type(context.alloc, target)?;
-            moved_up(context, place, &target, b, a)
+            moved_up(context, place, &target, a, b)
         }
         _ => refused(place, Kind::TypeMismatch),
     }
