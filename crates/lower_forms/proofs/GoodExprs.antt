@@ -13,9 +13,9 @@ use Rattle.c_meaning.specs.Values.{element_size}
 use Rattle.struct_ir.specs.Nodes.{Calc, Place, Action, Step, Nodes, no_nodes, more_nodes, plain, if_, loop, break_, next_, ret, set, call, step, begin_object, end_object}
 use Rattle.struct_ir.specs.Nodes as ir
 use Rattle.struct_ir.specs.Lists.{bare_place}
-use Rattle.struct_ir.specs.Valid.{Scope, Around, is_below_if, are_below, is_place, has_params}
+use Rattle.struct_ir.specs.Valid.{Scope, Around, is_below_if, are_below, is_calc, is_place, has_params}
 use Rattle.lower_forms.specs.Counts.{count, count_parts, count_all}
-use Rattle.lower_forms.specs.Forms.{Frame, home, first_temp, calls, Reach, found, direct, indexed, at_temp, behind, member_reach, register_if, is_pointer, register_of, register_in, direct_if, indexed_if, pointed, reach, local_value, local_place, converts, temps_of, is_number, with_if, number_temps, text_places, lib_nodes, expr_nodes, value_nodes, place_nodes, object_place, args_nodes}
+use Rattle.lower_forms.specs.Forms.{Frame, home, first_temp, calls, Reach, found, direct, indexed, at_temp, behind, member_reach, register_if, is_pointer, register_of, register_in, direct_if, indexed_if, pointer_register, pointed, reach, local_value, local_place, converts, sum_calc, temps_of, is_number, with_if, number_temps, text_places, lib_nodes, expr_nodes, value_nodes, place_nodes, object_place, args_nodes}
 use Rattle.lower_forms.proofs.Operands.{operands_promoted}
 use Rattle.lower_forms.proofs.Pieces.{Good, below, good_none, good_set, good_step, good_branches, good_int, good_long, good_truth, InReach, temp_in, member_in, good_loads, store_step, copy_step, good_object, good_member}
 
@@ -268,8 +268,9 @@ module _ (x : Scope) (c : Context) (f : Frame) (s : Suits x c f) where
   more_reached r t m n h g = record { inside = g.inside; next = omega (arith, h, g.next) }
 
   pointed_reached : (e : tree.Expr) → IsTyped c e → (t : ℕ) → t + count e ≤ x.temps → Reached (pointed f e) t (count e)
-  pointed_reached (tree.at place ty (tree.pointer_add p n)) h t k =
-      more_reached _ t 2 _ (omega (arith, at_least_one p)) (indexed_reached (element_size f.structs (tree.type_of p)) (register_of f p) t 0 (register_fits p h.0) (omega (arith, k, at_least_one p)))
+  pointed_reached (tree.at place ty (tree.pointer_add d e)) h t k =
+      more_reached _ t 2 _ (omega (arith, at_least_one d)) (indexed_reached (element_size f.structs ty) (pointer_register f d) t 0
+      (either_below (is_pointer (tree.type_of d)) (register_of f d) (register_fits d h.0)) (omega (arith, k, at_least_one d)))
   pointed_reached (tree.at place ty (tree.num u z)) h t k = direct_reached None t _ tt k
   pointed_reached (tree.at place ty tree.null) h t k = direct_reached None t _ tt k
   pointed_reached (tree.at place ty (tree.literal n)) h t k = direct_reached None t _ tt k
@@ -350,6 +351,10 @@ module _ (x : Scope) (c : Context) (f : Frame) (s : Suits x c f) where
   two_below : (t : ℕ) → suc t < x.temps → (nat_lt t x.temps && nat_lt (suc t) x.temps) ≡ true
   two_below t h = and_from _ _ (below x t (omega (arith, h))) (below x (suc t) h)
 
+  sum_below : (first : Bool) (t size : ℕ) → suc t < x.temps → is_calc x (sum_calc first t (suc t) size) ≡ true
+  sum_below true t size h = two_below t h
+  sum_below false t size h = and_from _ _ (below x (suc t) h) (below x t (omega (arith, h)))
+
   mutual
     pub good_expr : (e : tree.Expr) → IsTyped c e → (t : ℕ) → t + count e ≤ x.temps → (a : Around) (rest : Nodes) → Good x a rest → Good x a (expr_nodes f e t rest)
     good_expr (tree.at place ty node) h t k a rest g = good_value place ty node h t k a rest g
@@ -387,7 +392,7 @@ module _ (x : Scope) (c : Context) (f : Frame) (s : Suits x c f) where
         (good_expr d h.1 t (omega (arith, k)) a no_nodes (good_none x a)) (good_expr e h.2 t (omega (arith, k)) a no_nodes (good_none x a)) g)
     good_value place ty (tree.pointer_add d e) h t k a rest g =
         good_expr d h.0 t (omega (arith, k)) a _ (good_expr e h.1 (suc t) (omega (arith, k, at_least_one d)) a _
-        (good_set x a place t _ rest (omega (arith, k)) (two_below t (omega (arith, k, at_least_one d, at_least_one e))) g))
+        (good_set x a place t _ rest (omega (arith, k)) (sum_below (is_pointer (tree.type_of d)) t _ (omega (arith, k, at_least_one d, at_least_one e))) g))
     good_value place ty (tree.pointer_sub d e) h t k a rest g =
         good_expr d h.0 t (omega (arith, k)) a _ (good_expr e h.1 (suc t) (omega (arith, k, at_least_one d)) a _
         (good_set x a place t _ rest (omega (arith, k)) (two_below t (omega (arith, k, at_least_one d, at_least_one e))) g))
