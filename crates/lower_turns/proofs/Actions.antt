@@ -18,7 +18,7 @@ use Rattle.block_store.specs.Actions.{World, Thread, Stage, running, returned, j
 use Rattle.block_store.specs.Actions as actions
 use Rattle.block_store.specs.Blocks.{Blocks, made, loaded, stored, copied, freed}
 use Rattle.block_store.specs.Mutexes.{locked, unlocked, destroyed}
-use Rattle.block_store.specs.Actions.{Printed}
+use Rattle.block_store.specs.Actions.{Printed, Reached, telling}
 use Rattle.c_tree.specs.Typed as tree
 use Rattle.lower_turns.proofs.Relation.{HasKind, CanBegin, AllBegin}
 use Rattle.lower_turns.proofs.Values.{loaded_kind}
@@ -122,41 +122,47 @@ module _ (t : tree.Typed) where
   joined_by_so w i to true a = tt
   joined_by_so w i to false a = joins_if_so w i to (slice_get w.threads i) a
 
+  telling_so : (P : Option Value → Type 0) (reached : List Reached) (d : Done) → IfWent P d → IfWent P (telling reached d)
+  telling_so P reached (went v w) h = h
+  telling_so P reached blocked h = h
+  telling_so P reached unfit h = h
+  telling_so P reached (broke rule) h = h
+
   -- ---- the table of the actions
 
   module _ (w : World) (all : AllBegin t w) (thread : ℕ) (answer : Answer) where
     pub load_so : (at : Ptr) (how : Access) → IfWent (GivesKind how) (acted w thread answer (actions.load at how))
-    load_so at how = settled_so _ answer _ (gives_so how w (loaded w.blocks at how) all (loaded_kind w.blocks at how))
+    load_so at how = telling_so _ _ _ (settled_so _ answer _ (gives_so how w (loaded w.blocks at how) all (loaded_kind w.blocks at how)))
 
     pub store_so : (at : Ptr) (v : Value) → IfWent GivesNone (acted w thread answer (actions.store at v))
-    store_so at v = settled_so _ answer _ (changes_so w (stored w.blocks at v) all)
+    store_so at v = telling_so _ _ _ (settled_so _ answer _ (changes_so w (stored w.blocks at v) all))
 
     pub copy_so : (to from : Ptr) (n align : ℕ) (same : Bool) → IfWent GivesNone (acted w thread answer (actions.copy to from n align same))
-    copy_so to from n align same = settled_so _ answer _ (changes_so w (copied w.blocks to from n align same) all)
+    copy_so to from n align same = telling_so _ _ _ (settled_so _ answer _ (changes_so w (copied w.blocks to from n align same) all))
 
     pub allocate_so : (size : ℕ) (first : Cell) → IfWent (GivesKind accesses.Pointer) (acted w thread answer (actions.allocate size first))
-    allocate_so size first = chosen_so _ answer _ _ (allocated_so w size first (nat_lt size (2 ^ 32)) all) (tt, all)
+    allocate_so size first = telling_so _ _ _ (chosen_so _ answer _ _ (allocated_so w size first (nat_lt size (2 ^ 32)) all) (tt, all))
 
     pub free_so : (at : Ptr) → IfWent GivesNone (acted w thread answer (actions.free at))
-    free_so at = settled_so _ answer _ (changes_so w (freed w.blocks at) all)
+    free_so at = telling_so _ _ _ (settled_so _ answer _ (changes_so w (freed w.blocks at) all))
 
     pub print_so : (parts : List Printed) → IfWent (GivesKind (accesses.Number int)) (acted w thread answer (actions.print parts))
-    print_so parts = settled_so _ answer _ (prints_so w (all_bytes w.blocks parts) all)
+    print_so parts = telling_so _ _ _ (settled_so _ answer _ (prints_so w (all_bytes w.blocks parts) all))
 
     pub lock_so : (at : Ptr) → IfWent GivesNone (acted w thread answer (actions.lock at))
-    lock_so at = settled_so _ answer _ (waits_so w (locked w.blocks at thread) all)
+    lock_so at = telling_so _ _ _ (settled_so _ answer _ (waits_so w (locked w.blocks at thread) all))
 
     pub unlock_so : (at : Ptr) → IfWent GivesNone (acted w thread answer (actions.unlock at))
-    unlock_so at = settled_so _ answer _ (changes_so w (unlocked w.blocks at thread) all)
+    unlock_so at = telling_so _ _ _ (settled_so _ answer _ (changes_so w (unlocked w.blocks at thread) all))
 
     pub destroy_so : (at : Ptr) → IfWent GivesNone (acted w thread answer (actions.destroy at))
-    destroy_so at = settled_so _ answer _ (passes_so w (destroyed w.blocks at) all)
+    destroy_so at = telling_so _ _ _ (settled_so _ answer _ (passes_so w (destroyed w.blocks at) all))
 
     pub start_so : (to : Ptr) (m : ℕ) (argument : Ptr) → CanBegin t m → IfWent (GivesKind (accesses.Number int)) (acted w thread answer (actions.start to m argument))
-    start_so to m argument c = chosen_so _ answer _ _ (starts_so w m argument (stored w.blocks to (next_number w)) all c) (refl, all)
+    start_so to m argument c = telling_so _ _ _ (chosen_so _ answer _ _ (starts_so w m argument (stored w.blocks to (next_number w)) all c) (refl, all))
 
     pub join_so : (i : ℕ) (to : Ptr) → IfWent (GivesKind (accesses.Number int)) (acted w thread answer (actions.join i to))
-    join_so i to = settled_so _ answer _ (joined_by_so w i to (thread == i) all)
+    join_so i to = telling_so _ _ _ (settled_so _ answer _ (joined_by_so w i to (thread == i) all))
 
     pub finish_so : (v : Option ℤ) → IfWent GivesNone (acted w thread answer (actions.finish v))
-    finish_so v = settled_so _ answer _ (tt, staged_so w thread (returned (result_of v)) all)
+    finish_so v = telling_so _ _ _ (settled_so _ answer _ (tt, staged_so w thread (returned (result_of v)) all))

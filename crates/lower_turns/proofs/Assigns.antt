@@ -100,12 +100,12 @@ module _ (g : Setting) (ob : ℕ → Option ℕ) (b : Blocks) (go : Value → Tu
   moved_to op size u p n (inl is) es e d leads =
       subst (λ o. Alike g (on_ok place go (updated g.t.structs b (tree.pointer u) o (values.Pointer p) (values.Num n))) (then_ (sets place to (moves o x y (element_size g.t.structs (tree.pointer u))) r) q) (own g ob tm b)) (sym is)
       (set_result program_code g.thread g.answer g.cs' g.s g.t go place to (ir.pointer_add x y (element_size g.t.structs (tree.pointer u))) r q (own g ob tm b) (of_two b (forward (element_size g.t.structs (tree.pointer u))) (values.Pointer p) (values.Num n))
-      (binary_is program_code place (own g ob tm b) int x y (values.Pointer p) (values.Num n) (forwards (element_size g.t.structs (tree.pointer u)) n.ty) tt refl e d)
+      (binary_is program_code place (own g ob tm b) x y (values.Pointer p) (values.Num n) (forwards (element_size g.t.structs (tree.pointer u)) n.ty) tt refl e d)
       (λ v k. leads v (binary_kind b (values.Pointer p) (values.Num n) v (forwards (element_size g.t.structs (tree.pointer u)) n.ty) tt refl k) (set_at tm to (value v)) (λ i nx ny nt. set_there tm to (value v) i nt) (set_here tm to (value v))))
   moved_to op size u p n (inr is) es e d leads =
       subst (λ o. Alike g (on_ok place go (updated g.t.structs b (tree.pointer u) o (values.Pointer p) (values.Num n))) (then_ (sets place to (moves o x y (element_size g.t.structs (tree.pointer u))) r) q) (own g ob tm b)) (sym is)
       (set_result program_code g.thread g.answer g.cs' g.s g.t go place to (ir.pointer_sub x y (element_size g.t.structs (tree.pointer u))) r q (own g ob tm b) (of_two b (backward (element_size g.t.structs (tree.pointer u))) (values.Pointer p) (values.Num n))
-      (binary_is program_code place (own g ob tm b) int x y (values.Pointer p) (values.Num n) (backwards (element_size g.t.structs (tree.pointer u)) n.ty) tt refl e d)
+      (binary_is program_code place (own g ob tm b) x y (values.Pointer p) (values.Num n) (backwards (element_size g.t.structs (tree.pointer u)) n.ty) tt refl e d)
       (λ v k. leads v (binary_kind b (values.Pointer p) (values.Num n) v (backwards (element_size g.t.structs (tree.pointer u)) n.ty) tt refl k) (set_at tm to (value v)) (λ i nx ny nt. set_there tm to (value v) i nt) (set_here tm to (value v))))
 
   -- a op b of two registers comes to a third

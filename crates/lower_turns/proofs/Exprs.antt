@@ -22,7 +22,7 @@ use Rattle.lower_forms.specs.Forms.{home, sets, Reach, found, direct_if, is_poin
 use Rattle.lower_forms.specs.Programs.{globals_lowered, lowered}
 use Rattle.lower_turns.proofs.Relation.{ctx, HasKind, Below, Points, Agrees, no_join, ConvertFits, to_number, to_pointer, Calls, CallIs, AreScalars, IsPlace, Taken, none_yet, one_more, Stand, AtE, at_wanted, at_dropped}
 use Rattle.lower_turns.proofs.Registers.{set_here, below_same, taken_le, taken_below, use_below, below_less}
-use Rattle.lower_turns.proofs.Operands.{pointer_access, pointer_scalar, integer_scalar, sized_pointer, operands_fit, operand_scalars, forward_fits, backward_fits, distance_fits, compare_fits, convert_fits, convert_scalar, argument_scalars, lib_scalars, pointed_is, sum_joins}
+use Rattle.lower_turns.proofs.Operands.{pointer_access, pointer_scalar, integer_scalar, sized_pointer, operands_fit, operand_scalars, moved_scalars, sum_fits, sum_calculated, numbers_calculated, backward_fits, distance_fits, compare_fits, convert_fits, convert_scalar, argument_scalars, lib_scalars, pointed_is, sum_joins}
 use Rattle.lower_turns.proofs.Steps.{set_then}
 use Rattle.lower_turns.proofs.Setting.{Setting, here, now, own, Alike, frame, start, agrees_on, GoesE, anyhow, of_kind}
 use Rattle.lower_turns.proofs.Uses.{gets, not_goes, test_goes, member_goes, convert_goes, read_goes}
@@ -183,9 +183,10 @@ module _ (g : Setting) (busy : Calls g.t) where
         (not_goes g vs ob b tm w u r q (of_kind g vs ob b tm w u (access_of_type ty) (accesses.Number int) found r q (ap access_of_type h.2) goes) place (access_of_type (tree.type_of e)) (pointed (frame g) e))
     value_sim place ty (tree.binary op x y) h s vs ob b tm w u r q goes =
         let k = operand_scalars op (tree.type_of x) (tree.type_of y) h.2 in
-        expr_sim x h.0 k.0 vs ob b tm (first_way place (on_numbers op) y (run (here g) y) w) u _ q
-        (first_goes g vs ob b tm w u r q (access_of_type ty) found goes place (on_numbers op) (number_type (tree.type_of x)) y (access_of_type (tree.type_of x)) (pointed (frame g) x) h.1 k.1
-        (operands_fit op (tree.type_of x) (tree.type_of y) ty h.2 h.3) (no_join (on_numbers op) (pointed (frame g) x)) (expr_sim y h.1 k.1))
+        subst (λ c. Alike g (run_node (here g) place ty (tree.binary op x y) w (now g vs b)) (then_ (expr_nodes (frame g) x u (expr_nodes (frame g) y (suc u) (forms.sets place u c r))) q) (own g ob tm b)) (numbers_calculated op (tree.type_of x) u (suc u))
+        (expr_sim x h.0 k.0 vs ob b tm (first_way place (on_numbers op) y (run (here g) y) w) u _ q
+        (first_goes g vs ob b tm w u r q (access_of_type ty) found goes place (on_numbers op) y (access_of_type (tree.type_of x)) (pointed (frame g) x) h.1 k.1
+        (operands_fit op (tree.type_of x) (tree.type_of y) ty h.2 h.3) (no_join (on_numbers op) (access_of_type (tree.type_of x)) (pointed (frame g) x)) (expr_sim y h.1 k.1)))
     value_sim place ty (tree.and_also x y) h s vs ob b tm w u r q goes =
         expr_sim x h.0 h.2 vs ob b tm _ u _ q
         (and_goes g vs ob b tm w u r q (of_kind g vs ob b tm w u (access_of_type ty) (accesses.Number int) found r q (ap access_of_type h.4) goes) (tree.place_of x) y (access_of_type (tree.type_of x)) (pointed (frame g) x) h.1 h.3 (expr_sim y h.1 h.3))
@@ -198,24 +199,26 @@ module _ (g : Setting) (busy : Calls g.t) where
         h.1 (subst IsScalar (sym h.5) s) (ap access_of_type h.5) (expr_sim y h.1 (subst IsScalar (sym h.5) s))
         h.2 (subst IsScalar (sym h.6) s) (ap access_of_type h.6) (expr_sim z h.2 (subst IsScalar (sym h.6) s)))
     value_sim place ty (tree.pointer_add x y) h s vs ob b tm w u r q goes =
-        let p = sized_pointer g.t.structs (tree.type_of x) h.2 in
-        expr_sim x h.0 (pointer_scalar (tree.type_of x) p) vs ob b tm (first_way place (forward (element_size g.t.structs (tree.type_of x))) y (run (here g) y) w) u _ q
-        (first_goes g vs ob b tm w u r q (access_of_type ty) (pointed_in (frame g) ty (tree.pointer_add x y)) goes place (forward (element_size g.t.structs (tree.type_of x))) int y (access_of_type (tree.type_of x)) (pointed (frame g) x) h.1 (integer_scalar (tree.type_of y) h.3)
-        (forward_fits (element_size g.t.structs (tree.type_of x)) (tree.type_of x) (tree.type_of y) ty p h.3 h.4) (sum_joins (frame g) (element_size g.t.structs (tree.type_of x)) x) (expr_sim y h.1 (integer_scalar (tree.type_of y) h.3)))
+        let k = moved_scalars g.t.structs (tree.type_of x) (tree.type_of y) ty h.2 in
+        subst (λ c. Alike g (run_node (here g) place ty (tree.pointer_add x y) w (now g vs b)) (then_ (expr_nodes (frame g) x u (expr_nodes (frame g) y (suc u) (forms.sets place u c r))) q) (own g ob tm b))
+        (sum_calculated g.t.structs (element_size g.t.structs ty) (tree.type_of x) (tree.type_of y) ty h.2 u (suc u))
+        (expr_sim x h.0 k.0 vs ob b tm (first_way place (forward (element_size g.t.structs ty)) y (run (here g) y) w) u _ q
+        (first_goes g vs ob b tm w u r q (access_of_type ty) (pointed_in (frame g) ty (tree.pointer_add x y)) goes place (forward (element_size g.t.structs ty)) y (access_of_type (tree.type_of x)) (pointed (frame g) x) h.1 k.1
+        (sum_fits g.t.structs (element_size g.t.structs ty) (tree.type_of x) (tree.type_of y) ty h.2) (sum_joins (frame g) (element_size g.t.structs ty) x) (expr_sim y h.1 k.1)))
     value_sim place ty (tree.pointer_sub x y) h s vs ob b tm w u r q goes =
         let p = sized_pointer g.t.structs (tree.type_of x) h.2 in
         expr_sim x h.0 (pointer_scalar (tree.type_of x) p) vs ob b tm (first_way place (backward (element_size g.t.structs (tree.type_of x))) y (run (here g) y) w) u _ q
-        (first_goes g vs ob b tm w u r q (access_of_type ty) found goes place (backward (element_size g.t.structs (tree.type_of x))) int y (access_of_type (tree.type_of x)) (pointed (frame g) x) h.1 (integer_scalar (tree.type_of y) h.3)
-        (backward_fits (element_size g.t.structs (tree.type_of x)) (tree.type_of x) (tree.type_of y) ty p h.3 h.4) (no_join (backward (element_size g.t.structs (tree.type_of x))) (pointed (frame g) x)) (expr_sim y h.1 (integer_scalar (tree.type_of y) h.3)))
+        (first_goes g vs ob b tm w u r q (access_of_type ty) found goes place (backward (element_size g.t.structs (tree.type_of x))) y (access_of_type (tree.type_of x)) (pointed (frame g) x) h.1 (integer_scalar (tree.type_of y) h.3)
+        (backward_fits (element_size g.t.structs (tree.type_of x)) (tree.type_of x) (tree.type_of y) ty p h.3 h.4) (no_join (backward (element_size g.t.structs (tree.type_of x))) (access_of_type (tree.type_of x)) (pointed (frame g) x)) (expr_sim y h.1 (integer_scalar (tree.type_of y) h.3)))
     value_sim place ty (tree.pointer_diff x y) h s vs ob b tm w u r q goes =
         let p = sized_pointer g.t.structs (tree.type_of x) h.2 in
         expr_sim x h.0 (pointer_scalar (tree.type_of x) p) vs ob b tm (first_way place (distance (element_size g.t.structs (tree.type_of x))) y (run (here g) y) w) u _ q
-        (first_goes g vs ob b tm w u r q (access_of_type ty) found goes place (distance (element_size g.t.structs (tree.type_of x))) int y (access_of_type (tree.type_of x)) (pointed (frame g) x) h.1 (pointer_scalar (tree.type_of y) h.3)
-        (distance_fits (element_size g.t.structs (tree.type_of x)) (tree.type_of x) (tree.type_of y) ty p h.3 h.4) (no_join (distance (element_size g.t.structs (tree.type_of x))) (pointed (frame g) x)) (expr_sim y h.1 (pointer_scalar (tree.type_of y) h.3)))
+        (first_goes g vs ob b tm w u r q (access_of_type ty) found goes place (distance (element_size g.t.structs (tree.type_of x))) y (access_of_type (tree.type_of x)) (pointed (frame g) x) h.1 (pointer_scalar (tree.type_of y) h.3)
+        (distance_fits (element_size g.t.structs (tree.type_of x)) (tree.type_of x) (tree.type_of y) ty p h.3 h.4) (no_join (distance (element_size g.t.structs (tree.type_of x))) (access_of_type (tree.type_of x)) (pointed (frame g) x)) (expr_sim y h.1 (pointer_scalar (tree.type_of y) h.3)))
     value_sim place ty (tree.pointer_compare op x y) h s vs ob b tm w u r q goes =
         expr_sim x h.0 (pointer_scalar (tree.type_of x) h.2) vs ob b tm (first_way place (on_pointers op) y (run (here g) y) w) u _ q
-        (first_goes g vs ob b tm w u r q (access_of_type ty) found goes place (on_pointers op) int y (access_of_type (tree.type_of x)) (pointed (frame g) x) h.1 (pointer_scalar (tree.type_of y) h.3)
-        (compare_fits op (tree.type_of x) (tree.type_of y) ty h.2 h.3 h.5) (no_join (on_pointers op) (pointed (frame g) x)) (expr_sim y h.1 (pointer_scalar (tree.type_of y) h.3)))
+        (first_goes g vs ob b tm w u r q (access_of_type ty) found goes place (on_pointers op) y (access_of_type (tree.type_of x)) (pointed (frame g) x) h.1 (pointer_scalar (tree.type_of y) h.3)
+        (compare_fits op (tree.type_of x) (tree.type_of y) ty h.2 h.3 h.5) (no_join (on_pointers op) (access_of_type (tree.type_of x)) (pointed (frame g) x)) (expr_sim y h.1 (pointer_scalar (tree.type_of y) h.3)))
     value_sim place ty (tree.pointer_test e) h s vs ob b tm w u r q goes =
         expr_sim e h.0 (pointer_scalar (tree.type_of e) h.1) vs ob b tm (only_way place tests w) u (sets place u (ir.pointer_test u) r) q
         (of_kind g vs ob b tm (only_way place tests w) u accesses.Pointer (access_of_type (tree.type_of e)) (pointed (frame g) e) (sets place u (ir.pointer_test u) r) q (sym (pointer_access (tree.type_of e) h.1))

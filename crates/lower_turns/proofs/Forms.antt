@@ -23,7 +23,7 @@ use Rattle.lower_forms.specs.Forms.{home, register_if, own_register, pointed, po
 use Rattle.lower_forms.specs.Programs.{lowered}
 use Rattle.lower_turns.proofs.Relation.{ctx, InRegister, no_value, Agrees, Calls, IsPlace}
 use Rattle.lower_turns.proofs.Registers.{set_here, set_there}
-use Rattle.lower_turns.proofs.Operands.{pointer_scalar, sized_pointer, operand_scalars, fits_access, fits_scalar}
+use Rattle.lower_turns.proofs.Operands.{pointer_scalar, sized_pointer, moved_pointer, operand_scalars, fits_access, fits_scalar}
 use Rattle.lower_turns.proofs.Steps.{begins_object, set_then}
 use Rattle.lower_turns.proofs.Setting.{Setting, here, now, own, Alike, frame, start, start_is, GoesS, of_kind}
 use Rattle.lower_turns.proofs.Calls.{all_at, nth_mapped}
@@ -106,7 +106,7 @@ struct_lvalue g s (tree.binary op a b) h = no_result (tree.type_of a) (operand_s
 struct_lvalue g s (tree.and_also a b) h = absurd (let d = h.4 in cc)
 struct_lvalue g s (tree.or_else a b) h = absurd (let d = h.4 in cc)
 struct_lvalue g s (tree.choose a b c) h = elim (h.4) [ ]
-struct_lvalue g s (tree.pointer_add a b) h = elim (subst IsScalar (sym h.4) (pointer_scalar (tree.type_of a) (sized_pointer g.t.structs (tree.type_of a) h.2))) [ ]
+struct_lvalue g s (tree.pointer_add a b) h = elim (moved_pointer g.t.structs (tree.type_of a) (tree.type_of b) (tree.structure s) h.2) [ ]
 struct_lvalue g s (tree.pointer_sub a b) h = elim (subst IsScalar (sym h.4) (pointer_scalar (tree.type_of a) (sized_pointer g.t.structs (tree.type_of a) h.2))) [ ]
 struct_lvalue g s (tree.pointer_diff a b) h = absurd (let d = h.4 in cc)
 struct_lvalue g s (tree.pointer_compare op a b) h = absurd (let d = h.5 in cc)

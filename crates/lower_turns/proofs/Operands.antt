@@ -1,5 +1,5 @@
 -- What well formed trees say of kinds, and how pointers are reached.
-use Rattle.std.proofs.Common.{◌≡◌, ℕ, ◌⊎◌, inl, inr, List, [], ◌∷◌, Option, Some, None, refl, sym, ap, subst, ◌∙◌}
+use Rattle.std.proofs.Common.{◌≡◌, ℕ, ◌⊎◌, inl, inr, List, [], ◌∷◌, Option, Some, None, if◌then◌else◌, refl, sym, ap, subst, ◌∙◌}
 use Rattle.ak_words.specs.declared.int_type.IntType.{IntType}
 use Rattle.ak_words.specs.declared.operation.Op.{Op}
 use Rattle.ak_words.specs.declared.operation.Op.TheVariants as ops
@@ -9,10 +9,11 @@ use Rattle.block_store.specs.declared.values.Access.TheVariants as accesses
 use Rattle.block_store.specs.declared.values.Value.{Value}
 use Rattle.block_store.specs.declared.values.Value.TheVariants as values
 use Rattle.c_tree.specs.Typed as tree
-use Rattle.c_tree.specs.TypedForm.{IsInteger, IsPointer, IsScalar, Fits, PointsToSized, AreOperands, type_of_result, Converts, HasBits, ArePrinted, Context, AreArguments, IsLibCall}
+use Rattle.c_tree.specs.TypedForm.{IsInteger, IsPointer, IsScalar, Fits, PointsToSized, MovesPointer, AreOperands, type_of_result, Converts, HasBits, ArePrinted, Context, AreArguments, IsLibCall}
 use Rattle.c_meaning.specs.Values.{Binary, on_numbers, forward, backward, distance, on_pointers, access_of_type}
-use Rattle.lower_forms.specs.Forms.{Frame, Reach, indexed, register_of, direct_if, indexed_if, pointed}
-use Rattle.lower_turns.proofs.Relation.{HasKind, Points, BinaryFits, numbers, forwards, backwards, distances, comparisons, Joins, no_join, one_join, Joined, not_joined, joined, ConvertFits, to_number, to_pointer, AreScalars}
+use Rattle.struct_ir.specs.Nodes as ir
+use Rattle.lower_forms.specs.Forms.{Frame, Reach, indexed, is_pointer, register_of, pointer_register, direct_if, indexed_if, pointed, sum_calc, number_type}
+use Rattle.lower_turns.proofs.Relation.{HasKind, Points, BinaryFits, numbers, forwards, forwards_from, backwards, distances, comparisons, calc_of, Joins, no_join, one_join, Joined, not_joined, joined, ConvertFits, to_number, to_pointer, AreScalars}
 use Rattle.lower_turns.proofs.Values.{unmoved}
 use Rattle.ir_meaning.specs.Blocks.{Held, pointer}
 
@@ -80,10 +81,33 @@ operands_fit op a b ty h e =
 pub operand_scalars : (op : Op) (a b : tree.Ty) → AreOperands op a b → IsScalar a × IsScalar b
 operand_scalars op a b h = let i = operands_integers op a b h in (integer_scalar a i.0, integer_scalar b i.1)
 
-pub forward_fits : (size : ℕ) (a b ty : tree.Ty) → IsPointer a → IsInteger b → ty ≡ a → BinaryFits (forward size) (access_of_type a) (access_of_type b) (access_of_type ty)
-forward_fits size (tree.pointer u) (tree.integer s) ty h k e = subst (λ z. BinaryFits (forward size) accesses.Pointer (accesses.Number s) (access_of_type z)) (sym e) (forwards size s)
-forward_fits size (tree.pointer u) b ty h k e = elim k [ ]
-forward_fits size a b ty h k e = elim h [ ]
+pub moved_scalars : (structs : List tree.Layout) (a b ty : tree.Ty) → MovesPointer structs a b ty → IsScalar a × IsScalar b
+moved_scalars structs (tree.pointer u) (tree.integer s) ty h = (tt, tt)
+moved_scalars structs (tree.integer s) (tree.pointer u) ty h = (tt, tt)
+moved_scalars structs a b ty h = elim h [ ]
+
+pub moved_pointer : (structs : List tree.Layout) (a b ty : tree.Ty) → MovesPointer structs a b ty → IsPointer ty
+moved_pointer structs (tree.pointer u) (tree.integer s) ty h = subst IsPointer (sym h.1) tt
+moved_pointer structs (tree.integer s) (tree.pointer u) ty h = subst IsPointer (sym h.1) tt
+moved_pointer structs a b ty h = elim h [ ]
+
+pub sum_fits : (structs : List tree.Layout) (size : ℕ) (a b ty : tree.Ty) → MovesPointer structs a b ty → BinaryFits (forward size) (access_of_type a) (access_of_type b) (access_of_type ty)
+sum_fits structs size (tree.pointer u) (tree.integer s) ty h = subst (λ z. BinaryFits (forward size) accesses.Pointer (accesses.Number s) (access_of_type z)) (sym h.1) (forwards size s)
+sum_fits structs size (tree.integer s) (tree.pointer u) ty h = subst (λ z. BinaryFits (forward size) (accesses.Number s) accesses.Pointer (access_of_type z)) (sym h.1) (forwards_from size s)
+sum_fits structs size a b ty h = elim h [ ]
+
+pub sum_calculated : (structs : List tree.Layout) (size : ℕ) (a b ty : tree.Ty) → MovesPointer structs a b ty → (t u : ℕ) → calc_of (forward size) (access_of_type a) t u ≡ sum_calc (is_pointer a) t u size
+sum_calculated structs size (tree.pointer v) (tree.integer s) ty h t u = refl
+sum_calculated structs size (tree.integer s) (tree.pointer v) ty h t u = refl
+sum_calculated structs size a b ty h t u = elim h [ ]
+
+pub numbers_calculated : (op : Op) (a : tree.Ty) (t u : ℕ) → calc_of (on_numbers op) (access_of_type a) t u ≡ ir.apply op (number_type a) t u
+numbers_calculated op (tree.integer s) t u = refl
+numbers_calculated op tree.void t u = refl
+numbers_calculated op tree.mutex t u = refl
+numbers_calculated op (tree.pointer v) t u = refl
+numbers_calculated op (tree.array v n) t u = refl
+numbers_calculated op (tree.structure n) t u = refl
 
 pub backward_fits : (size : ℕ) (a b ty : tree.Ty) → IsPointer a → IsInteger b → ty ≡ a → BinaryFits (backward size) (access_of_type a) (access_of_type b) (access_of_type ty)
 backward_fits size (tree.pointer u) (tree.integer s) ty h k e = subst (λ z. BinaryFits (backward size) accesses.Pointer (accesses.Number s) (access_of_type z)) (sym e) (backwards size s)
@@ -173,18 +197,26 @@ pub pointed_is : (fr : Frame) (e : tree.Expr) → (pointed fr e ≡ direct_if (r
 pointed_is fr (tree.at place ty (tree.pointer_add p n)) = inr refl
 pointed_is fr (tree.at place ty node) = inl refl
 
-join_at : (size : ℕ) (rch : Reach) (o : Option ℕ) → (rch ≡ direct_if o) ⊎ (o ≡ None) → Joins (forward size) rch (indexed_if size o)
-join_at size rch None e = no_join (forward size) rch
-join_at size rch (Some base) (inl e) = subst (λ r. Joins (forward size) r (indexed base size 0)) (sym e) (one_join base size)
+join_at : (size : ℕ) (rch : Reach) (o : Option ℕ) → (rch ≡ direct_if o) ⊎ (o ≡ None) → Joins (forward size) accesses.Pointer rch (indexed_if size o)
+join_at size rch None e = no_join (forward size) accesses.Pointer rch
+join_at size rch (Some base) (inl e) = subst (λ r. Joins (forward size) accesses.Pointer r (indexed base size 0)) (sym e) (one_join base size)
 join_at size rch (Some base) (inr e) = absurd cc
 
--- a sum is reached by how its left operand is
-pub sum_joins : (fr : Frame) (size : ℕ) (p : tree.Expr) → Joins (forward size) (pointed fr p) (indexed_if size (register_of fr p))
-sum_joins fr size p = join_at size (pointed fr p) (register_of fr p) (pointed_is fr p)
+join_by : (size : ℕ) (rch : Reach) (o : Option ℕ) → (rch ≡ direct_if o) ⊎ (o ≡ None) → (ty : tree.Ty) → Joins (forward size) (access_of_type ty) rch (indexed_if size (if is_pointer ty then o else None))
+join_by size rch o e (tree.pointer u) = join_at size rch o e
+join_by size rch o e (tree.integer s) = no_join (forward size) (accesses.Number s) rch
+join_by size rch o e tree.void = no_join (forward size) accesses.Pointer rch
+join_by size rch o e tree.mutex = no_join (forward size) accesses.Pointer rch
+join_by size rch o e (tree.array u n) = no_join (forward size) accesses.Pointer rch
+join_by size rch o e (tree.structure n) = no_join (forward size) accesses.Pointer rch
+
+-- a sum is reached by how its left operand is, where that is the pointer
+pub sum_joins : (fr : Frame) (size : ℕ) (p : tree.Expr) → Joins (forward size) (access_of_type (tree.type_of p)) (pointed fr p) (indexed_if size (pointer_register fr p))
+sum_joins fr size p = join_by size (pointed fr p) (register_of fr p) (pointed_is fr p) (tree.type_of p)
 
 -- the same once the left operand is there
-pub joins_now : (tm : ℕ → Held) (u : ℕ) {op : Binary} {lh rh how : Access} {lr rch : Reach} (v : Value) → Joins op lr rch → BinaryFits op lh rh how → HasKind lh v → Points tm lr u v → Joined tm u op v rch
-joins_now tm u v (no_join op r) fits kind points = not_joined op v
+pub joins_now : (tm : ℕ → Held) (u : ℕ) {op : Binary} {lh rh how : Access} {lr rch : Reach} (v : Value) → Joins op lh lr rch → BinaryFits op lh rh how → HasKind lh v → Points tm lr u v → Joined tm u op v rch
+joins_now tm u v (no_join op lh r) fits kind points = not_joined op v
 joins_now tm u (values.Num n) (one_join base size) (forwards _ s) kind points = elim kind [ ]
 joins_now tm u (values.Pointer p) (one_join base size) (forwards _ s) kind points =
     joined base size p points.below (points.holds ∙ ap pointer (unmoved points.start p points.moved))

@@ -70,10 +70,10 @@ taken_below a b all t0 _ _ _ (one_more {e} {rest} {before} {t} v k s more) g =
 
 module _ (t : tree.Typed) (n : ℕ) (f : tree.Func) (ob : ℕ → Option ℕ) (a b : ℕ → Held) where
   pub use_below : (k : Use) (u : ℕ) (how : Access) (rch : Reach) (r : Nodes) (q : Position) → AtE t n f ob a k u how rch r q → Below u a b → AtE t n f ob b k u how rch r q
-  use_below _ _ _ _ _ _ (at_first place op s right lh lrch ty sc fits j at) g = at_first place op s right lh lrch ty sc fits j (use_below _ _ _ _ _ _ at g)
-  use_below _ _ _ _ _ _ (at_second {k} {u} place op s left lh rh rrch fits kind e j at) g =
+  use_below _ _ _ _ _ _ (at_first place op right lh lrch ty sc fits j at) g = at_first place op right lh lrch ty sc fits j (use_below _ _ _ _ _ _ at g)
+  use_below _ _ _ _ _ _ (at_second {k} {u} place op left lh rh rrch fits kind e j at) g =
       let less = below_less (suc u) u a b (omega arith) g in
-      at_second place op s left lh rh rrch fits kind (g u (omega arith) ∙ e) (joined_below a b u _ _ _ j less) (use_below _ _ _ _ _ _ at less)
+      at_second place op left lh rh rrch fits kind (g u (omega arith) ∙ e) (joined_below a b u _ _ _ j less) (use_below _ _ _ _ _ _ at less)
   use_below _ _ _ _ _ _ (at_convert place from to fits at) g = at_convert place from to fits (use_below _ _ _ _ _ _ at g)
   use_below _ _ _ _ _ _ (at_not place lh rch at) g = at_not place lh rch (use_below _ _ _ _ _ _ at g)
   use_below _ _ _ _ _ _ (at_test place rch at) g = at_test place rch (use_below _ _ _ _ _ _ at g)

@@ -112,22 +112,29 @@ pub record Agrees (fr : Frame) (locals : List tree.Local) (vs : List Variable) (
 pub data BinaryFits : Binary → (left right result : Access) → Type 0 where
   numbers : (op : Op) (a b : IntType) → BinaryFits (on_numbers op) (accesses.Number a) (accesses.Number b) (accesses.Number (result_type op a))
   forwards : (size : ℕ) (s : IntType) → BinaryFits (forward size) accesses.Pointer (accesses.Number s) accesses.Pointer
+  forwards_from : (size : ℕ) (s : IntType) → BinaryFits (forward size) (accesses.Number s) accesses.Pointer accesses.Pointer
   backwards : (size : ℕ) (s : IntType) → BinaryFits (backward size) accesses.Pointer (accesses.Number s) accesses.Pointer
   distances : (size : ℕ) → BinaryFits (distance size) accesses.Pointer accesses.Pointer (accesses.Number long)
   comparisons : (op : Op) → BinaryFits (on_pointers op) accesses.Pointer accesses.Pointer (accesses.Number int)
 
--- what a register is set to
-abbrev pub calc_of : Binary → IntType → (a b : ℕ) → Calc
-calc_of (on_numbers op) s a b = ir.apply op s a b
-calc_of (forward size) s a b = ir.pointer_add a b size
-calc_of (backward size) s a b = ir.pointer_sub a b size
-calc_of (distance size) s a b = ir.pointer_diff a b size
-calc_of (on_pointers op) s a b = ir.pointer_compare op a b
+-- the type of the numbers that an access takes
+abbrev pub number_taken : Access → IntType
+number_taken (accesses.Number s) = s
+number_taken accesses.Pointer = int
 
--- how the sum is reached, by how its left operand is
-pub data Joins : Binary → Reach → Reach → Type 0 where
-  no_join : (op : Binary) (r : Reach) → Joins op r found
-  one_join : (base size : ℕ) → Joins (forward size) (direct base 0) (indexed base size 0)
+-- what a register is set to, by the kind of the left operand
+abbrev pub calc_of : Binary → Access → (a b : ℕ) → Calc
+calc_of (on_numbers op) lh a b = ir.apply op (number_taken lh) a b
+calc_of (forward size) (accesses.Number s) a b = ir.pointer_add b a size
+calc_of (forward size) accesses.Pointer a b = ir.pointer_add a b size
+calc_of (backward size) lh a b = ir.pointer_sub a b size
+calc_of (distance size) lh a b = ir.pointer_diff a b size
+calc_of (on_pointers op) lh a b = ir.pointer_compare op a b
+
+-- how the sum is reached, by the kind of its left operand and how that is
+pub data Joins : Binary → Access → Reach → Reach → Type 0 where
+  no_join : (op : Binary) (lh : Access) (r : Reach) → Joins op lh r found
+  one_join : (base size : ℕ) → Joins (forward size) accesses.Pointer (direct base 0) (indexed base size 0)
 
 -- the same once the left operand is there
 pub data Joined (tm : ℕ → Held) (t : ℕ) : Binary → Value → Reach → Type 0 where
@@ -243,12 +250,12 @@ module _ (t : tree.Typed) (n : ℕ) (f : tree.Func) where
   -- what a value of this kind in the register u is used for, how what it points to is reached, the nodes that do it, and what is behind
   -- these, where the registers below u and the stack objects are these
   pub data AtE (ob : ℕ → Option ℕ) (tm : ℕ → Held) : Use → ℕ → Access → Reach → Nodes → Position → Type 0 where
-    at_first : {k : Use} {u : ℕ} {how : Access} {rch : Reach} {r : Nodes} {q : Position} (place : ℕ) (op : Binary) (s : IntType) (right : tree.Expr) (lh : Access) (lrch : Reach)
-        → IsTyped ctx right → IsScalar (tree.type_of right) → BinaryFits op lh (access_of_type (tree.type_of right)) how → Joins op lrch rch
-        → AtE ob tm k u how rch r q → AtE ob tm (source.first_of place op right k) u lh lrch (expr_nodes fr right (suc u) (sets place u (calc_of op s u (suc u)) r)) q
-    at_second : {k : Use} {u : ℕ} {how : Access} {rch : Reach} {r : Nodes} {q : Position} (place : ℕ) (op : Binary) (s : IntType) (left : Value) (lh rh : Access) (rrch : Reach)
+    at_first : {k : Use} {u : ℕ} {how : Access} {rch : Reach} {r : Nodes} {q : Position} (place : ℕ) (op : Binary) (right : tree.Expr) (lh : Access) (lrch : Reach)
+        → IsTyped ctx right → IsScalar (tree.type_of right) → BinaryFits op lh (access_of_type (tree.type_of right)) how → Joins op lh lrch rch
+        → AtE ob tm k u how rch r q → AtE ob tm (source.first_of place op right k) u lh lrch (expr_nodes fr right (suc u) (sets place u (calc_of op lh u (suc u)) r)) q
+    at_second : {k : Use} {u : ℕ} {how : Access} {rch : Reach} {r : Nodes} {q : Position} (place : ℕ) (op : Binary) (left : Value) (lh rh : Access) (rrch : Reach)
         → BinaryFits op lh rh how → HasKind lh left → tm u ≡ value left → Joined tm u op left rch
-        → AtE ob tm k u how rch r q → AtE ob tm (source.second_of place op left k) (suc u) rh rrch (sets place u (calc_of op s u (suc u)) r) q
+        → AtE ob tm k u how rch r q → AtE ob tm (source.second_of place op left k) (suc u) rh rrch (sets place u (calc_of op lh u (suc u)) r) q
     at_convert : {k : Use} {u : ℕ} {rch : Reach} {r : Nodes} {q : Position} (place : ℕ) (from to : tree.Ty) → ConvertFits from to
         → AtE ob tm k u (access_of_type to) rch r q → AtE ob tm (source.only_of place (converts to) k) u (access_of_type from) rch (forms.converts place to u r) q
     at_not : {k : Use} {u : ℕ} {r : Nodes} {q : Position} (place : ℕ) (lh : Access) (rch : Reach)

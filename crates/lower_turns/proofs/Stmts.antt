@@ -17,7 +17,7 @@ use Rattle.lower_forms.specs.Forms as forms
 use Rattle.lower_forms.specs.Forms.{home, pointed, pointed_in, reach_in, branches, expr_nodes, value_nodes, object_place, args_nodes, dropped_nodes, dropped_value, dropped_object, return_nodes, ends, objects_in, objects_by, stmt_nodes, form_nodes, row_nodes}
 use Rattle.lower_forms.specs.Programs.{lowered}
 use Rattle.lower_turns.proofs.Relation.{ctx, inside, Agrees, Calls, Free, LoopIs, IsPlace, none_yet, homes_of}
-use Rattle.lower_turns.proofs.Operands.{pointer_scalar, integer_scalar, sized_pointer, operand_scalars, fits_access, argument_scalars, lib_scalars}
+use Rattle.lower_turns.proofs.Operands.{pointer_scalar, integer_scalar, sized_pointer, moved_pointer, operand_scalars, fits_access, argument_scalars, lib_scalars}
 use Rattle.lower_turns.proofs.Steps.{breaks_out, goes_next}
 use Rattle.lower_turns.proofs.Setting.{Setting, here, now, own, Alike, frame, start, GoesS, of_kind, objects_over}
 use Rattle.lower_turns.proofs.Calls.{all_at, nth_mapped, wait_dropped}
@@ -111,7 +111,7 @@ module _ (g : Setting) (busy : Calls g.t) (io : Bool) (w : Way) (left : List ℕ
     dropped_form place ty (tree.and_also x y) h = value_alike place ty (tree.and_also x y) h (subst IsScalar (sym h.4) tt)
     dropped_form place ty (tree.or_else x y) h = value_alike place ty (tree.or_else x y) h (subst IsScalar (sym h.4) tt)
     dropped_form place ty (tree.choose x y z) h = value_alike place ty (tree.choose x y z) h (integer_scalar ty h.4)
-    dropped_form place ty (tree.pointer_add x y) h = value_alike place ty (tree.pointer_add x y) h (subst IsScalar (sym h.4) (pointer_scalar (tree.type_of x) (sized_pointer g.t.structs (tree.type_of x) h.2)))
+    dropped_form place ty (tree.pointer_add x y) h = value_alike place ty (tree.pointer_add x y) h (pointer_scalar ty (moved_pointer g.t.structs (tree.type_of x) (tree.type_of y) ty h.2))
     dropped_form place ty (tree.pointer_sub x y) h = value_alike place ty (tree.pointer_sub x y) h (subst IsScalar (sym h.4) (pointer_scalar (tree.type_of x) (sized_pointer g.t.structs (tree.type_of x) h.2)))
     dropped_form place ty (tree.pointer_diff x y) h = value_alike place ty (tree.pointer_diff x y) h (subst IsScalar (sym h.4) tt)
     dropped_form place ty (tree.pointer_compare op x y) h = value_alike place ty (tree.pointer_compare op x y) h (subst IsScalar (sym h.5) tt)

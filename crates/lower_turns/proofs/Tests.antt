@@ -52,16 +52,16 @@ module _ (g : Setting) (vs : List Variable) (ob : ℕ → Option ℕ) (b : Block
   program_code = lowered g.t
 
   module _ (tm : ℕ → Held) (w : WayOfUse) (u : ℕ) (r : Nodes) (q : Position) where
-    pub first_goes : (how : Access) (rch : Reach) → GoesE g vs ob b tm w u how rch r q → (place : ℕ) (op : Binary) (s : IntType) (right : tree.Expr) (lh : Access) (lrch : Reach)
-        → IsTyped (ctx g.t g.n g.f) right → IsScalar (tree.type_of right) → BinaryFits op lh (access_of_type (tree.type_of right)) how → Joins op lrch rch → SimE g right
-        → GoesE g vs ob b tm (first_way place op right (run (here g) right) w) u lh lrch (expr_nodes (frame g) right (suc u) (sets place u (calc_of op s u (suc u)) r)) q
-    first_goes how rch goes place op s right lh lrch typed scalar fits joins sim = record {
-      at = at_first place op s right lh lrch typed scalar fits joins goes.at;
+    pub first_goes : (how : Access) (rch : Reach) → GoesE g vs ob b tm w u how rch r q → (place : ℕ) (op : Binary) (right : tree.Expr) (lh : Access) (lrch : Reach)
+        → IsTyped (ctx g.t g.n g.f) right → IsScalar (tree.type_of right) → BinaryFits op lh (access_of_type (tree.type_of right)) how → Joins op lh lrch rch → SimE g right
+        → GoesE g vs ob b tm (first_way place op right (run (here g) right) w) u lh lrch (expr_nodes (frame g) right (suc u) (sets place u (calc_of op lh u (suc u)) r)) q
+    first_goes how rch goes place op right lh lrch typed scalar fits joins sim = record {
+      at = at_first place op right lh lrch typed scalar fits joins goes.at;
       above = goes.above;
       agrees = goes.agrees;
       go = λ v a kind below is points.
-          sim vs ob b a (second_way place op v w) (suc u) (sets place u (calc_of op s u (suc u)) r) q
-          (second_goes g vs ob b a w u r q how rch (later g vs ob b tm w u how a rch r q below goes) place op s v lh (access_of_type (tree.type_of right)) (pointed (frame g) right) fits kind is
+          sim vs ob b a (second_way place op v w) (suc u) (sets place u (calc_of op lh u (suc u)) r) q
+          (second_goes g vs ob b a w u r q how rch (later g vs ob b tm w u how a rch r q below goes) place op v lh (access_of_type (tree.type_of right)) (pointed (frame g) right) fits kind is
           (joins_now a u v joins fits kind points));
     }
 

@@ -84,10 +84,10 @@ module _ (g : Setting) where
 
     -- what a value is used for is done alike
     pub goes_e : (k : Use) (u : ℕ) (how : Access) (rch : Reach) (r : Nodes) (q : Position) → AtE g.t g.n g.f ob tm k u how rch r q → GoesE g vs ob b tm (use_of (here g) k) u how rch r q
-    goes_e _ _ _ _ _ _ (at_first {k} {u} {how} {rch} {r} {q} place op s right lh lrch ty sc fits j at) =
-        first_goes g vs ob b tm (use_of (here g) k) u r q how rch (goes_e k u how rch r q at) place op s right lh lrch ty sc fits j (expr_sim g busy right ty sc)
-    goes_e _ _ _ _ _ _ (at_second {k} {u} {how} {rch} {r} {q} place op s left lh rh rrch fits kind e j at) =
-        second_goes g vs ob b tm (use_of (here g) k) u r q how rch (goes_e k u how rch r q at) place op s left lh rh rrch fits kind e j
+    goes_e _ _ _ _ _ _ (at_first {k} {u} {how} {rch} {r} {q} place op right lh lrch ty sc fits j at) =
+        first_goes g vs ob b tm (use_of (here g) k) u r q how rch (goes_e k u how rch r q at) place op right lh lrch ty sc fits j (expr_sim g busy right ty sc)
+    goes_e _ _ _ _ _ _ (at_second {k} {u} {how} {rch} {r} {q} place op left lh rh rrch fits kind e j at) =
+        second_goes g vs ob b tm (use_of (here g) k) u r q how rch (goes_e k u how rch r q at) place op left lh rh rrch fits kind e j
     goes_e _ _ _ _ _ _ (at_convert {k} {u} {rch} {r} {q} place from to fits at) =
         convert_goes g vs ob b tm (use_of (here g) k) u r q place from to rch fits (goes_e k u (access_of_type to) rch r q at)
     goes_e _ _ _ _ _ _ (at_not {k} {u} {r} {q} place lh rch at) = not_goes g vs ob b tm (use_of (here g) k) u r q (goes_e k u (accesses.Number int) found r q at) place lh rch

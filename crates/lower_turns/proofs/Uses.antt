@@ -30,7 +30,7 @@ use Rattle.ir_meaning.specs.Threads as served
 use Rattle.lower_forms.specs.Forms as forms
 use Rattle.lower_forms.specs.Forms.{sets, sets_int, sets_long, sets_truth, branches, Reach, found, direct, indexed as by_index, reached, behind, at_temp, member_reach, pointed, reach, expr_nodes, place_nodes, member_nodes}
 use Rattle.lower_forms.specs.Programs.{lowered}
-use Rattle.lower_turns.proofs.Relation.{HasKind, Below, Reaches, Points, BinaryFits, forwards, calc_of, Joined, not_joined, joined, ConvertFits, to_number, to_pointer, Calls, at_second, at_convert, at_not, at_test, at_member, at_read, at_second_test, Together, both_went, same, at_gives}
+use Rattle.lower_turns.proofs.Relation.{HasKind, Below, Reaches, Points, BinaryFits, forwards, forwards_from, calc_of, Joined, not_joined, joined, ConvertFits, to_number, to_pointer, Calls, at_second, at_convert, at_not, at_test, at_member, at_read, at_second_test, Together, both_went, same, at_gives}
 use Rattle.lower_turns.proofs.Registers.{set_here, set_there, below_less, below_set}
 use Rattle.lower_turns.proofs.Values.{binary_is, binary_kind, int_kind, moved_further, member_moved, unmoved, not_moved, times_one, long_is}
 use Rattle.lower_turns.proofs.Steps.{no_more, then_same, set_then, set_result, branch, step_alike}
@@ -65,6 +65,8 @@ joined_points : (a b : ℕ → Held) (u : ℕ) (blocks : Blocks) {op : Binary} {
     → Below (suc u) a b → b (suc u) ≡ value v → of_two blocks op left v ≡ Ok w → Points (set_at b u (value w)) rch u w
 joined_points a b u blocks v w (not_joined op left) fits kind below is e = points_found (set_at b u (value w)) u w (set_here b u (value w))
 joined_points a b u blocks (values.Pointer o) w (joined base size p lt holds) (forwards _ s) kind below is e = elim kind [ ]
+joined_points a b u blocks (values.Num i) w (joined base size p lt holds) (forwards_from _ s) kind below is e = elim kind [ ]
+joined_points a b u blocks (values.Pointer o) w (joined base size p lt holds) (forwards_from _ s) kind below is e = absurd cc
 joined_points a b u blocks (values.Num i) w (joined base size p lt holds) (forwards _ s) kind below is e = by_result (indexed blocks p i.value size) refl e
   where
     by_result : (res : Result Ptr Rule) → indexed blocks p i.value size ≡ res → pointer_of res ≡ Ok w → Points (set_at b u (value w)) (by_index base size 0) u w
@@ -167,15 +169,15 @@ module _ (g : Setting) (vs : List Variable) (ob : ℕ → Option ℕ) (b : Block
 
   module _ (tm : ℕ → Held) (w : WayOfUse) (u : ℕ) (r : Nodes) (q : Position) where
     -- both operands are there
-    pub second_goes : (how : Access) (rch : Reach) → GoesE g vs ob b tm w u how rch r q → (place : ℕ) (op : Binary) (s : IntType) (left : Value) (lh rh : Access) (rrch : Reach) → BinaryFits op lh rh how → HasKind lh left
-        → tm u ≡ value left → Joined tm u op left rch → GoesE g vs ob b tm (second_way place op left w) (suc u) rh rrch (sets place u (calc_of op s u (suc u)) r) q
-    second_goes how rch goes place op s left lh rh rrch fits lkind lis j = record {
-      at = at_second place op s left lh rh rrch fits lkind lis j goes.at;
+    pub second_goes : (how : Access) (rch : Reach) → GoesE g vs ob b tm w u how rch r q → (place : ℕ) (op : Binary) (left : Value) (lh rh : Access) (rrch : Reach) → BinaryFits op lh rh how → HasKind lh left
+        → tm u ≡ value left → Joined tm u op left rch → GoesE g vs ob b tm (second_way place op left w) (suc u) rh rrch (sets place u (calc_of op lh u (suc u)) r) q
+    second_goes how rch goes place op left lh rh rrch fits lkind lis j = record {
+      at = at_second place op left lh rh rrch fits lkind lis j goes.at;
       above = omega (arith, goes.above);
       agrees = goes.agrees;
       go = λ v a kind below is points.
-          set_result program_code g.thread g.answer g.cs' g.s g.t (λ x. w.go x (now g vs b)) place u (calc_of op s u (suc u)) r q (own g ob a b) (of_two b op left v)
-          (binary_is program_code place (own g ob a b) s u (suc u) left v fits lkind kind (below u (omega arith) ∙ lis) is)
+          set_result program_code g.thread g.answer g.cs' g.s g.t (λ x. w.go x (now g vs b)) place u (calc_of op lh u (suc u)) r q (own g ob a b) (of_two b op left v)
+          (binary_is program_code place (own g ob a b) u (suc u) left v fits lkind kind (below u (omega arith) ∙ lis) is)
           (λ x e. gets tm a w u how rch r q goes (below_less (suc u) u tm a (omega arith) below) x (binary_kind b left v x fits lkind kind e) (joined_points tm a u b v x j fits kind below is e));
     }
 

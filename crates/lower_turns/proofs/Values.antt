@@ -26,7 +26,7 @@ use Rattle.c_meaning.specs.Values.{on_numbers, forward, backward, distance, on_p
 use Rattle.struct_ir.specs.Nodes.{Ir}
 use Rattle.ir_meaning.specs.Blocks.{value, number, pointer, truth, Fault, Own, or_broken, calculated}
 use Rattle.ir_meaning.specs.Threads.{further, fits, same_type, offset_in}
-use Rattle.lower_turns.proofs.Relation.{HasKind, Further, Moved, BinaryFits, numbers, forwards, backwards, distances, comparisons, calc_of}
+use Rattle.lower_turns.proofs.Relation.{HasKind, Further, Moved, BinaryFits, numbers, forwards, forwards_from, backwards, distances, comparisons, calc_of}
 
 -- ---- operators on two values
 
@@ -46,23 +46,26 @@ truth_held : (place : ℕ) (r : Result Bool Rule) → or_broken place truth r �
 truth_held place (Ok b) = refl
 truth_held place (Err rule) = refl
 
-pub binary_is : (p : Ir) (place : ℕ) (l : Own) (s : IntType) (a b : ℕ) {op : meant.Binary} {lh rh how : Access} (v u : Value) → BinaryFits op lh rh how → HasKind lh v → HasKind rh u
-    → l.temps a ≡ value v → l.temps b ≡ value u → calculated p place l (calc_of op s a b) ≡ or_broken place value (of_two l.blocks op v u)
-binary_is p place l s a b (values.Num m) (values.Num n) (numbers op x y) h g e d = rw (e, d) (number_held place (result_of op m n))
-binary_is p place l s a b (values.Num m) (values.Pointer q) (numbers op x y) h g e d = elim g [ ]
-binary_is p place l s a b (values.Pointer q) u (numbers op x y) h g e d = elim h [ ]
-binary_is p place l s a b (values.Pointer q) (values.Num n) (forwards size x) h g e d = rw (e, d) (pointer_held place (indexed l.blocks q n.value size))
-binary_is p place l s a b (values.Pointer q) (values.Pointer o) (forwards size x) h g e d = elim g [ ]
-binary_is p place l s a b (values.Num m) u (forwards size x) h g e d = elim h [ ]
-binary_is p place l s a b (values.Pointer q) (values.Num n) (backwards size x) h g e d = rw (e, d) (pointer_held place (indexed l.blocks q (neg_ℤ n.value) size))
-binary_is p place l s a b (values.Pointer q) (values.Pointer o) (backwards size x) h g e d = elim g [ ]
-binary_is p place l s a b (values.Num m) u (backwards size x) h g e d = elim h [ ]
-binary_is p place l s a b (values.Pointer q) (values.Pointer o) (distances size) h g e d = rw (e, d) (long_held place (difference l.blocks q o size))
-binary_is p place l s a b (values.Pointer q) (values.Num n) (distances size) h g e d = elim g [ ]
-binary_is p place l s a b (values.Num m) u (distances size) h g e d = elim h [ ]
-binary_is p place l s a b (values.Pointer q) (values.Pointer o) (comparisons op) h g e d = rw (e, d) (truth_held place (compared l.blocks op q o))
-binary_is p place l s a b (values.Pointer q) (values.Num n) (comparisons op) h g e d = elim g [ ]
-binary_is p place l s a b (values.Num m) u (comparisons op) h g e d = elim h [ ]
+pub binary_is : (p : Ir) (place : ℕ) (l : Own) (a b : ℕ) {op : meant.Binary} {lh rh how : Access} (v u : Value) → BinaryFits op lh rh how → HasKind lh v → HasKind rh u
+    → l.temps a ≡ value v → l.temps b ≡ value u → calculated p place l (calc_of op lh a b) ≡ or_broken place value (of_two l.blocks op v u)
+binary_is p place l a b (values.Num m) (values.Num n) (numbers op x y) h g e d = rw (e, d) (number_held place (result_of op m n))
+binary_is p place l a b (values.Num m) (values.Pointer q) (numbers op x y) h g e d = elim g [ ]
+binary_is p place l a b (values.Pointer q) u (numbers op x y) h g e d = elim h [ ]
+binary_is p place l a b (values.Pointer q) (values.Num n) (forwards size x) h g e d = rw (e, d) (pointer_held place (indexed l.blocks q n.value size))
+binary_is p place l a b (values.Pointer q) (values.Pointer o) (forwards size x) h g e d = elim g [ ]
+binary_is p place l a b (values.Num m) u (forwards size x) h g e d = elim h [ ]
+binary_is p place l a b (values.Num m) (values.Pointer q) (forwards_from size x) h g e d = rw (e, d) (pointer_held place (indexed l.blocks q m.value size))
+binary_is p place l a b (values.Num m) (values.Num n) (forwards_from size x) h g e d = elim g [ ]
+binary_is p place l a b (values.Pointer q) u (forwards_from size x) h g e d = elim h [ ]
+binary_is p place l a b (values.Pointer q) (values.Num n) (backwards size x) h g e d = rw (e, d) (pointer_held place (indexed l.blocks q (neg_ℤ n.value) size))
+binary_is p place l a b (values.Pointer q) (values.Pointer o) (backwards size x) h g e d = elim g [ ]
+binary_is p place l a b (values.Num m) u (backwards size x) h g e d = elim h [ ]
+binary_is p place l a b (values.Pointer q) (values.Pointer o) (distances size) h g e d = rw (e, d) (long_held place (difference l.blocks q o size))
+binary_is p place l a b (values.Pointer q) (values.Num n) (distances size) h g e d = elim g [ ]
+binary_is p place l a b (values.Num m) u (distances size) h g e d = elim h [ ]
+binary_is p place l a b (values.Pointer q) (values.Pointer o) (comparisons op) h g e d = rw (e, d) (truth_held place (compared l.blocks op q o))
+binary_is p place l a b (values.Pointer q) (values.Num n) (comparisons op) h g e d = elim g [ ]
+binary_is p place l a b (values.Num m) u (comparisons op) h g e d = elim h [ ]
 
 outcome_kind : (o : Option Rule) (m r : Num) → outcome o m ≡ Ok r → r.ty ≡ m.ty
 outcome_kind None m r e = let same : m ≡ r = cc in ap (λ (n : Num). n.ty) (sym same)
@@ -92,6 +95,9 @@ binary_kind blocks (values.Pointer q) u w (numbers op x y) h g e = elim h [ ]
 binary_kind blocks (values.Pointer q) (values.Num n) w (forwards size x) h g e = pointer_kind (indexed blocks q n.value size) w e
 binary_kind blocks (values.Pointer q) (values.Pointer o) w (forwards size x) h g e = elim g [ ]
 binary_kind blocks (values.Num m) u w (forwards size x) h g e = elim h [ ]
+binary_kind blocks (values.Num m) (values.Pointer q) w (forwards_from size x) h g e = pointer_kind (indexed blocks q m.value size) w e
+binary_kind blocks (values.Num m) (values.Num n) w (forwards_from size x) h g e = elim g [ ]
+binary_kind blocks (values.Pointer q) u w (forwards_from size x) h g e = elim h [ ]
 binary_kind blocks (values.Pointer q) (values.Num n) w (backwards size x) h g e = pointer_kind (indexed blocks q (neg_ℤ n.value) size) w e
 binary_kind blocks (values.Pointer q) (values.Pointer o) w (backwards size x) h g e = elim g [ ]
 binary_kind blocks (values.Num m) u w (backwards size x) h g e = elim h [ ]
