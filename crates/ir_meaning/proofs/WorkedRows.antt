@@ -20,4 +20,6 @@ rows_hold = record {
   ended_object = refl;
   dead_pointer = refl;
   no_value = refl;
+  begins = refl;
+  linear_begins = refl;
 }

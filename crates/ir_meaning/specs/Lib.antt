@@ -1,4 +1,5 @@
 pub mod Blocks
 pub mod Threads
+pub mod Start
 pub mod Laws
 pub mod Rows

@@ -3,16 +3,22 @@ use Rattle.std.specs.Prelude.{◌≡◌, ℕ, pos, List, [], ◌∷◌, codes, r
 use Rattle.ak_words.specs.declared.operation.Op.TheVariants.{Sub}
 use Rattle.ak_words.specs.declared.rule.Rule.{Rule}
 use Rattle.ak_words.specs.declared.rule.Rule.TheVariants.{C4, C5, C9, C15}
-use Rattle.ak_words.specs.IntType.{int, unsigned_long}
+use Rattle.ak_words.specs.IntType.{char, int, unsigned_long}
 use Rattle.block_store.specs.declared.values.Access.TheVariants as accesses
 use Rattle.block_store.specs.declared.values.Answer.{Answer}
 use Rattle.block_store.specs.declared.values.Answer.TheVariants as answers
+use Rattle.block_store.specs.declared.values.BlockKind.TheVariants as kinds
+use Rattle.block_store.specs.declared.values.Cell.{Cell}
+use Rattle.block_store.specs.declared.values.Cell.TheVariants.{Byte, Part}
+use Rattle.block_store.specs.declared.values.Ptr.TheVariants.{Null}
+use Rattle.block_store.specs.Blocks.{Block}
 use Rattle.block_store.specs.Actions as actions
 use Rattle.block_store.specs.Runs.{Pick, Run, reaches, breaks, no_run, run}
-use Rattle.c_tree.specs.Typed.{signed}
-use Rattle.struct_ir.specs.Nodes.{Calc, constant, null, object, apply, pointer_test, Place, load, store, malloc, print, set, call, step, begin_object, end_object, Node, plain, if_, loop, break_, next_, ret, Nodes, no_nodes, more_nodes, Ir}
+use Rattle.c_tree.specs.Typed.{signed, zero_bytes, number, literal_at}
+use Rattle.struct_ir.specs.Nodes.{Calc, constant, null, object, apply, pointer_test, Place, load, store, malloc, print, set, call, step, begin_object, end_object, Node, plain, if_, loop, break_, next_, ret, Nodes, no_nodes, more_nodes, Global, Ir}
 use Rattle.ir_meaning.specs.Blocks.{Own}
 use Rattle.ir_meaning.specs.Threads.{program_of}
+use Rattle.ir_meaning.specs.Start.{start, linear_start}
 use Rattle.struct_ir.specs.Structured.{Position}
 use Rattle.struct_ir.specs.Threads.{Thread}
 
@@ -96,6 +102,40 @@ allocating answer = seen (run (program_of (of_nodes
     (set_to 0 (constant unsigned_long (pos 8)) ∷ plain 0 (step (record { action = malloc; places = []; to = Some 1; temps = 0 ∷ []; slots = [] })) ∷ []) []))
     (actions.first_world [] 0) (record { thread = 0; answer = answer } ∷ []))
 
+-- two zero bytes, a char, and a pointer to the second literal
+abbrev pub some_globals : List Global
+some_globals =
+    record { size = 2; align = 1; init = zero_bytes }
+    ∷ record { size = 1; align = 1; init = number char (pos 65) }
+    ∷ record { size = 8; align = 8; init = literal_at 1 }
+    ∷ []
+
+-- the bytes of two literals
+abbrev pub some_literals : List (List ℕ)
+some_literals = (0 ∷ []) ∷ (104 ∷ 0 ∷ []) ∷ []
+
+-- a block of a global
+abbrev pub of_global : List Cell → Option Block
+of_global cells = Some (record { kind = kinds.Global; cells = cells })
+
+-- a block of a literal
+abbrev pub of_literal : List Cell → Option Block
+of_literal cells = Some (record { kind = kinds.Literal; cells = cells })
+
+-- the part of a pointer to the start of block 4
+abbrev pub part : ℕ → Cell
+part = Part 4 0
+
+-- the world in which code with those globals and literals begins, whose main is function 1
+abbrev pub first : actions.World
+first = record {
+  blocks = of_global (Byte 0 ∷ Byte 0 ∷ []) ∷ of_global (Byte 65 ∷ []) ∷ of_global (part 0 ∷ part 1 ∷ part 2 ∷ part 3 ∷ part 4 ∷ part 5 ∷ part 6 ∷ part 7 ∷ [])
+      ∷ of_literal (Byte 0 ∷ []) ∷ of_literal (Byte 104 ∷ Byte 0 ∷ []) ∷ [];
+  output = [];
+  threads = record { function = 1; argument = Null; stage = actions.running } ∷ [];
+  reached = [];
+}
+
 -- what they come to
 pub record RowsHold : Type 0 where
   -- two rounds of three turns, a call that is entered, its load, its return, and main's
@@ -114,3 +154,6 @@ pub record RowsHold : Type 0 where
   pub ended_object : ran (of_nodes (plain 0 (begin_object 0) ∷ set_to 0 (object 0) ∷ plain 0 (end_object 0) ∷ load_int 1 0 ∷ []) []) 1 ≡ broke C5 0
   pub dead_pointer : ran (of_nodes (plain 0 (begin_object 0) ∷ set_to 0 (object 0) ∷ plain 0 (end_object 0) ∷ set_to 1 (pointer_test 0) ∷ []) []) 1 ≡ broke C9 0
   pub no_value : ran (of_nodes (set_to 0 null ∷ call_to (Some 1) 1 (0 ∷ []) ∷ print_int 1 ∷ []) (ret 0 None ∷ [])) 3 ≡ broke C15 2
+  -- where structured code begins, and linear code
+  pub begins : start (record { globals = some_globals; literals = some_literals; funcs = []; main = 1 }) ≡ first
+  pub linear_begins : linear_start (record { globals = some_globals; literals = some_literals; funcs = []; main = 1 }) ≡ first

@@ -9,7 +9,7 @@ pub fn erased_code_means_the_same()
     ensures { ErasedCodeMeansTheSame }
 {}
 
-/// Each form of control once, and each way in which a register or a pointer can be read wrongly.
+/// Each form of control once, each way in which a register or a pointer can be read wrongly, and where code begins.
 pub fn small_codes_mean_what_they_should()
     ensures { RowsHold }
 {}
