@@ -20,6 +20,10 @@ rows_hold = record {
   ended_object = refl;
   dead_pointer = refl;
   no_value = refl;
+  unsigned_order = refl;
+  other_type = refl;
+  returns_unset = refl;
+  returns_pointer = refl;
   begins = refl;
   linear_begins = refl;
 }

@@ -1,7 +1,10 @@
 -- Structured code over named blocks: no address, no slot, no handle. What a thread does alone, up to where a turn stops.
-use Rattle.std.specs.Prelude.{ℕ, zero, suc, ◌+◌, ◌==◌, not, Bool, true, false, if◌then◌else◌, List, [], length, slice_get, Option, Some, None, Result, Ok, Err, pos, neg_ℤ}
+use Rattle.std.specs.Prelude.{ℕ, zero, suc, ◌+◌, ◌==◌, ◌&&◌, ◌||◌, not, Bool, true, false, if◌then◌else◌, List, [], length, slice_get, Option, Some, None, Result, Ok, Err, pos, neg_ℤ}
 use Rattle.std.specs.Ordering.{int_eq}
+use Rattle.ak_words.specs.declared.int_type.IntType.{IntType}
 use Rattle.ak_words.specs.declared.number.Num.{Num}
+use Rattle.ak_words.specs.declared.operation.Op.{Op}
+use Rattle.ak_words.specs.declared.operation.Op.TheVariants as ops
 use Rattle.ak_words.specs.declared.rule.Rule.{Rule}
 use Rattle.ak_words.specs.declared.rule.Rule.TheVariants.{C4, C15}
 use Rattle.ak_words.specs.IntType.{int, long}
@@ -98,6 +101,25 @@ number n = value (values.Num n)
 abbrev pub pointer : Ptr → Held
 pointer p = value (values.Pointer p)
 
+-- two types of numbers are the same
+abbrev pub same_type : IntType → IntType → Bool
+same_type s t = (s.bits == t.bits) && (if s.signed then t.signed else not t.signed)
+
+-- a shift, whose operands may have two types (C11 6.5.7 p2)
+abbrev pub is_shift : Op → Bool
+is_shift ops.Shl = true
+is_shift ops.Shr = true
+is_shift op = false
+
+-- an operation on numbers of type t takes numbers of these two types
+abbrev pub takes : Op → (t left right : IntType) → Bool
+takes op t left right = same_type t left && (is_shift op || same_type t right)
+
+-- what comes of numbers of the types that the operation takes
+abbrev pub if_taken : {A : Type 0} → Bool → Result A Fault → Result A Fault
+if_taken true x = x
+if_taken false x = Err wrong_kind
+
 -- 1 or 0, as an int
 abbrev pub truth : Bool → Held
 truth b = number (num int (if b then pos 1 else pos 0))
@@ -119,7 +141,7 @@ calculated p place l (literal n) = Ok (pointer (To (length p.globals + n) 0))
 calculated p place l (object i) = Ok (start_of (l.objects i))
 calculated p place l (copy t) = on_value (known place (l.temps t)) (λ v. Ok (value v))
 calculated p place l (convert to t) = on_value (known place (l.temps t)) (on_number (λ n. Ok (number (num to n.value))))
-calculated p place l (apply op t a b) = on_numbers place l a b (λ m n. or_broken place number (result_of op m n))
+calculated p place l (apply op t a b) = on_numbers place l a b (λ m n. if_taken (takes op t m.ty n.ty) (or_broken place number (result_of op m n)))
 calculated p place l (pointer_add q n scale) = on_pointer_and_number place l q n (λ a i. or_broken place pointer (indexed l.blocks a i.value scale))
 calculated p place l (pointer_sub q n scale) = on_pointer_and_number place l q n (λ a i. or_broken place pointer (indexed l.blocks a (neg_ℤ i.value) scale))
 calculated p place l (pointer_diff a b scale) = on_pointers place l a b (λ x y. or_broken place (λ z. number (num long z)) (difference l.blocks x y scale))

@@ -1,9 +1,9 @@
 -- Small structured codes over named blocks, worked out by hand: the definitions, put to the test.
 use Rattle.std.specs.Prelude.{◌≡◌, ℕ, pos, List, [], ◌∷◌, codes, replicate, Option, Some, None}
-use Rattle.ak_words.specs.declared.operation.Op.TheVariants.{Sub}
+use Rattle.ak_words.specs.declared.operation.Op.TheVariants.{Sub, Lt}
 use Rattle.ak_words.specs.declared.rule.Rule.{Rule}
 use Rattle.ak_words.specs.declared.rule.Rule.TheVariants.{C4, C5, C9, C15}
-use Rattle.ak_words.specs.IntType.{char, int, unsigned_long}
+use Rattle.ak_words.specs.IntType.{char, int, unsigned_int, unsigned_long}
 use Rattle.block_store.specs.declared.values.Access.TheVariants as accesses
 use Rattle.block_store.specs.declared.values.Answer.{Answer}
 use Rattle.block_store.specs.declared.values.Answer.TheVariants as answers
@@ -102,6 +102,10 @@ allocating answer = seen (run (program_of (of_nodes
     (set_to 0 (constant unsigned_long (pos 8)) ∷ plain 0 (step (record { action = malloc; places = []; to = Some 1; temps = 0 ∷ []; slots = [] })) ∷ []) []))
     (actions.first_world [] 0) (record { thread = 0; answer = answer } ∷ []))
 
+-- t0 = 4294967295 and t1 = 1, of type unsigned int; t2 is what is computed of them, and is printed
+abbrev pub of_unsigned : Calc → List Node
+of_unsigned calc = set_to 0 (constant unsigned_int (pos 4294967295)) ∷ set_to 1 (constant unsigned_int (pos 1)) ∷ set_to 2 calc ∷ print_int 2 ∷ []
+
 -- two zero bytes, a char, and a pointer to the second literal
 abbrev pub some_globals : List Global
 some_globals =
@@ -154,6 +158,12 @@ pub record RowsHold : Type 0 where
   pub ended_object : ran (of_nodes (plain 0 (begin_object 0) ∷ set_to 0 (object 0) ∷ plain 0 (end_object 0) ∷ load_int 1 0 ∷ []) []) 1 ≡ broke C5 0
   pub dead_pointer : ran (of_nodes (plain 0 (begin_object 0) ∷ set_to 0 (object 0) ∷ plain 0 (end_object 0) ∷ set_to 1 (pointer_test 0) ∷ []) []) 1 ≡ broke C9 0
   pub no_value : ran (of_nodes (set_to 0 null ∷ call_to (Some 1) 1 (0 ∷ []) ∷ print_int 1 ∷ []) (ret 0 None ∷ [])) 3 ≡ broke C15 2
+  -- a comparison of unsigned ints, as such; the same, where the code says that they are ints; a first function that returns a
+  -- register that was never set, and one that returns a pointer
+  pub unsigned_order : ran (of_nodes (of_unsigned (apply Lt unsigned_int 0 1)) []) 1 ≡ came (codes "0") (Some actions.running)
+  pub other_type : ran (of_nodes (of_unsigned (apply Lt int 0 1)) []) 1 ≡ nowhere 0
+  pub returns_unset : ran (of_nodes (ret 0 (Some 0) ∷ []) []) 1 ≡ broke C4 0
+  pub returns_pointer : ran (of_nodes (set_to 0 null ∷ ret 0 (Some 0) ∷ []) []) 1 ≡ nowhere 0
   -- where structured code begins, and linear code
   pub begins : start (record { globals = some_globals; literals = some_literals; funcs = []; main = 1 }) ≡ first
   pub linear_begins : linear_start (record { globals = some_globals; literals = some_literals; funcs = []; main = 1 }) ≡ first

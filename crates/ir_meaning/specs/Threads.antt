@@ -1,7 +1,9 @@
 -- Threads of structured code over named blocks, which share the world that the threads of the source share.
 use Rattle.std.specs.Prelude.{ℕ, zero, suc, ◌==◌, ◌&&◌, Bool, true, false, if◌then◌else◌, List, [], ◌∷◌, length, slice_get, Option, Some, None, Result, Ok, Err, ℤ, pos, negsuc, ◌+ℤ◌, ◌*ℤ◌, unsigned_abs}
 use Rattle.ak_words.specs.declared.int_type.IntType.{IntType}
+use Rattle.ak_words.specs.declared.number.Num.{Num}
 use Rattle.ak_words.specs.declared.rule.Rule.TheVariants.{C7}
+use Rattle.ak_words.specs.IntType.{int, unsigned_long}
 use Rattle.block_store.specs.declared.values.Access.{Access}
 use Rattle.block_store.specs.declared.values.Access.TheVariants as accesses
 use Rattle.block_store.specs.declared.values.Answer.{Answer}
@@ -11,6 +13,7 @@ use Rattle.block_store.specs.declared.values.Ptr.{Ptr}
 use Rattle.block_store.specs.declared.values.Ptr.TheVariants.{Null, To}
 use Rattle.block_store.specs.declared.values.Value.{Value}
 use Rattle.block_store.specs.declared.values.Value.TheVariants as values
+use Rattle.block_store.specs.Blocks.{Blocks}
 use Rattle.block_store.specs.Actions.{World as Shared, Done, went, blocked, unfit, broke, acted, bytes, text}
 use Rattle.block_store.specs.Actions as actions
 use Rattle.block_store.specs.Runs as runs
@@ -20,7 +23,7 @@ use Rattle.struct_ir.specs.Nodes.{Place, Action, load, store, copy_bytes, malloc
 use Rattle.struct_ir.specs.Structured.{Position, done, then_, structured}
 use Rattle.struct_ir.specs.Threads as threads
 use Rattle.struct_ir.specs.Threads.{World, Served, serves, waits, refuses, fails, Thread, Outcome, turn}
-use Rattle.ir_meaning.specs.Blocks.{Held, value, unset, missing, Fault, broken, wrong_kind, Own, set_at, with_temps, with_blocks, known, on_value, on_number, on_pointer, or_broken, objects_of, all_ended, blocks_machine}
+use Rattle.ir_meaning.specs.Blocks.{Held, value, unset, missing, Fault, broken, wrong_kind, same_type, Own, set_at, with_temps, with_blocks, known, on_value, on_number, on_pointer, or_broken, objects_of, all_ended, blocks_machine}
 
 -- ---- where an access goes
 
@@ -61,10 +64,6 @@ all_of f (x ∷ xs) = on_ok (f x) (λ y. on_ok (all_of f xs) (λ ys. Ok (y ∷ y
 
 -- ---- the action of a step
 
--- the value is one that the access writes
-abbrev pub same_type : IntType → IntType → Bool
-same_type s t = (s.bits == t.bits) && (if s.signed then t.signed else (if t.signed then false else true))
-
 -- by the kind of value, and its type
 abbrev pub fits : Access → Value → Bool
 fits (accesses.Number t) (values.Num n) = same_type t n.ty
@@ -76,19 +75,23 @@ abbrev pub number_of : Value → Result ℤ Fault
 number_of (values.Num n) = Ok n.value
 number_of (values.Pointer p) = Err wrong_kind
 
+-- the action, where the number of bytes or of a thread that it is given is an unsigned long, as size_t and thrd_t are
+abbrev pub if_count : Num → actions.Action → Result actions.Action Fault
+if_count n action = if same_type unsigned_long n.ty then Ok action else Err wrong_kind
+
 -- what the threads of the source do too: with these places and values
 abbrev pub action_with : Action → List Ptr → List Value → Result actions.Action Fault
 action_with (load how) (at ∷ []) [] = Ok (actions.load at how)
 action_with (store how) (at ∷ []) (v ∷ []) = if fits how v then Ok (actions.store at v) else Err wrong_kind
-action_with (copy_bytes align same) (to ∷ from ∷ []) (values.Num n ∷ []) = Ok (actions.copy to from (unsigned_abs n.value) align same)
-action_with malloc [] (values.Num n ∷ []) = Ok (actions.allocate (unsigned_abs n.value) Unknown)
+action_with (copy_bytes align same) (to ∷ from ∷ []) (values.Num n ∷ []) = if_count n (actions.copy to from (unsigned_abs n.value) align same)
+action_with malloc [] (values.Num n ∷ []) = if_count n (actions.allocate (unsigned_abs n.value) Unknown)
 action_with free [] (values.Pointer p ∷ []) = Ok (actions.free p)
 action_with (print pieces) places vs = on_ok (all_of number_of vs) (λ numbers. Ok (actions.print (parts bytes text pieces numbers places)))
 action_with lock (at ∷ []) [] = Ok (actions.lock at)
 action_with unlock (at ∷ []) [] = Ok (actions.unlock at)
 action_with destroy (at ∷ []) [] = Ok (actions.destroy at)
 action_with (start function) (to ∷ []) (values.Pointer p ∷ []) = Ok (actions.start to function p)
-action_with join (to ∷ []) (values.Num n ∷ []) = Ok (actions.join (unsigned_abs n.value) to)
+action_with join (to ∷ []) (values.Num n ∷ []) = if_count n (actions.join (unsigned_abs n.value) to)
 action_with action places vs = Err wrong_kind
 
 -- the places first, and then the registers, in order
@@ -147,14 +150,24 @@ set_given temps (Some to) h = set_at temps to h
 abbrev pub left : Ir → (callee : Own) → Option ℕ → (caller : Own) → Option ℕ → Own
 left p l temp caller to = record { function = caller.function; temps = set_given caller.temps to (given l temp); objects = caller.objects; blocks = (over p l).blocks }
 
--- the result of a thread's first function
-abbrev pub result_of : Held → Option ℤ
-result_of (value (values.Num n)) = Some n.value
-result_of h = None
+-- an int, as the first function of a thread gives it (C11 5.1.2.2.1, 7.26.1 p5)
+abbrev pub int_in : Value → Result (Option ℤ) Fault
+int_in (values.Num n) = if same_type int n.ty then Ok (Some n.value) else Err wrong_kind
+int_in (values.Pointer p) = Err wrong_kind
+
+-- the result of a thread's first function, if it returns one
+abbrev pub result_of : Own → Option ℕ → Result (Option ℤ) Fault
+result_of l None = Ok None
+result_of l (Some t) = on_value (known 0 (l.temps t)) int_in
+
+-- it returns this result, and these blocks are left
+abbrev pub finished_with : (thread : ℕ) → Answer → Own → Shared → Blocks → Result (Option ℤ) Fault → Served Own Fault Shared
+finished_with thread answer l w blocks (Ok result) = served_by 0 l None (acted (actions.with_blocks w blocks) thread answer (actions.finish result))
+finished_with thread answer l w blocks (Err f) = fails f
 
 -- the return of a thread's first function is an action; the call's objects end in the same turn
 abbrev pub finished : Ir → (thread : ℕ) → Answer → Own → Option ℕ → Shared → Served Own Fault Shared
-finished p thread answer l temp w = served_by 0 l None (acted (actions.with_blocks w (over p l).blocks) thread answer (actions.finish (result_of (given l temp))))
+finished p thread answer l temp w = finished_with thread answer l w (over p l).blocks (result_of l temp)
 
 -- the answer of a turn without an action
 abbrev pub is_plain : Answer → Bool

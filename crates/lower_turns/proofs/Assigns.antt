@@ -1,4 +1,5 @@
 -- A value goes to a local or to an object.
+use Rattle.lower_turns.proofs.Operands.{computed_taken}
 use Rattle.std.proofs.Common.{◌≡◌, ◌≢◌, ℕ, suc, ◌<◌, ◌^◌, ◌⊎◌, inl, inr, ℤ, pos, Bool, true, List, [], ◌∷◌, set, Option, Some, None, Result, Ok, Err, refl, sym, ap, subst, ◌∙◌, arith, unsigned_abs}
 use Rattle.std.specs.Prelude.{slice_get}
 use Rattle.ak_words.specs.declared.int_type.IntType.{IntType}
@@ -31,14 +32,14 @@ use Rattle.c_meaning.specs.Turns.{Way, on_ok, stays, local_way, nowhere_way, pla
 use Rattle.struct_ir.specs.Nodes as ir
 use Rattle.struct_ir.specs.Nodes.{Nodes, Place, Step, more_nodes, plain}
 use Rattle.struct_ir.specs.Structured.{Position, then_}
-use Rattle.ir_meaning.specs.Blocks.{Held, value, number, pointer, broken, Own, set_at, known, on_value, on_number, or_broken, calculated, start_of}
+use Rattle.ir_meaning.specs.Blocks.{Held, value, number, pointer, broken, Own, set_at, known, on_value, on_number, or_broken, calculated, start_of, takes, if_taken}
 use Rattle.ir_meaning.specs.Threads.{action_of, set_if}
 use Rattle.lower_forms.specs.Forms as forms
 use Rattle.lower_forms.specs.Forms.{home, sets, sets_long, Reach, found, reached, behind, at_temp, pointed, reach, number_type, moves, number_update, computes, update_at, sized_copy, expr_nodes, place_nodes}
 use Rattle.lower_forms.specs.Programs.{lowered}
 use Rattle.lower_turns.proofs.Relation.{HasKind, Below, Reaches, Points, InRegister, no_value, one_value, held_in, Agrees, forwards, backwards, at_local, at_nowhere, at_place, at_block, at_struct_right, at_update_read, at_update_local, Together, both_went, both_broke, same, at_begins}
 use Rattle.lower_turns.proofs.Registers.{set_here, set_there, below_same, below_less, below_then, below_set, reaches_below}
-use Rattle.lower_turns.proofs.Values.{binary_is, binary_kind, long_is}
+use Rattle.lower_turns.proofs.Values.{binary_is, binary_kind, long_is, taken_is}
 use Rattle.lower_turns.proofs.Steps.{set_then, set_result, set_breaks, step_alike}
 use Rattle.lower_turns.proofs.Setting.{Setting, here, now, own, Alike, frame, start, start_is, agrees_on, GoesE, GoesS, points_found}
 use Rattle.lower_turns.proofs.Actions.{GivesNone, if_went, store_so, copy_so, IfWent}
@@ -78,14 +79,15 @@ module _ (g : Setting) (ob : ℕ → Option ℕ) (b : Blocks) (go : Value → Tu
   applied (Err rule) s t0 op a but e leads =
       subst (Together g.t (runs.broke rule place)) (sym (set_breaks program_code g.thread g.answer g.cs' g.s place x (ir.apply op t0 x y) (sets place to (ir.convert s x) r) q (own g ob a b) (broken rule place) e)) (both_broke rule place)
 
-  apply_is : (t0 : IntType) (op : Op) (a : ℕ → Held) (m n : Num) → a x ≡ number m → a y ≡ number n → calculated program_code place (own g ob a b) (ir.apply op t0 x y) ≡ or_broken place number (result_of op m n)
-  apply_is t0 op a m n e d =
-      ap (λ (h : Held). on_value (known place h) (on_number (λ (z : Num). on_value (known place (a y)) (on_number (λ (o : Num). or_broken place number (result_of op z o)))))) e
-      ∙ ap (λ (h : Held). on_value (known place h) (on_number (λ (o : Num). or_broken place number (result_of op m o)))) d
+  apply_is : (t0 : IntType) (op : Op) (a : ℕ → Held) (m n : Num) → takes op t0 m.ty n.ty ≡ true → a x ≡ number m → a y ≡ number n → calculated program_code place (own g ob a b) (ir.apply op t0 x y) ≡ or_broken place number (result_of op m n)
+  apply_is t0 op a m n t e d =
+      ap (λ (h : Held). on_value (known place h) (on_number (λ (z : Num). on_value (known place (a y)) (on_number (λ (o : Num). if_taken (takes op t0 z.ty o.ty) (or_broken place number (result_of op z o))))))) e
+      ∙ ap (λ (h : Held). on_value (known place h) (on_number (λ (o : Num). if_taken (takes op t0 m.ty o.ty) (or_broken place number (result_of op m o))))) d
+      ∙ taken_is (takes op t0 m.ty n.ty) (or_broken place number (result_of op m n)) t
 
-  numbers_updated : (op : Op) (s : IntType) (types : IntType × IntType) (m n : Num) → tm x ≡ number m → tm y ≡ number n → Leads (accesses.Number s)
+  numbers_updated : (op : Op) (s : IntType) (types : IntType × IntType) (m n : Num) → takes op types.0 types.0 types.1 ≡ true → tm x ≡ number m → tm y ≡ number n → Leads (accesses.Number s)
       → Alike g (on_ok place go (converted_result (tree.integer s) (computed op types m n))) (then_ (number_update place op s types x y to r) q) (own g ob tm b)
-  numbers_updated op s types m n e d leads =
+  numbers_updated op s types m n t e d leads =
       let hx : Held = number (num types.0 m.value) in
       let hy : Held = number (num types.1 n.value) in
       let not_x : y ≢ x = λ z. apart (sym z) in
@@ -93,7 +95,7 @@ module _ (g : Setting) (ob : ℕ → Option ℕ) (b : Blocks) (go : Value → Tu
       (set_then program_code g.thread g.answer g.cs' g.s g.t _ place y (ir.convert types.1 y) (sets place x (ir.apply op types.0 x y) (sets place to (ir.convert s x) r)) q (own g ob (set_at tm x hx) b) hy
       (converts_to (set_at tm x hx) y types.1 n (set_there tm x hx y not_x ∙ d))
       (applied (result_of op (num types.0 m.value) (num types.1 n.value)) s types.0 op (set_at (set_at tm x hx) y hy) (λ i nx ny nt. set_there (set_at tm x hx) y hy i ny ∙ set_there tm x hx i nx)
-      (apply_is types.0 op (set_at (set_at tm x hx) y hy) (num types.0 m.value) (num types.1 n.value) (set_there (set_at tm x hx) y hy x apart ∙ set_here tm x hx) (set_here (set_at tm x hx) y hy)) leads))
+      (apply_is types.0 op (set_at (set_at tm x hx) y hy) (num types.0 m.value) (num types.1 n.value) t (set_there (set_at tm x hx) y hy x apart ∙ set_here tm x hx) (set_here (set_at tm x hx) y hy)) leads))
 
   moved_to : (op : Op) (size : ℕ) (u : tree.Ty) (p : Ptr) (n : Num) → (op ≡ ops.Add) ⊎ (op ≡ ops.Sub) → element_size g.t.structs (tree.pointer u) ≡ size → tm x ≡ pointer p → tm y ≡ number n → Leads accesses.Pointer
       → Alike g (on_ok place go (updated g.t.structs b (tree.pointer u) op (values.Pointer p) (values.Num n))) (then_ (sets place to (moves op x y (element_size g.t.structs (tree.pointer u))) r) q) (own g ob tm b)
@@ -114,7 +116,7 @@ module _ (g : Setting) (ob : ℕ → Option ℕ) (b : Blocks) (go : Value → Tu
   computes_alike op (tree.integer s) (tree.integer z) can (values.Num m) (values.Num n) ka kb e d leads =
       let types : operand_types op m.ty n.ty ≡ operand_types op s z = ap (λ k. operand_types op k n.ty) ka ∙ ap (operand_types op s) kb in
       subst (λ k. Alike g (on_ok place go (converted_result (tree.integer s) (computed op k m n))) (then_ (number_update place op s (operand_types op s z) x y to r) q) (own g ob tm b)) (sym types)
-      (numbers_updated op s (operand_types op s z) m n e d leads)
+      (numbers_updated op s (operand_types op s z) m n (computed_taken op s z) e d leads)
   computes_alike op (tree.integer s) (tree.integer z) can (values.Pointer p) vb ka kb e d leads = elim ka [ ]
   computes_alike op (tree.integer s) (tree.integer z) can (values.Num m) (values.Pointer p) ka kb e d leads = elim kb [ ]
   computes_alike op (tree.pointer u) (tree.integer z) can (values.Pointer p) (values.Num n) ka kb e d leads = moved_to op (element_size g.t.structs (tree.pointer u)) u p n can.0 refl e d leads

@@ -1,5 +1,6 @@
 -- A call is left on both sides.
-use Rattle.std.proofs.Common.{◌≡◌, ℕ, zero, suc, ◌≤◌, ◌==◌, pos, Bool, true, false, List, [], length, Option, Some, None, refl, sym, ap, subst, ◌∙◌, arith, if◌then◌else◌}
+use Rattle.ak_words.specs.declared.number.Num.{Num}
+use Rattle.std.proofs.Common.{◌≡◌, ℕ, zero, suc, ◌≤◌, ◌==◌, pos, Bool, true, false, List, [], length, Option, Some, None, Ok, Err, refl, sym, ap, subst, ◌∙◌, arith, if◌then◌else◌}
 use Rattle.std.specs.Prelude.{slice_get}
 use Rattle.std.proofs.lemmas.Option.{same_Some}
 use Rattle.std.proofs.lemmas.Bool.Decides.{nat_tests}
@@ -8,6 +9,7 @@ use Rattle.ak_words.proofs.Wraps.{wrapped_value-in_type}
 use Rattle.ak_words.specs.IntType.{int}
 use Rattle.ak_words.specs.Num.{num}
 use Rattle.block_store.specs.declared.values.Access.{Access}
+use Rattle.block_store.specs.declared.values.Access.TheVariants as accesses
 use Rattle.block_store.specs.declared.values.Answer.{Answer}
 use Rattle.block_store.specs.declared.values.Answer.TheVariants as answers
 use Rattle.block_store.specs.declared.values.Value.{Value}
@@ -31,8 +33,8 @@ use Rattle.struct_ir.specs.Flow.{returns, Here}
 use Rattle.struct_ir.specs.Threads as threads
 use Rattle.struct_ir.specs.Threads.{Thread, finished, left_call, if_fits, stop_at}
 use Rattle.ir_meaning.specs.Blocks as code
-use Rattle.ir_meaning.specs.Blocks.{Held, value, Own, set_at, blocks_machine}
-use Rattle.ir_meaning.specs.Threads.{over, given, result_of, served_by, blocks_world, is_plain, turned, code_of}
+use Rattle.ir_meaning.specs.Blocks.{Held, value, Own, set_at, blocks_machine, same_type, wrong_kind, on_value, known}
+use Rattle.ir_meaning.specs.Threads.{over, given, int_in, result_of, finished_with, served_by, blocks_world, is_plain, turned, code_of}
 use Rattle.lower_forms.specs.Forms as forms
 use Rattle.lower_forms.specs.Forms.{sets_int, Reach, found}
 use Rattle.lower_forms.specs.Programs.{registers_of, last_nodes, lowered}
@@ -45,15 +47,18 @@ use Rattle.lower_turns.proofs.Ends.{blocks_over}
 use Rattle.lower_turns.proofs.Locals.{locals_long}
 
 -- what a call ends with, in the source and in the code
-pub data ReturnsAs (how : Access) : Option Value → Held → Type 0 where
-  with_value : (v : Value) → HasKind how v → ReturnsAs how (Some v) (value v)
-  without_value : ReturnsAs how None code.missing
+pub data ReturnsAs (how : Access) : Option Value → Option ℕ → Held → Type 0 where
+  with_value : (v : Value) (t : ℕ) → HasKind how v → ReturnsAs how (Some v) (Some t) (value v)
+  without_value : ReturnsAs how None None code.missing
 
--- the number that a thread's first function gives is the same
-result_same : (how : Access) (v : Option Value) (h : Held) → ReturnsAs how v h → number_in v ≡ result_of h
-result_same how _ _ (with_value (values.Num n) k) = refl
-result_same how _ _ (with_value (values.Pointer p) k) = refl
-result_same how _ _ without_value = refl
+-- the int that a thread's first function gives is the same
+int_is : (n : Num) → n.ty ≡ int → int_in (values.Num n) ≡ Ok (Some n.value)
+int_is n e = ap (λ s. if same_type int s then Ok (Some n.value) else Err wrong_kind) e
+
+result_same : (l : Own) (v : Option Value) (temp : Option ℕ) (h : Held) → h ≡ given l temp → ReturnsAs (accesses.Number int) v temp h → result_of l temp ≡ Ok (number_in v)
+result_same l _ _ _ is (with_value (values.Num n) t k) = subst (λ x. on_value (known 0 x) int_in ≡ Ok (Some n.value)) is (int_is n k)
+result_same l _ _ _ is (with_value (values.Pointer p) t k) = elim k [ ]
+result_same l _ _ _ is without_value = refl
 
 module _ (g : Setting) where
   -- a thread's first function has returned
@@ -73,16 +78,16 @@ module _ (g : Setting) where
     -- where a value goes that is wanted
     module _ (n : ℕ) (f : tree.Func) (xs : List Variable) (a : ℕ → Held) (c : ℕ → Option ℕ) (k : source.Use) (u : ℕ) (r : Nodes) (q : Position) (w : World) (all : AllBegin g.t w) (bs : Blocks) where
       wanted_lands : (how : Access) (place : ℕ) (cs : List Caller) (cs' : List (Point Position Own)) → Calls g.t → InCall g.t n f → first g.t n f ≤ u → Agrees (fr g.t n f) f.locals xs a c
-          → AtE g.t n f c a k u how found r q → Callers g.t n cs cs' → (v : Option Value) (h : Held) → ReturnsAs how v h
+          → AtE g.t n f c a k u how found r q → Callers g.t n cs cs' → (v : Option Value) (temp : Option ℕ) (h : Held) → ReturnsAs how v temp h
           → Together g.t (runs.went (record { function = n; locals = xs; point = after_call (wanted place k) v; callers = cs }) w)
           (runs.went (record { top = record { at = then_ (forms.sets place u (ir.copy u) r) q; own = record { function = n; temps = set_at a u h; objects = c; blocks = bs } }; callers = cs' }) w)
-      wanted_lands how place cs cs' busy call above agrees at callers _ _ (with_value v kind) =
+      wanted_lands how place cs cs' busy call above agrees at callers _ _ _ (with_value v t kind) =
           let d : ℕ → Held = set_at a u (value v) in
           let under : Below u a d = below_set u u a a (value v) (omega arith) (below_same u a) in
           let low : Below (length f.locals) a d = below_less u (length f.locals) a d (omega (arith, above, locals_long g.t n f)) under in
           both_went w all (same call (agrees_below (fr g.t n f) f.locals xs a d c agrees low)
           (at_gives v kind (set_here a u (value v)) above busy (at_again place found (use_below g.t n f c a d k u how found r q at under))) callers)
-      wanted_lands how place cs cs' busy call above agrees at callers _ _ without_value =
+      wanted_lands how place cs cs' busy call above agrees at callers _ _ _ without_value =
           let d : ℕ → Held = set_at a u code.missing in
           let under : Below u a d = below_set u u a a code.missing (omega arith) (below_same u a) in
           let low : Below (length f.locals) a d = below_less u (length f.locals) a d (omega (arith, above, locals_long g.t n f)) under in
@@ -90,23 +95,25 @@ module _ (g : Setting) where
 
     -- back in the caller, or at the end of the thread
     returns_at : (temp : Option ℕ) (v : Option Value) (m : ℕ) (cs : List Caller) (cs' : List (Point Position Own)) → m ≡ g.n → Callers g.t m cs cs'
-        → ReturnsAs (access_of_type g.f.result) v (given (own g ob tm b) temp)
+        → ReturnsAs (access_of_type g.f.result) v temp (given (own g ob tm b) temp)
         → (w : World) → w ≡ actions.with_blocks g.s (over (lowered g.t) (own g ob tm b)).blocks
         → Together g.t (returns_to (here g) v w cs) (turned (left_call structured (blocks_world (lowered g.t) g.thread) g.answer (own g ob tm b) temp (actions.with_blocks g.s b) cs'))
-    returns_at temp v _ _ _ e (no_callers m) kept w is =
+    returns_at temp v _ _ _ e (no_callers m f' there gives) kept w is =
+        let now_f : f' ≡ g.f = same_Some f' g.f (sym there ∙ ap (slice_get g.t.funcs) e ∙ g.call.there) in
+        let an_int : ReturnsAs (accesses.Number int) v temp (given (own g ob tm b) temp) = subst (λ z. ReturnsAs (access_of_type z) v temp (given (own g ob tm b) temp)) (ap (λ (z : tree.Func). z.result) (sym now_f) ∙ gives) kept in
         subst (λ x. Together g.t (returns_to (here g) v x []) (turned (left_call structured (blocks_world (lowered g.t) g.thread) g.answer (own g ob tm b) temp (actions.with_blocks g.s b) []))) (sym is)
-        (subst (λ z. Together g.t (on_done 0 (λ u next. runs.ended next) (acted (actions.with_blocks g.s (over (lowered g.t) (own g ob tm b)).blocks) g.thread g.answer (actions.finish z)))
-        (turned (left_call structured (blocks_world (lowered g.t) g.thread) g.answer (own g ob tm b) temp (actions.with_blocks g.s b) []))) (sym (result_same (access_of_type g.f.result) v (given (own g ob tm b) temp) kept))
-        (finishes (acted (actions.with_blocks g.s (over (lowered g.t) (own g ob tm b)).blocks) g.thread g.answer (actions.finish (result_of (given (own g ob tm b) temp)))) (own g ob tm b)
-        (finish_so g.t (actions.with_blocks g.s (over (lowered g.t) (own g ob tm b)).blocks) g.begun g.thread g.answer (result_of (given (own g ob tm b) temp)))))
+        (subst (λ z. Together g.t (on_done 0 (λ u next. runs.ended next) (acted (actions.with_blocks g.s (over (lowered g.t) (own g ob tm b)).blocks) g.thread g.answer (actions.finish (number_in v))))
+        (turned (finished (finished_with g.thread g.answer (own g ob tm b) (actions.with_blocks g.s b) (over (lowered g.t) (own g ob tm b)).blocks z)))) (sym (result_same (own g ob tm b) v temp (given (own g ob tm b) temp) refl an_int))
+        (finishes (acted (actions.with_blocks g.s (over (lowered g.t) (own g ob tm b)).blocks) g.thread g.answer (actions.finish (number_in v))) (own g ob tm b)
+        (finish_so g.t (actions.with_blocks g.s (over (lowered g.t) (own g ob tm b)).blocks) g.begun g.thread g.answer (number_in v))))
     returns_at temp v _ _ _ e (one_wants {n} {f} {vs = xs} {tm = a} {ob = c} {b = bs} {k} {u} {r} {q} {cs} {cs'} m f' place ts there busy call above agrees at callers) kept w is =
         let now_f : f' ≡ g.f = same_Some f' g.f (sym there ∙ ap (slice_get g.t.funcs) e ∙ g.call.there) in
         subst (λ x. Together g.t (plainly g.answer (runs.went (record { function = n; locals = xs; point = after_call (wanted place k) v; callers = cs }) x))
         (turned (if_fits (is_plain g.answer) (threads.went (record { top = record { at = then_ (forms.sets place u (ir.copy u) r) q; own = record { function = n; temps = set_at a u (given (own g ob tm b) temp); objects = c; blocks = (over (lowered g.t) (own g ob tm b)).blocks } }; callers = cs' })
         (actions.with_blocks g.s (over (lowered g.t) (own g ob tm b)).blocks))))) (sym is)
         (plainly_alike g.answer _ _ (actions.with_blocks g.s (over (lowered g.t) (own g ob tm b)).blocks)
-        (wanted_lands n f xs a c k u r q (actions.with_blocks g.s (over (lowered g.t) (own g ob tm b)).blocks) g.begun (over (lowered g.t) (own g ob tm b)).blocks (access_of_type f'.result) place cs cs' busy call above agrees at callers v (given (own g ob tm b) temp)
-        (subst (λ z. ReturnsAs (access_of_type z) v (given (own g ob tm b) temp)) (ap (λ (z : tree.Func). z.result) (sym now_f)) kept)))
+        (wanted_lands n f xs a c k u r q (actions.with_blocks g.s (over (lowered g.t) (own g ob tm b)).blocks) g.begun (over (lowered g.t) (own g ob tm b)).blocks (access_of_type f'.result) place cs cs' busy call above agrees at callers v temp (given (own g ob tm b) temp)
+        (subst (λ z. ReturnsAs (access_of_type z) v temp (given (own g ob tm b) temp)) (ap (λ (z : tree.Func). z.result) (sym now_f)) kept)))
     returns_at temp v _ _ _ e (one_drops {n} {f} {vs = xs} {tm = a} {ob = c} {b = bs} {k = k} {r = r} {q = q} {cs} {cs'} m place ts busy call agrees at callers) kept w is =
         subst (λ x. Together g.t (plainly g.answer (runs.went (record { function = n; locals = xs; point = source.begins k; callers = cs }) x))
         (turned (if_fits (is_plain g.answer) (threads.went (record { top = record { at = then_ r q; own = record { function = n; temps = a; objects = c; blocks = (over (lowered g.t) (own g ob tm b)).blocks } }; callers = cs' })
@@ -115,7 +122,7 @@ module _ (g : Setting) where
         (both_went (actions.with_blocks g.s (over (lowered g.t) (own g ob tm b)).blocks) g.begun (same call agrees (at_begins at) callers)))
 
     -- a call is left from here
-    pub leaves_alike : (a : ℕ → Held) → Agrees (frame g) g.f.locals vs a ob → (k : Position) (temp : Option ℕ) (v : Option Value) → position.here k ≡ returns temp → ReturnsAs (access_of_type g.f.result) (result_of_call (here g) v) (given (own g ob tm b) temp)
+    pub leaves_alike : (a : ℕ → Held) → Agrees (frame g) g.f.locals vs a ob → (k : Position) (temp : Option ℕ) (v : Option Value) → position.here k ≡ returns temp → ReturnsAs (access_of_type g.f.result) (result_of_call (here g) v) temp (given (own g ob tm b) temp)
         → Alike g (leaves_call (here g) v (now g vs b)) k (own g ob tm b)
     leaves_alike a agrees k temp v stands kept =
         subst (Together g.t (leaves_call (here g) v (now g vs b)))
@@ -127,7 +134,7 @@ module _ (g : Setting) where
     -- main, of a program that calls nothing, gives 0 and has no register for it
     bare_at : (m : ℕ) (cs : List Caller) (cs' : List (Point Position Own)) → Callers g.t m cs cs' → (Calls g.t → ⊥) → (w : World) → w ≡ actions.with_blocks g.s (over (lowered g.t) (own g ob tm b)).blocks
         → Together g.t (returns_to (here g) (Some (values.Num (num int (pos 0)))) w cs) (turned (left_call structured (blocks_world (lowered g.t) g.thread) g.answer (own g ob tm b) None (actions.with_blocks g.s b) cs'))
-    bare_at _ _ _ (no_callers m) bare w is =
+    bare_at _ _ _ (no_callers m f' there gives) bare w is =
         subst (λ x. Together g.t (returns_to (here g) (Some (values.Num (num int (pos 0)))) x []) (turned (left_call structured (blocks_world (lowered g.t) g.thread) g.answer (own g ob tm b) None (actions.with_blocks g.s b) []))) (sym is)
         (subst (λ z. Together g.t (on_done 0 (λ u next. runs.ended next) (acted (actions.with_blocks g.s (over (lowered g.t) (own g ob tm b)).blocks) g.thread g.answer (actions.finish (Some z))))
         (turned (left_call structured (blocks_world (lowered g.t) g.thread) g.answer (own g ob tm b) None (actions.with_blocks g.s b) []))) (sym zero_is)
@@ -169,7 +176,7 @@ module _ (g : Setting) where
     last_at : (m : Bool) (k : ℕ) → (g.n == g.t.main) ≡ m → registers_of g.f ≡ k → Alike g (leaves_call (here g) None (now g vs b)) (then_ (last_nodes m k) done) (own g ob tm b)
     last_at false k e h =
         then_same (lowered g.t) g.thread g.answer g.cs' g.s g.t _ _ _ _ _ (no_more (lowered g.t) g.thread g.answer g.cs' g.s done (own g ob tm b))
-        (leaves_alike g vs tm ob b tm agrees done None None refl (subst (λ z. ReturnsAs (access_of_type g.f.result) z code.missing) (sym (result_at false e)) without_value))
+        (leaves_alike g vs tm ob b tm agrees done None None refl (subst (λ z. ReturnsAs (access_of_type g.f.result) z None code.missing) (sym (result_at false e)) without_value))
     last_at true zero e h =
         then_same (lowered g.t) g.thread g.answer g.cs' g.s g.t _ _ _ _ _ (no_more (lowered g.t) g.thread g.answer g.cs' g.s done (own g ob tm b))
         (subst (λ z. Alike g (returns_to (here g) z (without_blocks vs (actions.with_blocks g.s b)) g.cs) done (own g ob tm b)) (sym (result_at true e)) (bare_alike g vs tm ob b tm agrees (main_bare e h)))
@@ -178,7 +185,7 @@ module _ (g : Setting) where
         let kind : HasKind (access_of_type g.f.result) v = subst (λ z. HasKind (access_of_type z) v) (sym (main_result e)) refl in
         set_then (lowered g.t) g.thread g.answer g.cs' g.s g.t _ 0 0 (ir.constant int (pos 0)) (more_nodes (ir.ret 0 (Some 0)) no_nodes) done (own g ob tm b) (value v) refl
         (leaves_alike g vs (set_at tm 0 (value v)) ob b tm agrees (then_ (more_nodes (ir.ret 0 (Some 0)) no_nodes) done) (Some 0) None refl
-        (subst (λ z. ReturnsAs (access_of_type g.f.result) z (set_at tm 0 (value v) 0)) (sym (result_at true e)) (subst (ReturnsAs (access_of_type g.f.result) (Some v)) (sym (set_here tm 0 (value v))) (with_value v kind))))
+        (subst (λ z. ReturnsAs (access_of_type g.f.result) z (Some 0) (set_at tm 0 (value v) 0)) (sym (result_at true e)) (subst (ReturnsAs (access_of_type g.f.result) (Some v) (Some 0)) (sym (set_here tm 0 (value v))) (with_value v 0 kind))))
 
   -- at the end of the body
   pub leave_goes : GoesS g false (leave_way (here g)) [] (last_nodes (g.n == g.t.main) (registers_of g.f)) done
@@ -197,7 +204,7 @@ module _ (g : Setting) where
     above = omega arith;
     agrees = agrees;
     go = λ v a kind below is points.
-        leaves_alike g vs a ob b tm agrees (then_ (more_nodes (ir.ret place (Some (start g))) r) q) (Some (start g)) (Some v) refl (subst (ReturnsAs (access_of_type g.f.result) (Some v)) (sym is) (with_value v kind));
+        leaves_alike g vs a ob b tm agrees (then_ (more_nodes (ir.ret place (Some (start g))) r) q) (Some (start g)) (Some v) refl (subst (ReturnsAs (access_of_type g.f.result) (Some v) (Some (start g))) (sym is) (with_value v (start g) kind));
   }
 
   not_main : g.f.result ≡ tree.void → (m : Bool) → (g.n == g.t.main) ≡ m → m ≡ false
@@ -208,4 +215,4 @@ module _ (g : Setting) where
       → Alike g (leaves_call (here g) None (now g vs b)) (then_ (more_nodes (ir.ret place None) r) q) (own g ob tm b)
   returns_none vs ob b tm agrees place r q e =
       leaves_alike g vs tm ob b tm agrees (then_ (more_nodes (ir.ret place None) r) q) None None refl
-      (subst (λ z. ReturnsAs (access_of_type g.f.result) z code.missing) (sym (result_at vs tm ob b agrees false (not_main e (g.n == g.t.main) refl))) without_value)
+      (subst (λ z. ReturnsAs (access_of_type g.f.result) z None code.missing) (sym (result_at vs tm ob b agrees false (not_main e (g.n == g.t.main) refl))) without_value)

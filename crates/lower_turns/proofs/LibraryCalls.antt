@@ -1,4 +1,5 @@
 -- Each call of the library does the same on both sides.
+use Rattle.ak_words.specs.declared.number.Num.{Num}
 use Rattle.std.proofs.Common.{◌≡◌, ◌≢◌, ℕ, suc, pos, false, List, [], ◌∷◌, map, Option, Some, None, Ok, Err, inr, refl, sym, ap, subst, ◌∙◌, arith, unsigned_abs, if◌then◌else◌}
 use Rattle.ak_words.specs.IntType.{int, unsigned_long}
 use Rattle.block_store.specs.declared.values.Access.{Access}
@@ -21,8 +22,8 @@ use Rattle.c_meaning.specs.Turns.{stays, after_call, calls_library, acts}
 use Rattle.struct_ir.specs.Nodes as ir
 use Rattle.struct_ir.specs.Nodes.{Nodes, Place, Step, more_nodes, plain}
 use Rattle.struct_ir.specs.Structured.{Position, then_}
-use Rattle.ir_meaning.specs.Blocks.{Held, value, set_at, wrong_kind}
-use Rattle.ir_meaning.specs.Threads.{action_of, set_if, action_with}
+use Rattle.ir_meaning.specs.Blocks.{Held, value, set_at, wrong_kind, same_type}
+use Rattle.ir_meaning.specs.Threads.{action_of, set_if, action_with, if_count}
 use Rattle.lower_forms.specs.Forms.{sets_int, at_temp, number_temps, text_places, lib_nodes}
 use Rattle.lower_forms.specs.Programs.{lowered}
 use Rattle.lower_turns.proofs.Relation.{ctx, HasKind, Agrees, Stand, AreScalars, Calls, AllBegin}
@@ -80,6 +81,9 @@ module _ (g : Setting) (busy : Calls g.t) (vs : List Variable) (ob : ℕ → Opt
       (actions.print (parts bytes text pieces (numbers_of args) (pointers_of args))) (print_is place (own g ob tm b) pieces es args u (Some u) s h)
       (print_so g.t world_now g.begun g.thread g.answer (parts bytes text pieces (numbers_of args) (pointers_of args)))
 
+  count_is : (n : Num) (action : Action) → n.ty ≡ unsigned_long → if_count n action ≡ Ok action
+  count_is n action e = ap (λ s. if same_type unsigned_long s then Ok action else Err wrong_kind) e
+
   pub malloc_alike : (es : tree.Exprs) (args : List Value) → ty ≡ tree.pointer tree.void → StandAs tm (accesses.Number unsigned_long ∷ []) args u → Ends tree.malloc args (lib_nodes place tree.malloc es u r)
   malloc_alike es [] e h = elim h [ ]
   malloc_alike es (values.Pointer p ∷ args) e h = elim (h.0) [ ]
@@ -87,7 +91,7 @@ module _ (g : Setting) (busy : Calls g.t) (vs : List Variable) (ob : ℕ → Opt
   malloc_alike es (values.Num n ∷ []) e h =
       kind_alike accesses.Pointer (sym (ap access_of_type e)) (record { action = ir.malloc; places = []; to = Some u; temps = u ∷ []; slots = [] }) refl
       (actions.allocate (unsigned_abs n.value) Unknown)
-      (action_is place (own g ob tm b) (record { action = ir.malloc; places = []; to = Some u; temps = u ∷ []; slots = [] }) [] (values.Num n ∷ []) refl (one_more_read place (own g ob tm b) u [] (values.Num n) [] h.1 refl))
+      (action_is place (own g ob tm b) (record { action = ir.malloc; places = []; to = Some u; temps = u ∷ []; slots = [] }) [] (values.Num n ∷ []) refl (one_more_read place (own g ob tm b) u [] (values.Num n) [] h.1 refl) ∙ count_is n (actions.allocate (unsigned_abs n.value) Unknown) h.0)
       (allocate_so g.t world_now g.begun g.thread g.answer (unsigned_abs n.value) Unknown)
 
   pub start_alike : (m : ℕ) (es : tree.Exprs) (args : List Value) → ty ≡ tree.integer int → IsNth (ctx g.t g.n g.f).funcs m CanStart → StandAs tm (accesses.Pointer ∷ accesses.Pointer ∷ []) args u
@@ -117,7 +121,8 @@ module _ (g : Setting) (busy : Calls g.t) (vs : List Variable) (ob : ℕ → Opt
       (actions.join (unsigned_abs n.value) o)
       (action_is place (own g ob tm b) (record { action = ir.join; places = at_temp (suc u) ∷ []; to = Some u; temps = u ∷ []; slots = [] }) (o ∷ []) (values.Num n ∷ [])
       (one_more_place place (own g ob tm b) (at_temp (suc u)) [] o [] (at_register place (own g ob tm b) (suc u) o h.2.1) refl)
-      (one_more_read place (own g ob tm b) u [] (values.Num n) [] h.1 refl))
+      (one_more_read place (own g ob tm b) u [] (values.Num n) [] h.1 refl)
+      ∙ count_is n (actions.join (unsigned_abs n.value) o) h.0)
       (join_so g.t world_now g.begun g.thread g.answer (unsigned_abs n.value) o)
 
   -- ---- without a value
@@ -201,7 +206,8 @@ module _ (g : Setting) (busy : Calls g.t) (vs : List Variable) (ob : ℕ → Opt
       (action_is place (own g ob tm b) (record { action = ir.copy_bytes 1 false; places = at_temp u ∷ at_temp (suc u) ∷ []; to = None; temps = suc (suc u) ∷ []; slots = [] }) (p ∷ o ∷ []) (values.Num n ∷ [])
       (one_more_place place (own g ob tm b) (at_temp u) (at_temp (suc u) ∷ []) p (o ∷ []) (at_register place (own g ob tm b) u p h.1)
       (one_more_place place (own g ob tm b) (at_temp (suc u)) [] o [] (at_register place (own g ob tm b) (suc u) o h.2.1) refl))
-      (one_more_read place (own g ob tm b) (suc (suc u)) [] (values.Num n) [] h.2.2.1 refl))
+      (one_more_read place (own g ob tm b) (suc (suc u)) [] (values.Num n) [] h.2.2.1 refl)
+          ∙ count_is n (actions.copy p o (unsigned_abs n.value) 1 false) h.2.2.0)
       (copy_so g.t world_now g.begun g.thread g.answer p o (unsigned_abs n.value) 1 false)
       (λ v w k all. lands_value g busy vs ob b tm agrees place ty u kw r q waits (values.Pointer p) tm w (subst (λ z. HasKind (access_of_type z) (values.Pointer p)) (sym e) tt) (below_same u tm) h.1 all)
 

@@ -17,7 +17,7 @@ use Rattle.struct_ir.specs.Lists.{listless}
 use Rattle.struct_ir.specs.Erased.{erased, func_erased, ir_erased, at_erased}
 use Rattle.struct_ir.specs.Threads.{Thread, Outcome, went, ended, blocked, broke, unfit, turn}
 use Rattle.ir_meaning.specs.Blocks.{Fault, broken, wrong_kind, Own, calculated, assigned, objects_of, size_of, without, begun_after, own_act, all_ended, blocks_machine}
-use Rattle.ir_meaning.specs.Threads.{served_by, result_of, given, set_given, over, left, finished, nodes_of, params_of, first_temps, code_of, blocks_world, turned, program_of}
+use Rattle.ir_meaning.specs.Threads.{served_by, result_of, finished_with, given, set_given, over, left, finished, nodes_of, params_of, first_temps, code_of, blocks_world, turned, program_of}
 use Rattle.ir_meaning.proofs.Bare.{erased_code}
 use Rattle.lower_turns.specs.Turns.{ErasedCodeShowsTheSame, CodeWithLooksKeepsEveryTurn}
 use Rattle.lower_turns.proofs.Threads.{lower_keeps_every_turn}
@@ -76,8 +76,7 @@ module _ (p : Ir) where
   module _ (thread : ℕ) where
     finished_same : (answer : Answer) (l : Own) (temp : Option ℕ) (w : Shared) → finished (ir_erased p) thread answer l temp w ≡ finished p thread answer l temp w
     finished_same answer l temp w =
-        ap (λ (o : Own). served_by 0 l None (acted (actions.with_blocks w o.blocks) thread answer
-        (actions.finish (result_of (given l temp))))) (over_same l)
+        ap (λ (o : Own). finished_with thread answer l w o.blocks (result_of l temp)) (over_same l)
 
     left_same : (l : Own) (temp : Option ℕ) (caller : Own) (to : Option ℕ) → left (ir_erased p) l temp caller to ≡ left p l temp caller to
     left_same l temp caller to =

@@ -1,21 +1,23 @@
 -- What well formed trees say of kinds, and how pointers are reached.
-use Rattle.std.proofs.Common.{◌≡◌, ℕ, ◌⊎◌, inl, inr, List, [], ◌∷◌, Option, Some, None, if◌then◌else◌, refl, sym, ap, subst, ◌∙◌}
+use Rattle.std.proofs.lemmas.Bool.Decides.{nat_tests}
+use Rattle.std.proofs.lemmas.Bool.{and_from}
+use Rattle.std.proofs.Common.{◌≡◌, ℕ, ◌⊎◌, inl, inr, List, [], ◌∷◌, Option, Some, None, if◌then◌else◌, refl, sym, ap, subst, ◌∙◌, true, false, Bool, not, ◌||◌, arith}
 use Rattle.ak_words.specs.declared.int_type.IntType.{IntType}
 use Rattle.ak_words.specs.declared.operation.Op.{Op}
 use Rattle.ak_words.specs.declared.operation.Op.TheVariants as ops
-use Rattle.ak_words.specs.IntType.{int, long, unsigned_long}
+use Rattle.ak_words.specs.IntType.{int, long, unsigned_long, promoted_type, common_type}
 use Rattle.block_store.specs.declared.values.Access.{Access}
 use Rattle.block_store.specs.declared.values.Access.TheVariants as accesses
 use Rattle.block_store.specs.declared.values.Value.{Value}
 use Rattle.block_store.specs.declared.values.Value.TheVariants as values
 use Rattle.c_tree.specs.Typed as tree
 use Rattle.c_tree.specs.TypedForm.{IsInteger, IsPointer, IsScalar, Fits, PointsToSized, MovesPointer, AreOperands, type_of_result, Converts, HasBits, ArePrinted, Context, AreArguments, IsLibCall}
-use Rattle.c_meaning.specs.Values.{Binary, on_numbers, forward, backward, distance, on_pointers, access_of_type}
+use Rattle.c_meaning.specs.Values.{operand_types, Binary, on_numbers, forward, backward, distance, on_pointers, access_of_type}
 use Rattle.struct_ir.specs.Nodes as ir
 use Rattle.lower_forms.specs.Forms.{Frame, Reach, indexed, is_pointer, register_of, pointer_register, direct_if, indexed_if, pointed, sum_calc, number_type}
 use Rattle.lower_turns.proofs.Relation.{HasKind, Points, BinaryFits, numbers, forwards, forwards_from, backwards, distances, comparisons, calc_of, Joins, no_join, one_join, Joined, not_joined, joined, ConvertFits, to_number, to_pointer, AreScalars}
-use Rattle.lower_turns.proofs.Values.{unmoved}
-use Rattle.ir_meaning.specs.Blocks.{Held, pointer}
+use Rattle.lower_turns.proofs.Values.{unmoved, type_itself}
+use Rattle.ir_meaning.specs.Blocks.{Held, pointer, same_type, is_shift, takes}
 
 -- ---- kinds
 
@@ -65,18 +67,70 @@ operands_integers ops.Shr (tree.integer s) (tree.integer u) h = (tt, tt)
 operands_integers op (tree.integer s) (tree.integer u) h = (tt, tt)
 operands_integers op a b h = elim h [ ]
 
-numbers_fit : (op : Op) (a b ty : tree.Ty) (x y : IntType) → a ≡ tree.integer x → b ≡ tree.integer y → ty ≡ type_of_result op a → BinaryFits (on_numbers op) (access_of_type a) (access_of_type b) (access_of_type ty)
-numbers_fit op a b ty x y ea eb et =
+same_types : (s t : IntType) → s ≡ t → same_type s t ≡ true
+same_types s t e = subst (λ z. same_type s z ≡ true) e (type_itself s)
+
+either_right : (a b : Bool) → b ≡ true → (a || b) ≡ true
+either_right true b e = refl
+either_right false b e = e
+
+-- operands of which both have one type, and those of a shift
+one_type : (op : Op) (s t : IntType) → s ≡ t → takes op s s t ≡ true
+one_type op s t e = and_from _ _ (type_itself s) (either_right (is_shift op) (same_type s t) (same_types s t e))
+
+shift_types : (op : Op) (s t : IntType) → is_shift op ≡ true → takes op s s t ≡ true
+shift_types op s t e = and_from _ _ (type_itself s) (ap (λ z. z || same_type s t) e)
+
+operands_taken : (op : Op) (s t : IntType) → AreOperands op (tree.integer s) (tree.integer t) → takes op s s t ≡ true
+operands_taken ops.Shl s t h = shift_types ops.Shl s t refl
+operands_taken ops.Shr s t h = shift_types ops.Shr s t refl
+operands_taken ops.Add s t h = one_type ops.Add s t h.1
+operands_taken ops.Sub s t h = one_type ops.Sub s t h.1
+operands_taken ops.Mul s t h = one_type ops.Mul s t h.1
+operands_taken ops.Div s t h = one_type ops.Div s t h.1
+operands_taken ops.Rem s t h = one_type ops.Rem s t h.1
+operands_taken ops.And s t h = one_type ops.And s t h.1
+operands_taken ops.Or s t h = one_type ops.Or s t h.1
+operands_taken ops.Xor s t h = one_type ops.Xor s t h.1
+operands_taken ops.Eq s t h = one_type ops.Eq s t h.1
+operands_taken ops.Ne s t h = one_type ops.Ne s t h.1
+operands_taken ops.Lt s t h = one_type ops.Lt s t h.1
+operands_taken ops.Le s t h = one_type ops.Le s t h.1
+operands_taken ops.Gt s t h = one_type ops.Gt s t h.1
+operands_taken ops.Ge s t h = one_type ops.Ge s t h.1
+
+-- the types in which a op= b is computed are those that the operation takes
+pub computed_taken : (op : Op) (s t : IntType) → takes op (operand_types op s t).0 (operand_types op s t).0 (operand_types op s t).1 ≡ true
+computed_taken ops.Shl s t = shift_types ops.Shl (promoted_type s) (promoted_type t) refl
+computed_taken ops.Shr s t = shift_types ops.Shr (promoted_type s) (promoted_type t) refl
+computed_taken ops.Add s t = one_type ops.Add (common_type s t) (common_type s t) refl
+computed_taken ops.Sub s t = one_type ops.Sub (common_type s t) (common_type s t) refl
+computed_taken ops.Mul s t = one_type ops.Mul (common_type s t) (common_type s t) refl
+computed_taken ops.Div s t = one_type ops.Div (common_type s t) (common_type s t) refl
+computed_taken ops.Rem s t = one_type ops.Rem (common_type s t) (common_type s t) refl
+computed_taken ops.And s t = one_type ops.And (common_type s t) (common_type s t) refl
+computed_taken ops.Or s t = one_type ops.Or (common_type s t) (common_type s t) refl
+computed_taken ops.Xor s t = one_type ops.Xor (common_type s t) (common_type s t) refl
+computed_taken ops.Eq s t = one_type ops.Eq (common_type s t) (common_type s t) refl
+computed_taken ops.Ne s t = one_type ops.Ne (common_type s t) (common_type s t) refl
+computed_taken ops.Lt s t = one_type ops.Lt (common_type s t) (common_type s t) refl
+computed_taken ops.Le s t = one_type ops.Le (common_type s t) (common_type s t) refl
+computed_taken ops.Gt s t = one_type ops.Gt (common_type s t) (common_type s t) refl
+computed_taken ops.Ge s t = one_type ops.Ge (common_type s t) (common_type s t) refl
+
+numbers_fit : (op : Op) (a b ty : tree.Ty) (x y : IntType) → a ≡ tree.integer x → b ≡ tree.integer y → AreOperands op a b → ty ≡ type_of_result op a → BinaryFits (on_numbers op) (access_of_type a) (access_of_type b) (access_of_type ty)
+numbers_fit op a b ty x y ea eb h et =
     subst (λ z. BinaryFits (on_numbers op) (access_of_type a) (access_of_type b) (access_of_type z)) (sym et)
     (subst (λ z. BinaryFits (on_numbers op) (access_of_type z) (access_of_type b) (access_of_type (type_of_result op z))) (sym ea)
-    (subst (λ z. BinaryFits (on_numbers op) (accesses.Number x) (access_of_type z) (access_of_type (type_of_result op (tree.integer x)))) (sym eb) (numbers op x y)))
+    (subst (λ z. BinaryFits (on_numbers op) (accesses.Number x) (access_of_type z) (access_of_type (type_of_result op (tree.integer x)))) (sym eb)
+    (numbers op x y (operands_taken op x y (subst (λ z. AreOperands op z (tree.integer y)) ea (subst (λ z. AreOperands op a z) eb h))))))
 
 pub operands_fit : (op : Op) (a b ty : tree.Ty) → AreOperands op a b → ty ≡ type_of_result op a → BinaryFits (on_numbers op) (access_of_type a) (access_of_type b) (access_of_type ty)
 operands_fit op a b ty h e =
     let i = operands_integers op a b h in
     let x = number_access a i.0 in
     let y = number_access b i.1 in
-    numbers_fit op a b ty x.0 y.0 x.1 y.1 e
+    numbers_fit op a b ty x.0 y.0 x.1 y.1 h e
 
 pub operand_scalars : (op : Op) (a b : tree.Ty) → AreOperands op a b → IsScalar a × IsScalar b
 operand_scalars op a b h = let i = operands_integers op a b h in (integer_scalar a i.0, integer_scalar b i.1)

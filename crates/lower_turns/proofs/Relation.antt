@@ -34,7 +34,7 @@ use Rattle.struct_ir.specs.Structured as position
 use Rattle.struct_ir.specs.Structured.{Position, then_}
 use Rattle.struct_ir.specs.Machine.{Point}
 use Rattle.ir_meaning.specs.Blocks as code
-use Rattle.ir_meaning.specs.Blocks.{Held, Own, value, number, pointer}
+use Rattle.ir_meaning.specs.Blocks.{Held, Own, value, number, pointer, takes}
 use Rattle.ir_meaning.specs.Threads.{further, moved_if}
 use Rattle.lower_forms.specs.Counts.{greatest, greatest_row, count_if}
 use Rattle.lower_forms.specs.Forms as forms
@@ -110,7 +110,7 @@ pub record Agrees (fr : Frame) (locals : List tree.Local) (vs : List Variable) (
 
 -- the kinds of an operator's operands, and of its result
 pub data BinaryFits : Binary → (left right result : Access) → Type 0 where
-  numbers : (op : Op) (a b : IntType) → BinaryFits (on_numbers op) (accesses.Number a) (accesses.Number b) (accesses.Number (result_type op a))
+  numbers : (op : Op) (a b : IntType) → takes op a a b ≡ true → BinaryFits (on_numbers op) (accesses.Number a) (accesses.Number b) (accesses.Number (result_type op a))
   forwards : (size : ℕ) (s : IntType) → BinaryFits (forward size) accesses.Pointer (accesses.Number s) accesses.Pointer
   forwards_from : (size : ℕ) (s : IntType) → BinaryFits (forward size) (accesses.Number s) accesses.Pointer accesses.Pointer
   backwards : (size : ℕ) (s : IntType) → BinaryFits (backward size) accesses.Pointer (accesses.Number s) accesses.Pointer
@@ -356,7 +356,7 @@ module _ (t : tree.Typed) where
 
   -- the calls that wait, the nearest first, for one of the function m
   pub data Callers : ℕ → List Caller → List (Point Position Own) → Type 0 where
-    no_callers : (m : ℕ) → Callers m [] []
+    no_callers : (m : ℕ) (g : tree.Func) → slice_get t.funcs m ≡ Some g → g.result ≡ tree.integer int → Callers m [] []
     one_wants : {n : ℕ} {f : tree.Func} {vs : List Variable} {tm : ℕ → Held} {ob : ℕ → Option ℕ} {b : Blocks} {k : Use} {u : ℕ} {r : Nodes} {q : Position} {cs : List Caller} {cs' : List (Point Position Own)}
         (m : ℕ) (g : tree.Func) (place : ℕ) (ts : List ℕ) → slice_get t.funcs m ≡ Some g → Calls t → InCall n f → first t n f ≤ u → Agrees (fr t n f) f.locals vs tm ob
         → AtE t n f ob tm k u (access_of_type g.result) found r q → Callers n cs cs'

@@ -202,20 +202,20 @@ module _ (t : tree.Typed) (well : IsWellFormed t) (argument : Ptr) where
       (new_agrees t m f 1 (tree.more_exprs a_pointer tree.no_exprs) (values.Pointer argument ∷ []) (λ j. value (values.Pointer argument)) 0 params (tt, refl, tt)) (λ i lt. one_temp i))
 
   -- a function's first turn, where its locals agree
-  begins_with : (m : ℕ) (f : tree.Func) → slice_get t.funcs m ≡ Some f → Free t (registers_of f) → Agrees (fr t m f) f.locals (first_locals f (arguments_if f.params argument)) (first_temps f.params argument) (λ i. None)
+  begins_with : (m : ℕ) (f : tree.Func) → slice_get t.funcs m ≡ Some f → f.result ≡ tree.integer int → Free t (registers_of f) → Agrees (fr t m f) f.locals (first_locals f (arguments_if f.params argument)) (first_temps f.params argument) (λ i. None)
       → Same t (begins_if m argument (slice_get t.funcs m)) ((program_of (lowered t)).begins m argument)
-  begins_with m f there free agrees =
+  begins_with m f there gives free agrees =
       let fits = all_at (IsFunc t) t.funcs m f well.funcs there in
       subst (λ (o : Option tree.Func). Same t (begins_if m argument o) ((program_of (lowered t)).begins m argument)) (sym there)
       (subst (λ (o : Option Func). Same t (begins_in m f (arguments_if f.params argument) []) (record { top = record { at = then_ (nodes_of o) done; own = record { function = m; temps = first_temps (params_of o) argument; objects = λ i. None; blocks = [] } }; callers = [] }))
       (sym (nth_lowered t m f there))
-      (same (record { there = there; free = free }) agrees (at_begins (at_row f.body fits.body (λ lt. free (omega (arith, lt))) at_leaves)) (no_callers m)))
+      (same (record { there = there; free = free }) agrees (at_begins (at_row f.body fits.body (λ lt. free (omega (arith, lt))) at_leaves)) (no_callers m f there gives)))
 
   main_begins : (m : ℕ) → m ≡ t.main → Same t (begins_if m argument (slice_get t.funcs m)) ((program_of (lowered t)).begins m argument)
   main_begins m e =
       let h = well.main in
       let there : slice_get t.funcs m ≡ Some h.0 = ap (slice_get t.funcs) e ∙ h.1 in
-      begins_with m h.0 there (λ lt f is. subst (λ (z : tree.Func). 0 < registers_of z) (same_Some h.0 f (sym h.1 ∙ is)) lt) (begin_zero m h.0 (h.0).params h.2.0)
+      begins_with m h.0 there h.2.1 (λ lt f is. subst (λ (z : tree.Func). 0 < registers_of z) (same_Some h.0 f (sym h.1 ∙ is)) lt) (begin_zero m h.0 (h.0).params h.2.0)
 
   start_begins : (m : ℕ) → Calls t → IsNth t.funcs m (λ f. CanStart (signature_of f)) → Same t (begins_if m argument (slice_get t.funcs m)) ((program_of (lowered t)).begins m argument)
   unfolding a_pointer
@@ -227,7 +227,7 @@ module _ (t : tree.Typed) (well : IsWellFormed t) (argument : Ptr) where
       subst (λ (k : ℕ). AreArguments (map (λ (l : tree.Local). l.ty) (take k (c.0).locals)) (tree.more_exprs a_pointer tree.no_exprs)) one
       (subst (λ (ts : List tree.Ty). AreArguments ts (tree.more_exprs a_pointer tree.no_exprs)) (sym types) (tt, tt)) in
       let registers : AllByRecursion (λ (l : tree.Local). l.in_memory ≡ false) (take 1 (c.0).locals) = subst (λ (k : ℕ). AllByRecursion (λ (l : tree.Local). l.in_memory ≡ false) (take k (c.0).locals)) one is.in_registers in
-      begins_with m c.0 c.1 (λ lt. calls) (begin_one m c.0 (c.0).params one (fit, registers))
+      begins_with m c.0 c.1 c.2.0 (λ lt. calls) (begin_one m c.0 (c.0).params one (fit, registers))
 
   -- a thread begins alike
   pub begins_alike : (m : ℕ) → CanBegin t m → Same t (begins_if m argument (slice_get t.funcs m)) ((program_of (lowered t)).begins m argument)

@@ -1,10 +1,11 @@
 -- What operators give, in the source and in the code, and of which kind it is.
-use Rattle.std.proofs.Common.{◌≡◌, ℕ, ◌<◌, ◌^◌, ◌*ℤ◌, ◌+ℤ◌, ℤ, pos, negsuc, neg_ℤ, Bool, true, false, ◌&&◌, ◌==◌, nat_le, List, length, Option, Some, None, Result, Ok, Err, refl, sym, ap, subst, ◌∙◌, arith, if◌then◌else◌}
+use Rattle.std.proofs.Common.{◌≡◌, ℕ, ◌<◌, ◌^◌, ◌*ℤ◌, ◌+ℤ◌, ℤ, pos, negsuc, neg_ℤ, Bool, true, false, not, ◌&&◌, ◌==◌, nat_le, List, length, Option, Some, None, Result, Ok, Err, refl, sym, ap, subst, ◌∙◌, arith, if◌then◌else◌}
 use Rattle.std.proofs.lemmas.Int.{ints}
 use Rattle.std.proofs.lemmas.Bool.Decides.{nat_tests}
 use Rattle.std.specs.Option.{option_map, ok_or}
 use Rattle.ak_words.specs.declared.int_type.IntType.{IntType}
 use Rattle.ak_words.specs.declared.number.Num.{Num}
+use Rattle.ak_words.specs.declared.operation.Op.{Op}
 use Rattle.ak_words.specs.declared.rule.Rule.{Rule}
 use Rattle.ak_words.specs.declared.rule.Rule.TheVariants.{C4, C7, C16}
 use Rattle.ak_words.specs.IntType.{int, long, unsigned_long, IsInRange}
@@ -24,8 +25,8 @@ use Rattle.block_store.specs.Pointers.{within, moved_in, moved_null, moved, inde
 use Rattle.c_meaning.specs.Values as meant
 use Rattle.c_meaning.specs.Values.{on_numbers, forward, backward, distance, on_pointers, of_two, value_of, pointer_of, int_result, long_result, int_of}
 use Rattle.struct_ir.specs.Nodes.{Ir}
-use Rattle.ir_meaning.specs.Blocks.{value, number, pointer, truth, Fault, Own, or_broken, calculated}
-use Rattle.ir_meaning.specs.Threads.{further, fits, same_type, offset_in}
+use Rattle.ir_meaning.specs.Blocks.{value, number, pointer, truth, Fault, Own, or_broken, calculated, takes, if_taken, same_type}
+use Rattle.ir_meaning.specs.Threads.{further, fits, offset_in}
 use Rattle.lower_turns.proofs.Relation.{HasKind, Further, Moved, BinaryFits, numbers, forwards, forwards_from, backwards, distances, comparisons, calc_of}
 
 -- ---- operators on two values
@@ -46,11 +47,19 @@ truth_held : (place : ℕ) (r : Result Bool Rule) → or_broken place truth r �
 truth_held place (Ok b) = refl
 truth_held place (Err rule) = refl
 
+pub taken_is : {A : Type 0} (b : Bool) (x : Result A Fault) → b ≡ true → if_taken b x ≡ x
+taken_is true x e = refl
+taken_is false x e = absurd cc
+
+of_types : (op : Op) (x y s t : IntType) → s ≡ x → t ≡ y → takes op x x y ≡ true → takes op x s t ≡ true
+of_types op x y s t es et e = subst (λ z. takes op x z t ≡ true) (sym es) (subst (λ z. takes op x x z ≡ true) (sym et) e)
+
 pub binary_is : (p : Ir) (place : ℕ) (l : Own) (a b : ℕ) {op : meant.Binary} {lh rh how : Access} (v u : Value) → BinaryFits op lh rh how → HasKind lh v → HasKind rh u
     → l.temps a ≡ value v → l.temps b ≡ value u → calculated p place l (calc_of op lh a b) ≡ or_broken place value (of_two l.blocks op v u)
-binary_is p place l a b (values.Num m) (values.Num n) (numbers op x y) h g e d = rw (e, d) (number_held place (result_of op m n))
-binary_is p place l a b (values.Num m) (values.Pointer q) (numbers op x y) h g e d = elim g [ ]
-binary_is p place l a b (values.Pointer q) u (numbers op x y) h g e d = elim h [ ]
+binary_is p place l a b (values.Num m) (values.Num n) (numbers op x y t) h g e d =
+    rw (e, d) (taken_is (takes op x m.ty n.ty) _ (of_types op x y m.ty n.ty h g t) ∙ number_held place (result_of op m n))
+binary_is p place l a b (values.Num m) (values.Pointer q) (numbers op x y t) h g e d = elim g [ ]
+binary_is p place l a b (values.Pointer q) u (numbers op x y t) h g e d = elim h [ ]
 binary_is p place l a b (values.Pointer q) (values.Num n) (forwards size x) h g e d = rw (e, d) (pointer_held place (indexed l.blocks q n.value size))
 binary_is p place l a b (values.Pointer q) (values.Pointer o) (forwards size x) h g e d = elim g [ ]
 binary_is p place l a b (values.Num m) u (forwards size x) h g e d = elim h [ ]
@@ -88,10 +97,10 @@ int_kind (Ok b) w e = let same : int_of b ≡ w = cc in subst (HasKind (accesses
 int_kind (Err rule) w e = absurd cc
 
 pub binary_kind : (blocks : Blocks) {op : meant.Binary} {lh rh how : Access} (v u w : Value) → BinaryFits op lh rh how → HasKind lh v → HasKind rh u → of_two blocks op v u ≡ Ok w → HasKind how w
-binary_kind blocks (values.Num m) (values.Num n) w (numbers op x y) h g e =
+binary_kind blocks (values.Num m) (values.Num n) w (numbers op x y t) h g e =
     number_kind (result_of op m n) (result_type op x) w (λ r d. outcome_kind (rule_of op m.ty m.value n.value) _ r d ∙ ap (result_type op) h) e
-binary_kind blocks (values.Num m) (values.Pointer q) w (numbers op x y) h g e = elim g [ ]
-binary_kind blocks (values.Pointer q) u w (numbers op x y) h g e = elim h [ ]
+binary_kind blocks (values.Num m) (values.Pointer q) w (numbers op x y t) h g e = elim g [ ]
+binary_kind blocks (values.Pointer q) u w (numbers op x y t) h g e = elim h [ ]
 binary_kind blocks (values.Pointer q) (values.Num n) w (forwards size x) h g e = pointer_kind (indexed blocks q n.value size) w e
 binary_kind blocks (values.Pointer q) (values.Pointer o) w (forwards size x) h g e = elim g [ ]
 binary_kind blocks (values.Num m) u w (forwards size x) h g e = elim h [ ]
@@ -210,12 +219,12 @@ read_at_kind how (Ok s) v e = read_kind how (cells_at (cells.size_of how) s) v e
 pub loaded_kind : (blocks : Blocks) (at : Ptr) (how : Access) (v : Value) → loaded blocks at how ≡ Ok v → HasKind how v
 loaded_kind blocks at how v e = read_at_kind how (spot_at blocks (cells.size_of how) at) v e
 
-signs : (b : Bool) → (if b then b else (if b then false else true)) ≡ true
+signs : (b : Bool) → (if b then b else not b) ≡ true
 signs true = refl
 signs false = refl
 
-type_itself : (s : IntType) → same_type s s ≡ true
-type_itself s = let e : (s.bits == s.bits) ≡ true = grind (arith, nat_tests) in ap (λ b. b && (if s.signed then s.signed else (if s.signed then false else true))) e ∙ signs s.signed
+pub type_itself : (s : IntType) → same_type s s ≡ true
+type_itself s = let e : (s.bits == s.bits) ≡ true = grind (arith, nat_tests) in ap (λ b. b && (if s.signed then s.signed else not s.signed)) e ∙ signs s.signed
 
 -- a value of the access's kind fits
 pub kind_fits : (how : Access) (v : Value) → HasKind how v → fits how v ≡ true
