@@ -86,12 +86,12 @@ fn binary(
     t: u32,
     out: &mut Vec<Node>,
 ) -> Result<(), NoMemory>
-    ensures { OnOk result ((rest : Nodes) → followed out.new.items rest ≡ followed out.old.items (expr_nodes (frame_view f.now) (expr_view a.now) t (expr_nodes (frame_view f.now) (expr_view b.now) (suc t) (sets e.now.place t (operation (frame_view f.now).structs (type_view a.now.ty) (expr_node_view e.now.node) t (suc t)) rest)))) }
+    ensures { OnOk result ((rest : Nodes) → followed out.new.items rest ≡ followed out.old.items (expr_nodes (frame_view f.now) (expr_view a.now) t (expr_nodes (frame_view f.now) (expr_view b.now) (suc t) (sets e.now.place t (operation (frame_view f.now).structs (type_view e.now.ty) (type_view a.now.ty) (expr_node_view e.now.node) t (suc t)) rest)))) }
 {
     expr(alloc, a, f, t, out)?;
     let u = after(t)?;
     expr(alloc, b, f, u, out)?;
-    let calc = operation(f.structs, &a.ty, &e.node, t, u)?;
+    let calc = operation(f.structs, &a.ty, e, t, u)?;
     sets(out, e.place, t, calc)
 }
 

@@ -3,7 +3,7 @@
 ghost use Rattle.std.specs.Prelude.{◌≡◌, IfOk, map, Some};
 ghost use Rattle.c_tree.specs.TypedViews.{type_view, expr_view, expr_node_view};
 ghost use Rattle.struct_ir.specs.Views.{place_view};
-ghost use Rattle.lower_forms.specs.Forms.{home, member_reach, behind, reached, register_if, register_in, register_of, direct_if, indexed_if, pointed_in, pointed, own_register};
+ghost use Rattle.lower_forms.specs.Forms.{home, member_reach, behind, reached, register_if, register_in, register_of, pointer_register, direct_if, indexed_if, pointed_in, pointed, own_register};
 ghost use Rattle.ir_lower.specs.inner.Views.{frame_view, reach_view};
 
 pub use crate::homes::{Frame, Reach};
@@ -120,8 +120,9 @@ impl<'a> Frame<'a> {
         ensures { IfOk result (λ r. reach_view r ≡ pointed (frame_view self.now) (expr_view e.now)) }
     {
         match &e.node {
-            ExprNode::PtrAdd(p, _) => {
-                indexed_if(element_size(&p.ty, self.structs)?, register_of(p, self))
+            ExprNode::PtrAdd(a, _) => {
+                let scale = element_size(&e.ty, self.structs)?;
+                indexed_if(scale, pointer_register(a, self))
             }
             node => Ok(direct_if(register_in(node, self, &e.ty))),
         }
@@ -134,6 +135,17 @@ fn register_if(number: u32, home: Option<u32>) -> Option<u32>
     match home {
         None => Some(number),
         Some(_) => None,
+    }
+}
+
+// The register of a pointer that stands first in a sum; a number has none there.
+fn pointer_register(e: &Expr, f: &Frame) -> Option<u32>
+    ensures { result ≡ pointer_register (frame_view f.now) (expr_view e.now) }
+{
+    if is_pointer(&e.ty) {
+        register_of(e, f)
+    } else {
+        None
     }
 }
 

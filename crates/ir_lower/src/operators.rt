@@ -4,11 +4,12 @@ ghost use Rattle.std.specs.Prelude.{◌≡◌, IfOk, OnOk, map};
 ghost use Rattle.c_tree.specs.TypedViews.{layout_view, type_view, expr_node_view};
 ghost use Rattle.struct_ir.specs.Nodes.{Nodes};
 ghost use Rattle.struct_ir.specs.Views.{calc_view, followed};
+ghost use Rattle.lower_forms.specs.Forms.{sum_calc};
 ghost use Rattle.ir_lower.specs.inner.Operators.{unary_nodes, operation};
 
 use crate::forms::converts;
 use crate::nodes::{sets, sets_truth};
-use crate::types::{element_size, number_type};
+use crate::types::{element_size, is_pointer, number_type};
 use ak_words::NoMemory;
 use c_tree::typed::{CType, Expr, ExprNode, Layout};
 use std::alloc::Global;
@@ -26,21 +27,26 @@ pub fn unary_nodes(alloc: Global, out: &mut Vec<Node>, e: &Expr, t: u32) -> Resu
     }
 }
 
-/// What an operator of two operands computes of the registers `t` and `u`, where the first operand
-/// has the type `a`; of a form that is none, nothing.
-pub fn operation(
-    structs: &[Layout],
-    a: &CType,
-    node: &ExprNode,
-    t: u32,
-    u: u32,
-) -> Result<Calc, NoMemory>
-    ensures { IfOk result (λ c. calc_view c ≡ operation (map layout_view structs.now) (type_view a.now) (expr_node_view node.now) t u) }
+// The sum of a pointer and a number, of which the first stands in `t` and the other in `u`.
+fn sum(pointer_first: bool, t: u32, u: u32, scale: u32) -> Calc
+    ensures { calc_view result ≡ sum_calc pointer_first t u scale }
+{
+    if pointer_first {
+        Calc::PtrAdd(t, u, scale)
+    } else {
+        Calc::PtrAdd(u, t, scale)
+    }
+}
+
+/// What the operator `e` of two operands computes of the registers `t` and `u`, where the first
+/// operand has the type `a`; of a form that is none, nothing.
+pub fn operation(structs: &[Layout], a: &CType, e: &Expr, t: u32, u: u32) -> Result<Calc, NoMemory>
+    ensures { IfOk result (λ c. calc_view c ≡ operation (map layout_view structs.now) (type_view e.now.ty) (type_view a.now) (expr_node_view e.now.node) t u) }
 {
     let scale = element_size(a, structs)?;
-    match node {
+    match &e.node {
         ExprNode::Binary(op, _, _) => Ok(Calc::Apply(*op, number_type(a), t, u)),
-        ExprNode::PtrAdd(..) => Ok(Calc::PtrAdd(t, u, scale)),
+        ExprNode::PtrAdd(..) => Ok(sum(is_pointer(a), t, u, element_size(&e.ty, structs)?)),
         ExprNode::PtrSub(..) => Ok(Calc::PtrSub(t, u, scale)),
         ExprNode::PtrDiff(..) => Ok(Calc::PtrDiff(t, u, scale)),
         ExprNode::PtrCompare(op, _, _) => Ok(Calc::PtrCompare(*op, t, u)),
