@@ -53,8 +53,9 @@ pub fn assign_local(
 pub fn store_value(place: u32, to: Value, v: Value, k: &Rc<Todo>) -> Result<Pending, NoMemory>
     ensures { IfOk result (λ q. Stores place to v (todo_of k.now.value) q) }
 {
+    let then = Then::Begins(k.clone()?);
     let action = Action::Store(pointer_in(to), v);
-    Ok(Pending::Act(place, action, Then::Begins(k.clone()?)))
+    Ok(Pending::Act(place, action, then))
 }
 
 /// The value of an expression is stored at a place.
@@ -94,6 +95,7 @@ pub fn copy_struct(
 {
     let size = size_of(ty, &program.structs)?;
     let align = align_of(ty, &program.structs);
+    let then = Then::Begins(k.clone()?);
     let action = Action::Copy(
         pointer_in(to),
         pointer_in(from),
@@ -101,7 +103,7 @@ pub fn copy_struct(
         align,
         true,
     );
-    Ok(Pending::Act(place, action, Then::Begins(k.clone()?)))
+    Ok(Pending::Act(place, action, then))
 }
 
 /// A struct is assigned whose left side's place is there.
@@ -146,10 +148,9 @@ fn assign_whole(
     match flow {
         Flow::Ends(q) => Ok(Exit::Ends(q)),
         Flow::Gives(to) => {
-            let exit = assign_struct(
+            assign_struct(
                 right, alloc, program, locals, store, left.place, &left.ty, to, k,
-            )?;
-            Ok(exit)
+            )
         }
     }
 }
@@ -170,10 +171,7 @@ fn assign_scalar(
     let flow = place(left, alloc, program, locals, store.store(), &after)?;
     match flow {
         Flow::Ends(q) => Ok(Exit::Ends(q)),
-        Flow::Gives(to) => {
-            let exit = assign_place(right, alloc, program, locals, store, left.place, to, k)?;
-            Ok(exit)
-        }
+        Flow::Gives(to) => assign_place(right, alloc, program, locals, store, left.place, to, k),
     }
 }
 
@@ -190,11 +188,9 @@ fn assign_object(
     ensures { IfOk result (λ g. (function : ℕ) → ExitsAs (λ h w. turns.assigns_object h (expr_of left.now) (expr_of right.now.value) w) program.now function (todo_of k.now.value) locals.now.now store.now.now locals.now.now store.now.now g) }
 {
     if is_struct(&left.ty) {
-        let whole = assign_whole(left, right, alloc, program, locals, store, k)?;
-        Ok(whole)
+        assign_whole(left, right, alloc, program, locals, store, k)
     } else {
-        let scalar = assign_scalar(left, right, alloc, program, locals, store, k)?;
-        Ok(scalar)
+        assign_scalar(left, right, alloc, program, locals, store, k)
     }
 }
 
@@ -241,14 +237,8 @@ pub fn assign(
     ensures locals { OnOk result (locals.new.kept ≡ locals.old.kept) }
 {
     match plain_local(program, function, left) {
-        Some(number) => {
-            let local = assign_local(right, alloc, program, locals, store, number, k)?;
-            Ok(local)
-        }
-        None => {
-            let object = assign_object(left, right, alloc, program, locals, store, k)?;
-            Ok(object)
-        }
+        Some(number) => assign_local(right, alloc, program, locals, store, number, k),
+        None => assign_object(left, right, alloc, program, locals, store, k),
     }
 }
 
@@ -262,8 +252,8 @@ pub fn update_right(
 ) -> Result<Pending, NoMemory>
     ensures { IfOk result (λ q. ReadsUpdated (updating_of u.now.value) at by (todo_of k.now.value) q) }
 {
+    let after = uses::update_read(alloc, u, at, by, k)?;
     let action = Action::Load(pointer_in(at), access_of_type(&u.ty));
-    let after = Rc::new(alloc, Use::UpdateRead(u.clone()?, at, by, k.clone()?))?;
     Ok(Pending::Act(u.place, action, Then::Gives(u.place, after)))
 }
 
@@ -334,10 +324,7 @@ fn update_local(
     let flow = expr(right, alloc, program, locals, store.store(), &after)?;
     match flow {
         Flow::Ends(q) => Ok(Exit::Ends(q)),
-        Flow::Gives(by) => {
-            let exit = update_variable(program, locals, store, u, number, by)?;
-            Ok(exit)
-        }
+        Flow::Gives(by) => update_variable(program, locals, store, u, number, by),
     }
 }
 
@@ -358,10 +345,7 @@ fn update_object(
     let flow = place(left, alloc, program, locals, store.store(), &after)?;
     match flow {
         Flow::Ends(q) => Ok(Exit::Ends(q)),
-        Flow::Gives(at) => {
-            let exit = update_left(right, alloc, program, locals, store, u, at, k)?;
-            Ok(exit)
-        }
+        Flow::Gives(at) => update_left(right, alloc, program, locals, store, u, at, k),
     }
 }
 
@@ -383,14 +367,8 @@ pub fn update(
 {
     let u = updating(alloc, left, operator, op)?;
     match plain_local(program, function, left) {
-        Some(number) => {
-            let local = update_local(right, alloc, program, locals, store, &u, number, k)?;
-            Ok(local)
-        }
-        None => {
-            let object = update_object(left, right, alloc, program, locals, store, &u, k)?;
-            Ok(object)
-        }
+        Some(number) => update_local(right, alloc, program, locals, store, &u, number, k),
+        None => update_object(left, right, alloc, program, locals, store, &u, k),
     }
 }
 
@@ -433,12 +411,10 @@ pub fn initialise(
     if is_block(program, function, number) {
         let block = make_local(program, function, locals, store, number)?;
         let to = Value::Pointer(Ptr::To { block, offset: 0 });
-        let stored = assign_place(e, alloc, program, locals, store, place, to, k)?;
-        Ok(stored)
+        assign_place(e, alloc, program, locals, store, place, to, k)
     } else {
         locals.set(number, Variable::Unset)?;
-        let held = assign_local(e, alloc, program, locals, store, number, k)?;
-        Ok(held)
+        assign_local(e, alloc, program, locals, store, number, k)
     }
 }
 
@@ -482,8 +458,7 @@ fn drop_object(
     ensures { IfOk result (λ g. (function : ℕ) → ExitsAs (λ h w. turns.drops_object h (place_of (expr_of e.now)) (type_of (expr_of e.now)) (node_of (expr_of e.now)) w) program.now function (todo_of k.now.value) locals.now.now store.now.now locals.now.now store.now.now g) }
 {
     if is_scalar(&e.ty) {
-        let plain = drop_plain(e, alloc, program, locals, store, k)?;
-        return Ok(plain);
+        return drop_plain(e, alloc, program, locals, store, k);
     }
     let after = Rc::new(alloc, Use::ToNowhere(k.clone()?))?;
     match place(e, alloc, program, locals, store.store(), &after)? {
@@ -516,56 +491,21 @@ pub fn drop_value(
         }
         SharedNode::One(form, a) => {
             if voids(*form, &e.ty) {
-                let inner = drop_value(a, alloc, program, locals, store, k)?;
-                Ok(inner)
+                drop_value(a, alloc, program, locals, store, k)
             } else {
-                let converted = drop_plain(e, alloc, program, locals, store, k)?;
-                Ok(converted)
+                drop_plain(e, alloc, program, locals, store, k)
             }
         }
-        SharedNode::Literal(_) => {
-            let literal_exit = drop_object(e, alloc, program, locals, store, k)?;
-            Ok(literal_exit)
-        }
-        SharedNode::Global(_) => {
-            let global_exit = drop_object(e, alloc, program, locals, store, k)?;
-            Ok(global_exit)
-        }
-        SharedNode::Local(_) => {
-            let local_exit = drop_object(e, alloc, program, locals, store, k)?;
-            Ok(local_exit)
-        }
-        SharedNode::Deref(_) => {
-            let deref_exit = drop_object(e, alloc, program, locals, store, k)?;
-            Ok(deref_exit)
-        }
-        SharedNode::Member(_, _) => {
-            let member_exit = drop_object(e, alloc, program, locals, store, k)?;
-            Ok(member_exit)
-        }
-        SharedNode::Num(_) => {
-            let num_exit = drop_plain(e, alloc, program, locals, store, k)?;
-            Ok(num_exit)
-        }
-        SharedNode::Null => {
-            let null_exit = drop_plain(e, alloc, program, locals, store, k)?;
-            Ok(null_exit)
-        }
-        SharedNode::Address(_, _) => {
-            let address_exit = drop_plain(e, alloc, program, locals, store, k)?;
-            Ok(address_exit)
-        }
-        SharedNode::Two(_, _, _) => {
-            let two_exit = drop_plain(e, alloc, program, locals, store, k)?;
-            Ok(two_exit)
-        }
-        SharedNode::Either(_, _, _) => {
-            let either_exit = drop_plain(e, alloc, program, locals, store, k)?;
-            Ok(either_exit)
-        }
-        SharedNode::Choose(_, _, _) => {
-            let choose_exit = drop_plain(e, alloc, program, locals, store, k)?;
-            Ok(choose_exit)
-        }
+        SharedNode::Literal(_) => drop_object(e, alloc, program, locals, store, k),
+        SharedNode::Global(_) => drop_object(e, alloc, program, locals, store, k),
+        SharedNode::Local(_) => drop_object(e, alloc, program, locals, store, k),
+        SharedNode::Deref(_) => drop_object(e, alloc, program, locals, store, k),
+        SharedNode::Member(_, _) => drop_object(e, alloc, program, locals, store, k),
+        SharedNode::Num(_) => drop_plain(e, alloc, program, locals, store, k),
+        SharedNode::Null => drop_plain(e, alloc, program, locals, store, k),
+        SharedNode::Address(_, _) => drop_plain(e, alloc, program, locals, store, k),
+        SharedNode::Two(_, _, _) => drop_plain(e, alloc, program, locals, store, k),
+        SharedNode::Either(_, _, _) => drop_plain(e, alloc, program, locals, store, k),
+        SharedNode::Choose(_, _, _) => drop_plain(e, alloc, program, locals, store, k),
     }
 }

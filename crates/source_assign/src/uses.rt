@@ -107,3 +107,16 @@ pub fn update_right(
 {
     Ok(Rc::new(alloc, Use::UpdateRight(u.clone()?, at, k.clone()?))?)
 }
+
+/// Behind the value of a in `a op= b`, where a is in memory.
+pub fn update_read(
+    alloc: Global,
+    u: &Rc<Updating>,
+    at: Value,
+    by: Value,
+    k: &Rc<Todo>,
+) -> Result<Rc<Use>, NoMemory>
+    ensures { IfOk result (λ after. use_of after.value ≡ control.update_read (updating_of u.now.value) at by (todo_of k.now.value)) }
+{
+    Ok(Rc::new(alloc, Use::UpdateRead(u.clone()?, at, by, k.clone()?))?)
+}

@@ -97,8 +97,9 @@ fn block_at(block: u64) -> Value
 pub fn read(place: u32, how: Access, at: Value, k: &Rc<Use>) -> Result<Flow, NoMemory>
     ensures { IfOk result (λ g. Reads place how at (use_of k.now.value) g) }
 {
+    let then = Then::Gives(place, k.clone()?);
     let action = Action::Load(pointer_in(at), how);
-    Ok(Flow::Ends(Pending::Act(place, action, Then::Gives(place, k.clone()?))))
+    Ok(Flow::Ends(Pending::Act(place, action, then)))
 }
 
 // The value of a local.
@@ -379,8 +380,7 @@ fn first(
         Some(v) => Ok(Flow::Gives(v)),
         None => {
             let after = after_first(alloc, place, op, b, k)?;
-            let flow = expr(a, alloc, program, locals, store, &after)?;
-            Ok(flow)
+            expr(a, alloc, program, locals, store, &after)
         }
     }
 }

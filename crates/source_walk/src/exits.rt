@@ -132,10 +132,7 @@ fn declare(
             declare_local(program, function, locals, store, number)?;
             Ok(Exit::End)
         }
-        Some(e) => {
-            let exit = initialise(e, alloc, program, function, locals, store, place, number, k)?;
-            Ok(exit)
-        }
+        Some(e) => initialise(e, alloc, program, function, locals, store, place, number, k),
     }
 }
 
@@ -202,8 +199,7 @@ fn block(
 {
     let inside = inside::row_end(alloc, all, k)?;
     let left = row(all, alloc, program, function, locals, store, 0, &inside)?;
-    let closed = close_row(left, all, locals, store)?;
-    Ok(closed)
+    close_row(left, all, locals, store)
 }
 
 // The condition of an `if`, and what follows it.
@@ -247,8 +243,7 @@ fn if_then(
         Tested::Ends(q) => Ok(Exit::Ends(q)),
         Tested::Holds(holds) => {
             if holds {
-                let one_exit = stmt(one, alloc, program, function, locals, store, k)?;
-                Ok(one_exit)
+                stmt(one, alloc, program, function, locals, store, k)
             } else {
                 Ok(Exit::End)
             }
@@ -281,11 +276,9 @@ fn if_else(
         Tested::Ends(q) => Ok(Exit::Ends(q)),
         Tested::Holds(holds) => {
             if holds {
-                let one_exit = stmt(one, alloc, program, function, locals, store, k)?;
-                Ok(one_exit)
+                stmt(one, alloc, program, function, locals, store, k)
             } else {
-                let other_exit = stmt(other, alloc, program, function, locals, store, k)?;
-                Ok(other_exit)
+                stmt(other, alloc, program, function, locals, store, k)
             }
         }
     }
@@ -346,10 +339,7 @@ fn return_value(
 {
     match value {
         None => Ok(Exit::Ends(Pending::Leave(None))),
-        Some(e) => {
-            let returned = return_some(e, alloc, program, locals, store)?;
-            Ok(returned)
-        }
+        Some(e) => return_some(e, alloc, program, locals, store),
     }
 }
 
@@ -391,8 +381,7 @@ fn while_holds(
     let again = c.clone()?;
     let or = Some(again);
     let l = parts_of(alloc, place, &or, &None, body)?;
-    let exit = rounds(body, alloc, program, function, locals, store, &None, &l, k)?;
-    Ok(exit)
+    rounds(body, alloc, program, function, locals, store, &None, &l, k)
 }
 
 // A `for`.
@@ -421,8 +410,7 @@ fn for_each(
     let left = run_for(
         first, body, alloc, program, function, locals, store, &or, &l, &outside,
     )?;
-    let exit = close_first(left, first, locals, store)?;
-    Ok(exit)
+    close_first(left, first, locals, store)
 }
 
 // The first clause of a `for`, and its rounds.
@@ -445,10 +433,9 @@ fn run_for(
 {
     let inside = inside::first_end(alloc, l, k)?;
     let left = stmt(first, alloc, program, function, locals, store, &inside)?;
-    let exit = after_first(
+    after_first(
         left, body, alloc, program, function, locals, store, step, l, k,
-    )?;
-    Ok(exit)
+    )
 }
 
 /// Behind the first clause of a `for` that was left so: the rounds.
@@ -470,10 +457,7 @@ pub fn after_first(
     ensures store { OnOk result (store.new.kept ≡ store.old.kept) }
 {
     match left {
-        Exit::End => {
-            let exit = rounds(body, alloc, program, function, locals, store, step, l, k)?;
-            Ok(exit)
-        }
+        Exit::End => rounds(body, alloc, program, function, locals, store, step, l, k),
         Exit::Break => Ok(Exit::Break),
         Exit::Next => Ok(Exit::Next),
         Exit::Ends(q) => Ok(Exit::Ends(q)),
@@ -498,14 +482,8 @@ pub fn rounds(
     ensures store { OnOk result (store.new.kept ≡ store.old.kept) }
 {
     match &l.condition {
-        None => {
-            let always = enter_body(body, alloc, program, function, locals, store, step, l, k)?;
-            Ok(always)
-        }
-        Some(c) => {
-            let exit = tested_round(c, body, alloc, program, function, locals, store, step, l, k)?;
-            Ok(exit)
-        }
+        None => enter_body(body, alloc, program, function, locals, store, step, l, k),
+        Some(c) => tested_round(c, body, alloc, program, function, locals, store, step, l, k),
     }
 }
 
@@ -533,10 +511,7 @@ fn tested_round(
         Tested::Ends(q) => Ok(Exit::Ends(q)),
         Tested::Holds(holds) => {
             if holds {
-                let entered = enter_body(
-                    body, alloc, program, function, locals, store, step, l, k,
-                )?;
-                Ok(entered)
+                enter_body(body, alloc, program, function, locals, store, step, l, k)
             } else {
                 Ok(Exit::End)
             }
@@ -563,8 +538,7 @@ pub fn enter_body(
 {
     let inside = inside::body_end(alloc, l, k)?;
     let left = stmt(body, alloc, program, function, locals, store, &inside)?;
-    let exit = after_body(left, alloc, program, function, locals, store, step, l, k)?;
-    Ok(exit)
+    after_body(left, alloc, program, function, locals, store, step, l, k)
 }
 
 /// Behind the body of a loop that was left so: the step, unless a break leaves the loop.
@@ -587,14 +561,8 @@ pub fn after_body(
     match left {
         Exit::Ends(q) => Ok(Exit::Ends(q)),
         Exit::Break => Ok(Exit::End),
-        Exit::End => {
-            let end_exit = last(step, alloc, program, function, locals, store, l, k)?;
-            Ok(end_exit)
-        }
-        Exit::Next => {
-            let next_exit = last(step, alloc, program, function, locals, store, l, k)?;
-            Ok(next_exit)
-        }
+        Exit::End => last(step, alloc, program, function, locals, store, l, k),
+        Exit::Next => last(step, alloc, program, function, locals, store, l, k),
     }
 }
 
@@ -619,10 +587,7 @@ fn last(
             let over = inside::round_end(l, k)?;
             Ok(Exit::Ends(over))
         }
-        Some(s) => {
-            let exit = last_some(s, alloc, program, function, locals, store, l, k)?;
-            Ok(exit)
-        }
+        Some(s) => last_some(s, alloc, program, function, locals, store, l, k),
     }
 }
 
@@ -644,8 +609,7 @@ fn last_some(
 {
     let inside = inside::step_end(alloc, l, k)?;
     let left = stmt(s, alloc, program, function, locals, store, &inside)?;
-    let exit = after_step(left, l, k)?;
-    Ok(exit)
+    after_step(left, l, k)
 }
 
 /// Behind the step of a loop that was left so: the round is over, unless a break leaves the loop.

@@ -48,10 +48,7 @@ fn after_stmt(
     ensures store { OnOk result (store.new.kept ≡ store.old.kept) }
 {
     match left {
-        Exit::End => {
-            let exit = row(all, alloc, program, function, locals, store, from, k)?;
-            Ok(exit)
-        }
+        Exit::End => row(all, alloc, program, function, locals, store, from, k),
         Exit::Break => Ok(Exit::Break),
         Exit::Next => Ok(Exit::Next),
         Exit::Ends(q) => Ok(Exit::Ends(q)),

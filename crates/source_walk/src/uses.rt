@@ -46,7 +46,7 @@ fn first_given(
 ) -> Result<Flow, NoMemory>
     ensures { IfOk result (λ g. Continues (λ h. turns.first_way place (binary_of op) (expr_of right.now.value) (turns.run h (expr_of right.now.value))) program.now locals.now.now store.now.now v (use_of k.now.value) g) }
 {
-    let flow = second(
+    second(
         right,
         alloc,
         program,
@@ -56,8 +56,7 @@ fn first_given(
         op,
         v,
         k,
-    )?;
-    Ok(flow)
+    )
 }
 
 // The right operand of an operation has its value.
@@ -106,8 +105,7 @@ fn first_tested(
         Err(rule) => Ok(Flow::Ends(Pending::Broke(rule, place))),
         Ok(holds) => {
             let found = store.store();
-            let flow = either(right, alloc, program, locals, found, decides, holds, k)?;
-            Ok(flow)
+            either(right, alloc, program, locals, found, decides, holds, k)
         }
     }
 }
@@ -130,11 +128,9 @@ fn chosen(
         Err(rule) => Ok(Flow::Ends(Pending::Broke(rule, place))),
         Ok(holds) => {
             if holds {
-                let one_flow = expr(one, alloc, program, locals, store.store(), k)?;
-                Ok(one_flow)
+                expr(one, alloc, program, locals, store.store(), k)
             } else {
-                let other_flow = expr(other, alloc, program, locals, store.store(), k)?;
-                Ok(other_flow)
+                expr(other, alloc, program, locals, store.store(), k)
             }
         }
     }
@@ -157,10 +153,7 @@ fn otherwise(
 {
     match other {
         None => Ok(Exit::End),
-        Some(s) => {
-            let exit = stmt(s, alloc, program, function, locals, store, k)?;
-            Ok(exit)
-        }
+        Some(s) => stmt(s, alloc, program, function, locals, store, k),
     }
 }
 
@@ -186,11 +179,9 @@ fn branch(
         Err(rule) => Ok(Exit::Ends(Pending::Broke(rule, place))),
         Ok(holds) => {
             if holds {
-                let one_exit = stmt(one, alloc, program, function, locals, store, k)?;
-                Ok(one_exit)
+                stmt(one, alloc, program, function, locals, store, k)
             } else {
-                let other_exit = otherwise(other, alloc, program, function, locals, store, at, k)?;
-                Ok(other_exit)
+                otherwise(other, alloc, program, function, locals, store, at, k)
             }
         }
     }
@@ -216,10 +207,9 @@ fn round_if(
         Err(rule) => Ok(Exit::Ends(Pending::Broke(rule, place))),
         Ok(holds) => {
             if holds {
-                let exit = enter_body(
+                enter_body(
                     &l.body, alloc, program, function, locals, store, &l.step, l, k,
-                )?;
-                Ok(exit)
+                )
             } else {
                 Ok(Exit::End)
             }
@@ -258,10 +248,9 @@ fn next_argument(
 {
     let all = one_more(alloc, v, before)?;
     let found = store.store();
-    let q = arguments(
+    arguments(
         rest, alloc, program, locals, found, place, callee, &all, wait,
-    )?;
-    Ok(q)
+    )
 }
 
 // The value of a in `a op= b` is there: the result is stored, which ends the turn.
@@ -277,10 +266,7 @@ fn update_read(
     ensures { IfOk result (λ q. StoresUpdated program.now store.now.now (updating_of u.now) at by v (todo_of k.now.value) q) }
 {
     match updated(&program.structs, store.store(), &u.ty, u.op, v, by)? {
-        Ok(r) => {
-            let q = store_value(u.place, at, r, k)?;
-            Ok(q)
-        }
+        Ok(r) => store_value(u.place, at, r, k),
         Err(rule) => Ok(Pending::Broke(rule, u.operator)),
     }
 }
@@ -299,8 +285,7 @@ fn complete(
     ensures locals { OnOk result (locals.new.kept ≡ locals.old.kept) }
     ensures store { OnOk result (store.new.kept ≡ store.old.kept) }
 {
-    let q = finish(k, left, alloc, program, function, locals, store)?;
-    Ok(q)
+    finish(k, left, alloc, program, function, locals, store)
 }
 
 // How an expression that got so far goes on.
@@ -340,75 +325,127 @@ pub fn give(
     ensures store { OnOk result (store.new.kept ≡ store.old.kept) }
 {
     match k {
-        Use::FirstOf(place, op, right, k) => {
-            let flow = first_given(v, right, alloc, program, locals, store, *place, *op, k)?;
-            pass(flow, k, alloc, program, function, locals, store)
-        }
-        Use::SecondOf(place, op, left, k) => {
-            pass_second(
-                *place, *op, *left, k, v, alloc, program, function, locals, store,
-            )
-        }
-        Use::OnlyOf(place, op, k) => {
-            pass_only(*place, op, k, v, alloc, program, function, locals, store)
-        }
-        Use::PlaceRead(place, how, k) => {
-            pass_read(*place, *how, k, v, alloc, program, function, locals, store)
-        }
-        Use::FirstTest(place, decides, right, k) => {
-            let flow = first_tested(v, right, alloc, program, locals, store, *place, *decides, k)?;
-            pass(flow, k, alloc, program, function, locals, store)
-        }
-        Use::SecondTest(place, k) => {
-            pass_second_test(*place, k, v, alloc, program, function, locals, store)
-        }
-        Use::Choice(place, one, other, k) => {
-            let flow = chosen(v, one, other, alloc, program, locals, store, *place, k)?;
-            pass(flow, k, alloc, program, function, locals, store)
-        }
-        Use::Argument(place, callee, before, rest, at, k) => {
-            call_wanted(
-                *place, callee, before, rest, *at, k, v, alloc, program, locals, store,
-            )
-        }
-        Use::DroppedArgument(place, callee, before, rest, k) => {
-            call_dropping(
-                *place, callee, before, rest, k, v, alloc, program, locals, store,
-            )
-        }
+        Use::FirstOf(place, op, right, k) => pass_first(
+            *place, *op, k, right, v, alloc, program, function, locals, store,
+        ),
+        Use::SecondOf(place, op, left, k) => pass_second(
+            *place, *op, *left, k, v, alloc, program, function, locals, store,
+        ),
+        Use::OnlyOf(place, op, k) => pass_only(
+            *place, op, k, v, alloc, program, function, locals, store,
+        ),
+        Use::PlaceRead(place, how, k) => pass_read(
+            *place, *how, k, v, alloc, program, function, locals, store,
+        ),
+        Use::FirstTest(place, decides, right, k) => pass_first_test(
+            *place, *decides, k, right, v, alloc, program, function, locals, store,
+        ),
+        Use::SecondTest(place, k) => pass_second_test(
+            *place, k, v, alloc, program, function, locals, store,
+        ),
+        Use::Choice(place, one, other, k) => pass_choice(
+            *place, k, one, other, v, alloc, program, function, locals, store,
+        ),
+        Use::Argument(place, callee, before, rest, at, k) => call_wanted(
+            *place, callee, before, rest, *at, k, v, alloc, program, locals, store,
+        ),
+        Use::DroppedArgument(place, callee, before, rest, k) => call_dropping(
+            *place, callee, before, rest, k, v, alloc, program, locals, store,
+        ),
         Use::ToCaller => Ok(Pending::Leave(Some(v))),
         Use::ToPlace(place, to, k) => store_value(*place, *to, v, k),
         Use::StructRight(place, ty, to, k) => copy_struct(program, *place, ty, *to, v, k),
         Use::UpdateRight(u, at, k) => update_right(u, alloc, *at, v, k),
         Use::UpdateRead(u, at, by, k) => update_read(program, store, u, *at, *by, v, k),
         Use::ToNowhere(k) => complete(k, Exit::End, alloc, program, function, locals, store),
-        Use::ToLocal(number, k) => {
-            locals.set(*number, Variable::Holds(v))?;
-            complete(k, Exit::End, alloc, program, function, locals, store)
-        }
-        Use::LeftPlace(place, right, k) => {
-            finish_place(*place, right, k, v, alloc, program, function, locals, store)
-        }
-        Use::StructLeft(place, ty, right, k) => {
-            finish_struct(
-                *place, ty, right, k, v, alloc, program, function, locals, store,
-            )
-        }
-        Use::UpdateLeft(u, right, k) => {
-            finish_left(u, right, k, v, alloc, program, function, locals, store)
-        }
-        Use::UpdateLocal(u, number, k) => {
-            finish_variable(u, *number, k, v, alloc, program, function, locals, store)
-        }
-        Use::IfTest(place, at, one, other, k) => {
-            finish_if(
-                *place, *at, one, other, k, v, alloc, program, function, locals, store,
-            )
-        }
-        Use::LoopTest(place, l, k) => {
-            finish_round(*place, l, k, v, alloc, program, function, locals, store)
-        }
+        Use::ToLocal(number, k) => finish_local(
+            *number, k, v, alloc, program, function, locals, store,
+        ),
+        Use::LeftPlace(place, right, k) => finish_place(
+            *place, right, k, v, alloc, program, function, locals, store,
+        ),
+        Use::StructLeft(place, ty, right, k) => finish_struct(
+            *place, ty, right, k, v, alloc, program, function, locals, store,
+        ),
+        Use::UpdateLeft(u, right, k) => finish_left(
+            u, right, k, v, alloc, program, function, locals, store,
+        ),
+        Use::UpdateLocal(u, number, k) => finish_variable(
+            u, *number, k, v, alloc, program, function, locals, store,
+        ),
+        Use::IfTest(place, at, one, other, k) => finish_if(
+            *place, *at, one, other, k, v, alloc, program, function, locals, store,
+        ),
+        Use::LoopTest(place, l, k) => finish_round(
+            *place, l, k, v, alloc, program, function, locals, store,
+        ),
     }
+}
+
+// The left one has its value.
+#[cycle(uses)]
+fn pass_first(
+    place: u32,
+    op: Binary,
+    k: &Rc<Use>,
+    right: &Rc<SharedExpr>,
+    v: Value,
+    alloc: Global,
+    program: &SharedProgram,
+    function: u32,
+    locals: &mut Locals,
+    store: &mut KeptStore,
+) -> Result<Pending, NoMemory>
+    ensures comes { IfOk result (λ q. GivesTo program.now function (control.first_of place (binary_of op) (expr_of right.now.value) (use_of k.now.value)) v locals.old.now store.old.now locals.new.now store.new.now q) }
+    ensures locals { OnOk result (locals.new.kept ≡ locals.old.kept) }
+    ensures store { OnOk result (store.new.kept ≡ store.old.kept) }
+{
+    let flow = first_given(v, right, alloc, program, locals, store, place, op, k)?;
+    pass(flow, k, alloc, program, function, locals, store)
+}
+
+// The left one of `&&` or `||` has its value.
+#[cycle(uses)]
+fn pass_first_test(
+    place: u32,
+    decides: bool,
+    k: &Rc<Use>,
+    right: &Rc<SharedExpr>,
+    v: Value,
+    alloc: Global,
+    program: &SharedProgram,
+    function: u32,
+    locals: &mut Locals,
+    store: &mut KeptStore,
+) -> Result<Pending, NoMemory>
+    ensures comes { IfOk result (λ q. GivesTo program.now function (control.first_test place decides (expr_of right.now.value) (use_of k.now.value)) v locals.old.now store.old.now locals.new.now store.new.now q) }
+    ensures locals { OnOk result (locals.new.kept ≡ locals.old.kept) }
+    ensures store { OnOk result (store.new.kept ≡ store.old.kept) }
+{
+    let flow = first_tested(v, right, alloc, program, locals, store, place, decides, k)?;
+    pass(flow, k, alloc, program, function, locals, store)
+}
+
+// The condition of `?:` has its value.
+#[cycle(uses)]
+fn pass_choice(
+    place: u32,
+    k: &Rc<Use>,
+    one: &Rc<SharedExpr>,
+    other: &Rc<SharedExpr>,
+    v: Value,
+    alloc: Global,
+    program: &SharedProgram,
+    function: u32,
+    locals: &mut Locals,
+    store: &mut KeptStore,
+) -> Result<Pending, NoMemory>
+    ensures comes { IfOk result (λ q. GivesTo program.now function (control.choice place (expr_of one.now.value) (expr_of other.now.value) (use_of k.now.value)) v locals.old.now store.old.now locals.new.now store.new.now q) }
+    ensures locals { OnOk result (locals.new.kept ≡ locals.old.kept) }
+    ensures store { OnOk result (store.new.kept ≡ store.old.kept) }
+{
+    let flow = chosen(v, one, other, alloc, program, locals, store, place, k)?;
+    pass(flow, k, alloc, program, function, locals, store)
 }
 
 // The right one has its value.
@@ -493,6 +530,25 @@ fn pass_second_test(
 {
     let flow = second_tested(v, store, place);
     pass(flow, k, alloc, program, function, locals, store)
+}
+
+// The value of a local is there.
+fn finish_local(
+    number: u32,
+    k: &Rc<Todo>,
+    v: Value,
+    alloc: Global,
+    program: &SharedProgram,
+    function: u32,
+    locals: &mut Locals,
+    store: &mut KeptStore,
+) -> Result<Pending, NoMemory>
+    ensures comes { IfOk result (λ q. GivesTo program.now function (control.to_local number (todo_of k.now.value)) v locals.old.now store.old.now locals.new.now store.new.now q) }
+    ensures locals { OnOk result (locals.new.kept ≡ locals.old.kept) }
+    ensures store { OnOk result (store.new.kept ≡ store.old.kept) }
+{
+    locals.set(number, Variable::Holds(v))?;
+    complete(k, Exit::End, alloc, program, function, locals, store)
 }
 
 // The place of the left side of an assignment has its value.

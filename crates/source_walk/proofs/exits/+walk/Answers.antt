@@ -69,10 +69,11 @@ stmt-returns-in-Eval-clause-exits t c =
 
 pub block-returns-clause-exits : goal.block-returns-clause-exits
 block-returns-clause-exits t c =
-    let body = row_of c.args.all.now.value in
+    IfOk-weaker c.close_row.result _ _ (λ g e. let body = row_of c.args.all.now.value in
     chain_passes (λ h w. turns.run_row h body w) (λ h w. turns.end_way (turns.declared body) w) c.args.program.now c.args.function (todo_of c.in_ok-inside.inside.value) (todo_of c.args.k.now.value) _ _ _ _ _ _ _ _
     (λ h w n. ap (control.then_end (turns.declared body)) n ∙ sym c.in_ok-inside.ensures)
-    c.in_ok-left.ensures.exits (c.in_ok-closed.ensures.passes _ _ _)
+    c.in_ok-left.ensures.exits (e _ _ _))
+    c.close_row.ensures.passes
 
 pub if_then-returns-in-Ends-clause-exits : goal.if_then-returns-in-Ends-clause-exits
 if_then-returns-in-Ends-clause-exits t c =
@@ -81,8 +82,9 @@ if_then-returns-in-Ends-clause-exits t c =
 
 pub if_then-returns-then-holds-clause-exits : goal.if_then-returns-then-holds-clause-exits
 if_then-returns-then-holds-clause-exits t c =
-    if_held c.args.program.now c.args.function (expr_of c.args.c.now.value) (stmt_of c.args.one.now.value) (turns.nothing c.args.place) (λ h w. turns.run_stmt h (stmt_of c.args.one.now.value) w) (λ h w. turns.run_stmt h (turns.nothing c.args.place) w) (use_of c.in_ok-after.after.value) (todo_of c.args.k.now.value) _ _ _ _ _ _ _
-    c.in_ok-tested.ensures c.in-Holds.is c.if-holds.true c.in_ok-after.ensures c.in_ok-one_exit-in-Holds.ensures.exits
+    IfOk-weaker c.stmt.result _ _ (λ g e. if_held c.args.program.now c.args.function (expr_of c.args.c.now.value) (stmt_of c.args.one.now.value) (turns.nothing c.args.place) (λ h w. turns.run_stmt h (stmt_of c.args.one.now.value) w) (λ h w. turns.run_stmt h (turns.nothing c.args.place) w) (use_of c.in_ok-after.after.value) (todo_of c.args.k.now.value) _ _ _ _ _ _ _
+    c.in_ok-tested.ensures c.in-Holds.is c.if-holds.true c.in_ok-after.ensures e)
+    c.stmt.ensures.exits
 
 pub if_then-returns-clause-exits : goal.if_then-returns-clause-exits
 if_then-returns-clause-exits t c =
@@ -96,62 +98,74 @@ if_else-returns-in-Ends-clause-exits t c =
 
 pub if_else-returns-then-holds-clause-exits : goal.if_else-returns-then-holds-clause-exits
 if_else-returns-then-holds-clause-exits t c =
-    if_held c.args.program.now c.args.function (expr_of c.args.c.now.value) (stmt_of c.args.one.now.value) (stmt_of c.args.other.now.value) (λ h w. turns.run_stmt h (stmt_of c.args.one.now.value) w) (λ h w. turns.run_stmt h (stmt_of c.args.other.now.value) w) (use_of c.in_ok-after.after.value) (todo_of c.args.k.now.value) _ _ _ _ _ _ _
-    c.in_ok-tested.ensures c.in-Holds.is c.if-holds.true (search rules) c.in_ok-one_exit-in-Holds.ensures.exits
+    IfOk-weaker c.stmt.result _ _ (λ g e. if_held c.args.program.now c.args.function (expr_of c.args.c.now.value) (stmt_of c.args.one.now.value) (stmt_of c.args.other.now.value) (λ h w. turns.run_stmt h (stmt_of c.args.one.now.value) w) (λ h w. turns.run_stmt h (stmt_of c.args.other.now.value) w) (use_of c.in_ok-after.after.value) (todo_of c.args.k.now.value) _ _ _ _ _ _ _
+    c.in_ok-tested.ensures c.in-Holds.is c.if-holds.true (search rules) e)
+    c.stmt.ensures.exits
 
 pub if_else-returns-clause-exits : goal.if_else-returns-clause-exits
 if_else-returns-clause-exits t c =
-    if_not c.args.program.now c.args.function (expr_of c.args.c.now.value) (stmt_of c.args.one.now.value) (stmt_of c.args.other.now.value) (λ h w. turns.run_stmt h (stmt_of c.args.one.now.value) w) (λ h w. turns.run_stmt h (stmt_of c.args.other.now.value) w) (use_of c.in_ok-after.after.value) (todo_of c.args.k.now.value) _ _ _ _ _ _ _
-    c.in_ok-tested.ensures c.in-Holds.is c.if-holds.false (search rules) c.in_ok-other_exit-in-Holds.ensures.exits
+    IfOk-weaker c.stmt-else-holds.result _ _ (λ g e. if_not c.args.program.now c.args.function (expr_of c.args.c.now.value) (stmt_of c.args.one.now.value) (stmt_of c.args.other.now.value) (λ h w. turns.run_stmt h (stmt_of c.args.one.now.value) w) (λ h w. turns.run_stmt h (stmt_of c.args.other.now.value) w) (use_of c.in_ok-after.after.value) (todo_of c.args.k.now.value) _ _ _ _ _ _ _
+    c.in_ok-tested.ensures c.in-Holds.is c.if-holds.false (search rules) e)
+    c.stmt-else-holds.ensures.exits
 
 -- ---- loops
 
 pub while_holds-returns-clause-exits : goal.while_holds-returns-clause-exits
 while_holds-returns-clause-exits t c =
-    while_exit c.args.program.now c.args.function c.args.place c.in_ok-l.l.value.place (expr_of c.args.c.now.value) (stmt_of c.args.body.now.value) (loop_of c.in_ok-l.l.value) (todo_of c.args.k.now.value) _ _ _ _ _
-    (search rules) c.in_ok-exit.ensures.exits
+    IfOk-weaker c.rounds.result _ _ (λ g e. while_exit c.args.program.now c.args.function c.args.place c.in_ok-l.l.value.place (expr_of c.args.c.now.value) (stmt_of c.args.body.now.value) (loop_of c.in_ok-l.l.value) (todo_of c.args.k.now.value) _ _ _ _ _
+    (search rules) e)
+    c.rounds.ensures.exits
 
 pub for_each-returns-clause-exits : goal.for_each-returns-clause-exits
 for_each-returns-clause-exits t c =
-    for_exit c.args.program.now c.args.function (optional_expr_of c.args.c.now) (stmt_of c.args.first.now.value) (stmt_of c.args.step.now.value) (stmt_of c.in_ok-again.again.value) (stmt_of c.args.body.now.value) (loop_of c.in_ok-l.l.value) (todo_of c.in_ok-outside.outside.value) (todo_of c.args.k.now.value) _ _ _ _ _ _ _ _
-    c.in_ok-left.ensures.exits (c.in_ok-exit.ensures.passes _ _ _) (search rules) (search rules) c.in_ok-outside.ensures
+    IfOk-weaker c.close_first.result _ _ (λ g e. for_exit c.args.program.now c.args.function (optional_expr_of c.args.c.now) (stmt_of c.args.first.now.value) (stmt_of c.args.step.now.value) (stmt_of c.in_ok-again.again.value) (stmt_of c.args.body.now.value) (loop_of c.in_ok-l.l.value) (todo_of c.in_ok-outside.outside.value) (todo_of c.args.k.now.value) _ _ _ _ _ _ _ _
+    c.in_ok-left.ensures.exits (e _ _ _) (search rules) (search rules) c.in_ok-outside.ensures)
+    c.close_first.ensures.passes
 
 pub run_for-returns-clause-exits : goal.run_for-returns-clause-exits
 run_for-returns-clause-exits t c =
-    chain_passes (λ h w. turns.run_stmt h (stmt_of c.args.first.now.value) w) (λ h w. turns.loop_way h (loop_of c.args.l.now.value) (turns.run_stmt h (stmt_of c.args.body.now.value)) (turns.run_stmt h (stmt_or_nothing c.args.l.now.value.place c.args.step.now)) w) c.args.program.now c.args.function (todo_of c.in_ok-inside.inside.value) (todo_of c.args.k.now.value) _ _ _ _ _ _ _ _
-    (λ h w n. ap (control.then_loop (loop_of c.args.l.now.value)) n ∙ sym c.in_ok-inside.ensures) c.in_ok-left.ensures.exits c.in_ok-exit.ensures.passes
+    IfOk-weaker c.after_first.result _ _ (λ g e. chain_passes (λ h w. turns.run_stmt h (stmt_of c.args.first.now.value) w) (λ h w. turns.loop_way h (loop_of c.args.l.now.value) (turns.run_stmt h (stmt_of c.args.body.now.value)) (turns.run_stmt h (stmt_or_nothing c.args.l.now.value.place c.args.step.now)) w) c.args.program.now c.args.function (todo_of c.in_ok-inside.inside.value) (todo_of c.args.k.now.value) _ _ _ _ _ _ _ _
+    (λ h w n. ap (control.then_loop (loop_of c.args.l.now.value)) n ∙ sym c.in_ok-inside.ensures) c.in_ok-left.ensures.exits e)
+    c.after_first.ensures.passes
 
 pub enter_body-returns-clause-exits : goal.enter_body-returns-clause-exits
 enter_body-returns-clause-exits t c =
-    chain_passes (λ h w. turns.run_stmt h (stmt_of c.args.body.now.value) w) (λ h w. turns.body_way h (loop_of c.args.l.now.value) (turns.run_stmt h (stmt_or_nothing c.args.l.now.value.place c.args.step.now)) w) c.args.program.now c.args.function (todo_of c.in_ok-inside.inside.value) (todo_of c.args.k.now.value) _ _ _ _ _ _ _ _
-    (λ h w n. ap (control.in_body (loop_of c.args.l.now.value)) n ∙ sym c.in_ok-inside.ensures) c.in_ok-left.ensures.exits c.in_ok-exit.ensures.passes
+    IfOk-weaker c.after_body.result _ _ (λ g e. chain_passes (λ h w. turns.run_stmt h (stmt_of c.args.body.now.value) w) (λ h w. turns.body_way h (loop_of c.args.l.now.value) (turns.run_stmt h (stmt_or_nothing c.args.l.now.value.place c.args.step.now)) w) c.args.program.now c.args.function (todo_of c.in_ok-inside.inside.value) (todo_of c.args.k.now.value) _ _ _ _ _ _ _ _
+    (λ h w n. ap (control.in_body (loop_of c.args.l.now.value)) n ∙ sym c.in_ok-inside.ensures) c.in_ok-left.ensures.exits e)
+    c.after_body.ensures.passes
 
 pub last_some-returns-clause-exits : goal.last_some-returns-clause-exits
 last_some-returns-clause-exits t c =
-    chain_passes (λ h w. turns.run_stmt h (stmt_of c.args.s.now.value) w) (λ h w. turns.step_way h (loop_of c.args.l.now.value) w) c.args.program.now c.args.function (todo_of c.in_ok-inside.inside.value) (todo_of c.args.k.now.value) _ _ _ _ _ _ _ _
-    (λ h w n. ap (control.in_step (loop_of c.args.l.now.value)) n ∙ sym c.in_ok-inside.ensures) c.in_ok-left.ensures.exits (c.in_ok-exit.ensures _ _ _ _)
+    IfOk-weaker c.after_step.result _ _ (λ g e. chain_passes (λ h w. turns.run_stmt h (stmt_of c.args.s.now.value) w) (λ h w. turns.step_way h (loop_of c.args.l.now.value) w) c.args.program.now c.args.function (todo_of c.in_ok-inside.inside.value) (todo_of c.args.k.now.value) _ _ _ _ _ _ _ _
+    (λ h w n. ap (control.in_step (loop_of c.args.l.now.value)) n ∙ sym c.in_ok-inside.ensures) c.in_ok-left.ensures.exits (e _ _ _ _))
+    c.after_step.ensures
 
-pub after_first-returns-in_ok-exit-in-End-clause-passes : goal.after_first-returns-in_ok-exit-in-End-clause-passes
-after_first-returns-in_ok-exit-in-End-clause-passes t c =
-    passes_at (λ h. turns.loop_way h (loop_of c.args.l.now.value) (turns.run_stmt h (stmt_of c.args.body.now.value)) (turns.run_stmt h (stmt_or_nothing c.args.l.now.value.place c.args.step.now))) c.args.program.now c.args.function (todo_of c.args.k.now.value) _ exits.End _ _ _ _ _ c.in-End.is (λ r w x n. c.in_ok-exit-in-End.ensures.exits.goes r w x n)
+pub after_first-returns-in-End-clause-passes : goal.after_first-returns-in-End-clause-passes
+after_first-returns-in-End-clause-passes t c =
+    IfOk-weaker c.rounds.result _ _ (λ g e. passes_at (λ h. turns.loop_way h (loop_of c.args.l.now.value) (turns.run_stmt h (stmt_of c.args.body.now.value)) (turns.run_stmt h (stmt_or_nothing c.args.l.now.value.place c.args.step.now))) c.args.program.now c.args.function (todo_of c.args.k.now.value) _ exits.End _ _ _ _ _ c.in-End.is (λ r w x n. e.goes r w x n))
+    c.rounds.ensures.exits
 
-pub after_body-returns-in_ok-end_exit-in-End-clause-passes : goal.after_body-returns-in_ok-end_exit-in-End-clause-passes
-after_body-returns-in_ok-end_exit-in-End-clause-passes t c =
-    passes_at (λ h. turns.body_way h (loop_of c.args.l.now.value) (turns.run_stmt h (stmt_or_nothing c.args.l.now.value.place c.args.step.now))) c.args.program.now c.args.function (todo_of c.args.k.now.value) _ exits.End _ _ _ _ _ c.in-End.is (λ r w x n. c.in_ok-end_exit-in-End.ensures.exits.goes r w x n)
+pub after_body-returns-in-End-clause-passes : goal.after_body-returns-in-End-clause-passes
+after_body-returns-in-End-clause-passes t c =
+    IfOk-weaker c.last.result _ _ (λ g e. passes_at (λ h. turns.body_way h (loop_of c.args.l.now.value) (turns.run_stmt h (stmt_or_nothing c.args.l.now.value.place c.args.step.now))) c.args.program.now c.args.function (todo_of c.args.k.now.value) _ exits.End _ _ _ _ _ c.in-End.is (λ r w x n. e.goes r w x n))
+    c.last.ensures.exits
 
-pub after_body-returns-in_ok-next_exit-in-Next-clause-passes : goal.after_body-returns-in_ok-next_exit-in-Next-clause-passes
-after_body-returns-in_ok-next_exit-in-Next-clause-passes t c =
-    passes_at (λ h. turns.body_way h (loop_of c.args.l.now.value) (turns.run_stmt h (stmt_or_nothing c.args.l.now.value.place c.args.step.now))) c.args.program.now c.args.function (todo_of c.args.k.now.value) _ exits.Next _ _ _ _ _ c.in-Next.is (λ r w x n. c.in_ok-next_exit-in-Next.ensures.exits.goes r w x n)
+pub after_body-returns-in-Next-clause-passes : goal.after_body-returns-in-Next-clause-passes
+after_body-returns-in-Next-clause-passes t c =
+    IfOk-weaker c.last-in-Next.result _ _ (λ g e. passes_at (λ h. turns.body_way h (loop_of c.args.l.now.value) (turns.run_stmt h (stmt_or_nothing c.args.l.now.value.place c.args.step.now))) c.args.program.now c.args.function (todo_of c.args.k.now.value) _ exits.Next _ _ _ _ _ c.in-Next.is (λ r w x n. e.goes r w x n))
+    c.last-in-Next.ensures.exits
 
-pub rounds-returns-in_ok-always-in-None-clause-exits : goal.rounds-returns-in_ok-always-in-None-clause-exits
-rounds-returns-in_ok-always-in-None-clause-exits t c =
-    rounds_none c.args.program.now c.args.function (loop_of c.args.l.now.value) (λ h w. turns.run_stmt h (stmt_of c.args.body.now.value) w) (λ h w. turns.run_stmt h (stmt_or_nothing c.args.l.now.value.place c.args.step.now) w) (todo_of c.args.k.now.value) _ _ _ _ _
-    (search rules) c.in_ok-always-in-None.ensures.exits
+pub rounds-returns-in-None-clause-exits : goal.rounds-returns-in-None-clause-exits
+rounds-returns-in-None-clause-exits t c =
+    IfOk-weaker c.enter_body.result _ _ (λ g e. rounds_none c.args.program.now c.args.function (loop_of c.args.l.now.value) (λ h w. turns.run_stmt h (stmt_of c.args.body.now.value) w) (λ h w. turns.run_stmt h (stmt_or_nothing c.args.l.now.value.place c.args.step.now) w) (todo_of c.args.k.now.value) _ _ _ _ _
+    (search rules) e)
+    c.enter_body.ensures.exits
 
-pub rounds-returns-in_ok-exit-in-Some-clause-exits : goal.rounds-returns-in_ok-exit-in-Some-clause-exits
-rounds-returns-in_ok-exit-in-Some-clause-exits t c =
-    rounds_some c.args.program.now c.args.function (loop_of c.args.l.now.value) (expr_of c.in-Some.c.value) (λ h w. turns.run_stmt h (stmt_of c.args.body.now.value) w) (λ h w. turns.run_stmt h (stmt_or_nothing c.args.l.now.value.place c.args.step.now) w) (todo_of c.args.k.now.value) _ _ _ _ _
-    (search rules) c.in_ok-exit-in-Some.ensures.exits
+pub rounds-returns-in-Some-clause-exits : goal.rounds-returns-in-Some-clause-exits
+rounds-returns-in-Some-clause-exits t c =
+    IfOk-weaker c.tested_round.result _ _ (λ g e. rounds_some c.args.program.now c.args.function (loop_of c.args.l.now.value) (expr_of c.in-Some.c.value) (λ h w. turns.run_stmt h (stmt_of c.args.body.now.value) w) (λ h w. turns.run_stmt h (stmt_or_nothing c.args.l.now.value.place c.args.step.now) w) (todo_of c.args.k.now.value) _ _ _ _ _
+    (search rules) e)
+    c.tested_round.ensures.exits
 
 pub tested_round-returns-in-Ends-clause-exits : goal.tested_round-returns-in-Ends-clause-exits
 tested_round-returns-in-Ends-clause-exits t c =
@@ -160,8 +174,9 @@ tested_round-returns-in-Ends-clause-exits t c =
 
 pub tested_round-returns-then-holds-clause-exits : goal.tested_round-returns-then-holds-clause-exits
 tested_round-returns-then-holds-clause-exits t c =
-    loop_held c.args.program.now c.args.function (expr_of c.args.c.now.value) (loop_of c.args.l.now.value) (λ h w. turns.run_stmt h (stmt_of c.args.body.now.value) w) (λ h w. turns.run_stmt h (stmt_or_nothing c.args.l.now.value.place c.args.step.now) w) (use_of c.in_ok-after.after.value) (todo_of c.args.k.now.value) _ _ _ _ _ _ _
-    c.in_ok-tested.ensures c.in-Holds.is c.if-holds.true c.in_ok-after.ensures c.in_ok-entered-in-Holds.ensures.exits
+    IfOk-weaker c.enter_body.result _ _ (λ g e. loop_held c.args.program.now c.args.function (expr_of c.args.c.now.value) (loop_of c.args.l.now.value) (λ h w. turns.run_stmt h (stmt_of c.args.body.now.value) w) (λ h w. turns.run_stmt h (stmt_or_nothing c.args.l.now.value.place c.args.step.now) w) (use_of c.in_ok-after.after.value) (todo_of c.args.k.now.value) _ _ _ _ _ _ _
+    c.in_ok-tested.ensures c.in-Holds.is c.if-holds.true c.in_ok-after.ensures e)
+    c.enter_body.ensures.exits
 
 pub tested_round-returns-clause-exits : goal.tested_round-returns-clause-exits
 tested_round-returns-clause-exits t c =
@@ -172,9 +187,10 @@ pub last-returns-in_ok-over-in-None-clause-exits : goal.last-returns-in_ok-over-
 last-returns-in_ok-over-in-None-clause-exits t c =
     no_step c.args.program.now c.args.function c.args.l.now.value.place c.args.step.now (loop_of c.args.l.now.value) (todo_of c.args.k.now.value) _ _ _ c.in-None.is c.in_ok-over-in-None.ensures
 
-pub last-returns-in_ok-exit-in-Some-clause-exits : goal.last-returns-in_ok-exit-in-Some-clause-exits
-last-returns-in_ok-exit-in-Some-clause-exits t c =
-    one_step c.args.program.now c.args.function c.args.l.now.value.place c.args.step.now c.in-Some.s (loop_of c.args.l.now.value) (todo_of c.args.k.now.value) _ _ _ _ _ c.in-Some.is c.in_ok-exit-in-Some.ensures.exits
+pub last-returns-in-Some-clause-exits : goal.last-returns-in-Some-clause-exits
+last-returns-in-Some-clause-exits t c =
+    IfOk-weaker c.last_some.result _ _ (λ g e. one_step c.args.program.now c.args.function c.args.l.now.value.place c.args.step.now c.in-Some.s (loop_of c.args.l.now.value) (todo_of c.args.k.now.value) _ _ _ _ _ c.in-Some.is e)
+    c.last_some.ensures.exits
 
 -- ---- rows
 

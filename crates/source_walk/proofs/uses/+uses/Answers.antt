@@ -6,7 +6,7 @@ use Rattle.c_meaning.specs.Turns.{run, read_way, only_way, second_way, first_way
 use Rattle.source_tree.specs.SharedViews.{expr_of}
 use Rattle.source_values.specs.Operations.{unary_of, binary_of}
 use Rattle.source_control.specs.Views.{use_of, todo_of, updating_of}
-use Rattle.source_walk.proofs.Resuming.{flow_ended, flow_given, read_continues, gives_at, give_flow, give_caller, give_stores, give_copies, give_reads, give_updates, give_nowhere, give_local}
+use Rattle.source_walk.proofs.Resuming.{flow_ended, flow_given, read_continues, gives_at, give_flow, give_caller, give_stores, give_copies, give_reads, give_updates, give_nowhere}
 use Rattle.source_walk.proofs.uses.+uses.Goals as goal
 
 pub pass-returns-in-Ends-clause-comes : goal.pass-returns-in-Ends-clause-comes
@@ -51,31 +51,43 @@ pass_second_test-returns-clause-comes t c =
     refl (λ h. refl) (c.second_tested-flow.ensures _ _ _) f)
     c.pass.ensures.comes
 
--- ---- by their forms
-
-pub give-returns-in_ok-flow-in-FirstOf-clause-comes : goal.give-returns-in_ok-flow-in-FirstOf-clause-comes
-give-returns-in_ok-flow-in-FirstOf-clause-comes t c =
-    let rest = use_of c.in-FirstOf.k.value in
+pub pass_first-returns-clause-comes : goal.pass_first-returns-clause-comes
+pass_first-returns-clause-comes t c =
+    let rest = use_of c.args.k.now.value in
     IfOk-weaker c.pass.result _ _
-    (λ q f. give_flow (λ h. first_way c.in-FirstOf.place (binary_of c.in-FirstOf.op) (expr_of c.in-FirstOf.right.value) (run h (expr_of c.in-FirstOf.right.value))) c.args.program.now c.args.function (use_of c.args.k.now) (control.first_of c.in-FirstOf.place (binary_of c.in-FirstOf.op) (expr_of c.in-FirstOf.right.value) rest) rest c.args.v _ _ _ _ _ q
-    (ap use_of c.in-FirstOf.is) (λ h. refl) c.in_ok-flow-in-FirstOf.ensures f)
+    (λ q f. give_flow (λ h. first_way c.args.place (binary_of c.args.op) (expr_of c.args.right.now.value) (run h (expr_of c.args.right.now.value))) c.args.program.now c.args.function (control.first_of c.args.place (binary_of c.args.op) (expr_of c.args.right.now.value) rest) (control.first_of c.args.place (binary_of c.args.op) (expr_of c.args.right.now.value) rest) rest c.args.v _ _ _ _ _ q
+    refl (λ h. refl) c.in_ok-flow.ensures f)
     c.pass.ensures.comes
 
-pub give-returns-in_ok-flow-in-FirstTest-clause-comes : goal.give-returns-in_ok-flow-in-FirstTest-clause-comes
-give-returns-in_ok-flow-in-FirstTest-clause-comes t c =
-    let rest = use_of c.in-FirstTest.k.value in
-    IfOk-weaker c.pass-in-FirstTest.result _ _
-    (λ q f. give_flow (λ h. first_test_way c.in-FirstTest.place c.in-FirstTest.decides (expr_of c.in-FirstTest.right.value) (run h (expr_of c.in-FirstTest.right.value))) c.args.program.now c.args.function (use_of c.args.k.now) (control.first_test c.in-FirstTest.place c.in-FirstTest.decides (expr_of c.in-FirstTest.right.value) rest) rest c.args.v _ _ _ _ _ q
-    (ap use_of c.in-FirstTest.is) (λ h. refl) c.in_ok-flow-in-FirstTest.ensures f)
-    c.pass-in-FirstTest.ensures.comes
+pub pass_first_test-returns-clause-comes : goal.pass_first_test-returns-clause-comes
+pass_first_test-returns-clause-comes t c =
+    let rest = use_of c.args.k.now.value in
+    IfOk-weaker c.pass.result _ _
+    (λ q f. give_flow (λ h. first_test_way c.args.place c.args.decides (expr_of c.args.right.now.value) (run h (expr_of c.args.right.now.value))) c.args.program.now c.args.function (control.first_test c.args.place c.args.decides (expr_of c.args.right.now.value) rest) (control.first_test c.args.place c.args.decides (expr_of c.args.right.now.value) rest) rest c.args.v _ _ _ _ _ q
+    refl (λ h. refl) c.in_ok-flow.ensures f)
+    c.pass.ensures.comes
 
-pub give-returns-in_ok-flow-in-Choice-clause-comes : goal.give-returns-in_ok-flow-in-Choice-clause-comes
-give-returns-in_ok-flow-in-Choice-clause-comes t c =
-    let rest = use_of c.in-Choice.k.value in
-    IfOk-weaker c.pass-in-Choice.result _ _
-    (λ q f. give_flow (λ h. choice_way c.in-Choice.place (expr_of c.in-Choice.one.value) (expr_of c.in-Choice.other.value) (run h (expr_of c.in-Choice.one.value)) (run h (expr_of c.in-Choice.other.value))) c.args.program.now c.args.function (use_of c.args.k.now) (control.choice c.in-Choice.place (expr_of c.in-Choice.one.value) (expr_of c.in-Choice.other.value) rest) rest c.args.v _ _ _ _ _ q
-    (ap use_of c.in-Choice.is) (λ h. refl) c.in_ok-flow-in-Choice.ensures f)
-    c.pass-in-Choice.ensures.comes
+pub pass_choice-returns-clause-comes : goal.pass_choice-returns-clause-comes
+pass_choice-returns-clause-comes t c =
+    let rest = use_of c.args.k.now.value in
+    IfOk-weaker c.pass.result _ _
+    (λ q f. give_flow (λ h. choice_way c.args.place (expr_of c.args.one.now.value) (expr_of c.args.other.now.value) (run h (expr_of c.args.one.now.value)) (run h (expr_of c.args.other.now.value))) c.args.program.now c.args.function (control.choice c.args.place (expr_of c.args.one.now.value) (expr_of c.args.other.now.value) rest) (control.choice c.args.place (expr_of c.args.one.now.value) (expr_of c.args.other.now.value) rest) rest c.args.v _ _ _ _ _ q
+    refl (λ h. refl) c.in_ok-flow.ensures f)
+    c.pass.ensures.comes
+
+-- ---- by their forms
+
+pub give-returns-in-FirstOf-clause-comes : goal.give-returns-in-FirstOf-clause-comes
+give-returns-in-FirstOf-clause-comes t c =
+    IfOk-weaker c.pass_first.result _ _ (λ q g. gives_at c.args.program.now c.args.function _ (use_of c.args.k.now) c.args.v _ _ _ _ q (sym (ap use_of c.in-FirstOf.is)) g) c.pass_first.ensures.comes
+
+pub give-returns-in-FirstTest-clause-comes : goal.give-returns-in-FirstTest-clause-comes
+give-returns-in-FirstTest-clause-comes t c =
+    IfOk-weaker c.pass_first_test.result _ _ (λ q g. gives_at c.args.program.now c.args.function _ (use_of c.args.k.now) c.args.v _ _ _ _ q (sym (ap use_of c.in-FirstTest.is)) g) c.pass_first_test.ensures.comes
+
+pub give-returns-in-Choice-clause-comes : goal.give-returns-in-Choice-clause-comes
+give-returns-in-Choice-clause-comes t c =
+    IfOk-weaker c.pass_choice.result _ _ (λ q g. gives_at c.args.program.now c.args.function _ (use_of c.args.k.now) c.args.v _ _ _ _ q (sym (ap use_of c.in-Choice.is)) g) c.pass_choice.ensures.comes
 
 pub give-returns-in-SecondOf-clause-comes : goal.give-returns-in-SecondOf-clause-comes
 give-returns-in-SecondOf-clause-comes t c =
@@ -149,6 +161,6 @@ pub give-returns-in-ToNowhere-clause-comes : goal.give-returns-in-ToNowhere-clau
 give-returns-in-ToNowhere-clause-comes t c =
     IfOk-weaker c.complete.result _ _ (λ q f. give_nowhere c.args.program.now c.args.function (use_of c.args.k.now) (todo_of c.in-ToNowhere.k.value) c.args.v _ _ _ _ q (ap use_of c.in-ToNowhere.is) f) c.complete.ensures.comes
 
-pub give-returns-in_ok-set-in-ToLocal-clause-comes : goal.give-returns-in_ok-set-in-ToLocal-clause-comes
-give-returns-in_ok-set-in-ToLocal-clause-comes t c =
-    IfOk-weaker c.complete-in-ToLocal.result _ _ (λ q f. give_local c.args.program.now c.args.function c.in-ToLocal.number (use_of c.args.k.now) (todo_of c.in-ToLocal.k.value) c.args.v _ _ _ _ _ q (ap use_of c.in-ToLocal.is) c.in_ok-set-in-ToLocal.ensures.now f) c.complete-in-ToLocal.ensures.comes
+pub give-returns-in-ToLocal-clause-comes : goal.give-returns-in-ToLocal-clause-comes
+give-returns-in-ToLocal-clause-comes t c =
+    IfOk-weaker c.finish_local.result _ _ (λ q g. gives_at c.args.program.now c.args.function _ (use_of c.args.k.now) c.args.v _ _ _ _ q (sym (ap use_of c.in-ToLocal.is)) g) c.finish_local.ensures.comes

@@ -1,4 +1,5 @@
 use Rattle.std.proofs.Common.{◌++◌, ◌∷◌, [], rules}
+use Rattle.std.proofs.lemmas.Result.{IfOk-weaker}
 use Rattle.source_tree.specs.SharedViews.{args_of}
 use Rattle.source_control.specs.Views.{callee_of, values_of, wait_of}
 use Rattle.source_walk.proofs.Resuming.{next_call}
@@ -6,5 +7,6 @@ use Rattle.source_walk.proofs.uses.next_argument.Goals as goal
 
 pub returns : goal.returns
 returns c =
-    next_call _ _ _ _ c.args.place (callee_of c.args.callee.now.value) _ (args_of c.args.rest.now.value) _ (values_of c.args.before.now.value ++ c.args.v ∷ []) (wait_of c.args.wait.now) _
-    c.in_ok-q.ensures c.store-found.ensures (search rules) c.in_ok-all.ensures
+    IfOk-weaker c.arguments.result _ _ (λ g e. next_call _ _ _ _ c.args.place (callee_of c.args.callee.now.value) _ (args_of c.args.rest.now.value) _ (values_of c.args.before.now.value ++ c.args.v ∷ []) (wait_of c.args.wait.now) _
+    e c.store-found.ensures (search rules) c.in_ok-all.ensures)
+    c.arguments.ensures

@@ -1,11 +1,13 @@
 use Rattle.std.proofs.Common.{rules}
+use Rattle.std.proofs.lemmas.Result.{IfOk-weaker}
 use Rattle.source_control.specs.Views.{updating_of}
 use Rattle.source_walk.proofs.Resuming.{update_stores, update_broke}
 use Rattle.source_walk.proofs.uses.update_read.Goals as goal
 
-pub returns-in_ok-q-in-Ok : goal.returns-in_ok-q-in-Ok
-returns-in_ok-q-in-Ok c =
-    update_stores c.args.program.now c.args.store.now.now (updating_of c.args.u.now) c.args.at c.args.by c.args.v c.in-Ok.r c.args.u.now.place _ _ (search rules) c.in_ok-q-in-Ok.ensures (search rules)
+pub returns-in-Ok : goal.returns-in-Ok
+returns-in-Ok c =
+    IfOk-weaker c.store_value.result _ _ (λ g e. update_stores c.args.program.now c.args.store.now.now (updating_of c.args.u.now) c.args.at c.args.by c.args.v c.in-Ok.r c.args.u.now.place _ _ (search rules) e (search rules))
+    c.store_value.ensures
 
 pub returns-in-Err : goal.returns-in-Err
 returns-in-Err c =
