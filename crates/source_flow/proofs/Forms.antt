@@ -28,7 +28,7 @@ run_one h place ty ones.Convert e w x = refl
 run_one h place ty ones.Not e w x = refl
 run_one h place ty ones.Test e w x = refl
 
-pub run_two : (h : Here) (place : ℕ) (ty : tree.Ty) (form : TwoForm) (a b : tree.Expr) (w : WayOfUse) (x : Now) → run_node h place ty (two_of_form form a b) w x ≡ run h a (first_way place (binary_for h.typed.structs form (tree.type_of a)) b (run h b) w) x
+pub run_two : (h : Here) (place : ℕ) (ty : tree.Ty) (form : TwoForm) (a b : tree.Expr) (w : WayOfUse) (x : Now) → run_node h place ty (two_of_form form a b) w x ≡ run h a (first_way place (binary_for h.typed.structs form ty (tree.type_of a)) b (run h b) w) x
 run_two h place ty (twos.Numbers op) a b w x = refl
 run_two h place ty twos.Forward a b w x = refl
 run_two h place ty twos.Backward a b w x = refl

@@ -24,7 +24,7 @@ flows_at p locals blocks d e j k g same under f = subst (λ u. Flows p locals bl
 
 -- an operation: its left operand, and what follows that
 pub flows_two : (p : SharedProgram) (locals : List control.Variable) (blocks : Blocks) (e a b : tree.Expr) (place : ℕ) (ty : tree.Ty) (form : TwoForm) (op : Binary) (k : control.Use) (left g : Flow)
-    → e ≡ tree.at place ty (two_of_form form a b) → op ≡ binary_for (program_of p).structs form (tree.type_of a)
+    → e ≡ tree.at place ty (two_of_form form a b) → op ≡ binary_for (program_of p).structs form ty (tree.type_of a)
     → Flows p locals blocks a (control.first_of place op b k) left → FlowsLeft p locals blocks place op b left k g
     → Flows p locals blocks e k g
 flows_two p locals blocks e a b place ty form op k left g is is_op f l = record {

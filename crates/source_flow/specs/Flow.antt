@@ -52,13 +52,13 @@ abbrev pub done_with : (place : ℕ) → Result Value Rule → Flow
 done_with place (Ok v) = flows.Gives v
 done_with place (Err rule) = flows.Ends (pendings.Broke rule place)
 
--- the operation of a form, whose left operand has this type (C11 6.5.5 to 6.5.12)
-abbrev pub binary_for : List tree.Layout → TwoForm → tree.Ty → values.Binary
-binary_for structs (twos.Numbers op) t = values.on_numbers op
-binary_for structs twos.Forward t = values.forward (values.element_size structs t)
-binary_for structs twos.Backward t = values.backward (values.element_size structs t)
-binary_for structs twos.Distance t = values.distance (values.element_size structs t)
-binary_for structs (twos.Pointers op) t = values.on_pointers op
+-- the operation of a form that gives this type, whose left operand has the type `left` (C11 6.5.5 to 6.5.12)
+abbrev pub binary_for : List tree.Layout → TwoForm → (ty left : tree.Ty) → values.Binary
+binary_for structs (twos.Numbers op) ty left = values.on_numbers op
+binary_for structs twos.Forward ty left = values.forward (values.element_size structs ty)
+binary_for structs twos.Backward ty left = values.backward (values.element_size structs left)
+binary_for structs twos.Distance ty left = values.distance (values.element_size structs left)
+binary_for structs (twos.Pointers op) ty left = values.on_pointers op
 
 -- the operation of a form that gives this type (C11 6.5.3, 6.5.4)
 abbrev pub unary_for : OneForm → tree.Ty → values.Unary

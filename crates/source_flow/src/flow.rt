@@ -55,13 +55,13 @@ pub fn pointer_in(v: Value) -> Ptr
     }
 }
 
-// The operation of a form.
-fn binary(form: TwoForm, left: &CType, structs: &[Layout]) -> Result<Binary, NoMemory>
-    ensures { IfOk result (λ op. binary_of op ≡ binary_for (map layout_view structs.now) form (type_view left.now)) }
+// The operation of a form that gives a type.
+fn binary(form: TwoForm, ty: &CType, left: &CType, structs: &[Layout]) -> Result<Binary, NoMemory>
+    ensures { IfOk result (λ op. binary_of op ≡ binary_for (map layout_view structs.now) form (type_view ty.now) (type_view left.now)) }
 {
     match form {
         TwoForm::Numbers(op) => Ok(Binary::Numbers(op)),
-        TwoForm::Forward => Ok(Binary::Forward(element_size(left, structs)?)),
+        TwoForm::Forward => Ok(Binary::Forward(element_size(ty, structs)?)),
         TwoForm::Backward => Ok(Binary::Backward(element_size(left, structs)?)),
         TwoForm::Distance => Ok(Binary::Distance(element_size(left, structs)?)),
         TwoForm::Pointers(op) => Ok(Binary::Pointers(op)),
@@ -180,7 +180,7 @@ pub fn expr(
             under(a, alloc, program, locals, store, e.place, &op, k)
         }
         SharedNode::Two(form, a, b) => {
-            let op = binary(*form, &a.ty, &program.structs)?;
+            let op = binary(*form, &e.ty, &a.ty, &program.structs)?;
             let left = first(a, b, alloc, program, locals, store, e.place, op, k)?;
             with_left(left, b, alloc, program, locals, store, e.place, op, k)
         }

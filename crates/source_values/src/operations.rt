@@ -161,7 +161,8 @@ pub fn of_two(
 {
     match (op, a, b) {
         (Binary::Numbers(op), Value::Num(a), Value::Num(b)) => Ok(value_of(apply(op, a, b))),
-        (Binary::Forward(size), Value::Pointer(p), Value::Num(n)) => {
+        (Binary::Forward(size), Value::Pointer(p), Value::Num(n))
+        | (Binary::Forward(size), Value::Num(n), Value::Pointer(p)) => {
             Ok(pointer_of(forward(store, p, n, size)))
         }
         (Binary::Backward(size), Value::Pointer(p), Value::Num(n)) => {
