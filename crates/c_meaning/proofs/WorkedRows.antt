@@ -50,6 +50,10 @@ pub orders_stand : OrdersStand
 unfolding digits residue wrapped_value exact_result rule_of
 orders_stand = record {
   left_to_right_is = refl;
+  number_first_is = refl;
+  pointer_first_is = refl;
+  number_indexed_is = refl;
+  pointer_indexed_is = refl;
   update_last_is = refl;
   unset_anew_is = refl;
   left_block_is = refl;

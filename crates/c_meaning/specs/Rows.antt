@@ -264,6 +264,22 @@ abbrev pub left_to_right : List Pick → Told
 left_to_right order = told (run (whole [] []
     (func 0 [] (printf_int (op_of ops.Sub (call_of 1 []) (call_of 2 [])) ∷ returns (k 0) ∷ []) ∷ prints_and_gives 1 ∷ prints_and_gives 2 ∷ [])) order)
 
+-- int x[2];int *g(void){printf("%d\n",2);return x;}
+abbrev pub gives_pointer : Func
+gives_pointer = func 0 [] (printf_int (k 2) ∷ returns (decayed int_ty 2 (global 0)) ∷ [])
+
+-- f()+g(), and g()+f(), where f is that function, and g this one
+abbrev pub number_first : Expr
+number_first = of_type int_star (pointer_add (call_of 1 []) (of_type int_star (call 2 no_exprs)))
+
+abbrev pub pointer_first : Expr
+pointer_first = of_type int_star (pointer_add (of_type int_star (call 2 no_exprs)) (call_of 1 []))
+
+-- what is told of main with this statement, which adds what f and g give
+abbrev pub sums : StmtNode → List Pick → Told
+sums s order = told (run (whole (record { ty = array int_ty 2; init = zero_bytes } ∷ []) []
+    (func 0 (in_register int_star ∷ []) (s ∷ returns (k 0) ∷ []) ∷ prints_and_gives 1 ∷ gives_pointer ∷ [])) order)
+
 -- int x=1;int f(void){x=10;return 1;}int main(void){x+=f();return x;}: x is read once f was called
 abbrev pub x0 : Expr
 x0 = of_type int_ty (global 0)
@@ -456,6 +472,11 @@ pub record RulesStand : Type 0 where
 pub record OrdersStand : Type 0 where
   -- f is entered, prints and is left, then g, then main prints and ends
   pub left_to_right_is : left_to_right (turns 0 8) ≡ reached (codes "1\n2\n-1\n") (returned (pos 0) ∷ [])
+  -- the same of a number and a pointer: int *p=f()+g(); int *p=g()+f(); f()[g()]; g()[f()], where the sum is read through
+  pub number_first_is : sums (declare 0 (Some number_first)) (turns 0 7) ≡ reached (codes "1\n2\n") (returned (pos 0) ∷ [])
+  pub pointer_first_is : sums (declare 0 (Some pointer_first)) (turns 0 7) ≡ reached (codes "2\n1\n") (returned (pos 0) ∷ [])
+  pub number_indexed_is : sums (evaluate (at_star number_first)) (turns 0 8) ≡ reached (codes "1\n2\n") (returned (pos 0) ∷ [])
+  pub pointer_indexed_is : sums (evaluate (at_star pointer_first)) (turns 0 8) ≡ reached (codes "2\n1\n") (returned (pos 0) ∷ [])
   -- f is entered, stores and is left; x is read, and stored; it's read; and main ends
   pub update_last_is : update_last (turns 0 7) ≡ reached [] (returned (pos 11) ∷ [])
   pub unset_anew_is : unset_anew (turns 0 2) ≡ broken rules.C4 1
