@@ -4,6 +4,7 @@ ghost use Rattle.block_store.specs.Actions.{World};
 ghost use Rattle.block_store.specs.Runs.{Program, Pick, run, shown};
 ghost use Rattle.c_meaning.specs.Alike.{reached_by, reached_in};
 ghost use Rattle.c_meaning.specs.Rows.{RowsStand, RulesStand, OrdersStand};
+ghost use Rattle.c_meaning.specs.Sound.{ThreadsBeginTyped, TurnsKeepTypes, TurnsGoOn, RunsKeepTypes, RunsGoOn};
 
 /// Small programs mean what C11 says of them, worked out by hand: whole runs, each rule broken once, and what comes first.
 pub fn small_programs_mean_what_they_should()
@@ -16,4 +17,24 @@ pub fn small_programs_mean_what_they_should()
 /// same worlds, and break the same rules after the same turns.
 pub fn shown_turns_tell_the_run<A>()
     ensures { (P : Program A) (w : World) (order : List Pick) → reached_by (run P w order) ≡ reached_in w 0 (shown P w order) }
+{}
+
+/// No value of a well formed program is ever of another type than its expression or its local: threads begin so, and each turn
+/// keeps it, in every world and under every answer.
+pub fn turns_keep_types()
+    ensures begins { ThreadsBeginTyped }
+    ensures turns { TurnsKeepTypes }
+{}
+
+/// A turn of a well formed program never goes wrong: under the answers that fit its action, and under no other, it goes on, ends
+/// its thread, waits or breaks a rule.
+pub fn turns_go_on()
+    ensures { TurnsGoOn }
+{}
+
+/// The same in whole runs: each state that a well formed program reaches is well formed, and no thread that runs stands still but for an
+/// action that waits, for a rule that it breaks, or for an answer that doesn't fit.
+pub fn runs_go_on()
+    ensures types { RunsKeepTypes }
+    ensures turns { RunsGoOn }
 {}
