@@ -54,7 +54,7 @@ under_done t P answers.Plain o p g n = p
 under_done t P answers.Got o p g n = g
 under_done t P answers.None o p g n = n
 
-acted_done : (t : tree.Typed) (P : Option Value → Type 0) (w : World) (thread : ℕ) (answer : Answer) (action : Action)
+pub acted_done : (t : tree.Typed) (P : Option Value → Type 0) (w : World) (thread : ℕ) (answer : Answer) (action : Action)
     → DoneWith t P (outcomes w thread action).plain → DoneWith t P (outcomes w thread action).got → DoneWith t P (outcomes w thread action).none → DoneWith t P (acted w thread answer action)
 acted_done t P w thread answer action p g n =
     noted_done t P (actions.reads_of w action ++ actions.writes_of answer action) (under answer (outcomes w thread action)) (under_done t P answer (outcomes w thread action) p g n)
@@ -63,16 +63,16 @@ acted_done t P w thread answer action p g n =
 abbrev pub IsNoValue : Option Value → Type 0
 IsNoValue v = v ≡ None
 
-changes_done : (t : tree.Typed) (w : World) (r : Result Blocks Rule) → IsTypedWorld t w → DoneWith t IsNoValue (actions.changes w r)
+pub changes_done : (t : tree.Typed) (w : World) (r : Result Blocks Rule) → IsTypedWorld t w → DoneWith t IsNoValue (actions.changes w r)
 changes_done t w (Ok blocks) h = (refl, h)
 changes_done t w (Err rule) h = tt
 
-waits_done : (t : tree.Typed) (w : World) (r : Result (Option Blocks) Rule) → IsTypedWorld t w → DoneWith t IsNoValue (actions.changes_or_waits w r)
+pub waits_done : (t : tree.Typed) (w : World) (r : Result (Option Blocks) Rule) → IsTypedWorld t w → DoneWith t IsNoValue (actions.changes_or_waits w r)
 waits_done t w (Ok (Some blocks)) h = (refl, h)
 waits_done t w (Ok None) h = tt
 waits_done t w (Err rule) h = tt
 
-passes_done : (t : tree.Typed) (w : World) (r : Result (Unit {0}) Rule) → IsTypedWorld t w → DoneWith t IsNoValue (actions.passes w r)
+pub passes_done : (t : tree.Typed) (w : World) (r : Result (Unit {0}) Rule) → IsTypedWorld t w → DoneWith t IsNoValue (actions.passes w r)
 passes_done t w (Ok u) h = (refl, h)
 passes_done t w (Err rule) h = tt
 
@@ -154,7 +154,7 @@ more_threads : (t : tree.Typed) (all : List Thread) (h : Thread) → AllByRecurs
 more_threads t [] h a c = (c, tt)
 more_threads t (x ∷ all) h a c = (a.0, more_threads t all h a.1 c)
 
-starts_done : (t : tree.Typed) (w : World) (function : ℕ) (argument : Ptr) (r : Result Blocks Rule) → CanBegin t function → IsTypedWorld t w → DoneWith t (HasTypeIf (tree.integer int)) (actions.starts w function argument r)
+pub starts_done : (t : tree.Typed) (w : World) (function : ℕ) (argument : Ptr) (r : Result Blocks Rule) → CanBegin t function → IsTypedWorld t w → DoneWith t (HasTypeIf (tree.integer int)) (actions.starts w function argument r)
 starts_done t w function argument (Ok blocks) c h = (refl, more_threads t w.threads (actions.beginning function argument) h c)
 starts_done t w function argument (Err rule) c h = tt
 
@@ -171,14 +171,14 @@ joins_if_done : (t : tree.Typed) (w : World) (thread : ℕ) (to : Ptr) (o : Opti
 joins_if_done t w thread to None h = tt
 joins_if_done t w thread to (Some x) h = joins_at_done t w thread to x.stage h
 
-done_if : (t : tree.Typed) (P : Option Value → Type 0) (b : Bool) (d e : Done) → DoneWith t P d → DoneWith t P e → DoneWith t P (if b then d else e)
+pub done_if : (t : tree.Typed) (P : Option Value → Type 0) (b : Bool) (d e : Done) → DoneWith t P d → DoneWith t P e → DoneWith t P (if b then d else e)
 done_if t P true d e p q = p
 done_if t P false d e p q = q
 
-joined_done : (t : tree.Typed) (w : World) (self thread : ℕ) (to : Ptr) → IsTypedWorld t w → DoneWith t (HasTypeIf (tree.integer int)) (actions.joined_by w self thread to)
+pub joined_done : (t : tree.Typed) (w : World) (self thread : ℕ) (to : Ptr) → IsTypedWorld t w → DoneWith t (HasTypeIf (tree.integer int)) (actions.joined_by w self thread to)
 joined_done t w self thread to h =
     done_if t (HasTypeIf (tree.integer int)) (self == thread) (actions.broke C14) (actions.joins_if w thread to (slice_get w.threads thread)) tt (joins_if_done t w thread to (slice_get w.threads thread) h)
 
-prints_done : (t : tree.Typed) (w : World) (r : Result (List ℕ) Rule) → IsTypedWorld t w → DoneWith t (HasTypeIf (tree.integer int)) (actions.prints w r)
+pub prints_done : (t : tree.Typed) (w : World) (r : Result (List ℕ) Rule) → IsTypedWorld t w → DoneWith t (HasTypeIf (tree.integer int)) (actions.prints w r)
 prints_done t w (Ok all) h = (refl, h)
 prints_done t w (Err rule) h = tt

@@ -1,5 +1,5 @@
-use Rattle.c_meaning.proofs.TypedLocals.{params_scalar}
-use Rattle.c_meaning.proofs.TypedActions.{finish_done}
+use Rattle.c_meaning.proofs.TypedCalls.{lib_does}
+use Rattle.c_meaning.proofs.TypedFits.{end_takes}
 use Rattle.c_meaning.proofs.laws.turns_go_on.Goals as goal
 
 pub returns : goal.returns
