@@ -21,7 +21,7 @@ use Rattle.c_tree.specs.TypedPrinting.{parts}
 use Rattle.c_meaning.specs.Control.{Callee, function, library}
 use Rattle.c_meaning.specs.Library.{numbers_of, pointers_of, free_mutex, action_of, first_of_all, value_of_call}
 use Rattle.c_meaning.specs.Kinds.{HasType, HasTypeIf, IsCalled, Leaves, CanBegin, IsTypedWorld}
-use Rattle.c_meaning.proofs.TypedValues.{fits_type}
+use Rattle.c_meaning.proofs.TypedValues.{fits_type, pointer_scalar}
 use Rattle.c_meaning.proofs.TypedLocals.{at_number, ArgumentsHold, arguments_hold, params_scalar}
 use Rattle.c_meaning.proofs.TypedActions.{DoneWith, acted_done, IsNoValue, changes_done, waits_done, passes_done, done_if, store_done, copy_done, starts_done, joined_done, prints_done}
 
@@ -41,10 +41,6 @@ fits_scalar s t h i = elim h [ ]
 bits_scalar : (bits : ℕ) (ty : tree.Ty) → HasBits bits ty → IsScalar ty
 bits_scalar bits (tree.integer t) h = tt
 bits_scalar bits ty h = elim h [ ]
-
-pub pointer_scalar : (ty : tree.Ty) → IsPointer ty → IsScalar ty
-pointer_scalar (tree.pointer to) h = tt
-pointer_scalar ty h = elim h [ ]
 
 printed_scalar : (pieces : List tree.Piece) (all : tree.Exprs) → ArePrinted pieces all → AreScalar all
 printed_scalar [] tree.no_exprs h = tt

@@ -12,6 +12,8 @@ use Rattle.ak_words.specs.declared.rule.Rule.TheVariants.{C1, C2, C3, C4, C7, C8
 use Rattle.ak_words.specs.IntType.{int, long}
 use Rattle.ak_words.specs.Num.{num}
 use Rattle.ak_words.specs.Op.{exact_result, overflows, is_count, rule_if, rule_of, result_type, outcome, result_of}
+use Rattle.block_store.specs.declared.values.Access.{Access}
+use Rattle.block_store.specs.declared.values.Access.TheVariants as accesses
 use Rattle.block_store.specs.declared.values.Ptr.{Ptr}
 use Rattle.block_store.specs.declared.values.Ptr.TheVariants.{Null, To}
 use Rattle.block_store.specs.declared.values.Value.{Value}
@@ -20,9 +22,10 @@ use Rattle.block_store.specs.Blocks.{Block, Blocks, live}
 use Rattle.block_store.specs.Pointers as pointers
 use Rattle.block_store.specs.Pointers.{within, moved_in, moved_null, moved, indexed, is_usable, both_usable, is_other_than_null, tested, is_same, by_distance, is_below_0, is_0, related, compared, in_elements, difference}
 use Rattle.c_tree.specs.Typed as tree
-use Rattle.c_tree.specs.TypedForm.{IsInteger, IsPointer, IsScalar, Fits, AreOperands, type_of_result, CanUpdate, Converts}
-use Rattle.c_meaning.specs.Values.{Unary, converts, negates, tests, selects, Binary, on_numbers, forward, backward, distance, on_pointers, element_size, int_of, value_of, pointer_of, int_result, long_result, truth_of, opposite, converted, selected, of_one, of_two, operand_types, computed, converted_result, updated}
-use Rattle.c_meaning.specs.Kinds.{HasType, IsPointerValue, TakesOne, IsPointerAndNumber, TakesTwo}
+use Rattle.c_tree.specs.TypedForm as type
+use Rattle.c_tree.specs.TypedForm.{IsInteger, IsScalar, Fits, PointsToSized, MovesPointer, AreOperands, type_of_result, CanUpdate, Converts}
+use Rattle.c_meaning.specs.Values.{Unary, converts, negates, tests, selects, Binary, on_numbers, forward, backward, distance, on_pointers, access_of_type, element_size, int_of, value_of, pointer_of, int_result, long_result, truth_of, opposite, converted, selected, of_one, of_two, operand_types, computed, converted_result, updated}
+use Rattle.c_meaning.specs.Kinds.{HasType, IsPointer, HasKind, TakesOne, TakesTwo}
 use Rattle.c_meaning.specs.Sound.{IsNotC16}
 
 -- ---- rules
@@ -60,49 +63,59 @@ ok_if : {V : Type 0} (P : V → Type 0) (b : Bool) (r : Result V Rule) (rule : R
 ok_if P true r rule p n = p
 ok_if P false r rule p n = n
 
--- ---- values of a type
+-- ---- values of a kind
 
-pub data Kind : tree.Ty → Value → Type 0 where
-  a_number : (t : IntType) (n : Num) → n.ty ≡ t → Kind (tree.integer t) (values.Num n)
-  a_pointer : (to : tree.Ty) (p : Ptr) → Kind (tree.pointer to) (values.Pointer p)
+pub data Kind : Access → Value → Type 0 where
+  a_number : (t : IntType) (n : Num) → n.ty ≡ t → Kind (accesses.Number t) (values.Num n)
+  a_pointer : (p : Ptr) → Kind accesses.Pointer (values.Pointer p)
 
-pub kind_of : (ty : tree.Ty) (v : Value) → HasType ty v → Kind ty v
-kind_of (tree.integer t) (values.Num n) h = a_number t n h
-kind_of (tree.pointer to) (values.Pointer p) h = a_pointer to p
-kind_of ty v h = elim h [ ]
+pub kind_of : (how : Access) (v : Value) → HasKind how v → Kind how v
+kind_of (accesses.Number t) (values.Num n) h = a_number t n h
+kind_of accesses.Pointer (values.Pointer p) h = a_pointer p
+kind_of how v h = elim h [ ]
 
-is_pointer : (ty : tree.Ty) (v : Value) → Kind ty v → IsPointer ty → IsPointerValue v
-is_pointer _ _ (a_number t n e) h = elim h [ ]
-is_pointer _ _ (a_pointer to p) h = tt
+pointer_there : (v : Value) → HasKind accesses.Pointer v → IsPointer v
+pointer_there (values.Num n) h = h
+pointer_there (values.Pointer p) h = h
 
-pub pointer_value : (ty : tree.Ty) (v : Value) → IsPointer ty → HasType ty v → IsPointerValue v
-pointer_value ty v h t = is_pointer ty v (kind_of ty v t) h
+pub pointer_kind : (how : Access) (v : Value) → how ≡ accesses.Pointer → HasKind how v → IsPointer v
+pointer_kind how v e h = let P : Access → Type 0 = λ a. HasKind a v in pointer_there v (subst P e h)
 
-pub pointer_type : (ty : tree.Ty) (v : Value) → IsPointer ty → IsPointerValue v → HasType ty v
-pointer_type (tree.pointer to) (values.Pointer p) h i = tt
-pointer_type (tree.pointer to) (values.Num n) h i = elim i [ ]
-pointer_type ty v h i = elim h [ ]
+number_there : (t : IntType) (v : Value) → HasKind (accesses.Number t) v → HasType (tree.integer t) v
+number_there t (values.Num n) h = h
+number_there t (values.Pointer p) h = h
+
+pointer_typed : (to : tree.Ty) (v : Value) → HasKind accesses.Pointer v → HasType (tree.pointer to) v
+pointer_typed to (values.Num n) h = h
+pointer_typed to (values.Pointer p) h = h
+
+pub kind_type : (ty : tree.Ty) (v : Value) → IsScalar ty → HasKind (access_of_type ty) v → HasType ty v
+kind_type (tree.integer t) v s h = number_there t v h
+kind_type (tree.pointer to) v s h = pointer_typed to v h
+kind_type ty v s h = elim s [ ]
+
+pub type_kind : (ty : tree.Ty) (v : Value) → HasType ty v → HasKind (access_of_type ty) v
+type_kind (tree.integer t) (values.Num n) h = h
+type_kind (tree.pointer to) (values.Pointer p) h = h
+type_kind ty v h = elim h [ ]
 
 -- a value that fits where another type is wanted has that type too
-fitting : (s t : tree.Ty) (v : Value) → Kind s v → Fits s t → HasType t v
-fitting _ (tree.integer t) _ (a_number s n e) f = subst (λ (u : IntType). n.ty ≡ u) f e
-fitting _ (tree.pointer to) _ (a_pointer from p) f = tt
-fitting _ t _ (a_number s n e) f = elim f [ ]
-fitting _ t _ (a_pointer from p) f = elim f [ ]
+pub fits_kind : (s t : tree.Ty) → Fits s t → access_of_type s ≡ access_of_type t
+fits_kind (tree.integer s) (tree.integer t) f = ap accesses.Number f
+fits_kind (tree.pointer s) (tree.pointer t) f = refl
+fits_kind (tree.structure m) (tree.structure n) f = refl
+fits_kind s t f = elim f [ ]
 
 pub fits_type : (s t : tree.Ty) (v : Value) → Fits s t → HasType s v → HasType t v
-fits_type s t v f h = fitting s t v (kind_of s v h) f
+fits_type (tree.integer s) (tree.integer t) (values.Num n) f h = subst (λ (u : IntType). n.ty ≡ u) f h
+fits_type (tree.pointer s) (tree.pointer t) (values.Pointer p) f h = tt
+fits_type (tree.structure m) (tree.structure n) v f h = elim h [ ]
+fits_type (tree.integer s) (tree.integer t) v f h = elim h [ ]
+fits_type (tree.pointer s) (tree.pointer t) v f h = elim h [ ]
+fits_type s t v f h = elim f [ ]
 
--- a value's type is scalar
-scalar_kind : (ty : tree.Ty) (v : Value) → Kind ty v → IsScalar ty
-scalar_kind _ _ (a_number t n e) = tt
-scalar_kind _ _ (a_pointer to p) = tt
-
-pub value_scalar : (ty : tree.Ty) (v : Value) → HasType ty v → IsScalar ty
-value_scalar ty v h = scalar_kind ty v (kind_of ty v h)
-
-pub int_typed : (ty : tree.Ty) (b : Bool) → ty ≡ tree.integer int → HasType ty (int_of b)
-int_typed ty b e = subst (λ z. HasType z (int_of b)) (sym e) refl
+pub int_kind : (how : Access) (b : Bool) → how ≡ accesses.Number int → HasKind how (int_of b)
+int_kind how b e = subst (λ a. HasKind a (int_of b)) (sym e) refl
 
 -- ---- numbers
 
@@ -114,27 +127,27 @@ rule_if_ok : (rule : Rule) (b : Bool) → IsNotC16 rule → RuleOk (rule_if rule
 rule_if_ok rule true n = n
 rule_if_ok rule false n = tt
 
-two_ok : (b c : Bool) → RuleOk (if b then Some C2 else rule_if C1 c)
-two_ok true c = not_c2
-two_ok false c = rule_if_ok C1 c not_c1
+divides_ok : (b c : Bool) → RuleOk (if b then Some C2 else rule_if C1 c)
+divides_ok true c = not_c2
+divides_ok false c = rule_if_ok C1 c not_c1
 
 rule_of_ok : (op : Op) (t : IntType) (x y : ℤ) → RuleOk (rule_of op t x y)
 unfolding rule_of
 rule_of_ok ops.Add t x y = rule_if_ok C1 _ not_c1
 rule_of_ok ops.Sub t x y = rule_if_ok C1 _ not_c1
 rule_of_ok ops.Mul t x y = rule_if_ok C1 _ not_c1
-rule_of_ok ops.Div t x y = two_ok _ _
-rule_of_ok ops.Rem t x y = two_ok _ _
+rule_of_ok ops.Div t x y = divides_ok _ _
+rule_of_ok ops.Rem t x y = divides_ok _ _
 rule_of_ok ops.Shl t x y = rule_if_ok C3 _ not_c3
 rule_of_ok ops.Shr t x y = rule_if_ok C3 _ not_c3
 rule_of_ok op t x y = tt
 
-outcome_ok : (o : Option Rule) (n : Num) (ty : tree.Ty) → RuleOk o → HasType ty (values.Num n) → OkWith (HasType ty) (value_of (outcome o n))
-outcome_ok None n ty r h = h
-outcome_ok (Some rule) n ty r h = r
+outcome_ok : (o : Option Rule) (n : Num) (how : Access) → RuleOk o → HasKind how (values.Num n) → OkWith (HasKind how) (value_of (outcome o n))
+outcome_ok None n how r h = h
+outcome_ok (Some rule) n how r h = r
 
-result_ok : (op : Op) (a b : Num) → OkWith (HasType (tree.integer (result_type op a.ty))) (value_of (result_of op a b))
-result_ok op a b = outcome_ok (rule_of op a.ty a.value b.value) (num (result_type op a.ty) (exact_result op a.ty a.value b.value)) (tree.integer (result_type op a.ty)) (rule_of_ok op a.ty a.value b.value) refl
+result_ok : (op : Op) (a b : Num) → OkWith (HasKind (accesses.Number (result_type op a.ty))) (value_of (result_of op a b))
+result_ok op a b = outcome_ok (rule_of op a.ty a.value b.value) (num (result_type op a.ty) (exact_result op a.ty a.value b.value)) (accesses.Number (result_type op a.ty)) (rule_of_ok op a.ty a.value b.value) refl
 
 -- ---- pointers
 
@@ -154,12 +167,12 @@ moved_ok blocks Null (pos n) = ok_if Any (n == 0) (Ok Null) C7 tt not_c7
 moved_ok blocks Null (negsuc n) = not_c7
 moved_ok blocks (To name offset) by = moved_in_ok name offset by (live blocks name)
 
-pointed_ok : (r : Result Ptr Rule) (to : tree.Ty) → OkWith Any r → OkWith (HasType (tree.pointer to)) (pointer_of r)
-pointed_ok (Ok p) to h = tt
-pointed_ok (Err rule) to h = h
+pointed_ok : (r : Result Ptr Rule) → OkWith Any r → OkWith (HasKind accesses.Pointer) (pointer_of r)
+pointed_ok (Ok p) h = tt
+pointed_ok (Err rule) h = h
 
-indexed_ok : (blocks : Blocks) (p : Ptr) (z : ℤ) (size : ℕ) (to : tree.Ty) → OkWith (HasType (tree.pointer to)) (pointer_of (indexed blocks p z size))
-indexed_ok blocks p z size to = pointed_ok (indexed blocks p z size) to (moved_ok blocks p (z *ℤ pos size))
+indexed_ok : (blocks : Blocks) (p : Ptr) (z : ℤ) (size : ℕ) → OkWith (HasKind accesses.Pointer) (pointer_of (indexed blocks p z size))
+indexed_ok blocks p z size = pointed_ok (indexed blocks p z size) (moved_ok blocks p (z *ℤ pos size))
 
 tested_ok : (blocks : Blocks) (p : Ptr) → OkWith Any (tested blocks p)
 tested_ok blocks p = ok_if Any (is_usable blocks p) (Ok (is_other_than_null p)) C9 tt not_c9
@@ -193,13 +206,13 @@ in_elements_ok size (Ok z) h = ok_if Any (is_0 (int_rem_euclid z (pos size))) (O
 difference_ok : (blocks : Blocks) (p q : Ptr) (size : ℕ) → OkWith Any (difference blocks p q size)
 difference_ok blocks p q size = ok_if Any (is_usable blocks p && is_usable blocks q) (in_elements size (pointers.distance p q)) C9 (in_elements_ok size (pointers.distance p q) (apart_ok p q)) not_c9
 
-int_ok : (r : Result Bool Rule) (ty : tree.Ty) → ty ≡ tree.integer int → OkWith Any r → OkWith (HasType ty) (int_result r)
-int_ok (Ok b) ty e h = int_typed ty b e
-int_ok (Err rule) ty e h = h
+int_ok : (r : Result Bool Rule) (how : Access) → how ≡ accesses.Number int → OkWith Any r → OkWith (HasKind how) (int_result r)
+int_ok (Ok b) how e h = int_kind how b e
+int_ok (Err rule) how e h = h
 
-long_ok : (r : Result ℤ Rule) (ty : tree.Ty) → ty ≡ tree.integer long → OkWith Any r → OkWith (HasType ty) (long_result r)
-long_ok (Ok z) ty e h = subst (λ u. HasType u (values.Num (num long z))) (sym e) refl
-long_ok (Err rule) ty e h = h
+long_ok : (r : Result ℤ Rule) (how : Access) → how ≡ accesses.Number long → OkWith Any r → OkWith (HasKind how) (long_result r)
+long_ok (Ok z) how e h = subst (λ a. HasKind a (values.Num (num long z))) (sym e) refl
+long_ok (Err rule) how e h = h
 
 -- ---- operations on one value
 
@@ -211,26 +224,83 @@ opposite_ok : (r : Result Bool Rule) → OkWith Any r → OkWith Any (opposite r
 opposite_ok (Ok b) h = tt
 opposite_ok (Err rule) h = h
 
-converted_kind : (s t : tree.Ty) (v : Value) → Kind s v → Converts s t → IsScalar t → HasType t (converted t v)
-converted_kind _ (tree.integer t) _ (a_number s n e) c h = refl
-converted_kind _ (tree.pointer to) _ (a_pointer from p) c h = tt
-converted_kind _ tree.void _ k c h = elim h [ ]
-converted_kind _ t _ (a_number s n e) c h = elim c [ ]
-converted_kind _ t _ (a_pointer from p) c h = elim c [ ]
+of_kind : (how to : Access) (r : Result Value Rule) → to ≡ how → OkWith (HasKind how) r → OkWith (HasKind to) r
+of_kind how to r e h = let P : Access → Type 0 = λ a. OkWith (HasKind a) r in subst P (sym e) h
 
-selected_kind : (blocks : Blocks) (offset : ℕ) (s t : tree.Ty) (v : Value) → Kind s v → IsPointer s → IsPointer t → OkWith (HasType t) (selected blocks offset v)
-selected_kind blocks offset _ t _ (a_number s n e) h i = elim h [ ]
-selected_kind blocks offset _ (tree.pointer to) _ (a_pointer from p) h i = pointed_ok (moved blocks p (pos offset)) to (moved_ok blocks p (pos offset))
-selected_kind blocks offset _ t _ (a_pointer from p) h i = elim i [ ]
+converted_ok : (blocks : Blocks) (ty : tree.Ty) (from to : Access) (v : Value) → Kind from v → TakesOne (converts ty) from to → OkWith (HasKind to) (of_one blocks (converts ty) v)
+converted_ok blocks (tree.integer t) _ to _ (a_number s n e) h = of_kind (accesses.Number t) to (Ok (values.Num (num t n.value))) h refl
+converted_ok blocks (tree.integer t) _ to _ (a_pointer p) h = elim h [ ]
+converted_ok blocks (tree.pointer ty) _ to _ (a_number s n e) h = elim h [ ]
+converted_ok blocks (tree.pointer ty) _ to _ (a_pointer p) h = of_kind accesses.Pointer to (Ok (values.Pointer p)) h tt
+converted_ok blocks ty from to v k h = elim h [ ]
 
--- an operation on a value of the type that it takes
-pub of_one_ok : (blocks : Blocks) (op : Unary) (s t : tree.Ty) (v : Value) → TakesOne op s t → HasType s v → OkWith (HasType t) (of_one blocks op v)
-of_one_ok blocks (converts ty) s t v h i = subst (λ z. HasType t (converted z v)) (sym h.2) (converted_kind s t v (kind_of s v i) h.0 h.1)
-of_one_ok blocks negates s t v h i = int_ok (opposite (truth_of blocks v)) t h.1 (opposite_ok (truth_of blocks v) (truth_ok blocks v))
-of_one_ok blocks tests s t v h i = int_ok (truth_of blocks v) t h.1 (truth_ok blocks v)
-of_one_ok blocks (selects offset) s t v h i = selected_kind blocks offset s t v (kind_of s v i) h.0 h.1
+selected_ok : (blocks : Blocks) (offset : ℕ) (from to : Access) (v : Value) → Kind from v → TakesOne (selects offset) from to → OkWith (HasKind to) (selected blocks offset v)
+selected_ok blocks offset _ to _ (a_number s n e) h = elim h [ ]
+selected_ok blocks offset _ to _ (a_pointer p) h = of_kind accesses.Pointer to (pointer_of (moved blocks p (pos offset))) h (pointed_ok (moved blocks p (pos offset)) (moved_ok blocks p (pos offset)))
+
+-- an operation on a value of the kind that it takes
+pub of_one_ok : (blocks : Blocks) (op : Unary) (from to : Access) (v : Value) → TakesOne op from to → HasKind from v → OkWith (HasKind to) (of_one blocks op v)
+of_one_ok blocks (converts ty) from to v h i = converted_ok blocks ty from to v (kind_of from v i) h
+of_one_ok blocks negates from to v h i = int_ok (opposite (truth_of blocks v)) to h (opposite_ok (truth_of blocks v) (truth_ok blocks v))
+of_one_ok blocks tests from to v h i = int_ok (truth_of blocks v) to h (truth_ok blocks v)
+of_one_ok blocks (selects offset) from to v h i = selected_ok blocks offset from to v (kind_of from v i) h
 
 -- ---- operations on two values
+
+two_ok : (blocks : Blocks) (op : Binary) (left right to : Access) (v w : Value) → Kind left v → Kind right w → TakesTwo op left right to → OkWith (HasKind to) (of_two blocks op v w)
+two_ok blocks (on_numbers op) _ _ to _ _ (a_number s n e) (a_number t m f) h =
+    of_kind (accesses.Number (result_type op n.ty)) to (value_of (result_of op n m)) (h.1 ∙ ap (λ u. accesses.Number (result_type op u)) (sym e)) (result_ok op n m)
+two_ok blocks (on_numbers op) _ _ to _ _ (a_number s n e) (a_pointer q) h = elim h [ ]
+two_ok blocks (on_numbers op) _ _ to _ _ (a_pointer p) (a_number t m f) h = elim h [ ]
+two_ok blocks (on_numbers op) _ _ to _ _ (a_pointer p) (a_pointer q) h = elim h [ ]
+two_ok blocks (forward size) _ _ to _ _ (a_number s n e) (a_number t m f) h = elim h [ ]
+two_ok blocks (forward size) _ _ to _ _ (a_number s n e) (a_pointer q) h = of_kind accesses.Pointer to (pointer_of (indexed blocks q n.value size)) h (indexed_ok blocks q n.value size)
+two_ok blocks (forward size) _ _ to _ _ (a_pointer p) (a_number t m f) h = of_kind accesses.Pointer to (pointer_of (indexed blocks p m.value size)) h (indexed_ok blocks p m.value size)
+two_ok blocks (forward size) _ _ to _ _ (a_pointer p) (a_pointer q) h = elim h [ ]
+two_ok blocks (backward size) _ _ to _ _ (a_number s n e) (a_number t m f) h = elim h [ ]
+two_ok blocks (backward size) _ _ to _ _ (a_number s n e) (a_pointer q) h = elim h [ ]
+two_ok blocks (backward size) _ _ to _ _ (a_pointer p) (a_number t m f) h = of_kind accesses.Pointer to (pointer_of (indexed blocks p (neg_ℤ m.value) size)) h (indexed_ok blocks p (neg_ℤ m.value) size)
+two_ok blocks (backward size) _ _ to _ _ (a_pointer p) (a_pointer q) h = elim h [ ]
+two_ok blocks (distance size) _ _ to _ _ (a_number s n e) (a_number t m f) h = elim h [ ]
+two_ok blocks (distance size) _ _ to _ _ (a_number s n e) (a_pointer q) h = elim h [ ]
+two_ok blocks (distance size) _ _ to _ _ (a_pointer p) (a_number t m f) h = elim h [ ]
+two_ok blocks (distance size) _ _ to _ _ (a_pointer p) (a_pointer q) h = long_ok (difference blocks p q size) to h (difference_ok blocks p q size)
+two_ok blocks (on_pointers op) _ _ to _ _ (a_number s n e) (a_number t m f) h = elim h [ ]
+two_ok blocks (on_pointers op) _ _ to _ _ (a_number s n e) (a_pointer q) h = elim h [ ]
+two_ok blocks (on_pointers op) _ _ to _ _ (a_pointer p) (a_number t m f) h = elim h [ ]
+two_ok blocks (on_pointers op) _ _ to _ _ (a_pointer p) (a_pointer q) h = int_ok (compared blocks op p q) to h (compared_ok blocks op p q)
+
+-- an operation on two values of the kinds that it takes
+pub of_two_ok : (blocks : Blocks) (op : Binary) (left right to : Access) (v w : Value) → TakesTwo op left right to → HasKind left v → HasKind right w → OkWith (HasKind to) (of_two blocks op v w)
+of_two_ok blocks op left right to v w h i j = two_ok blocks op left right to v w (kind_of left v i) (kind_of right w j) h
+
+-- ---- compound assignment
+
+stored_number : (r : Result Value Rule) (s t : IntType) → OkWith (HasKind (accesses.Number s)) r → OkWith (HasKind (accesses.Number t)) (converted_result (tree.integer t) r)
+stored_number (Ok (values.Num n)) s t h = refl
+stored_number (Ok (values.Pointer p)) s t h = elim h [ ]
+stored_number (Err rule) s t h = h
+
+moves_pointer : (structs : List tree.Layout) (blocks : Blocks) (to : tree.Ty) (op : Op) (p : Ptr) (n : Num) → (op ≡ ops.Add) ⊎ (op ≡ ops.Sub) → OkWith (HasKind accesses.Pointer) (updated structs blocks (tree.pointer to) op (values.Pointer p) (values.Num n))
+moves_pointer structs blocks to op p n (inl e) =
+    subst (λ z. OkWith (HasKind accesses.Pointer) (updated structs blocks (tree.pointer to) z (values.Pointer p) (values.Num n))) (sym e) (indexed_ok blocks p n.value (element_size structs (tree.pointer to)))
+moves_pointer structs blocks to op p n (inr e) =
+    subst (λ z. OkWith (HasKind accesses.Pointer) (updated structs blocks (tree.pointer to) z (values.Pointer p) (values.Num n))) (sym e) (indexed_ok blocks p (neg_ℤ n.value) (element_size structs (tree.pointer to)))
+
+-- a compound assignment of values of the types that it takes
+pub updated_ok : (structs : List tree.Layout) (blocks : Blocks) (op : Op) (s t : tree.Ty) (v w : Value) → CanUpdate structs op s t → HasKind (access_of_type s) v → HasKind (access_of_type t) w
+    → OkWith (HasKind (access_of_type s)) (updated structs blocks s op v w)
+updated_ok structs blocks op (tree.integer s) (tree.integer t) (values.Num n) (values.Num m) h i j =
+    let types = operand_types op n.ty m.ty in
+    stored_number (computed op types n m) (result_type op types.0) s (result_ok op (num types.0 n.value) (num types.1 m.value))
+updated_ok structs blocks op (tree.integer s) (tree.integer t) (values.Num n) (values.Pointer q) h i j = elim j [ ]
+updated_ok structs blocks op (tree.integer s) (tree.integer t) (values.Pointer p) w h i j = elim i [ ]
+updated_ok structs blocks op (tree.pointer to) (tree.integer t) (values.Pointer p) (values.Num m) h i j = moves_pointer structs blocks to op p m h.0
+updated_ok structs blocks op (tree.pointer to) (tree.integer t) (values.Pointer p) (values.Pointer q) h i j = elim j [ ]
+updated_ok structs blocks op (tree.pointer to) (tree.integer t) (values.Num n) w h i j = elim i [ ]
+updated_ok structs blocks op s t v w h i j = elim h [ ]
+
+-- ---- what well formed expressions say of kinds
 
 pub number_operands : (op : Op) (a b : tree.Ty) → AreOperands op a b → IsInteger a × IsInteger b
 number_operands ops.Shl (tree.integer s) (tree.integer u) h = (tt, tt)
@@ -238,63 +308,68 @@ number_operands ops.Shr (tree.integer s) (tree.integer u) h = (tt, tt)
 number_operands op (tree.integer s) (tree.integer u) h = (tt, tt)
 number_operands op a b h = elim h [ ]
 
-numbers_kind : (op : Op) (a b ty : tree.Ty) (blocks : Blocks) (v w : Value) → Kind a v → Kind b w → IsInteger a → IsInteger b → ty ≡ type_of_result op a → OkWith (HasType ty) (of_two blocks (on_numbers op) v w)
-numbers_kind op _ _ ty blocks _ _ (a_number s n e) (a_number t m f) i j r =
-    subst (λ z. OkWith (HasType z) (value_of (result_of op n m))) (sym (r ∙ ap (λ u. tree.integer (result_type op u)) (sym e))) (result_ok op n m)
-numbers_kind op _ _ ty blocks _ _ (a_number s n e) (a_pointer to p) i j r = elim j [ ]
-numbers_kind op _ _ ty blocks _ _ (a_pointer to p) l i j r = elim i [ ]
+numbers_taken : (op : Op) (a b : tree.Ty) (to : Access) → IsInteger a → IsInteger b → AreOperands op a b → to ≡ access_of_type (type_of_result op a) → TakesTwo (on_numbers op) (access_of_type a) (access_of_type b) to
+numbers_taken op (tree.integer s) (tree.integer t) to i j h e = (h, e)
+numbers_taken op (tree.integer s) b to i j h e = elim j [ ]
+numbers_taken op a b to i j h e = elim i [ ]
 
-forward_kind : (size : ℕ) (a b ty : tree.Ty) (blocks : Blocks) (v w : Value) → Kind a v → Kind b w → IsPointerAndNumber a b ty → OkWith (HasType ty) (of_two blocks (forward size) v w)
-forward_kind size _ _ ty blocks _ _ (a_number s n e) (a_number t m f) h = elim h [ ]
-forward_kind size _ _ ty blocks _ _ (a_number s n e) (a_pointer to p) h = subst (λ z. OkWith (HasType z) (pointer_of (indexed blocks p n.value size))) (sym h) (indexed_ok blocks p n.value size to)
-forward_kind size _ _ ty blocks _ _ (a_pointer to p) (a_number t m f) h = subst (λ z. OkWith (HasType z) (pointer_of (indexed blocks p m.value size))) (sym h) (indexed_ok blocks p m.value size to)
-forward_kind size _ _ ty blocks _ _ (a_pointer to p) (a_pointer from q) h = elim h [ ]
+pub on_numbers_taken : (op : Op) (a b ty : tree.Ty) → AreOperands op a b → ty ≡ type_of_result op a → TakesTwo (on_numbers op) (access_of_type a) (access_of_type b) (access_of_type ty)
+on_numbers_taken op a b ty h e = let n = number_operands op a b h in numbers_taken op a b (access_of_type ty) n.0 n.1 h (ap access_of_type e)
 
-backward_kind : (size : ℕ) (a b ty : tree.Ty) (blocks : Blocks) (v w : Value) → Kind a v → Kind b w → IsPointer a → IsInteger b → ty ≡ a → OkWith (HasType ty) (of_two blocks (backward size) v w)
-backward_kind size _ _ ty blocks _ _ (a_number s n e) l i j r = elim i [ ]
-backward_kind size _ _ ty blocks _ _ (a_pointer to p) (a_number t m f) i j r = subst (λ z. OkWith (HasType z) (pointer_of (indexed blocks p (neg_ℤ m.value) size))) (sym r) (indexed_ok blocks p (neg_ℤ m.value) size to)
-backward_kind size _ _ ty blocks _ _ (a_pointer to p) (a_pointer from q) i j r = elim j [ ]
+pub forward_taken : (structs : List tree.Layout) (size : ℕ) (a b ty : tree.Ty) → MovesPointer structs a b ty → TakesTwo (forward size) (access_of_type a) (access_of_type b) (access_of_type ty)
+forward_taken structs size (tree.pointer s) (tree.integer t) ty h = ap access_of_type h.1
+forward_taken structs size (tree.integer t) (tree.pointer s) ty h = ap access_of_type h.1
+forward_taken structs size a b ty h = elim h [ ]
 
-distance_kind : (size : ℕ) (a b ty : tree.Ty) (blocks : Blocks) (v w : Value) → Kind a v → Kind b w → IsPointer a → IsPointer b → ty ≡ tree.integer long → OkWith (HasType ty) (of_two blocks (distance size) v w)
-distance_kind size _ _ ty blocks _ _ (a_number s n e) l i j r = elim i [ ]
-distance_kind size _ _ ty blocks _ _ (a_pointer to p) (a_number t m f) i j r = elim j [ ]
-distance_kind size _ _ ty blocks _ _ (a_pointer to p) (a_pointer from q) i j r = long_ok (difference blocks p q size) ty r (difference_ok blocks p q size)
+pub backward_taken : (structs : List tree.Layout) (size : ℕ) (a b ty : tree.Ty) → PointsToSized structs a → IsInteger b → ty ≡ a → TakesTwo (backward size) (access_of_type a) (access_of_type b) (access_of_type ty)
+backward_taken structs size (tree.pointer s) (tree.integer t) ty h i e = ap access_of_type e
+backward_taken structs size (tree.pointer s) b ty h i e = elim i [ ]
+backward_taken structs size a b ty h i e = elim h [ ]
 
-compared_kind : (op : Op) (a b ty : tree.Ty) (blocks : Blocks) (v w : Value) → Kind a v → Kind b w → IsPointer a → IsPointer b → ty ≡ tree.integer int → OkWith (HasType ty) (of_two blocks (on_pointers op) v w)
-compared_kind op _ _ ty blocks _ _ (a_number s n e) l i j r = elim i [ ]
-compared_kind op _ _ ty blocks _ _ (a_pointer to p) (a_number t m f) i j r = elim j [ ]
-compared_kind op _ _ ty blocks _ _ (a_pointer to p) (a_pointer from q) i j r = int_ok (compared blocks op p q) ty r (compared_ok blocks op p q)
+pub distance_taken : (structs : List tree.Layout) (size : ℕ) (a b ty : tree.Ty) → PointsToSized structs a → type.IsPointer b → ty ≡ tree.integer long → TakesTwo (distance size) (access_of_type a) (access_of_type b) (access_of_type ty)
+distance_taken structs size (tree.pointer s) (tree.pointer t) ty h i e = ap access_of_type e
+distance_taken structs size (tree.pointer s) b ty h i e = elim i [ ]
+distance_taken structs size a b ty h i e = elim h [ ]
 
--- an operation on two values of the types that it takes
-pub of_two_ok : (blocks : Blocks) (op : Binary) (a b ty : tree.Ty) (v w : Value) → TakesTwo op a b ty → HasType a v → HasType b w → OkWith (HasType ty) (of_two blocks op v w)
-of_two_ok blocks (on_numbers op) a b ty v w h i j =
-    let n = number_operands op a b h.0 in
-    numbers_kind op a b ty blocks v w (kind_of a v i) (kind_of b w j) n.0 n.1 h.1
-of_two_ok blocks (forward size) a b ty v w h i j = forward_kind size a b ty blocks v w (kind_of a v i) (kind_of b w j) h
-of_two_ok blocks (backward size) a b ty v w h i j = backward_kind size a b ty blocks v w (kind_of a v i) (kind_of b w j) h.0 h.1 h.2
-of_two_ok blocks (distance size) a b ty v w h i j = distance_kind size a b ty blocks v w (kind_of a v i) (kind_of b w j) h.0 h.1 h.2
-of_two_ok blocks (on_pointers op) a b ty v w h i j = compared_kind op a b ty blocks v w (kind_of a v i) (kind_of b w j) h.0 h.1 h.2
+pub on_pointers_taken : (op : Op) (a b ty : tree.Ty) → type.IsPointer a → type.IsPointer b → ty ≡ tree.integer int → TakesTwo (on_pointers op) (access_of_type a) (access_of_type b) (access_of_type ty)
+on_pointers_taken op (tree.pointer s) (tree.pointer t) ty h i e = ap access_of_type e
+on_pointers_taken op (tree.pointer s) b ty h i e = elim i [ ]
+on_pointers_taken op a b ty h i e = elim h [ ]
 
--- ---- compound assignment
+pub converts_taken : (s ty : tree.Ty) → Converts s ty → IsScalar ty → TakesOne (converts ty) (access_of_type s) (access_of_type ty)
+converts_taken (tree.integer s) (tree.integer t) h i = refl
+converts_taken (tree.pointer s) (tree.pointer t) h i = refl
+converts_taken s tree.void h i = elim i [ ]
+converts_taken s t h i = elim h [ ]
 
-converted_ok : (r : Result Value Rule) (s t : tree.Ty) → OkWith (HasType s) r → Converts s t → IsScalar t → OkWith (HasType t) (converted_result t r)
-converted_ok (Ok v) s t h c i = converted_kind s t v (kind_of s v h) c i
-converted_ok (Err rule) s t h c i = h
+pub converts_scalar : (s ty : tree.Ty) → Converts s ty → IsScalar ty → IsScalar s
+converts_scalar (tree.integer s) (tree.integer t) h i = tt
+converts_scalar (tree.pointer s) (tree.pointer t) h i = tt
+converts_scalar s tree.void h i = elim i [ ]
+converts_scalar s t h i = elim h [ ]
 
-moves_pointer : (structs : List tree.Layout) (blocks : Blocks) (to : tree.Ty) (op : Op) (p : Ptr) (n : Num) → (op ≡ ops.Add) ⊎ (op ≡ ops.Sub) → OkWith (HasType (tree.pointer to)) (updated structs blocks (tree.pointer to) op (values.Pointer p) (values.Num n))
-moves_pointer structs blocks to op p n (inl e) =
-    subst (λ z. OkWith (HasType (tree.pointer to)) (updated structs blocks (tree.pointer to) z (values.Pointer p) (values.Num n))) (sym e) (indexed_ok blocks p n.value (element_size structs (tree.pointer to)) to)
-moves_pointer structs blocks to op p n (inr e) =
-    subst (λ z. OkWith (HasType (tree.pointer to)) (updated structs blocks (tree.pointer to) z (values.Pointer p) (values.Num n))) (sym e) (indexed_ok blocks p (neg_ℤ n.value) (element_size structs (tree.pointer to)) to)
+pub updates_scalar : (structs : List tree.Layout) (op : Op) (s t : tree.Ty) → CanUpdate structs op s t → IsScalar s × IsScalar t
+updates_scalar structs op (tree.integer s) (tree.integer t) h = (tt, tt)
+updates_scalar structs op (tree.pointer s) (tree.integer t) h = (tt, tt)
+updates_scalar structs op s t h = elim h [ ]
 
-updated_kind : (structs : List tree.Layout) (blocks : Blocks) (op : Op) (s t : tree.Ty) (v w : Value) → Kind s v → Kind t w → CanUpdate structs op s t → OkWith (HasType s) (updated structs blocks s op v w)
-updated_kind structs blocks op _ _ _ _ (a_number s n e) (a_number t m f) h =
-    let types = operand_types op n.ty m.ty in
-    converted_ok (computed op types n m) (tree.integer (result_type op types.0)) (tree.integer s) (result_ok op (num types.0 n.value) (num types.1 m.value)) tt tt
-updated_kind structs blocks op _ _ _ _ (a_number s n e) (a_pointer to p) h = elim h [ ]
-updated_kind structs blocks op _ _ _ _ (a_pointer to p) (a_number t m f) h = moves_pointer structs blocks to op p m h.0
-updated_kind structs blocks op _ _ _ _ (a_pointer to p) (a_pointer from q) h = elim h [ ]
+pub integer_scalar : (ty : tree.Ty) → IsInteger ty → IsScalar ty
+integer_scalar (tree.integer t) h = tt
+integer_scalar ty h = elim h [ ]
 
--- a compound assignment of values of the types that it takes
-pub updated_ok : (structs : List tree.Layout) (blocks : Blocks) (op : Op) (s t : tree.Ty) (v w : Value) → CanUpdate structs op s t → HasType s v → HasType t w → OkWith (HasType s) (updated structs blocks s op v w)
-updated_ok structs blocks op s t v w h i j = updated_kind structs blocks op s t v w (kind_of s v i) (kind_of t w j) h
+pub pointer_scalar : (ty : tree.Ty) → type.IsPointer ty → IsScalar ty
+pointer_scalar (tree.pointer to) h = tt
+pointer_scalar ty h = elim h [ ]
+
+pub pointer_access : (ty : tree.Ty) → type.IsPointer ty → access_of_type ty ≡ accesses.Pointer
+pointer_access (tree.pointer to) h = refl
+pointer_access ty h = elim h [ ]
+
+pub sized_pointer : (structs : List tree.Layout) (ty : tree.Ty) → PointsToSized structs ty → type.IsPointer ty
+sized_pointer structs (tree.pointer to) h = tt
+sized_pointer structs ty h = elim h [ ]
+
+pub moved_scalar : (structs : List tree.Layout) (a b ty : tree.Ty) → MovesPointer structs a b ty → IsScalar a × IsScalar b
+moved_scalar structs (tree.pointer s) (tree.integer t) ty h = (tt, tt)
+moved_scalar structs (tree.integer t) (tree.pointer s) ty h = (tt, tt)
+moved_scalar structs a b ty h = elim h [ ]

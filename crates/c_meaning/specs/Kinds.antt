@@ -2,14 +2,17 @@
 use Rattle.std.specs.Prelude.{◌≡◌, ℕ, ◌⊎◌, Bool, true, false, List, [], ◌∷◌, slice_get, Option, Some, None}
 use Rattle.std.specs.List.{AllByRecursion}
 use Rattle.ak_words.specs.IntType.{int, long}
+use Rattle.ak_words.specs.Op.{result_type}
+use Rattle.block_store.specs.declared.values.Access.{Access}
+use Rattle.block_store.specs.declared.values.Access.TheVariants as accesses
 use Rattle.block_store.specs.declared.values.Value.{Value}
 use Rattle.block_store.specs.declared.values.Value.TheVariants as values
 use Rattle.block_store.specs.Actions as actions
 use Rattle.block_store.specs.Actions.{World}
 use Rattle.c_tree.specs.Typed as tree
-use Rattle.c_tree.specs.TypedForm.{IsInteger, IsPointer, IsScalar, Fits, AreOperands, type_of_result, CanUpdate, Converts, IsNth, IsLvalue, IsTyped, IsTypedNode, IfTyped, Context, Inside, IsWell, AreWell, context_of, signature_of, IsMain, CanStart}
+use Rattle.c_tree.specs.TypedForm.{IsScalar, AreOperands, CanUpdate, IsNth, IsLvalue, IsTyped, IsTypedNode, IfTyped, Context, Inside, IsWell, AreWell, context_of, signature_of, IsMain, CanStart}
 use Rattle.c_meaning.specs.Values.{Unary, converts, negates, tests, selects, Binary, on_numbers, forward, backward, distance, on_pointers, access_of_type}
-use Rattle.c_meaning.specs.Control.{Variable, unset, holds, lies, Loop, Callee, function, library, Todo, leaves, then_row, then_end, then_loop, in_body, in_step}
+use Rattle.c_meaning.specs.Control.{Variable, unset, holds, lies, Loop, Update, Callee, function, library, Todo, leaves, then_row, then_end, then_loop, in_body, in_step}
 use Rattle.c_meaning.specs.Control.{Use, first_of, second_of, only_of, place_read, first_test, second_test, choice, argument, to_local, left_place, to_place, struct_left, struct_right, update_left, update_local, update_right, update_read, if_test, loop_test, to_caller, to_nowhere}
 use Rattle.c_meaning.specs.Control.{Wait, wanted, dropped, Caller, Point, gives, lacks, begins, round, Control}
 
@@ -27,9 +30,9 @@ HasTypeIf ty None = Unit {0}
 HasTypeIf ty (Some v) = HasType ty v
 
 -- a pointer
-abbrev pub IsPointerValue : Value → Type 0
-IsPointerValue (values.Pointer p) = Unit {0}
-IsPointerValue (values.Num n) = ⊥
+abbrev pub IsPointer : Value → Type 0
+IsPointer (values.Pointer p) = Unit {0}
+IsPointer (values.Num n) = ⊥
 
 -- what a local of a function may hold: nothing, and else one in memory its block, and any other a value of its type
 abbrev pub MayHold : tree.Local → Variable → Type 0
@@ -43,28 +46,36 @@ AllHold [] [] = Unit {0}
 AllHold (l ∷ ls) (v ∷ vs) = MayHold l v × AllHold ls vs
 AllHold ls vs = ⊥
 
--- ---- operators
+-- ---- kinds: what operators need to know of a type, by how its values are read: a number of which type, or a pointer to anything
 
--- an operation takes a value of type s, and gives one of type t
-abbrev pub TakesOne : Unary → (s t : tree.Ty) → Type 0
-TakesOne (converts ty) s t = Converts s t × IsScalar t × (ty ≡ t)
-TakesOne negates s t = IsScalar s × (t ≡ tree.integer int)
-TakesOne tests s t = IsScalar s × (t ≡ tree.integer int)
-TakesOne (selects offset) s t = IsPointer s × IsPointer t
+-- a value of this kind
+abbrev pub HasKind : Access → Value → Type 0
+HasKind (accesses.Number t) (values.Num n) = n.ty ≡ t
+HasKind accesses.Pointer (values.Pointer p) = Unit {0}
+HasKind how v = ⊥
 
--- one of two is a number and the other a pointer of this type
-abbrev pub IsPointerAndNumber : (a b ty : tree.Ty) → Type 0
-IsPointerAndNumber (tree.pointer s) (tree.integer t) ty = ty ≡ tree.pointer s
-IsPointerAndNumber (tree.integer t) (tree.pointer s) ty = ty ≡ tree.pointer s
-IsPointerAndNumber a b ty = ⊥
+-- an operation on one value takes one of the first kind, and gives one of the second
+abbrev pub TakesOne : Unary → (from to : Access) → Type 0
+TakesOne (converts (tree.integer t)) (accesses.Number s) to = to ≡ accesses.Number t
+TakesOne (converts (tree.pointer ty)) accesses.Pointer to = to ≡ accesses.Pointer
+TakesOne negates from to = to ≡ accesses.Number int
+TakesOne tests from to = to ≡ accesses.Number int
+TakesOne (selects offset) accesses.Pointer to = to ≡ accesses.Pointer
+TakesOne op from to = ⊥
 
--- an operation takes values of these two types, and gives one of this type
-abbrev pub TakesTwo : Binary → (a b ty : tree.Ty) → Type 0
-TakesTwo (on_numbers op) a b ty = AreOperands op a b × (ty ≡ type_of_result op a)
-TakesTwo (forward size) a b ty = IsPointerAndNumber a b ty
-TakesTwo (backward size) a b ty = IsPointer a × IsInteger b × (ty ≡ a)
-TakesTwo (distance size) a b ty = IsPointer a × IsPointer b × (ty ≡ tree.integer long)
-TakesTwo (on_pointers op) a b ty = IsPointer a × IsPointer b × (ty ≡ tree.integer int)
+-- an operation on two values takes two of these kinds, and gives one of the last
+abbrev pub TakesTwo : Binary → (left right to : Access) → Type 0
+TakesTwo (on_numbers op) (accesses.Number s) (accesses.Number t) to = AreOperands op (tree.integer s) (tree.integer t) × (to ≡ accesses.Number (result_type op s))
+TakesTwo (forward size) accesses.Pointer (accesses.Number t) to = to ≡ accesses.Pointer
+TakesTwo (forward size) (accesses.Number t) accesses.Pointer to = to ≡ accesses.Pointer
+TakesTwo (backward size) accesses.Pointer (accesses.Number t) to = to ≡ accesses.Pointer
+TakesTwo (distance size) accesses.Pointer accesses.Pointer to = to ≡ accesses.Number long
+TakesTwo (on_pointers op) accesses.Pointer accesses.Pointer to = to ≡ accesses.Number int
+TakesTwo op left right to = ⊥
+
+-- a compound assignment to an object of this type takes a value of this kind
+abbrev pub UpdatesBy : Inside → Update → Access → Type 0
+UpdatesBy i u how = (t : tree.Ty) × CanUpdate i.context.structs u.op u.ty t × (access_of_type t ≡ how)
 
 -- ---- calls
 
@@ -107,42 +118,43 @@ IsTypedTodo i (in_step l k) = IsTypedLoop i l × IsTypedTodo i k
 -- ---- what a use expects
 
 abbrev mutual
-  -- a use of a value expects one of this type: its operands fit the operator, and what it gives is of the type that is expected next
-  pub Expects : Inside → tree.Ty → Use → Type 0
-  Expects i ty (first_of place op right k) = IsTyped i.context right × ((r : tree.Ty) × TakesTwo op ty (tree.type_of right) r × Expects i r k)
-  Expects i ty (second_of place op left k) = (s r : tree.Ty) × HasType s left × TakesTwo op s ty r × Expects i r k
-  Expects i ty (only_of place op k) = (r : tree.Ty) × TakesOne op ty r × Expects i r k
-  Expects i ty (place_read place how k) = IsPointer ty × ((r : tree.Ty) × IsScalar r × (how ≡ access_of_type r) × Expects i r k)
-  Expects i ty (first_test place decides right k) = IsScalar ty × IsTyped i.context right × IsScalar (tree.type_of right) × Expects i (tree.integer int) k
-  Expects i ty (second_test place k) = IsScalar ty × Expects i (tree.integer int) k
-  Expects i ty (choice place one other k) = IsScalar ty × IsTyped i.context one × IsTyped i.context other
-      × ((r : tree.Ty) × IsScalar r × (tree.type_of one ≡ r) × (tree.type_of other ≡ r) × Expects i r k)
-  Expects i ty (argument place callee before rest k) =
-      (r : tree.Ty) × (e : tree.Expr) × (all : tree.Exprs) × IsCalled i.context callee all r × Leaves before (tree.more_exprs e rest) all × (tree.type_of e ≡ ty) × Awaits i r k
-  Expects i ty (to_local number k) = IsNth i.context.locals number (λ l. (l.in_memory ≡ false) × Fits ty l.ty) × IsTypedTodo i k
-  Expects i ty (left_place place right k) = IsPointer ty × IsTyped i.context right × IsScalar (tree.type_of right) × IsTypedTodo i k
-  Expects i ty (to_place place to k) = IsScalar ty × IsPointerValue to × IsTypedTodo i k
-  Expects i ty (struct_left place s right k) = IsPointer ty × IsTyped i.context right × IsLvalue (tree.node_of right) × IsTypedTodo i k
-  Expects i ty (struct_right place s to k) = IsPointer ty × IsPointerValue to × IsTypedTodo i k
-  Expects i ty (update_left u right k) = IsPointer ty × IsTyped i.context right × CanUpdate i.context.structs u.op u.ty (tree.type_of right) × IsTypedTodo i k
-  Expects i ty (update_local u number k) = IsNth i.context.locals number (λ l. (l.in_memory ≡ false) × (l.ty ≡ u.ty)) × CanUpdate i.context.structs u.op u.ty ty × IsTypedTodo i k
-  Expects i ty (update_right u at k) = IsPointerValue at × CanUpdate i.context.structs u.op u.ty ty × IsTypedTodo i k
-  Expects i ty (update_read u at by k) = (ty ≡ u.ty) × IsPointerValue at × ((s : tree.Ty) × HasType s by × CanUpdate i.context.structs u.op u.ty s) × IsTypedTodo i k
-  Expects i ty (if_test place one other k) = IsScalar ty × IsWellSomewhere i one × IsWellSomewhere i other × IsTypedTodo i k
-  Expects i ty (loop_test place l k) = IsScalar ty × IsTypedLoop i l × IsTypedTodo i k
-  Expects i ty to_caller = Fits ty i.result
-  Expects i ty (to_nowhere k) = IsTypedTodo i k
+  -- a use of a value expects one of this kind: with its other operands it's what the operator takes, and what that gives is of the kind
+  -- that is expected next
+  pub Expects : Inside → Access → Use → Type 0
+  Expects i how (first_of place op right k) = IsTyped i.context right × IsScalar (tree.type_of right) × ((to : Access) × TakesTwo op how (access_of_type (tree.type_of right)) to × Expects i to k)
+  Expects i how (second_of place op left k) = (from : Access) × (to : Access) × HasKind from left × TakesTwo op from how to × Expects i to k
+  Expects i how (only_of place op k) = (to : Access) × TakesOne op how to × Expects i to k
+  Expects i how (place_read place read k) = (how ≡ accesses.Pointer) × Expects i read k
+  Expects i how (first_test place decides right k) = IsTyped i.context right × IsScalar (tree.type_of right) × Expects i (accesses.Number int) k
+  Expects i how (second_test place k) = Expects i (accesses.Number int) k
+  Expects i how (choice place one other k) = IsTyped i.context one × IsTyped i.context other × IsScalar (tree.type_of one) × (tree.type_of other ≡ tree.type_of one)
+      × Expects i (access_of_type (tree.type_of one)) k
+  Expects i how (argument place callee before rest k) = (ty : tree.Ty) × (e : tree.Expr) × (all : tree.Exprs) × IsCalled i.context callee all ty
+      × Leaves before (tree.more_exprs e rest) all × (access_of_type (tree.type_of e) ≡ how) × Awaits i ty k
+  Expects i how (to_local number k) = IsNth i.context.locals number (λ l. (l.in_memory ≡ false) × (access_of_type l.ty ≡ how)) × IsTypedTodo i k
+  Expects i how (left_place place right k) = (how ≡ accesses.Pointer) × IsTyped i.context right × IsScalar (tree.type_of right) × IsTypedTodo i k
+  Expects i how (to_place place to k) = IsPointer to × IsTypedTodo i k
+  Expects i how (struct_left place ty right k) = (how ≡ accesses.Pointer) × IsTyped i.context right × IsLvalue (tree.node_of right) × IsTypedTodo i k
+  Expects i how (struct_right place ty to k) = (how ≡ accesses.Pointer) × IsPointer to × IsTypedTodo i k
+  Expects i how (update_left u right k) = (how ≡ accesses.Pointer) × IsTyped i.context right × CanUpdate i.context.structs u.op u.ty (tree.type_of right) × IsTypedTodo i k
+  Expects i how (update_local u number k) = IsNth i.context.locals number (λ l. (l.in_memory ≡ false) × (l.ty ≡ u.ty)) × UpdatesBy i u how × IsTypedTodo i k
+  Expects i how (update_right u at k) = IsPointer at × UpdatesBy i u how × IsTypedTodo i k
+  Expects i how (update_read u at by k) = (how ≡ access_of_type u.ty) × IsPointer at × ((kind : Access) × UpdatesBy i u kind × HasKind kind by) × IsTypedTodo i k
+  Expects i how (if_test place one other k) = IsWellSomewhere i one × IsWellSomewhere i other × IsTypedTodo i k
+  Expects i how (loop_test place l k) = IsTypedLoop i l × IsTypedTodo i k
+  Expects i how to_caller = IsScalar i.result × (access_of_type i.result ≡ how)
+  Expects i how (to_nowhere k) = IsTypedTodo i k
 
   -- what waits for a call waits for a value of this type, or goes on without it
   pub Awaits : Inside → tree.Ty → Wait → Type 0
-  Awaits i ty (wanted place k) = Expects i ty k
+  Awaits i ty (wanted place k) = Expects i (access_of_type ty) k
   Awaits i ty (dropped k) = IsTypedTodo i k
 
 -- ---- threads
 
--- where a turn begins is well formed: a value has the type that its use expects
+-- where a turn begins is well formed: a value is of the kind that its use expects
 abbrev pub IsTypedPoint : Inside → Point → Type 0
-IsTypedPoint i (gives v k) = (ty : tree.Ty) × HasType ty v × Expects i ty k
+IsTypedPoint i (gives v k) = (how : Access) × HasKind how v × Expects i how k
 IsTypedPoint i (lacks place) = Unit {0}
 IsTypedPoint i (begins k) = IsTypedTodo i k
 IsTypedPoint i (round l k) = IsTypedLoop i l × IsTypedTodo i k
