@@ -151,43 +151,43 @@ result_ok op a b = outcome_ok (rule_of op a.ty a.value b.value) (num (result_typ
 
 -- ---- pointers
 
-abbrev Any : {V : Type 0} → V → Type 0
-Any v = Unit {0}
+abbrev pub Anything : {V : Type 0} → V → Type 0
+Anything v = Unit {0}
 
-within_ok : (size name : ℕ) (z : ℤ) → OkWith Any (within size name z)
-within_ok size name (pos offset) = ok_if Any (nat_le offset size) (Ok (To name offset)) C7 tt not_c7
+within_ok : (size name : ℕ) (z : ℤ) → OkWith Anything (within size name z)
+within_ok size name (pos offset) = ok_if Anything (nat_le offset size) (Ok (To name offset)) C7 tt not_c7
 within_ok size name (negsuc n) = not_c7
 
-moved_in_ok : (name offset : ℕ) (by : ℤ) (b : Option Block) → OkWith Any (moved_in name offset by b)
+moved_in_ok : (name offset : ℕ) (by : ℤ) (b : Option Block) → OkWith Anything (moved_in name offset by b)
 moved_in_ok name offset by None = not_c9
 moved_in_ok name offset by (Some b) = within_ok (length b.cells) name (pos offset +ℤ by)
 
-moved_ok : (blocks : Blocks) (p : Ptr) (by : ℤ) → OkWith Any (moved blocks p by)
-moved_ok blocks Null (pos n) = ok_if Any (n == 0) (Ok Null) C7 tt not_c7
+moved_ok : (blocks : Blocks) (p : Ptr) (by : ℤ) → OkWith Anything (moved blocks p by)
+moved_ok blocks Null (pos n) = ok_if Anything (n == 0) (Ok Null) C7 tt not_c7
 moved_ok blocks Null (negsuc n) = not_c7
 moved_ok blocks (To name offset) by = moved_in_ok name offset by (live blocks name)
 
-pointed_ok : (r : Result Ptr Rule) → OkWith Any r → OkWith (HasKind accesses.Pointer) (pointer_of r)
+pointed_ok : (r : Result Ptr Rule) → OkWith Anything r → OkWith (HasKind accesses.Pointer) (pointer_of r)
 pointed_ok (Ok p) h = tt
 pointed_ok (Err rule) h = h
 
 indexed_ok : (blocks : Blocks) (p : Ptr) (z : ℤ) (size : ℕ) → OkWith (HasKind accesses.Pointer) (pointer_of (indexed blocks p z size))
 indexed_ok blocks p z size = pointed_ok (indexed blocks p z size) (moved_ok blocks p (z *ℤ pos size))
 
-tested_ok : (blocks : Blocks) (p : Ptr) → OkWith Any (tested blocks p)
-tested_ok blocks p = ok_if Any (is_usable blocks p) (Ok (is_other_than_null p)) C9 tt not_c9
+tested_ok : (blocks : Blocks) (p : Ptr) → OkWith Anything (tested blocks p)
+tested_ok blocks p = ok_if Anything (is_usable blocks p) (Ok (is_other_than_null p)) C9 tt not_c9
 
-apart_ok : (p q : Ptr) → OkWith Any (pointers.distance p q)
+apart_ok : (p q : Ptr) → OkWith Anything (pointers.distance p q)
 apart_ok Null Null = tt
 apart_ok Null (To name offset) = not_c8
 apart_ok (To name offset) Null = not_c8
-apart_ok (To b o) (To c u) = ok_if Any (b == c) (Ok (pos o -ℤ pos u)) C8 tt not_c8
+apart_ok (To b o) (To c u) = ok_if Anything (b == c) (Ok (pos o -ℤ pos u)) C8 tt not_c8
 
-by_distance_ok : (test : ℤ → Bool) (r : Result ℤ Rule) → OkWith Any r → OkWith Any (by_distance test r)
+by_distance_ok : (test : ℤ → Bool) (r : Result ℤ Rule) → OkWith Anything r → OkWith Anything (by_distance test r)
 by_distance_ok test (Ok z) h = tt
 by_distance_ok test (Err rule) h = h
 
-related_ok : (op : Op) (p q : Ptr) → OkWith Any (related op p q)
+related_ok : (op : Op) (p q : Ptr) → OkWith Anything (related op p q)
 related_ok ops.Eq p q = tt
 related_ok ops.Ne p q = tt
 related_ok ops.Lt p q = by_distance_ok is_below_0 (pointers.distance p q) (apart_ok p q)
@@ -196,31 +196,31 @@ related_ok ops.Gt p q = by_distance_ok is_below_0 (pointers.distance q p) (apart
 related_ok ops.Le p q = by_distance_ok (λ z. not (is_below_0 z)) (pointers.distance q p) (apart_ok q p)
 related_ok op p q = not_c8
 
-compared_ok : (blocks : Blocks) (op : Op) (p q : Ptr) → OkWith Any (compared blocks op p q)
-compared_ok blocks op p q = ok_if Any (is_usable blocks p && is_usable blocks q) (related op p q) C9 (related_ok op p q) not_c9
+compared_ok : (blocks : Blocks) (op : Op) (p q : Ptr) → OkWith Anything (compared blocks op p q)
+compared_ok blocks op p q = ok_if Anything (is_usable blocks p && is_usable blocks q) (related op p q) C9 (related_ok op p q) not_c9
 
-in_elements_ok : (size : ℕ) (r : Result ℤ Rule) → OkWith Any r → OkWith Any (in_elements size r)
+in_elements_ok : (size : ℕ) (r : Result ℤ Rule) → OkWith Anything r → OkWith Anything (in_elements size r)
 in_elements_ok size (Err rule) h = h
-in_elements_ok size (Ok z) h = ok_if Any (is_0 (int_rem_euclid z (pos size))) (Ok (int_div_euclid z (pos size))) C8 tt not_c8
+in_elements_ok size (Ok z) h = ok_if Anything (is_0 (int_rem_euclid z (pos size))) (Ok (int_div_euclid z (pos size))) C8 tt not_c8
 
-difference_ok : (blocks : Blocks) (p q : Ptr) (size : ℕ) → OkWith Any (difference blocks p q size)
-difference_ok blocks p q size = ok_if Any (is_usable blocks p && is_usable blocks q) (in_elements size (pointers.distance p q)) C9 (in_elements_ok size (pointers.distance p q) (apart_ok p q)) not_c9
+difference_ok : (blocks : Blocks) (p q : Ptr) (size : ℕ) → OkWith Anything (difference blocks p q size)
+difference_ok blocks p q size = ok_if Anything (is_usable blocks p && is_usable blocks q) (in_elements size (pointers.distance p q)) C9 (in_elements_ok size (pointers.distance p q) (apart_ok p q)) not_c9
 
-int_ok : (r : Result Bool Rule) (how : Access) → how ≡ accesses.Number int → OkWith Any r → OkWith (HasKind how) (int_result r)
+int_ok : (r : Result Bool Rule) (how : Access) → how ≡ accesses.Number int → OkWith Anything r → OkWith (HasKind how) (int_result r)
 int_ok (Ok b) how e h = int_kind how b e
 int_ok (Err rule) how e h = h
 
-long_ok : (r : Result ℤ Rule) (how : Access) → how ≡ accesses.Number long → OkWith Any r → OkWith (HasKind how) (long_result r)
+long_ok : (r : Result ℤ Rule) (how : Access) → how ≡ accesses.Number long → OkWith Anything r → OkWith (HasKind how) (long_result r)
 long_ok (Ok z) how e h = subst (λ a. HasKind a (values.Num (num long z))) (sym e) refl
 long_ok (Err rule) how e h = h
 
 -- ---- operations on one value
 
-pub truth_ok : (blocks : Blocks) (v : Value) → OkWith Any (truth_of blocks v)
+pub truth_ok : (blocks : Blocks) (v : Value) → OkWith Anything (truth_of blocks v)
 truth_ok blocks (values.Num n) = tt
 truth_ok blocks (values.Pointer p) = tested_ok blocks p
 
-opposite_ok : (r : Result Bool Rule) → OkWith Any r → OkWith Any (opposite r)
+opposite_ok : (r : Result Bool Rule) → OkWith Anything r → OkWith Anything (opposite r)
 opposite_ok (Ok b) h = tt
 opposite_ok (Err rule) h = h
 
