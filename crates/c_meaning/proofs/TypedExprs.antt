@@ -27,7 +27,7 @@ use Rattle.c_meaning.proofs.TypedActions.{load_done}
 use Rattle.c_meaning.proofs.TypedCalls.{called_scalar, called_typed, first_typed, first_scalar, leaves_fewer}
 use Rattle.c_meaning.proofs.TypedTurns.{Fine, TakesKind, IsFine, Evaluates, breaks_fine, ok_fine, if_fine, acts_fine, after_typed, calls_fine}
 
-abbrev context_at : Site → Context
+abbrev pub context_at : Site → Context
 context_at s = (inside_at s).context
 
 -- the values of constants

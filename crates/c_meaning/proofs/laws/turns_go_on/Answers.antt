@@ -1,3 +1,4 @@
+use Rattle.c_meaning.proofs.TypedStmts.{row_fine}
 use Rattle.c_meaning.proofs.TypedExprs.{run_fine}
 use Rattle.c_meaning.proofs.TypedTurns.{leaves_fine}
 use Rattle.c_meaning.proofs.TypedCalls.{lib_does}
