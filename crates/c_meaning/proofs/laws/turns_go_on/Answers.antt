@@ -1,9 +1,5 @@
-use Rattle.c_meaning.proofs.TypedStmts.{row_fine}
-use Rattle.c_meaning.proofs.TypedExprs.{run_fine}
-use Rattle.c_meaning.proofs.TypedTurns.{leaves_fine}
-use Rattle.c_meaning.proofs.TypedCalls.{lib_does}
-use Rattle.c_meaning.proofs.TypedFits.{end_takes}
+use Rattle.c_meaning.proofs.TypedThreads.{turns_go_on, turns_keep_types, threads_begin_typed}
 use Rattle.c_meaning.proofs.laws.turns_go_on.Goals as goal
 
 pub returns : goal.returns
-returns c = ?
+returns c = turns_go_on
