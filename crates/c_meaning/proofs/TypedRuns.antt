@@ -1,0 +1,131 @@
+-- Runs of a well formed program come only to states that are well formed, and go on from them.
+use Rattle.std.proofs.Common.{◌≡◌, ◌↔◌, ℕ, zero, suc, List, [], ◌∷◌, ◌++◌, length, map, drop, set, Option, Some, None, refl, sym, ap, subst, ◌∙◌, ◌⊎◌, inl, inr}
+use Rattle.std.specs.List.{AllByRecursion}
+use Rattle.block_store.specs.declared.values.Answer.{Answer}
+use Rattle.block_store.specs.Actions.{World, Thread}
+use Rattle.block_store.specs.Runs as runs
+use Rattle.block_store.specs.Runs.{Turn, State, Pick, Run, begun, next_state, own_at, turn_if, picked, goes_on, run_from}
+use Rattle.c_tree.specs.Typed as tree
+use Rattle.c_tree.specs.TypedForm.{IsWellFormed}
+use Rattle.c_meaning.specs.Control.{Control}
+use Rattle.c_meaning.specs.Turns.{turn}
+use Rattle.c_meaning.specs.Meaning.{program, start, run}
+use Rattle.c_meaning.specs.Kinds.{IsTypedControl, IsTypedWorld, CanBegin}
+use Rattle.c_meaning.specs.Sound.{End, FitsEnd, EndsAs, IsUnfit, IsTypedTurn, AreTypedThreads, IsTypedState, RunsKeepTypes, RunsGoOn}
+use Rattle.c_meaning.proofs.TypedThreads.{threads_begin_typed, turns_keep_types, turns_go_on}
+
+-- ---- what threads have
+
+abbrev IsTypedOwn : tree.Typed → Option Control → Type 0
+IsTypedOwn t None = Unit {0}
+IsTypedOwn t (Some c) = IsTypedControl t c
+
+own_typed : (t : tree.Typed) (all : List (Option Control)) (n : ℕ) → AreTypedThreads t all → IsTypedOwn t (own_at all n)
+own_typed t [] n h = tt
+own_typed t (None ∷ all) zero h = tt
+own_typed t (Some c ∷ all) zero h = h.0
+own_typed t (None ∷ all) (suc n) h = own_typed t all n h
+own_typed t (Some c ∷ all) (suc n) h = own_typed t all n h.1
+
+before_typed : (t : tree.Typed) (o : Option Control) (all : List (Option Control)) → IsTypedOwn t o → AreTypedThreads t all → AreTypedThreads t (o ∷ all)
+before_typed t None all o h = h
+before_typed t (Some c) all o h = (o, h)
+
+set_typed : (t : tree.Typed) (all : List (Option Control)) (n : ℕ) (o : Option Control) → AreTypedThreads t all → IsTypedOwn t o → AreTypedThreads t (set all n o)
+set_typed t [] n o h i = tt
+set_typed t (None ∷ all) zero o h i = before_typed t o all i h
+set_typed t (Some c ∷ all) zero o h i = before_typed t o all i h.1
+set_typed t (None ∷ all) (suc n) o h i = set_typed t all n o h i
+set_typed t (Some c ∷ all) (suc n) o h i = (h.0, set_typed t all n o h.1 i)
+
+both_typed : (t : tree.Typed) (all more : List (Option Control)) → AreTypedThreads t all → AreTypedThreads t more → AreTypedThreads t (all ++ more)
+both_typed t [] more h m = m
+both_typed t (None ∷ all) more h m = both_typed t all more h m
+both_typed t (Some c ∷ all) more h m = (h.0, both_typed t all more h.1 m)
+
+abbrev MayBegin : tree.Typed → Thread → Type 0
+MayBegin t h = CanBegin t h.function
+
+dropped_typed : (t : tree.Typed) (n : ℕ) (all : List Thread) → AllByRecursion (MayBegin t) all → AllByRecursion (MayBegin t) (drop n all)
+dropped_typed t zero all h = h
+dropped_typed t (suc n) [] h = tt
+dropped_typed t (suc n) (x ∷ all) h = dropped_typed t n all h.1
+
+made_typed : (t : tree.Typed) → IsWellFormed t → (all : List Thread) → AllByRecursion (MayBegin t) all → AreTypedThreads t (map (λ (x : Thread). Some ((program t).begins x.function x.argument)) all)
+made_typed t wf [] h = tt
+made_typed t wf (x ∷ all) h = (threads_begin_typed t wf x.function h.0 x.argument, made_typed t wf all h.1)
+
+begun_typed : (t : tree.Typed) → IsWellFormed t → (n : ℕ) (w : World) → IsTypedWorld t w → AreTypedThreads t (begun (program t) n w)
+begun_typed t wf n w h = made_typed t wf (drop n w.threads) (dropped_typed t n w.threads h)
+
+next_typed : (t : tree.Typed) → IsWellFormed t → (s : State Control) (thread : ℕ) (own : Option Control) (w : World) → IsTypedState t s → IsTypedOwn t own → IsTypedWorld t w → IsTypedState t (next_state (program t) s thread own w)
+next_typed t wf s thread own w h o i = record {
+  world = i;
+  threads = both_typed t (set s.own thread own) (begun (program t) (length s.own) w) (set_typed t s.own thread own h.threads o) (begun_typed t wf (length s.own) w i);
+}
+
+-- ---- runs
+
+abbrev IsTypedPick : tree.Typed → Option (Turn Control) → Type 0
+IsTypedPick t None = Unit {0}
+IsTypedPick t (Some u) = IsTypedTurn t u
+
+pick_typed : (t : tree.Typed) → IsWellFormed t → (s : State Control) (p : Pick) (main own : Option Control) → IsTypedState t s → IsTypedOwn t own → IsTypedPick t (turn_if (program t) s p main own)
+pick_typed t wf s p None own h o = tt
+pick_typed t wf s p (Some main) None h o = tt
+pick_typed t wf s p (Some main) (Some own) h o = turns_keep_types t wf p.thread p.answer own s.world o h.world
+
+picked_typed : (t : tree.Typed) → IsWellFormed t → (s : State Control) (p : Pick) → IsTypedState t s → IsTypedPick t (picked (program t) s p)
+picked_typed t wf s p h = pick_typed t wf s p (own_at s.own 0) (own_at s.own p.thread) h (own_typed t s.own p.thread h.threads)
+
+goes_typed : (t : tree.Typed) → IsWellFormed t → (go : State Control → Run Control) (s end : State Control) (thread k : ℕ) (o : Option (Turn Control)) → IsTypedState t s → IsTypedPick t o
+    → ((next : State Control) → IsTypedState t next → go next ≡ runs.reaches end → IsTypedState t end) → goes_on (program t) go s thread k o ≡ runs.reaches end → IsTypedState t end
+goes_typed t wf go s end thread k None h o rest e = absurd cc
+goes_typed t wf go s end thread k (Some (runs.went own w)) h o rest e = rest (next_state (program t) s thread (Some own) w) (next_typed t wf s thread (Some own) w h o.0 o.1) e
+goes_typed t wf go s end thread k (Some (runs.ended w)) h o rest e = rest (next_state (program t) s thread None w) (next_typed t wf s thread None w h tt o) e
+goes_typed t wf go s end thread k (Some runs.blocked) h o rest e = absurd cc
+goes_typed t wf go s end thread k (Some runs.unfit) h o rest e = absurd cc
+goes_typed t wf go s end thread k (Some (runs.broke rule place)) h o rest e = absurd cc
+
+run_typed : (t : tree.Typed) → IsWellFormed t → (order : List Pick) (k : ℕ) (s end : State Control) → IsTypedState t s → run_from (program t) order k s ≡ runs.reaches end → IsTypedState t end
+run_typed t wf [] k s end h e = let same : s ≡ end = cc in subst (IsTypedState t) same h
+run_typed t wf (p ∷ order) k s end h e =
+    goes_typed t wf (run_from (program t) order (suc k)) s end p.thread k (picked (program t) s p) h (picked_typed t wf s p h) (λ next i. run_typed t wf order (suc k) next end i) e
+
+first_typed : (t : tree.Typed) → IsWellFormed t → IsTypedState t (runs.first_state (program t) (start t))
+first_typed t wf =
+    let world : IsTypedWorld t (start t) = ((wf.main.0, wf.main.1, inl wf.main.2), tt) in
+    record { world = world; threads = begun_typed t wf 0 (start t) world }
+
+pub runs_keep_types : RunsKeepTypes
+runs_keep_types t wf order s e = run_typed t wf order 0 (runs.first_state (program t) (start t)) s (first_typed t wf) e
+
+-- ---- turns of the threads that run
+
+unfit_is : (u : Turn Control) → IsUnfit u → ◌≡◌ {A = Option (Turn Control)} (Some u) (Some runs.unfit)
+unfit_is (runs.went own w) h = elim h [ ]
+unfit_is (runs.ended w) h = elim h [ ]
+unfit_is runs.blocked h = elim h [ ]
+unfit_is runs.unfit h = refl
+unfit_is (runs.broke rule place) h = elim h [ ]
+
+is_unfit : (u : Turn Control) → ◌≡◌ {A = Option (Turn Control)} (Some u) (Some runs.unfit) → IsUnfit u
+is_unfit (runs.went own w) e = absurd cc
+is_unfit (runs.ended w) e = absurd cc
+is_unfit runs.blocked e = absurd cc
+is_unfit runs.unfit e = tt
+is_unfit (runs.broke rule place) e = absurd cc
+
+pick_of : (P : runs.Program Control) (s : State Control) (p : Pick) (main own : Control) → own_at s.own 0 ≡ Some main → own_at s.own p.thread ≡ Some own → picked P s p ≡ Some (P.turn p.thread p.answer own s.world)
+pick_of P s p main own m o = ap (λ (x : Option Control). turn_if P s p x (own_at s.own p.thread)) m ∙ ap (turn_if P s p (Some main)) o
+
+fits_pick : (u : Turn Control) (o : Option (Turn Control)) (P : Type 0) → o ≡ Some u → (IsUnfit u → ⊥) ↔ P → (o ≡ Some runs.unfit → ⊥) ↔ P
+fits_pick u o P e h = (λ n. h.0 (λ i. n (e ∙ unfit_is u i)), λ p i. h.1 p (is_unfit u (sym e ∙ i)))
+
+pub runs_go_on : RunsGoOn
+runs_go_on t wf order s e thread main own m o =
+    let h = runs_keep_types t wf order s e in
+    let c : IsTypedControl t own = subst (IsTypedOwn t) o (own_typed t s.own thread h.threads) in
+    let g = turns_go_on t wf thread own s.world c h.world in
+    (g.0, g.1, λ answer. fits_pick (turn t thread answer own s.world) (picked (program t) s (record { thread = thread; answer = answer })) (FitsEnd g.0 answer)
+      (pick_of (program t) s (record { thread = thread; answer = answer }) main own m o) (g.2 answer))
