@@ -1,7 +1,7 @@
 -- The worked rows hold by computing them.
 use Rattle.std.proofs.Common.{refl}
 use Rattle.ak_words.specs.Wrapped.{residue, wrapped_value}
-use Rattle.block_store.specs.Rows.{ActionsStand, PointersStand}
+use Rattle.block_store.specs.Rows.{ActionsStand, ReadsStand, FirstsStand, PointersStand}
 
 pub actions_stand : ActionsStand
 unfolding residue wrapped_value
@@ -30,6 +30,7 @@ actions_stand = record {
   no_block = refl;
   too_great = refl;
   too_great_is_refused = refl;
+  a_free = refl;
   free_of_null = refl;
   free_of_inner = refl;
   free_of_local = refl;
@@ -62,6 +63,27 @@ actions_stand = record {
   join_of_none = refl;
   an_end = refl;
   an_end_without_value = refl;
+}
+
+pub reads_stand : ReadsStand
+reads_stand = record {
+  through_null = refl;
+  of_dead_block = refl;
+  of_overlap = refl;
+  of_held_mutex = refl;
+  of_two_texts = refl;
+  of_bytes_alone = refl;
+  of_unknown_cells = refl;
+  of_text_without_end = refl;
+  of_dead_text = refl;
+}
+
+pub firsts_stand : FirstsStand
+unfolding residue wrapped_value
+firsts_stand = record {
+  zeros = refl;
+  a_number = refl;
+  a_pointer = refl;
 }
 
 pub pointers_stand : PointersStand

@@ -34,15 +34,15 @@ pub record Thread : Type 0 where
   pub argument : Ptr
   pub stage : Stage
 
--- bytes of a block that an action reaches: so many from an offset on, which it reads or writes
+-- bytes of a block that an action reaches: so many of them from an offset on, and whether it writes them or reads them
 pub record Reached : Type 0 where
   pub block : ℕ
   pub offset : ℕ
   pub bytes : ℕ
   pub writes : Bool
 
--- what threads share: the blocks, the bytes that were printed, and the threads by number, in the order in which they were made; and
--- beside these what the last action that was done reached
+-- what threads share: the blocks, the bytes that were printed, and the threads by number, in the order in which they were made;
+-- and which bytes the last action reached that was done
 pub record World : Type 0 where
   pub blocks : Blocks
   pub output : List ℕ
@@ -53,13 +53,17 @@ pub record World : Type 0 where
 abbrev pub beginning : (function : ℕ) → (argument : Ptr) → Thread
 beginning function argument = record { function = function; argument = argument; stage = running }
 
--- the world in which a run begins: the blocks of the globals and literals, and thread 0, which is in main
+-- the world in which a run begins: the blocks of the globals and literals, and thread 0, which is in main; nothing was reached yet
 abbrev pub first_world : Blocks → (main : ℕ) → World
 first_world blocks main = record { blocks = blocks; output = []; threads = beginning main Null ∷ []; reached = [] }
 
 -- the world with these blocks in place of its own
 abbrev pub with_blocks : World → Blocks → World
 with_blocks w blocks = record { blocks = blocks; output = w.output; threads = w.threads; reached = w.reached }
+
+-- the world in which the last action reached these bytes
+abbrev pub with_reached : World → List Reached → World
+with_reached w reached = record { blocks = w.blocks; output = w.output; threads = w.threads; reached = reached }
 
 -- a thread that has come to this stage
 abbrev pub at_stage : Stage → Thread → Thread
@@ -257,89 +261,98 @@ outcomes w thread (start to function argument) =
 outcomes w thread (join number to) = settled (joined_by w thread number to)
 outcomes w thread (finish value) = settled (went None (staged w thread (returned (result_of value))))
 
--- ---- which bytes an action reaches
+-- ---- which bytes an action reaches: by their block's name and their offset in it, in the order in which it reaches them
 
--- so many bytes at a pointer; none at null
-abbrev pub bytes_at : (writes : Bool) → (bytes : ℕ) → Ptr → List Reached
+-- so many bytes at a pointer, where there is a byte and the pointer isn't null
+abbrev pub bytes_at : (writes : Bool) → (n : ℕ) → Ptr → List Reached
 bytes_at writes n Null = []
-bytes_at writes n (To block offset) = record { block = block; offset = offset; bytes = n; writes = writes } ∷ []
+bytes_at writes n (To block offset) = if n == 0 then [] else record { block = block; offset = offset; bytes = n; writes = writes } ∷ []
 
--- how many cells are read of a text: those up to the first zero byte, and with it, or up to the first that is no byte
-abbrev pub cells_read : List Cell → ℕ
-cells_read [] = 0
-cells_read (Byte zero ∷ cells) = 1
-cells_read (Byte (suc n) ∷ cells) = suc (cells_read cells)
-cells_read (Unknown ∷ cells) = 1
-cells_read (Part block offset part ∷ cells) = 1
+-- n bytes at a pointer are read
+abbrev pub reading : (n : ℕ) → Ptr → List Reached
+reading = bytes_at false
+
+-- n bytes at a pointer are written
+abbrev pub writing : (n : ℕ) → Ptr → List Reached
+writing = bytes_at true
+
+-- how many bytes are read of a text: each up to the first zero byte, and that one too; or up to what ends it by a broken rule, a
+-- cell that is no byte, or the first place behind the block, and that one too
+abbrev pub bytes_read : List Cell → ℕ
+bytes_read [] = 1
+bytes_read (Byte zero ∷ cells) = 1
+bytes_read (Byte (suc n) ∷ cells) = suc (bytes_read cells)
+bytes_read (Unknown ∷ cells) = 1
+bytes_read (Part block offset part ∷ cells) = 1
 
 -- the cells from an offset of a block on, if it lives
 abbrev pub cells_from : (offset : ℕ) → Option Block → List Cell
 cells_from offset None = []
 cells_from offset (Some b) = drop offset b.cells
 
--- the bytes that are read of the text at a pointer
-abbrev pub text_reads : Blocks → Ptr → List Reached
-text_reads blocks Null = []
-text_reads blocks (To name offset) = bytes_at false (cells_read (cells_from offset (live blocks name))) (To name offset)
+-- the text at a pointer is read
+abbrev pub reading_text : Blocks → Ptr → List Reached
+reading_text blocks Null = []
+reading_text blocks (To name offset) = reading (bytes_read (cells_from offset (live blocks name))) (To name offset)
 
--- the bytes that are read for a part of what one call prints
-abbrev pub printed_reads : Blocks → Printed → List Reached
-printed_reads blocks (bytes all) = []
-printed_reads blocks (text at) = text_reads blocks at
+-- a part of what one call prints is read
+abbrev pub reading_part : Blocks → Printed → List Reached
+reading_part blocks (bytes all) = []
+reading_part blocks (text at) = reading_text blocks at
 
--- those of the parts behind one, which are read only where that one breaks no rule
-abbrev pub unless_broken : Result (List ℕ) Rule → List Reached → List Reached
-unless_broken (Ok all) reached = reached
-unless_broken (Err rule) reached = []
+-- what is read behind a part, where that part breaks no rule
+abbrev pub reading_on : Result (List ℕ) Rule → List Reached → List Reached
+reading_on (Ok all) more = more
+reading_on (Err rule) more = []
 
--- those of all parts, in order
-abbrev pub parts_reads : Blocks → List Printed → List Reached
-parts_reads blocks [] = []
-parts_reads blocks (part ∷ parts) = printed_reads blocks part ++ unless_broken (printed_bytes blocks part) (parts_reads blocks parts)
+-- all parts are read, in order
+abbrev pub reading_parts : Blocks → List Printed → List Reached
+reading_parts blocks [] = []
+reading_parts blocks (part ∷ parts) = reading_part blocks part ++ reading_on (printed_bytes blocks part) (reading_parts blocks parts)
 
--- what an action reads, also where it then waits or breaks a rule: a mutex is a number of 8 bytes
+-- what an action reads; where it waits, or breaks a rule, what it tried to read. A mutex has 8 bytes; an allocation, a free, a start, a
+-- join and the end of a thread read none
 abbrev pub reads_of : World → Action → List Reached
-reads_of w (load at how) = bytes_at false (size_of how) at
+reads_of w (load at how) = reading (size_of how) at
 reads_of w (store at value) = []
-reads_of w (copy to from n align same) = if n == 0 then [] else bytes_at false n from
+reads_of w (copy to from n align same) = reading n from
 reads_of w (allocate size first) = []
 reads_of w (free at) = []
-reads_of w (print parts) = parts_reads w.blocks parts
-reads_of w (lock at) = bytes_at false 8 at
-reads_of w (unlock at) = bytes_at false 8 at
-reads_of w (destroy at) = bytes_at false 8 at
+reads_of w (print parts) = reading_parts w.blocks parts
+reads_of w (lock at) = reading 8 at
+reads_of w (unlock at) = reading 8 at
+reads_of w (destroy at) = reading 8 at
 reads_of w (start to function argument) = []
 reads_of w (join number to) = []
 reads_of w (finish value) = []
 
--- the number of a thread is written where it is made
-abbrev pub start_writes : Answer → Ptr → List Reached
-start_writes answers.Plain to = []
-start_writes answers.Got to = bytes_at true 8 to
-start_writes answers.None to = []
+-- the number of a new thread is written, in 8 bytes, where one is made
+abbrev pub start_writes : Answer → (to : Ptr) → List Reached
+start_writes answers.Got to = writing 8 to
+start_writes answer to = []
 
--- what an action writes, where it is done under this answer: the number of a thread has 8 bytes, and its result 4
+-- what an action writes that is done under this answer. The result of a thread has 4 bytes, and is written nowhere at null
 abbrev pub writes_of : Answer → Action → List Reached
 writes_of answer (load at how) = []
-writes_of answer (store at value) = bytes_at true (size_of (access_of value)) at
-writes_of answer (copy to from n align same) = if n == 0 then [] else bytes_at true n to
+writes_of answer (store at value) = writing (size_of (access_of value)) at
+writes_of answer (copy to from n align same) = writing n to
 writes_of answer (allocate size first) = []
 writes_of answer (free at) = []
 writes_of answer (print parts) = []
-writes_of answer (lock at) = bytes_at true 8 at
-writes_of answer (unlock at) = bytes_at true 8 at
+writes_of answer (lock at) = writing 8 at
+writes_of answer (unlock at) = writing 8 at
 writes_of answer (destroy at) = []
 writes_of answer (start to function argument) = start_writes answer to
-writes_of answer (join number to) = bytes_at true 4 to
+writes_of answer (join number to) = writing 4 to
 writes_of answer (finish value) = []
 
--- what is done, in a world that tells what it reached
-abbrev pub noted : List Reached → Done → Done
-noted reached (went v w) = went v (record { blocks = w.blocks; output = w.output; threads = w.threads; reached = reached })
-noted reached blocked = blocked
-noted reached unfit = unfit
-noted reached (broke rule) = broke rule
+-- what is done leaves a world that tells what was reached; what isn't done leaves none
+abbrev pub telling : List Reached → Done → Done
+telling reached (went v w) = went v (with_reached w reached)
+telling reached blocked = blocked
+telling reached unfit = unfit
+telling reached (broke rule) = broke rule
 
 -- what an action of a thread does under an answer
 abbrev pub acted : World → (thread : ℕ) → Answer → Action → Done
-acted w thread answer action = noted (reads_of w action ++ writes_of answer action) (under answer (outcomes w thread action))
+acted w thread answer action = telling (reads_of w action ++ writes_of answer action) (under answer (outcomes w thread action))

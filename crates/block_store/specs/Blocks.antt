@@ -5,7 +5,7 @@ use Rattle.ak_words.specs.declared.rule.Rule.{Rule}
 use Rattle.ak_words.specs.declared.rule.Rule.TheVariants.{C5, C6, C10, C11, C12}
 use Rattle.block_store.specs.declared.values.Access.{Access}
 use Rattle.block_store.specs.declared.values.BlockKind.{BlockKind}
-use Rattle.block_store.specs.declared.values.BlockKind.TheVariants.{Literal, Heap}
+use Rattle.block_store.specs.declared.values.BlockKind.TheVariants.{Global, Literal, Heap}
 use Rattle.block_store.specs.declared.values.Cell.{Cell}
 use Rattle.block_store.specs.declared.values.Cell.TheVariants.{Byte}
 use Rattle.block_store.specs.declared.values.Ptr.{Ptr}
@@ -34,9 +34,22 @@ live_size blocks name = option_map (λ b. length b.cells) (live blocks name)
 abbrev pub made : Blocks → ℕ → BlockKind → Cell → Blocks
 made blocks size kind first = blocks ++ Some (record { kind = kind; cells = replicate size first }) ∷ []
 
--- the store with the new block of a string literal, whose cells are its bytes (C11 6.4.5 p6)
+-- the block of a string literal, whose cells are its bytes (C11 6.4.5 p6)
+abbrev pub literal_block : List ℕ → Option Block
+literal_block bytes = Some (record { kind = Literal; cells = map Byte bytes })
+
+-- the store with the new block of a string literal
 abbrev pub made_literal : Blocks → List ℕ → Blocks
-made_literal blocks bytes = blocks ++ Some (record { kind = Literal; cells = map Byte bytes }) ∷ []
+made_literal blocks bytes = blocks ++ literal_block bytes ∷ []
+
+-- what a global of this size holds at the start: its first value, or zero bytes where it has none (C11 6.7.9 p10)
+abbrev pub first_cells : (size : ℕ) → Option Value → List Cell
+first_cells size None = replicate size (Byte 0)
+first_cells size (Some v) = cells_of v
+
+-- the block of a global at the start
+abbrev pub global_block : (size : ℕ) → Option Value → Option Block
+global_block size first = Some (record { kind = Global; cells = first_cells size first })
 
 -- the store after a block has ended (C11 6.2.4)
 abbrev pub ended : Blocks → ℕ → Blocks

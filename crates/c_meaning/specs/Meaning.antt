@@ -1,15 +1,11 @@
 -- What a C program means: its runs, over named blocks, under every order of its threads' turns and every answer.
-use Rattle.std.specs.Prelude.{ℕ, zero, suc, ◌+◌, List, [], ◌∷◌, ◌++◌, length, map, replicate, slice_get, Option, Some, None}
+use Rattle.std.specs.Prelude.{ℕ, zero, suc, ◌+◌, List, [], ◌∷◌, ◌++◌, length, map, slice_get, Option, Some, None}
 use Rattle.ak_words.specs.Num.{num}
-use Rattle.block_store.specs.declared.values.BlockKind.TheVariants as kinds
-use Rattle.block_store.specs.declared.values.Cell.{Cell}
-use Rattle.block_store.specs.declared.values.Cell.TheVariants.{Byte}
 use Rattle.block_store.specs.declared.values.Ptr.{Ptr}
 use Rattle.block_store.specs.declared.values.Ptr.TheVariants.{To}
 use Rattle.block_store.specs.declared.values.Value.{Value}
 use Rattle.block_store.specs.declared.values.Value.TheVariants as values
-use Rattle.block_store.specs.Blocks.{Block, Blocks}
-use Rattle.block_store.specs.Cells.{cells_of}
+use Rattle.block_store.specs.Blocks.{Block, Blocks, literal_block, global_block}
 use Rattle.block_store.specs.Actions.{World, first_world}
 use Rattle.block_store.specs.Runs as runs
 use Rattle.c_tree.specs.Typed as tree
@@ -17,23 +13,19 @@ use Rattle.c_tree.specs.TypedLayout.{size_in}
 use Rattle.c_meaning.specs.Control.{Control, begins, leaves}
 use Rattle.c_meaning.specs.Turns.{begins_in, turn}
 
--- what a global of this size holds at the start; a literal's block comes behind the globals (C11 6.7.9 p10)
-abbrev pub first_cells : (globals size : ℕ) → tree.Init → List Cell
-first_cells globals size tree.zero_bytes = replicate size (Byte 0)
-first_cells globals size (tree.number t z) = cells_of (values.Num (num t z))
-first_cells globals size (tree.literal_at number) = cells_of (values.Pointer (To (globals + number) 0))
+-- the first value of a global, where it has one; a literal's block comes behind the globals (C11 6.7.9 p10)
+abbrev pub first_value : (globals : ℕ) → tree.Init → Option Value
+first_value globals tree.zero_bytes = None
+first_value globals (tree.number t z) = Some (values.Num (num t z))
+first_value globals (tree.literal_at number) = Some (values.Pointer (To (globals + number) 0))
 
 -- the block of a global at the start, of the size of its type
-abbrev pub global_block : tree.Typed → tree.GlobalVar → Option Block
-global_block t g = Some (record { kind = kinds.Global; cells = first_cells (length t.globals) (size_in t.structs g.ty) g.init })
-
--- the block of a string literal, whose cells are its bytes (C11 6.4.5 p6)
-abbrev pub literal_block : List ℕ → Option Block
-literal_block bytes = Some (record { kind = kinds.Literal; cells = map Byte bytes })
+abbrev pub block_of : tree.Typed → tree.GlobalVar → Option Block
+block_of t g = global_block (size_in t.structs g.ty) (first_value (length t.globals) g.init)
 
 -- the blocks at the start: the globals in order, then the literals in order
 abbrev pub first_blocks : tree.Typed → Blocks
-first_blocks t = map (global_block t) t.globals ++ map literal_block t.literals
+first_blocks t = map (block_of t) t.globals ++ map literal_block t.literals
 
 -- the argument of a thread's first function, if it takes one: main takes none
 abbrev pub arguments_if : (params : ℕ) → Ptr → List Value

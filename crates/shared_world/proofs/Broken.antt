@@ -12,18 +12,18 @@ use Rattle.ak_words.specs.declared.number.Num.{Num}
 use Rattle.ak_words.specs.Num.{num}
 use Rattle.block_store.specs.declared.values.Value.TheVariants as values
 use Rattle.block_store.specs.Actions as actions
-use Rattle.block_store.specs.Actions.{World, broke, changes, starts, staged, joined_bytes}
+use Rattle.block_store.specs.Actions.{World, Reached, broke, changes, starts, staged, joined_bytes, telling}
 use Rattle.shared_world.specs.declared.world.Stage.{Stage}
 use Rattle.shared_world.specs.declared.world.Thread.{Thread}
 use Rattle.shared_world.specs.Worlds.{stage_of, thread_of}
 
-pub changes_err : (w : World) (r : Result Blocks Rule) (rule : Rule) → Err rule ≡ answer_of r → broke rule ≡ changes w r
-changes_err w (Ok blocks) rule e = cc
-changes_err w (Err other) rule e = cc
+pub changes_err : (reached : List Reached) (w : World) (r : Result Blocks Rule) (rule : Rule) → Err rule ≡ answer_of r → broke rule ≡ telling reached (changes w r)
+changes_err reached w (Ok blocks) rule e = cc
+changes_err reached w (Err other) rule e = cc
 
-pub starts_err : (w : World) (function : ℕ) (argument : Ptr) (r : Result Blocks Rule) (rule : Rule) → Err rule ≡ answer_of r → broke rule ≡ starts w function argument r
-starts_err w function argument (Ok blocks) rule e = cc
-starts_err w function argument (Err other) rule e = cc
+pub starts_err : (reached : List Reached) (w : World) (function : ℕ) (argument : Ptr) (r : Result Blocks Rule) (rule : Rule) → Err rule ≡ answer_of r → broke rule ≡ telling reached (starts w function argument r)
+starts_err reached w function argument (Ok blocks) rule e = cc
+starts_err reached w function argument (Err other) rule e = cc
 
 -- what is gathered behind bytes
 pub gathered_err : (before : List ℕ) (first rest : Result (List ℕ) Rule) (rule : Rule) → Err rule ≡ joined_bytes (Ok before) first → Err rule ≡ joined_bytes (Ok before) (joined_bytes first rest)
@@ -42,11 +42,11 @@ get_some (x ∷ ts) zero t h e = ap Some (sym e)
 get_some (x ∷ ts) (suc n) t h e = get_some ts n t (omega (arith, h)) e
 
 -- a thread of another stage
-pub stage_set : (blocks : Blocks) (output : List ℕ) (ts : List Thread) (n : ℕ) (t : Thread) (s : Stage) → slice_get ts n ≡ Some t →
-    ◌≡◌ {A = World} (record { blocks = blocks; output = output; threads = map thread_of (set ts n (record { function = t.function; argument = t.argument; stage = s })) }) (staged (record { blocks = blocks; output = output; threads = map thread_of ts }) n (stage_of s))
-stage_set blocks output ts n t s e =
+pub stage_set : (blocks : Blocks) (output : List ℕ) (reached : List Reached) (ts : List Thread) (n : ℕ) (t : Thread) (s : Stage) → slice_get ts n ≡ Some t →
+    ◌≡◌ {A = World} (record { blocks = blocks; output = output; threads = map thread_of (set ts n (record { function = t.function; argument = t.argument; stage = s })); reached = reached }) (staged (record { blocks = blocks; output = output; threads = map thread_of ts; reached = reached }) n (stage_of s))
+stage_set blocks output reached ts n t s e =
     let g : slice_get (map thread_of ts) n ≡ Some (thread_of t) = slice_get-map thread_of ts n ∙ ap (option_map thread_of) e in
-    rw g (ap (λ (l : List actions.Thread). record { blocks = blocks; output = output; threads = l }) (map-set thread_of ts n (record { function = t.function; argument = t.argument; stage = s })))
+    rw g (ap (λ (l : List actions.Thread). record { blocks = blocks; output = output; threads = l; reached = reached }) (map-set thread_of ts n (record { function = t.function; argument = t.argument; stage = s })))
 
 pub number_at : (t u : IntType) (n : Num) (y : ℤ) → n ≡ num t y → t ≡ u → values.Num n ≡ values.Num (num u y)
 number_at t u n y e f = ap values.Num (e ∙ ap (λ (v : IntType). num v y) f)

@@ -7,6 +7,7 @@ use Rattle.shared_world.specs.declared.world.Done.{Done}
 use Rattle.shared_world.specs.declared.world.Done.TheVariants as dones
 use Rattle.shared_world.specs.declared.world.Printed.{Printed}
 use Rattle.shared_world.specs.declared.world.Printed.TheVariants as parts
+use Rattle.shared_world.specs.declared.world.Reached.{Reached}
 use Rattle.shared_world.specs.declared.world.Stage.{Stage}
 use Rattle.shared_world.specs.declared.world.Stage.TheVariants as stages
 use Rattle.shared_world.specs.declared.world.Thread.{Thread}
@@ -22,9 +23,13 @@ stage_of (stages.Joined z) = actions.joined z
 abbrev pub thread_of : Thread → actions.Thread
 thread_of t = record { function = t.function; argument = t.argument; stage = stage_of t.stage }
 
+-- bytes of a block that were reached
+abbrev pub reached_of : Reached → actions.Reached
+reached_of r = record { block = r.block; offset = r.offset; bytes = r.bytes; writes = r.writes }
+
 -- what threads share, as it is now
 abbrev pub world_of : World → actions.World
-world_of w = record { blocks = w.store.now; output = w.output.items; threads = map thread_of w.threads.items }
+world_of w = record { blocks = w.store.now; output = w.output.items; threads = map thread_of w.threads.items; reached = map reached_of w.reached.items }
 
 -- a part of what one call prints (C11 7.21.6.1)
 abbrev pub printed_of : Printed → actions.Printed

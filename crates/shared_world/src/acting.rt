@@ -6,7 +6,7 @@ ghost use Rattle.ak_words.specs.IntType.{int};
 ghost use Rattle.ak_words.specs.Num.{num};
 ghost use Rattle.block_store.specs.declared.values.Value.TheVariants as values;
 ghost use Rattle.block_store.specs.declared.values.Answer.TheVariants as answers;
-ghost use Rattle.block_store.specs.Actions.{acted, allocate, start, starts, next_number, staged, joined_by, stored_unless_null};
+ghost use Rattle.block_store.specs.Actions.{acted, allocate, start, starts, telling, writing, next_number, staged, joined_by, stored_unless_null};
 ghost use Rattle.block_store.specs.Actions as actions;
 ghost use Rattle.block_store.specs.Blocks.{answer_of, store_after, stored};
 ghost use Rattle.shared_world.specs.Worlds.{world_of, done_of, action_of, stage_of, Untouched};
@@ -46,17 +46,17 @@ impl World {
         ensures untouched { IfOk result (λ done. Untouched done self.old self.new) }
     {
         match action {
-            Action::Load(at, how) => Ok(self.load(at, how)),
-            Action::Store(at, v) => Ok(self.store_value(at, v)),
+            Action::Load(at, how) => self.load(at, how),
+            Action::Store(at, v) => self.store_value(at, v),
             Action::Copy(to, from, n, align, same) => self.copy(to, from, n, align, same),
             Action::Allocate(_, _) => Ok(Done::Unfit),
             Action::Free(at) => Ok(self.free(at)),
             Action::Print(parts) => self.print(alloc, &parts),
-            Action::Lock(at) => Ok(self.lock(at, thread)),
-            Action::Unlock(at) => Ok(self.unlock(at, thread)),
-            Action::Destroy(at) => Ok(self.destroy(at)),
+            Action::Lock(at) => self.lock(at, thread),
+            Action::Unlock(at) => self.unlock(at, thread),
+            Action::Destroy(at) => self.destroy(at),
             Action::Start(_, _, _) => Ok(Done::Unfit),
-            Action::Join(number, to) => Ok(self.join(thread, number, to)),
+            Action::Join(number, to) => self.join(thread, number, to),
             Action::Finish(value) => Ok(self.finish(thread, value)),
         }
     }
@@ -74,13 +74,13 @@ impl World {
     {
         match answer {
             Answer::Plain => Ok(Done::Unfit),
-            Answer::None => Ok(Done::Went(Some(Value::Pointer(Ptr::Null)))),
+            Answer::None => Ok(self.went(Some(Value::Pointer(Ptr::Null)))),
             Answer::Got => {
                 let Ok(size) = u32::try_from(size) else {
                     return Ok(Done::Unfit);
                 };
                 let block = self.store.make(size, BlockKind::Heap, first)?;
-                Ok(Done::Went(Some(Value::Pointer(Ptr::To { block, offset: 0 }))))
+                Ok(self.went(Some(Value::Pointer(Ptr::To { block, offset: 0 }))))
             }
         }
     }
@@ -99,14 +99,14 @@ impl World {
     {
         match answer {
             Answer::Plain => Ok(Done::Unfit),
-            Answer::None => Ok(Done::Went(Some(int_value(1)))),
+            Answer::None => Ok(self.went(Some(int_value(1)))),
             Answer::Got => self.start_got(to, function, argument),
         }
     }
 
     // A new thread that is made.
     fn start_got(&mut self, to: Ptr, function: u32, argument: Ptr) -> Result<Done, NoMemory>
-        ensures done { IfOk result (λ done. done_of done (world_of self.new) ≡ starts (world_of self.old) function argument (stored (world_of self.old).blocks to (next_number (world_of self.old)))) }
+        ensures done { IfOk result (λ done. done_of done (world_of self.new) ≡ telling (writing 8 to) (starts (world_of self.old) function argument (stored (world_of self.old).blocks to (next_number (world_of self.old))))) }
         ensures untouched { IfOk result (λ done. Untouched done self.old self.new) }
     {
         let number = self.next_number();
@@ -118,7 +118,7 @@ impl World {
                     argument,
                     stage: Stage::Running,
                 })?;
-                Ok(Done::Went(Some(int_value(0))))
+                self.went_writing(Some(int_value(0)), to, 8)
             }
         }
     }
@@ -131,22 +131,22 @@ impl World {
     }
 
     // The end of another thread is awaited.
-    fn join(&mut self, thread: u32, number: u128, to: Ptr) -> Done
-        ensures done { done_of result (world_of self.new) ≡ joined_by (world_of self.old) thread number to }
-        ensures untouched { Untouched result self.old self.new }
+    fn join(&mut self, thread: u32, number: u128, to: Ptr) -> Result<Done, NoMemory>
+        ensures done { IfOk result (λ done. done_of done (world_of self.new) ≡ telling (writing 4 to) (joined_by (world_of self.old) thread number to)) }
+        ensures untouched { IfOk result (λ done. Untouched done self.old self.new) }
     {
         if u128::from(thread) == number {
-            return Done::Broke(Rule::C14);
+            return Ok(Done::Broke(Rule::C14));
         }
         match self.stage(number) {
-            None => Done::Broke(Rule::C14),
-            Some(Stage::Running) => Done::Blocked,
-            Some(Stage::Joined(_)) => Done::Broke(Rule::C14),
+            None => Ok(Done::Broke(Rule::C14)),
+            Some(Stage::Running) => Ok(Done::Blocked),
+            Some(Stage::Joined(_)) => Ok(Done::Broke(Rule::C14)),
             Some(Stage::Returned(z)) => match self.store_result(to, z) {
-                Err(rule) => Done::Broke(rule),
+                Err(rule) => Ok(Done::Broke(rule)),
                 Ok(()) => {
                     self.set_stage(number, Stage::Joined(z));
-                    Done::Went(Some(int_value(0)))
+                    self.went_writing(Some(int_value(0)), to, 4)
                 }
             },
         }
@@ -177,7 +177,7 @@ impl World {
             None => 0,
         };
         self.set_stage(u128::from(thread), Stage::Returned(z));
-        Done::Went(None)
+        self.went(None)
     }
 
     // How far the thread of a number is, if it was made.

@@ -24,6 +24,19 @@ pub struct Thread {
     pub stage: Stage,
 }
 
+/// Bytes of a block that an action reached.
+#[derive(Clone, Copy, Debug, PartialEq, Eq)]
+pub struct Reached {
+    /// The block's name.
+    pub block: u64,
+    /// Where they begin in the block.
+    pub offset: u32,
+    /// How many they are.
+    pub bytes: u64,
+    /// Whether they were written, or else read.
+    pub writes: bool,
+}
+
 /// What threads share.
 #[derive(Drop)]
 pub struct World {
@@ -33,6 +46,8 @@ pub struct World {
     pub output: Vec<u8>,
     /// The threads by number, in the order in which they were made.
     pub threads: Vec<Thread>,
+    /// What the last action reached that was done.
+    pub reached: Vec<Reached>,
 }
 
 /// A part of what one call prints.

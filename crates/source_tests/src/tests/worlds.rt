@@ -23,6 +23,7 @@ fn two_threads(rt: HostRuntime) -> Result<(), Fail> {
         store: KeptStore::new(alloc, Store::new(alloc)),
         output: Vec::new(alloc),
         threads: Vec::new(alloc),
+        reached: Vec::new(alloc),
     };
     let block = world.store.make(8, BlockKind::Global, Cell::Byte(0))?;
     let mutex = Ptr::To { block, offset: 0 };

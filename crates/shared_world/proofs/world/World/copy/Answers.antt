@@ -3,4 +3,4 @@ use Rattle.shared_world.proofs.Broken.{changes_err}
 use Rattle.shared_world.proofs.world.World.copy.Goals as goal
 
 pub returns-in-Err-clause-done : goal.returns-in-Err-clause-done
-returns-in-Err-clause-done c = changes_err (world_of c.args.self.now) _ _ c.in-Err.ensures.answer
+returns-in-Err-clause-done c = changes_err _ (world_of c.args.self.now) _ _ c.in-Err.ensures.answer

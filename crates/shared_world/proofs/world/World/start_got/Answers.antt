@@ -7,4 +7,4 @@ use Rattle.shared_world.proofs.world.World.start_got.Goals as goal
 
 pub returns-in-Err-clause-done : goal.returns-in-Err-clause-done
 returns-in-Err-clause-done c =
-    starts_err (world_of c.args.self.now) c.args.function c.args.argument _ _ (c.in-Err.ensures.answer ∙ ap (λ (v : Value). answer_of (stored c.args.self.now.store.now c.args.to v)) c.next_number-number.ensures)
+    starts_err _ (world_of c.args.self.now) c.args.function c.args.argument _ _ (c.in-Err.ensures.answer ∙ ap (λ (v : Value). answer_of (stored c.args.self.now.store.now c.args.to v)) c.next_number-number.ensures)
