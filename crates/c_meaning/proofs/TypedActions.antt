@@ -19,7 +19,7 @@ use Rattle.block_store.specs.declared.values.Ptr.TheVariants.{Null, To}
 use Rattle.block_store.specs.declared.values.Value.{Value}
 use Rattle.block_store.specs.declared.values.Value.TheVariants as values
 use Rattle.block_store.specs.Actions as actions
-use Rattle.block_store.specs.Actions.{World, Thread, Stage, Action, Done, Reached, acted, under, outcomes, noted, at_stage, staged_if, staged}
+use Rattle.block_store.specs.Actions.{World, Thread, Stage, Action, Done, Reached, acted, under, outcomes, telling, at_stage, staged_if, staged}
 use Rattle.block_store.specs.Blocks.{Blocks, Spot, loaded, read_at, spot_at, cells_at, stored, copied, freed}
 use Rattle.block_store.specs.Cells.{size_of, value_of, read, has_unknown, number_of, pointer_of}
 use Rattle.block_store.specs.Mutexes.{locked, unlocked, destroyed}
@@ -30,7 +30,7 @@ use Rattle.c_tree.specs.TypedForm.{IsPointer, IsScalar, Fits, IsNth, Context, Ca
 use Rattle.c_meaning.specs.Control.{Control}
 use Rattle.c_meaning.specs.Library.{action_of, value_of_call}
 use Rattle.c_meaning.specs.Values.{access_of_type}
-use Rattle.c_meaning.specs.Kinds.{HasType, HasTypeIf, Leaves, CanBegin, IsTypedWorld}
+use Rattle.c_meaning.specs.Kinds.{HasType, HasTypeIf, StandBefore, CanBegin, IsTypedWorld}
 use Rattle.c_meaning.specs.Sound.{Takes, ComesOutAs, IsUnfit}
 use Rattle.c_meaning.proofs.TypedValues.{fits_type}
 
@@ -43,11 +43,11 @@ DoneWith t P actions.blocked = Unit {0}
 DoneWith t P actions.unfit = Unit {0}
 DoneWith t P (actions.broke rule) = Unit {0}
 
-noted_done : (t : tree.Typed) (P : Option Value → Type 0) (reached : List Reached) (d : Done) → DoneWith t P d → DoneWith t P (noted reached d)
-noted_done t P reached (actions.went v w) h = h
-noted_done t P reached actions.blocked h = tt
-noted_done t P reached actions.unfit h = tt
-noted_done t P reached (actions.broke rule) h = tt
+telling_done : (t : tree.Typed) (P : Option Value → Type 0) (reached : List Reached) (d : Done) → DoneWith t P d → DoneWith t P (telling reached d)
+telling_done t P reached (actions.went v w) h = h
+telling_done t P reached actions.blocked h = tt
+telling_done t P reached actions.unfit h = tt
+telling_done t P reached (actions.broke rule) h = tt
 
 under_done : (t : tree.Typed) (P : Option Value → Type 0) (answer : Answer) (o : actions.Outcomes) → DoneWith t P o.plain → DoneWith t P o.got → DoneWith t P o.none → DoneWith t P (under answer o)
 under_done t P answers.Plain o p g n = p
@@ -57,7 +57,7 @@ under_done t P answers.None o p g n = n
 pub acted_done : (t : tree.Typed) (P : Option Value → Type 0) (w : World) (thread : ℕ) (answer : Answer) (action : Action)
     → DoneWith t P (outcomes w thread action).plain → DoneWith t P (outcomes w thread action).got → DoneWith t P (outcomes w thread action).none → DoneWith t P (acted w thread answer action)
 acted_done t P w thread answer action p g n =
-    noted_done t P (actions.reads_of w action ++ actions.writes_of answer action) (under answer (outcomes w thread action)) (under_done t P answer (outcomes w thread action) p g n)
+    telling_done t P (actions.reads_of w action ++ actions.writes_of answer action) (under answer (outcomes w thread action)) (under_done t P answer (outcomes w thread action) p g n)
 
 -- no value
 abbrev pub IsNoValue : Option Value → Type 0

@@ -20,7 +20,7 @@ use Rattle.c_tree.specs.TypedForm.{IsPointer, IsScalar, Fits, IsNth, HasBits, Ar
 use Rattle.c_tree.specs.TypedPrinting.{parts}
 use Rattle.c_meaning.specs.Control.{Callee, function, library}
 use Rattle.c_meaning.specs.Library.{numbers_of, pointers_of, free_mutex, action_of, first_of_all, value_of_call}
-use Rattle.c_meaning.specs.Kinds.{HasType, HasTypeIf, IsCalled, Leaves, CanBegin, IsTypedWorld}
+use Rattle.c_meaning.specs.Kinds.{HasType, HasTypeIf, IsCalled, StandBefore, CanBegin, IsTypedWorld}
 use Rattle.c_meaning.proofs.TypedValues.{fits_type, pointer_scalar}
 use Rattle.c_meaning.proofs.TypedLocals.{at_number, ArgumentsHold, arguments_hold, params_scalar}
 use Rattle.c_meaning.proofs.TypedActions.{DoneWith, acted_done, IsNoValue, changes_done, waits_done, passes_done, done_if, store_done, copy_done, starts_done, joined_done, prints_done}
@@ -107,24 +107,24 @@ pub called_typed : (c : Context) (callee : Callee) (all : tree.Exprs) (ty : tree
 called_typed c (function number) all ty h = h.0
 called_typed c (library which) all ty h = h.0
 
-pub called_hold : (t : tree.Typed) (number : ℕ) (all : tree.Exprs) (ty : tree.Ty) (f : IsCalledFunc t number all ty) (args : List Value) → Leaves args tree.no_exprs all → ArgumentsHold args f.func.locals
+pub called_hold : (t : tree.Typed) (number : ℕ) (all : tree.Exprs) (ty : tree.Ty) (f : IsCalledFunc t number all ty) (args : List Value) → StandBefore args tree.no_exprs all → ArgumentsHold args f.func.locals
 called_hold t number all ty f args h = arguments_hold f.func.params f.func.locals all args f.well.in_registers f.arguments h
 
 -- ---- arguments in a row
 
-pub first_typed : (c : Context) (before : List Value) (e : tree.Expr) (rest all : tree.Exprs) → Leaves before (tree.more_exprs e rest) all → AreTyped c all → IsTyped c e
+pub first_typed : (c : Context) (before : List Value) (e : tree.Expr) (rest all : tree.Exprs) → StandBefore before (tree.more_exprs e rest) all → AreTyped c all → IsTyped c e
 first_typed c [] e rest all h t = let u : AreTyped c (tree.more_exprs e rest) = subst (AreTyped c) (sym h) t in u.0
 first_typed c (v ∷ before) e rest tree.no_exprs h t = elim h [ ]
 first_typed c (v ∷ before) e rest (tree.more_exprs d all) h t = first_typed c before e rest all h.1 t.1
 
-pub first_scalar : (before : List Value) (e : tree.Expr) (rest all : tree.Exprs) → Leaves before (tree.more_exprs e rest) all → AreScalar all → IsScalar (tree.type_of e)
+pub first_scalar : (before : List Value) (e : tree.Expr) (rest all : tree.Exprs) → StandBefore before (tree.more_exprs e rest) all → AreScalar all → IsScalar (tree.type_of e)
 first_scalar [] e rest all h t = let u : AreScalar (tree.more_exprs e rest) = subst AreScalar (sym h) t in u.0
 first_scalar (v ∷ before) e rest tree.no_exprs h t = elim h [ ]
 first_scalar (v ∷ before) e rest (tree.more_exprs d all) h t = first_scalar before e rest all h.1 t.1
 
 -- once its value is there, one argument fewer is left
-pub leaves_fewer : (before : List Value) (v : Value) (e : tree.Expr) (rest all : tree.Exprs) → Leaves before (tree.more_exprs e rest) all → HasType (tree.type_of e) v → Leaves (before ++ v ∷ []) rest all
-leaves_fewer [] v e rest all h t = subst (Leaves (v ∷ []) rest) h (t, refl)
+pub leaves_fewer : (before : List Value) (v : Value) (e : tree.Expr) (rest all : tree.Exprs) → StandBefore before (tree.more_exprs e rest) all → HasType (tree.type_of e) v → StandBefore (before ++ v ∷ []) rest all
+leaves_fewer [] v e rest all h t = subst (StandBefore (v ∷ []) rest) h (t, refl)
 leaves_fewer (u ∷ before) v e rest tree.no_exprs h t = elim h [ ]
 leaves_fewer (u ∷ before) v e rest (tree.more_exprs d all) h t = (h.0, leaves_fewer before v e rest all h.1 t)
 
@@ -136,7 +136,7 @@ HasTypes [] [] = Unit {0}
 HasTypes (t ∷ ts) (v ∷ vs) = HasType t v × HasTypes ts vs
 HasTypes ts vs = ⊥
 
-pub argument_types : (ts : List tree.Ty) (all : tree.Exprs) (vs : List Value) → AreArguments ts all → Leaves vs tree.no_exprs all → HasTypes ts vs
+pub argument_types : (ts : List tree.Ty) (all : tree.Exprs) (vs : List Value) → AreArguments ts all → StandBefore vs tree.no_exprs all → HasTypes ts vs
 argument_types [] tree.no_exprs [] a h = tt
 argument_types [] tree.no_exprs (v ∷ vs) a h = elim h [ ]
 argument_types [] (tree.more_exprs e all) vs a h = elim a [ ]
@@ -251,7 +251,7 @@ of_type : (t : tree.Typed) (which : tree.Lib) (args : List Value) (s ty : tree.T
 of_type t which args s ty e h = let P : tree.Ty → Type 0 = λ z. DoesOn t which z args in subst P (sym e) h
 
 -- a well formed call of the library
-pub lib_does : (t : tree.Typed) (g : tree.Func) (which : tree.Lib) (all : tree.Exprs) (ty : tree.Ty) (args : List Value) → IsLibCall (context_of t g) which all ty → Leaves args tree.no_exprs all
+pub lib_does : (t : tree.Typed) (g : tree.Func) (which : tree.Lib) (all : tree.Exprs) (ty : tree.Ty) (args : List Value) → IsLibCall (context_of t g) which all ty → StandBefore args tree.no_exprs all
     → LibDoes t which args ty (action_of which args)
 lib_does t g (tree.print pieces) all ty args h l = of_type t (tree.print pieces) args (tree.integer int) ty h.1 (print_does t pieces args)
 lib_does t g tree.malloc all ty args h l = of_type t tree.malloc args (tree.pointer tree.void) ty h.1 (malloc_does t args (argument_types (tree.integer unsigned_long ∷ []) all args h.0 l))

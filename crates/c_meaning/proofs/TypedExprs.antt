@@ -20,7 +20,7 @@ use Rattle.c_meaning.specs.Control.{Variable, Callee, Wait, wanted, dropped}
 use Rattle.c_meaning.specs.Values as reads
 use Rattle.c_meaning.specs.Values.{access_of_type, truth_of, int_of, Unary, Binary}
 use Rattle.c_meaning.specs.Turns.{Here, Now, Does, WayOfUse, on_ok, after_call, variable_at, pointer_in, read_way, only_way, second_way, first_way, second_test_way, is_same, first_test_way, choice_way, argument_way, reads_variable, finds_variable, run, run_node, run_place, run_place_node, run_arguments}
-use Rattle.c_meaning.specs.Kinds.{HasKind, HasType, HasTypeIf, MayHold, TakesOne, TakesTwo, IsCalled, Leaves, Awaits}
+use Rattle.c_meaning.specs.Kinds.{HasKind, HasType, HasTypeIf, MayHold, TakesOne, TakesTwo, IsCalled, StandBefore, Awaits}
 use Rattle.c_meaning.proofs.TypedValues.{OkWith, not_c4, Anything, kind_type, type_kind, int_kind, truth_ok, of_one_ok, of_two_ok, number_operands, on_numbers_taken, forward_taken, backward_taken, distance_taken, on_pointers_taken, converts_taken, converts_scalar, integer_scalar, pointer_scalar, pointer_access, sized_pointer, moved_scalar}
 use Rattle.c_meaning.proofs.TypedLocals.{Site, here_at, inside_at, Stands, IsNow, hold_at}
 use Rattle.c_meaning.proofs.TypedActions.{load_done}
@@ -116,9 +116,9 @@ finds_fine s place w (control.lies block) g x n = g.goes (block_value block) tt 
 
 -- ---- arguments
 
-pub argument_takes : (s : Site) (place : ℕ) (callee : Callee) (before : List Value) (e : tree.Expr) (rest all : tree.Exprs) (ty : tree.Ty) (run_rest : Answer → List Value → Wait → Does) (k : Answer → Wait) → IsCalled (context_at s) callee all ty → Leaves before (tree.more_exprs e rest) all → IsScalar (tree.type_of e)
+pub argument_takes : (s : Site) (place : ℕ) (callee : Callee) (before : List Value) (e : tree.Expr) (rest all : tree.Exprs) (ty : tree.Ty) (run_rest : Answer → List Value → Wait → Does) (k : Answer → Wait) → IsCalled (context_at s) callee all ty → StandBefore before (tree.more_exprs e rest) all → IsScalar (tree.type_of e)
     → ((answer : Answer) → Awaits (inside_at s) ty (k answer))
-    → ((args : List Value) → Leaves args rest all → IsFine s (λ answer. run_rest answer args (k answer)))
+    → ((args : List Value) → StandBefore args rest all → IsFine s (λ answer. run_rest answer args (k answer)))
     → TakesKind s (kind_at e) (λ answer. argument_way place callee before rest (run_rest answer) (k answer))
 argument_takes s place callee before e rest all ty run_rest k c l scalar waits r = record {
   expects = λ answer. (ty, e, all, c, l, refl, waits answer);
@@ -240,7 +240,7 @@ mutual
   run_place_node_fine s f place ty node h l w g x n = elim l [ ]
 
   -- the arguments that are left, and then the call
-  pub run_arguments_fine : (s : Site) → Stands s → (place : ℕ) (callee : Callee) (all : tree.Exprs) (ty : tree.Ty) (args : tree.Exprs) (before : List Value) (k : Answer → Wait) → IsCalled (context_at s) callee all ty → Leaves before args all
+  pub run_arguments_fine : (s : Site) → Stands s → (place : ℕ) (callee : Callee) (all : tree.Exprs) (ty : tree.Ty) (args : tree.Exprs) (before : List Value) (k : Answer → Wait) → IsCalled (context_at s) callee all ty → StandBefore before args all
       → ((answer : Answer) → Awaits (inside_at s) ty (k answer)) → IsFine s (λ answer. run_arguments (here_at s answer) place callee args before (k answer))
   run_arguments_fine s f place callee all ty tree.no_exprs before k c l waits x n = calls_fine s place callee all ty before k f c l waits x n
   run_arguments_fine s f place callee all ty (tree.more_exprs e rest) before k c l waits x n =

@@ -12,7 +12,7 @@ use Rattle.block_store.specs.declared.values.Ptr.TheVariants.{To}
 use Rattle.block_store.specs.declared.values.Value.{Value}
 use Rattle.block_store.specs.declared.values.Value.TheVariants as values
 use Rattle.block_store.specs.Actions as actions
-use Rattle.block_store.specs.Actions.{World, Thread, Stage, Action, Done, Reached, acted, under, outcomes, noted}
+use Rattle.block_store.specs.Actions.{World, Thread, Stage, Action, Done, Reached, acted, under, outcomes, telling}
 use Rattle.block_store.specs.Blocks.{Blocks, made, loaded, stored, copied, freed}
 use Rattle.block_store.specs.Mutexes.{locked, unlocked, destroyed}
 use Rattle.block_store.specs.Runs as runs
@@ -76,11 +76,11 @@ joined_fits w self thread to = joined_fits_if (self == thread) (actions.joins_if
 abbrev Exactly : Done → Type 0 → Type 0
 Exactly d P = (Refuses d → ⊥) ↔ P
 
-noted_exactly : (reached : List Reached) (d : Done) (P : Type 0) → Exactly d P → Exactly (noted reached d) P
-noted_exactly reached (actions.went v w) P e = e
-noted_exactly reached actions.blocked P e = e
-noted_exactly reached actions.unfit P e = e
-noted_exactly reached (actions.broke rule) P e = e
+telling_exactly : (reached : List Reached) (d : Done) (P : Type 0) → Exactly d P → Exactly (telling reached d) P
+telling_exactly reached (actions.went v w) P e = e
+telling_exactly reached actions.blocked P e = e
+telling_exactly reached actions.unfit P e = e
+telling_exactly reached (actions.broke rule) P e = e
 
 taken : (d : Done) → (Refuses d → ⊥) → Exactly d (Unit {0})
 taken d n = (λ m. tt, λ u. n)
@@ -137,7 +137,7 @@ under_takes w thread (actions.finish value) answers.None = not_taken
 -- an action takes just these answers
 pub action_takes : (w : World) (thread : ℕ) (action : Action) (answer : Answer) → Exactly (acted w thread answer action) (Takes action answer)
 action_takes w thread action answer =
-    noted_exactly (actions.reads_of w action ++ actions.writes_of answer action) (under answer (outcomes w thread action)) (Takes action answer) (under_takes w thread action answer)
+    telling_exactly (actions.reads_of w action ++ actions.writes_of answer action) (under answer (outcomes w thread action)) (Takes action answer) (under_takes w thread action answer)
 
 -- ---- turns
 

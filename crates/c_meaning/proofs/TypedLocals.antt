@@ -11,7 +11,7 @@ use Rattle.c_tree.specs.Typed as tree
 use Rattle.c_tree.specs.TypedForm.{IsScalar, Fits, AreArguments, Inside, IsFunc, IsLocal, IsWellFormed}
 use Rattle.c_meaning.specs.Control.{Variable, unset, holds, lies, Caller}
 use Rattle.c_meaning.specs.Turns.{Here, Now, local_at, declared_in, is_block, variable_or_unset, variable_at, with_variable, ended_if, ended_local, ended_locals, with_block, made_local, declared_local, without_block, without_blocks, first_locals}
-use Rattle.c_meaning.specs.Kinds.{HasType, MayHold, AllHold, Leaves, inside, AreTypedCallers, IsTypedWorld}
+use Rattle.c_meaning.specs.Kinds.{HasType, MayHold, AllHold, StandBefore, inside, AreTypedCallers, IsTypedWorld}
 use Rattle.c_meaning.proofs.TypedValues.{fits_type}
 
 -- ---- where a turn is
@@ -151,7 +151,7 @@ NotInMemory l = l.in_memory ≡ false
 
 -- the values of well formed arguments are those of the parameters
 pub arguments_hold : (n : ℕ) (ls : List tree.Local) (all : tree.Exprs) (vs : List Value) → AllByRecursion NotInMemory (take n ls) → AreArguments (map type_of_local (take n ls)) all
-    → Leaves vs tree.no_exprs all → ArgumentsHold vs ls
+    → StandBefore vs tree.no_exprs all → ArgumentsHold vs ls
 arguments_hold n ls all [] m a h = tt
 arguments_hold n ls tree.no_exprs (v ∷ vs) m a h = elim h [ ]
 arguments_hold zero ls (tree.more_exprs e all) (v ∷ vs) m a h = elim a [ ]

@@ -20,7 +20,7 @@ use Rattle.c_meaning.specs.Control as control
 use Rattle.c_meaning.specs.Control.{Control, Variable, Callee, Wait, wanted, dropped, Caller, Point}
 use Rattle.c_meaning.specs.Library.{action_of, value_of_call}
 use Rattle.c_meaning.specs.Turns.{Here, Now, Does, WayOfUse, Way, on_ok, plainly, stays, on_done, acts, after_call, begins_in, enters, calls_library, calls, result_of_call, number_in, returns_to, leaves_call, without_blocks}
-use Rattle.c_meaning.specs.Kinds.{HasType, HasTypeIf, HasKind, AllHold, IsCalled, Leaves, IsTypedTodo, Expects, Awaits, IsTypedPoint, IsTypedCaller, AreTypedCallers, IsTypedControl, IsTypedWorld}
+use Rattle.c_meaning.specs.Kinds.{HasType, HasTypeIf, HasKind, AllHold, IsCalled, StandBefore, IsTypedTodo, Expects, Awaits, IsTypedPoint, IsTypedCaller, AreTypedCallers, IsTypedControl, IsTypedWorld}
 use Rattle.c_meaning.specs.Sound.{End, breaking, quiet, acting, ComesOutAs, IsNotC16, EndsAs, IsTypedTurn}
 use Rattle.c_meaning.proofs.TypedValues.{OkWith, type_kind}
 use Rattle.c_meaning.proofs.TypedLocals.{Site, here_at, inside_at, Stands, IsNow, first_hold, without_blocks_world}
@@ -125,7 +125,7 @@ after_typed s ty (dropped k) v w h = w
 
 -- ---- calls
 
-enters_fine : (s : Site) (number : ℕ) (all : tree.Exprs) (ty : tree.Ty) (args : List Value) (k : Answer → Wait) → Stands s → IsCalled (inside_at s).context (control.function number) all ty → Leaves args tree.no_exprs all
+enters_fine : (s : Site) (number : ℕ) (all : tree.Exprs) (ty : tree.Ty) (args : List Value) (k : Answer → Wait) → Stands s → IsCalled (inside_at s).context (control.function number) all ty → StandBefore args tree.no_exprs all
     → ((answer : Answer) → Awaits (inside_at s) ty (k answer)) → IsFine s (λ answer x. enters (here_at s answer) number args (k answer) x (slice_get s.typed.funcs number))
 enters_fine s number all ty args k f c l waits x n =
     let g = called_func s.typed number all ty f.well c.1 in
@@ -150,7 +150,7 @@ library_fine s place which ty args k (Some action) f does waits x n =
     (λ answer v h. after_typed s ty (k answer) (value_of_call which args v) (waits answer) h) x n
 
 -- a call of which the arguments are known
-pub calls_fine : (s : Site) (place : ℕ) (callee : Callee) (all : tree.Exprs) (ty : tree.Ty) (args : List Value) (k : Answer → Wait) → Stands s → IsCalled (inside_at s).context callee all ty → Leaves args tree.no_exprs all
+pub calls_fine : (s : Site) (place : ℕ) (callee : Callee) (all : tree.Exprs) (ty : tree.Ty) (args : List Value) (k : Answer → Wait) → Stands s → IsCalled (inside_at s).context callee all ty → StandBefore args tree.no_exprs all
     → ((answer : Answer) → Awaits (inside_at s) ty (k answer)) → IsFine s (λ answer. calls (here_at s answer) place callee args (k answer))
 calls_fine s place (control.function number) all ty args k f c l waits x n = enters_fine s number all ty args k f c l waits x n
 calls_fine s place (control.library which) all ty args k f c l waits x n =

@@ -85,10 +85,10 @@ IsCalled c (function number) all ty = IsTypedNode c ty (tree.call number all)
 IsCalled c (library which) all ty = IsTypedNode c ty (tree.lib which all)
 
 -- of all arguments these values are those of the first, each of its argument's type, and these arguments are left
-abbrev pub Leaves : List Value → (rest all : tree.Exprs) → Type 0
-Leaves [] rest all = rest ≡ all
-Leaves (v ∷ vs) rest tree.no_exprs = ⊥
-Leaves (v ∷ vs) rest (tree.more_exprs e all) = HasType (tree.type_of e) v × Leaves vs rest all
+abbrev pub StandBefore : List Value → (rest all : tree.Exprs) → Type 0
+StandBefore [] rest all = rest ≡ all
+StandBefore (v ∷ vs) rest tree.no_exprs = ⊥
+StandBefore (v ∷ vs) rest (tree.more_exprs e all) = HasType (tree.type_of e) v × StandBefore vs rest all
 
 -- ---- what is left to do, in a function
 
@@ -130,7 +130,7 @@ abbrev mutual
   Expects i how (choice place one other k) = IsTyped i.context one × IsTyped i.context other × IsScalar (tree.type_of one) × (tree.type_of other ≡ tree.type_of one)
       × Expects i (access_of_type (tree.type_of one)) k
   Expects i how (argument place callee before rest k) = (ty : tree.Ty) × (e : tree.Expr) × (all : tree.Exprs) × IsCalled i.context callee all ty
-      × Leaves before (tree.more_exprs e rest) all × (access_of_type (tree.type_of e) ≡ how) × Awaits i ty k
+      × StandBefore before (tree.more_exprs e rest) all × (access_of_type (tree.type_of e) ≡ how) × Awaits i ty k
   Expects i how (to_local number k) = IsNth i.context.locals number (λ l. (l.in_memory ≡ false) × (access_of_type l.ty ≡ how)) × IsTypedTodo i k
   Expects i how (left_place place right k) = (how ≡ accesses.Pointer) × IsTyped i.context right × IsScalar (tree.type_of right) × IsTypedTodo i k
   Expects i how (to_place place to k) = IsPointer to × IsTypedTodo i k
