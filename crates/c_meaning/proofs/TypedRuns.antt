@@ -102,30 +102,42 @@ runs_keep_types t wf order s e = run_typed t wf order 0 (runs.first_state (progr
 
 -- ---- turns of the threads that run
 
-unfit_is : (u : Turn Control) → IsUnfit u → ◌≡◌ {A = Option (Turn Control)} (Some u) (Some runs.unfit)
-unfit_is (runs.went own w) h = elim h [ ]
-unfit_is (runs.ended w) h = elim h [ ]
-unfit_is runs.blocked h = elim h [ ]
-unfit_is runs.unfit h = refl
-unfit_is (runs.broke rule place) h = elim h [ ]
+-- what comes of one pick more
+abbrev comes_to : runs.Program Control → State Control → Pick → (k : ℕ) → Run Control
+comes_to P s p k = goes_on P (λ next. runs.reaches next) s p.thread k (picked P s p)
 
-is_unfit : (u : Turn Control) → ◌≡◌ {A = Option (Turn Control)} (Some u) (Some runs.unfit) → IsUnfit u
-is_unfit (runs.went own w) e = absurd cc
-is_unfit (runs.ended w) e = absurd cc
-is_unfit runs.blocked e = absurd cc
-is_unfit runs.unfit e = tt
-is_unfit (runs.broke rule place) e = absurd cc
+one_after : (P : runs.Program Control) (go further : State Control → Run Control) (p : Pick) (first s : State Control) (thread k : ℕ) (o : Option (Turn Control))
+    → ((next : State Control) → go next ≡ runs.reaches s → (n : ℕ) × (further next ≡ comes_to P s p n))
+    → goes_on P go first thread k o ≡ runs.reaches s → (n : ℕ) × (goes_on P further first thread k o ≡ comes_to P s p n)
+one_after P go further p first s thread k None rest e = absurd cc
+one_after P go further p first s thread k (Some (runs.went own w)) rest e = rest (next_state P first thread (Some own) w) e
+one_after P go further p first s thread k (Some (runs.ended w)) rest e = rest (next_state P first thread None w) e
+one_after P go further p first s thread k (Some runs.blocked) rest e = absurd cc
+one_after P go further p first s thread k (Some runs.unfit) rest e = absurd cc
+one_after P go further p first s thread k (Some (runs.broke rule place)) rest e = absurd cc
+
+one_more : (P : runs.Program Control) (order : List Pick) (p : Pick) (k : ℕ) (first s : State Control) → run_from P order k first ≡ runs.reaches s → (n : ℕ) × (run_from P (order ++ p ∷ []) k first ≡ comes_to P s p n)
+one_more P [] p k first s e = let same : first ≡ s = cc in (k, ap (λ (x : State Control). comes_to P x p k) same)
+one_more P (q ∷ order) p k first s e =
+    one_after P (run_from P order (suc k)) (run_from P (order ++ p ∷ []) (suc k)) p first s q.thread k (picked P first q) (λ next i. one_more P order p (suc k) next s i) e
 
 pick_of : (P : runs.Program Control) (s : State Control) (p : Pick) (main own : Control) → own_at s.own 0 ≡ Some main → own_at s.own p.thread ≡ Some own → picked P s p ≡ Some (P.turn p.thread p.answer own s.world)
 pick_of P s p main own m o = ap (λ (x : Option Control). turn_if P s p x (own_at s.own p.thread)) m ∙ ap (turn_if P s p (Some main)) o
 
-fits_pick : (u : Turn Control) (o : Option (Turn Control)) (P : Type 0) → o ≡ Some u → (IsUnfit u → ⊥) ↔ P → (o ≡ Some runs.unfit → ⊥) ↔ P
-fits_pick u o P e h = (λ n. h.0 (λ i. n (e ∙ unfit_is u i)), λ p i. h.1 p (is_unfit u (sym e ∙ i)))
+-- a turn that takes its answer has no run only where it waits
+waits_only : (P : runs.Program Control) (s : State Control) (thread n k : ℕ) (u : Turn Control) → (IsUnfit u → ⊥) → goes_on P (λ next. runs.reaches next) s thread n (Some u) ≡ runs.no_run k → u ≡ runs.blocked
+waits_only P s thread n k (runs.went own w) f e = absurd cc
+waits_only P s thread n k (runs.ended w) f e = absurd cc
+waits_only P s thread n k runs.blocked f e = refl
+waits_only P s thread n k runs.unfit f e = absurd (f tt)
+waits_only P s thread n k (runs.broke rule place) f e = absurd cc
 
 pub runs_go_on : RunsGoOn
-runs_go_on t wf order s e thread main own m o =
+runs_go_on t wf order s e p main own m o =
     let h = runs_keep_types t wf order s e in
-    let c : IsTypedControl t own = subst (IsTypedOwn t) o (own_typed t s.own thread h.threads) in
-    let g = turns_go_on t wf thread own s.world c h.world in
-    (g.0, g.1, λ answer. fits_pick (turn t thread answer own s.world) (picked (program t) s (record { thread = thread; answer = answer })) (FitsEnd g.0 answer)
-      (pick_of (program t) s (record { thread = thread; answer = answer }) main own m o) (g.2 answer))
+    let c : IsTypedControl t own = subst (IsTypedOwn t) o (own_typed t s.own p.thread h.threads) in
+    let g = turns_go_on t wf p.thread own s.world c h.world in
+    let more = one_more (program t) order p 0 (runs.first_state (program t) (start t)) s e in
+    let turned : picked (program t) s p ≡ Some (turn t p.thread p.answer own s.world) = pick_of (program t) s p main own m o in
+    (g.0, g.1, λ fits k none. waits_only (program t) s p.thread more.0 k (turn t p.thread p.answer own s.world) ((g.2 p.answer).1 fits)
+      (sym (ap (goes_on (program t) (λ next. runs.reaches next) s p.thread more.0) turned) ∙ sym more.1 ∙ none))

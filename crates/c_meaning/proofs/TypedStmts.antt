@@ -16,8 +16,8 @@ use Rattle.c_meaning.specs.Control as control
 use Rattle.c_meaning.specs.Control.{Variable, Loop, Update, Callee, dropped, wanted}
 use Rattle.c_meaning.specs.Values.{access_of_type, is_scalar, truth_of, updated}
 use Rattle.c_meaning.specs.Turns.{Here, Now, Does, WayOfUse, Way, on_ok, plainly, stays, after_call, local_at, is_block, variable_at, with_variable, ended_local, ended_locals, made_local, declared_local, declared, declared_by, pointer_in, run, run_node, run_place, run_place_node, run_arguments, nowhere_way, drops_object, run_dropped, run_dropped_node, local_way, place_way, left_way, struct_right_way, struct_left_way, is_struct, assigns_object, assigns, update_read_way, update_right_way, update_left_way, updates_variable, update_local_way, updates, initialises, declares, caller_way, returns, if_way, nothing, leave_way, row_way, end_way, round_over, step_way, body_way, loop_test_way, rounds_if, rounds, loop_way, while_loop, for_loop, update_of, run_stmt, run_stmt_node, run_row}
-use Rattle.c_meaning.specs.Kinds.{HasKind, HasTypeIf, IsPointer, MayHold, UpdatesBy, IsCalled, IsWellSomewhere, IsTypedLoop}
-use Rattle.c_meaning.proofs.TypedValues.{OkWith, not_c4, Anything, pointer_kind, kind_type, type_kind, fits_kind, truth_ok, updated_ok, updates_scalar}
+use Rattle.c_meaning.specs.Kinds.{HasKind, HasTypeIf, MayHold, UpdatesBy, IsCalled, IsWellSomewhere, IsTypedLoop}
+use Rattle.c_meaning.proofs.TypedValues.{OkWith, not_c4, Anything, kind_type, type_kind, fits_kind, truth_ok, updated_ok, updates_scalar}
 use Rattle.c_meaning.proofs.TypedLocals.{Site, here_at, inside_at, Stands, IsNow, hold_at, with_now, unset_now, ended_local_now, ended_locals_now, local_found, made_now, declared_now}
 use Rattle.c_meaning.proofs.TypedActions.{IsNoValue, load_done, store_done, copy_done}
 use Rattle.c_meaning.proofs.TypedCalls.{fits_scalar}
@@ -59,7 +59,7 @@ local_takes s number how w f r g = record {
   goes = λ v h x n. g.ends (with_variable number (control.holds v) x) (with_now s number (control.holds v) x n (register_holds s f number how r v h));
 }
 
-pub place_takes : (s : Site) (place : ℕ) (to : Value) (how : Access) (w : Answer → Way) → Stands s → IsPointer to → Follows s w → TakesKind s how (λ answer. place_way (here_at s answer) place to (w answer))
+pub place_takes : (s : Site) (place : ℕ) (to : Value) (how : Access) (w : Answer → Way) → Stands s → HasKind accesses.Pointer to → Follows s w → TakesKind s how (λ answer. place_way (here_at s answer) place to (w answer))
 place_takes s place to how w f p g = record {
   expects = λ answer. (p, g.todo answer);
   goes = λ v h x n. acts_fine s place (actions.store (pointer_in to) v) IsNoValue (λ answer u. control.begins (w answer).k) f
@@ -69,10 +69,10 @@ place_takes s place to how w f p g = record {
 pub left_takes : (s : Site) (place : ℕ) (right : tree.Expr) (w : Answer → Way) → Stands s → IsTyped (context_at s) right → IsScalar (tree.type_of right) → Follows s w → TakesKind s accesses.Pointer (λ answer. left_way (here_at s answer) place right (w answer))
 left_takes s place right w f t scalar g = record {
   expects = λ answer. (refl, t, scalar, g.todo answer);
-  goes = λ v h x n. run_fine s f right t scalar (λ answer. place_way (here_at s answer) place v (w answer)) (place_takes s place v (kind_at right) w f (pointer_kind accesses.Pointer v refl h) g) x n;
+  goes = λ v h x n. run_fine s f right t scalar (λ answer. place_way (here_at s answer) place v (w answer)) (place_takes s place v (kind_at right) w f h g) x n;
 }
 
-pub struct_right_takes : (s : Site) (place : ℕ) (ty : tree.Ty) (to : Value) (w : Answer → Way) → Stands s → IsPointer to → Follows s w → TakesKind s accesses.Pointer (λ answer. struct_right_way (here_at s answer) place ty to (w answer))
+pub struct_right_takes : (s : Site) (place : ℕ) (ty : tree.Ty) (to : Value) (w : Answer → Way) → Stands s → HasKind accesses.Pointer to → Follows s w → TakesKind s accesses.Pointer (λ answer. struct_right_way (here_at s answer) place ty to (w answer))
 struct_right_takes s place ty to w f p g = record {
   expects = λ answer. (refl, p, g.todo answer);
   goes = λ v h x n.
@@ -85,7 +85,7 @@ struct_right_takes s place ty to w f p g = record {
 pub struct_left_takes : (s : Site) (place : ℕ) (ty : tree.Ty) (right : tree.Expr) (w : Answer → Way) → Stands s → IsTyped (context_at s) right → IsLvalue (tree.node_of right) → Follows s w → TakesKind s accesses.Pointer (λ answer. struct_left_way (here_at s answer) place ty right (w answer))
 struct_left_takes s place ty right w f t l g = record {
   expects = λ answer. (refl, t, l, g.todo answer);
-  goes = λ v h x n. run_place_fine s f right t l (λ answer. struct_right_way (here_at s answer) place ty v (w answer)) (struct_right_takes s place ty v w f (pointer_kind accesses.Pointer v refl h) g) x n;
+  goes = λ v h x n. run_place_fine s f right t l (λ answer. struct_right_way (here_at s answer) place ty v (w answer)) (struct_right_takes s place ty v w f h g) x n;
 }
 
 assigns_object_fine : (s : Site) (left right : tree.Expr) → Stands s → IsTyped (context_at s) left → IsTyped (context_at s) right → IsLvalue (tree.node_of left) → Fits (tree.type_of right) (tree.type_of left) → Executes s (λ answer. assigns_object (here_at s answer) left right)
@@ -126,14 +126,14 @@ assign_fine s (tree.at place ty node) right f t u l fit = assigns_fine s place t
 by_kind : (s : Site) (u : Update) (how : Access) (can : UpdatesBy (inside_at s) u how) (v : Value) → HasKind how v → HasKind (access_of_type can.0) v
 by_kind s u how can v h = subst (λ (a : Access). HasKind a v) (sym can.2) h
 
-pub update_read_takes : (s : Site) (u : Update) (at by : Value) (how : Access) (w : Answer → Way) → Stands s → IsPointer at → UpdatesBy (inside_at s) u how → HasKind how by → Follows s w → TakesKind s (access_of_type u.ty) (λ answer. update_read_way (here_at s answer) u at by (w answer))
+pub update_read_takes : (s : Site) (u : Update) (at by : Value) (how : Access) (w : Answer → Way) → Stands s → HasKind accesses.Pointer at → UpdatesBy (inside_at s) u how → HasKind how by → Follows s w → TakesKind s (access_of_type u.ty) (λ answer. update_read_way (here_at s answer) u at by (w answer))
 update_read_takes s u at by how w f p can b g = record {
   expects = λ answer. (refl, p, (how, can, b), g.todo answer);
   goes = λ v h x n. ok_fine s u.operator (HasKind (access_of_type u.ty)) (λ answer r. (place_way (here_at s answer) u.place at (w answer)).go r x) (updated s.typed.structs x.world.blocks u.ty u.op v by)
       (updated_ok s.typed.structs x.world.blocks u.op u.ty can.0 v by can.1 h (by_kind s u how can by b)) (λ r i. (place_takes s u.place at (access_of_type u.ty) w f p g).goes r i x n);
 }
 
-pub update_right_takes : (s : Site) (u : Update) (at : Value) (how : Access) (w : Answer → Way) → Stands s → IsPointer at → UpdatesBy (inside_at s) u how → Follows s w → TakesKind s how (λ answer. update_right_way (here_at s answer) u at (w answer))
+pub update_right_takes : (s : Site) (u : Update) (at : Value) (how : Access) (w : Answer → Way) → Stands s → HasKind accesses.Pointer at → UpdatesBy (inside_at s) u how → Follows s w → TakesKind s how (λ answer. update_right_way (here_at s answer) u at (w answer))
 update_right_takes s u at how w f p can g = record {
   expects = λ answer. (p, can, g.todo answer);
   goes = λ v h x n. acts_fine s u.place (actions.load (pointer_in at) (access_of_type u.ty)) (HasTypeIf u.ty) (λ answer r. after_call (wanted u.place (control.update_read u at v (w answer).k)) r) f
@@ -145,7 +145,7 @@ pub update_left_takes : (s : Site) (u : Update) (right : tree.Expr) (w : Answer 
 update_left_takes s u right w f t can g = record {
   expects = λ answer. (refl, t, can, g.todo answer);
   goes = λ v h x n. run_fine s f right t (updates_scalar s.typed.structs u.op u.ty (tree.type_of right) can).1 (λ answer. update_right_way (here_at s answer) u v (w answer))
-      (update_right_takes s u v (kind_at right) w f (pointer_kind accesses.Pointer v refl h) (tree.type_of right, can, refl) g) x n;
+      (update_right_takes s u v (kind_at right) w f h (tree.type_of right, can, refl) g) x n;
 }
 
 -- a local of this number that isn't in memory, and has the type of the left side

@@ -1,15 +1,18 @@
 -- Whole turns of a thread come out well, and threads begin so.
-use Rattle.std.proofs.Common.{◌≡◌, ◌↔◌, ℕ, zero, suc, Bool, false, List, [], ◌∷◌, map, take, Option, Some, None, refl, sym, ap, subst, ◌∙◌, ◌⊎◌, inl, inr}
+use Rattle.std.proofs.Common.{◌≡◌, ◌↔◌, ℕ, zero, suc, ◌^◌, ◌<◌, ◌≤◌, Bool, false, List, [], ◌∷◌, map, take, Option, Some, None, refl, sym, ap, subst, ◌∙◌, ◌⊎◌, inl, inr, arith}
 use Rattle.std.specs.Prelude.{slice_get}
 use Rattle.ak_words.specs.IntType.{int}
 use Rattle.ak_words.specs.declared.rule.Rule.TheVariants.{C15}
 use Rattle.block_store.specs.declared.values.Access.{Access}
 use Rattle.block_store.specs.declared.values.Access.TheVariants as accesses
 use Rattle.block_store.specs.declared.values.Answer.{Answer}
+use Rattle.block_store.specs.declared.values.Answer.TheVariants as answers
 use Rattle.block_store.specs.declared.values.Ptr.{Ptr}
 use Rattle.block_store.specs.declared.values.Value.{Value}
 use Rattle.block_store.specs.declared.values.Value.TheVariants as values
-use Rattle.block_store.specs.Actions.{World}
+use Rattle.block_store.specs.Actions as actions
+use Rattle.block_store.specs.Actions.{World, Action}
+use Rattle.block_store.specs.Runs.{Turn}
 use Rattle.c_tree.specs.Typed as tree
 use Rattle.c_tree.specs.TypedForm.{IsScalar, IsFunc, IsMain, CanStart, IsWellFormed, signature_of}
 use Rattle.c_meaning.specs.Control as control
@@ -18,7 +21,7 @@ use Rattle.c_meaning.specs.Values.{access_of_type}
 use Rattle.c_meaning.specs.Turns.{Here, Now, Does, WayOfUse, read_way, leave_way, run, run_arguments, run_stmt, run_row, way_of, use_of, from_point, turn, begins_in}
 use Rattle.c_meaning.specs.Meaning.{program, arguments_if, begins_if}
 use Rattle.c_meaning.specs.Kinds.{HasKind, IsTypedTodo, Expects, IsTypedPoint, IsTypedControl, IsTypedWorld, CanBegin}
-use Rattle.c_meaning.specs.Sound.{FitsEnd, EndsAs, IsUnfit, ThreadsBeginTyped, TurnsKeepTypes, TurnsGoOn}
+use Rattle.c_meaning.specs.Sound.{Takes, End, breaking, quiet, acting, FitsEnd, EndsAs, IsChosen, AllocatesTooMuch, IsUnfit, ThreadsBeginTyped, TurnsKeepTypes, TurnsGoOn, SomeAnswerFits}
 use Rattle.c_meaning.proofs.TypedValues.{not_c15}
 use Rattle.c_meaning.proofs.TypedLocals.{Site, here_at, inside_at, Stands, IsNow, ArgumentsHold, first_hold, pointer_holds, type_of_local, at_number}
 use Rattle.c_meaning.proofs.TypedFits.{end_takes}
@@ -120,6 +123,37 @@ turns_keep_types t wf thread answer c w h n = (turn_fine t wf thread c w h n).ty
 
 pub turns_go_on : TurnsGoOn
 turns_go_on t wf thread c w h n = let fine = turn_fine t wf thread c w h n in (fine.end, fine.ends, end_takes thread (λ answer. turn t thread answer c w) fine.end fine.ends)
+
+-- ---- where Plain isn't taken
+
+chosen_action : (action : Action) → (Takes action answers.Plain → ⊥) → IsChosen action
+chosen_action (actions.allocate size first) n = tt
+chosen_action (actions.start to function argument) n = tt
+chosen_action action n = absurd (n tt)
+
+none_taken : (action : Action) → IsChosen action → Takes action answers.None
+none_taken (actions.allocate size first) c = tt
+none_taken (actions.start to function argument) c = tt
+none_taken action c = elim c [ ]
+
+at_least : (size : ℕ) → (size < 2 ^ 32 → ⊥) → 2 ^ 32 ≤ size
+at_least size n = omega arith
+
+got_taken : (action : Action) → IsChosen action → (Takes action answers.Got → ⊥) → AllocatesTooMuch action
+got_taken (actions.allocate size first) c n = at_least size n
+got_taken (actions.start to function argument) c n = absurd (n tt)
+got_taken action c n = elim c [ ]
+
+fits_some : (thread : ℕ) (u : Answer → Turn Control) (e : End) → EndsAs thread u e → ((answer : Answer) → (IsUnfit (u answer) → ⊥) ↔ FitsEnd e answer) → IsUnfit (u answers.Plain)
+    → (place : ℕ) × (action : Action) × (x : World) × EndsAs thread u (acting place action x) × IsChosen action × (IsUnfit (u answers.None) → ⊥) × (IsUnfit (u answers.Got) → AllocatesTooMuch action)
+fits_some thread u (breaking rule place) h f n = absurd ((f answers.Plain).1 tt n)
+fits_some thread u (quiet own w) h f n = absurd ((f answers.Plain).1 tt n)
+fits_some thread u (acting place action w) h f n =
+    let c = chosen_action action (λ i. (f answers.Plain).1 i n) in
+    (place, action, w, h, c, (f answers.None).1 (none_taken action c), λ m. got_taken action c (λ i. (f answers.Got).1 i m))
+
+pub some_answer_fits : SomeAnswerFits
+some_answer_fits t wf thread c w h n m = let g = turns_go_on t wf thread c w h n in fits_some thread (λ answer. turn t thread answer c w) g.0 g.1 g.2 m
 
 -- ---- threads begin
 

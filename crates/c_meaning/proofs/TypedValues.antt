@@ -22,10 +22,9 @@ use Rattle.block_store.specs.Blocks.{Block, Blocks, live}
 use Rattle.block_store.specs.Pointers as pointers
 use Rattle.block_store.specs.Pointers.{within, moved_in, moved_null, moved, indexed, is_usable, both_usable, is_other_than_null, tested, is_same, by_distance, is_below_0, is_0, related, compared, in_elements, difference}
 use Rattle.c_tree.specs.Typed as tree
-use Rattle.c_tree.specs.TypedForm as type
-use Rattle.c_tree.specs.TypedForm.{IsInteger, IsScalar, Fits, PointsToSized, MovesPointer, AreOperands, type_of_result, CanUpdate, Converts}
+use Rattle.c_tree.specs.TypedForm.{IsInteger, IsPointer, IsScalar, Fits, PointsToSized, MovesPointer, AreOperands, type_of_result, CanUpdate, Converts}
 use Rattle.c_meaning.specs.Values.{Unary, converts, negates, tests, selects, Binary, on_numbers, forward, backward, distance, on_pointers, access_of_type, element_size, int_of, value_of, pointer_of, int_result, long_result, truth_of, opposite, converted, selected, of_one, of_two, operand_types, computed, converted_result, updated}
-use Rattle.c_meaning.specs.Kinds.{HasType, IsPointer, HasKind, TakesOne, TakesTwo}
+use Rattle.c_meaning.specs.Kinds.{HasType, HasKind, TakesOne, TakesTwo}
 use Rattle.c_meaning.specs.Sound.{IsNotC16}
 
 -- ---- rules
@@ -73,13 +72,6 @@ pub kind_of : (how : Access) (v : Value) → HasKind how v → Kind how v
 kind_of (accesses.Number t) (values.Num n) h = a_number t n h
 kind_of accesses.Pointer (values.Pointer p) h = a_pointer p
 kind_of how v h = elim h [ ]
-
-pointer_there : (v : Value) → HasKind accesses.Pointer v → IsPointer v
-pointer_there (values.Num n) h = h
-pointer_there (values.Pointer p) h = h
-
-pub pointer_kind : (how : Access) (v : Value) → how ≡ accesses.Pointer → HasKind how v → IsPointer v
-pointer_kind how v e h = let P : Access → Type 0 = λ a. HasKind a v in pointer_there v (subst P e h)
 
 number_there : (t : IntType) (v : Value) → HasKind (accesses.Number t) v → HasType (tree.integer t) v
 number_there t (values.Num n) h = h
@@ -326,12 +318,12 @@ backward_taken structs size (tree.pointer s) (tree.integer t) ty h i e = ap acce
 backward_taken structs size (tree.pointer s) b ty h i e = elim i [ ]
 backward_taken structs size a b ty h i e = elim h [ ]
 
-pub distance_taken : (structs : List tree.Layout) (size : ℕ) (a b ty : tree.Ty) → PointsToSized structs a → type.IsPointer b → ty ≡ tree.integer long → TakesTwo (distance size) (access_of_type a) (access_of_type b) (access_of_type ty)
+pub distance_taken : (structs : List tree.Layout) (size : ℕ) (a b ty : tree.Ty) → PointsToSized structs a → IsPointer b → ty ≡ tree.integer long → TakesTwo (distance size) (access_of_type a) (access_of_type b) (access_of_type ty)
 distance_taken structs size (tree.pointer s) (tree.pointer t) ty h i e = ap access_of_type e
 distance_taken structs size (tree.pointer s) b ty h i e = elim i [ ]
 distance_taken structs size a b ty h i e = elim h [ ]
 
-pub on_pointers_taken : (op : Op) (a b ty : tree.Ty) → type.IsPointer a → type.IsPointer b → ty ≡ tree.integer int → TakesTwo (on_pointers op) (access_of_type a) (access_of_type b) (access_of_type ty)
+pub on_pointers_taken : (op : Op) (a b ty : tree.Ty) → IsPointer a → IsPointer b → ty ≡ tree.integer int → TakesTwo (on_pointers op) (access_of_type a) (access_of_type b) (access_of_type ty)
 on_pointers_taken op (tree.pointer s) (tree.pointer t) ty h i e = ap access_of_type e
 on_pointers_taken op (tree.pointer s) b ty h i e = elim i [ ]
 on_pointers_taken op a b ty h i e = elim h [ ]
@@ -357,15 +349,15 @@ pub integer_scalar : (ty : tree.Ty) → IsInteger ty → IsScalar ty
 integer_scalar (tree.integer t) h = tt
 integer_scalar ty h = elim h [ ]
 
-pub pointer_scalar : (ty : tree.Ty) → type.IsPointer ty → IsScalar ty
+pub pointer_scalar : (ty : tree.Ty) → IsPointer ty → IsScalar ty
 pointer_scalar (tree.pointer to) h = tt
 pointer_scalar ty h = elim h [ ]
 
-pub pointer_access : (ty : tree.Ty) → type.IsPointer ty → access_of_type ty ≡ accesses.Pointer
+pub pointer_access : (ty : tree.Ty) → IsPointer ty → access_of_type ty ≡ accesses.Pointer
 pointer_access (tree.pointer to) h = refl
 pointer_access ty h = elim h [ ]
 
-pub sized_pointer : (structs : List tree.Layout) (ty : tree.Ty) → PointsToSized structs ty → type.IsPointer ty
+pub sized_pointer : (structs : List tree.Layout) (ty : tree.Ty) → PointsToSized structs ty → IsPointer ty
 sized_pointer structs (tree.pointer to) h = tt
 sized_pointer structs ty h = elim h [ ]
 

@@ -29,12 +29,7 @@ abbrev pub HasTypeIf : tree.Ty → Option Value → Type 0
 HasTypeIf ty None = Unit {0}
 HasTypeIf ty (Some v) = HasType ty v
 
--- a pointer
-abbrev pub IsPointer : Value → Type 0
-IsPointer (values.Pointer p) = Unit {0}
-IsPointer (values.Num n) = ⊥
-
--- what a local of a function may hold: nothing, and else one in memory its block, and any other a value of its type
+-- what a local of a function may hold: nothing; and else its block where it's in memory, and where it isn't a value of its type
 abbrev pub MayHold : tree.Local → Variable → Type 0
 MayHold l unset = Unit {0}
 MayHold l (holds v) = (l.in_memory ≡ false) × HasType l.ty v
@@ -46,7 +41,9 @@ AllHold [] [] = Unit {0}
 AllHold (l ∷ ls) (v ∷ vs) = MayHold l v × AllHold ls vs
 AllHold ls vs = ⊥
 
--- ---- kinds: what operators need to know of a type, by how its values are read: a number of which type, or a pointer to anything
+-- ---- kinds
+
+-- Operators ask of a value only how one of its type is read: as a number of this type, or as a pointer, to whatever.
 
 -- a value of this kind
 abbrev pub HasKind : Access → Value → Type 0
@@ -133,13 +130,13 @@ abbrev mutual
       × StandBefore before (tree.more_exprs e rest) all × (access_of_type (tree.type_of e) ≡ how) × Awaits i ty k
   Expects i how (to_local number k) = IsNth i.context.locals number (λ l. (l.in_memory ≡ false) × (access_of_type l.ty ≡ how)) × IsTypedTodo i k
   Expects i how (left_place place right k) = (how ≡ accesses.Pointer) × IsTyped i.context right × IsScalar (tree.type_of right) × IsTypedTodo i k
-  Expects i how (to_place place to k) = IsPointer to × IsTypedTodo i k
+  Expects i how (to_place place to k) = HasKind accesses.Pointer to × IsTypedTodo i k
   Expects i how (struct_left place ty right k) = (how ≡ accesses.Pointer) × IsTyped i.context right × IsLvalue (tree.node_of right) × IsTypedTodo i k
-  Expects i how (struct_right place ty to k) = (how ≡ accesses.Pointer) × IsPointer to × IsTypedTodo i k
+  Expects i how (struct_right place ty to k) = (how ≡ accesses.Pointer) × HasKind accesses.Pointer to × IsTypedTodo i k
   Expects i how (update_left u right k) = (how ≡ accesses.Pointer) × IsTyped i.context right × CanUpdate i.context.structs u.op u.ty (tree.type_of right) × IsTypedTodo i k
   Expects i how (update_local u number k) = IsNth i.context.locals number (λ l. (l.in_memory ≡ false) × (l.ty ≡ u.ty)) × UpdatesBy i u how × IsTypedTodo i k
-  Expects i how (update_right u at k) = IsPointer at × UpdatesBy i u how × IsTypedTodo i k
-  Expects i how (update_read u at by k) = (how ≡ access_of_type u.ty) × IsPointer at × ((kind : Access) × UpdatesBy i u kind × HasKind kind by) × IsTypedTodo i k
+  Expects i how (update_right u at k) = HasKind accesses.Pointer at × UpdatesBy i u how × IsTypedTodo i k
+  Expects i how (update_read u at by k) = (how ≡ access_of_type u.ty) × HasKind accesses.Pointer at × ((kind : Access) × UpdatesBy i u kind × HasKind kind by) × IsTypedTodo i k
   Expects i how (if_test place one other k) = IsWellSomewhere i one × IsWellSomewhere i other × IsTypedTodo i k
   Expects i how (loop_test place l k) = IsTypedLoop i l × IsTypedTodo i k
   Expects i how to_caller = IsScalar i.result × (access_of_type i.result ≡ how)

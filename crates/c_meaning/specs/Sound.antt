@@ -1,6 +1,6 @@
 -- That the meaning of a well formed program never goes wrong: all values keep their types, and a turn comes to nothing for one reason
 -- alone, that the answer doesn't fit its action.
-use Rattle.std.specs.Prelude.{◌≡◌, ◌↔◌, ℕ, ◌^◌, ◌<◌, List, [], ◌∷◌, Option, Some, None}
+use Rattle.std.specs.Prelude.{◌≡◌, ◌↔◌, ℕ, ◌^◌, ◌<◌, ◌≤◌, List, [], ◌∷◌, ◌++◌, Option, Some, None}
 use Rattle.ak_words.specs.declared.rule.Rule.{Rule}
 use Rattle.ak_words.specs.declared.rule.Rule.TheVariants.{C16}
 use Rattle.block_store.specs.declared.values.Answer.{Answer}
@@ -65,6 +65,17 @@ EndsAs thread t (breaking rule place) = IsNotC16 rule × ((answer : Answer) → 
 EndsAs thread t (quiet own w) = (answer : Answer) → t answer ≡ plainly answer (runs.went own w)
 EndsAs thread t (acting place action w) = (answer : Answer) → ComesOutAs place (acted w thread answer action) (t answer)
 
+-- an action that asks for something, so that it's chosen whether the thread gets it
+abbrev pub IsChosen : Action → Type 0
+IsChosen (actions.allocate size first) = Unit {0}
+IsChosen (actions.start to function argument) = Unit {0}
+IsChosen action = ⊥
+
+-- an allocation of 2^32 bytes or more
+abbrev pub AllocatesTooMuch : Action → Type 0
+AllocatesTooMuch (actions.allocate size first) = 2 ^ 32 ≤ size
+AllocatesTooMuch action = ⊥
+
 -- ---- turns
 
 -- the turn doesn't take its answer
@@ -96,6 +107,12 @@ abbrev pub TurnsGoOn : Type 0
 TurnsGoOn = (t : tree.Typed) → IsWellFormed t → (thread : ℕ) (c : Control) (w : World) → IsTypedControl t c → IsTypedWorld t w
     → (e : End) × EndsAs thread (λ answer. turn t thread answer c w) e × ((answer : Answer) → (IsUnfit (turn t thread answer c w) → ⊥) ↔ FitsEnd e answer)
 
+-- where it doesn't take Plain, it ends by an allocation or by a new thread: it takes None, and Got but for 2^32 bytes or more
+abbrev pub SomeAnswerFits : Type 0
+SomeAnswerFits = (t : tree.Typed) → IsWellFormed t → (thread : ℕ) (c : Control) (w : World) → IsTypedControl t c → IsTypedWorld t w → IsUnfit (turn t thread answers.Plain c w)
+    → (place : ℕ) × (action : Action) × (x : World) × EndsAs thread (λ answer. turn t thread answer c w) (acting place action x) × IsChosen action
+    × (IsUnfit (turn t thread answers.None c w) → ⊥) × (IsUnfit (turn t thread answers.Got c w) → AllocatesTooMuch action)
+
 -- ---- runs
 
 -- each thread that runs is well formed
@@ -113,10 +130,10 @@ pub record IsTypedState (t : tree.Typed) (s : State Control) : Type 0 where
 abbrev pub RunsKeepTypes : Type 0
 RunsKeepTypes = (t : tree.Typed) → IsWellFormed t → (order : List Pick) (s : State Control) → run t order ≡ runs.reaches s → IsTypedState t s
 
--- in each such state, a thread that runs while main does has a turn that goes on, waits or breaks a rule, under just the answers that
--- fit its end
+-- a run goes on from each such state by a turn of any thread that runs while main does, under an answer that fits this turn's end: the
+-- order that goes on so has no run only where the turn waits
 abbrev pub RunsGoOn : Type 0
 RunsGoOn = (t : tree.Typed) → IsWellFormed t → (order : List Pick) (s : State Control) → run t order ≡ runs.reaches s
-    → (thread : ℕ) (main own : Control) → runs.own_at s.own 0 ≡ Some main → runs.own_at s.own thread ≡ Some own
-    → (e : End) × EndsAs thread (λ answer. turn t thread answer own s.world) e
-    × ((answer : Answer) → (runs.picked (program t) s (record { thread = thread; answer = answer }) ≡ Some runs.unfit → ⊥) ↔ FitsEnd e answer)
+    → (p : Pick) (main own : Control) → runs.own_at s.own 0 ≡ Some main → runs.own_at s.own p.thread ≡ Some own
+    → (e : End) × EndsAs p.thread (λ answer. turn t p.thread answer own s.world) e
+    × (FitsEnd e p.answer → (k : ℕ) → run t (order ++ p ∷ []) ≡ runs.no_run k → turn t p.thread p.answer own s.world ≡ runs.blocked)

@@ -4,7 +4,7 @@ ghost use Rattle.block_store.specs.Actions.{World};
 ghost use Rattle.block_store.specs.Runs.{Program, Pick, run, shown};
 ghost use Rattle.c_meaning.specs.Alike.{reached_by, reached_in};
 ghost use Rattle.c_meaning.specs.Rows.{RowsStand, RulesStand, OrdersStand};
-ghost use Rattle.c_meaning.specs.Sound.{ThreadsBeginTyped, TurnsKeepTypes, TurnsGoOn, RunsKeepTypes, RunsGoOn};
+ghost use Rattle.c_meaning.specs.Sound.{ThreadsBeginTyped, TurnsKeepTypes, TurnsGoOn, SomeAnswerFits, RunsKeepTypes, RunsGoOn};
 
 /// Small programs mean what C11 says of them, worked out by hand: whole runs, each rule broken once, and what comes first.
 pub fn small_programs_mean_what_they_should()
@@ -27,13 +27,14 @@ pub fn turns_keep_types()
 {}
 
 /// A turn of a well formed program never goes wrong: under the answers that fit its action, and under no other, it goes on, ends
-/// its thread, waits or breaks a rule.
+/// its thread, waits or breaks a rule. Where it doesn't take Plain, that's since it asks for memory or for a thread.
 pub fn turns_go_on()
-    ensures { TurnsGoOn }
+    ensures ends { TurnsGoOn }
+    ensures chosen { SomeAnswerFits }
 {}
 
-/// The same in whole runs: each state that a well formed program reaches is well formed, and no thread that runs stands still but for an
-/// action that waits, for a rule that it breaks, or for an answer that doesn't fit.
+/// The same in whole runs: each state that a well formed program reaches is well formed, and from each a run goes on by a turn
+/// of any thread that runs, under an answer that fits, where that turn doesn't wait.
 pub fn runs_go_on()
     ensures types { RunsKeepTypes }
     ensures turns { RunsGoOn }
