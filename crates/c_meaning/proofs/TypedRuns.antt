@@ -11,7 +11,7 @@ use Rattle.c_meaning.specs.Control.{Control}
 use Rattle.c_meaning.specs.Turns.{turn}
 use Rattle.c_meaning.specs.Meaning.{program, start, run}
 use Rattle.c_meaning.specs.Kinds.{IsTypedControl, IsTypedWorld, CanBegin}
-use Rattle.c_meaning.specs.Sound.{End, FitsEnd, EndsAs, IsUnfit, IsTypedTurn, AreTypedThreads, IsTypedState, RunsKeepTypes, RunsGoOn}
+use Rattle.c_meaning.specs.Sound.{End, FitsEnd, EndsAs, IsUnfit, IsTypedTurn, AreTypedThreads, IsTypedState, LeadsOn, RunsBeginTyped, PicksKeepTypes, RunsKeepTypes, RunsGoOn}
 use Rattle.c_meaning.proofs.TypedThreads.{threads_begin_typed, turns_keep_types, turns_go_on}
 
 -- ---- what threads have
@@ -78,27 +78,38 @@ pick_typed t wf s p (Some main) (Some own) h o = turns_keep_types t wf p.thread 
 picked_typed : (t : tree.Typed) → IsWellFormed t → (s : State Control) (p : Pick) → IsTypedState t s → IsTypedPick t (picked (program t) s p)
 picked_typed t wf s p h = pick_typed t wf s p (own_at s.own 0) (own_at s.own p.thread) h (own_typed t s.own p.thread h.threads)
 
-goes_typed : (t : tree.Typed) → IsWellFormed t → (go : State Control → Run Control) (s end : State Control) (thread k : ℕ) (o : Option (Turn Control)) → IsTypedState t s → IsTypedPick t o
+leads_on : (t : tree.Typed) → IsWellFormed t → (s : State Control) (thread : ℕ) (o : Option (Turn Control)) → IsTypedState t s → IsTypedPick t o → LeadsOn t s thread o
+leads_on t wf s thread None h o = tt
+leads_on t wf s thread (Some (runs.went own w)) h o = next_typed t wf s thread (Some own) w h o.0 o.1
+leads_on t wf s thread (Some (runs.ended w)) h o = next_typed t wf s thread None w h tt o
+leads_on t wf s thread (Some runs.blocked) h o = tt
+leads_on t wf s thread (Some runs.unfit) h o = tt
+leads_on t wf s thread (Some (runs.broke rule place)) h o = tt
+
+pub picks_keep_types : PicksKeepTypes
+picks_keep_types t wf s p h = leads_on t wf s p.thread (picked (program t) s p) h (picked_typed t wf s p h)
+
+goes_typed : (t : tree.Typed) (go : State Control → Run Control) (s end : State Control) (thread k : ℕ) (o : Option (Turn Control)) → LeadsOn t s thread o
     → ((next : State Control) → IsTypedState t next → go next ≡ runs.reaches end → IsTypedState t end) → goes_on (program t) go s thread k o ≡ runs.reaches end → IsTypedState t end
-goes_typed t wf go s end thread k None h o rest e = absurd cc
-goes_typed t wf go s end thread k (Some (runs.went own w)) h o rest e = rest (next_state (program t) s thread (Some own) w) (next_typed t wf s thread (Some own) w h o.0 o.1) e
-goes_typed t wf go s end thread k (Some (runs.ended w)) h o rest e = rest (next_state (program t) s thread None w) (next_typed t wf s thread None w h tt o) e
-goes_typed t wf go s end thread k (Some runs.blocked) h o rest e = absurd cc
-goes_typed t wf go s end thread k (Some runs.unfit) h o rest e = absurd cc
-goes_typed t wf go s end thread k (Some (runs.broke rule place)) h o rest e = absurd cc
+goes_typed t go s end thread k None h rest e = absurd cc
+goes_typed t go s end thread k (Some (runs.went own w)) h rest e = rest (next_state (program t) s thread (Some own) w) h e
+goes_typed t go s end thread k (Some (runs.ended w)) h rest e = rest (next_state (program t) s thread None w) h e
+goes_typed t go s end thread k (Some runs.blocked) h rest e = absurd cc
+goes_typed t go s end thread k (Some runs.unfit) h rest e = absurd cc
+goes_typed t go s end thread k (Some (runs.broke rule place)) h rest e = absurd cc
 
 run_typed : (t : tree.Typed) → IsWellFormed t → (order : List Pick) (k : ℕ) (s end : State Control) → IsTypedState t s → run_from (program t) order k s ≡ runs.reaches end → IsTypedState t end
 run_typed t wf [] k s end h e = let same : s ≡ end = cc in subst (IsTypedState t) same h
 run_typed t wf (p ∷ order) k s end h e =
-    goes_typed t wf (run_from (program t) order (suc k)) s end p.thread k (picked (program t) s p) h (picked_typed t wf s p h) (λ next i. run_typed t wf order (suc k) next end i) e
+    goes_typed t (run_from (program t) order (suc k)) s end p.thread k (picked (program t) s p) (picks_keep_types t wf s p h) (λ next i. run_typed t wf order (suc k) next end i) e
 
-first_typed : (t : tree.Typed) → IsWellFormed t → IsTypedState t (runs.first_state (program t) (start t))
-first_typed t wf =
+pub runs_begin_typed : RunsBeginTyped
+runs_begin_typed t wf =
     let world : IsTypedWorld t (start t) = ((wf.main.0, wf.main.1, inl wf.main.2), tt) in
     record { world = world; threads = begun_typed t wf 0 (start t) world }
 
 pub runs_keep_types : RunsKeepTypes
-runs_keep_types t wf order s e = run_typed t wf order 0 (runs.first_state (program t) (start t)) s (first_typed t wf) e
+runs_keep_types t wf order s e = run_typed t wf order 0 (runs.first_state (program t) (start t)) s (runs_begin_typed t wf) e
 
 -- ---- turns of the threads that run
 

@@ -7,3 +7,4 @@ pub mod Alike
 pub mod Kinds
 pub mod Sound
 pub mod Rows
+pub mod KindRows

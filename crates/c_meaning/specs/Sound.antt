@@ -126,6 +126,20 @@ pub record IsTypedState (t : tree.Typed) (s : State Control) : Type 0 where
   pub world : IsTypedWorld t s.world
   pub threads : AreTypedThreads t s.own
 
+-- so is the state that a pick of a thread leads to, if it leads to one
+abbrev pub LeadsOn : tree.Typed → State Control → (thread : ℕ) → Option (Turn Control) → Type 0
+LeadsOn t s thread (Some (runs.went own w)) = IsTypedState t (runs.next_state (program t) s thread (Some own) w)
+LeadsOn t s thread (Some (runs.ended w)) = IsTypedState t (runs.next_state (program t) s thread None w)
+LeadsOn t s thread turned = Unit {0}
+
+-- the state in which a run begins is well formed
+abbrev pub RunsBeginTyped : Type 0
+RunsBeginTyped = (t : tree.Typed) → IsWellFormed t → IsTypedState t (runs.first_state (program t) (start t))
+
+-- each pick, in a well formed state, leads only to one
+abbrev pub PicksKeepTypes : Type 0
+PicksKeepTypes = (t : tree.Typed) → IsWellFormed t → (s : State Control) (p : Pick) → IsTypedState t s → LeadsOn t s p.thread (runs.picked (program t) s p)
+
 -- each state that a run of an order reaches is well formed
 abbrev pub RunsKeepTypes : Type 0
 RunsKeepTypes = (t : tree.Typed) → IsWellFormed t → (order : List Pick) (s : State Control) → run t order ≡ runs.reaches s → IsTypedState t s
