@@ -55,7 +55,7 @@ ComesOutAs place actions.unfit runs.unfit = Unit {0}
 ComesOutAs place (actions.broke rule) t = t ≡ runs.broke rule place
 ComesOutAs place d t = ⊥
 
--- no rule but C16, which is that of cells that hold no value of an access's kind, and so comes of actions alone
+-- any rule but C16, which is that of cells that hold no value of an access's kind: only an action breaks it
 abbrev pub IsNotC16 : Rule → Type 0
 IsNotC16 rule = rule ≡ C16 → ⊥
 
@@ -102,7 +102,7 @@ abbrev pub TurnsKeepTypes : Type 0
 TurnsKeepTypes = (t : tree.Typed) → IsWellFormed t → (thread : ℕ) (answer : Answer) (c : Control) (w : World) → IsTypedControl t c → IsTypedWorld t w
     → IsTypedTurn t (turn t thread answer c w)
 
--- a turn ends in one of these three ways, the same under every answer; and it doesn't take just the answers that don't fit this end
+-- a turn has one of these ends, the same under every answer, and takes just the answers that fit it
 abbrev pub TurnsGoOn : Type 0
 TurnsGoOn = (t : tree.Typed) → IsWellFormed t → (thread : ℕ) (c : Control) (w : World) → IsTypedControl t c → IsTypedWorld t w
     → (e : End) × EndsAs thread (λ answer. turn t thread answer c w) e × ((answer : Answer) → (IsUnfit (turn t thread answer c w) → ⊥) ↔ FitsEnd e answer)
