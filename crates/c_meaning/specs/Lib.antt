@@ -4,4 +4,7 @@ pub mod Control
 pub mod Turns
 pub mod Meaning
 pub mod Alike
+pub mod Kinds
+pub mod Sound
 pub mod Rows
+pub mod KindRows

@@ -4,6 +4,8 @@ ghost use Rattle.block_store.specs.Actions.{World};
 ghost use Rattle.block_store.specs.Runs.{Program, Pick, run, shown};
 ghost use Rattle.c_meaning.specs.Alike.{reached_by, reached_in};
 ghost use Rattle.c_meaning.specs.Rows.{RowsStand, RulesStand, OrdersStand};
+ghost use Rattle.c_meaning.specs.KindRows.{ValuesAreTold, OperatorsAreTold, ThreadsAreTold};
+ghost use Rattle.c_meaning.specs.Sound.{ThreadsBeginTyped, TurnsKeepTypes, TurnsGoOn, SomeAnswerFits, RunsBeginTyped, PicksKeepTypes, RunsKeepTypes, RunsGoOn};
 
 /// Small programs mean what C11 says of them, worked out by hand: whole runs, each rule broken once, and what comes first.
 pub fn small_programs_mean_what_they_should()
@@ -16,4 +18,34 @@ pub fn small_programs_mean_what_they_should()
 /// same worlds, and break the same rules after the same turns.
 pub fn shown_turns_tell_the_run<A>()
     ensures { (P : Program A) (w : World) (order : List Pick) → reached_by (run P w order) ≡ reached_in w 0 (shown P w order) }
+{}
+
+/// What is of a type, what an operator takes, and when all of a thread's values are of their types, told by hand.
+pub fn types_are_told()
+    ensures values { ValuesAreTold }
+    ensures operators { OperatorsAreTold }
+    ensures threads { ThreadsAreTold }
+{}
+
+/// No value of a well formed program is ever of another type than its expression or its local: threads begin so, and each turn
+/// keeps it, in every world and under every answer.
+pub fn turns_keep_types()
+    ensures begins { ThreadsBeginTyped }
+    ensures turns { TurnsKeepTypes }
+{}
+
+/// A turn of a well formed program never goes wrong: under the answers that fit its action, and under no other, it goes on, ends
+/// its thread, waits or breaks a rule. Where it doesn't take Plain, that's since it asks for memory or for a thread.
+pub fn turns_go_on()
+    ensures ends { TurnsGoOn }
+    ensures chosen { SomeAnswerFits }
+{}
+
+/// The same in whole runs: each state that a well formed program reaches is well formed, and from each a run goes on by a turn
+/// of any thread that runs, under an answer that fits, where that turn doesn't wait.
+pub fn runs_go_on()
+    ensures begins { RunsBeginTyped }
+    ensures picks { PicksKeepTypes }
+    ensures types { RunsKeepTypes }
+    ensures turns { RunsGoOn }
 {}

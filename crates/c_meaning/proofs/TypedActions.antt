@@ -1,0 +1,184 @@
+-- What an action gives is of the type that it should be, and which answers it takes.
+use Rattle.std.proofs.Common.{◌≡◌, ◌↔◌, ℕ, zero, suc, ◌^◌, ◌<◌, ◌==◌, Bool, true, false, List, [], ◌∷◌, ◌++◌, length, set, Option, Some, None, Ok, Err, ℤ, pos, ◌⊎◌, inl, inr, refl, sym, ap, subst, ◌∙◌, arith, ltb-true}
+use Rattle.std.specs.Prelude.{Result, if◌then◌else◌, slice_get, nat_lt}
+use Rattle.std.specs.Option.{option_map, ok_or}
+use Rattle.std.specs.List.{AllByRecursion}
+use Rattle.ak_words.specs.declared.int_type.IntType.{IntType}
+use Rattle.ak_words.specs.declared.number.Num.{Num}
+use Rattle.ak_words.specs.declared.rule.Rule.{Rule}
+use Rattle.ak_words.specs.declared.rule.Rule.TheVariants.{C4, C14, C16}
+use Rattle.ak_words.specs.IntType.{int, unsigned_long}
+use Rattle.ak_words.specs.Num.{num}
+use Rattle.block_store.specs.declared.values.Access.{Access}
+use Rattle.block_store.specs.declared.values.Access.TheVariants as accesses
+use Rattle.block_store.specs.declared.values.Answer.{Answer}
+use Rattle.block_store.specs.declared.values.Answer.TheVariants as answers
+use Rattle.block_store.specs.declared.values.Cell.{Cell}
+use Rattle.block_store.specs.declared.values.Ptr.{Ptr}
+use Rattle.block_store.specs.declared.values.Ptr.TheVariants.{Null, To}
+use Rattle.block_store.specs.declared.values.Value.{Value}
+use Rattle.block_store.specs.declared.values.Value.TheVariants as values
+use Rattle.block_store.specs.Actions as actions
+use Rattle.block_store.specs.Actions.{World, Thread, Stage, Action, Done, Reached, acted, under, outcomes, telling, at_stage, staged_if, staged}
+use Rattle.block_store.specs.Blocks.{Blocks, Spot, loaded, read_at, spot_at, cells_at, stored, copied, freed}
+use Rattle.block_store.specs.Cells.{size_of, value_of, read, has_unknown, number_of, pointer_of}
+use Rattle.block_store.specs.Mutexes.{locked, unlocked, destroyed}
+use Rattle.block_store.specs.Runs as runs
+use Rattle.block_store.specs.Runs.{Turn}
+use Rattle.c_tree.specs.Typed as tree
+use Rattle.c_tree.specs.TypedForm.{IsPointer, IsScalar, Fits, IsNth, Context, CanStart, AreArguments, IsLibCall, IsMain, signature_of, context_of}
+use Rattle.c_meaning.specs.Control.{Control}
+use Rattle.c_meaning.specs.Library.{action_of, value_of_call}
+use Rattle.c_meaning.specs.Values.{access_of_type}
+use Rattle.c_meaning.specs.Kinds.{HasType, HasTypeIf, StandBefore, CanBegin, IsTypedWorld}
+use Rattle.c_meaning.specs.Sound.{Takes, ComesOutAs, IsUnfit}
+use Rattle.c_meaning.proofs.TypedValues.{fits_type}
+
+-- ---- what is done
+
+-- where an action is done, its value has this property, and the world is well formed
+abbrev pub DoneWith : tree.Typed → (Option Value → Type 0) → Done → Type 0
+DoneWith t P (actions.went v w) = P v × IsTypedWorld t w
+DoneWith t P actions.blocked = Unit {0}
+DoneWith t P actions.unfit = Unit {0}
+DoneWith t P (actions.broke rule) = Unit {0}
+
+telling_done : (t : tree.Typed) (P : Option Value → Type 0) (reached : List Reached) (d : Done) → DoneWith t P d → DoneWith t P (telling reached d)
+telling_done t P reached (actions.went v w) h = h
+telling_done t P reached actions.blocked h = tt
+telling_done t P reached actions.unfit h = tt
+telling_done t P reached (actions.broke rule) h = tt
+
+under_done : (t : tree.Typed) (P : Option Value → Type 0) (answer : Answer) (o : actions.Outcomes) → DoneWith t P o.plain → DoneWith t P o.got → DoneWith t P o.none → DoneWith t P (under answer o)
+under_done t P answers.Plain o p g n = p
+under_done t P answers.Got o p g n = g
+under_done t P answers.None o p g n = n
+
+pub acted_done : (t : tree.Typed) (P : Option Value → Type 0) (w : World) (thread : ℕ) (answer : Answer) (action : Action)
+    → DoneWith t P (outcomes w thread action).plain → DoneWith t P (outcomes w thread action).got → DoneWith t P (outcomes w thread action).none → DoneWith t P (acted w thread answer action)
+acted_done t P w thread answer action p g n =
+    telling_done t P (actions.reads_of w action ++ actions.writes_of answer action) (under answer (outcomes w thread action)) (under_done t P answer (outcomes w thread action) p g n)
+
+-- no value
+abbrev pub IsNoValue : Option Value → Type 0
+IsNoValue v = v ≡ None
+
+pub changes_done : (t : tree.Typed) (w : World) (r : Result Blocks Rule) → IsTypedWorld t w → DoneWith t IsNoValue (actions.changes w r)
+changes_done t w (Ok blocks) h = (refl, h)
+changes_done t w (Err rule) h = tt
+
+pub waits_done : (t : tree.Typed) (w : World) (r : Result (Option Blocks) Rule) → IsTypedWorld t w → DoneWith t IsNoValue (actions.changes_or_waits w r)
+waits_done t w (Ok (Some blocks)) h = (refl, h)
+waits_done t w (Ok None) h = tt
+waits_done t w (Err rule) h = tt
+
+pub passes_done : (t : tree.Typed) (w : World) (r : Result (Unit {0}) Rule) → IsTypedWorld t w → DoneWith t IsNoValue (actions.passes w r)
+passes_done t w (Ok u) h = (refl, h)
+passes_done t w (Err rule) h = tt
+
+-- ---- loads
+
+abbrev OkTyped : tree.Ty → Result Value Rule → Type 0
+OkTyped ty (Ok v) = HasType ty v
+OkTyped ty (Err rule) = Unit {0}
+
+abbrev SomeTyped : tree.Ty → Option Value → Type 0
+SomeTyped ty None = Unit {0}
+SomeTyped ty (Some v) = HasType ty v
+
+number_read : (t : IntType) (o : Option ℕ) → SomeTyped (tree.integer t) (option_map (λ (bits : ℕ). values.Num (num t (pos bits))) o)
+number_read t None = tt
+number_read t (Some bits) = refl
+
+pointer_read : (to : tree.Ty) (o : Option Ptr) → SomeTyped (tree.pointer to) (option_map values.Pointer o)
+pointer_read to None = tt
+pointer_read to (Some p) = tt
+
+value_read : (ty : tree.Ty) (cells : List Cell) → IsScalar ty → SomeTyped ty (value_of (access_of_type ty) cells)
+value_read (tree.integer t) cells h = number_read t (number_of cells)
+value_read (tree.pointer to) cells h = pointer_read to (pointer_of cells)
+value_read ty cells h = elim h [ ]
+
+ok_or_typed : (ty : tree.Ty) (o : Option Value) (rule : Rule) → SomeTyped ty o → OkTyped ty (ok_or o rule)
+ok_or_typed ty None rule h = tt
+ok_or_typed ty (Some v) rule h = h
+
+unless_unknown : (ty : tree.Ty) (b : Bool) (r : Result Value Rule) → OkTyped ty r → OkTyped ty (if b then Err C4 else r)
+unless_unknown ty true r h = tt
+unless_unknown ty false r h = h
+
+read_typed : (ty : tree.Ty) (cells : List Cell) → IsScalar ty → OkTyped ty (read (access_of_type ty) cells)
+read_typed ty cells h = unless_unknown ty (has_unknown cells) (ok_or (value_of (access_of_type ty) cells) C16) (ok_or_typed ty (value_of (access_of_type ty) cells) C16 (value_read ty cells h))
+
+read_at_typed : (ty : tree.Ty) (s : Result Spot Rule) → IsScalar ty → OkTyped ty (read_at (access_of_type ty) s)
+read_at_typed ty (Ok s) h = read_typed ty (cells_at (size_of (access_of_type ty)) s) h
+read_at_typed ty (Err rule) h = tt
+
+-- a load gives a value of the type whose access it is
+pub loaded_typed : (ty : tree.Ty) (blocks : Blocks) (at : Ptr) → IsScalar ty → OkTyped ty (loaded blocks at (access_of_type ty))
+loaded_typed ty blocks at h = read_at_typed ty (spot_at blocks (size_of (access_of_type ty)) at) h
+
+gives_done : (t : tree.Typed) (ty : tree.Ty) (w : World) (r : Result Value Rule) → OkTyped ty r → IsTypedWorld t w → DoneWith t (HasTypeIf ty) (actions.gives w r)
+gives_done t ty w (Ok v) o h = (o, h)
+gives_done t ty w (Err rule) o h = tt
+
+pub load_done : (t : tree.Typed) (ty : tree.Ty) (w : World) (thread : ℕ) (answer : Answer) (at : Ptr) → IsScalar ty → IsTypedWorld t w → DoneWith t (HasTypeIf ty) (acted w thread answer (actions.load at (access_of_type ty)))
+load_done t ty w thread answer at s h = acted_done t (HasTypeIf ty) w thread answer (actions.load at (access_of_type ty)) (gives_done t ty w (loaded w.blocks at (access_of_type ty)) (loaded_typed ty w.blocks at s) h) tt tt
+
+-- ---- stores and copies
+
+pub store_done : (t : tree.Typed) (w : World) (thread : ℕ) (answer : Answer) (at : Ptr) (v : Value) → IsTypedWorld t w → DoneWith t IsNoValue (acted w thread answer (actions.store at v))
+store_done t w thread answer at v h = acted_done t IsNoValue w thread answer (actions.store at v) (changes_done t w (stored w.blocks at v) h) tt tt
+
+pub copy_done : (t : tree.Typed) (w : World) (thread : ℕ) (answer : Answer) (to from : Ptr) (n align : ℕ) (same : Bool) → IsTypedWorld t w → DoneWith t IsNoValue (acted w thread answer (actions.copy to from n align same))
+copy_done t w thread answer to from n align same h = acted_done t IsNoValue w thread answer (actions.copy to from n align same) (changes_done t w (copied w.blocks to from n align same) h) tt tt
+
+-- ---- threads
+
+staged_threads : (t : tree.Typed) (all : List Thread) (n : ℕ) (stage : Stage) (h : Thread) → slice_get all n ≡ Some h → AllByRecursion (λ (x : Thread). CanBegin t x.function) all → AllByRecursion (λ (x : Thread). CanBegin t x.function) (set all n (at_stage stage h))
+staged_threads t [] n stage h e a = tt
+staged_threads t (x ∷ all) zero stage h e a = let same : x ≡ h = cc in (subst (λ (y : Thread). CanBegin t y.function) same a.0, a.1)
+staged_threads t (x ∷ all) (suc n) stage h e a = (a.0, staged_threads t all n stage h e a.1)
+
+staged_if_world : (t : tree.Typed) (w : World) (n : ℕ) (stage : Stage) (o : Option Thread) → slice_get w.threads n ≡ o → IsTypedWorld t w → IsTypedWorld t (staged_if w n stage o)
+staged_if_world t w n stage None e h = h
+staged_if_world t w n stage (Some x) e h = staged_threads t w.threads n stage x e h
+
+staged_world : (t : tree.Typed) (w : World) (n : ℕ) (stage : Stage) → IsTypedWorld t w → IsTypedWorld t (staged w n stage)
+staged_world t w n stage h = staged_if_world t w n stage (slice_get w.threads n) refl h
+
+pub finish_done : (t : tree.Typed) (w : World) (thread : ℕ) (answer : Answer) (value : Option ℤ) → IsTypedWorld t w → DoneWith t IsNoValue (acted w thread answer (actions.finish value))
+finish_done t w thread answer value h = acted_done t IsNoValue w thread answer (actions.finish value) (refl, staged_world t w thread (actions.returned (actions.result_of value)) h) tt tt
+
+more_threads : (t : tree.Typed) (all : List Thread) (h : Thread) → AllByRecursion (λ (x : Thread). CanBegin t x.function) all → CanBegin t h.function → AllByRecursion (λ (x : Thread). CanBegin t x.function) (all ++ h ∷ [])
+more_threads t [] h a c = (c, tt)
+more_threads t (x ∷ all) h a c = (a.0, more_threads t all h a.1 c)
+
+pub starts_done : (t : tree.Typed) (w : World) (function : ℕ) (argument : Ptr) (r : Result Blocks Rule) → CanBegin t function → IsTypedWorld t w → DoneWith t (HasTypeIf (tree.integer int)) (actions.starts w function argument r)
+starts_done t w function argument (Ok blocks) c h = (refl, more_threads t w.threads (actions.beginning function argument) h c)
+starts_done t w function argument (Err rule) c h = tt
+
+joins_done : (t : tree.Typed) (w : World) (thread : ℕ) (z : ℤ) (r : Result Blocks Rule) → IsTypedWorld t w → DoneWith t (HasTypeIf (tree.integer int)) (actions.joins w thread z r)
+joins_done t w thread z (Ok blocks) h = (refl, staged_world t (actions.with_blocks w blocks) thread (actions.joined z) h)
+joins_done t w thread z (Err rule) h = tt
+
+joins_at_done : (t : tree.Typed) (w : World) (thread : ℕ) (to : Ptr) (stage : Stage) → IsTypedWorld t w → DoneWith t (HasTypeIf (tree.integer int)) (actions.joins_at w thread to stage)
+joins_at_done t w thread to actions.running h = tt
+joins_at_done t w thread to (actions.returned z) h = joins_done t w thread z (actions.stored_unless_null w.blocks to z) h
+joins_at_done t w thread to (actions.joined z) h = tt
+
+joins_if_done : (t : tree.Typed) (w : World) (thread : ℕ) (to : Ptr) (o : Option Thread) → IsTypedWorld t w → DoneWith t (HasTypeIf (tree.integer int)) (actions.joins_if w thread to o)
+joins_if_done t w thread to None h = tt
+joins_if_done t w thread to (Some x) h = joins_at_done t w thread to x.stage h
+
+pub done_if : (t : tree.Typed) (P : Option Value → Type 0) (b : Bool) (d e : Done) → DoneWith t P d → DoneWith t P e → DoneWith t P (if b then d else e)
+done_if t P true d e p q = p
+done_if t P false d e p q = q
+
+pub joined_done : (t : tree.Typed) (w : World) (self thread : ℕ) (to : Ptr) → IsTypedWorld t w → DoneWith t (HasTypeIf (tree.integer int)) (actions.joined_by w self thread to)
+joined_done t w self thread to h =
+    done_if t (HasTypeIf (tree.integer int)) (self == thread) (actions.broke C14) (actions.joins_if w thread to (slice_get w.threads thread)) tt (joins_if_done t w thread to (slice_get w.threads thread) h)
+
+pub prints_done : (t : tree.Typed) (w : World) (r : Result (List ℕ) Rule) → IsTypedWorld t w → DoneWith t (HasTypeIf (tree.integer int)) (actions.prints w r)
+prints_done t w (Ok all) h = (refl, h)
+prints_done t w (Err rule) h = tt
