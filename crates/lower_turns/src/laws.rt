@@ -1,7 +1,7 @@
 //! Laws of what lowering keeps, as contracts of functions that do nothing.
 
 ghost use Rattle.lower_turns.specs.Rows.{RowsStand, RulesStand, OrdersStand};
-ghost use Rattle.lower_turns.specs.Turns.{LowerKeepsEveryTurn, LowerKeepsEveryRun, ErasedCodeShowsTheSame, CodeWithLooksKeepsEveryTurn};
+ghost use Rattle.lower_turns.specs.Turns.{LowerKeepsEveryTurn, LowerKeepsEveryRun, ErasedCodeShowsTheSame, CodeWithLooksKeepsEveryTurn, CodeWithLooksKeepsEveryRun, CodeBeginsAlike, CodeKeepsEveryTurn, CodeGoesOn};
 
 /// The code of every well formed program shows under every order of turns and answers what the program
 /// shows: how each turn went and the world after it, and which rule a turn breaks, and where. So each
@@ -16,6 +16,16 @@ pub fn lower_keeps_every_turn()
 pub fn code_with_looks_keeps_every_turn()
     ensures erased { ErasedCodeShowsTheSame }
     ensures turns { CodeWithLooksKeepsEveryTurn }
+    ensures runs { CodeWithLooksKeepsEveryRun }
+{}
+
+/// Code that is a well formed program's without its Looks, safepoints, slots and lists keeps every turn
+/// of the program, from the world on in which the code begins by its own globals and literals. No turn
+/// of it is of a wrong kind: under the answers that fit it goes on, waits, or breaks the program's rule.
+pub fn code_keeps_every_turn()
+    ensures begins { CodeBeginsAlike }
+    ensures turns { CodeKeepsEveryTurn }
+    ensures goes_on { CodeGoesOn }
 {}
 
 /// The code of each of these programs shows under these orders what the source shows: how each turn
