@@ -8,7 +8,7 @@ use Rattle.ak_words.specs.declared.operation.Op.{Op}
 use Rattle.ak_words.specs.declared.operation.Op.TheVariants as ops
 use Rattle.ak_words.specs.declared.rule.Rule.{Rule}
 use Rattle.ak_words.specs.declared.rule.Rule.TheVariants.{C4}
-use Rattle.ak_words.specs.IntType.{int, unsigned_long}
+use Rattle.ak_words.specs.IntType.{unsigned_long}
 use Rattle.ak_words.specs.Num.{num}
 use Rattle.ak_words.specs.Op.{result_of}
 use Rattle.block_store.specs.declared.values.Access.{Access}

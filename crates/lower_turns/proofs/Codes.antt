@@ -1,17 +1,16 @@
 -- Code from its own first world on: it begins as the program does, and goes on as that does.
-use Rattle.std.proofs.Common.{◌≡◌, ℕ, suc, List, [], ◌∷◌, ◌++◌, length, map, Some, refl, sym, ap, ◌∙◌}
+use Rattle.std.proofs.Common.{◌≡◌, ℕ, suc, List, [], ◌∷◌, ◌++◌, length, map, refl, sym, ap, ◌∙◌}
 use Rattle.block_store.specs.Blocks.{global_block, literal_block}
 use Rattle.block_store.specs.Actions.{World, first_world}
 use Rattle.block_store.specs.Runs as runs
 use Rattle.block_store.specs.Runs.{Pick, Run, Shown, it_went, it_ended, it_blocked, it_was_unfit, it_broke, no_such_turn}
 use Rattle.c_tree.specs.Typed as tree
 use Rattle.c_tree.specs.TypedLayout.{size_in}
-use Rattle.c_meaning.specs.Alike.{Reached, at_no_run, reached_by, reached_in}
+use Rattle.c_meaning.specs.Alike.{at_no_run, reached_by, reached_in}
 use Rattle.c_meaning.specs.Meaning as source
 use Rattle.c_meaning.proofs.Alike.{reached_shown}
 use Rattle.c_meaning.proofs.TypedRuns.{runs_go_on}
-use Rattle.struct_ir.specs.Nodes.{Global, Ir}
-use Rattle.struct_ir.specs.Erased.{ir_erased}
+use Rattle.struct_ir.specs.Nodes.{Ir}
 use Rattle.ir_meaning.specs.Start as code
 use Rattle.ir_meaning.specs.Threads.{program_of}
 use Rattle.lower_forms.specs.Programs.{lowered, globals_lowered}
@@ -72,7 +71,7 @@ no_run_anywhere w v k n (no_such_turn ∷ rest) e = e
 no_run_too : (t : tree.Typed) (ready : Ir) → KeepsEveryTurn t ready → (order : List Pick) (k : ℕ) → runs.run (program_of ready) (code.start ready) order ≡ runs.no_run k → source.run t order ≡ runs.no_run k
 no_run_too t ready keeps order k none =
     let told : reached_in (code.start ready) 0 (source.shown t order) ≡ at_no_run k =
-        ap (reached_in (code.start ready) 0) (sym (keeps order)) ∙ sym (reached_shown (program_of ready) (code.start ready) order) ∙ ap reached_by none in
+    ap (reached_in (code.start ready) 0) (sym (keeps order)) ∙ sym (reached_shown (program_of ready) (code.start ready) order) ∙ ap reached_by none in
     no_run_is (source.run t order) k (sym (reached_shown (source.program t) (source.start t) order ∙ no_run_anywhere (code.start ready) (source.start t) 0 k (source.shown t order) told))
 
 pub code_goes_on : CodeGoesOn

@@ -207,7 +207,7 @@ module _ (g : Setting) (busy : Calls g.t) (vs : List Variable) (ob : ℕ → Opt
       (one_more_place place (own g ob tm b) (at_temp u) (at_temp (suc u) ∷ []) p (o ∷ []) (at_register place (own g ob tm b) u p h.1)
       (one_more_place place (own g ob tm b) (at_temp (suc u)) [] o [] (at_register place (own g ob tm b) (suc u) o h.2.1) refl))
       (one_more_read place (own g ob tm b) (suc (suc u)) [] (values.Num n) [] h.2.2.1 refl)
-          ∙ count_is n (actions.copy p o (unsigned_abs n.value) 1 false) h.2.2.0)
+      ∙ count_is n (actions.copy p o (unsigned_abs n.value) 1 false) h.2.2.0)
       (copy_so g.t world_now g.begun g.thread g.answer p o (unsigned_abs n.value) 1 false)
       (λ v w k all. lands_value g busy vs ob b tm agrees place ty u kw r q waits (values.Pointer p) tm w (subst (λ z. HasKind (access_of_type z) (values.Pointer p)) (sym e) tt) (below_same u tm) h.1 all)
 

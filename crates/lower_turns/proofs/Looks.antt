@@ -3,8 +3,7 @@ use Rattle.std.proofs.Common.{◌≡◌, ◌∙◌, refl, sym, ap, subst, ℕ, z
 use Rattle.std.specs.Prelude.{slice_get}
 use Rattle.block_store.specs.declared.values.Answer.{Answer}
 use Rattle.block_store.specs.declared.values.Ptr.{Ptr}
-use Rattle.block_store.specs.Actions.{World as Shared, acted}
-use Rattle.block_store.specs.Actions as actions
+use Rattle.block_store.specs.Actions.{World as Shared}
 use Rattle.block_store.specs.Runs as runs
 use Rattle.c_meaning.specs.Alike.{TurnsAlike, both_went, both_ended, both_blocked, both_unfit, both_broke, KeepsTurns}
 use Rattle.c_meaning.specs.Meaning.{start}
@@ -17,7 +16,7 @@ use Rattle.struct_ir.specs.Lists.{listless}
 use Rattle.struct_ir.specs.Erased.{erased, func_erased, ir_erased, at_erased}
 use Rattle.struct_ir.specs.Threads.{Thread, Outcome, went, ended, blocked, broke, unfit, turn}
 use Rattle.ir_meaning.specs.Blocks.{Fault, broken, wrong_kind, Own, calculated, assigned, objects_of, size_of, without, begun_after, own_act, all_ended, blocks_machine}
-use Rattle.ir_meaning.specs.Threads.{served_by, result_of, finished_with, given, set_given, over, left, finished, nodes_of, params_of, first_temps, code_of, blocks_world, turned, program_of}
+use Rattle.ir_meaning.specs.Threads.{result_of, finished_with, given, set_given, over, left, finished, nodes_of, params_of, first_temps, code_of, blocks_world, turned, program_of}
 use Rattle.ir_meaning.proofs.Bare.{erased_code}
 use Rattle.lower_turns.specs.Turns.{ErasedCodeShowsTheSame, CodeWithLooksKeepsEveryTurn}
 use Rattle.lower_turns.proofs.Threads.{lower_keeps_every_turn}
