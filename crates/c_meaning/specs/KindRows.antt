@@ -14,10 +14,11 @@ use Rattle.c_meaning.specs.Values.{on_numbers, forward, backward}
 use Rattle.c_meaning.specs.Kinds.{HasType, TakesTwo, IsTypedControl}
 use Rattle.c_meaning.specs.Rows.{int_ty, int_star, v, op_of, ints, main_only, returns, k}
 
--- the value of a number as an int, and a null pointer
+-- an int
 abbrev pub an_int : Value
 an_int = values.Num (num int (pos 3))
 
+-- a null pointer
 abbrev pub a_null : Value
 a_null = values.Pointer Null
 
