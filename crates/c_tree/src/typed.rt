@@ -180,7 +180,7 @@ pub enum ExprNode {
     OrElse(Box<Expr>, Box<Expr>),
     /// `?:`
     Choose(Box<Expr>, Box<Expr>, Box<Expr>),
-    /// A pointer plus a number of elements.
+    /// A pointer plus a number of elements, or a number plus a pointer: the operands stand in the order of the text.
     PtrAdd(Box<Expr>, Box<Expr>),
     /// A pointer minus a number of elements, which is taken as a whole number.
     PtrSub(Box<Expr>, Box<Expr>),
