@@ -65,11 +65,11 @@ threads_are_told = record {
     found = refl;
     locals = ((refl, refl), ((refl, refl), tt));
     point = (accesses.Number int, refl, (accesses.Number int, accesses.Number int, refl, ((refl, refl), refl), ((in_register int_ty, refl, (refl, refl)), tt)));
-    callers = tt;
+    callers = refl;
   };
   left_pointer = λ h. no_left h.point.2.0 h.point.0 h.point.2.1 h.point.2.2 h.point.2.3;
   right_pointer = λ h. no_right h.point.2.0 h.point.0 h.point.2.1 h.point.1 h.point.2.3;
-  one_unset = record { func = main; found = refl; locals = (tt, ((refl, refl), tt)); point = tt; callers = tt };
+  one_unset = record { func = main; found = refl; locals = (tt, ((refl, refl), tt)); point = tt; callers = refl };
   held_pointer = λ h. (locals_of unset (holds a_null) h).1.0.1;
   in_a_block = λ h. let e : false ≡ true = (locals_of (lies 0) unset h).0 in absurd cc;
 }

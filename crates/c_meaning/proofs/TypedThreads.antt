@@ -166,9 +166,13 @@ first_arguments : (t : tree.Typed) (f : tree.Func) (argument : Ptr) → IsFunc t
 first_arguments t f argument w (inl m) = main_arguments f.params f.locals argument m.0
 first_arguments t f argument w (inr c) = thread_arguments f.params f argument t w refl c
 
+first_result : (f : tree.Func) → IsMain f ⊎ CanStart (signature_of f) → f.result ≡ tree.integer int
+first_result f (inl m) = m.1
+first_result f (inr c) = c.0
+
 pub threads_begin_typed : ThreadsBeginTyped
 threads_begin_typed t wf number can argument =
     let f = can.0 in
     let w = at_number (IsFunc t) t.funcs number f wf.funcs can.1 in
     let P : Option tree.Func → Type 0 = λ o. IsTypedControl t (begins_if number argument o) in
-    subst P (sym can.1) (record { func = f; found = can.1; locals = first_hold f (arguments_if f.params argument) (first_arguments t f argument w can.2); point = ((false, w.body), tt); callers = tt })
+    subst P (sym can.1) (record { func = f; found = can.1; locals = first_hold f (arguments_if f.params argument) (first_arguments t f argument w can.2); point = ((false, w.body), tt); callers = first_result f can.2 })
