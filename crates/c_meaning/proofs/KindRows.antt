@@ -1,18 +1,16 @@
 -- What is told by hand of types holds.
-use Rattle.std.proofs.Common.{◌≡◌, ℕ, Bool, true, false, List, [], ◌∷◌, Option, Some, None, refl, sym, ap, subst, arith}
-use Rattle.std.specs.Prelude.{slice_get}
+use Rattle.std.proofs.Common.{◌≡◌, ℕ, true, false, [], ◌∷◌, Some, refl, sym, ap, subst, arith}
 use Rattle.ak_words.specs.declared.int_type.IntType.{IntType}
 use Rattle.ak_words.specs.declared.operation.Op.TheVariants as ops
 use Rattle.ak_words.specs.IntType.{char, int, long}
 use Rattle.block_store.specs.declared.values.Access.{Access}
 use Rattle.block_store.specs.declared.values.Access.TheVariants as accesses
-use Rattle.block_store.specs.declared.values.Value.{Value}
 use Rattle.c_tree.specs.Typed as tree
 use Rattle.c_meaning.specs.Control.{Variable, unset, holds, lies}
 use Rattle.c_meaning.specs.Values.{on_numbers}
 use Rattle.c_meaning.specs.Kinds.{AllHold, HasKind, TakesTwo, IsTypedControl}
 use Rattle.c_meaning.specs.Rows.{int_ty, v, op_of, func, ints, in_register, returns, k}
-use Rattle.c_meaning.specs.KindRows.{an_int, a_null, multiplies, multiplying, holding, ValuesAreTold, OperatorsAreTold, ThreadsAreTold}
+use Rattle.c_meaning.specs.KindRows.{a_null, multiplies, holding, ValuesAreTold, OperatorsAreTold, ThreadsAreTold}
 
 int_or_char : int ≡ char → ⊥
 int_or_char e = let bits : ◌≡◌ {A = ℕ} 32 8 = ap (λ (t : IntType). t.bits) e in omega arith
@@ -67,11 +65,11 @@ threads_are_told = record {
     found = refl;
     locals = ((refl, refl), ((refl, refl), tt));
     point = (accesses.Number int, refl, (accesses.Number int, accesses.Number int, refl, ((refl, refl), refl), ((in_register int_ty, refl, (refl, refl)), tt)));
-    callers = tt;
+    callers = refl;
   };
   left_pointer = λ h. no_left h.point.2.0 h.point.0 h.point.2.1 h.point.2.2 h.point.2.3;
   right_pointer = λ h. no_right h.point.2.0 h.point.0 h.point.2.1 h.point.1 h.point.2.3;
-  one_unset = record { func = main; found = refl; locals = (tt, ((refl, refl), tt)); point = tt; callers = tt };
+  one_unset = record { func = main; found = refl; locals = (tt, ((refl, refl), tt)); point = tt; callers = refl };
   held_pointer = λ h. (locals_of unset (holds a_null) h).1.0.1;
   in_a_block = λ h. let e : false ≡ true = (locals_of (lies 0) unset h).0 in absurd cc;
 }

@@ -1,38 +1,27 @@
 -- What an action gives is of the type that it should be, and which answers it takes.
-use Rattle.std.proofs.Common.{◌≡◌, ◌↔◌, ℕ, zero, suc, ◌^◌, ◌<◌, ◌==◌, Bool, true, false, List, [], ◌∷◌, ◌++◌, length, set, Option, Some, None, Ok, Err, ℤ, pos, ◌⊎◌, inl, inr, refl, sym, ap, subst, ◌∙◌, arith, ltb-true}
-use Rattle.std.specs.Prelude.{Result, if◌then◌else◌, slice_get, nat_lt}
+use Rattle.std.proofs.Common.{◌≡◌, ℕ, zero, suc, ◌==◌, Bool, true, false, List, [], ◌∷◌, ◌++◌, set, Option, Some, None, Ok, Err, ℤ, pos, refl, subst}
+use Rattle.std.specs.Prelude.{Result, if◌then◌else◌, slice_get}
 use Rattle.std.specs.Option.{option_map, ok_or}
 use Rattle.std.specs.List.{AllByRecursion}
 use Rattle.ak_words.specs.declared.int_type.IntType.{IntType}
-use Rattle.ak_words.specs.declared.number.Num.{Num}
 use Rattle.ak_words.specs.declared.rule.Rule.{Rule}
 use Rattle.ak_words.specs.declared.rule.Rule.TheVariants.{C4, C14, C16}
-use Rattle.ak_words.specs.IntType.{int, unsigned_long}
+use Rattle.ak_words.specs.IntType.{int}
 use Rattle.ak_words.specs.Num.{num}
-use Rattle.block_store.specs.declared.values.Access.{Access}
-use Rattle.block_store.specs.declared.values.Access.TheVariants as accesses
 use Rattle.block_store.specs.declared.values.Answer.{Answer}
 use Rattle.block_store.specs.declared.values.Answer.TheVariants as answers
 use Rattle.block_store.specs.declared.values.Cell.{Cell}
 use Rattle.block_store.specs.declared.values.Ptr.{Ptr}
-use Rattle.block_store.specs.declared.values.Ptr.TheVariants.{Null, To}
 use Rattle.block_store.specs.declared.values.Value.{Value}
 use Rattle.block_store.specs.declared.values.Value.TheVariants as values
 use Rattle.block_store.specs.Actions as actions
 use Rattle.block_store.specs.Actions.{World, Thread, Stage, Action, Done, Reached, acted, under, outcomes, telling, at_stage, staged_if, staged}
-use Rattle.block_store.specs.Blocks.{Blocks, Spot, loaded, read_at, spot_at, cells_at, stored, copied, freed}
+use Rattle.block_store.specs.Blocks.{Blocks, Spot, loaded, read_at, spot_at, cells_at, stored, copied}
 use Rattle.block_store.specs.Cells.{size_of, value_of, read, has_unknown, number_of, pointer_of}
-use Rattle.block_store.specs.Mutexes.{locked, unlocked, destroyed}
-use Rattle.block_store.specs.Runs as runs
-use Rattle.block_store.specs.Runs.{Turn}
 use Rattle.c_tree.specs.Typed as tree
-use Rattle.c_tree.specs.TypedForm.{IsPointer, IsScalar, Fits, IsNth, Context, CanStart, AreArguments, IsLibCall, IsMain, signature_of, context_of}
-use Rattle.c_meaning.specs.Control.{Control}
-use Rattle.c_meaning.specs.Library.{action_of, value_of_call}
+use Rattle.c_tree.specs.TypedForm.{IsScalar}
 use Rattle.c_meaning.specs.Values.{access_of_type}
-use Rattle.c_meaning.specs.Kinds.{HasType, HasTypeIf, StandBefore, CanBegin, IsTypedWorld}
-use Rattle.c_meaning.specs.Sound.{Takes, ComesOutAs, IsUnfit}
-use Rattle.c_meaning.proofs.TypedValues.{fits_type}
+use Rattle.c_meaning.specs.Kinds.{HasType, HasTypeIf, CanBegin, IsTypedWorld}
 
 -- ---- what is done
 

@@ -1,7 +1,7 @@
 -- What a well formed call does: its arguments have the types of the parameters, and a library's call is an action whose value has the
 -- call's type.
-use Rattle.std.proofs.Common.{◌≡◌, ℕ, zero, suc, ◌^◌, Bool, true, false, List, [], ◌∷◌, ◌++◌, map, take, Option, Some, None, Ok, Err, pos, refl, sym, ap, subst, ◌∙◌, ◌⊎◌, inl, inr, nat_lt, unsigned_abs}
-use Rattle.std.specs.Prelude.{if◌then◌else◌, slice_get}
+use Rattle.std.proofs.Common.{◌≡◌, ℕ, zero, suc, ◌^◌, false, List, [], ◌∷◌, ◌++◌, map, Option, Some, None, refl, sym, subst, inr, nat_lt, unsigned_abs}
+use Rattle.std.specs.Prelude.{slice_get}
 use Rattle.std.specs.List.{AllByRecursion}
 use Rattle.ak_words.specs.declared.int_type.IntType.{IntType}
 use Rattle.ak_words.specs.declared.number.Num.{Num}
@@ -13,13 +13,13 @@ use Rattle.block_store.specs.declared.values.Value.{Value}
 use Rattle.block_store.specs.declared.values.Value.TheVariants as values
 use Rattle.block_store.specs.Actions as actions
 use Rattle.block_store.specs.Actions.{World, Action, Done, acted}
-use Rattle.block_store.specs.Blocks.{stored, copied, freed}
+use Rattle.block_store.specs.Blocks.{stored, freed}
 use Rattle.block_store.specs.Mutexes.{locked, unlocked, destroyed}
 use Rattle.c_tree.specs.Typed as tree
-use Rattle.c_tree.specs.TypedForm.{IsPointer, IsScalar, Fits, IsNth, HasBits, ArePrinted, CanStart, Context, AreArguments, IsLibCall, IsTyped, AreTyped, Signature, signature_of, context_of, IsFunc, IsMain, IsWellFormed}
+use Rattle.c_tree.specs.TypedForm.{IsScalar, Fits, IsNth, HasBits, ArePrinted, CanStart, Context, AreArguments, IsLibCall, IsTyped, AreTyped, Signature, signature_of, context_of, IsFunc, IsWellFormed}
 use Rattle.c_tree.specs.TypedPrinting.{parts}
 use Rattle.c_meaning.specs.Control.{Callee, function, library}
-use Rattle.c_meaning.specs.Library.{numbers_of, pointers_of, free_mutex, action_of, first_of_all, value_of_call}
+use Rattle.c_meaning.specs.Library.{numbers_of, pointers_of, free_mutex, action_of, value_of_call}
 use Rattle.c_meaning.specs.Kinds.{HasType, HasTypeIf, IsCalled, StandBefore, CanBegin, IsTypedWorld}
 use Rattle.c_meaning.proofs.TypedValues.{fits_type, pointer_scalar}
 use Rattle.c_meaning.proofs.TypedLocals.{at_number, ArgumentsHold, arguments_hold, params_scalar}

@@ -1,6 +1,6 @@
 -- Expressions give values of their types, and come out well.
-use Rattle.std.proofs.Common.{◌≡◌, ℕ, Bool, true, false, ◌+◌, List, [], ◌∷◌, ◌++◌, length, Option, Some, None, ℤ, refl, sym, ap, subst, ◌∙◌}
-use Rattle.std.specs.Prelude.{if◌then◌else◌, slice_get}
+use Rattle.std.proofs.Common.{◌≡◌, ℕ, Bool, true, false, ◌+◌, List, [], ◌∷◌, ◌++◌, length, ℤ, refl, sym, ap, subst, ◌∙◌}
+use Rattle.std.specs.Prelude.{if◌then◌else◌}
 use Rattle.ak_words.specs.declared.int_type.IntType.{IntType}
 use Rattle.ak_words.specs.declared.rule.Rule.TheVariants.{C4}
 use Rattle.ak_words.specs.IntType.{int}
@@ -19,10 +19,10 @@ use Rattle.c_meaning.specs.Control as control
 use Rattle.c_meaning.specs.Control.{Variable, Callee, Wait, wanted, dropped}
 use Rattle.c_meaning.specs.Values as reads
 use Rattle.c_meaning.specs.Values.{access_of_type, truth_of, int_of, Unary, Binary}
-use Rattle.c_meaning.specs.Turns.{Here, Now, Does, WayOfUse, on_ok, after_call, variable_at, pointer_in, read_way, only_way, second_way, first_way, second_test_way, is_same, first_test_way, choice_way, argument_way, reads_variable, finds_variable, run, run_node, run_place, run_place_node, run_arguments}
-use Rattle.c_meaning.specs.Kinds.{HasKind, HasType, HasTypeIf, MayHold, TakesOne, TakesTwo, IsCalled, StandBefore, Awaits}
-use Rattle.c_meaning.proofs.TypedValues.{OkWith, not_c4, Anything, kind_type, type_kind, int_kind, truth_ok, of_one_ok, of_two_ok, number_operands, on_numbers_taken, forward_taken, backward_taken, distance_taken, on_pointers_taken, converts_taken, converts_scalar, integer_scalar, pointer_scalar, pointer_access, sized_pointer, moved_scalar}
-use Rattle.c_meaning.proofs.TypedLocals.{Site, here_at, inside_at, Stands, IsNow, hold_at}
+use Rattle.c_meaning.specs.Turns.{Does, WayOfUse, after_call, variable_at, pointer_in, read_way, only_way, second_way, first_way, second_test_way, is_same, first_test_way, choice_way, argument_way, reads_variable, finds_variable, run, run_node, run_place, run_place_node, run_arguments}
+use Rattle.c_meaning.specs.Kinds.{HasKind, HasTypeIf, MayHold, TakesOne, TakesTwo, IsCalled, StandBefore, Awaits}
+use Rattle.c_meaning.proofs.TypedValues.{not_c4, Anything, kind_type, type_kind, truth_ok, of_one_ok, of_two_ok, number_operands, on_numbers_taken, forward_taken, backward_taken, distance_taken, on_pointers_taken, converts_taken, converts_scalar, integer_scalar, pointer_scalar, pointer_access, sized_pointer, moved_scalar}
+use Rattle.c_meaning.proofs.TypedLocals.{Site, here_at, inside_at, Stands, hold_at}
 use Rattle.c_meaning.proofs.TypedActions.{load_done}
 use Rattle.c_meaning.proofs.TypedCalls.{called_scalar, called_typed, first_typed, first_scalar, leaves_fewer}
 use Rattle.c_meaning.proofs.TypedTurns.{Fine, TakesKind, IsFine, Evaluates, breaks_fine, ok_fine, if_fine, acts_fine, after_typed, calls_fine}

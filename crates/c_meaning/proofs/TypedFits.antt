@@ -1,12 +1,11 @@
 -- Which answers an action takes, and a turn that ends with it.
-use Rattle.std.proofs.Common.{◌≡◌, ◌↔◌, ℕ, ◌^◌, ◌<◌, ◌≤◌, ◌==◌, Bool, true, false, List, ◌++◌, length, Option, Some, None, Ok, Err, ℤ, refl, sym, ap, subst, arith, ltb-true, ltb-false}
+use Rattle.std.proofs.Common.{◌≡◌, ◌↔◌, ℕ, ◌^◌, ◌<◌, ◌≤◌, ◌==◌, Bool, true, false, List, ◌++◌, length, Option, Some, None, Ok, Err, ℤ, refl, sym, subst, arith, ltb-true, ltb-false}
 use Rattle.std.specs.Prelude.{Result, if◌then◌else◌, slice_get, nat_lt}
 use Rattle.ak_words.specs.declared.rule.Rule.{Rule}
 use Rattle.ak_words.specs.declared.rule.Rule.TheVariants.{C14}
 use Rattle.block_store.specs.declared.values.Answer.{Answer}
 use Rattle.block_store.specs.declared.values.Answer.TheVariants as answers
 use Rattle.block_store.specs.declared.values.BlockKind.TheVariants as kinds
-use Rattle.block_store.specs.declared.values.Cell.{Cell}
 use Rattle.block_store.specs.declared.values.Ptr.{Ptr}
 use Rattle.block_store.specs.declared.values.Ptr.TheVariants.{To}
 use Rattle.block_store.specs.declared.values.Value.{Value}

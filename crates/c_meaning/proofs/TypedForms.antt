@@ -1,9 +1,9 @@
 -- What well formed trees say of types where a value is assigned, returned or dropped.
-use Rattle.std.proofs.Common.{◌≡◌, ℕ, Bool, true, false, List, [], ◌∷◌, Option, Some, None, refl, sym, ap, subst, ◌∙◌}
+use Rattle.std.proofs.Common.{◌≡◌, ℕ, true, false, List, Some, refl, sym, ap, subst, ◌∙◌}
 use Rattle.std.specs.Prelude.{slice_get}
 use Rattle.ak_words.specs.declared.operation.Op.{Op}
 use Rattle.c_tree.specs.Typed as tree
-use Rattle.c_tree.specs.TypedForm.{IsInteger, IsPointer, IsScalar, Fits, PointsToSized, MovesPointer, AreOperands, type_of_result, Converts, IsNth, IsLvalue, IsLibCall, IsTyped, IsTypedNode, Context, IsResult, IsFunc, IsLocal, IsWellFormed, context_of}
+use Rattle.c_tree.specs.TypedForm.{IsInteger, IsScalar, Fits, MovesPointer, type_of_result, Converts, IsLvalue, IsLibCall, IsTyped, IsTypedNode, Context, IsResult, IsFunc, IsLocal}
 use Rattle.c_meaning.specs.Values.{is_scalar}
 use Rattle.c_meaning.specs.Turns.{is_struct}
 use Rattle.c_meaning.proofs.TypedValues.{number_operands, integer_scalar, pointer_scalar, sized_pointer}

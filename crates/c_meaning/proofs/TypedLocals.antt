@@ -1,16 +1,16 @@
 -- Locals keep their types, and what a call has where it begins.
-use Rattle.std.proofs.Common.{◌≡◌, ℕ, zero, suc, ◌+◌, ◌-◌, ◌≤◌, Bool, true, false, List, [], ◌∷◌, ◌++◌, length, map, take, set, replicate, Option, Some, None, refl, sym, ap, subst, ◌∙◌, arith, ◌⊎◌, inl, inr}
+use Rattle.std.proofs.Common.{◌≡◌, ℕ, zero, suc, ◌+◌, ◌-◌, ◌≤◌, Bool, true, false, List, [], ◌∷◌, ◌++◌, length, map, take, set, replicate, Option, Some, refl, sym, ap, subst, ◌∙◌, arith}
 use Rattle.std.specs.Prelude.{if◌then◌else◌, slice_get}
 use Rattle.std.specs.List.{AllByRecursion}
 use Rattle.block_store.specs.declared.values.Answer.{Answer}
 use Rattle.block_store.specs.declared.values.Ptr.{Ptr}
 use Rattle.block_store.specs.declared.values.Value.{Value}
 use Rattle.block_store.specs.declared.values.Value.TheVariants as values
-use Rattle.block_store.specs.Actions.{World, without_local}
+use Rattle.block_store.specs.Actions.{World}
 use Rattle.c_tree.specs.Typed as tree
-use Rattle.c_tree.specs.TypedForm.{IsScalar, Fits, AreArguments, Inside, IsFunc, IsLocal, IsWellFormed}
+use Rattle.c_tree.specs.TypedForm.{IsScalar, AreArguments, Inside, IsLocal, IsWellFormed}
 use Rattle.c_meaning.specs.Control.{Variable, unset, holds, lies, Caller}
-use Rattle.c_meaning.specs.Turns.{Here, Now, local_at, declared_in, is_block, variable_or_unset, variable_at, with_variable, ended_if, ended_local, ended_locals, with_block, made_local, declared_local, without_block, without_blocks, first_locals}
+use Rattle.c_meaning.specs.Turns.{Here, Now, local_at, declared_in, is_block, variable_or_unset, variable_at, with_variable, ended_if, ended_local, ended_locals, made_local, declared_local, without_block, without_blocks, first_locals}
 use Rattle.c_meaning.specs.Kinds.{HasType, MayHold, AllHold, StandBefore, inside, AreTypedCallers, IsTypedWorld}
 use Rattle.c_meaning.proofs.TypedValues.{fits_type}
 

@@ -1,7 +1,6 @@
 -- Runs of a well formed program come only to states that are well formed, and go on from them.
-use Rattle.std.proofs.Common.{◌≡◌, ◌↔◌, ℕ, zero, suc, List, [], ◌∷◌, ◌++◌, length, map, drop, set, Option, Some, None, refl, sym, ap, subst, ◌∙◌, ◌⊎◌, inl, inr}
+use Rattle.std.proofs.Common.{◌≡◌, ℕ, zero, suc, List, [], ◌∷◌, ◌++◌, length, map, drop, set, Option, Some, None, refl, sym, ap, subst, ◌∙◌, inl}
 use Rattle.std.specs.List.{AllByRecursion}
-use Rattle.block_store.specs.declared.values.Answer.{Answer}
 use Rattle.block_store.specs.Actions.{World, Thread}
 use Rattle.block_store.specs.Runs as runs
 use Rattle.block_store.specs.Runs.{Turn, State, Pick, Run, begun, next_state, own_at, turn_if, picked, goes_on, run_from}
@@ -9,9 +8,9 @@ use Rattle.c_tree.specs.Typed as tree
 use Rattle.c_tree.specs.TypedForm.{IsWellFormed}
 use Rattle.c_meaning.specs.Control.{Control}
 use Rattle.c_meaning.specs.Turns.{turn}
-use Rattle.c_meaning.specs.Meaning.{program, start, run}
+use Rattle.c_meaning.specs.Meaning.{program, start}
 use Rattle.c_meaning.specs.Kinds.{IsTypedControl, IsTypedWorld, CanBegin}
-use Rattle.c_meaning.specs.Sound.{End, FitsEnd, EndsAs, IsUnfit, IsTypedTurn, AreTypedThreads, IsTypedState, LeadsOn, RunsBeginTyped, PicksKeepTypes, RunsKeepTypes, RunsGoOn}
+use Rattle.c_meaning.specs.Sound.{IsUnfit, IsTypedTurn, AreTypedThreads, IsTypedState, LeadsOn, RunsBeginTyped, PicksKeepTypes, RunsKeepTypes, RunsGoOn}
 use Rattle.c_meaning.proofs.TypedThreads.{threads_begin_typed, turns_keep_types, turns_go_on}
 
 -- ---- what threads have
@@ -149,6 +148,9 @@ runs_go_on t wf order s e p main own m o =
     let c : IsTypedControl t own = subst (IsTypedOwn t) o (own_typed t s.own p.thread h.threads) in
     let g = turns_go_on t wf p.thread own s.world c h.world in
     let more = one_more (program t) order p 0 (runs.first_state (program t) (start t)) s e in
-    let turned : picked (program t) s p ≡ Some (turn t p.thread p.answer own s.world) = pick_of (program t) s p main own m o in
-    (g.0, g.1, λ fits k none. waits_only (program t) s p.thread more.0 k (turn t p.thread p.answer own s.world) ((g.2 p.answer).1 fits)
-      (sym (ap (goes_on (program t) (λ next. runs.reaches next) s p.thread more.0) turned) ∙ sym more.1 ∙ none))
+    let turned : picked (program t) s p ≡ Some (turn t p.thread p.answer own s.world) = pick_of (program t) s p main own m o in (
+      g.0,
+      g.1,
+      λ fits k none. waits_only (program t) s p.thread more.0 k (turn t p.thread p.answer own s.world) ((g.2 p.answer).1 fits)
+          (sym (ap (goes_on (program t) (λ next. runs.reaches next) s p.thread more.0) turned) ∙ sym more.1 ∙ none),
+    )

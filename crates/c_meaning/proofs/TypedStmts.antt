@@ -1,5 +1,5 @@
 -- Statements come out well, and so does all that follows them.
-use Rattle.std.proofs.Common.{◌≡◌, ℕ, Bool, true, false, List, [], ◌∷◌, length, Option, Some, None, refl, sym, ap, subst, ◌∙◌}
+use Rattle.std.proofs.Common.{◌≡◌, ℕ, Bool, true, false, List, [], length, Option, Some, None, refl, sym, ap, subst, ◌∙◌}
 use Rattle.std.specs.Prelude.{if◌then◌else◌, slice_get}
 use Rattle.ak_words.specs.declared.operation.Op.{Op}
 use Rattle.ak_words.specs.declared.rule.Rule.TheVariants.{C4}
@@ -11,17 +11,17 @@ use Rattle.block_store.specs.declared.values.Value.{Value}
 use Rattle.block_store.specs.Actions as actions
 use Rattle.c_tree.specs.Typed as tree
 use Rattle.c_tree.specs.TypedLayout.{size_in, align_in}
-use Rattle.c_tree.specs.TypedForm.{IsScalar, Fits, CanUpdate, IsNth, IsLvalue, IsTyped, IsTypedNode, IfTyped, IsReturned, IsWell, IsWellNode, AreWell, Inside, Context}
+use Rattle.c_tree.specs.TypedForm.{IsScalar, Fits, CanUpdate, IsNth, IsLvalue, IsTyped, IsTypedNode, IfTyped, IsReturned, IsWell, IsWellNode, AreWell}
 use Rattle.c_meaning.specs.Control as control
 use Rattle.c_meaning.specs.Control.{Variable, Loop, Update, Callee, dropped, wanted}
 use Rattle.c_meaning.specs.Values.{access_of_type, is_scalar, truth_of, updated}
-use Rattle.c_meaning.specs.Turns.{Here, Now, Does, WayOfUse, Way, on_ok, plainly, stays, after_call, local_at, is_block, variable_at, with_variable, ended_local, ended_locals, made_local, declared_local, declared, declared_by, pointer_in, run, run_node, run_place, run_place_node, run_arguments, nowhere_way, drops_object, run_dropped, run_dropped_node, local_way, place_way, left_way, struct_right_way, struct_left_way, is_struct, assigns_object, assigns, update_read_way, update_right_way, update_left_way, updates_variable, update_local_way, updates, initialises, declares, caller_way, returns, if_way, nothing, leave_way, row_way, end_way, round_over, step_way, body_way, loop_test_way, rounds_if, rounds, loop_way, while_loop, for_loop, update_of, run_stmt, run_stmt_node, run_row}
+use Rattle.c_meaning.specs.Turns.{Does, Way, after_call, local_at, is_block, variable_at, with_variable, ended_local, ended_locals, made_local, declared_local, declared, declared_by, pointer_in, run, run_node, run_place, run_place_node, run_arguments, nowhere_way, drops_object, run_dropped, run_dropped_node, local_way, place_way, left_way, struct_right_way, struct_left_way, is_struct, assigns_object, assigns, update_read_way, update_right_way, update_left_way, updates_variable, update_local_way, updates, initialises, declares, caller_way, returns, if_way, nothing, row_way, end_way, round_over, step_way, body_way, loop_test_way, rounds_if, rounds, loop_way, while_loop, for_loop, update_of, run_stmt, run_stmt_node, run_row}
 use Rattle.c_meaning.specs.Kinds.{HasKind, HasTypeIf, MayHold, UpdatesBy, IsCalled, IsWellSomewhere, IsTypedLoop}
-use Rattle.c_meaning.proofs.TypedValues.{OkWith, not_c4, Anything, kind_type, type_kind, fits_kind, truth_ok, updated_ok, updates_scalar}
-use Rattle.c_meaning.proofs.TypedLocals.{Site, here_at, inside_at, Stands, IsNow, hold_at, with_now, unset_now, ended_local_now, ended_locals_now, local_found, made_now, declared_now}
+use Rattle.c_meaning.proofs.TypedValues.{not_c4, Anything, kind_type, type_kind, fits_kind, truth_ok, updated_ok, updates_scalar}
+use Rattle.c_meaning.proofs.TypedLocals.{Site, here_at, inside_at, Stands, hold_at, with_now, unset_now, ended_locals_now, local_found, made_now, declared_now}
 use Rattle.c_meaning.proofs.TypedActions.{IsNoValue, load_done, store_done, copy_done}
 use Rattle.c_meaning.proofs.TypedCalls.{fits_scalar}
-use Rattle.c_meaning.proofs.TypedTurns.{Fine, TakesKind, IsFine, Follows, Evaluates, Executes, breaks_fine, ok_fine, if_fine, plainly_fine, stays_at, stays_typed, acts_fine, after_typed, leaves_fine}
+use Rattle.c_meaning.proofs.TypedTurns.{TakesKind, IsFine, Follows, Executes, breaks_fine, ok_fine, if_fine, plainly_fine, stays_at, stays_typed, acts_fine, after_typed, leaves_fine}
 use Rattle.c_meaning.proofs.TypedExprs.{context_at, block_value, kind_at, run_fine, run_node_fine, run_place_fine, run_place_node_fine, run_arguments_fine}
 use Rattle.c_meaning.proofs.TypedForms.{func_well, local_scalar, returned_scalar, fits_struct, fits_no_struct, IsPlain, plain_scalar, struct_expr_lvalue, is_scalar_type}
 
@@ -103,10 +103,10 @@ assigns_local_fine s place number ty right f t u fit w g =
     does_if_fine s (is_block (local_at (here_at s answers.Plain) number)) (λ answer. assigns_object (here_at s answer) left right (w answer)) (λ answer. run (here_at s answer) right (local_way number (w answer)))
     (λ b. assigns_object_fine s left right f t u tt fit w g)
     (λ b.
-      let memory : t.0.in_memory ≡ false = in_memory_is s f number false t.0 t.1 b in
-      let scalar : IsScalar ty = subst IsScalar t.2 (local_scalar s f number t.0 t.1 memory) in
-      run_fine s f right u (fits_scalar (tree.type_of right) ty fit scalar) (λ answer. local_way number (w answer))
-      (local_takes s number (kind_at right) w f (t.0, t.1, (memory, ap access_of_type t.2 ∙ sym (fits_kind (tree.type_of right) ty fit))) g))
+    let memory : t.0.in_memory ≡ false = in_memory_is s f number false t.0 t.1 b in
+    let scalar : IsScalar ty = subst IsScalar t.2 (local_scalar s f number t.0 t.1 memory) in
+    run_fine s f right u (fits_scalar (tree.type_of right) ty fit scalar) (λ answer. local_way number (w answer))
+    (local_takes s number (kind_at right) w f (t.0, t.1, (memory, ap access_of_type t.2 ∙ sym (fits_kind (tree.type_of right) ty fit))) g))
 
 assigns_fine : (s : Site) (place : ℕ) (ty : tree.Ty) (node : tree.ExprNode) (right : tree.Expr) → Stands s → IsTypedNode (context_at s) ty node → IsTyped (context_at s) right → IsLvalue node → Fits (tree.type_of right) ty
     → Executes s (λ answer. assigns (here_at s answer) node (tree.at place ty node) right)
@@ -184,7 +184,7 @@ updates_local_fine s u place number right f t v can w g =
     does_if_fine s (is_block (local_at (here_at s answers.Plain) number)) (λ answer. run_place (here_at s answer) left (update_left_way (here_at s answer) u right (w answer))) (λ answer. run (here_at s answer) right (update_local_way (here_at s answer) u number (w answer)))
     (λ b. updates_object_fine s u left right f t v tt can w g)
     (λ b. run_fine s f right v (updates_scalar s.typed.structs u.op u.ty (tree.type_of right) can).1 (λ answer. update_local_way (here_at s answer) u number (w answer))
-      (update_local_takes s u number (kind_at right) w f (t.0, t.1, (in_memory_is s f number false t.0 t.1 b, t.2)) (tree.type_of right, can, refl) g))
+    (update_local_takes s u number (kind_at right) w f (t.0, t.1, (in_memory_is s f number false t.0 t.1 b, t.2)) (tree.type_of right, can, refl) g))
 
 updates_fine : (s : Site) (u : Update) (place : ℕ) (node : tree.ExprNode) (right : tree.Expr) → Stands s → IsTypedNode (context_at s) u.ty node → IsTyped (context_at s) right → IsLvalue node → CanUpdate s.typed.structs u.op u.ty (tree.type_of right)
     → Executes s (λ answer. updates (here_at s answer) u node (tree.at place u.ty node) right)
@@ -208,7 +208,7 @@ initialises_fine s place number init f t l w g x n =
     if_fine s block (λ answer. run (here_at s answer) init (place_way (here_at s answer) place to (w answer)) (made_local (here_at s answers.Plain) number x)) (λ answer. run (here_at s answer) init (local_way number (w answer)) (with_variable number control.unset x))
     (λ b. run_fine s f init t l.2.1 (λ answer. place_way (here_at s answer) place to (w answer)) (place_takes s place to (kind_at init) w f tt g) (made_local (here_at s answers.Plain) number x) (made_now s f answers.Plain number x b n))
     (λ b. run_fine s f init t l.2.1 (λ answer. local_way number (w answer))
-      (local_takes s number (kind_at init) w f (l.0, l.1, (in_memory_is s f number false l.0 l.1 b, sym (fits_kind (tree.type_of init) l.0.ty l.2.0))) g) (with_variable number control.unset x) (unset_now s number x n))
+    (local_takes s number (kind_at init) w f (l.0, l.1, (in_memory_is s f number false l.0 l.1 b, sym (fits_kind (tree.type_of init) l.0.ty l.2.0))) g) (with_variable number control.unset x) (unset_now s number x n))
 
 declares_fine : (s : Site) (place number : ℕ) (init : Option tree.Expr) → Stands s → IsNth s.func.locals number (λ l. IfTyped (context_at s) (λ t. Fits t l.ty × IsScalar t) init) → Executes s (λ answer. declares (here_at s answer) place number init)
 declares_fine s place number None f l w g x n = g.ends (declared_local (here_at s answers.Plain) number x) (declared_now s f answers.Plain number x n)

@@ -1,6 +1,5 @@
 -- Whole turns of a thread come out well, and threads begin so.
-use Rattle.std.proofs.Common.{◌≡◌, ◌↔◌, ℕ, zero, suc, ◌^◌, ◌<◌, ◌≤◌, Bool, false, List, [], ◌∷◌, map, take, Option, Some, None, refl, sym, ap, subst, ◌∙◌, ◌⊎◌, inl, inr, arith}
-use Rattle.std.specs.Prelude.{slice_get}
+use Rattle.std.proofs.Common.{◌≡◌, ◌↔◌, ℕ, zero, suc, ◌^◌, ◌<◌, ◌≤◌, false, List, Option, None, refl, sym, subst, ◌⊎◌, inl, inr, arith}
 use Rattle.ak_words.specs.IntType.{int}
 use Rattle.ak_words.specs.declared.rule.Rule.TheVariants.{C15}
 use Rattle.block_store.specs.declared.values.Access.{Access}
@@ -8,8 +7,6 @@ use Rattle.block_store.specs.declared.values.Access.TheVariants as accesses
 use Rattle.block_store.specs.declared.values.Answer.{Answer}
 use Rattle.block_store.specs.declared.values.Answer.TheVariants as answers
 use Rattle.block_store.specs.declared.values.Ptr.{Ptr}
-use Rattle.block_store.specs.declared.values.Value.{Value}
-use Rattle.block_store.specs.declared.values.Value.TheVariants as values
 use Rattle.block_store.specs.Actions as actions
 use Rattle.block_store.specs.Actions.{World, Action}
 use Rattle.block_store.specs.Runs.{Turn}
@@ -18,16 +15,16 @@ use Rattle.c_tree.specs.TypedForm.{IsScalar, IsFunc, IsMain, CanStart, IsWellFor
 use Rattle.c_meaning.specs.Control as control
 use Rattle.c_meaning.specs.Control.{Control, Variable, Todo, Use, Point}
 use Rattle.c_meaning.specs.Values.{access_of_type}
-use Rattle.c_meaning.specs.Turns.{Here, Now, Does, WayOfUse, read_way, leave_way, run, run_arguments, run_stmt, run_row, way_of, use_of, from_point, turn, begins_in}
-use Rattle.c_meaning.specs.Meaning.{program, arguments_if, begins_if}
-use Rattle.c_meaning.specs.Kinds.{HasKind, IsTypedTodo, Expects, IsTypedPoint, IsTypedControl, IsTypedWorld, CanBegin}
+use Rattle.c_meaning.specs.Turns.{WayOfUse, read_way, leave_way, run, run_arguments, run_stmt, run_row, way_of, use_of, from_point, turn}
+use Rattle.c_meaning.specs.Meaning.{arguments_if, begins_if}
+use Rattle.c_meaning.specs.Kinds.{IsTypedTodo, Expects, IsTypedPoint, IsTypedControl, IsTypedWorld}
 use Rattle.c_meaning.specs.Sound.{Takes, End, breaking, quiet, acting, FitsEnd, EndsAs, IsChosen, AllocatesTooMuch, IsUnfit, ThreadsBeginTyped, TurnsKeepTypes, TurnsGoOn, SomeAnswerFits}
 use Rattle.c_meaning.proofs.TypedValues.{not_c15}
-use Rattle.c_meaning.proofs.TypedLocals.{Site, here_at, inside_at, Stands, IsNow, ArgumentsHold, first_hold, pointer_holds, type_of_local, at_number}
+use Rattle.c_meaning.proofs.TypedLocals.{Site, here_at, inside_at, Stands, ArgumentsHold, first_hold, pointer_holds, at_number}
 use Rattle.c_meaning.proofs.TypedFits.{end_takes}
 use Rattle.c_meaning.proofs.TypedTurns.{Fine, TakesKind, IsFine, Follows, breaks_fine, leaves_fine}
 use Rattle.c_meaning.proofs.TypedCalls.{called_scalar, first_scalar}
-use Rattle.c_meaning.proofs.TypedExprs.{context_at, kind_at, run_fine, run_arguments_fine, read_takes, only_takes, second_takes, first_takes, second_test_takes, first_test_takes, choice_takes, argument_takes}
+use Rattle.c_meaning.proofs.TypedExprs.{kind_at, run_fine, run_arguments_fine, read_takes, only_takes, second_takes, first_takes, second_test_takes, first_test_takes, choice_takes, argument_takes}
 use Rattle.c_meaning.proofs.TypedStmts.{nowhere_takes, local_takes, place_takes, left_takes, struct_right_takes, struct_left_takes, update_read_takes, update_right_takes, update_left_takes, update_local_takes, caller_takes, row_follows, end_follows, if_takes, step_follows, body_follows, loop_test_takes, rounds_fine, loop_follows, stmt_fine, row_fine}
 
 -- ---- what is left to do
@@ -169,9 +166,13 @@ first_arguments : (t : tree.Typed) (f : tree.Func) (argument : Ptr) → IsFunc t
 first_arguments t f argument w (inl m) = main_arguments f.params f.locals argument m.0
 first_arguments t f argument w (inr c) = thread_arguments f.params f argument t w refl c
 
+first_result : (f : tree.Func) → IsMain f ⊎ CanStart (signature_of f) → f.result ≡ tree.integer int
+first_result f (inl m) = m.1
+first_result f (inr c) = c.0
+
 pub threads_begin_typed : ThreadsBeginTyped
 threads_begin_typed t wf number can argument =
     let f = can.0 in
     let w = at_number (IsFunc t) t.funcs number f wf.funcs can.1 in
     let P : Option tree.Func → Type 0 = λ o. IsTypedControl t (begins_if number argument o) in
-    subst P (sym can.1) (record { func = f; found = can.1; locals = first_hold f (arguments_if f.params argument) (first_arguments t f argument w can.2); point = ((false, w.body), tt); callers = tt })
+    subst P (sym can.1) (record { func = f; found = can.1; locals = first_hold f (arguments_if f.params argument) (first_arguments t f argument w can.2); point = ((false, w.body), tt); callers = first_result f can.2 })

@@ -1,8 +1,7 @@
 -- Turns that come out well: how the rest of one is judged, by what it's handed, where it ends, and calls.
-use Rattle.std.proofs.Common.{◌≡◌, ℕ, Bool, true, false, List, [], ◌∷◌, ◌++◌, Option, Some, None, Ok, Err, ℤ, pos, refl, sym, ap, subst, ◌∙◌, eqb-true}
+use Rattle.std.proofs.Common.{◌≡◌, ℕ, Bool, true, false, List, [], ◌∷◌, Option, Some, None, Ok, Err, pos, refl, sym, ap, subst, ◌∙◌, eqb-true}
 use Rattle.std.specs.Prelude.{Result, if◌then◌else◌, slice_get, ◌==◌}
 use Rattle.ak_words.specs.declared.rule.Rule.{Rule}
-use Rattle.ak_words.specs.declared.rule.Rule.TheVariants.{C4, C15}
 use Rattle.ak_words.specs.IntType.{int}
 use Rattle.ak_words.specs.Num.{num}
 use Rattle.block_store.specs.declared.values.Access.{Access}
@@ -15,12 +14,11 @@ use Rattle.block_store.specs.Actions.{World, Action, Done, acted}
 use Rattle.block_store.specs.Runs as runs
 use Rattle.block_store.specs.Runs.{Turn}
 use Rattle.c_tree.specs.Typed as tree
-use Rattle.c_tree.specs.TypedForm.{IsMain, IsWellFormed}
 use Rattle.c_meaning.specs.Control as control
 use Rattle.c_meaning.specs.Control.{Control, Variable, Callee, Wait, wanted, dropped, Caller, Point}
 use Rattle.c_meaning.specs.Library.{action_of, value_of_call}
-use Rattle.c_meaning.specs.Turns.{Here, Now, Does, WayOfUse, Way, on_ok, plainly, stays, on_done, acts, after_call, begins_in, enters, calls_library, calls, result_of_call, number_in, returns_to, leaves_call, without_blocks}
-use Rattle.c_meaning.specs.Kinds.{HasType, HasTypeIf, HasKind, AllHold, IsCalled, StandBefore, IsTypedTodo, Expects, Awaits, IsTypedPoint, IsTypedCaller, AreTypedCallers, IsTypedControl, IsTypedWorld}
+use Rattle.c_meaning.specs.Turns.{Now, Does, WayOfUse, Way, on_ok, plainly, stays, on_done, acts, after_call, begins_in, enters, calls_library, calls, result_of_call, number_in, returns_to, leaves_call, without_blocks}
+use Rattle.c_meaning.specs.Kinds.{HasType, HasTypeIf, HasKind, AllHold, IsCalled, StandBefore, IsTypedTodo, Expects, Awaits, IsTypedPoint, AreTypedCallers, IsTypedControl, IsTypedWorld}
 use Rattle.c_meaning.specs.Sound.{End, breaking, quiet, acting, ComesOutAs, IsNotC16, EndsAs, IsTypedTurn}
 use Rattle.c_meaning.proofs.TypedValues.{OkWith, type_kind}
 use Rattle.c_meaning.proofs.TypedLocals.{Site, here_at, inside_at, Stands, IsNow, first_hold, without_blocks_world}

@@ -2,16 +2,15 @@
 use Rattle.std.proofs.Common.{◌≡◌, ℕ, ◌==◌, Bool, true, false, List, Option, Some, None, Ok, Err, ℤ, pos, negsuc, ◌⊎◌, inl, inr, refl, sym, ap, subst, ◌∙◌}
 use Rattle.std.specs.Prelude.{Result, if◌then◌else◌, nat_le, length, ◌+ℤ◌, ◌-ℤ◌, ◌*ℤ◌, ◌&&◌, not, neg_ℤ}
 use Rattle.std.specs.Int.{int_div_euclid, int_rem_euclid}
-use Rattle.std.specs.Ordering.{int_eq}
 use Rattle.ak_words.specs.declared.int_type.IntType.{IntType}
 use Rattle.ak_words.specs.declared.number.Num.{Num}
 use Rattle.ak_words.specs.declared.operation.Op.{Op}
 use Rattle.ak_words.specs.declared.operation.Op.TheVariants as ops
 use Rattle.ak_words.specs.declared.rule.Rule.{Rule}
-use Rattle.ak_words.specs.declared.rule.Rule.TheVariants.{C1, C2, C3, C4, C7, C8, C9, C15, C16}
+use Rattle.ak_words.specs.declared.rule.Rule.TheVariants.{C1, C2, C3, C4, C7, C8, C9, C15}
 use Rattle.ak_words.specs.IntType.{int, long}
 use Rattle.ak_words.specs.Num.{num}
-use Rattle.ak_words.specs.Op.{exact_result, overflows, is_count, rule_if, rule_of, result_type, outcome, result_of}
+use Rattle.ak_words.specs.Op.{exact_result, rule_if, rule_of, result_type, outcome, result_of}
 use Rattle.block_store.specs.declared.values.Access.{Access}
 use Rattle.block_store.specs.declared.values.Access.TheVariants as accesses
 use Rattle.block_store.specs.declared.values.Ptr.{Ptr}
@@ -23,7 +22,7 @@ use Rattle.block_store.specs.Pointers as pointers
 use Rattle.block_store.specs.Pointers.{within, moved_in, moved_null, moved, indexed, is_usable, both_usable, is_other_than_null, tested, is_same, by_distance, is_below_0, is_0, related, compared, in_elements, difference}
 use Rattle.c_tree.specs.Typed as tree
 use Rattle.c_tree.specs.TypedForm.{IsInteger, IsPointer, IsScalar, Fits, PointsToSized, MovesPointer, AreOperands, type_of_result, CanUpdate, Converts}
-use Rattle.c_meaning.specs.Values.{Unary, converts, negates, tests, selects, Binary, on_numbers, forward, backward, distance, on_pointers, access_of_type, element_size, int_of, value_of, pointer_of, int_result, long_result, truth_of, opposite, converted, selected, of_one, of_two, operand_types, computed, converted_result, updated}
+use Rattle.c_meaning.specs.Values.{Unary, converts, negates, tests, selects, Binary, on_numbers, forward, backward, distance, on_pointers, access_of_type, element_size, int_of, value_of, pointer_of, int_result, long_result, truth_of, opposite, selected, of_one, of_two, operand_types, computed, converted_result, updated}
 use Rattle.c_meaning.specs.Kinds.{HasType, HasKind, TakesOne, TakesTwo}
 use Rattle.c_meaning.specs.Sound.{IsNotC16}
 

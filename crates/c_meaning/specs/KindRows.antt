@@ -1,5 +1,5 @@
 -- The definitions of types put to the test: what is of a type, and what isn't, told by hand.
-use Rattle.std.specs.Prelude.{◌≡◌, ℕ, List, [], ◌∷◌, Some, None, pos}
+use Rattle.std.specs.Prelude.{[], ◌∷◌, pos}
 use Rattle.ak_words.specs.declared.operation.Op.TheVariants as ops
 use Rattle.ak_words.specs.IntType.{char, int, long}
 use Rattle.ak_words.specs.Num.{num}
@@ -9,15 +9,16 @@ use Rattle.block_store.specs.declared.values.Ptr.TheVariants.{Null}
 use Rattle.block_store.specs.declared.values.Value.{Value}
 use Rattle.block_store.specs.declared.values.Value.TheVariants as values
 use Rattle.c_tree.specs.Typed as tree
-use Rattle.c_meaning.specs.Control.{Control, Variable, unset, holds, lies, Todo, leaves, Use, second_of, to_local, Point, gives, begins}
+use Rattle.c_meaning.specs.Control.{Control, Variable, unset, holds, lies, leaves, second_of, to_local, gives, begins}
 use Rattle.c_meaning.specs.Values.{on_numbers, forward, backward}
-use Rattle.c_meaning.specs.Kinds.{HasType, TakesTwo, AllHold, IsTypedControl}
-use Rattle.c_meaning.specs.Rows.{int_ty, int_star, v, op_of, ints, in_register, in_memory, main_only, returns, k}
+use Rattle.c_meaning.specs.Kinds.{HasType, TakesTwo, IsTypedControl}
+use Rattle.c_meaning.specs.Rows.{int_ty, int_star, v, op_of, ints, main_only, returns, k}
 
--- the value of a number as an int, and a null pointer
+-- an int
 abbrev pub an_int : Value
 an_int = values.Num (num int (pos 3))
 
+-- a null pointer
 abbrev pub a_null : Value
 a_null = values.Pointer Null
 

@@ -162,9 +162,10 @@ pub record IsTypedCaller (t : tree.Typed) (ty : tree.Ty) (f : tree.Func) (c : Ca
   pub locals : AllHold f.locals c.locals
   pub waits : Awaits (inside t f) ty c.wait
 
--- the calls that wait, the nearest first: that one for a value of this type, and each other for what the one above it returns
+-- the calls that wait, the nearest first: that one for a value of this type, and each other for what the one above it returns; a
+-- thread's first function, for which none waits, returns an int
 abbrev pub AreTypedCallers : tree.Typed → tree.Ty → List Caller → Type 0
-AreTypedCallers t ty [] = Unit {0}
+AreTypedCallers t ty [] = ty ≡ tree.integer int
 AreTypedCallers t ty (c ∷ callers) = (f : tree.Func) × IsTypedCaller t ty f c × AreTypedCallers t f.result callers
 
 -- a thread's own is well formed: all its values have the types that the program says
