@@ -4,7 +4,8 @@ ghost use Rattle.std.specs.Prelude.{◌≡◌, ℕ, ◌-◌, ◌<◌, ◌≤◌,
 ghost use Rattle.c_tree.specs.SyntaxViews.{expr_view, boxed_expr_view};
 
 use crate::building::{
-    arrow, binary, boxed_expr, cast, conditional, group, index, member, prefixed, sizeof_expr,
+    arrow, binary, boxed_expr, cast, conditional, group, index, member, one, prefixed, put,
+    put_inner, sizeof_expr,
 };
 use crate::parser::{Parser, Stop};
 use crate::peeking::{OperandStart, PostStart, UnaryStart};
@@ -291,11 +292,11 @@ impl Parser<'_> {
         }
         let first = self.expr(room - 1, braces)?;
         let mut all = Vec::new(self.alloc);
-        all.push(Box::into_inner(first))?;
+        put_inner(&mut all, first)?;
         'exprs: while self.is_next(Mark::Comma)? {
             self.expected(Mark::Comma, room - 1)?;
             let more = self.expr(room - 1, braces)?;
-            all.push(Box::into_inner(more))?;
+            put_inner(&mut all, more)?;
         }
         Ok(all)
     }
@@ -344,11 +345,10 @@ impl Parser<'_> {
         ensures takes { Takes self.old self.new result }
     {
         let first = self.text(room)?;
-        let mut all = Vec::new(self.alloc);
-        all.push(first)?;
+        let mut all = one(self.alloc, first)?;
         'texts: while self.is_text_next()? {
             let more = self.text(room)?;
-            all.push(more)?;
+            put(&mut all, more)?;
         }
         Ok(all)
     }

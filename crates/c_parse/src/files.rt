@@ -2,9 +2,10 @@
 
 ghost use Rattle.std.specs.Prelude.{◌≡◌, ℕ, ◌+◌, ◌^◌, ◌<◌, [], ◌∷◌, map};
 ghost use Rattle.std.specs.Option.{option_map};
-ghost use Rattle.c_tree.specs.SyntaxViews.{spec_view, init_declarator_view, param_dim_view, param_view, body_view, rest_view, external_view, view};
+ghost use Rattle.c_tree.specs.SyntaxViews.{spec_view, param_dim_view, param_view, body_view, rest_view, external_view, view};
+ghost use Rattle.c_parse.specs.inner.Boxes.{boxed_initialised_view, boxed_param_dim_view};
 
-use crate::building::unboxed;
+use crate::building::{initialised, one, param_dim, put, put_inner};
 use crate::parser::{Parser, Stop};
 use crate::pointers::stars;
 use c_lex::Mark;
@@ -30,17 +31,14 @@ impl Parser<'_> {
 
     /// `"[" [ expr ] "]"`, behind so many stars and dimensions
     #[tactic(auto, unfolding(c_grammar::specs::inner::Reading::param_dim))]
-    fn param_dim(&mut self, before: usize) -> Result<ParamDim, Stop>
-        ensures reads { Moves param_dim_view (param_dim 127 before) self.old self.new result }
+    fn param_dim(&mut self, before: usize) -> Result<Box<ParamDim>, Stop>
+        ensures reads { Moves boxed_param_dim_view (param_dim 127 before) self.old self.new result }
         ensures takes { Takes self.old self.new result }
     {
         let place = self.place_of_dimension(Mark::OpenBracket, before, INMOST)?;
         let size = self.maybe_expr(INMOST)?;
-        let size = self.marked(size, Mark::CloseBracket, INMOST)?;
-        Ok(ParamDim {
-            place,
-            size: unboxed(size),
-        })
+        self.expected(Mark::CloseBracket, INMOST)?;
+        param_dim(self.alloc, place, size)
     }
 
     /// `{ "[" [ expr ] "]" }`, behind so many stars
@@ -53,7 +51,7 @@ impl Parser<'_> {
         let mut all = Vec::new(self.alloc);
         'dims: while self.is_next(Mark::OpenBracket)? {
             let dim = self.param_dim(before + all.len())?;
-            all.push(dim)?;
+            put_inner(&mut all, dim)?;
         }
         Ok(all)
     }
@@ -106,11 +104,10 @@ impl Parser<'_> {
         ensures takes { Takes self.old self.new result }
     {
         let first = self.param()?;
-        let mut all = Vec::new(self.alloc);
-        all.push(first)?;
+        let mut all = one(self.alloc, first)?;
         'params: while self.is_next(Mark::Comma)? {
             let next = self.next_param()?;
-            all.push(next)?;
+            put(&mut all, next)?;
         }
         Ok(all)
     }
@@ -176,8 +173,12 @@ impl Parser<'_> {
     }
 
     /// `dims [ "=" expr ]`, behind the name.
-    fn first_variable(&mut self, pointers: Vec<Pointer>, name: Name) -> Result<InitDeclarator, Stop>
-        ensures reads { Moves init_declarator_view (first_variable pointers.items name) self.old self.new result }
+    fn first_variable(
+        &mut self,
+        pointers: Vec<Pointer>,
+        name: Name,
+    ) -> Result<Box<InitDeclarator>, Stop>
+        ensures reads { Moves boxed_initialised_view (first_variable pointers.items name) self.old self.new result }
         ensures keeps { Keeps self.old self.new result }
     {
         let before = stars(&pointers);
@@ -188,7 +189,7 @@ impl Parser<'_> {
             name,
             dims,
         };
-        Ok(InitDeclarator { declarator, value })
+        initialised(self.alloc, declarator, value)
     }
 
     /// `dims rest`, behind the name.
@@ -247,7 +248,7 @@ impl Parser<'_> {
         let mut all = Vec::new(self.alloc);
         'storages: while self.is_storage_next()? {
             let storage = self.storage(FILE)?;
-            all.push(storage)?;
+            put(&mut all, storage)?;
         }
         Ok(all)
     }
@@ -277,7 +278,7 @@ impl Parser<'_> {
         let mut all = Vec::new(self.alloc);
         'externals: while self.is_external_next()? {
             let external = self.external()?;
-            all.push(external)?;
+            put(&mut all, external)?;
         }
         Ok(all)
     }

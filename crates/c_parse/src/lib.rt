@@ -8,6 +8,7 @@ mod classes;
 mod declarations;
 mod expressions;
 mod files;
+mod heads;
 mod parser;
 mod parts;
 mod peeking;

@@ -3,6 +3,7 @@
 ghost use Rattle.std.specs.Prelude.{◌≡◌};
 ghost use Rattle.c_grammar.specs.Grammar.{stars};
 
+use crate::building::put;
 use crate::parser::{Parser, Stop};
 use c_lex::{Mark, Word};
 use c_tree::syntax::Pointer;
@@ -48,7 +49,7 @@ impl Parser<'_> {
             if let Pointer::Star = pointer {
                 before += 1;
             }
-            all.push(pointer)?;
+            put(&mut all, pointer)?;
         }
         Ok(all)
     }

@@ -1,11 +1,12 @@
 //! The parser's readers of one token, at the level that leaves so much room; 0 is too deep.
 
-ghost use Rattle.std.specs.Prelude.{◌≡◌, ◌+◌, ◌<◌, length, Some, None, IfOk};
+ghost use Rattle.std.specs.Prelude.{◌≡◌, ◌+◌, ◌<◌, length, Some, None, Option, IfOk};
 ghost use Rattle.c_lex.specs.declared.refusal.Kind.TheVariants.{TooDeep};
 ghost use Rattle.c_grammar.specs.Leaves.{operator, derivation, beyond, first_of};
 ghost use Rattle.c_grammar.specs.inner.Readers.{deep};
 
-use crate::classes::{assign_of, binary_of, prefix_of, step_of, storage_of, type_of};
+use crate::classes::binary_of;
+use crate::heads;
 use crate::parser::{Parser, Stop};
 use ak_words::Num;
 use c_lex::{Kind, Mark, TokenKind, Word};
@@ -65,24 +66,34 @@ impl Parser<'_> {
 
 // One token each.
 impl Parser<'_> {
+    ghost use Rattle.c_lex.specs.declared.token.Token.{Token};
     ghost use Rattle.c_parse.specs.inner.Moves.{Moves, Takes};
+    ghost use Rattle.c_parse.specs.inner.Heads.{first_as};
     ghost use Rattle.c_grammar.specs.inner.Tokens.{tok, counted_tok, derived_tok, name_of, int_of, char_of, text_of, word_is, mark_is, word_place, mark_place, prefix_of, step_of, assign_of, binary_of, type_word_of, storage_of, end_of};
+
+    /// The next token, found to be in a class, if there is room for it; one that isn't in the class may not stand here.
+    fn taken<T: Copy>(&mut self, found: Option<T>, room: u32) -> Result<T, Stop>
+        ensures reads { (class : Token → Option T) → found ≡ first_as class self.old.rest.now → Moves (λ a. a) (tok room class) self.old self.new result }
+        ensures takes { Takes self.old self.new result }
+    {
+        let Some(value) = found else {
+            return Err(self.unexpected());
+        };
+        let [_, rest @ ..] = self.rest else {
+            return Err(self.unexpected());
+        };
+        self.within(room)?;
+        self.rest = rest;
+        Ok(value)
+    }
 
     /// A mark.
     pub fn expected(&mut self, mark: Mark, room: u32) -> Result<(), Stop>
         ensures reads { Moves (λ _. tt) (tok room (mark_is mark)) self.old self.new result }
         ensures takes { Takes self.old self.new result }
     {
-        let [token, rest @ ..] = self.rest else {
-            return Err(self.unexpected());
-        };
-        match token.kind {
-            TokenKind::Mark(found) if found == mark => {}
-            _ => return Err(self.unexpected()),
-        }
-        self.within(room)?;
-        self.rest = rest;
-        Ok(())
+        let found = heads::mark(self.rest, mark);
+        self.taken(found, room)
     }
 
     /// A word.
@@ -90,16 +101,8 @@ impl Parser<'_> {
         ensures reads { Moves (λ _. tt) (tok room (word_is word)) self.old self.new result }
         ensures takes { Takes self.old self.new result }
     {
-        let [token, rest @ ..] = self.rest else {
-            return Err(self.unexpected());
-        };
-        match token.kind {
-            TokenKind::Word(found) if found == word => {}
-            _ => return Err(self.unexpected()),
-        }
-        self.within(room)?;
-        self.rest = rest;
-        Ok(())
+        let found = heads::word(self.rest, word);
+        self.taken(found, room)
     }
 
     /// The place of a mark.
@@ -107,16 +110,8 @@ impl Parser<'_> {
         ensures reads { Moves (λ a. a) (tok room (mark_place mark)) self.old self.new result }
         ensures takes { Takes self.old self.new result }
     {
-        let [token, rest @ ..] = self.rest else {
-            return Err(self.unexpected());
-        };
-        match token.kind {
-            TokenKind::Mark(found) if found == mark => {}
-            _ => return Err(self.unexpected()),
-        }
-        self.within(room)?;
-        self.rest = rest;
-        Ok(token.from)
+        let found = heads::mark_place(self.rest, mark);
+        self.taken(found, room)
     }
 
     /// The place of a word.
@@ -124,16 +119,8 @@ impl Parser<'_> {
         ensures reads { Moves (λ a. a) (tok room (word_place word)) self.old self.new result }
         ensures takes { Takes self.old self.new result }
     {
-        let [token, rest @ ..] = self.rest else {
-            return Err(self.unexpected());
-        };
-        match token.kind {
-            TokenKind::Word(found) if found == word => {}
-            _ => return Err(self.unexpected()),
-        }
-        self.within(room)?;
-        self.rest = rest;
-        Ok(token.from)
+        let found = heads::word_place(self.rest, word);
+        self.taken(found, room)
     }
 
     /// A mark that is a dimension, behind so many stars and dimensions.
@@ -195,18 +182,8 @@ impl Parser<'_> {
         ensures reads { Moves (λ a. a) (tok room name_of) self.old self.new result }
         ensures takes { Takes self.old self.new result }
     {
-        let [token, rest @ ..] = self.rest else {
-            return Err(self.unexpected());
-        };
-        let TokenKind::Name = token.kind else {
-            return Err(self.unexpected());
-        };
-        self.within(room)?;
-        self.rest = rest;
-        Ok(Name {
-            from: token.from,
-            to: token.to,
-        })
+        let found = heads::name(self.rest);
+        self.taken(found, room)
     }
 
     /// An integer constant: its place and its value.
@@ -214,15 +191,8 @@ impl Parser<'_> {
         ensures reads { Moves (λ a. a) (tok room int_of) self.old self.new result }
         ensures takes { Takes self.old self.new result }
     {
-        let [token, rest @ ..] = self.rest else {
-            return Err(self.unexpected());
-        };
-        let TokenKind::Int(value) = token.kind else {
-            return Err(self.unexpected());
-        };
-        self.within(room)?;
-        self.rest = rest;
-        Ok((token.from, value))
+        let found = heads::int(self.rest);
+        self.taken(found, room)
     }
 
     /// A character constant: its place and its value.
@@ -230,15 +200,8 @@ impl Parser<'_> {
         ensures reads { Moves (λ a. a) (tok room char_of) self.old self.new result }
         ensures takes { Takes self.old self.new result }
     {
-        let [token, rest @ ..] = self.rest else {
-            return Err(self.unexpected());
-        };
-        let TokenKind::Char(value) = token.kind else {
-            return Err(self.unexpected());
-        };
-        self.within(room)?;
-        self.rest = rest;
-        Ok((token.from, value))
+        let found = heads::char(self.rest);
+        self.taken(found, room)
     }
 
     /// `STRING`
@@ -246,18 +209,8 @@ impl Parser<'_> {
         ensures reads { Moves (λ a. a) (tok room text_of) self.old self.new result }
         ensures takes { Takes self.old self.new result }
     {
-        let [token, rest @ ..] = self.rest else {
-            return Err(self.unexpected());
-        };
-        let TokenKind::Text = token.kind else {
-            return Err(self.unexpected());
-        };
-        self.within(room)?;
-        self.rest = rest;
-        Ok(Span {
-            from: token.from,
-            to: token.to,
-        })
+        let found = heads::text(self.rest);
+        self.taken(found, room)
     }
 
     /// A prefix operator, and its place.
@@ -265,18 +218,8 @@ impl Parser<'_> {
         ensures reads { Moves (λ a. a) (tok room prefix_of) self.old self.new result }
         ensures takes { Takes self.old self.new result }
     {
-        let [token, rest @ ..] = self.rest else {
-            return Err(self.unexpected());
-        };
-        let TokenKind::Mark(mark) = token.kind else {
-            return Err(self.unexpected());
-        };
-        let Some(found) = prefix_of(mark) else {
-            return Err(self.unexpected());
-        };
-        self.within(room)?;
-        self.rest = rest;
-        Ok((token.from, found))
+        let found = heads::prefix_op(self.rest);
+        self.taken(found, room)
     }
 
     /// An increment or decrement, and its place.
@@ -284,18 +227,8 @@ impl Parser<'_> {
         ensures reads { Moves (λ a. a) (tok room step_of) self.old self.new result }
         ensures takes { Takes self.old self.new result }
     {
-        let [token, rest @ ..] = self.rest else {
-            return Err(self.unexpected());
-        };
-        let TokenKind::Mark(mark) = token.kind else {
-            return Err(self.unexpected());
-        };
-        let Some(found) = step_of(mark) else {
-            return Err(self.unexpected());
-        };
-        self.within(room)?;
-        self.rest = rest;
-        Ok((token.from, found))
+        let found = heads::step_op(self.rest);
+        self.taken(found, room)
     }
 
     /// An assignment, and its place.
@@ -303,18 +236,8 @@ impl Parser<'_> {
         ensures reads { Moves (λ a. a) (tok room assign_of) self.old self.new result }
         ensures takes { Takes self.old self.new result }
     {
-        let [token, rest @ ..] = self.rest else {
-            return Err(self.unexpected());
-        };
-        let TokenKind::Mark(mark) = token.kind else {
-            return Err(self.unexpected());
-        };
-        let Some(found) = assign_of(mark) else {
-            return Err(self.unexpected());
-        };
-        self.within(room)?;
-        self.rest = rest;
-        Ok((token.from, found))
+        let found = heads::assign_op(self.rest);
+        self.taken(found, room)
     }
 
     /// A word of a type, and its place.
@@ -322,18 +245,8 @@ impl Parser<'_> {
         ensures reads { Moves (λ a. a) (tok room type_word_of) self.old self.new result }
         ensures takes { Takes self.old self.new result }
     {
-        let [token, rest @ ..] = self.rest else {
-            return Err(self.unexpected());
-        };
-        let TokenKind::Word(word) = token.kind else {
-            return Err(self.unexpected());
-        };
-        let Some(found) = type_of(word) else {
-            return Err(self.unexpected());
-        };
-        self.within(room)?;
-        self.rest = rest;
-        Ok((token.from, found))
+        let found = heads::type_word(self.rest);
+        self.taken(found, room)
     }
 
     /// `"static" | "inline"`
@@ -341,18 +254,8 @@ impl Parser<'_> {
         ensures reads { Moves (λ a. a) (tok room storage_of) self.old self.new result }
         ensures takes { Takes self.old self.new result }
     {
-        let [token, rest @ ..] = self.rest else {
-            return Err(self.unexpected());
-        };
-        let TokenKind::Word(word) = token.kind else {
-            return Err(self.unexpected());
-        };
-        let Some(found) = storage_of(word) else {
-            return Err(self.unexpected());
-        };
-        self.within(room)?;
-        self.rest = rest;
-        Ok(found)
+        let found = heads::storage(self.rest);
+        self.taken(found, room)
     }
 
     /// The end of the text.
@@ -360,15 +263,8 @@ impl Parser<'_> {
         ensures reads { Moves (λ _. tt) (tok room end_of) self.old self.new result }
         ensures takes { Takes self.old self.new result }
     {
-        let [token, rest @ ..] = self.rest else {
-            return Err(self.unexpected());
-        };
-        let TokenKind::End = token.kind else {
-            return Err(self.unexpected());
-        };
-        self.within(room)?;
-        self.rest = rest;
-        Ok(())
+        let found = heads::end(self.rest);
+        self.taken(found, room)
     }
 
     /// A binary operator of the height, and its place.

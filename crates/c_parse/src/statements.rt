@@ -2,10 +2,14 @@
 
 ghost use Rattle.std.specs.Prelude.{◌≡◌, ℕ, ◌-◌, ◌<◌, ◌==◌, map};
 ghost use Rattle.std.specs.Option.{option_map};
-ghost use Rattle.c_tree.specs.SyntaxViews.{expr_view, boxed_expr_view, simple_view, for_first_view, stmt_view, boxed_stmt_view};
+ghost use Rattle.c_tree.specs.SyntaxViews.{expr_view, boxed_expr_view, stmt_view, boxed_stmt_view};
 ghost use Rattle.c_grammar.specs.Grammar.{rank};
+ghost use Rattle.c_parse.specs.inner.Boxes.{boxed_simple_view, boxed_first_view};
 
-use crate::building::{boxed_stmt, unboxed};
+use crate::building::{
+    ForHead, after, assign, before, boxed_stmt, eval, first_declare, first_nothing, first_simple,
+    for_of, if_of, put_inner, return_of, simple_of, while_of,
+};
 use crate::parser::{Parser, Stop};
 use crate::starts::{FirstStart, StmtStart, TailStart};
 use c_lex::{Mark, Word};
@@ -36,36 +40,27 @@ impl Parser<'_> {
 
     /// `assign expr | "++" | "--"` behind an expression, or nothing.
     #[tactic(auto, using(crate::proofs::CodeLoops::chooses, crate::proofs::CodeLoops::choice_fails))]
-    fn behind(&mut self, target: Box<Expr>, room: u32) -> Result<Simple, Stop>
-        ensures reads { Moves simple_view (behind room (boxed_expr_view target)) self.old self.new result }
+    fn behind(&mut self, target: Box<Expr>, room: u32) -> Result<Box<Simple>, Stop>
+        ensures reads { Moves boxed_simple_view (behind room (boxed_expr_view target)) self.old self.new result }
         ensures keeps { Keeps self.old self.new result }
     {
         match self.tail_start(is_postfix(&target))? {
             TailStart::Step => {
                 let (place, op) = self.step_op(room)?;
-                Ok(Simple::After {
-                    place,
-                    op,
-                    target: Box::into_inner(target),
-                })
+                after(self.alloc, place, op, target)
             }
             TailStart::Assign => {
                 let (place, op) = self.assign_op(room)?;
                 let value = self.expr(room, false)?;
-                Ok(Simple::Assign {
-                    place,
-                    op,
-                    target: Box::into_inner(target),
-                    value: Box::into_inner(value),
-                })
+                assign(self.alloc, place, op, target, value)
             }
-            TailStart::Nothing => Ok(Simple::Eval(Box::into_inner(target))),
+            TailStart::Nothing => eval(self.alloc, target),
         }
     }
 
     /// `expr [ assign expr ] | postfix ( "++" | "--" )`: one full expression.
-    fn assigned(&mut self, room: u32) -> Result<Simple, Stop>
-        ensures reads { Moves simple_view (assigned room) self.old self.new result }
+    fn assigned(&mut self, room: u32) -> Result<Box<Simple>, Stop>
+        ensures reads { Moves boxed_simple_view (assigned room) self.old self.new result }
         ensures takes { Takes self.old self.new result }
     {
         let count = self.count;
@@ -78,8 +73,8 @@ impl Parser<'_> {
 
     /// `simple`
     #[tactic(auto, using(crate::proofs::CodeLoops::chooses, crate::proofs::CodeLoops::choice_fails, crate::proofs::CodeStatements::simple_at, crate::proofs::CodeStatements::no_simple))]
-    pub fn simply(&mut self, room: u32) -> Result<Simple, Stop>
-        ensures reads { Moves simple_view (simply room) self.old self.new result }
+    pub fn simply(&mut self, room: u32) -> Result<Box<Simple>, Stop>
+        ensures reads { Moves boxed_simple_view (simply room) self.old self.new result }
         ensures takes { Takes self.old self.new result }
     {
         if room == 0 {
@@ -90,17 +85,13 @@ impl Parser<'_> {
         }
         let (place, op) = self.step_op(room)?;
         let target = self.full_unary(room - 1, false)?;
-        Ok(Simple::Before {
-            place,
-            op,
-            target: Box::into_inner(target),
-        })
+        before(self.alloc, place, op, target)
     }
 
     /// `[ simple ]`
     #[tactic(auto, using(crate::proofs::CodeLoops::chooses, crate::proofs::CodeLoops::choice_fails))]
-    fn maybe_simple(&mut self, room: u32) -> Result<Option<Simple>, Stop>
-        ensures reads { Moves (option_map simple_view) (maybe begins_simple (simply room)) self.old self.new result }
+    fn maybe_simple(&mut self, room: u32) -> Result<Option<Box<Simple>>, Stop>
+        ensures reads { Moves (option_map boxed_simple_view) (maybe begins_simple (simply room)) self.old self.new result }
         ensures keeps { Keeps self.old self.new result }
     {
         if !self.is_simple_next()? {
@@ -122,41 +113,33 @@ impl Parser<'_> {
     }
 
     /// `simple ";"`, first between the brackets of a `for`.
-    fn simple_first(&mut self, room: u32) -> Result<ForFirst, Stop>
-        ensures reads { Moves for_first_view (simple_first_at room) self.old self.new result }
+    fn simple_first(&mut self, room: u32) -> Result<Box<ForFirst>, Stop>
+        ensures reads { Moves boxed_first_view (simple_first_at room) self.old self.new result }
         ensures takes { Takes self.old self.new result }
     {
         let simple = self.simply(room)?;
-        let simple = self.marked(simple, Mark::Semicolon, room)?;
-        Ok(ForFirst::Simple(simple))
+        self.expected(Mark::Semicolon, room)?;
+        first_simple(self.alloc, simple)
     }
 
     /// `decl | [ simple ] ";"`, first between the brackets of a `for`.
     #[tactic(auto, unfolding(c_grammar::specs::inner::Reading::first), using(crate::proofs::CodeLoops::chooses, crate::proofs::CodeLoops::choice_fails))]
-    fn first(&mut self, room: u32) -> Result<ForFirst, Stop>
-        ensures reads { Moves for_first_view (first room) self.old self.new result }
+    fn first(&mut self, room: u32) -> Result<Box<ForFirst>, Stop>
+        ensures reads { Moves boxed_first_view (first room) self.old self.new result }
         ensures takes { Takes self.old self.new result }
     {
         match self.first_start()? {
             FirstStart::Declaration => {
                 let declaration = self.declaration(room)?;
-                Ok(ForFirst::Declare(declaration))
+                first_declare(self.alloc, declaration)
             }
             FirstStart::Nothing => {
                 self.expected(Mark::Semicolon, room)?;
-                Ok(ForFirst::Nothing)
+                first_nothing(self.alloc)
             }
             FirstStart::Simple => self.simple_first(room),
         }
     }
-}
-
-/// What stands between the brackets of a `for`.
-#[derive(Drop)]
-struct ForHead {
-    first: ForFirst,
-    condition: Option<Expr>,
-    step: Option<Simple>,
 }
 
 // What stands between the brackets of a `for`.
@@ -174,8 +157,8 @@ impl Parser<'_> {
     }
 
     /// `[ simple ] ")"`
-    fn for_step(&mut self, room: u32) -> Result<Option<Simple>, Stop>
-        ensures reads { Moves (option_map simple_view) (for_step room) self.old self.new result }
+    fn for_step(&mut self, room: u32) -> Result<Option<Box<Simple>>, Stop>
+        ensures reads { Moves (option_map boxed_simple_view) (for_step room) self.old self.new result }
         ensures takes { Takes self.old self.new result }
     {
         let step = self.maybe_simple(room)?;
@@ -183,21 +166,19 @@ impl Parser<'_> {
     }
 
     /// `"(" ( decl | [ simple ] ";" ) [ expr ] ";" [ simple ] ")"`
-    fn for_head(&mut self, room: u32) -> Result<Box<ForHead>, Stop>
-        ensures reads { Moves (λ h. head_view h.value) (for_head room) self.old self.new result }
+    fn for_head(&mut self, room: u32) -> Result<ForHead, Stop>
+        ensures reads { Moves head_view (for_head room) self.old self.new result }
         ensures takes { Takes self.old self.new result }
     {
         self.expected(Mark::OpenParen, room)?;
         let first = self.first(room)?;
-        let first = Box::new(self.alloc, first)?;
         let condition = self.for_condition(room)?;
         let step = self.for_step(room)?;
-        let head = ForHead {
-            first: Box::into_inner(first),
-            condition: unboxed(condition),
+        Ok(ForHead {
+            first,
+            condition,
             step,
-        };
-        Ok(Box::new(self.alloc, head)?)
+        })
     }
 }
 
@@ -242,14 +223,8 @@ impl Parser<'_> {
     {
         let place = self.place_of_word(Word::Return, room)?;
         let value = self.maybe_expr(room)?;
-        let value = self.marked(value, Mark::Semicolon, room)?;
-        boxed_stmt(
-            self.alloc,
-            Stmt::Return {
-                place,
-                value: unboxed(value),
-            },
-        )
+        self.expected(Mark::Semicolon, room)?;
+        return_of(self.alloc, place, value)
     }
 
     /// `simple ";"`
@@ -258,8 +233,8 @@ impl Parser<'_> {
         ensures takes { Takes self.old self.new result }
     {
         let simple = self.simply(room)?;
-        let simple = self.marked(simple, Mark::Semicolon, room)?;
-        boxed_stmt(self.alloc, Stmt::Simple(simple))
+        self.expected(Mark::Semicolon, room)?;
+        simple_of(self.alloc, simple)
     }
 }
 
@@ -316,7 +291,7 @@ impl Parser<'_> {
         let mut all = Vec::new(self.alloc);
         'items: while self.is_item_next()? {
             let item = self.item(room)?;
-            all.push(Box::into_inner(item))?;
+            put_inner(&mut all, item)?;
         }
         Ok(all)
     }
@@ -372,15 +347,7 @@ impl Parser<'_> {
         let condition = self.condition(room - 1)?;
         let then = self.stmt(room - 1)?;
         let otherwise = self.otherwise(room)?;
-        boxed_stmt(
-            self.alloc,
-            Stmt::If {
-                place,
-                condition: Box::into_inner(condition),
-                then,
-                otherwise,
-            },
-        )
+        if_of(self.alloc, place, condition, then, otherwise)
     }
 
     /// `"while" "(" expr ")" stmt`
@@ -393,14 +360,7 @@ impl Parser<'_> {
         let place = self.place_of_word(Word::While, room)?;
         let condition = self.condition(room - 1)?;
         let body = self.stmt(room - 1)?;
-        boxed_stmt(
-            self.alloc,
-            Stmt::While {
-                place,
-                condition: Box::into_inner(condition),
-                body,
-            },
-        )
+        while_of(self.alloc, place, condition, body)
     }
 
     /// `"for" "(" ( decl | [ simple ] ";" ) [ expr ] ";" [ simple ] ")" stmt`
@@ -413,20 +373,6 @@ impl Parser<'_> {
         let place = self.place_of_word(Word::For, room)?;
         let head = self.for_head(room - 1)?;
         let body = self.stmt(room - 1)?;
-        let ForHead {
-            first,
-            condition,
-            step,
-        } = Box::into_inner(head);
-        boxed_stmt(
-            self.alloc,
-            Stmt::For {
-                place,
-                first,
-                condition,
-                step,
-                body,
-            },
-        )
+        for_of(self.alloc, place, head, body)
     }
 }

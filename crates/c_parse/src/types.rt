@@ -5,7 +5,7 @@ ghost use Rattle.std.specs.Option.{option_map};
 ghost use Rattle.c_grammar.specs.Grammar.{stars};
 ghost use Rattle.c_tree.specs.SyntaxViews.{expr_view, boxed_expr_view, type_name_view, spec_view, member_view, declarator_view};
 
-use crate::building::{member_of, type_name_of};
+use crate::building::{member_of, one, put, put_inner, type_name_of};
 use crate::parser::{Parser, Stop};
 use crate::peeking::SpecStart;
 use crate::pointers::stars;
@@ -42,11 +42,10 @@ impl Parser<'_> {
         ensures takes { Takes self.old self.new result }
     {
         let first = self.spec(room, braces)?;
-        let mut all = Vec::new(self.alloc);
-        all.push(first)?;
+        let mut all = one(self.alloc, first)?;
         'specs: while self.is_type_next()? {
             let more = self.spec(room, braces)?;
-            all.push(more)?;
+            put(&mut all, more)?;
         }
         Ok(all)
     }
@@ -103,11 +102,10 @@ impl Parser<'_> {
         ensures takes { Takes self.old self.new result }
     {
         let first = self.member(room - 1)?;
-        let mut all = Vec::new(self.alloc);
-        all.push(first)?;
+        let mut all = one(self.alloc, first)?;
         'members: while self.is_type_next()? {
             let more = self.member(room - 1)?;
-            all.push(more)?;
+            put(&mut all, more)?;
         }
         Ok(all)
     }
@@ -138,13 +136,12 @@ impl Parser<'_> {
     {
         let pointers = self.bare_pointers(room)?;
         let first = self.declarator_behind(pointers, room, true)?;
-        let mut all = Vec::new(self.alloc);
-        all.push(first)?;
+        let mut all = one(self.alloc, first)?;
         'declarators: while self.is_next(Mark::Comma)? {
             self.expected(Mark::Comma, room)?;
             let pointers = self.pointers(room)?;
             let more = self.declarator_behind(pointers, room, true)?;
-            all.push(more)?;
+            put(&mut all, more)?;
         }
         Ok(all)
     }
@@ -207,7 +204,7 @@ impl Parser<'_> {
         'dims: while self.is_next(Mark::OpenBracket)? {
             let dim = self.dim(count, room, braces)?;
             count += 1;
-            all.push(Box::into_inner(dim))?;
+            put_inner(&mut all, dim)?;
         }
         Ok(all)
     }

@@ -1,5 +1,5 @@
 -- How the code stands to the readers.
-use Rattle.std.specs.Prelude.{◌≡◌, ℕ, ◌<◌, ◌≤◌, List, [], ◌∷◌, length, Option, Some, None, Result, Ok, Err, Bool}
+use Rattle.std.specs.Prelude.{◌≡◌, ℕ, ◌<◌, ◌≤◌, List, [], ◌∷◌, ◌++◌, length, Option, Some, None, Result, Ok, Err, Bool}
 use Rattle.c_lex.specs.declared.token.Token.{Token}
 use Rattle.c_lex.specs.declared.refusal.Kind.{Kind}
 use Rattle.c_parse.specs.declared.parser.Parser.{Parser}
@@ -54,3 +54,8 @@ Keeps old new (Err e) = Unit {0}
 abbrev pub Makes : {A B : Type 0} → (A → B) → B → Result A Stop → Type 0
 Makes view b (Ok a) = view a ≡ b
 Makes view b (Err e) = e ≡ stops.NoMemory
+
+-- one more is put at the end of a list, unless memory runs out
+abbrev pub Puts : {A : Type 0} → A → List A → List A → Result (Unit {0}) Stop → Type 0
+Puts a old new (Ok u) = new ≡ old ++ a ∷ []
+Puts a old new (Err e) = e ≡ stops.NoMemory

@@ -9,8 +9,8 @@ use Rattle.c_tree.specs.declared.syntax.Name.{Name}
 use Rattle.c_tree.specs.declared.syntax.Pointer.{Pointer}
 use Rattle.c_tree.specs.declared.syntax.Storage.{Storage}
 use Rattle.c_tree.specs.Syntax.{Expr, InitDeclarator, Declaration, ParamDim, Param, Simple, before, ForFirst, first_simple, Stmt, declare, empty, break, continue, return, simple, declarator, exprs_of, Rest, function, variables, External, File}
-use Rattle.c_tree.specs.SyntaxViews.{expr_view, simple_view, for_first_view, stmt_view}
-use Rattle.c_parse.specs.declared.statements.ForHead.{ForHead}
+use Rattle.c_tree.specs.SyntaxViews.{boxed_expr_view, stmt_view}
+use Rattle.c_parse.specs.declared.building.ForHead.{ForHead}
 use Rattle.c_parse.specs.declared.starts.TailStart.{TailStart}
 use Rattle.c_parse.specs.declared.starts.TailStart.TheVariants as tails
 use Rattle.c_parse.specs.declared.starts.FirstStart.{FirstStart}
@@ -22,6 +22,7 @@ use Rattle.c_grammar.specs.inner.Readers.{Reading, stop, got, Reads, ◌>>=◌, 
 use Rattle.c_grammar.specs.inner.Tokens.{tok, mark_is, word_is, mark_place, word_place, name_of, step_of, storage_of, is_mark, is_word, begins_type, begins_expr, begins_simple, is_storage}
 use Rattle.c_grammar.specs.inner.Reading.{level_at, commas, either, specs, dims, init_by, bare_pointers, declared, bare_declared, value, initialised, declaration, simple_of, simple_tail, is_step, simply, first, stmt_at, begins_item, is_name, param_dim, param, params, body, named_rest, begins_external, external, file}
 use Rattle.c_grammar.specs.inner.Reading as reading
+use Rattle.c_parse.specs.inner.Boxes.{boxed_simple_view, boxed_first_view}
 
 -- ---- declarations
 
@@ -82,7 +83,7 @@ for_head room = made (λ (_, (f, (e, s))). (f, (e, s))) (tok room (mark_is marks
 
 -- what the code read between the brackets of a for, as the trees of the grammar
 abbrev pub head_view : ForHead → ForFirst × (Option Expr × Option Simple)
-head_view h = (for_first_view h.first, (option_map expr_view h.condition, option_map simple_view h.step))
+head_view h = (boxed_first_view h.first, (option_map boxed_expr_view h.condition, option_map boxed_simple_view h.step))
 
 -- statements with no statement in them
 abbrev pub empty_at : ℕ → Reads Stmt

@@ -14,7 +14,7 @@ pub exprs-exprs-preserved : goal.exprs-exprs-preserved
 exprs-exprs-preserved t c =
     let open_ = rw c.if-branch.true at c.in_ok-is_next.ensures in
     record {
-      going = rw (c.in_ok-push-2.ensures.items, c.into_inner-in-exprs.ensures, map-append) (goes _ _ _ _ _ _ _ _ _ _ c.exprs.invariant.going open_ (behind_reads (tok (c.args.room - 1) (mark_is Comma)) (λ _. (level_at c.args.braces (c.args.room - 1)).expr) c.exprs.self.count c.exprs.self.rest.now _ _ _ _ _ _ c.in_ok-expected.ensures.reads c.in_ok-more.ensures.reads) (omega (arith, c.in_ok-expected.ensures.takes, c.in_ok-more.ensures.takes)));
+      going = rw (c.in_ok-put_inner-2.ensures, map-append) (goes _ _ _ _ _ _ _ _ _ _ c.exprs.invariant.going open_ (behind_reads (tok (c.args.room - 1) (mark_is Comma)) (λ _. (level_at c.args.braces (c.args.room - 1)).expr) c.exprs.self.count c.exprs.self.rest.now _ _ _ _ _ _ c.in_ok-expected.ensures.reads c.in_ok-more.ensures.reads) (omega (arith, c.in_ok-expected.ensures.takes, c.in_ok-more.ensures.takes)));
       takes = omega (arith, c.exprs.invariant.takes, c.in_ok-expected.ensures.takes, c.in_ok-more.ensures.takes);
     }
 
@@ -22,7 +22,7 @@ pub specs-specs-preserved : goal.specs-specs-preserved
 specs-specs-preserved t c =
     let open_ = rw c.if-branch.true at c.in_ok-is_type_next.ensures in
     record {
-      going = rw (c.in_ok-push-2.ensures.items, map-append) (goes _ _ _ _ _ _ _ _ _ _ c.specs.invariant.going open_ c.in_ok-more.ensures.reads c.in_ok-more.ensures.takes);
+      going = rw (c.in_ok-put.ensures, map-append) (goes _ _ _ _ _ _ _ _ _ _ c.specs.invariant.going open_ c.in_ok-more.ensures.reads c.in_ok-more.ensures.takes);
       takes = omega (arith, c.specs.invariant.takes, c.in_ok-more.ensures.takes);
     }
 
@@ -30,7 +30,7 @@ pub member_row-members-preserved : goal.member_row-members-preserved
 member_row-members-preserved t c =
     let open_ = rw c.if-branch.true at c.in_ok-is_type_next.ensures in
     record {
-      going = rw (c.in_ok-push-2.ensures.items, map-append) (goes _ _ _ _ _ _ _ _ _ _ c.members.invariant.going open_ c.in_ok-more.ensures.reads c.in_ok-more.ensures.takes);
+      going = rw (c.in_ok-put.ensures, map-append) (goes _ _ _ _ _ _ _ _ _ _ c.members.invariant.going open_ c.in_ok-more.ensures.reads c.in_ok-more.ensures.takes);
       takes = omega (arith, c.members.invariant.takes, c.in_ok-more.ensures.takes);
     }
 
@@ -38,13 +38,13 @@ pub declarators-declarators-preserved : goal.declarators-declarators-preserved
 declarators-declarators-preserved t c =
     let open_ = rw c.if-branch.true at c.in_ok-is_next.ensures in
     record {
-      going = rw (c.in_ok-push-2.ensures.items, map-append) (goes _ _ _ _ _ _ _ _ _ _ c.declarators.invariant.going open_ (behind_reads (tok c.args.room (mark_is Comma)) (λ _. declared c.args.room (c.args.room - 1) (level_at true (c.args.room - 1))) c.declarators.self.count c.declarators.self.rest.now _ _ _ _ _ _ c.in_ok-expected.ensures.reads (declared_reads _ _ _ _ _ _ _ _ _ _ _ c.in_ok-pointers-2.ensures.reads c.in_ok-more.ensures.reads)) (omega (arith, c.in_ok-expected.ensures.takes, c.in_ok-pointers-2.ensures.keeps, c.in_ok-more.ensures.takes)));
+      going = rw (c.in_ok-put.ensures, map-append) (goes _ _ _ _ _ _ _ _ _ _ c.declarators.invariant.going open_ (behind_reads (tok c.args.room (mark_is Comma)) (λ _. declared c.args.room (c.args.room - 1) (level_at true (c.args.room - 1))) c.declarators.self.count c.declarators.self.rest.now _ _ _ _ _ _ c.in_ok-expected.ensures.reads (declared_reads _ _ _ _ _ _ _ _ _ _ _ c.in_ok-pointers-2.ensures.reads c.in_ok-more.ensures.reads)) (omega (arith, c.in_ok-expected.ensures.takes, c.in_ok-pointers-2.ensures.keeps, c.in_ok-more.ensures.takes)));
       takes = omega (arith, c.declarators.invariant.takes, c.in_ok-expected.ensures.takes, c.in_ok-pointers-2.ensures.keeps, c.in_ok-more.ensures.takes);
     }
 
 pub member_row-members-init : goal.member_row-members-init
 member_row-members-init t c = record {
-  going = rw (c.in_ok-push.ensures.items, c.new-all.ensures.items) (begins_behind (made (λ a. a ∷ []) ((level_at true (c.args.room - 1)).member)) begins_type (λ _. (level_at true (c.args.room - 1)).member) pushed _ _ _ _ _ (rw c.in_ok-first.ensures.reads refl));
+  going = rw c.in_ok-all.ensures (begins_behind (made (λ a. a ∷ []) ((level_at true (c.args.room - 1)).member)) begins_type (λ _. (level_at true (c.args.room - 1)).member) pushed _ _ _ _ _ (rw c.in_ok-first.ensures.reads refl));
   takes = c.in_ok-first.ensures.takes;
 }
 
@@ -52,13 +52,13 @@ pub exprs-exprs-init : goal.exprs-exprs-init
 exprs-exprs-init t c =
     let open_ = rw c.if-not-branch.false at c.in_ok-is_expr_next.ensures in
     record {
-      going = rw (c.in_ok-push.ensures.items, c.new-all.ensures.items, c.into_inner.ensures) (exprs_begin (c.args.room - 1) (level_at c.args.braces (c.args.room - 1)) _ _ _ _ _ open_ c.in_ok-first.ensures.reads);
+      going = rw (c.in_ok-put_inner.ensures, c.new-all.ensures.items) (exprs_begin (c.args.room - 1) (level_at c.args.braces (c.args.room - 1)) _ _ _ _ _ open_ c.in_ok-first.ensures.reads);
       takes = c.in_ok-first.ensures.takes;
     }
 
 pub specs-specs-init : goal.specs-specs-init
 specs-specs-init t c = record {
-  going = rw (c.in_ok-push.ensures.items, c.new-all.ensures.items) (specs_begins _ _ _ _ _ _ _ _ _ c.in_ok-first.ensures.reads);
+  going = rw c.in_ok-all.ensures (specs_begins _ _ _ _ _ _ _ _ _ c.in_ok-first.ensures.reads);
   takes = c.in_ok-first.ensures.takes;
 }
 
@@ -76,8 +76,8 @@ dims-dims-preserved t c =
     let before : c.dims.count ≡ c.args.before + length (map expr_view c.dims.all.items) = c.dims.invariant.count ∙ ap (λ n. c.args.before + n) (sym (length-map c.dims.all.items expr_view)) in
     let read = rw before at c.in_ok-dim.ensures.reads in
     record {
-      going = rw (c.in_ok-push.ensures.items, c.into_inner.ensures, map-append) (goes _ _ _ _ _ _ _ _ _ _ c.dims.invariant.going open_ read c.in_ok-dim.ensures.takes);
-      count = omega (arith, simp length-append at (ap length c.in_ok-push.ensures.items), c.dims.invariant.count);
+      going = rw (c.in_ok-put_inner.ensures, map-append) (goes _ _ _ _ _ _ _ _ _ _ c.dims.invariant.going open_ read c.in_ok-dim.ensures.takes);
+      count = omega (arith, simp length-append at (ap length c.in_ok-put_inner.ensures), c.dims.invariant.count);
       keeps = omega (arith, c.dims.invariant.keeps, c.in_ok-dim.ensures.takes);
     }
 
@@ -243,7 +243,7 @@ dims-dims-init t c = record {
 
 pub declarators-declarators-init : goal.declarators-declarators-init
 declarators-declarators-init t c = record {
-  going = rw (c.in_ok-push.ensures.items, c.new-all.ensures.items) (begins_behind (made (λ a. a ∷ []) (bare_declared c.args.room (c.args.room - 1) (level_at true (c.args.room - 1)))) (is_mark Comma) (λ _. made (λ (_, a). a) (tok c.args.room (mark_is Comma) & declared c.args.room (c.args.room - 1) (level_at true (c.args.room - 1)))) pushed _ _ _ _ _ (rw (bare_declared_reads _ _ _ _ _ _ _ _ _ _ _ c.in_ok-pointers.ensures.reads c.in_ok-first.ensures.reads) refl));
+  going = rw c.in_ok-all.ensures (begins_behind (made (λ a. a ∷ []) (bare_declared c.args.room (c.args.room - 1) (level_at true (c.args.room - 1)))) (is_mark Comma) (λ _. made (λ (_, a). a) (tok c.args.room (mark_is Comma) & declared c.args.room (c.args.room - 1) (level_at true (c.args.room - 1)))) pushed _ _ _ _ _ (rw (bare_declared_reads _ _ _ _ _ _ _ _ _ _ _ c.in_ok-pointers.ensures.reads c.in_ok-first.ensures.reads) refl));
   takes = omega (arith, c.in_ok-pointers.ensures.keeps, c.in_ok-first.ensures.takes);
 }
 

@@ -19,7 +19,7 @@ pub item_row-items-preserved : goal.item_row-items-preserved
 item_row-items-preserved t c =
     let open_ = rw c.if-branch.true at c.in_ok-is_item_next.ensures in
     record {
-      going = rw (c.in_ok-push.ensures.items, c.into_inner.ensures, map-append) (goes _ _ _ _ _ _ _ _ _ _ c.items.invariant.going open_ c.in_ok-item.ensures.reads c.in_ok-item.ensures.takes);
+      going = rw (c.in_ok-put_inner.ensures, map-append) (goes _ _ _ _ _ _ _ _ _ _ c.items.invariant.going open_ c.in_ok-item.ensures.reads c.in_ok-item.ensures.takes);
       keeps = omega (arith, c.in_ok-item.ensures.takes, c.items.invariant.keeps);
     }
 

@@ -15,6 +15,6 @@ pub externals-preserved : goal.externals-preserved
 externals-preserved c =
     let open_ = rw c.if-branch.true at c.in_ok-is_external_next.ensures in
     record {
-      going = rw (c.in_ok-push.ensures.items, map-append) (goes _ _ _ _ _ _ _ _ _ _ c.externals.invariant.going open_ c.in_ok-external.ensures.reads c.in_ok-external.ensures.takes);
+      going = rw (c.in_ok-put.ensures, map-append) (goes _ _ _ _ _ _ _ _ _ _ c.externals.invariant.going open_ c.in_ok-external.ensures.reads c.in_ok-external.ensures.takes);
       keeps = omega (arith, c.in_ok-external.ensures.takes, c.externals.invariant.keeps);
     }

@@ -2,7 +2,7 @@ use Rattle.std.proofs.Common.{◌-◌, [], ◌∷◌, arith}
 use Rattle.std.proofs.lemmas.List.{map-append}
 use Rattle.std.proofs.lemmas.Result.{err_from_is_err_and}
 use Rattle.c_lex.specs.declared.token.Mark.TheVariants.{Comma}
-use Rattle.c_tree.specs.SyntaxViews.{init_declarator_view}
+use Rattle.c_parse.specs.inner.Boxes.{boxed_initialised_view}
 use Rattle.c_grammar.specs.inner.Readers.{pushed}
 use Rattle.c_grammar.specs.inner.Tokens.{is_mark}
 use Rattle.c_parse.specs.inner.Parts.{next_initialised}
@@ -13,7 +13,7 @@ pub declarators-preserved : goal.declarators-preserved
 declarators-preserved c =
     let open_ = rw c.if-branch.true at c.in_ok-is_next.ensures in
     record {
-      going = rw (c.in_ok-push-2.ensures.items, map-append) (goes _ _ _ _ _ _ _ _ _ _ c.declarators.invariant.going open_ c.in_ok-next.ensures.reads c.in_ok-next.ensures.takes);
+      going = rw (c.in_ok-put_inner-2.ensures, map-append) (goes _ _ _ _ _ _ _ _ _ _ c.declarators.invariant.going open_ c.in_ok-next.ensures.reads c.in_ok-next.ensures.takes);
       keeps = omega (arith, c.in_ok-next.ensures.takes, c.declarators.invariant.keeps);
     }
 
@@ -35,6 +35,6 @@ returns-clause-reads c =
 
 pub declarators-init : goal.declarators-init
 declarators-init c = record {
-  going = rw (c.in_ok-push.ensures.items, c.new-all.ensures.items) (begins (is_mark Comma) (λ _. next_initialised c.args.braces c.args.room (c.args.room - 1)) pushed (init_declarator_view c.args.first ∷ []) c.args.self.now.count c.args.self.now.rest.now);
+  going = rw (c.in_ok-put_inner.ensures, c.new-all.ensures.items) (begins (is_mark Comma) (λ _. next_initialised c.args.braces c.args.room (c.args.room - 1)) pushed (boxed_initialised_view c.args.first ∷ []) c.args.self.now.count c.args.self.now.rest.now);
   keeps = omega arith;
 }

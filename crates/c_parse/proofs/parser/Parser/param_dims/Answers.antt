@@ -11,7 +11,7 @@ dims-preserved c =
     let many : vec_len c.dims.all ≡ length (map param_dim_view c.dims.all.items) = omega (arith, c.dims.all.ok.0, length-map c.dims.all.items param_dim_view) in
     let read = rw (c.len.ensures, many) at c.in_ok-dim.ensures.reads in
     record {
-      going = rw (c.in_ok-push.ensures.items, map-append) (goes _ _ _ _ _ _ _ _ _ _ c.dims.invariant.going open_ read c.in_ok-dim.ensures.takes);
+      going = rw (c.in_ok-put_inner.ensures, map-append) (goes _ _ _ _ _ _ _ _ _ _ c.dims.invariant.going open_ read c.in_ok-dim.ensures.takes);
       keeps = omega (arith, c.in_ok-dim.ensures.takes, c.dims.invariant.keeps);
     }
 

@@ -13,7 +13,7 @@ pub params-preserved : goal.params-preserved
 params-preserved c =
     let open_ = rw c.if-branch.true at c.in_ok-is_next.ensures in
     record {
-      going = rw (c.in_ok-push-2.ensures.items, map-append) (goes _ _ _ _ _ _ _ _ _ _ c.params.invariant.going open_ c.in_ok-next.ensures.reads c.in_ok-next.ensures.takes);
+      going = rw (c.in_ok-put.ensures, map-append) (goes _ _ _ _ _ _ _ _ _ _ c.params.invariant.going open_ c.in_ok-next.ensures.reads c.in_ok-next.ensures.takes);
       takes = omega (arith, c.in_ok-next.ensures.takes, c.params.invariant.takes);
     }
 
@@ -35,6 +35,6 @@ returns-clause-reads c =
 
 pub params-init : goal.params-init
 params-init c = record {
-  going = rw (c.in_ok-push.ensures.items, c.new-all.ensures.items) (begins_behind (made (λ a. a ∷ []) (param 128 127)) (is_mark Comma) (λ _. next_param) pushed _ _ _ _ _ (rw c.in_ok-first.ensures.reads refl));
+  going = rw c.in_ok-all.ensures (begins_behind (made (λ a. a ∷ []) (param 128 127)) (is_mark Comma) (λ _. next_param) pushed _ _ _ _ _ (rw c.in_ok-first.ensures.reads refl));
   takes = c.in_ok-first.ensures.takes;
 }
