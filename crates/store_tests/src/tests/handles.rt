@@ -4,10 +4,104 @@ ghost use Rattle.handle_table.specs.Table.{translated};
 
 use ak_words::NoMemory;
 use handle_table::{PinFrame, PinWords, Table, unite};
-use handle_words::make;
+use handle_words::{add, id, is_handle, make, offset};
 use std::alloc::Global;
 use std::process::Abort;
 use std::test::Fail;
+
+// The parts of a word, if it is a handle.
+fn parts(word: u64) -> Option<(u32, u32)> {
+    if is_handle(word) {
+        Some((id(word), offset(word)))
+    } else {
+        None
+    }
+}
+
+// Sums stay in the offset of a handle.
+#[test]
+fn words_and_their_parts(rt: HostRuntime) {
+    let words = [
+        make(5, 12),
+        add(9223372058329612300, u64::MAX - 12),
+        add(9223372062624579583, 1),
+        add(4096, u64::MAX),
+    ];
+    let wanted = [
+        9223372058329612300,
+        9223372062624579583,
+        9223372058329612288,
+        4095,
+    ];
+    assert_eq!(rt; words, wanted);
+    let wanted = [Some((5, 12)), Some((5, 4294967295)), Some((5, 0)), None];
+    assert_eq!(rt; words.map(parts), wanted);
+}
+
+// Which of the ids 0 to 3 are in use.
+fn in_use(table: &Table) -> [bool; 4] {
+    [
+        table.in_use(0),
+        table.in_use(1),
+        table.in_use(2),
+        table.in_use(3),
+    ]
+}
+
+// Frees an id if it is in use.
+fn give_if_used(table: &mut Table, id: u32) {
+    if table.in_use(id) {
+        table.give(id);
+    }
+}
+
+// Sets the address of an id if it is in use.
+fn set_if_used(table: &mut Table, id: u32, at: u64) {
+    if table.in_use(id) {
+        table.set(id, at);
+    }
+}
+
+#[test]
+fn takes_the_least_free_ids(rt: HostRuntime) -> Result<(), Fail> {
+    let mut table = Table::new(rt.alloc(), 3)?;
+    let before = in_use(&table);
+    let taken = [table.take(), table.take(), table.take(), table.take()];
+    let full = in_use(&table);
+    assert_eq!(rt; taken, [Some(0), Some(1), Some(2), None]);
+    give_if_used(&mut table, 1);
+    give_if_used(&mut table, 0);
+    let given = in_use(&table);
+    let taken = [table.take(), table.take(), table.take()];
+    assert_eq!(rt; taken, [Some(0), Some(1), None]);
+    let wanted = [
+        [false; 4],
+        [true, true, true, false],
+        [false, false, true, false],
+    ];
+    assert_eq!(rt; [before, full, given], wanted);
+    Ok(())
+}
+
+#[test]
+fn translates_words(rt: HostRuntime) -> Result<(), Fail> {
+    let mut table = Table::new(rt.alloc(), 6)?;
+    let taken = table.take();
+    let before = table.look(make(0, 12));
+    set_if_used(&mut table, 0, 4096);
+    let looked = [
+        table.look(make(0, 0)),
+        table.look(make(0, 12)),
+        table.look(make(1, 12)),
+        table.look(make(6, 12)),
+        table.look(12),
+    ];
+    set_if_used(&mut table, 0, u64::MAX);
+    let past = table.look(make(0, 12));
+    assert_eq!(rt; (taken, before, past), (Some(0), 12, 11));
+    assert_eq!(rt; looked, [4096, 4108, 0, 0, 12]);
+    Ok(())
+}
 
 // What the machine does at a look: the slot then holds the word and what the table translates it to.
 fn look_into(table: &Table, frame: &mut PinFrame, slot: u32, word: u64)
