@@ -4,39 +4,9 @@ ghost use Rattle.handle_table.specs.Table.{translated};
 
 use ak_words::NoMemory;
 use handle_table::{PinFrame, PinWords, Table, unite};
-use handle_words::{add, id, is_handle, make, offset};
+use handle_words::make;
 use std::alloc::Global;
-use std::process::Abort;
 use std::test::Fail;
-
-// The parts of a word, if it is a handle.
-fn parts(word: u64) -> Option<(u32, u32)> {
-    if is_handle(word) {
-        Some((id(word), offset(word)))
-    } else {
-        None
-    }
-}
-
-// Sums stay in the offset of a handle.
-#[test]
-fn words_and_their_parts(rt: HostRuntime) {
-    let words = [
-        make(5, 12),
-        add(9223372058329612300, u64::MAX - 12),
-        add(9223372062624579583, 1),
-        add(4096, u64::MAX),
-    ];
-    let wanted = [
-        9223372058329612300,
-        9223372062624579583,
-        9223372058329612288,
-        4095,
-    ];
-    assert_eq!(rt; words, wanted);
-    let wanted = [Some((5, 12)), Some((5, 4294967295)), Some((5, 0)), None];
-    assert_eq!(rt; words.map(parts), wanted);
-}
 
 // Which of the ids 0 to 3 are in use.
 fn in_use(table: &Table) -> [bool; 4] {
@@ -113,19 +83,21 @@ fn look_into(table: &Table, frame: &mut PinFrame, slot: u32, word: u64)
 }
 
 // A table of one id, which stands for an address.
-fn table_of_one(rt: &impl Abort, alloc: Global) -> Result<Table, NoMemory> {
+fn table_of_one(alloc: Global) -> Result<Table, NoMemory> {
     let mut table = Table::new(alloc, 1)?;
-    assert_eq!(rt; table.take(), Some(0));
-    table.set(0, 4096);
+    table.take();
+    set_if_used(&mut table, 0, 4096);
     Ok(table)
 }
 
 #[test]
 fn looks_through_a_slot(rt: HostRuntime) -> Result<(), Fail> {
+    let table = table_of_one(rt.alloc())?;
     let mut frame = PinFrame::with_slots(rt.alloc(), 1)?;
-    assert_eq!(rt; [frame.word(0), frame.address(0)], [0, 0]);
-    let table = table_of_one(&rt, rt.alloc())?;
+    let before = [frame.word(0), frame.address(0)];
     look_into(&table, &mut frame, 0, make(0, 8));
+    let after = [frame.word(0), frame.address(0)];
+    assert_eq!(rt; [before, after], [[0, 0], [make(0, 8), 4104]]);
     Ok(())
 }
 
@@ -137,12 +109,11 @@ fn takes_the_handles_of_the_listed_slots(rt: HostRuntime) -> Result<(), Fail> {
     frame.set(2, make(0, 8), 4104);
     frame.set(3, 4096, 4096);
     frame.set(4, make(0, 0), 4096);
-    assert_eq!(rt; [frame.word(2), frame.address(2)], [make(0, 8), 4104]);
     unite(&frame, 2, [0, 1, 2].as_slice(), &mut words);
     let read = [words.get(0), words.get(1), words.get(2)];
-    assert_eq!(rt; read, [Some(make(0, 8)), Some(make(0, 0)), None]);
     let number = words.len();
     words.clear();
-    assert_eq!(rt; [number, words.len()], [2, 0]);
+    let wanted = [Some(make(0, 8)), Some(make(0, 0)), None];
+    assert_eq!(rt; (read, number, words.len()), (wanted, 2, 0));
     Ok(())
 }
