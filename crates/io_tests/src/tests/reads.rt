@@ -1,4 +1,6 @@
 //! Reads of real files, and of a file that falters.
+ghost use Rattle.std.specs.Prelude.{◌≤◌};
+
 use ak_io::{FileShelf, ReadEnd, ReadFault, Shelf};
 use std::alloc::Allocator;
 use std::fs::{Metadata, OpenFile, OpenOptions};
@@ -16,15 +18,18 @@ fn read_over_dashes<S: Shelf>(
     shelf: &mut S,
     name: &str,
     room: usize,
-) -> (Result<ReadEnd, ReadFault>, [u8; 4]) {
+) -> (Result<ReadEnd, ReadFault>, [u8; 4])
+    requires { room ≤ 4 }
+{
     let mut buffer = [b'-'; 4];
-    let end = shelf.read(name, &mut buffer[..room.min(4)]);
+    let end = shelf.read(name, &mut buffer[..room]);
     (end, buffer)
 }
 
 /// Reads each row in order.
 fn check_reads<S: Shelf>(rt: &impl Abort, shelf: &mut S, rows: &[ReadRow<'_>]) {
     for (name, room, end, left) in rows {
+        assert!(rt; *room <= 4);
         let read = read_over_dashes(shelf, name, *room);
         assert_eq!(rt;
             (read.0, read.1.as_slice()),
