@@ -15,6 +15,3 @@ pub use mem_shelf::MemShelf;
 pub use mem_sink::MemSink;
 pub use out_sink::OutSink;
 pub use outside::{ReadEnd, ReadFault, Shelf, Sink, WriteFault};
-
-#[cfg(test)]
-mod tests;

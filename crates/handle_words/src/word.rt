@@ -55,27 +55,3 @@ pub fn add(w: u64, n: u64) -> u64
         w.wrapping_add(n)
     }
 }
-
-#[cfg(test)]
-mod tests {
-    use super::*;
-
-    #[test]
-    fn parts_come_back(rt: HostRuntime) {
-        let handle = make(5, 12);
-        assert_eq!(rt; handle, 9223372058329612300);
-        assert!(rt; is_handle(handle));
-        assert_eq!(rt; (id(handle), offset(handle)), (5, 12));
-    }
-
-    #[test]
-    fn sums_stay_in_the_offset(rt: HostRuntime) {
-        let before = add(9223372058329612300, u64::MAX - 12);
-        assert_eq!(rt; before, 9223372062624579583);
-        assert!(rt; is_handle(before));
-        assert_eq!(rt; (id(before), offset(before)), (5, 4294967295));
-        assert_eq!(rt; add(9223372062624579583, 1), 9223372058329612288);
-        assert_eq!(rt; add(4096, u64::MAX), 4095);
-        assert!(rt; !is_handle(4096));
-    }
-}

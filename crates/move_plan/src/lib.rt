@@ -15,6 +15,3 @@ pub use moves::{Move, Plan};
 pub use pinned::Pins;
 pub use rooms::room;
 pub use sliding::{slide, slide_is_unique};
-
-#[cfg(test)]
-mod tests;

@@ -73,8 +73,8 @@ impl Plan {
         self.moves.get(i as usize).copied()
     }
 
-    // The moves as a slice.
-    pub(crate) fn moves(&self) -> &[Move]
+    /// The moves as a slice.
+    pub fn moves(&self) -> &[Move]
         ensures { result.now ≡ self.now.moves }
     {
         &self.moves

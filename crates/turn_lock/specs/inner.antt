@@ -1,4 +1,3 @@
--- What bodies, laws of objects and the tests use: nothing here has to be believed.
+-- What bodies and laws of objects use: nothing here has to be believed.
 pub mod Board
 pub mod Own
-pub mod Tallies

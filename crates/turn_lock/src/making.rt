@@ -29,37 +29,6 @@ impl<Call, Reply, O: Object<Call, Reply>> TurnLock<O, Call, Reply> {
         all
     }
 
-    // The same as `new`, but the first ticket is another.
-    pub(crate) fn starting_at(
-        alloc: Global,
-        object: O,
-        passes: u32,
-        ticket: u64,
-    ) -> Result<(TurnLock<O, Call, Reply>, Vec<Pass<O>>), NoMemory>
-    where
-        O: Drop,
-        requires state { O.replays object [] object }
-        requires passes { (0 < passes) × (passes ≤ most_passes) }
-        ensures first { IfOk result (λ r. first_of r.0 ≡ object) }
-        ensures count { IfOk result (λ r. (passes_of r.0 ≡ passes) × (vec_len r.1 ≡ passes)) }
-        ensures passes { IfOk result (λ r. AllPasses r.0 r.1.items) }
-        ensures new { IfOk result (λ r. AllNew r.1.items) }
-    {
-        let first = Snapshot::of(&object);
-        let mut slots = Vec::with_capacity(alloc, 1)?;
-        slots.push_reserved(object);
-        let room = Vec::with_capacity(alloc, passes as usize)?;
-        let Ok((board, place)) = Table::new(alloc, &[ticket, ticket], slots, &first) else {
-            return Err(NoMemory);
-        };
-        let lock = TurnLock {
-            board,
-            count: passes,
-        };
-        let all = lock.deal(place, room);
-        Ok((lock, all))
-    }
-
     /// A lock round the object, and its passes, of which number `k` stands at `k`. Where memory is wanting the object is dropped.
     pub fn new(
         alloc: Global,
@@ -75,6 +44,18 @@ impl<Call, Reply, O: Object<Call, Reply>> TurnLock<O, Call, Reply> {
         ensures passes { IfOk result (λ r. AllPasses r.0 r.1.items) }
         ensures new { IfOk result (λ r. AllNew r.1.items) }
     {
-        TurnLock::starting_at(alloc, object, passes, 0)
+        let first = Snapshot::of(&object);
+        let mut slots = Vec::with_capacity(alloc, 1)?;
+        slots.push_reserved(object);
+        let room = Vec::with_capacity(alloc, passes as usize)?;
+        let Ok((board, place)) = Table::new(alloc, &[0, 0], slots, &first) else {
+            return Err(NoMemory);
+        };
+        let lock = TurnLock {
+            board,
+            count: passes,
+        };
+        let all = lock.deal(place, room);
+        Ok((lock, all))
     }
 }

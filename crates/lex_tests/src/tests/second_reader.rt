@@ -1,13 +1,12 @@
-//! Worked rows, each from its text.
+//! Texts that the second language refuses, and a caller of its reader that is proved from its contracts alone.
 ghost use Rattle.std.specs.Prelude.{◌≤◌, length, IfOk, List};
 ghost use Rattle.c_lex.specs.declared.token.Token.{Token as LexToken};
 ghost use Rattle.c_lex.specs.Tokens.{AreTokens};
 ghost use Rattle.second_language.specs.Views.{view};
 ghost use Rattle.second_language.specs.Language.{Spell};
 
-use ak_words::Num;
 use c_lex::{CompileFault, Kind, Refusal, lex};
-use second_language::{AddOp, Atom, Element, Item, Name, Program, Subscript, parse};
+use second_language::{Program, parse};
 use std::alloc::Global;
 use std::test::Fail;
 
@@ -18,59 +17,6 @@ fn program_of(alloc: Global, text: &[u8]) -> Result<Program, CompileFault>
 {
     let tokens = lex(alloc, text)?;
     parse(alloc, text, &tokens)
-}
-
-/// Where an element begins, its pointer, and what is between its brackets, if it has them.
-fn element_places(element: &Element) -> [u32; 3] {
-    match element {
-        Element::Deref { place, pointer } => [*place, pointer.from, 0],
-        Element::Subscripted { pointer, subscript } => {
-            let place = match subscript {
-                Subscript::Name(name) => name.from,
-                Subscript::Number { place, .. } => *place,
-            };
-            [pointer.from, pointer.from, place]
-        }
-    }
-}
-
-#[test]
-fn items_have_their_places(rt: HostRuntime) -> Result<(), Fail> {
-    let text =
-        b"int main(void){int a=1-2*3;printf(\"%d\\n\",a);int *p=malloc(4);free(p);*p=p[a];return a;}";
-    let program = program_of(rt.alloc(), text.as_slice())?;
-    assert_eq!(rt; program.place, 0);
-    let [
-        Item::Declare { place, name, value },
-        Item::Print { place: printed, .. },
-        Item::Allocate(got),
-        Item::Free { place: freed, .. },
-        Item::Assign {
-            target,
-            value: from,
-        },
-        Item::Return {
-            place: returned,
-            ..
-        },
-    ] = program.items.as_slice()
-    else {
-        return Err("six items".into());
-    };
-    assert_eq!(rt; [*place, *printed, *freed, *returned], [15, 27, 61, 77]);
-    assert_eq!(rt; *name, Name { from: 19, to: 20 });
-    let [addend] = value.rest.as_slice() else {
-        return Err("one addend".into());
-    };
-    assert_eq!(rt; (addend.place, addend.op), (22, AddOp::Minus));
-    assert_eq!(rt; [got.place, got.star, got.size_place], [44, 48, 58]);
-    assert_eq!(rt; got.size, Num::int(4));
-    assert_eq!(rt; element_places(target), [69, 70, 0]);
-    let Atom::Element(read) = &from.first.first else {
-        return Err("an int of p".into());
-    };
-    assert_eq!(rt; element_places(read), [72, 72, 74]);
-    Ok(())
 }
 
 #[test]

@@ -1,7 +1,7 @@
 ghost use Rattle.std.specs.Prelude.{◌≡◌, ◌≤◌, length, IfOk, Some};
 ghost use Rattle.c_lex.specs.Tokens.{AreTokens, end_of};
 
-use ak_words::{NoMemory, Num};
+use ak_words::{IntType, NoMemory, Num};
 use c_lex::{CompileFault, Kind, Mark, Refusal, Token, TokenKind, Word, lex, literal};
 use std::alloc::Global;
 use std::process::Abort;
@@ -28,24 +28,21 @@ fn first_string(alloc: Global, text: &[u8], tokens: &[Token]) -> Result<Option<V
     Ok(None)
 }
 
-/// Checks the tokens of a text, each as its kind and its span, against what was worked out by hand.
+/// A token of this kind and span.
+fn token_at(kind: TokenKind, from: u32, to: u32) -> Token {
+    Token { kind, from, to }
+}
+
+/// Checks the tokens of a text against what was worked out by hand.
 fn tokens_are(
     rt: &impl Abort,
     alloc: Global,
     text: &[u8],
-    wanted: &[(TokenKind, u32, u32)],
+    wanted: &[Token],
 ) -> Result<(), CompileFault> {
     assert!(rt; text.len() <= 1048576);
     let tokens = lex(alloc, text)?;
-    assert_eq!(rt; tokens.len(), wanted.len(), "of {text:?}");
-    for (token, (kind, from, to)) in tokens.iter().zip(wanted) {
-        let wanted = Token {
-            kind: *kind,
-            from: *from,
-            to: *to,
-        };
-        assert_eq!(rt; *token, wanted, "in {text:?}");
-    }
+    assert_eq!(rt; tokens.as_slice(), wanted, "of {text:?}");
     Ok(())
 }
 
@@ -55,23 +52,32 @@ fn tokens_of_each_class(rt: HostRuntime) -> Result<(), CompileFault> {
     let end = TokenKind::End;
     let mark = TokenKind::Mark;
     let alloc = rt.alloc();
-    tokens_are(&rt, alloc, b" \t\n\x0b\x0c\r", &[(end, 6, 6)])?;
-    tokens_are(&rt, alloc, b"//", &[(end, 2, 2)])?;
+    tokens_are(&rt, alloc, b" \t\n\x0b\x0c\r", &[token_at(end, 6, 6)])?;
+    tokens_are(&rt, alloc, b"//", &[token_at(end, 2, 2)])?;
     tokens_are(
         &rt,
         alloc,
         b"a//b\nc",
-        &[(name, 0, 1), (name, 5, 6), (end, 6, 6)],
+        &[
+            token_at(name, 0, 1),
+            token_at(name, 5, 6),
+            token_at(end, 6, 6),
+        ],
     )?;
-    tokens_are(&rt, alloc, b"/*/ * /**/a", &[(name, 10, 11), (end, 11, 11)])?;
+    tokens_are(
+        &rt,
+        alloc,
+        b"/*/ * /**/a",
+        &[token_at(name, 10, 11), token_at(end, 11, 11)],
+    )?;
     tokens_are(
         &rt,
         alloc,
         b"int inty",
         &[
-            (TokenKind::Word(Word::Int), 0, 3),
-            (name, 4, 8),
-            (end, 8, 8),
+            token_at(TokenKind::Word(Word::Int), 0, 3),
+            token_at(name, 4, 8),
+            token_at(end, 8, 8),
         ],
     )?;
     tokens_are(
@@ -79,35 +85,35 @@ fn tokens_of_each_class(rt: HostRuntime) -> Result<(), CompileFault> {
         alloc,
         b"a+++b....",
         &[
-            (name, 0, 1),
-            (mark(Mark::PlusPlus), 1, 3),
-            (mark(Mark::Plus), 3, 4),
-            (name, 4, 5),
-            (mark(Mark::Ellipsis), 5, 8),
-            (mark(Mark::Dot), 8, 9),
-            (end, 9, 9),
+            token_at(name, 0, 1),
+            token_at(mark(Mark::PlusPlus), 1, 3),
+            token_at(mark(Mark::Plus), 3, 4),
+            token_at(name, 4, 5),
+            token_at(mark(Mark::Ellipsis), 5, 8),
+            token_at(mark(Mark::Dot), 8, 9),
+            token_at(end, 9, 9),
         ],
     )?;
     tokens_are(
         &rt,
         alloc,
         b"\"a\\\"'\"",
-        &[(TokenKind::Text, 0, 6), (end, 6, 6)],
+        &[token_at(TokenKind::Text, 0, 6), token_at(end, 6, 6)],
     )?;
     tokens_are(
         &rt,
         alloc,
         b" # include<stdatomic.h> //\n",
-        &[(end, 27, 27)],
+        &[token_at(end, 27, 27)],
     )?;
     tokens_are(
         &rt,
         alloc,
         b"A\n#define A 7\nA",
         &[
-            (name, 0, 1),
-            (TokenKind::Int(Num::int(7)), 14, 15),
-            (end, 15, 15),
+            token_at(name, 0, 1),
+            token_at(TokenKind::Int(Num::int(7)), 14, 15),
+            token_at(end, 15, 15),
         ],
     )
 }
@@ -148,49 +154,62 @@ fn words_and_marks_in_order(rt: HostRuntime) -> Result<(), CompileFault> {
     are_in_order(&rt, rt.alloc(), marks, 46)
 }
 
-/// Checks that a text is one constant of this value, whose type is signed or not and has so many bits.
-fn is_constant(
-    rt: &impl Abort,
-    alloc: Global,
-    text: &[u8],
-    wanted: (bool, u8, i128),
-) -> Result<(), CompileFault> {
-    assert!(rt; text.len() <= 1048576);
-    let tokens = lex(alloc, text)?;
-    assert_eq!(rt; tokens.len(), 2, "of {text:?}");
-    for token in &tokens {
-        if let TokenKind::Int(n) | TokenKind::Char(n) = token.kind {
-            assert_eq!(rt; (n.ty.signed, n.ty.bits, n.value), wanted, "of {text:?}");
-            assert_eq!(rt; token.to as usize, text.len(), "of {text:?}");
-        }
-    }
-    Ok(())
+/// A constant of this type and value.
+fn int_of(ty: IntType, value: i128) -> TokenKind {
+    TokenKind::Int(Num::wrapping(ty, value))
+}
+
+/// A character's constant.
+fn char_of(value: i32) -> TokenKind {
+    TokenKind::Char(Num::int(value))
 }
 
 #[test]
 fn constants(rt: HostRuntime) -> Result<(), CompileFault> {
-    let rows: [(&[u8], (bool, u8, i128)); 18] = [
-        (b"0", (true, 32, 0)),
-        (b"2147483647", (true, 32, 2147483647)),
-        (b"2147483648", (true, 64, 2147483648)),
-        (b"9223372036854775807", (true, 64, 9223372036854775807)),
-        (b"2147483648u", (false, 32, 2147483648)),
-        (b"4294967296u", (false, 64, 4294967296)),
-        (b"0x7fffffff", (true, 32, 2147483647)),
-        (b"0XfFffffFf", (false, 32, 4294967295)),
-        (b"040000000000", (true, 64, 4294967296)),
-        (b"0xffffffffffffffff", (false, 64, 18446744073709551615)),
-        (b"18446744073709551615u", (false, 64, 18446744073709551615)),
-        (b"1l", (true, 64, 1)),
-        (b"1LLU", (false, 64, 1)),
-        (b"'a'", (true, 32, 97)),
-        (b"'\\377'", (true, 32, -1)),
-        (b"'\\x7F'", (true, 32, 127)),
-        (b"'\"'", (true, 32, 34)),
-        (b"'\\''", (true, 32, 39)),
+    // Each text is one constant, of so many bytes.
+    let rows: [(&[u8], u32, TokenKind); 18] = [
+        (b"0", 1, int_of(IntType::INT, 0)),
+        (b"2147483647", 10, int_of(IntType::INT, 2147483647)),
+        (b"2147483648", 10, int_of(IntType::LONG, 2147483648)),
+        (
+            b"9223372036854775807",
+            19,
+            int_of(IntType::LONG, 9223372036854775807),
+        ),
+        (
+            b"2147483648u",
+            11,
+            int_of(IntType::UNSIGNED_INT, 2147483648),
+        ),
+        (
+            b"4294967296u",
+            11,
+            int_of(IntType::UNSIGNED_LONG, 4294967296),
+        ),
+        (b"0x7fffffff", 10, int_of(IntType::INT, 2147483647)),
+        (b"0XfFffFffF", 10, int_of(IntType::UNSIGNED_INT, 4294967295)),
+        (b"040000000000", 12, int_of(IntType::LONG, 4294967296)),
+        (
+            b"0xffffffffffffffff",
+            18,
+            int_of(IntType::UNSIGNED_LONG, 18446744073709551615),
+        ),
+        (
+            b"18446744073709551615u",
+            21,
+            int_of(IntType::UNSIGNED_LONG, 18446744073709551615),
+        ),
+        (b"1l", 2, int_of(IntType::LONG, 1)),
+        (b"1LLU", 4, int_of(IntType::UNSIGNED_LONG, 1)),
+        (b"'a'", 3, char_of(97)),
+        (b"'\\377'", 6, char_of(-1)),
+        (b"'\\x7F'", 6, char_of(127)),
+        (b"'\"'", 3, char_of(34)),
+        (b"'\\''", 4, char_of(39)),
     ];
-    for (text, wanted) in rows {
-        is_constant(&rt, rt.alloc(), text, wanted)?;
+    for (text, len, kind) in rows {
+        let wanted = [token_at(kind, 0, len), token_at(TokenKind::End, len, len)];
+        tokens_are(&rt, rt.alloc(), text, &wanted)?;
     }
     Ok(())
 }
@@ -277,7 +296,12 @@ fn defines(alloc: Global, count: u16) -> Result<Vec<u8>, CompileFault> {
 #[test]
 fn most_names(rt: HostRuntime) -> Result<(), CompileFault> {
     let most = defines(rt.alloc(), 1024)?;
-    tokens_are(&rt, rt.alloc(), &most, &[(TokenKind::End, 16384, 16384)])?;
+    tokens_are(
+        &rt,
+        rt.alloc(),
+        &most,
+        &[token_at(TokenKind::End, 16384, 16384)],
+    )?;
     let more = defines(rt.alloc(), 1025)?;
     is_refused(&rt, rt.alloc(), &more, 16392, Kind::TooMany(10));
     Ok(())
@@ -315,11 +339,7 @@ fn strings(rt: HostRuntime) -> Result<(), CompileFault> {
 
 #[test]
 fn ends(rt: HostRuntime) -> Result<(), CompileFault> {
-    let end = Token {
-        kind: TokenKind::End,
-        from: 2,
-        to: 2,
-    };
+    let end = token_at(TokenKind::End, 2, 2);
     assert_eq!(rt; last_token(rt.alloc(), b"ab")?, Some(end));
     Ok(())
 }

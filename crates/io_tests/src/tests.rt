@@ -1,0 +1,4 @@
+//! Proved callers, reads and writes.
+mod callers;
+mod reads;
+mod writes;
