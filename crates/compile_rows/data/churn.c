@@ -1,0 +1,3 @@
+/* A function of one allocation. */
+void churn(void) { char *c = malloc(100); free(c); }
+int main(void) { return 0; }
