@@ -1,12 +1,12 @@
 -- The small codes, computed.
 use Rattle.std.proofs.Common.{refl}
-use Rattle.pin_flow.specs.Marks.{flow}
+use Rattle.pin_flow.specs.Marks.{flow, head_of, round_of}
 use Rattle.ir_tests.specs.Rows.{RowsHold}
 
 pub rows_hold : RowsHold
-unfolding flow
+unfolding flow head_of round_of
 rows_hold = record {
-  set = refl;
+  set_in_range = refl;
   set_past = refl;
   copy_past = refl;
   look_past = refl;
@@ -17,19 +17,19 @@ rows_hold = record {
   break_inside = refl;
   next_in_body = refl;
   next_in_step = refl;
-  call = refl;
+  call_of_none = refl;
   call_of_more = refl;
-  read = refl;
+  read_by_slot = refl;
   read_with_list = refl;
-  list = refl;
+  list_of_two = refl;
   list_of_one_twice = refl;
   placed = refl;
   none_before = refl;
   none_behind = refl;
   another_list = refl;
   none_in_step = refl;
-  erased = refl;
-  held = refl;
+  without_looks = refl;
+  held_at_end = refl;
   another = refl;
   assigned = refl;
   ended = refl;

@@ -3,7 +3,7 @@ use Rattle.std.specs.Prelude.{◌≡◌, ℕ, Bool, true, false, List, [], ◌�
 use Rattle.ak_words.specs.declared.operation.Op.TheVariants.{Add}
 use Rattle.ak_words.specs.IntType.{char, int}
 use Rattle.block_store.specs.declared.values.Access.TheVariants.{Number}
-use Rattle.struct_ir.specs.Nodes.{Place, Act, null, copy, apply, load, set, call, step, look, safepoint, begin_object, Node, plain, if_, loop, break_, next_, ret, Nodes, no_nodes, more_nodes, Func, Ir}
+use Rattle.struct_ir.specs.Nodes.{Act, null, copy, apply, load, set, call, step, look, safepoint, begin_object, Node, plain, if_, loop, break_, next_, ret, Nodes, no_nodes, more_nodes, Func, Ir}
 use Rattle.struct_ir.specs.Erased.{erased}
 use Rattle.struct_ir.specs.Placed.{all_placed}
 use Rattle.struct_ir.specs.Valid.{is_valid}
@@ -30,8 +30,8 @@ reads slot slots =
     does (step (record { action = load (Number int); places = record { base = 1; index = Some 2; scale = 4; offset = 8; slot = slot } ∷ []; to = Some 3; temps = []; slots = slots }))
 
 -- a loop of a body of one node, and of a step of one
-abbrev pub rounds : (body step : Node) → Node
-rounds body step = loop 0 (row (body ∷ [])) (row (step ∷ []))
+abbrev pub rounds : (body latch : Node) → Node
+rounds body latch = loop 0 (row (body ∷ [])) (row (latch ∷ []))
 
 -- a function without parameters, with four registers and two slots, of these nodes
 abbrev pub func : List Node → Func
@@ -51,7 +51,7 @@ held_behind b nodes = (flow (held b) (row nodes) bad).on
 
 -- a Look of register 1, and a loop that may be left before each step
 abbrev pub looked_then_loop : Node → List Node
-looked_then_loop step = does (look 0 1) ∷ rounds (if_ 0 0 (row (break_ 0 ∷ [])) no_nodes) step ∷ []
+looked_then_loop latch = does (look 0 1) ∷ rounds (if_ 0 0 (row (break_ 0 ∷ [])) no_nodes) latch ∷ []
 
 -- which slot a register of two reads has
 abbrev pub slot_of : (b : ℕ) → Option ℕ
@@ -73,7 +73,7 @@ around_call [] behind = all_placed (program (calls [] (0 ∷ []) ∷ behind))
 -- which nodes are valid, where safepoints stand as they should, what is bare, what paths say of a register, and which registers have slots
 pub record RowsHold : Type 0 where
   -- numbers in range
-  pub set : is_fine (does (set 3 (copy 0))) ≡ true
+  pub set_in_range : is_fine (does (set 3 (copy 0))) ≡ true
   pub set_past : is_fine (does (set 4 (copy 0))) ≡ false
   pub copy_past : is_fine (does (set 0 (copy 4))) ≡ false
   pub look_past : is_fine (does (look 2 0)) ≡ false
@@ -87,12 +87,12 @@ pub record RowsHold : Type 0 where
   pub next_in_body : is_fine (rounds (next_ 0) (ret 0 None)) ≡ true
   pub next_in_step : is_fine (rounds (break_ 0) (next_ 0)) ≡ false
   -- a call has as many arguments as its function has parameters
-  pub call : is_fine (calls [] []) ≡ true
+  pub call_of_none : is_fine (calls [] []) ≡ true
   pub call_of_more : is_fine (calls (0 ∷ []) []) ≡ false
   -- a step that doesn't wait has no list, and a list names each slot once
-  pub read : is_fine (reads (Some 0) []) ≡ true
+  pub read_by_slot : is_fine (reads (Some 0) []) ≡ true
   pub read_with_list : is_fine (reads (Some 0) (0 ∷ [])) ≡ false
-  pub list : is_fine (does (safepoint (0 ∷ 1 ∷ []))) ≡ true
+  pub list_of_two : is_fine (does (safepoint (0 ∷ 1 ∷ []))) ≡ true
   pub list_of_one_twice : is_fine (does (safepoint (1 ∷ 1 ∷ []))) ≡ false
   -- a call stands between safepoints, of which the one before has its list, and a loop's step ends in one
   pub placed : around_call (does (safepoint (0 ∷ [])) ∷ []) (does (safepoint (1 ∷ [])) ∷ []) ≡ true
@@ -101,9 +101,9 @@ pub record RowsHold : Type 0 where
   pub another_list : around_call (does (safepoint (1 ∷ [])) ∷ []) (does (safepoint (0 ∷ [])) ∷ []) ≡ false
   pub none_in_step : all_placed (program (rounds (does (set 1 null)) (does (set 2 null)) ∷ [])) ≡ false
   -- what is left without Looks, safepoints, slots and lists
-  pub erased : erased (row looking) ≡ row bare
+  pub without_looks : erased (row looking) ≡ row bare
   -- a register is held behind a loop that doesn't assign it
-  pub held : held_behind 1 (looked_then_loop (does (set 2 null))) ≡ good
+  pub held_at_end : held_behind 1 (looked_then_loop (does (set 2 null))) ≡ good
   pub another : held_behind 2 (looked_then_loop (does (set 2 null))) ≡ bad
   pub assigned : held_behind 1 (looked_then_loop (does (set 1 null))) ≡ bad
   pub ended : held_behind 1 (ret 0 None ∷ does (look 0 1) ∷ []) ≡ unreached
