@@ -1,4 +1,4 @@
-/* The lists around a call have the slot of a pointer that was looked at and is read later, and not behind its last access. */
+// The lists around a call have the slot of a pointer that was looked at and is read later, and not behind its last access.
 void f(void) {}
 int main(void) {
   int *p = malloc(4);

@@ -1,4 +1,4 @@
-/* A loop that is left by its condition and by a break, with a branch in it, and a call behind it. */
+// A loop that is left by its condition and by a break, with a branch in it, and a call behind it.
 void f(void) {}
 int main(void) {
   int n = 3;

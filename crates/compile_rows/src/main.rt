@@ -1,131 +1,95 @@
-//! Tells of worked texts, from their bytes, what code the machine runs: where Looks, safepoints and lists stand.
-//! Promises nothing upward: it is a program, and its output is held against listings that were worked out by hand.
-//! Stands on c_reader, ir_lower and compile_passes, and on ak_io for the files.
-//!
-//! Its words are names of files, and before those a word that says what to tell of them: `tree` the code that the passes prepare,
-//! `outline` the lines of it with a loop, a Look, a safepoint, a call or an allocation, `linear` the code that the machine runs.
+//! Prints the code of C texts: of some its outline, each loop, Look, safepoint, call and allocation in order, and of others both listings whole.
+//! Promises nothing upward: it is a program, whose output is held against what was worked out by hand.
+//! Stands on c_reader, ir_lower, struct_ir and compile_passes.
 #![tactic(auto)]
 
 ghost use Rattle.std.specs.Prelude.{◌≤◌, length};
 
-use ak_io::{FileShelf, ReadEnd, Shelf};
 use ak_words::NoMemory;
 use c_lex::CompileFault;
 use c_reader::read;
 use compile_passes::{compile, prepare};
 use ir_lower::lower;
 use std::alloc::Global;
-use std::env::Env;
-use std::{env, io};
-use struct_ir::{Ir, code_text, text};
+use std::{fs, io};
+use struct_ir::{code_text, text};
 
 // The most bytes that a text may have.
 const MOST_BYTES: usize = 1_048_576;
 
-// What is told of a text.
-#[derive(Clone, Copy, PartialEq, Eq)]
-enum Form {
-    Outline,
-    Tree,
-    Linear,
-}
+// The texts of which an outline is printed: their first lines tell what it shows.
+const OUTLINED: [&str; 3] = ["look_before_loop.c", "unset_word.c", "dead_word.c"];
 
-impl Form {
-    fn name(self) -> &'static str {
-        match self {
-            Form::Outline => "outline",
-            Form::Tree => "tree",
-            Form::Linear => "linear",
-        }
-    }
+// The words of the lines that belong to an outline.
+const WORDS: [&str; 5] = ["loop", "look", "safepoint", "call", "malloc"];
 
-    // Whether a line of the listing is told.
-    fn has(self, line: &str) -> bool {
-        self != Form::Outline
-            || line.contains("loop")
-            || line.contains("look")
-            || line.contains("safepoint")
-            || line.contains("call")
-            || line.contains("malloc")
-    }
-}
+// The texts of both listings.
+const LISTED: [&str; 3] = ["churn.c", "around_calls.c", "control.c"];
 
 // Memory ran out.
 fn no_memory(_: NoMemory) -> CompileFault {
     CompileFault::NoMemory
 }
 
-// The code that a text is lowered to.
-fn lowered(alloc: Global, bytes: &[u8]) -> Result<Ir, CompileFault>
+// The listing of the code that a text is prepared to.
+fn prepared(alloc: Global, bytes: &[u8]) -> Result<Vec<u8>, CompileFault>
     requires { length bytes.now ≤ 1048576 }
 {
     let reading = read(alloc, bytes)?;
-    lower(alloc, &reading.typed).map_err(no_memory)
-}
-
-// The listing of code, once it is prepared.
-fn tree(alloc: Global, ir: Ir) -> Result<Vec<u8>, NoMemory> {
-    let ready = prepare(alloc, ir)?;
-    text(alloc, &ready)
+    let ir = lower(alloc, &reading.typed).map_err(no_memory)?;
+    let ready = prepare(alloc, ir).map_err(no_memory)?;
+    text(alloc, &ready).map_err(no_memory)
 }
 
 // The listing of its linear code.
-fn linear(alloc: Global, ir: Ir) -> Result<Vec<u8>, NoMemory> {
-    let code = compile(alloc, ir)?;
-    code_text(alloc, &code)
-}
-
-fn listing(alloc: Global, form: Form, bytes: &[u8]) -> Result<Vec<u8>, CompileFault>
+fn emitted(alloc: Global, bytes: &[u8]) -> Result<Vec<u8>, CompileFault>
     requires { length bytes.now ≤ 1048576 }
 {
-    let ir = lowered(alloc, bytes)?;
-    let listing = if form == Form::Linear {
-        linear(alloc, ir)
-    } else {
-        tree(alloc, ir)
-    };
-    listing.map_err(no_memory)
+    let reading = read(alloc, bytes)?;
+    let ir = lower(alloc, &reading.typed).map_err(no_memory)?;
+    let code = compile(alloc, ir).map_err(no_memory)?;
+    code_text(alloc, &code).map_err(no_memory)
 }
 
-// The bytes of a file.
-fn load(rt: &HostRuntime, name: &str) -> io::Result<Vec<u8>> {
-    let mut bytes = vec![in rt.alloc(); 0u8; MOST_BYTES]?;
-    match FileShelf::new(rt).read(name, &mut bytes) {
-        Ok(ReadEnd::Whole(count)) => {
-            bytes.truncate(count);
-            Ok(bytes)
-        }
-        _ => Err(io::Error::from(io::ErrorKind::InvalidData)),
-    }
-}
-
-fn tell(rt: &HostRuntime, form: Form, name: &str) -> io::Result<()> {
-    println!(rt; "{} of {name}", form.name())?;
-    let bytes = load(rt, name)?;
-    let bytes = &bytes[..bytes.len().min(MOST_BYTES)];
-    let Ok(listing) = listing(rt.alloc(), form, bytes) else {
-        return println!(rt; "no code");
+// Prints the lines of a listing, or of its outline alone.
+fn print_listing(
+    rt: &HostRuntime,
+    listing: &Result<Vec<u8>, CompileFault>,
+    is_whole: bool,
+) -> io::Result<()> {
+    let Ok(listing) = listing else {
+        return println!(rt; "none");
     };
-    let Ok(listing) = str::from_utf8(&listing) else {
-        return println!(rt; "no text");
-    };
-    for line in listing.lines() {
-        if form.has(line) {
+    for line in str::from_utf8(listing).unwrap_or("").lines() {
+        if is_whole || WORDS.iter().any(|word| line.contains(*word)) {
             println!(rt; "{line}")?;
         }
     }
     Ok(())
 }
 
+// Prints what is to be shown of the code of a file.
+fn show(rt: &HostRuntime, name: &str, is_whole: bool) -> io::Result<()> {
+    let alloc = rt.alloc();
+    let text = fs::read_to_string(rt, name)?;
+    let bytes = text.as_bytes();
+    if bytes.len() > MOST_BYTES {
+        return Err(io::Error::from(io::ErrorKind::InvalidData));
+    }
+    println!(rt; "{name}")?;
+    print_listing(rt, &prepared(alloc, bytes), is_whole)?;
+    if is_whole {
+        print_listing(rt, &emitted(alloc, bytes), true)?;
+    }
+    Ok(())
+}
+
 fn main(rt: HostRuntime) -> io::Result<()> {
-    let mut form = Form::Outline;
-    for word in env::args(&rt)?.skip(1) {
-        match word.as_str() {
-            "outline" => form = Form::Outline,
-            "tree" => form = Form::Tree,
-            "linear" => form = Form::Linear,
-            name => tell(&rt, form, name)?,
-        }
+    for name in OUTLINED {
+        show(&rt, name, false)?;
+    }
+    for name in LISTED {
+        show(&rt, name, true)?;
     }
     Ok(())
 }
