@@ -1,7 +1,9 @@
-//! Tests of structured code, the lowering and the passes, and a caller of each crate that is proved from its contracts alone.
-//! Promises nothing upward: its tests see just the public calls of these crates.
-//! Stands on them, and on what they stand on.
+//! A caller of each crate of structured code, the lowering and the passes, that is proved from its contracts alone, and worked rows of small codes.
+//! Promises upward: nothing; its contracts are what it is for. It holds no test: compile_rows tells the listings of texts, and code_walks
+//! walks random codes.
+//! Stands on these crates, and on what they stand on.
 #![tactic(auto)]
 
-#[cfg(test)]
-mod tests;
+pub mod passing;
+pub mod reading;
+pub mod rows;

@@ -1,7 +1,8 @@
-//! Tests of type_specifiers and type_library, and a caller of each that is proved from its contracts alone.
-//! Promises nothing upward: its tests see just the public calls of these crates.
-//! Stands on them, and on what they stand on.
+//! A caller of each crate of the rules of types that is proved from its contracts alone, and worked rows of small pieces of C.
+//! Promises upward: nothing; its contracts are what it is for. It holds no test: front_tables tells which texts are typed.
+//! Stands on these crates, and on what they stand on.
 #![tactic(auto)]
 
-#[cfg(test)]
-mod tests;
+pub mod judging;
+pub mod naming;
+pub mod rows;

@@ -1,6 +1,0 @@
-use Rattle.c_parse_tests.proofs.tests.program_of.Goals as goal
-
-pub parse-requires : goal.parse-requires
-parse-requires c =
-    let once = c.tokens_end_once.ensures c.args.text.now c.in_ok-tokens.tokens.items c.in_ok-tokens.ensures.found in
-    rw c.deref.ensures.value once

@@ -1,0 +1,2 @@
+// A dead pointer is looked at before the loop that may read by it; the pointer that is read behind the loop keeps its slot over it.
+int main(void){int *p=malloc(40);free(p);int *q=malloc(40);q[0]=5;int s=0;for(int i=0;i<2;i++)if(i>5)s=s+p[i];printf("%d\n",s+q[0]);free(q);return 0;}

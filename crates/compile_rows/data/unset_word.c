@@ -1,0 +1,2 @@
+// A pointer that was never set is looked at before the loop that may read by it.
+int main(void){int *p;int n=0;int s=0;for(int i=0;i<n;i++)s=s+p[i];printf("%d\n",s);return 0;}
