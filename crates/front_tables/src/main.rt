@@ -10,8 +10,8 @@ mod marked;
 use group::Group;
 use std::{fs, io};
 
-// The tables: texts through the grammar alone, and through the types too.
-const TABLES: [&str; 2] = ["grammar.txt", "types.txt"];
+// The tables: of bytes and tokens, of the grammar, and of names and types.
+const TABLES: [&str; 3] = ["tokens.txt", "grammar.txt", "types.txt"];
 
 // Judges each row of a table, whose first line is a heading, and prints a line for each of its groups.
 fn judge_table(rt: &HostRuntime, table: &str) -> io::Result<()> {

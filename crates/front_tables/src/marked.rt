@@ -17,18 +17,23 @@ impl Marked {
         }
     }
 
-    /// Puts a part behind the text, in which `@` marks the place of what follows.
+    /// Puts a part behind the text, in which `@` marks the place of what follows, and `¶` stands for the end of a line.
     pub fn append(&mut self, part: &str) -> Result<(), AllocError> {
         for (index, piece) in part.split('@').enumerate() {
             if index > 0 {
                 self.place = Some(self.text.len());
             }
-            self.text.push_str(piece)?;
+            for (line, words) in piece.split('¶').enumerate() {
+                if line > 0 {
+                    self.text.push('\n')?;
+                }
+                self.text.push_str(words)?;
+            }
         }
         Ok(())
     }
 
-    /// Puts a row behind the text: what stands between two backticks so many times, with the number of each time for `#`.
+    /// Puts a row behind the text: what stands between two backticks so many times, with the number of each time for `$`.
     pub fn append_row(&mut self, row: &str, times: u32) -> Result<(), AllocError> {
         for (index, part) in row.split('`').enumerate() {
             if index % 2 == 0 {
@@ -42,7 +47,7 @@ impl Marked {
 
     fn append_times(&mut self, part: &str, times: u32) -> Result<(), AllocError> {
         for number in 0..times {
-            match part.split_once('#') {
+            match part.split_once('$') {
                 Some((before, behind)) => {
                     self.append(before)?;
                     write!(self.text, "{number:04}")?;

@@ -1,3 +1,0 @@
-//! A module for each crate.
-mod second_reader;
-mod tokens;
