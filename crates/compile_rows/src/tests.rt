@@ -48,8 +48,8 @@ fn emitted(alloc: Global, bytes: &[u8]) -> Result<Vec<u8>, CompileFault>
 {
     let reading = read(alloc, bytes)?;
     let ir = lower(alloc, &reading.typed).map_err(no_memory)?;
-    let code = compile(alloc, ir).map_err(no_memory)?;
-    code_text(alloc, &code).map_err(no_memory)
+    let compiled = compile(alloc, ir).map_err(no_memory)?;
+    code_text(alloc, &compiled.code).map_err(no_memory)
 }
 
 /// Whether this is the outline of the code that a text is prepared to.

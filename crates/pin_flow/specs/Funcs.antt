@@ -4,6 +4,7 @@ use Rattle.struct_ir.specs.Nodes.{Nodes, no_nodes, Func, Ir}
 use Rattle.struct_ir.specs.Structured.{Position, done, then_, structured}
 use Rattle.struct_ir.specs.Pins.{PinSafe}
 use Rattle.pin_flow.specs.Looks as looks
+use Rattle.pin_flow.specs.Held.{HoistedThroughout}
 
 -- each of them is so
 abbrev pub AreAll : (Func → Type 0) → List Func → Type 0
@@ -21,6 +22,10 @@ IsCovered f = looks.Covered structured (then_ f.nodes done)
 -- no Look in a loop is of a register that the loop doesn't assign, and none is of a register for which a slot is available there
 abbrev pub IsHoisted : Func → Type 0
 IsHoisted f = looks.Hoisted f.nodes
+
+-- the same by the paths to each Look in its own place, also where the same stands behind two branches: such code is hoisted
+abbrev pub IsHoistedThroughout : Func → Type 0
+IsHoistedThroughout f = HoistedThroughout f.nodes
 
 -- each list has just the slots that are available there and used later, and those that its act uses
 abbrev pub IsExact : Func → Type 0

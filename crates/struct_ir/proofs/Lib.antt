@@ -8,6 +8,7 @@ pub mod Erased
 pub mod Aged
 pub mod Mirrors
 pub mod Pins
+pub mod PlacedRows
 pub mod Views
 pub mod ErasedRows
 pub mod Lawful

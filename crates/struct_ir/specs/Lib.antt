@@ -24,3 +24,4 @@ pub mod LinearViews
 pub mod Marks
 pub mod Alike
 pub mod Placed
+pub mod PlacedRows

@@ -9,7 +9,7 @@ ghost use Rattle.struct_ir.specs.Valid.{is_valid};
 ghost use Rattle.struct_ir.specs.WholeViews.{ir_view};
 
 use ak_words::NoMemory;
-use compile_passes::compile;
+use compile_passes::{Compiled, compile};
 use std::alloc::Global;
 use struct_ir::Ir;
 use struct_ir::linear::Code;
@@ -20,5 +20,6 @@ fn safe_code(alloc: Global, ir: Ir) -> Result<Code, NoMemory>
     requires bare { ir_erased (ir_view ir) ≡ ir_view ir }
     ensures { IfOk result (λ code. (f : ℕ) → PinSafe (linear (code_view code).funcs) (entry_of f)) }
 {
-    compile(alloc, ir)
+    let Compiled { code, .. } = compile(alloc, ir)?;
+    Ok(code)
 }
