@@ -4,6 +4,7 @@ pub mod Keeps
 pub mod Short
 pub mod Safepoints
 pub mod Calls
+pub mod Guarded
 pub mod Lawful
 pub mod Emitted
 pub mod Views

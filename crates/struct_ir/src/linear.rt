@@ -46,7 +46,8 @@ pub enum InstrKind {
 }
 
 /// A function. By its type its instructions are lawful: jumps, tests and what is done lead to later
-/// ones, a round goes back from directly behind a safepoint, and the last one returns.
+/// ones, a round goes back from directly behind a safepoint, a call stands between two, no jump, test
+/// or round leads past the safepoint before a round or a call, and the last one returns.
 #[derive(Drop)]
 pub struct CodeFunc {
     /// How many parameters it has; these are its first registers.

@@ -13,15 +13,17 @@ use emit_code::emit_code;
 use std::alloc::Global;
 use std::test::Fail;
 use struct_ir::linear::Code;
-use struct_ir::{Calc, CallNode, Ir, IrFunc, Node, NodeKind, StackObject, code_text, is_placed};
+use struct_ir::{
+    Calc, CallNode, Ir, IrFunc, Node, NodeKind, StackObject, code_text, is_placed, is_valid,
+};
 
-// The linear code, where safepoints stand as they should: a caller that rests on the contracts
+// The linear code, where the code is valid and safepoints stand as they should: a caller that rests on the contracts
 // alone. What is safe stays so, and there are at most two instructions a node and one a function.
 fn emit_if_placed(alloc: Global, ir: &Ir) -> Result<Option<Code>, NoMemory>
     ensures safe { IfOk result (λ o. IfSome o (λ code. (f : ℕ) → PinSafe structured (start_of (ir_view ir.now).funcs f) → PinSafe (linear (code_view code).funcs) (entry_of f))) }
     ensures short { IfOk result (λ o. IfSome o (λ code. instr_count (code_view code).funcs ≤ 2 * nodes_count (ir_view ir.now).funcs + length (ir_view ir.now).funcs)) }
 {
-    if is_placed(ir) {
+    if is_placed(ir) && is_valid(ir) {
         Ok(Some(emit_code(alloc, ir)?))
     } else {
         Ok(None)
