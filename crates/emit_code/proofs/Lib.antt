@@ -10,5 +10,6 @@ pub mod Emitted
 pub mod Views
 pub mod Patch
 pub mod Turned
+pub mod ValidCode
 pub mod Program
 pub mod WorkedRows

@@ -12,5 +12,6 @@ pub mod PlacedRows
 pub mod Views
 pub mod ErasedRows
 pub mod Lawful
+pub mod ValidCode
 pub mod Follows
 pub mod Level

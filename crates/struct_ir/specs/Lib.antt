@@ -19,6 +19,7 @@ pub mod ValidViews
 pub mod Instrs
 pub mod Linear
 pub mod Lawful
+pub mod ValidCode
 pub mod InstrViews
 pub mod LinearViews
 pub mod Marks
