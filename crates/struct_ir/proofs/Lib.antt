@@ -5,7 +5,6 @@ pub mod Threads
 pub mod MapsTurns
 pub mod Lists
 pub mod Erased
-pub mod Aged
 pub mod Mirrors
 pub mod Pins
 pub mod PlacedRows

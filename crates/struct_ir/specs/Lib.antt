@@ -9,7 +9,6 @@ pub mod MapsTurns
 pub mod Lists
 pub mod Erased
 pub mod Laws
-pub mod Aged
 pub mod Mirrors
 pub mod Views
 pub mod Whole

@@ -3,10 +3,9 @@ ghost use Rattle.struct_ir.specs.Instrs.{instr_count};
 ghost use Rattle.struct_ir.specs.Linear.{linear, entry_of};
 ghost use Rattle.struct_ir.specs.LinearViews.{code_view};
 ghost use Rattle.struct_ir.specs.Pins.{PinSafe};
-ghost use Rattle.struct_ir.specs.Structured.{structured};
+ghost use Rattle.struct_ir.specs.Structured.{start_of, structured};
 ghost use Rattle.struct_ir.specs.WholeViews.{ir_view};
 ghost use Rattle.emit_code.specs.Emitted.{nodes_count};
-ghost use Rattle.pin_flow.specs.Funcs.{start_of};
 
 use ak_words::NoMemory;
 use emit_code::emit_code;
