@@ -10,7 +10,7 @@ use ak_io::{FileShelf, ReadEnd, Shelf};
 use ak_words::NoMemory;
 use c_lex::{CompileFault, Refusal};
 use c_reader::{Reading, read};
-use compile_passes::compile;
+use compile_passes::{Compiled, compile};
 use ir_lower::lower;
 use std::env::Env;
 use std::time::Instant;
@@ -60,7 +60,7 @@ fn measure(rt: &HostRuntime, text: &[u8]) -> io::Result<Outcome>
     let ir = lower(alloc, &reading.typed).map_err(no_memory)?;
     let lowered = start.elapsed(rt)?.as_micros();
     let start = Instant::now(rt)?;
-    let code = compile(alloc, ir).map_err(no_memory)?;
+    let Compiled { code, .. } = compile(alloc, ir).map_err(no_memory)?;
     let compiled = start.elapsed(rt)?.as_micros();
     let times = Times {
         read,

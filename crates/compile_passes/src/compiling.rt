@@ -10,7 +10,7 @@ ghost use Rattle.pin_checker.specs.Safe.{IsSafe};
 ghost use Rattle.compile_passes.specs.Compiled.{IsCompiled, IsPrepared};
 
 use ak_words::NoMemory;
-use emit_code::emit_owned;
+use emit_code::emit;
 use hoist_pass::hoist_owned;
 use pin_checker::{CheckFault, Checked, check};
 use pin_frames::place_owned;
@@ -46,17 +46,28 @@ fn checked(alloc: Global, ir: Ir) -> Result<Checked, NoMemory>
     }
 }
 
-/// The machine's code of structured code, which the checker never refuses.
+/// The code that the passes prepared and the checker accepted, and the machine's code of it.
+#[derive(Drop)]
+pub struct Compiled {
+    /// Structured code with its Looks, safepoints and lists.
+    pub checked: Checked,
+    /// Its linear code.
+    pub code: Code,
+}
+
+/// The machine's code of structured code, and the checked code that it is of. The checker never
+/// refuses what the passes prepare.
 ///
 /// # Errors
 ///
 /// Only want of memory.
-pub fn compile(alloc: Global, ir: Ir) -> Result<Code, NoMemory>
+pub fn compile(alloc: Global, ir: Ir) -> Result<Compiled, NoMemory>
     requires valid { is_valid (ir_view ir) ≡ true }
     requires bare { ir_erased (ir_view ir) ≡ ir_view ir }
-    ensures { IfOk result (λ code. IsCompiled (ir_view ir) (code_view code)) }
+    ensures { IfOk result (λ x. IsCompiled (ir_view ir) (code_of x.checked) (code_view x.code)) }
 {
     let ready = prepare(alloc, ir)?;
     let checked = checked(alloc, ready)?;
-    emit_owned(alloc, checked)
+    let code = emit(alloc, &checked)?;
+    Ok(Compiled { checked, code })
 }

@@ -5,4 +5,4 @@
 
 pub mod compiling;
 
-pub use compiling::{compile, prepare};
+pub use compiling::{Compiled, compile, prepare};

@@ -3,7 +3,7 @@ use Rattle.std.proofs.Common.{◌≡◌, ℕ, zero, suc, ◌+◌, ◌*◌, ◌�
 use Rattle.std.specs.Prelude.{slice_get}
 use Rattle.std.proofs.lemmas.List.Sums.{sum_by-cons}
 use Rattle.struct_ir.specs.Nodes.{Nodes, no_nodes, Func, Ir}
-use Rattle.struct_ir.specs.Structured.{done, then_, structured}
+use Rattle.struct_ir.specs.Structured.{done, then_, structured, nodes_of, start_of}
 use Rattle.struct_ir.specs.Instrs.{Instr, leave, LinearFunc, instrs_if, instr_count}
 use Rattle.struct_ir.specs.Linear.{instr_here, linear, entry_of}
 use Rattle.struct_ir.proofs.Sizes.{structured_shrinks}
@@ -12,7 +12,6 @@ use Rattle.struct_ir.proofs.Lawful.{lawful_code_shrinks}
 use Rattle.struct_ir.proofs.Level.{same_events}
 use Rattle.struct_ir.proofs.Mirrors.{mirrors_runs}
 use Rattle.emit_code.specs.inner.Layout.{long, emit, code_of, func_linear, linear_of}
-use Rattle.pin_flow.specs.Funcs.{nodes_if, start_of}
 use Rattle.emit_code.specs.inner.Holds.{Holds}
 use Rattle.emit_code.specs.Stands.{StandsAt, StandsIn}
 use Rattle.emit_code.specs.Emitted.{row_count, nodes_count, SameFrames, IsEmitted, LinearCodeKeepsRuns, LinearCodeKeepsEvents}
@@ -35,7 +34,7 @@ row_starts nodes =
 none_starts : StandsAt [] 0 (then_ no_nodes done)
 none_starts = record { out = 0; next = 0; stands = (0, 0, refl, inl refl, (refl, refl, refl)) }
 
-func_starts : (funcs : List Func) (f : ℕ) → StandsAt (instrs_if (slice_get (map func_linear funcs) f)) 0 (then_ (nodes_if (slice_get funcs f)) done)
+func_starts : (funcs : List Func) (f : ℕ) → StandsAt (instrs_if (slice_get (map func_linear funcs) f)) 0 (then_ (nodes_of (slice_get funcs f)) done)
 func_starts [] f = none_starts
 func_starts (x ∷ funcs) zero = row_starts x.nodes
 func_starts (x ∷ funcs) (suc f) = func_starts funcs f

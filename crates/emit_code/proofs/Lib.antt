@@ -4,10 +4,12 @@ pub mod Keeps
 pub mod Short
 pub mod Safepoints
 pub mod Calls
+pub mod Guarded
 pub mod Lawful
 pub mod Emitted
 pub mod Views
 pub mod Patch
 pub mod Turned
+pub mod ValidCode
 pub mod Program
 pub mod WorkedRows

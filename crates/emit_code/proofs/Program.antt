@@ -7,13 +7,15 @@ use Rattle.c_tree.specs.TypedViews.{literal_view}
 use Rattle.struct_ir.specs.declared.code.IrFunc.{IrFunc}
 use Rattle.struct_ir.specs.declared.code.IrGlobal.{IrGlobal}
 use Rattle.struct_ir.specs.declared.linear.CodeFunc.{CodeFunc}
-use Rattle.struct_ir.specs.Nodes.{Func}
+use Rattle.struct_ir.specs.Nodes.{Func, Ir}
 use Rattle.struct_ir.specs.Instrs.{LinearFunc}
 use Rattle.struct_ir.specs.LinearViews.{linear_func_view}
-use Rattle.struct_ir.specs.Valid.{has_params, are_placed}
+use Rattle.struct_ir.specs.Valid.{has_params, are_placed, scope_of, outside, are_nodes, is_valid}
 use Rattle.struct_ir.specs.Views.{global_view, func_view}
 use Rattle.struct_ir.specs.Whole.{takes_nothing, is_init_in, plain_bytes}
+use Rattle.pin_flow.specs.Funcs.{AreAll}
 use Rattle.emit_code.specs.inner.Layout.{func_linear}
+use Rattle.emit_code.specs.inner.Scoped.{IsScoped}
 use Rattle.emit_code.proofs.Safepoints.{left_of, right_of}
 
 abbrev pub is_placed : Func → Bool
@@ -25,6 +27,23 @@ placed_first all f rest e h = left_of (is_placed (func_view f)) (list_all is_pla
 
 pub placed_rest : (all : List IrFunc) (f : IrFunc) (rest : List IrFunc) → all ≡ f ∷ rest → list_all is_placed (map func_view all) ≡ true → list_all is_placed (map func_view rest) ≡ true
 placed_rest all f rest e h = right_of (is_placed (func_view f)) (list_all is_placed (map func_view rest)) (ap (λ l. list_all is_placed (map func_view l)) (sym e) ∙ h)
+
+-- so are their scopes
+pub scoped_first : (all : List IrFunc) (f : IrFunc) (rest : List IrFunc) → all ≡ f ∷ rest → AreAll IsScoped (map func_view all) → IsScoped (func_view f)
+scoped_first all f rest e h = (subst (λ (l : List IrFunc). AreAll IsScoped (map func_view l)) e h).0
+
+pub scoped_rest : (all : List IrFunc) (f : IrFunc) (rest : List IrFunc) → all ≡ f ∷ rest → AreAll IsScoped (map func_view all) → AreAll IsScoped (map func_view rest)
+scoped_rest all f rest e h = (subst (λ (l : List IrFunc). AreAll IsScoped (map func_view l)) e h).1
+
+all_scoped : (p : Ir) (fs : List Func) → list_all (λ f. are_nodes (scope_of p f) outside f.nodes) fs ≡ true → AreAll IsScoped fs
+all_scoped p [] e = tt
+all_scoped p (f ∷ fs) e =
+    let here = are_nodes (scope_of p f) outside f.nodes in
+    let rest = list_all (λ g. are_nodes (scope_of p g) outside g.nodes) fs in
+    ((scope_of p f, left_of here rest e), all_scoped p fs (right_of here rest e))
+
+pub valid_scoped : (p : Ir) → is_valid p ≡ true → AreAll IsScoped p.funcs
+valid_scoped p e = all_scoped p p.funcs e
 
 params_of : (xs : List CodeFunc) → map (λ f. f.params) xs ≡ map (λ g. g.params) (map linear_func_view xs)
 params_of [] = refl

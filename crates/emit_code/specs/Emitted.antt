@@ -1,7 +1,7 @@
 -- Linear code that means what structured code means.
 use Rattle.std.specs.Prelude.{◌≡◌, ℕ, ◌+◌, ◌*◌, ◌≤◌, List, [], ◌∷◌, length, sum_by}
 use Rattle.struct_ir.specs.Nodes.{Node, plain, if_, loop, break_, next_, ret, Nodes, no_nodes, more_nodes, Func, Ir}
-use Rattle.struct_ir.specs.Structured.{structured}
+use Rattle.struct_ir.specs.Structured.{structured, start_of}
 use Rattle.struct_ir.specs.Machine.{Machine}
 use Rattle.struct_ir.specs.Mirrors.{MirrorsRuns}
 use Rattle.struct_ir.specs.Threads.{World}
@@ -11,7 +11,6 @@ use Rattle.struct_ir.specs.Linear.{linear, entry_of}
 use Rattle.struct_ir.specs.Lawful.{AllLawful}
 use Rattle.struct_ir.specs.Marks.{MarksAreIdle, Follows}
 use Rattle.struct_ir.specs.Alike.{SameEvents}
-use Rattle.pin_flow.specs.Funcs.{start_of}
 use Rattle.emit_code.specs.Stands.{StandsIn}
 
 -- how many nodes there are, with those inside others

@@ -1,14 +1,16 @@
 //! Linear code from structured code. Each function is written from its end, so that where a jump
 //! leads is known when it is written; only the end of a round waits for its loop's start.
 
-ghost use Rattle.std.specs.Prelude.{◌≡◌, ◌≤◌, ◌+◌, ◌++◌, IfOk, IsTrue, None, reverse, map};
+ghost use Rattle.std.specs.Prelude.{◌≡◌, ◌≤◌, ◌+◌, ◌++◌, IfOk, IsTrue, None, reverse, map, true};
 ghost use Rattle.struct_ir.specs.InstrViews.{instr_view};
 ghost use Rattle.struct_ir.specs.LinearViews.{linear_func_view, code_view};
 ghost use Rattle.struct_ir.specs.Nodes.{if_, loop as loop_};
-ghost use Rattle.struct_ir.specs.Valid.{are_placed};
+ghost use Rattle.struct_ir.specs.Valid.{are_placed, is_valid};
 ghost use Rattle.struct_ir.specs.Views.{node_view, nodes_view, func_view};
 ghost use Rattle.struct_ir.specs.WholeViews.{ir_view};
 ghost use Rattle.std.specs.List.{list_all};
+ghost use Rattle.pin_flow.specs.Funcs.{AreAll};
+ghost use Rattle.emit_code.specs.inner.Scoped.{IsScoped};
 ghost use Rattle.emit_code.specs.inner.Layout.{long, node_long, emit, emit_node, code_of, func_linear, linear_of};
 ghost use Rattle.emit_code.specs.Emitted.{IsEmitted};
 ghost use Rattle.struct_ir.specs.Placed.{all_placed};
@@ -21,14 +23,15 @@ use std::alloc::Global;
 use struct_ir::linear::Code;
 use struct_ir::{CodeFunc, Instr, InstrKind, Ir, IrFunc, Node, NodeKind};
 
-/// The linear code of a program in which each call stands between safepoints and each loop's step
-/// ends in one.
+/// The linear code of a valid program in which each call stands between safepoints and each loop's
+/// step ends in one.
 ///
 /// # Errors
 ///
 /// Only want of memory.
 pub fn emit_code(alloc: Global, ir: &Ir) -> Result<Code, NoMemory>
-    requires { IsTrue (all_placed (ir_view ir.now)) }
+    requires placed { IsTrue (all_placed (ir_view ir.now)) }
+    requires valid { is_valid (ir_view ir.now) ≡ true }
     ensures { IfOk result (λ code. IsEmitted (ir_view ir.now) (code_view code)) }
 {
     let own = copy_ir(alloc, ir)?;
@@ -41,7 +44,8 @@ pub fn emit_code(alloc: Global, ir: &Ir) -> Result<Code, NoMemory>
 ///
 /// Only want of memory.
 pub fn emit_code_owned(alloc: Global, ir: Ir) -> Result<Code, NoMemory>
-    requires { IsTrue (all_placed (ir_view ir)) }
+    requires placed { IsTrue (all_placed (ir_view ir)) }
+    requires valid { is_valid (ir_view ir) ≡ true }
     ensures { IfOk result (λ code. IsEmitted (ir_view ir) (code_view code)) }
 {
     let code = emit_program(alloc, ir)?;
@@ -49,7 +53,8 @@ pub fn emit_code_owned(alloc: Global, ir: Ir) -> Result<Code, NoMemory>
 }
 
 fn emit_program(alloc: Global, ir: Ir) -> Result<Code, NoMemory>
-    requires { IsTrue (all_placed (ir_view ir)) }
+    requires placed { IsTrue (all_placed (ir_view ir)) }
+    requires valid { is_valid (ir_view ir) ≡ true }
     ensures { IfOk result (λ code. code_view code ≡ linear_of (ir_view ir)) }
 {
     let funcs = emit_funcs(alloc, ir.funcs)?;
@@ -62,7 +67,8 @@ fn emit_program(alloc: Global, ir: Ir) -> Result<Code, NoMemory>
 }
 
 fn emit_funcs(alloc: Global, funcs: Vec<IrFunc>) -> Result<Vec<CodeFunc>, NoMemory>
-    requires { IsTrue (list_all (λ f. are_placed None f.nodes) (map func_view funcs.items)) }
+    requires placed { IsTrue (list_all (λ f. are_placed None f.nodes) (map func_view funcs.items)) }
+    requires scoped { AreAll IsScoped (map func_view funcs.items) }
     ensures { IfOk result (λ v. map linear_func_view v.items ≡ map func_linear (map func_view funcs.items)) }
 {
     let mut out = Vec::with_capacity(alloc, funcs.len())?;
@@ -73,7 +79,8 @@ fn emit_funcs(alloc: Global, funcs: Vec<IrFunc>) -> Result<Vec<CodeFunc>, NoMemo
 }
 
 fn emit_func(alloc: Global, f: IrFunc) -> Result<CodeFunc, NoMemory>
-    requires { IsTrue (are_placed None (func_view f).nodes) }
+    requires placed { IsTrue (are_placed None (func_view f).nodes) }
+    requires scoped { IsScoped (func_view f) }
     ensures { IfOk result (λ x. linear_func_view x ≡ func_linear (func_view f)) }
 {
     let instrs = emit_nodes(alloc, f.nodes)?;

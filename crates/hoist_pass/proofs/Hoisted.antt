@@ -6,14 +6,14 @@ use Rattle.struct_ir.specs.Nodes.{Act, set, call, step, look, safepoint, begin_o
 use Rattle.struct_ir.specs.Erased.{erased, is_kept}
 use Rattle.pin_flow.specs.Marks.{State, bad, Each}
 use Rattle.pin_flow.specs.Looks.{act_looks, some_act, loops_assign}
-use Rattle.pin_flow.specs.Held.{held, fresh}
+use Rattle.pin_flow.specs.Held.{held, fresh, IsDue}
 use Rattle.pin_flow.specs.Slots.{own, IsOwn, IsIn}
 use Rattle.hoist_pass.specs.inner.Hoist.{lifted, hoisted_one, hoisted, HoistingIsRight}
 use Rattle.pin_flow.proofs.Order.{rank}
 use Rattle.pin_flow.proofs.Strip.{by_bool, loops_sifted, each_sifted, each_back, erased_sifted}
 use Rattle.pin_flow.proofs.Switch.{each_agree, each_weaker, each_always, no_act, no_acts}
 use Rattle.pin_flow.proofs.Fresh.{own_agrees}
-use Rattle.pin_flow.proofs.Covers.{Serves, IsDue, serves_down, covered_each, each_covered, due_needed}
+use Rattle.pin_flow.proofs.Covers.{Serves, serves_down, covered_each, each_covered, due_needed}
 use Rattle.hoist_pass.proofs.Drop.{Left, each_dropped}
 use Rattle.hoist_pass.proofs.Lift.{each_lifted}
 use Rattle.hoist_pass.proofs.Quiet.{loops_bare, still_none, lifts_still}
@@ -187,4 +187,5 @@ hoisting_is_right slot_of apart bs ns o listed =
           (each_agree (fresh (slot_of c) c) (held c) f (λ a e v. sym (own_agrees slot_of apart c a (not-false _ e) v)) (Serves (slot_of c) c) ns o bad
           (covered_each ns covered (slot_of c) c))));
       hoisted = record { out_of_loops = λ c. (good c).loops; needed = λ c. due_needed out c (good c).due };
+      throughout = record { out_of_loops = λ c. (good c).loops; due = λ c. (good c).due };
     }

@@ -6,7 +6,7 @@ use Rattle.std.specs.List.{list_all}
 use Rattle.struct_ir.specs.Nodes.{Func, Ir, Nodes}
 use Rattle.struct_ir.specs.Erased.{erased, func_erased, ir_erased}
 use Rattle.struct_ir.specs.Valid.{scope_of, outside, are_nodes, is_valid}
-use Rattle.pin_flow.specs.Funcs.{AreAll, EveryFunc, IsCovered, IsHoisted}
+use Rattle.pin_flow.specs.Funcs.{AreAll, EveryFunc, IsCovered, IsHoisted, IsHoistedThroughout}
 use Rattle.pin_flow.specs.Slots.{bases_of, slot_in, slot_if, IsIn, IsOwn, HasOwnSlots}
 use Rattle.pin_flow.proofs.Bases.{same_bases, slots_are_apart, slot_known}
 use Rattle.hoist_pass.specs.inner.Hoist.{hoisted, hoisted_one, hoisted_for, hoisted_each, func_hoisted, ir_hoisted, HoistIsRight}
@@ -42,6 +42,9 @@ module _ (f : Func) (slots : HasOwnSlots f) where
 
   pub func_is_hoisted : IsHoisted (func_hoisted f)
   func_is_hoisted = right.hoisted
+
+  pub func_throughout : IsHoistedThroughout (func_hoisted f)
+  func_throughout = right.throughout
 
   pub func_slots : HasOwnSlots (func_hoisted f)
   func_slots = record {

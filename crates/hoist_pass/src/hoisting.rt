@@ -3,7 +3,7 @@ ghost use Rattle.struct_ir.specs.Erased.{ir_erased};
 ghost use Rattle.struct_ir.specs.Valid.{is_valid};
 ghost use Rattle.struct_ir.specs.Views.{nodes_view, func_view};
 ghost use Rattle.struct_ir.specs.WholeViews.{ir_view};
-ghost use Rattle.pin_flow.specs.Funcs.{EveryFunc, IsCovered, IsHoisted};
+ghost use Rattle.pin_flow.specs.Funcs.{EveryFunc, IsCovered, IsHoisted, IsHoistedThroughout};
 ghost use Rattle.pin_flow.specs.Slots.{HasOwnSlots, slot_if};
 ghost use Rattle.hoist_pass.specs.inner.Hoist.{lifted, hoisted_one, hoisted_for, hoisted_each, func_hoisted, ir_hoisted};
 
@@ -31,6 +31,7 @@ pub fn hoist(alloc: Global, ir: &Ir) -> Result<Ir, NoMemory>
     ensures covered { IfOk result (λ x. EveryFunc IsCovered (ir_view x)) }
     ensures slots { IfOk result (λ x. EveryFunc HasOwnSlots (ir_view x)) }
     ensures hoisted { IfOk result (λ x. EveryFunc IsHoisted (ir_view x)) }
+    ensures throughout { IfOk result (λ x. EveryFunc IsHoistedThroughout (ir_view x)) }
 {
     let own = copy_ir(alloc, ir)?;
     hoist_owned(alloc, own)
@@ -50,6 +51,7 @@ pub fn hoist_owned(alloc: Global, ir: Ir) -> Result<Ir, NoMemory>
     ensures covered { IfOk result (λ x. EveryFunc IsCovered (ir_view x)) }
     ensures slots { IfOk result (λ x. EveryFunc HasOwnSlots (ir_view x)) }
     ensures hoisted { IfOk result (λ x. EveryFunc IsHoisted (ir_view x)) }
+    ensures throughout { IfOk result (λ x. EveryFunc IsHoistedThroughout (ir_view x)) }
 {
     hoist_all(alloc, ir)
 }

@@ -19,8 +19,9 @@ use Rattle.block_store.specs.Actions as actions
 use Rattle.block_store.specs.Runs as runs
 use Rattle.block_store.specs.Runs.{Program, Turn}
 use Rattle.c_tree.specs.TypedPrinting.{parts}
-use Rattle.struct_ir.specs.Nodes.{Place, Action, load, store, copy_bytes, malloc, free, print, lock, unlock, destroy, start, join, Step, Act, step, no_nodes, Nodes, Func, Ir}
-use Rattle.struct_ir.specs.Structured.{Position, done, then_, structured}
+use Rattle.struct_ir.specs.Nodes.{Place, Action, load, store, copy_bytes, malloc, free, print, lock, unlock, destroy, start, join, Step, Act, step, Func, Ir}
+use Rattle.struct_ir.specs.Structured.{Position, structured, start_of}
+pub use Rattle.struct_ir.specs.Structured.{nodes_of}
 use Rattle.struct_ir.specs.Threads as threads
 use Rattle.struct_ir.specs.Threads.{World, Served, serves, waits, refuses, fails, Thread, Outcome, turn}
 use Rattle.ir_meaning.specs.Blocks.{Held, value, unset, missing, Fault, broken, wrong_kind, same_type, Own, set_at, with_temps, with_blocks, known, on_value, on_number, on_pointer, or_broken, objects_of, all_ended, blocks_machine}
@@ -188,14 +189,9 @@ blocks_world p thread = record {
 
 -- ---- programs
 
--- the nodes of a function
-abbrev pub nodes_of : Option Func → Nodes
-nodes_of (Some f) = f.nodes
-nodes_of None = no_nodes
-
 -- where a call of a function begins
 abbrev pub code_of : Ir → (function : ℕ) → Position
-code_of p function = then_ (nodes_of (slice_get p.funcs function)) done
+code_of p function = start_of p.funcs function
 
 -- the registers of a thread's first function: its argument is its one parameter, and main has none
 abbrev pub first_temps : (params : ℕ) → Ptr → ℕ → Held

@@ -5,14 +5,13 @@ use Rattle.std.specs.Prelude.{not, nat_lt, ◌&&◌, ◌||◌, ◌==◌}
 use Rattle.std.proofs.lemmas.Bool.{and_parts, and_from, eqb-true, eq-eqb}
 use Rattle.struct_ir.specs.Nodes.{Place, Act, Node, plain, if_, loop, break_, next_, ret, Nodes, no_nodes, more_nodes, Func, Ir, places_of}
 use Rattle.struct_ir.specs.Flow.{does, Path}
-use Rattle.struct_ir.specs.Structured.{Position, done, then_, here, structured}
+use Rattle.struct_ir.specs.Structured.{Position, done, then_, here, structured, start_of}
 use Rattle.struct_ir.specs.Pins.{Fact, unlooked, looked, facts, lacks_if, held_by, Among, IsPlaced, PinSafe}
 use Rattle.struct_ir.specs.Valid.{Scope, Around, body_of, latch_of, outside, scope_of, list_at, last_list, is_node, are_nodes, node_is_placed, are_placed}
 use Rattle.pin_flow.proofs.Strip.{by_bool}
 use Rattle.pin_checker.specs.declared.fault.Why.{Why}
 use Rattle.pin_checker.specs.declared.fault.Why.TheVariants.{BadTemp, NoLook, StaleLook, NotPinned}
 use Rattle.pin_checker.specs.declared.fault.Fault.{Fault}
-use Rattle.pin_flow.specs.Funcs.{start_of}
 use Rattle.pin_checker.specs.Safe.{IsSafe}
 use Rattle.pin_checker.specs.Faults.{place_of, is_alone, is_guarded, is_sound, Invalid, InvalidIn, fails, fails_through, Unsafe, FailsAmong, Fails, rank, NoLater, IsFirst}
 use Rattle.pin_checker.specs.Answers.{IsRefused}

@@ -8,7 +8,7 @@ use Rattle.struct_ir.specs.Structured.{done, then_, structured}
 use Rattle.struct_ir.specs.Pins.{Among, Available}
 use Rattle.pin_flow.specs.Marks.{answer, State, unreached, good, bad, state_of, Each, EveryAct}
 use Rattle.pin_flow.specs.Looks.{act_looks, Covered, Uses}
-use Rattle.pin_flow.specs.Held.{held, fresh}
+use Rattle.pin_flow.specs.Held.{held, fresh, IsDue}
 use Rattle.pin_flow.specs.Live.{is_slot}
 use Rattle.pin_flow.specs.Slots.{own, all_own, IsOwn}
 use Rattle.pin_flow.proofs.Order.{rank}
@@ -21,10 +21,6 @@ use Rattle.pin_flow.proofs.Live.{slot_is}
 -- an access of the slot and register is all right in the state
 abbrev pub Serves : (slot b : ℕ) → Act → State → Type 0
 Serves slot b a t = Uses slot b a → t ≢ bad
-
--- a Look of b is needed in the state
-abbrev pub IsDue : ℕ → Act → State → Type 0
-IsDue b a t = act_looks b a ≡ true → t ≡ bad
 
 pub serves_down : (slot b : ℕ) (a : Act) (t u : State) → rank t ≤ rank u → Serves slot b a u → Serves slot b a t
 serves_down slot b a unreached u le s i = λ e. absurd cc

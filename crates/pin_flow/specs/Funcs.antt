@@ -1,9 +1,10 @@
 -- What is asked of the functions of a program.
-use Rattle.std.specs.Prelude.{ℕ, List, [], ◌∷◌, Option, Some, None, slice_get}
-use Rattle.struct_ir.specs.Nodes.{Nodes, no_nodes, Func, Ir}
-use Rattle.struct_ir.specs.Structured.{Position, done, then_, structured}
+use Rattle.std.specs.Prelude.{ℕ, List, [], ◌∷◌}
+use Rattle.struct_ir.specs.Nodes.{Func, Ir}
+use Rattle.struct_ir.specs.Structured.{done, then_, structured, start_of}
 use Rattle.struct_ir.specs.Pins.{PinSafe}
 use Rattle.pin_flow.specs.Looks as looks
+use Rattle.pin_flow.specs.Held.{HoistedThroughout}
 
 -- each of them is so
 abbrev pub AreAll : (Func → Type 0) → List Func → Type 0
@@ -22,6 +23,10 @@ IsCovered f = looks.Covered structured (then_ f.nodes done)
 abbrev pub IsHoisted : Func → Type 0
 IsHoisted f = looks.Hoisted f.nodes
 
+-- the same by the paths to each Look in its own place, also where the same stands behind two branches: such code is hoisted
+abbrev pub IsHoistedThroughout : Func → Type 0
+IsHoistedThroughout f = HoistedThroughout f.nodes
+
 -- each list has just the slots that are available there and used later, and those that its act uses
 abbrev pub IsExact : Func → Type 0
 IsExact f = looks.PinsExact f.nodes
@@ -29,15 +34,6 @@ IsExact f = looks.PinsExact f.nodes
 -- safe for moves
 abbrev pub IsPinSafe : Func → Type 0
 IsPinSafe f = PinSafe structured (then_ f.nodes done)
-
--- the nodes of a function, if there is one
-abbrev pub nodes_if : Option Func → Nodes
-nodes_if None = no_nodes
-nodes_if (Some f) = f.nodes
-
--- where the function of this number begins
-abbrev pub start_of : List Func → ℕ → Position
-start_of funcs f = then_ (nodes_if (slice_get funcs f)) done
 
 -- in each function, on every path, each access finds its base's word in its slot, which no list since lacks
 abbrev pub AllPinSafe : Ir → Type 0

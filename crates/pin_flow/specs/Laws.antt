@@ -5,7 +5,7 @@ use Rattle.struct_ir.specs.Structured.{done, then_, structured}
 use Rattle.struct_ir.specs.Pins.{Available}
 use Rattle.pin_flow.specs.Marks.{bad, Each, EveryAct}
 use Rattle.pin_flow.specs.Looks.{act_looks, Uses, Covered}
-use Rattle.pin_flow.specs.Held.{held, fresh}
+use Rattle.pin_flow.specs.Held.{held, fresh, IsDue}
 use Rattle.struct_ir.specs.Erased.{erased}
 use Rattle.pin_flow.specs.Slots.{IsOwn, bases_below, slot_in, IsIn, AreApart}
 
@@ -20,7 +20,7 @@ FreshIsCovered = (slot_of : ℕ → ℕ) (ns : Nodes) → IsOwn slot_of ns → (
 -- where b isn't held on each path, no slot is available for it
 abbrev pub UnheldIsUnavailable : Type 0
 UnheldIsUnavailable =
-    (ns : Nodes) (b : ℕ) → Each (λ a t. act_looks b a ≡ true → t ≡ bad) (held b) ns bad
+    (ns : Nodes) (b : ℕ) → Each (IsDue b) (held b) ns bad
     → EveryAct (λ act k. act_looks b act ≡ true → (slot : ℕ) → Available structured (then_ ns done) slot b k → ⊥) ns done
 
 -- code that is the same without Looks, safepoints, slots and lists has the same bases

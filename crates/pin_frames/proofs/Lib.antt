@@ -1,7 +1,9 @@
 pub mod Backwards
 pub mod Below
+pub mod Due
 pub mod Exact
 pub mod FreeRows
+pub mod Hoists
 pub mod ListRows
 pub mod Listed
 pub mod LiveRows

@@ -4,15 +4,16 @@ use Rattle.std.proofs.lemmas.Bool.{and_from, and_parts, both_ways, or_cases}
 use Rattle.std.proofs.Common.{◌≡◌, ℕ, ◌<◌, ◌≤◌, List, [], ◌∷◌, map, drop, length, Option, None, Bool, true, false, ◌&&◌, ◌==◌, inl, inr, refl, sym, ap, subst, ◌∙◌}
 use Rattle.std.specs.Prelude.{not}
 use Rattle.std.specs.List.{list_all}
-use Rattle.struct_ir.specs.Nodes.{Place, Act, set, call, step, look, safepoint, begin_object, end_object, Func, Ir, Nodes, no_nodes}
+use Rattle.struct_ir.specs.Nodes.{Place, Act, safepoint, Func, Ir, Nodes, no_nodes}
 use Rattle.struct_ir.specs.Structured.{done, then_, structured}
 use Rattle.struct_ir.specs.Erased.{erased, func_erased, ir_erased}
+use Rattle.struct_ir.specs.Placed.{are_due, all_due}
 use Rattle.struct_ir.specs.Valid.{Scope, Around, scope_of, outside, are_nodes, is_valid, are_placed}
 use Rattle.pin_flow.specs.Marks.{bad, Each}
-use Rattle.pin_flow.specs.Looks.{some_act, act_looks, Covered, PinsExact}
-use Rattle.pin_flow.specs.Held.{fresh}
+use Rattle.pin_flow.specs.Looks.{some_act, act_looks, Covered, Hoisted, PinsExact}
+use Rattle.pin_flow.specs.Held.{fresh, HoistedThroughout}
 use Rattle.pin_flow.specs.Live.{is_slot, has, uses}
-use Rattle.pin_flow.specs.Funcs.{AreAll, EveryFunc, IsCovered, IsExact, IsPinSafe}
+use Rattle.pin_flow.specs.Funcs.{AreAll, EveryFunc, IsCovered, IsHoisted, IsHoistedThroughout, IsExact, IsPinSafe}
 use Rattle.pin_flow.specs.Slots.{has_base, accesses, bases_of, slot_in, own, IsIn, IsOwn, HasOwnSlots}
 use Rattle.pin_flow.proofs.Strip.{by_bool}
 use Rattle.pin_flow.proofs.At.{some_finds}
@@ -22,6 +23,8 @@ use Rattle.pin_frames.specs.inner.Place.{act_listing, listed, none_held, none_la
 use Rattle.pin_frames.proofs.Listed.{uses_listing, erase_listed, some_listed, each_listed}
 use Rattle.pin_frames.proofs.Seat.{sat, erase_seated}
 use Rattle.pin_frames.proofs.Stand.{stands_placed}
+use Rattle.pin_frames.proofs.Due.{due_row, due_listed}
+use Rattle.pin_frames.proofs.Hoists.{looks_listing, hoisted_cleared, hoisted_placed}
 use Rattle.pin_frames.proofs.OneByOne.{cleared_is, each_is_placed}
 use Rattle.pin_frames.proofs.Placed as placing
 use Rattle.pin_frames.proofs.Below.{some_below}
@@ -29,15 +32,6 @@ use Rattle.pin_frames.proofs.Valid.{bases_once, valid_listed, valid_seated}
 
 pub each_end : (s : ℕ → Option ℕ) (bs : List ℕ) (i : ℕ) (out all : Nodes) → length bs ≤ i → listed_each s (drop i bs) out ≡ all → out ≡ all
 each_end s bs i out all le e = ap (λ l. listed_each s l out) (sym (drop_all i bs le)) ∙ e
-
-looks_listing : (b : ℕ) (a : Act) (l : List ℕ) → act_looks b (act_listing a l) ≡ act_looks b a
-looks_listing b (set to calc) l = refl
-looks_listing b (call c) l = refl
-looks_listing b (step x) l = refl
-looks_listing b (look s base) l = refl
-looks_listing b (safepoint old) l = refl
-looks_listing b (begin_object i) l = refl
-looks_listing b (end_object i) l = refl
 
 -- what uses a slot for a register, has it as its base
 has_is_base : (s b : ℕ) (list : List Place) → has s b list ≡ true → has_base b list ≡ true
@@ -76,6 +70,12 @@ module _ (f : Func) where
 
   pub func_stands : are_placed None (func_placed f).nodes ≡ true
   func_stands = ap (are_placed None) placed_is ∙ stands_placed S bs bare
+
+  pub func_due : are_due false false (func_placed f).nodes ≡ true
+  func_due = ap (are_due false false) placed_is ∙ (due_listed S bs false false (sat bare) none_held none_later ∙ due_row false bare no_nodes (λ b. refl) false)
+
+  pub func_hoisted : IsHoistedThroughout f → IsHoisted (func_placed f)
+  func_hoisted h = subst (λ (ns : Nodes). Hoisted ns) (sym placed_is) (hoisted_placed S bs bare (subst (λ (ns : Nodes). HoistedThroughout ns) bare_is (hoisted_cleared S f.nodes h)))
 
   bases_same : bases_of (func_placed f) ≡ bs
   bases_same = same_bases f.temps f.nodes (func_placed f).nodes func_erased_same
@@ -156,6 +156,13 @@ funcs_stand (f ∷ fs) = and_from _ _ (func_stands f) (funcs_stand fs)
 
 pub every_stands : (x : Ir) → list_all (λ f. are_placed None f.nodes) (ir_placed x).funcs ≡ true
 every_stands x = funcs_stand x.funcs
+
+funcs_due : (fs : List Func) → list_all (λ f. are_due false false f.nodes) (map func_placed fs) ≡ true
+funcs_due [] = refl
+funcs_due (f ∷ fs) = and_from _ _ (func_due f) (funcs_due fs)
+
+pub every_due : (x : Ir) → all_due (ir_placed x) ≡ true
+every_due x = funcs_due x.funcs
 
 funcs_erased : (fs : List Func) → map func_erased (map func_placed fs) ≡ map func_erased fs
 funcs_erased [] = refl

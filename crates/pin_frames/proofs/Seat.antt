@@ -1,11 +1,11 @@
 -- Safepoints that are put in change nothing else.
 use Rattle.std.proofs.Common.{◌≡◌, ℕ, List, Bool, true, false, refl, sym, ap, subst, ◌∙◌}
 use Rattle.struct_ir.specs.Nodes.{Act, set, call, step, look, safepoint, begin_object, end_object, plain, if_, loop, break_, next_, ret, Nodes, no_nodes, more_nodes}
-use Rattle.struct_ir.specs.Erased.{is_kept, put, erased}
+use Rattle.struct_ir.specs.Erased.{is_kept, erased}
 use Rattle.pin_flow.specs.Marks.{Mark, State, bad, Each}
-use Rattle.pin_flow.specs.Looks.{some_act}
-use Rattle.pin_flow.proofs.Strip.{sifted, some_sifted, each_sifted, each_back, erased_sifted}
-use Rattle.pin_frames.specs.inner.Place.{act_is_call, stop, seated}
+use Rattle.pin_flow.specs.Looks.{act_looks, act_assigns, some_act, loops_assign}
+use Rattle.pin_flow.proofs.Strip.{sifted, some_sifted, loops_sifted, each_sifted, each_back, erased_sifted}
+use Rattle.pin_frames.specs.inner.Place.{stop, act_seats, seated}
 
 abbrev pub not_safe : Act → Bool
 not_safe (set to calc) = true
@@ -16,15 +16,18 @@ not_safe (safepoint slots) = false
 not_safe (begin_object i) = true
 not_safe (end_object i) = true
 
-put_safe : (x : Bool) (p : ℕ) (rest : Nodes) → sifted not_safe (put x (stop p) rest) ≡ sifted not_safe rest
-put_safe true p rest = refl
-put_safe false p rest = refl
+act_same : (p : ℕ) (a : Act) (rest rest' : Nodes) → sifted not_safe rest' ≡ sifted not_safe rest → sifted not_safe (act_seats p a rest') ≡ sifted not_safe (more_nodes (plain p a) rest)
+act_same p (set to calc) rest rest' e = ap (more_nodes (plain p (set to calc))) e
+act_same p (call c) rest rest' e = ap (more_nodes (plain p (call c))) e
+act_same p (step x) rest rest' e = ap (more_nodes (plain p (step x))) e
+act_same p (look slot base) rest rest' e = ap (more_nodes (plain p (look slot base))) e
+act_same p (safepoint slots) rest rest' e = e
+act_same p (begin_object j) rest rest' e = ap (more_nodes (plain p (begin_object j))) e
+act_same p (end_object j) rest rest' e = ap (more_nodes (plain p (end_object j))) e
 
 seated_same : (ns tail : Nodes) → sifted not_safe tail ≡ no_nodes → sifted not_safe (seated ns tail) ≡ sifted not_safe ns
 seated_same no_nodes tail h = h
-seated_same (more_nodes (plain p a) rest) tail h =
-    put_safe (act_is_call a) p (more_nodes (plain p a) (put (act_is_call a) (stop p) (seated rest tail)))
-    ∙ ap (put (not_safe a) (plain p a)) (put_safe (act_is_call a) p (seated rest tail) ∙ seated_same rest tail h)
+seated_same (more_nodes (plain p a) rest) tail h = act_same p a rest (seated rest tail) (seated_same rest tail h)
 seated_same (more_nodes (if_ p x one other) rest) tail h = λ i. more_nodes (if_ p x (seated_same one no_nodes refl i) (seated_same other no_nodes refl i)) (seated_same rest tail h i)
 seated_same (more_nodes (loop p body latch) rest) tail h = λ i. more_nodes (loop p (seated_same body no_nodes refl i) (seated_same latch (more_nodes (stop p) no_nodes) refl i)) (seated_same rest tail h i)
 seated_same (more_nodes (break_ p) rest) tail h = ap (more_nodes (break_ p)) (seated_same rest tail h)
@@ -71,3 +74,9 @@ each_seated m idle Q known ns e =
     let i = of_safe (λ a. (v : Bool) → m a v ≡ v) idle in
     each_back not_safe m i Q (of_safe (λ a. (t : State) → Q a t) known) (sat ns) bad
     (subst (λ (x : Nodes). Each Q m x bad) (sym (sat_same ns)) (each_sifted not_safe m i Q ns bad e))
+
+pub loops_seated : (b : ℕ) (ns : Nodes) → loops_assign b (sat ns) ≡ loops_assign b ns
+loops_seated b ns =
+    let looks = of_safe (λ a. act_looks b a ≡ false) (λ slots. refl) in
+    let assigns = of_safe (λ a. act_assigns b a ≡ false) (λ slots. refl) in
+    sym (loops_sifted not_safe b looks assigns (sat ns)) ∙ (ap (loops_assign b) (sat_same ns) ∙ loops_sifted not_safe b looks assigns ns)

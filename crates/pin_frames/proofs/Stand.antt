@@ -48,7 +48,7 @@ module _ (slot_of : ℕ → ℕ) where
           and_from _ _ (and_from _ _ (ap (λ l. same_slots l1 l) (sym e) ∙ same_self l1) refl) (stands_row rest tail h _ _ ls)
       stands_row (more_nodes (plain p (step x)) rest) tail h before ts ls = stands_row rest tail h _ _ ls
       stands_row (more_nodes (plain p (look slot base)) rest) tail h before ts ls = stands_row rest tail h _ _ ls
-      stands_row (more_nodes (plain p (safepoint slots)) rest) tail h before ts ls = stands_row rest tail h _ _ ls
+      stands_row (more_nodes (plain p (safepoint slots)) rest) tail h before ts ls = stands_row rest tail h before ts ls
       stands_row (more_nodes (plain p (begin_object i)) rest) tail h before ts ls = stands_row rest tail h _ _ ls
       stands_row (more_nodes (plain p (end_object i)) rest) tail h before ts ls = stands_row rest tail h _ _ ls
       stands_row (more_nodes (if_ p x one other) rest) tail h before ts ls =
@@ -67,7 +67,7 @@ module _ (slot_of : ℕ → ℕ) where
       ends_row (more_nodes (plain p (call c)) rest) tail h before ts ls = ends_row rest tail h _ _ ls
       ends_row (more_nodes (plain p (step x)) rest) tail h before ts ls = ends_row rest tail h _ _ ls
       ends_row (more_nodes (plain p (look slot base)) rest) tail h before ts ls = ends_row rest tail h _ _ ls
-      ends_row (more_nodes (plain p (safepoint slots)) rest) tail h before ts ls = ends_row rest tail h _ _ ls
+      ends_row (more_nodes (plain p (safepoint slots)) rest) tail h before ts ls = ends_row rest tail h before ts ls
       ends_row (more_nodes (plain p (begin_object i)) rest) tail h before ts ls = ends_row rest tail h _ _ ls
       ends_row (more_nodes (plain p (end_object i)) rest) tail h before ts ls = ends_row rest tail h _ _ ls
       ends_row (more_nodes (if_ p x one other) rest) tail h before ts ls = ends_row rest tail h _ _ ls

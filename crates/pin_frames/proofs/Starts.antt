@@ -1,10 +1,10 @@
 -- Where each function is safe for moves, the code is from each function's start.
 use Rattle.std.proofs.Common.{ℕ, zero, suc, List, [], ◌∷◌}
 use Rattle.struct_ir.specs.Nodes.{no_nodes, Func}
-use Rattle.struct_ir.specs.Structured.{done, then_, structured}
+use Rattle.struct_ir.specs.Structured.{done, then_, structured, start_of}
 use Rattle.struct_ir.specs.Pins.{PinSafe}
 use Rattle.pin_flow.specs.Held.{held}
-use Rattle.pin_flow.specs.Funcs.{AreAll, IsPinSafe, start_of}
+use Rattle.pin_flow.specs.Funcs.{AreAll, IsPinSafe}
 use Rattle.pin_flow.proofs.Fresh.{held_fair}
 use Rattle.pin_flow.proofs.Sound.{each_holds}
 

@@ -3,7 +3,6 @@ use Rattle.std.proofs.Common.{◌≡◌, ℕ, zero, suc, ◌<◌, List, [], ◌�
 use Rattle.std.proofs.lemmas.Bool.{and_from, and_parts, lt-ltb}
 use Rattle.struct_ir.specs.Nodes.{Act, set, call, step, look, safepoint, begin_object, end_object, may_wait, Node, plain, if_, loop, break_, next_, ret, Nodes, no_nodes, more_nodes}
 use Rattle.std.specs.List.{list_all}
-use Rattle.struct_ir.specs.Erased.{put}
 use Rattle.struct_ir.specs.Pins.{lacks}
 use Rattle.struct_ir.specs.Valid.{Scope, Around, body_of, latch_of, are_below, is_distinct, is_list, is_own_list, is_place, is_below_if, has_counts, counts_of, starts, is_act, is_node, are_nodes}
 use Rattle.pin_flow.specs.Marks.{State}
@@ -11,7 +10,7 @@ use Rattle.pin_flow.specs.Looks.{some_act}
 use Rattle.pin_flow.specs.Live.{Live, live_act, body_lives, latch_lives}
 use Rattle.pin_flow.specs.Slots.{accesses, bases_below, IsIn, AreApart}
 use Rattle.pin_flow.proofs.Strip.{by_bool}
-use Rattle.pin_frames.specs.inner.Place.{act_is_call, stop, seats, seated, seated_in, wanted, act_listing, list_for, heads, turns, on_states, rest_lives, listed, listed_in}
+use Rattle.pin_frames.specs.inner.Place.{stop, act_seats, seats, seated, seated_in, wanted, act_listing, list_for, heads, turns, on_states, rest_lives, listed, listed_in}
 use Rattle.pin_frames.proofs.Exact.{list_only}
 
 -- ---- each base stands once among the bases
@@ -120,12 +119,17 @@ module _ (x : Scope) (slot_of : ℕ → ℕ) (apart : AreApart slot_of) where
 -- ---- safepoints
 
 module _ (x : Scope) where
-  stop_put : (w : Around) (y : Bool) (p : ℕ) (rest : Nodes) → are_nodes x w rest ≡ true → are_nodes x w (put y (stop p) rest) ≡ true
-  stop_put w true p rest e = e
-  stop_put w false p rest e = e
+  act_seats_valid : (w : Around) (p : ℕ) (a : Act) (rest : Nodes) → is_act x a ≡ true → are_nodes x w rest ≡ true → are_nodes x w (act_seats p a rest) ≡ true
+  act_seats_valid w p (set to calc) rest e h = and_from _ _ e h
+  act_seats_valid w p (call c) rest e h = and_from (is_act x (call c)) (are_nodes x w rest) e h
+  act_seats_valid w p (step s) rest e h = and_from (is_act x (step s)) (are_nodes x w rest) e h
+  act_seats_valid w p (look slot base) rest e h = and_from _ _ e h
+  act_seats_valid w p (safepoint slots) rest e h = h
+  act_seats_valid w p (begin_object i) rest e h = and_from _ _ e h
+  act_seats_valid w p (end_object i) rest e h = and_from _ _ e h
 
   valid_seats : (w : Around) (n : Node) (rest : Nodes) → is_node x w n ≡ true → are_nodes x w rest ≡ true → are_nodes x w (seats n rest) ≡ true
-  valid_seats w (plain p a) rest e h = stop_put w (act_is_call a) p _ (and_from _ _ e (stop_put w (act_is_call a) p rest h))
+  valid_seats w (plain p a) rest e h = act_seats_valid w p a rest e h
   valid_seats w (if_ p t one other) rest e h = and_from _ _ e h
   valid_seats w (loop p body latch) rest e h = and_from _ _ e h
   valid_seats w (break_ p) rest e h = and_from _ _ e h

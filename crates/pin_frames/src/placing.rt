@@ -4,12 +4,13 @@ ghost use Rattle.std.specs.Prelude.{◌≡◌, ◌<◌, ◌^◌, length, map, No
 ghost use Rattle.std.specs.List.{list_all};
 ghost use Rattle.struct_ir.specs.Erased.{ir_erased};
 ghost use Rattle.struct_ir.specs.Nodes.{no_nodes};
+ghost use Rattle.struct_ir.specs.Placed.{all_due};
 ghost use Rattle.struct_ir.specs.Valid.{is_valid, are_placed};
 ghost use Rattle.struct_ir.specs.Views.{nodes_view, func_view};
 ghost use Rattle.struct_ir.specs.WholeViews.{ir_view};
 ghost use Rattle.pin_flow.specs.Marks.{bad};
 ghost use Rattle.pin_flow.specs.Live.{lives};
-ghost use Rattle.pin_flow.specs.Funcs.{AllPinSafe, EveryFunc, IsCovered, IsExact};
+ghost use Rattle.pin_flow.specs.Funcs.{AllPinSafe, EveryFunc, IsCovered, IsExact, IsHoisted, IsHoistedThroughout};
 ghost use Rattle.pin_flow.specs.Slots.{HasOwnSlots, slot_if};
 ghost use Rattle.pin_frames.specs.inner.Place.{seated, cleared, listed_one, listed_for, listed_each, func_placed, ir_placed};
 
@@ -37,8 +38,10 @@ pub fn place(alloc: Global, ir: &Ir) -> Result<Ir, NoMemory>
     ensures erased { IfOk result (λ x. ir_erased (ir_view x) ≡ ir_erased (ir_view ir.now)) }
     ensures slots { IfOk result (λ x. EveryFunc HasOwnSlots (ir_view x)) }
     ensures stand { IfOk result (λ x. list_all (λ f. are_placed None f.nodes) (ir_view x).funcs ≡ true) }
+    ensures due { IfOk result (λ x. all_due (ir_view x) ≡ true) }
     ensures exact { IfOk result (λ x. EveryFunc IsExact (ir_view x)) }
     ensures safe { EveryFunc IsCovered (ir_view ir.now) → IfOk result (λ x. AllPinSafe (ir_view x)) }
+    ensures hoisted { EveryFunc IsHoistedThroughout (ir_view ir.now) → IfOk result (λ x. EveryFunc IsHoisted (ir_view x)) }
     ensures valid { is_valid (ir_view ir.now) ≡ true → IfOk result (λ x. is_valid (ir_view x) ≡ true) }
 {
     let own = copy_ir(alloc, ir)?;
@@ -56,8 +59,10 @@ pub fn place_owned(alloc: Global, ir: Ir) -> Result<Ir, NoMemory>
     ensures erased { IfOk result (λ x. ir_erased (ir_view x) ≡ ir_erased (ir_view ir)) }
     ensures slots { IfOk result (λ x. EveryFunc HasOwnSlots (ir_view x)) }
     ensures stand { IfOk result (λ x. list_all (λ f. are_placed None f.nodes) (ir_view x).funcs ≡ true) }
+    ensures due { IfOk result (λ x. all_due (ir_view x) ≡ true) }
     ensures exact { IfOk result (λ x. EveryFunc IsExact (ir_view x)) }
     ensures safe { EveryFunc IsCovered (ir_view ir) → IfOk result (λ x. AllPinSafe (ir_view x)) }
+    ensures hoisted { EveryFunc IsHoistedThroughout (ir_view ir) → IfOk result (λ x. EveryFunc IsHoisted (ir_view x)) }
     ensures valid { is_valid (ir_view ir) ≡ true → IfOk result (λ x. is_valid (ir_view x) ≡ true) }
 {
     place_all(alloc, ir)

@@ -95,7 +95,7 @@ fn seat_node(alloc: Global, n: Node, out: &mut Vec<Node>) -> Result<(), NoMemory
         }
         NodeKind::Call(c) => add_call(alloc, place, c, out),
         NodeKind::Step(s) => add(out, node(place, NodeKind::Step(clear_step(alloc, s)))),
-        NodeKind::Safepoint(_) => add_stop(alloc, place, out),
+        NodeKind::Safepoint(_) => Ok(()),
         leaf => add(out, node(place, leaf)),
     }
 }

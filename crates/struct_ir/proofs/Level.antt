@@ -1,12 +1,13 @@
 -- Where one code mirrors another, threads do the same in both.
 use Rattle.std.proofs.Common.{◌≡◌, ℕ, List, [], ◌∷◌, Bool, true, false, Option, Result, Ok, Err, refl, sym, ap, subst}
 use Rattle.struct_ir.specs.Nodes.{Act, set, call, step, look, safepoint, begin_object, end_object}
-use Rattle.struct_ir.specs.Flow.{Here, does, tests, passes, round, returns, Flow, Stays, Shrinks}
+use Rattle.struct_ir.specs.Flow.{Here, does, tests, passes, round, returns, Flow, Stays, IsCall, Shrinks}
 use Rattle.struct_ir.specs.Machine.{Machine, Point, run}
 use Rattle.struct_ir.specs.Mirrors.{Both, IsMirror, EndAlike}
 use Rattle.struct_ir.specs.Threads.{World, Thread, Outcome, went, ended, blocked, broke, unfit, Served, serves, waits, refuses, fails, result_to, alone, served, finished, if_fits, entered_or_served, left_call, stop_at, local_event, stop_event, and_then}
 use Rattle.struct_ir.specs.Alike.{SameCallers, LevelThreads, SameThreads, SameOutcomes, SameEvents}
 use Rattle.struct_ir.proofs.Mirrors.{mirrors_runs}
+use Rattle.struct_ir.proofs.Threads.{call_stays}
 
 module _ {P Q L F S A : Type 0} (C : Flow P) (D : Flow Q) (c_shrinks : Shrinks C) (d_shrinks : Shrinks D) (M : Machine L F) (W : World L F S A) (R : P → Q → Type 0) (mirror : IsMirror C D M R)
     (code : ℕ → P) (code' : ℕ → Q) (starts : (f : ℕ) → R (code f) (code' f)) where
@@ -63,8 +64,8 @@ module _ {P Q L F S A : Type 0} (C : Flow P) (D : Flow Q) (c_shrinks : Shrinks C
 
     act_same : (place : ℕ) (a : Act) → C.here k ≡ does place a → Level (entered_or_served C W code answer t1 s place a) (entered_or_served D W code' answer u1 s place a)
     act_same place (call c) e =
-        let stays : Stays (C.here k) = subst Stays (sym e) tt in
-        if_same (W.is_plain answer) _ _ (record { top = record { at = starts c.function; own = refl }; callers = (record { same = b; stays = stays; own = refl }, cs) }, refl)
+        let calls : IsCall (C.here k) = subst IsCall (sym e) refl in
+        if_same (W.is_plain answer) _ _ (record { top = record { at = starts c.function; own = refl }; callers = (record { same = b; calls = calls; own = refl }, cs) }, refl)
     act_same place (set to calc) e = served_same (b.next (subst Stays (sym e) tt) true) (W.serve answer place (set to calc) l s)
     act_same place (step x) e = served_same (b.next (subst Stays (sym e) tt) true) (W.serve answer place (step x) l s)
     act_same place (look slot base) e = served_same (b.next (subst Stays (sym e) tt) true) (W.serve answer place (look slot base) l s)
@@ -78,7 +79,7 @@ module _ {P Q L F S A : Type 0} (C : Flow P) (D : Flow Q) (c_shrinks : Shrinks C
     left_same temp (x ∷ xs) [] h = absurd h
     left_same temp (x ∷ xs) (y ∷ ys) h =
         let own : W.left l temp y.own (result_to (D.here y.at)) ≡ W.left l temp x.own (result_to (C.here x.at)) = λ i. W.left l temp (h.0.own i) (result_to (h.0.same.here i)) in
-        if_same (W.is_plain answer) _ _ (record { top = record { at = h.0.same.next h.0.stays true; own = own }; callers = h.1 }, ap (λ (z : L). W.kept z s) own)
+        if_same (W.is_plain answer) _ _ (record { top = record { at = h.0.same.next (call_stays (C.here x.at) h.0.calls) true; own = own }; callers = h.1 }, ap (λ (z : L). W.kept z s) own)
 
     here_same : (h : Here) → C.here k ≡ h → Level (stop_at C M W code answer t1 s h) (stop_at D M W code' answer u1 s h)
     here_same (does place a) e = if_same (M.stops a) _ _ (act_same place a e)

@@ -5,11 +5,12 @@ pub mod Threads
 pub mod MapsTurns
 pub mod Lists
 pub mod Erased
-pub mod Aged
 pub mod Mirrors
 pub mod Pins
+pub mod PlacedRows
 pub mod Views
 pub mod ErasedRows
 pub mod Lawful
+pub mod ValidCode
 pub mod Follows
 pub mod Level

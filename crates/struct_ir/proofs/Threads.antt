@@ -1,17 +1,31 @@
 -- Each call of a thread has come by a path of its function.
 use Rattle.std.proofs.Common.{◌≡◌, ℕ, List, [], ◌∷◌, Bool, true, false, Option, Result, Ok, Err, refl, sym, ap, subst, ◌∙◌}
 use Rattle.struct_ir.specs.Nodes.{Act, call}
-use Rattle.struct_ir.specs.Flow.{Here, does, tests, passes, round, returns, Flow, Stays, Shrinks}
+use Rattle.struct_ir.specs.Flow.{Here, does, tests, passes, round, returns, Flow, Stays, IsCall, Shrinks}
 use Rattle.struct_ir.specs.Machine.{Machine, Point, stops, stopped_or, acted, ahead_at, ahead, run, Steps, still, more, starts, walks, resumes, changes}
 use Rattle.struct_ir.specs.Threads.{Served, serves, waits, refuses, fails, World, Thread, Outcome, behind, alone, served, finished, if_fits, entered_or_served, left_call, stop_at, HasCome, Waits, AllWait, AllCome, IfWent, KeepsWays, EventsKeepWays}
 use Rattle.struct_ir.proofs.Runs.{runs_are_steps}
+
+-- behind a call the caller goes on
+pub call_stays : (h : Here) → IsCall h → Stays h
+call_stays (does place a) c = tt
+call_stays (tests place temp) c = absurd c
+call_stays passes c = absurd c
+call_stays round c = absurd c
+call_stays (returns temp) c = absurd c
+
+-- it stands at a stop, behind which the call goes on
+record Rests {P L F : Type 0} (C : Flow P) (M : Machine L F) (code : ℕ → P) (p : Point P L) : Type 0 where
+  come : HasCome C M code p
+  stands : ahead C M p ≡ stops
+  stays : Stays (C.here p.at)
 
 module _ {P L F S A : Type 0} (C : Flow P) (shrinks : Shrinks C) (M : Machine L F) (W : World L F S A) (code : ℕ → P) where
   come_on : (p q : Point P L) → Steps C M p q → HasCome C M code p → HasCome C M code q
   come_on p q still h = h
   come_on p q (more r s before e) h = let m = come_on p r before h in record { function = m.function; way = r.at ∷ m.way; comes = walks m.way r q m.comes e }
 
-  come_past : (p : Point P L) (l : L) → Waits C M code p → HasCome C M code (behind C p l)
+  come_past : (p : Point P L) (l : L) → Rests C M code p → HasCome C M code (behind C p l)
   come_past p l w = record {
     function = w.come.function;
     way = p.at ∷ w.come.way;
@@ -25,7 +39,7 @@ module _ {P L F S A : Type 0} (C : Flow P) (shrinks : Shrinks C) (M : Machine L 
   local_keeps t s a p come (Ok q) e = record { top = come_on p q ((runs_are_steps P L F C shrinks M).stops_at p q e).0 come; callers = a.callers }
   local_keeps t s a p come (Err f) e = tt
 
-  served_keeps : (t : Thread P L) → AllCome C M code t → Waits C M code t.top → (r : Served L F S) → IfWent {F = F} (AllCome C M code) (served C t r)
+  served_keeps : (t : Thread P L) → AllCome C M code t → Rests C M code t.top → (r : Served L F S) → IfWent {F = F} (AllCome C M code) (served C t r)
   served_keeps t a w (serves l s) = record { top = come_past t.top l w; callers = a.callers }
   served_keeps t a w waits = tt
   served_keeps t a w refuses = tt
@@ -41,21 +55,22 @@ module _ {P L F S A : Type 0} (C : Flow P) (shrinks : Shrinks C) (M : Machine L 
   if_keeps true o h = h refl
   if_keeps false o h = tt
 
-  act_keeps : (answer : A) (t : Thread P L) (s : S) → AllCome C M code t → Waits C M code t.top → (place : ℕ) (a : Act) → IfWent {F = F} (AllCome C M code) (entered_or_served C W code answer t s place a)
-  act_keeps answer t s a w place (call c) =
-      if_keeps (W.is_plain answer) _ (λ e.
-      record { top = record { function = c.function; way = []; comes = starts (W.entered c.function t.top.own c.temps) }; callers = (w, a.callers) })
-  act_keeps answer t s a w place _ = served_keeps t a w _
+  act_keeps : (answer : A) (t : Thread P L) (s : S) → AllCome C M code t → Rests C M code t.top → (place : ℕ) (a : Act) → C.here t.top.at ≡ does place a → IfWent {F = F} (AllCome C M code) (entered_or_served C W code answer t s place a)
+  act_keeps answer t s a w place (call c) e =
+      if_keeps (W.is_plain answer) _ (λ fits.
+      let caller : Waits C M code t.top = record { come = w.come; stands = w.stands; calls = subst IsCall (sym e) refl } in
+      record { top = record { function = c.function; way = []; comes = starts (W.entered c.function t.top.own c.temps) }; callers = (caller, a.callers) })
+  act_keeps answer t s a w place _ e = served_keeps t a w _
 
   left_keeps : (answer : A) (l : L) (temp : Option ℕ) (s : S) (callers : List (Point P L)) → AllWait C M code callers → IfWent {F = F} (AllCome C M code) (left_call C W answer l temp s callers)
   left_keeps answer l temp s [] w = finished_keeps (W.finish answer l temp s)
-  left_keeps answer l temp s (c ∷ callers) w = if_keeps (W.is_plain answer) _ (λ e. record { top = come_past c _ w.0; callers = w.1 })
+  left_keeps answer l temp s (c ∷ callers) w = if_keeps (W.is_plain answer) _ (λ e. record { top = come_past c _ (record { come = w.0.come; stands = w.0.stands; stays = call_stays (C.here c.at) w.0.calls }); callers = w.1 })
 
   stop_keeps : (answer : A) (t : Thread P L) (s : S) → AllCome C M code t → (h : Here) → C.here t.top.at ≡ h → IfWent {F = F} (AllCome C M code) (stop_at C M W code answer t s h)
   stop_keeps answer t s a (does place x) e =
       if_keeps (M.stops x) _ (λ on.
       let stands : ahead C M t.top ≡ stops = ap (ahead_at C M t.top) e ∙ ap (λ (b : Bool). stopped_or b (acted (C.next t.top.at true) (M.does place x t.top.own))) on in
-      act_keeps answer t s a (record { come = a.top; stands = stands; stays = subst Stays (sym e) tt }) place x)
+      act_keeps answer t s a (record { come = a.top; stands = stands; stays = subst Stays (sym e) tt }) place x e)
   stop_keeps answer t s a (tests place temp) e = tt
   stop_keeps answer t s a passes e = tt
   stop_keeps answer t s a round e = if_keeps (W.is_plain answer) _ (λ fits. record { top = come_past t.top t.top.own (record { come = a.top; stands = ap (ahead_at C M t.top) e; stays = subst Stays (sym e) tt }); callers = a.callers })

@@ -1,6 +1,6 @@
 -- Threads in two codes at positions that correspond: their events are the same.
 use Rattle.std.specs.Prelude.{◌≡◌, ℕ, List, [], ◌∷◌}
-use Rattle.struct_ir.specs.Flow.{Flow, Stays}
+use Rattle.struct_ir.specs.Flow.{Flow, IsCall}
 use Rattle.struct_ir.specs.Machine.{Machine, Point}
 use Rattle.struct_ir.specs.Mirrors.{Both}
 use Rattle.struct_ir.specs.Threads.{World, Thread, Outcome, went, ended, blocked, broke, unfit, local_event, stop_event, turn}
@@ -20,7 +20,7 @@ module _ {P Q L : Type 0} (C : Flow P) (D : Flow Q) (R : P → Q → Type 0) whe
   -- before the same call
   pub record SameCalls (p : Point P L) (q : Point Q L) : Type 0 where
     pub same : Both C D R p.at q.at
-    pub stays : Stays (C.here p.at)
+    pub calls : IsCall (C.here p.at)
     pub own : q.own ≡ p.own
 
   -- the calls that wait, one by one

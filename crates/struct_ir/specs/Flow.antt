@@ -1,7 +1,7 @@
 -- Code, as control goes through it: what stands at a position, and where control goes on from there. Turns, events, paths, passes and
 -- the checker all read control from here.
-use Rattle.std.specs.Prelude.{ℕ, ◌<◌, List, [], ◌∷◌, Option, Bool}
-use Rattle.struct_ir.specs.Nodes.{Act}
+use Rattle.std.specs.Prelude.{◌≡◌, ℕ, ◌<◌, List, [], ◌∷◌, Option, Bool, true}
+use Rattle.struct_ir.specs.Nodes.{Act, act_is_call}
 
 -- what stands at a position
 pub data Here : Type 0 where
@@ -42,6 +42,14 @@ Stays (tests place temp) = Unit {0}
 Stays passes = Unit {0}
 Stays round = Unit {0}
 Stays (returns temp) = ⊥
+
+-- a call stands there
+abbrev pub IsCall : Here → Type 0
+IsCall (does place a) = act_is_call a ≡ true
+IsCall (tests place temp) = ⊥
+IsCall passes = ⊥
+IsCall round = ⊥
+IsCall (returns temp) = ⊥
 
 -- a path: from where, the positions passed, the last one first, and the one reached
 pub data Path {P : Type 0} (C : Flow P) (from : P) : List P → P → Type 0 where

@@ -9,7 +9,6 @@ pub mod MapsTurns
 pub mod Lists
 pub mod Erased
 pub mod Laws
-pub mod Aged
 pub mod Mirrors
 pub mod Views
 pub mod Whole
@@ -19,8 +18,10 @@ pub mod ValidViews
 pub mod Instrs
 pub mod Linear
 pub mod Lawful
+pub mod ValidCode
 pub mod InstrViews
 pub mod LinearViews
 pub mod Marks
 pub mod Alike
 pub mod Placed
+pub mod PlacedRows

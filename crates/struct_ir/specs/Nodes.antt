@@ -148,3 +148,13 @@ list_of (call c) = Some c.slots
 list_of (step s) = own_list s
 list_of (safepoint slots) = Some slots
 list_of a = None
+
+-- the act is a call
+abbrev pub act_is_call : Act → Bool
+act_is_call (set to calc) = false
+act_is_call (call c) = true
+act_is_call (step s) = false
+act_is_call (look slot base) = false
+act_is_call (safepoint slots) = false
+act_is_call (begin_object i) = false
+act_is_call (end_object i) = false

@@ -1,6 +1,6 @@
 -- Where a call stands in structured code.
-use Rattle.std.specs.Prelude.{ℕ, ◌+◌, None, Bool, true, false}
-use Rattle.struct_ir.specs.Nodes.{Node, plain, if_, loop, break_, next_, ret, Nodes, no_nodes, more_nodes}
+use Rattle.std.specs.Prelude.{ℕ, ◌+◌, List, Option, Some, None, Bool, true, false, slice_get}
+use Rattle.struct_ir.specs.Nodes.{Node, plain, if_, loop, break_, next_, ret, Nodes, no_nodes, more_nodes, Func}
 use Rattle.struct_ir.specs.Flow.{Here, does, tests, passes, round, returns, Flow}
 
 -- what is still to do: nodes and then the rest; a loop whose body, or whose latch, is under way, and then the rest
@@ -85,3 +85,12 @@ size (in_latch body latch k) = size k + 1
 -- structured code, as control goes through it
 abbrev pub structured : Flow Position
 structured = record { here = here; next = next; size = size }
+
+-- the nodes of a function, if there is one
+abbrev pub nodes_of : Option Func → Nodes
+nodes_of (Some f) = f.nodes
+nodes_of None = no_nodes
+
+-- where the function of this number begins
+abbrev pub start_of : List Func → ℕ → Position
+start_of funcs f = then_ (nodes_of (slice_get funcs f)) done

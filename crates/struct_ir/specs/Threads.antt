@@ -2,7 +2,7 @@
 -- flat machine's events are these two halves.
 use Rattle.std.specs.Prelude.{◌≡◌, ℕ, List, [], ◌∷◌, Option, None, Bool, true, false, Result, Ok, Err}
 use Rattle.struct_ir.specs.Nodes.{Act, call}
-use Rattle.struct_ir.specs.Flow.{Here, does, tests, passes, round, returns, Flow, Stays, Shrinks}
+use Rattle.struct_ir.specs.Flow.{Here, does, tests, passes, round, returns, Flow, IsCall, Shrinks}
 use Rattle.struct_ir.specs.Machine.{Machine, Point, ahead, run, Comes, stops}
 
 -- what the world does at a stop: it goes on with what the thread then has; it can't be done yet; the answer doesn't fit; or a fault
@@ -135,7 +135,7 @@ pub record HasCome {P L F : Type 0} (C : Flow P) (M : Machine L F) (code : ℕ �
 pub record Waits {P L F : Type 0} (C : Flow P) (M : Machine L F) (code : ℕ → P) (p : Point P L) : Type 0 where
   pub come : HasCome C M code p
   pub stands : ahead C M p ≡ stops
-  pub stays : Stays (C.here p.at)
+  pub calls : IsCall (C.here p.at)
 
 -- each caller waits
 abbrev pub AllWait : {P L F : Type 0} → Flow P → Machine L F → (ℕ → P) → List (Point P L) → Type 0

@@ -4,6 +4,7 @@ ghost use Rattle.struct_ir.specs.Erased.{ErasureKeepsTurns};
 ghost use Rattle.struct_ir.specs.Laws.{MapsMapRuns, RunsAreSteps, SafeCodeIsPinned, StructuredShrinks, WaysArePaths};
 ghost use Rattle.struct_ir.specs.Lists.{ListsAreNothing};
 ghost use Rattle.struct_ir.specs.MapsTurns.{MapsMapTurns};
+ghost use Rattle.struct_ir.specs.PlacedRows.{DueRowsHold};
 ghost use Rattle.struct_ir.specs.Threads.{EventsKeepWays};
 
 /// In structured code what is left to do before a round is over or the call is left gets less.
@@ -42,4 +43,9 @@ pub fn lists_are_nothing<P, L, F, S, A>()
 /// Where Looks and safepoints are idle too, erased code does in each turn what the code does.
 pub fn erasure_keeps_turns<L, F, S, A>()
     ensures { ErasureKeepsTurns L F S A }
+{}
+
+/// Rows with their safepoints, computed: which safepoints are due, and which aren't.
+pub fn small_rows_are_judged_so()
+    ensures { DueRowsHold }
 {}

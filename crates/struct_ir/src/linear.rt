@@ -7,7 +7,8 @@ ghost use Rattle.c_tree.specs.TypedViews.{literal_view};
 ghost use Rattle.struct_ir.specs.InstrViews.{instr_view};
 ghost use Rattle.struct_ir.specs.Lawful.{IsLawful};
 ghost use Rattle.struct_ir.specs.Valid.{has_params};
-ghost use Rattle.struct_ir.specs.Views.{global_view};
+ghost use Rattle.struct_ir.specs.ValidCode.{is_valid_code};
+ghost use Rattle.struct_ir.specs.Views.{object_view, global_view};
 ghost use Rattle.struct_ir.specs.Whole.{is_init_in, plain_bytes};
 
 use crate::code::{Calc, CallNode, IrGlobal, StackObject, StepNode};
@@ -46,7 +47,8 @@ pub enum InstrKind {
 }
 
 /// A function. By its type its instructions are lawful: jumps, tests and what is done lead to later
-/// ones, a round goes back from directly behind a safepoint, and the last one returns.
+/// ones, a round goes back from directly behind a safepoint, a call stands between two, no jump, test
+/// or round leads past the safepoint before a round or a call, and the last one returns.
 #[derive(Drop)]
 pub struct CodeFunc {
     /// How many parameters it has; these are its first registers.
@@ -63,8 +65,11 @@ pub struct CodeFunc {
     pub ghost is_lawful: { IsLawful (map instr_view instrs.items) } by { Prim.hlevel props },
 }
 
-/// Linear code of a program. By its type main is one of the functions and has no parameter, each
-/// literal that a global begins with is there, and globals and literals fit the plain area.
+/// Linear code of a program. By its type it is valid: each instruction names only registers, slots,
+/// stack objects, globals, literals and functions that are there, calls give as many arguments as
+/// their functions have parameters, and no list names a slot twice. Main is one of the functions and
+/// has no parameter, each literal that a global begins with is there, and globals and literals fit
+/// the plain area.
 #[derive(Drop)]
 pub struct Code {
     /// The globals, in order.
@@ -78,4 +83,5 @@ pub struct Code {
     pub ghost main_takes_nothing: { IsTrue (has_params (slice_get (map (λ f. f.params) funcs.items) main) 0) },
     pub ghost literals_are_there: { IsTrue (list_all (λ g. is_init_in (length (map literal_view literals.items)) g.init) (map global_view globals.items)) },
     pub ghost fits_the_plain_area: { plain_bytes (map global_view globals.items) (map literal_view literals.items) ≤ 1048576 },
+    pub ghost is_valid: { IsTrue (is_valid_code (record { globals = map global_view globals.items; literals = map literal_view literals.items; funcs = map (λ f. record { params = f.params; temps = f.temps; slots = f.slots; objects = map object_view f.objects.items; instrs = map instr_view f.instrs.items }) funcs.items; main = main })) },
 }

@@ -5,7 +5,7 @@ use Rattle.struct_ir.specs.Structured.{done, then_, structured}
 use Rattle.struct_ir.specs.Erased.{put, erased}
 use Rattle.pin_flow.specs.Marks.{State, unreached, good, bad, end_state, head_of, flow, flow_node}
 use Rattle.pin_flow.specs.Looks.{act_looks, act_assigns, some_act, Covered, Hoisted}
-use Rattle.pin_flow.specs.Held.{held}
+use Rattle.pin_flow.specs.Held.{held, HoistedThroughout}
 use Rattle.pin_flow.specs.Slots.{slot_if, bases_of, IsOwn, IsIn, AreApart}
 
 -- ---- first: a Look before each loop that has one and doesn't assign its register
@@ -155,6 +155,7 @@ pub record HoistIsRight (slot_of : ℕ → ℕ) (bs : List ℕ) (ns out : Nodes)
   pub looks : (b : ℕ) → some_act (act_looks b) out ≡ true → IsIn bs b
   pub covered : Covered structured (then_ ns done) → Covered structured (then_ out done)
   pub hoisted : Hoisted out
+  pub throughout : HoistedThroughout out
 
 -- ... whose Looks are of these registers
 abbrev pub HoistingIsRight : Type 0

@@ -3,7 +3,7 @@ use Rattle.std.specs.Prelude.{◌≡◌, not, ℕ, List, [], ◌∷◌, ◌++◌
 use Rattle.struct_ir.specs.Nodes.{Step, Act, set, call, step, look, safepoint, begin_object, end_object, may_wait, Node, plain, if_, loop, break_, next_, ret, Nodes, no_nodes, more_nodes, Func, Ir}
 use Rattle.struct_ir.specs.Structured.{done, then_, structured}
 use Rattle.struct_ir.specs.Pins.{PinSafe}
-use Rattle.struct_ir.specs.Erased.{put, erased}
+use Rattle.struct_ir.specs.Erased.{erased}
 use Rattle.struct_ir.specs.Valid.{are_placed}
 use Rattle.pin_flow.specs.Marks.{State, unreached, good, bad, end_state, head_of, flow, flow_node}
 use Rattle.pin_flow.specs.Looks.{some_act, Covered, PinsExact}
@@ -14,23 +14,23 @@ use Rattle.pin_flow.specs.Live.{uses, Live, lives, live_act, live, body_lives, l
 
 -- ---- first: safepoints before and after each call, and at the end of each step
 
--- a call
-abbrev pub act_is_call : Act → Bool
-act_is_call (set to calc) = false
-act_is_call (call c) = true
-act_is_call (step x) = false
-act_is_call (look slot base) = false
-act_is_call (safepoint slots) = false
-act_is_call (begin_object i) = false
-act_is_call (end_object i) = false
-
 -- a safepoint with an empty list, at this place in the text
 abbrev pub stop : (place : ℕ) → Node
 stop place = plain place (safepoint [])
 
--- the node, between safepoints if it is a call, and then the rest
+-- an act, a call between safepoints, and then the rest; a safepoint that stood there is left out
+abbrev pub act_seats : (place : ℕ) → Act → (rest : Nodes) → Nodes
+act_seats place (set to calc) rest = more_nodes (plain place (set to calc)) rest
+act_seats place (call c) rest = more_nodes (stop place) (more_nodes (plain place (call c)) (more_nodes (stop place) rest))
+act_seats place (step x) rest = more_nodes (plain place (step x)) rest
+act_seats place (look slot base) rest = more_nodes (plain place (look slot base)) rest
+act_seats place (safepoint slots) rest = rest
+act_seats place (begin_object i) rest = more_nodes (plain place (begin_object i)) rest
+act_seats place (end_object i) rest = more_nodes (plain place (end_object i)) rest
+
+-- the node, and then the rest
 abbrev pub seats : Node → (rest : Nodes) → Nodes
-seats (plain place a) rest = put (act_is_call a) (stop place) (more_nodes (plain place a) (put (act_is_call a) (stop place) rest))
+seats (plain place a) rest = act_seats place a rest
 seats (if_ place temp one other) rest = more_nodes (if_ place temp one other) rest
 seats (loop place body latch) rest = more_nodes (loop place body latch) rest
 seats (break_ place) rest = more_nodes (break_ place) rest

@@ -4,10 +4,10 @@ use Rattle.struct_ir.specs.Nodes.{Ir}
 use Rattle.struct_ir.specs.Erased.{ir_erased}
 use Rattle.struct_ir.specs.Valid.{is_valid}
 use Rattle.struct_ir.specs.WholeViews.{ir_view}
-use Rattle.pin_flow.specs.Funcs.{EveryFunc, IsCovered, IsHoisted}
+use Rattle.pin_flow.specs.Funcs.{EveryFunc, IsCovered, IsHoisted, IsHoistedThroughout}
 use Rattle.pin_flow.specs.Slots.{HasOwnSlots}
 use Rattle.hoist_pass.specs.inner.Hoist.{ir_hoisted}
-use Rattle.hoist_pass.proofs.Programs.{every_is, func_covered, func_slots, func_is_hoisted, whole_valid, whole_erased}
+use Rattle.hoist_pass.proofs.Programs.{every_is, func_covered, func_slots, func_is_hoisted, func_throughout, whole_valid, whole_erased}
 use Rattle.hoist_pass.proofs.hoisting.hoist_owned.Goals as goal
 
 pub returns-clause-valid : goal.returns-clause-valid
@@ -37,3 +37,9 @@ returns-clause-hoisted c =
     let ir = ir_view c.args.ir in
     let all : EveryFunc IsHoisted (ir_hoisted ir) = every_is HasOwnSlots IsCovered IsHoisted (λ f s k. func_is_hoisted f s) ir c.requires.slots c.requires.covered in
     IfOk-weaker c.hoist_all.result (λ x. ir_view x ≡ ir_hoisted ir) (λ x. EveryFunc IsHoisted (ir_view x)) (λ x e. subst (λ (y : Ir). EveryFunc IsHoisted y) (sym e) all) c.hoist_all.ensures
+
+pub returns-clause-throughout : goal.returns-clause-throughout
+returns-clause-throughout c =
+    let ir = ir_view c.args.ir in
+    let all : EveryFunc IsHoistedThroughout (ir_hoisted ir) = every_is HasOwnSlots IsCovered IsHoistedThroughout (λ f s k. func_throughout f s) ir c.requires.slots c.requires.covered in
+    IfOk-weaker c.hoist_all.result (λ x. ir_view x ≡ ir_hoisted ir) (λ x. EveryFunc IsHoistedThroughout (ir_view x)) (λ x e. subst (λ (y : Ir). EveryFunc IsHoistedThroughout y) (sym e) all) c.hoist_all.ensures

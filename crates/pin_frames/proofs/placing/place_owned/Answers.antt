@@ -3,12 +3,13 @@ use Rattle.std.proofs.lemmas.Result.{IfOk-weaker}
 use Rattle.std.specs.List.{list_all}
 use Rattle.struct_ir.specs.Nodes.{Ir, Func}
 use Rattle.struct_ir.specs.Erased.{ir_erased}
+use Rattle.struct_ir.specs.Placed.{all_due}
 use Rattle.struct_ir.specs.Valid.{is_valid, are_placed}
 use Rattle.struct_ir.specs.WholeViews.{ir_view}
-use Rattle.pin_flow.specs.Funcs.{AllPinSafe, EveryFunc, IsCovered, IsExact, IsPinSafe}
+use Rattle.pin_flow.specs.Funcs.{AllPinSafe, EveryFunc, IsCovered, IsExact, IsHoisted, IsHoistedThroughout, IsPinSafe}
 use Rattle.pin_flow.specs.Slots.{HasOwnSlots}
 use Rattle.pin_frames.specs.inner.Place.{ir_placed}
-use Rattle.pin_frames.proofs.Programs.{IsNamed, every_is, every_both, every_named, every_stands, func_exact, func_safe, func_slots, whole_erased, whole_valid}
+use Rattle.pin_frames.proofs.Programs.{IsNamed, every_is, every_both, every_named, every_stands, every_due, func_exact, func_hoisted, func_safe, func_slots, whole_erased, whole_valid}
 use Rattle.pin_frames.proofs.Starts.{each_start}
 use Rattle.pin_frames.proofs.placing.place_owned.Goals as goal
 
@@ -28,6 +29,17 @@ returns-clause-stand c =
     let ir = ir_view c.args.ir in
     IfOk-weaker c.place_all.result (λ x. ir_view x ≡ ir_placed ir) (λ x. list_all (λ f. are_placed None f.nodes) (ir_view x).funcs ≡ true)
     (λ x e. ap (λ (y : Ir). list_all (λ (f : Func). are_placed None f.nodes) y.funcs) e ∙ every_stands ir) c.place_all.ensures
+
+pub returns-clause-due : goal.returns-clause-due
+returns-clause-due c =
+    let ir = ir_view c.args.ir in
+    IfOk-weaker c.place_all.result (λ x. ir_view x ≡ ir_placed ir) (λ x. all_due (ir_view x) ≡ true) (λ x e. ap all_due e ∙ every_due ir) c.place_all.ensures
+
+pub returns-clause-hoisted : goal.returns-clause-hoisted
+returns-clause-hoisted c hoisted =
+    let ir = ir_view c.args.ir in
+    let all : EveryFunc IsHoisted (ir_placed ir) = every_is IsHoistedThroughout IsHoistedThroughout IsHoisted (λ f p q. func_hoisted f p) ir hoisted hoisted in
+    IfOk-weaker c.place_all.result (λ x. ir_view x ≡ ir_placed ir) (λ x. EveryFunc IsHoisted (ir_view x)) (λ x e. subst (λ (y : Ir). EveryFunc IsHoisted y) (sym e) all) c.place_all.ensures
 
 pub returns-clause-exact : goal.returns-clause-exact
 returns-clause-exact c =
