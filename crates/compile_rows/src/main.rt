@@ -8,7 +8,7 @@ ghost use Rattle.std.specs.Prelude.{◌≤◌, length};
 use ak_words::NoMemory;
 use c_lex::CompileFault;
 use c_reader::read;
-use compile_passes::{compile, prepare};
+use compile_passes::{Compiled, compile, prepare};
 use ir_lower::lower;
 use std::alloc::Global;
 use std::{fs, io};
@@ -47,7 +47,7 @@ fn emitted(alloc: Global, bytes: &[u8]) -> Result<Vec<u8>, CompileFault>
 {
     let reading = read(alloc, bytes)?;
     let ir = lower(alloc, &reading.typed).map_err(no_memory)?;
-    let code = compile(alloc, ir).map_err(no_memory)?;
+    let Compiled { code, .. } = compile(alloc, ir).map_err(no_memory)?;
     code_text(alloc, &code).map_err(no_memory)
 }
 

@@ -8,23 +8,23 @@ ghost use Rattle.struct_ir.specs.Instrs.{instr_count};
 ghost use Rattle.struct_ir.specs.Linear.{linear, entry_of};
 ghost use Rattle.struct_ir.specs.LinearViews.{code_view};
 ghost use Rattle.struct_ir.specs.Pins.{PinSafe};
-ghost use Rattle.struct_ir.specs.Structured.{structured};
+ghost use Rattle.struct_ir.specs.Structured.{structured, start_of};
 ghost use Rattle.struct_ir.specs.Valid.{is_valid};
 ghost use Rattle.struct_ir.specs.WholeViews.{ir_view};
 ghost use Rattle.emit_code.specs.Emitted.{nodes_count};
-ghost use Rattle.pin_flow.specs.Funcs.{EveryFunc, IsCovered, IsExact, IsHoisted, start_of};
+ghost use Rattle.pin_flow.specs.Funcs.{EveryFunc, IsCovered, IsExact, IsHoisted};
 ghost use Rattle.pin_flow.specs.Slots.{HasOwnSlots};
 
 use ak_words::NoMemory;
 use c_tree::typed::Typed;
-use compile_passes::compile;
+use compile_passes::{Compiled, compile};
 use emit_code::emit_code;
 use hoist_pass::hoist;
 use ir_lower::lower;
 use pin_frames::place;
 use std::alloc::Global;
 use struct_ir::linear::Code;
-use struct_ir::{Ir, erase, is_placed};
+use struct_ir::{Ir, erase, is_placed, is_valid};
 use translate_pass::insert;
 
 /// The code that the passes take, of a well formed program.
@@ -73,13 +73,13 @@ pub fn place_twice(alloc: Global, ir: &Ir) -> Result<Ir, NoMemory>
     place(alloc, &once)
 }
 
-/// The linear code, where safepoints stand as they should: what is safe stays so, and there are at most two instructions a node and
+/// The linear code, where the code is valid and safepoints stand as they should: what is safe stays so, and there are at most two instructions a node and
 /// one a function.
 pub fn emit_if_placed(alloc: Global, ir: &Ir) -> Result<Option<Code>, NoMemory>
     ensures safe { IfOk result (λ o. IfSome o (λ code. (f : ℕ) → PinSafe structured (start_of (ir_view ir.now).funcs f) → PinSafe (linear (code_view code).funcs) (entry_of f))) }
     ensures short { IfOk result (λ o. IfSome o (λ code. instr_count (code_view code).funcs ≤ 2 * nodes_count (ir_view ir.now).funcs + length (ir_view ir.now).funcs)) }
 {
-    if is_placed(ir) {
+    if is_placed(ir) && is_valid(ir) {
         Ok(Some(emit_code(alloc, ir)?))
     } else {
         Ok(None)
@@ -92,5 +92,6 @@ pub fn safe_code(alloc: Global, ir: Ir) -> Result<Code, NoMemory>
     requires bare { ir_erased (ir_view ir) ≡ ir_view ir }
     ensures { IfOk result (λ code. (f : ℕ) → PinSafe (linear (code_view code).funcs) (entry_of f)) }
 {
-    compile(alloc, ir)
+    let Compiled { code, .. } = compile(alloc, ir)?;
+    Ok(code)
 }
