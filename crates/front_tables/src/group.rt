@@ -16,7 +16,7 @@ pub struct Group<'a> {
 
 impl<'a> Group<'a> {
     /// A group with nothing set: its texts go through the types too, and stand alone.
-    pub fn new(heading: &'a str) -> Group<'a> {
+    pub(crate) fn new(heading: &'a str) -> Group<'a> {
         Group {
             heading,
             stage: Stage::Types,
@@ -28,7 +28,7 @@ impl<'a> Group<'a> {
     }
 
     /// Takes a setting: `refused REASON`, ``between BEFORE`BEHIND``, or else `grammar alone`.
-    pub fn set(&mut self, setting: &'a str) {
+    pub(crate) fn set(&mut self, setting: &'a str) {
         if let Some(reason) = setting.strip_prefix("refused ") {
             self.reason = reason;
         } else if let Some((before, behind)) = setting.split_once('`') {
@@ -40,12 +40,12 @@ impl<'a> Group<'a> {
     }
 
     /// Prints of how many texts it is so.
-    pub fn report(&self, rt: &HostRuntime) -> io::Result<()> {
+    pub(crate) fn report(&self, rt: &HostRuntime) -> io::Result<()> {
         println!(rt; "{}: {} texts as told", self.heading, self.texts)
     }
 
     /// Judges a row: its text once, or as often as its first words tell.
-    pub fn judge_row(&mut self, rt: &HostRuntime, row: &str) -> io::Result<()> {
+    pub(crate) fn judge_row(&mut self, rt: &HostRuntime, row: &str) -> io::Result<()> {
         if let Some(text) = row.strip_prefix("each front: ") {
             self.judge_each(rt, text, "@", false)
         } else if let Some(text) = row.strip_prefix("each gap: ") {
@@ -63,7 +63,7 @@ impl<'a> Group<'a> {
     }
 
     /// Judges a text with its repeated parts so many times, whose mark tells something or doesn't.
-    pub fn judge(
+    pub(crate) fn judge(
         &mut self,
         rt: &HostRuntime,
         row: &str,

@@ -32,7 +32,7 @@ fn judge(alloc: Global, text: &[u8], stage: Stage) -> Result<(), CompileFault>
 }
 
 /// Where a text is refused, and why, if it is.
-pub fn refusal_of(alloc: Global, text: &str, stage: Stage) -> io::Result<Option<Refusal>> {
+pub(crate) fn refusal_of(alloc: Global, text: &str, stage: Stage) -> io::Result<Option<Refusal>> {
     if text.len() > MOST_BYTES {
         return Err(io::Error::from(io::ErrorKind::InvalidData));
     }

@@ -10,7 +10,7 @@ pub struct Marked {
 
 impl Marked {
     /// A text of which nothing stands yet.
-    pub fn new(alloc: Global) -> Marked {
+    pub(crate) fn new(alloc: Global) -> Marked {
         Marked {
             text: String::new(alloc),
             place: None,
@@ -18,7 +18,7 @@ impl Marked {
     }
 
     /// Puts a part behind the text, in which `@` marks the place of what follows, and `¶` stands for the end of a line.
-    pub fn append(&mut self, part: &str) -> Result<(), AllocError> {
+    pub(crate) fn append(&mut self, part: &str) -> Result<(), AllocError> {
         for (index, piece) in part.split('@').enumerate() {
             if index > 0 {
                 self.place = Some(self.text.len());
@@ -34,7 +34,7 @@ impl Marked {
     }
 
     /// Puts a row behind the text: what stands between two backticks so many times, with the number of each time for `$`.
-    pub fn append_row(&mut self, row: &str, times: u32) -> Result<(), AllocError> {
+    pub(crate) fn append_row(&mut self, row: &str, times: u32) -> Result<(), AllocError> {
         for (index, part) in row.split('`').enumerate() {
             if index % 2 == 0 {
                 self.append(part)?;
