@@ -403,17 +403,33 @@ sized_target w d e o x t h p k =
 
 up_made : (w : World) (d : Context) (e : form.Context) → Over w d e → (place : ℕ) (t : Ty) (i : IntType) (p n : Expr) → Fine e p → Fine e n → type_of p ≡ pointer t → type_of n ≡ integer i → OnTyped (Made e) (moved_up d place t p n)
 up_made w d e o place t i p n h l hp ln = on_bind _ (Made e) (sized d place t) _ (on_unless place _ (has_size d.structs t))
-    (λ u k. (((h.0, l.0,
-      subst (λ x. MovesPointer e.structs x (type_of n) (pointer t)) (sym hp)
-          (subst (λ y. MovesPointer e.structs (pointer t) y (pointer t)) (sym ln) (subst (PointsToSized e.structs) hp (sized_target w d e o p t h hp k), refl))),
-      ready_target e p t h hp), tt))
+    (λ u k. (
+      (
+        (
+          h.0,
+          l.0,
+          subst (λ x. MovesPointer e.structs x (type_of n) (pointer t)) (sym hp)
+              (subst (λ y. MovesPointer e.structs (pointer t) y (pointer t)) (sym ln) (subst (PointsToSized e.structs) hp (sized_target w d e o p t h hp k), refl)),
+        ),
+        ready_target e p t h hp,
+      ),
+      tt,
+    ))
 
 up_from : (w : World) (d : Context) (e : form.Context) → Over w d e → (place : ℕ) (t : Ty) (i : IntType) (n p : Expr) → Fine e n → Fine e p → type_of p ≡ pointer t → type_of n ≡ integer i → OnTyped (Made e) (moved_up d place t n p)
 up_from w d e o place t i n p l h hp ln = on_bind _ (Made e) (sized d place t) _ (on_unless place _ (has_size d.structs t))
-    (λ u k. (((l.0, h.0,
-      subst (λ x. MovesPointer e.structs (type_of n) x (pointer t)) (sym hp)
-          (subst (λ y. MovesPointer e.structs y (pointer t) (pointer t)) (sym ln) (subst (PointsToSized e.structs) hp (sized_target w d e o p t h hp k), refl))),
-      ready_target e p t h hp), tt))
+    (λ u k. (
+      (
+        (
+          l.0,
+          h.0,
+          subst (λ x. MovesPointer e.structs (type_of n) x (pointer t)) (sym hp)
+              (subst (λ y. MovesPointer e.structs y (pointer t) (pointer t)) (sym ln) (subst (PointsToSized e.structs) hp (sized_target w d e o p t h hp k), refl)),
+        ),
+        ready_target e p t h hp,
+      ),
+      tt,
+    ))
 
 down_made : (w : World) (d : Context) (e : form.Context) → Over w d e → (place : ℕ) (t : Ty) (i : IntType) (p n : Expr) → Fine e p → Fine e n → type_of p ≡ pointer t → type_of n ≡ integer i → OnTyped (Made e) (moved_down d place t p n)
 down_made w d e o place t i p n h l hp ln = on_bind _ (Made e) (sized d place t) _ (on_unless place _ (has_size d.structs t))
