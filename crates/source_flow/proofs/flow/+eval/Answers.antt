@@ -31,9 +31,9 @@ expr-returns-in-Two t c =
     IfOk-weaker c.with_left.result _ _
     (λ g l. flows_two p locals blocks (expr_of e) a b e.place (type_view e.ty.value) c.in-Two.form op k left g
     (ap (λ n. tree.at e.place (type_view e.ty.value) (node_of n)) c.in-Two.is)
-    (search (rules, c.in_ok-op-in-Two.ensures, c.deref-in-Two.ensures, c.deref-in-Two-2.ensures, c.deref-in-Two-3.ensures))
-    (flows_at p locals blocks _ a _ _ left (ap expr_of c.deref-in-Two-4.ensures) refl c.in_ok-left-in-Two.ensures)
-    (subst (λ d. FlowsLeft p locals blocks e.place op d left k g) (ap expr_of c.deref-in-Two-5.ensures) l))
+    (search (rules, c.in_ok-op-in-Two.ensures, c.deref-in-Two.ensures, c.deref-in-Two-2.ensures, c.deref-in-Two-3.ensures, c.deref-in-Two-4.ensures))
+    (flows_at p locals blocks _ a _ _ left (ap expr_of c.deref-in-Two-5.ensures) refl c.in_ok-left-in-Two.ensures)
+    (subst (λ d. FlowsLeft p locals blocks e.place op d left k g) (ap expr_of c.deref-in-Two-6.ensures) l))
     c.with_left.ensures
 
 pub with_left-returns-in-Gives : goal.with_left-returns-in-Gives
