@@ -13,11 +13,11 @@ use Rattle.block_store.specs.declared.values.Ptr.TheVariants.{Null, To}
 use Rattle.block_store.specs.declared.values.Value.TheVariants as values
 use Rattle.block_store.specs.Blocks.{Block, Blocks, Spot, live, spot_in, read_at, loaded}
 use Rattle.block_store.specs.Cells.{has_unknown, read, number_of as number_of_cells}
-use Rattle.flat_store.specs.Flat.{first_address, byte_at, bytes_from}
+use Rattle.flat_store.specs.Flat.{first_address, byte_at, bytes_from, has_byte, first_outside}
 use Rattle.flat_store.specs.Word.{number_of}
 use Rattle.sub_heaps.specs.declared.objects.Object.{Object}
 use Rattle.alaska_run.specs.Meant.{address_of_offset}
-use Rattle.alaska_run.specs.Flat.{FlatMemory, address, has_byte, first_outside, load_by, load_word}
+use Rattle.alaska_run.specs.Flat.{FlatMemory, address, load_by, load_word}
 use Rattle.alaska_run.specs.Heap.{Heap}
 use Rattle.alaska_run.specs.Meaning.{Allocated, int_of, reached_in}
 use Rattle.alaska_run.specs.StandsFor.{Ids, AgreesWord, AgreesByte, StandsAt, StandsFor, SameMemory, ids_of}
@@ -96,7 +96,7 @@ no_outside bytes at (suc n) low high =
     rw (from, below) (no_outside bytes (at + 1) n (omega arith) (omega arith))
 
 -- of the four bytes of an int in a live block none is outside
-pub int_inside : (bytes : List ℕ) (at size offset : ℕ) → at + size ≤ length bytes → offset + 4 ≤ size → first_outside bytes (first_address + at + offset) ≡ None
+pub int_inside : (bytes : List ℕ) (at size offset : ℕ) → at + size ≤ length bytes → offset + 4 ≤ size → first_outside bytes (first_address + at + offset) 4 ≡ None
 int_inside bytes at size offset room within = no_outside bytes (first_address + at + offset) 4 (omega arith) (omega arith)
 
 -- the int there
@@ -131,6 +131,6 @@ int_loaded a m (To b offset) w v same agrees loads =
     let leads : address m w ≡ first_address + at + offset = address-handle a.blocks ids m same.stands b t.block at here w offset (agrees.1 (lives a.blocks b t.block t.lives)) (omega (arith, t.within)) in
     let inside = int_inside m.bytes at (length t.block.cells) offset (cells_room a.blocks ids m same.stands b t.block at here) t.within in
     let bits : number_of (bytes_from m.bytes (first_address + at + offset) 4) ≡ t.bits = int_alike a.blocks ids m same.stands b t.block at here offset t.bits t.within t.number in (
-      ap (λ n. load_by m.bytes n (first_outside m.bytes n)) leads ∙ ap (load_by m.bytes (first_address + at + offset)) inside ∙ ap (λ n. Ok (num int (pos n)).value) bits ∙ ap Ok t.value,
+      ap (λ n. load_by m.bytes n (first_outside m.bytes n 4)) leads ∙ ap (load_by m.bytes (first_address + at + offset)) inside ∙ ap (λ n. Ok (num int (pos n)).value) bits ∙ ap Ok t.value,
       ap (λ n. n ∷ []) leads ∙ place-reached a m same b t.block at offset t.lives here,
     )

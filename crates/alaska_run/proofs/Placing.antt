@@ -7,7 +7,7 @@ use Rattle.sub_heaps.specs.declared.objects.Object.{Object}
 use Rattle.sub_heaps.specs.ByPlace.{end_of}
 use Rattle.sub_heaps.specs.SubHeaps.{SubHeaps, IsApartFrom, FitsAt, IsLowestFit}
 use Rattle.alaska_run.specs.Heap.{is_apart, fits_at, lowest_place}
-use Rattle.alaska_run.proofs.Firsts.{find-first, find-none}
+use Rattle.flat_store.proofs.Firsts.{find-first, find-none}
 
 -- a number is at most another exactly where the test says so
 leb_decides : (a b : ℕ) → Decides (leb a b) (a ≤ b)

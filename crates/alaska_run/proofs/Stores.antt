@@ -16,12 +16,12 @@ use Rattle.block_store.specs.declared.values.Ptr.TheVariants.{Null, To}
 use Rattle.block_store.specs.declared.values.Value.TheVariants as values
 use Rattle.block_store.specs.Blocks.{Block, Blocks, Spot, live, is_heap, is_literal, spot_in, with_cells, written_at, stored}
 use Rattle.block_store.specs.Cells.{cells_of}
-use Rattle.flat_store.specs.Flat.{first_address, byte_at, with_bytes}
+use Rattle.flat_store.specs.Flat.{first_address, byte_at, with_bytes, first_outside}
 use Rattle.flat_store.specs.Word.{low_bytes}
 use Rattle.sub_heaps.specs.declared.objects.Object.{Object}
 use Rattle.sub_heaps.specs.SubHeaps.{rounded}
 use Rattle.alaska_run.specs.Meant.{address_of_offset}
-use Rattle.alaska_run.specs.Flat.{FlatMemory, address, first_outside, store_by, store_word}
+use Rattle.alaska_run.specs.Flat.{FlatMemory, address, store_by, store_word}
 use Rattle.alaska_run.specs.Heap.{Heap}
 use Rattle.alaska_run.specs.Meaning.{Allocated, with_blocks, reached_in}
 use Rattle.alaska_run.specs.StandsFor.{Ids, AgreesWord, AgreesByte, StandsAt, StandsFor, SameMemory, ids_of}
@@ -220,7 +220,7 @@ stored_to a m b offset w v same agrees block is within =
     let inside = int_inside m.bytes at (length block.cells) offset (cells_room a.blocks ids m same.stands b block at here) within in
     record {
       after = written_memory m (first_address + at + offset) (int_bytes v);
-      stored = ap (λ n. store_by m n v (first_outside m.bytes n)) leads ∙ ap (store_by m (first_address + at + offset) v) inside;
+      stored = ap (λ n. store_by m n v (first_outside m.bytes n 4)) leads ∙ ap (store_by m (first_address + at + offset) v) inside;
       place = ap (λ n. n ∷ []) leads ∙ place-reached a m same b block at offset is here;
       same = SameMemory-written a m same b block is at here offset (int_bytes v) within;
       keeps = AgreesWord-carried a.blocks ids (set a.blocks b (Some (written_block block offset (int_bytes v)))) ids (Carries-set a.blocks ids b block (written_block block offset (int_bytes v)) is);

@@ -1,6 +1,5 @@
 -- The memory of the machine: bytes at addresses, a heap behind handles, and pointers that are words.
-use Rattle.std.specs.Prelude.{ℕ, ℤ, pos, ◌+◌, ◌*◌, ◌*ℤ◌, Bool, ◌&&◌, ◌==◌, not, nat_lt, nat_le, List, [], ◌∷◌, length, replicate, unwrap_or, Option, Some, None, Result, Ok, Err, if◌then◌else◌}
-use Rattle.std.specs.List.{find, range_with_len}
+use Rattle.std.specs.Prelude.{ℕ, ℤ, pos, ◌*◌, ◌*ℤ◌, ◌==◌, List, [], ◌∷◌, replicate, unwrap_or, Option, Some, None, Result, Ok, Err, if◌then◌else◌}
 use Rattle.ak_words.specs.declared.operation.Op.{Op}
 use Rattle.ak_words.specs.IntType.{int, long}
 use Rattle.ak_words.specs.Num.{num}
@@ -8,7 +7,7 @@ use Rattle.ak_words.specs.Op.{wrapped_result}
 use Rattle.ak_words.specs.Wrapped.{bit_pattern, wrapped_value}
 use Rattle.handle_words.specs.Handle.{added}
 use Rattle.handle_table.specs.Table.{translated}
-use Rattle.flat_store.specs.Flat.{first_address, bytes_from, with_bytes}
+use Rattle.flat_store.specs.Flat.{first_outside, bytes_from, with_bytes}
 use Rattle.flat_store.specs.Word.{number_of, low_bytes}
 use Rattle.second_language.specs.Trees.{File}
 use Rattle.alaska_run.specs.declared.status.TrapKind.TheVariants.{Load, Store, Free}
@@ -21,14 +20,6 @@ use Rattle.alaska_run.specs.Heap.{Heap, empty_heap, sub_heap_count, sub_heap_siz
 pub record FlatMemory : Type 0 where
   pub heap : Heap
   pub bytes : List ℕ
-
--- there is a byte at an address
-abbrev pub has_byte : List ℕ → ℕ → Bool
-has_byte bytes address = nat_le first_address address && nat_lt address (first_address + length bytes)
-
--- of the four addresses from one on, the first that has no byte
-abbrev pub first_outside : List ℕ → ℕ → Option ℕ
-first_outside bytes at = find (λ address. not (has_byte bytes address)) (range_with_len at 4)
 
 -- the int that four bytes are
 abbrev pub int_at : List ℕ → ℕ → ℤ
@@ -83,11 +74,11 @@ word_further w n = added w (distance n)
 
 -- a load through a word
 abbrev pub load_word : FlatMemory → ℕ → Result ℤ Trap
-load_word m w = load_by m.bytes (address m w) (first_outside m.bytes (address m w))
+load_word m w = load_by m.bytes (address m w) (first_outside m.bytes (address m w) 4)
 
 -- a store through a word
 abbrev pub store_word : FlatMemory → ℕ → ℤ → Result FlatMemory Trap
-store_word m w v = store_by m (address m w) v (first_outside m.bytes (address m w))
+store_word m w v = store_by m (address m w) v (first_outside m.bytes (address m w) 4)
 
 -- malloc of so many bytes
 abbrev pub malloc_word : FlatMemory → ℕ → ℕ × FlatMemory

@@ -18,7 +18,7 @@ use Rattle.c_meaning.specs.Control as control
 use Rattle.c_meaning.specs.Control.{Control, Variable, Wait, Point, Caller, Callee, wanted, dropped}
 use Rattle.c_meaning.specs.Library.{action_of, value_of_call}
 use Rattle.c_meaning.specs.Values as reads
-use Rattle.c_meaning.specs.Values.{access_of_type, truth_of, int_of, Unary, Binary}
+use Rattle.c_meaning.specs.Values.{access_of_type, element_size, truth_of, int_of, Unary, Binary}
 use Rattle.c_meaning.specs.Turns.{Here, Now, Does, WayOfUse, Way, on_ok, plainly, stays, on_done, acts, after_call, variable_at, begins_in, enters, calls_library, calls, result_of_call, number_in, returns_to, leaves_call, without_blocks, pointer_in, read_way, only_way, second_way, first_way, second_test_way, is_same, first_test_way, choice_way, argument_way, reads_variable, finds_variable, literal_block, size_of_elements, run, run_node, run_place, run_place_node, run_arguments}
 use Rattle.block_meaning.specs.Counts.{in_row, reached, reached_by, Fits, FitsUse, FitsWait, FitsPoint, FitsCallers, FitsControl, HasFewDeclarations}
 use Rattle.block_meaning.proofs.Small.{Small, small_acted, without_blocks_length}
@@ -231,7 +231,7 @@ mutual
   run_node_makes n h f place ty (tree.choose c a b) w g x =
       run_makes n h f c (choice_way (tree.place_of c) a b (run h a) (run h b) w) (choice_makes n (tree.place_of c) a b (run h a) (run h b) w (run_makes n h f a) (run_makes n h f b) g) x
   run_node_makes n h f place ty (tree.pointer_add p q) w g x =
-      run_makes n h f p (first_way place (reads.forward (size_of_elements h p)) q (run h q) w) (first_makes n place (reads.forward (size_of_elements h p)) q (run h q) w (run_makes n h f q) g) x
+      run_makes n h f p (first_way place (reads.forward (element_size h.typed.structs ty)) q (run h q) w) (first_makes n place (reads.forward (element_size h.typed.structs ty)) q (run h q) w (run_makes n h f q) g) x
   run_node_makes n h f place ty (tree.pointer_sub p q) w g x =
       run_makes n h f p (first_way place (reads.backward (size_of_elements h p)) q (run h q) w) (first_makes n place (reads.backward (size_of_elements h p)) q (run h q) w (run_makes n h f q) g) x
   run_node_makes n h f place ty (tree.pointer_diff p q) w g x =

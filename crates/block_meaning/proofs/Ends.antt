@@ -121,7 +121,7 @@ pub last_returned : (p : SharedProgram) (function thread : ℕ) (own own' : Own)
     → callers_of own.callers ≡ [] → number ≡ number_in value → done_of d (world_of new) ≡ actions.acted (world_of w) thread answers.Plain (actions.finish number)
     → turn_of outcomes.Ended own' new ≡ returns_to (here_at p function (rest_of thread answers.Plain own)) value (world_of w) (callers_of own.callers)
 last_returned p function thread own own' value number w new d none is_number done =
-    rw none (ap ended (went_only d (world_of new) (actions.staged (world_of w) thread (actions.returned (actions.result_of (number_in value)))) None (done ∙ ap (λ n. actions.acted (world_of w) thread answers.Plain (actions.finish n)) is_number)))
+    rw none (ap ended (went_only d (world_of new) (actions.with_reached (actions.staged (world_of w) thread (actions.returned (actions.result_of (number_in value)))) []) None (done ∙ ap (λ n. actions.acted (world_of w) thread answers.Plain (actions.finish n)) is_number)))
 
 pub caller_returned : (p : SharedProgram) (function thread : ℕ) (own : Own) (value : Option Value) (w : World) (caller : control.Caller) (callers : List control.Caller) (at : control.Point)
     → callers_of own.callers ≡ caller ∷ callers → at ≡ turns.after_call caller.wait value

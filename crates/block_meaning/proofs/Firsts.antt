@@ -13,10 +13,10 @@ use Rattle.block_store.specs.declared.values.Ptr.TheVariants.{Null, To}
 use Rattle.block_store.specs.declared.values.Value.{Value}
 use Rattle.block_store.specs.declared.values.Value.TheVariants as values
 use Rattle.block_store.specs.declared.values.BlockKind.TheVariants as kinds
-use Rattle.block_store.specs.Blocks.{Block, Blocks, live, range_in, stored, with_cells, made, store_after}
+use Rattle.block_store.specs.Blocks.{Block, Blocks, live, range_in, stored, with_cells, made, literal_block, store_after}
 use Rattle.block_store.specs.Cells.{size_of, access_of, cells_of}
 use Rattle.c_tree.specs.TypedViews.{global_view, layout_view, literal_view}
-use Rattle.c_meaning.specs.Meaning.{literal_block, first_blocks}
+use Rattle.c_meaning.specs.Meaning.{first_blocks}
 use Rattle.source_tree.specs.declared.tree.SharedProgram.{SharedProgram}
 use Rattle.source_tree.specs.SharedViews.{program_of}
 use Rattle.block_meaning.specs.Running.{global_in}

@@ -30,7 +30,7 @@ use Rattle.source_walk.specs.Walks.{Finishes, GivesTo}
 use Rattle.source_walk.proofs.Names.{name_todo}
 use Rattle.kept_store.specs.Kept.{Kept}
 use Rattle.shared_world.specs.declared.world.World.{World}
-use Rattle.shared_world.specs.Worlds.{world_of, thread_of}
+use Rattle.shared_world.specs.Worlds.{world_of, thread_of, reached_of}
 use Rattle.block_meaning.specs.declared.thread.At.{At}
 use Rattle.block_meaning.specs.declared.thread.At.TheVariants as ats
 use Rattle.block_meaning.specs.declared.thread.Own.{Own}
@@ -88,9 +88,9 @@ pub own_back : (own mid own' : Own) (locals : KeptLocals) → own' ≡ mid → m
     → ◌≡◌ {A = control.Control} (record { function = own'.function; locals = locals.now; point = point_of_at own'.at; callers = callers_of own'.callers }) (control_of own)
 own_back own mid own' locals e f a k l n = rw (n, e, f, a, k, l) refl
 
-pub world_back : (w there new : World) (store : Kept) → new ≡ there → there.output ≡ w.output → there.threads ≡ w.threads → there.store.kept ≡ w.store.now → store.now ≡ new.store.kept
-    → ◌≡◌ {A = actions.World} (record { blocks = store.now; output = new.output.items; threads = map thread_of new.threads.items }) (world_of w)
-world_back w there new store e f a k n = rw (n, e, f, a, k) refl
+pub world_back : (w there new : World) (store : Kept) → new ≡ there → there.output ≡ w.output → there.threads ≡ w.threads → there.reached ≡ w.reached → there.store.kept ≡ w.store.now → store.now ≡ new.store.kept
+    → ◌≡◌ {A = actions.World} (record { blocks = store.now; output = new.output.items; threads = map thread_of new.threads.items; reached = map reached_of new.reached.items }) (world_of w)
+world_back w there new store e f a r k n = rw (n, e, f, a, r, k) refl
 
 -- where a call ended without the value that is used
 pub reach_lacks : (p : SharedProgram) (at : At) (place function : ℕ) (locals : List control.Variable) (blocks : Blocks) → at ≡ ats.Lacks place → Reaches p at function locals blocks locals blocks (pendings.Broke C15 place)
@@ -103,10 +103,10 @@ abbrev pub mid_own : Own → KeptLocals → Own
 mid_own own locals = record { function = own.function; locals = locals; at = own.at; callers = own.callers }
 
 abbrev pub mid_world : World → Kept → World
-mid_world w store = record { store = store; output = w.output; threads = w.threads }
+mid_world w store = record { store = store; output = w.output; threads = w.threads; reached = w.reached }
 
 -- both are led back
 pub stays_back : (own own' : Own) (w new : World) (mid locals : KeptLocals) (there store : Kept) → (own' ≡ mid_own own mid) × (new ≡ mid_world w there) → mid.kept ≡ own.locals.now → there.kept ≡ w.store.now → locals.now ≡ own'.locals.kept → store.now ≡ new.store.kept
-    → (◌≡◌ {A = control.Control} (record { function = own'.function; locals = locals.now; point = point_of_at own'.at; callers = callers_of own'.callers }) (control_of own)) × (◌≡◌ {A = actions.World} (record { blocks = store.now; output = new.output.items; threads = map thread_of new.threads.items }) (world_of w))
+    → (◌≡◌ {A = control.Control} (record { function = own'.function; locals = locals.now; point = point_of_at own'.at; callers = callers_of own'.callers }) (control_of own)) × (◌≡◌ {A = actions.World} (record { blocks = store.now; output = new.output.items; threads = map thread_of new.threads.items; reached = map reached_of new.reached.items }) (world_of w))
 stays_back own own' w new mid locals there store same l k n m =
-    (own_back own (mid_own own mid) own' locals same.0 refl refl refl l n, world_back w (mid_world w there) new store same.1 refl refl k m)
+    (own_back own (mid_own own mid) own' locals same.0 refl refl refl l n, world_back w (mid_world w there) new store same.1 refl refl refl k m)

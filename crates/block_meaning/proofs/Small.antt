@@ -1,5 +1,5 @@
 -- An action makes at most one block.
-use Rattle.std.proofs.Common.{◌≡◌, ◌≤◌, ◌+◌, ◌==◌, ℕ, Bool, true, false, List, [], ◌∷◌, length, replicate, Option, Some, None, Ok, Err, ℤ, refl, ap, ◌∙◌, arith}
+use Rattle.std.proofs.Common.{◌≡◌, ◌≤◌, ◌+◌, ◌==◌, ℕ, Bool, true, false, List, [], ◌∷◌, ◌++◌, length, replicate, Option, Some, None, Ok, Err, ℤ, refl, ap, ◌∙◌, arith}
 use Rattle.std.specs.Prelude.{Result, pos, if◌then◌else◌, ◌^◌, nat_lt, slice_get}
 use Rattle.std.proofs.lemmas.List.{length-set, length_push}
 use Rattle.ak_words.specs.declared.rule.Rule.{Rule}
@@ -155,30 +155,42 @@ small_under b answers.Plain o p q r = p
 small_under b answers.Got o p q r = q
 small_under b answers.None o p q r = r
 
--- any action
-pub small_acted : (w : World) (thread : ℕ) (answer : Answer) (action : Action) → Small (length w.blocks) (actions.acted w thread answer action)
-small_acted w thread answer (actions.load at how) = small_under (length w.blocks) answer (actions.outcomes w thread (actions.load at how)) (small_gives w (loaded w.blocks at how)) tt tt
-small_acted w thread answer (actions.store at v) = small_under (length w.blocks) answer (actions.outcomes w thread (actions.store at v)) (small_changes w (stored w.blocks at v) (stored_keeps w.blocks at v)) tt tt
-small_acted w thread answer (actions.copy to from n align same) =
+-- what comes of any action
+small_outcome : (w : World) (thread : ℕ) (answer : Answer) (action : Action) → Small (length w.blocks) (actions.under answer (actions.outcomes w thread action))
+small_outcome w thread answer (actions.load at how) = small_under (length w.blocks) answer (actions.outcomes w thread (actions.load at how)) (small_gives w (loaded w.blocks at how)) tt tt
+small_outcome w thread answer (actions.store at v) = small_under (length w.blocks) answer (actions.outcomes w thread (actions.store at v)) (small_changes w (stored w.blocks at v) (stored_keeps w.blocks at v)) tt tt
+small_outcome w thread answer (actions.copy to from n align same) =
     small_under (length w.blocks) answer (actions.outcomes w thread (actions.copy to from n align same)) (small_changes w (copied w.blocks to from n align same) (copied_keeps w.blocks to from n align same)) tt tt
-small_acted w thread answer (actions.allocate size first) =
+small_outcome w thread answer (actions.allocate size first) =
     let same : length w.blocks ≤ length w.blocks + 1 = omega arith in
     small_under (length w.blocks) answer (actions.outcomes w thread (actions.allocate size first)) tt (small_allocated w size first) same
-small_acted w thread answer (actions.free at) = small_under (length w.blocks) answer (actions.outcomes w thread (actions.free at)) (small_changes w (freed w.blocks at) (freed_keeps w.blocks at)) tt tt
-small_acted w thread answer (actions.print parts) = small_under (length w.blocks) answer (actions.outcomes w thread (actions.print parts)) (small_prints w (actions.all_bytes w.blocks parts)) tt tt
-small_acted w thread answer (actions.lock at) =
+small_outcome w thread answer (actions.free at) = small_under (length w.blocks) answer (actions.outcomes w thread (actions.free at)) (small_changes w (freed w.blocks at) (freed_keeps w.blocks at)) tt tt
+small_outcome w thread answer (actions.print parts) = small_under (length w.blocks) answer (actions.outcomes w thread (actions.print parts)) (small_prints w (actions.all_bytes w.blocks parts)) tt tt
+small_outcome w thread answer (actions.lock at) =
     small_under (length w.blocks) answer (actions.outcomes w thread (actions.lock at)) (small_changes_or_waits w (locked w.blocks at thread) (lock_by_keeps w.blocks thread (mutex_at w.blocks at))) tt tt
-small_acted w thread answer (actions.unlock at) =
+small_outcome w thread answer (actions.unlock at) =
     small_under (length w.blocks) answer (actions.outcomes w thread (actions.unlock at)) (small_changes w (unlocked w.blocks at thread) (unlock_by_keeps w.blocks thread (mutex_at w.blocks at))) tt tt
-small_acted w thread answer (actions.destroy at) = small_under (length w.blocks) answer (actions.outcomes w thread (actions.destroy at)) (small_passes w (destroyed w.blocks at)) tt tt
-small_acted w thread answer (actions.start to function argument) =
+small_outcome w thread answer (actions.destroy at) = small_under (length w.blocks) answer (actions.outcomes w thread (actions.destroy at)) (small_passes w (destroyed w.blocks at)) tt tt
+small_outcome w thread answer (actions.start to function argument) =
     let same : length w.blocks ≤ length w.blocks + 1 = omega arith in
     small_under (length w.blocks) answer (actions.outcomes w thread (actions.start to function argument)) tt (small_starts w function argument (stored w.blocks to (actions.next_number w)) (stored_keeps w.blocks to (actions.next_number w))) same
-small_acted w thread answer (actions.join number to) =
+small_outcome w thread answer (actions.join number to) =
     small_under (length w.blocks) answer (actions.outcomes w thread (actions.join number to)) (small_if (length w.blocks) (thread == number) (actions.broke C14) (actions.joins_if w number to (slice_get w.threads number)) tt (small_joins_if w number to (slice_get w.threads number))) tt tt
-small_acted w thread answer (actions.finish value) =
+small_outcome w thread answer (actions.finish value) =
     let same : length w.blocks ≤ length w.blocks + 1 = omega arith in
     small_under (length w.blocks) answer (actions.outcomes w thread (actions.finish value)) (small_staged (length w.blocks) None w thread (actions.returned (actions.result_of value)) same) tt tt
+
+-- what was reached makes no block
+small_telling : (b : ℕ) (reached : List actions.Reached) (d : Done) → Small b d → Small b (actions.telling reached d)
+small_telling b reached (actions.went v w) small = small
+small_telling b reached actions.blocked small = tt
+small_telling b reached actions.unfit small = tt
+small_telling b reached (actions.broke rule) small = tt
+
+-- any action
+pub small_acted : (w : World) (thread : ℕ) (answer : Answer) (action : Action) → Small (length w.blocks) (actions.acted w thread answer action)
+small_acted w thread answer action =
+    small_telling (length w.blocks) (actions.reads_of w action ++ actions.writes_of answer action) (actions.under answer (actions.outcomes w thread action)) (small_outcome w thread answer action)
 
 -- ---- locals that end
 

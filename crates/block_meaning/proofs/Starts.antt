@@ -10,10 +10,11 @@ use Rattle.c_meaning.specs.Control.{Control}
 use Rattle.c_meaning.specs.Meaning.{program, start, begins_if, first_blocks}
 use Rattle.source_tree.specs.declared.tree.SharedProgram.{SharedProgram}
 use Rattle.source_tree.specs.SharedViews.{program_of}
+use Rattle.shared_world.specs.declared.world.Reached.{Reached}
 use Rattle.shared_world.specs.declared.world.Stage.TheVariants as stages
 use Rattle.shared_world.specs.declared.world.Thread.{Thread}
 use Rattle.shared_world.specs.declared.world.World.{World}
-use Rattle.shared_world.specs.Worlds.{thread_of}
+use Rattle.shared_world.specs.Worlds.{thread_of, reached_of}
 use Rattle.block_meaning.specs.declared.running.Turned.{Turned}
 use Rattle.block_meaning.specs.declared.thread.Outcome.{Outcome}
 use Rattle.block_meaning.specs.declared.thread.Own.{Own}
@@ -21,19 +22,19 @@ use Rattle.block_meaning.specs.Threads.{control_of, owns_of, turn_of}
 use Rattle.block_meaning.specs.Running.{answered, owns_behind}
 use Rattle.block_meaning.proofs.Picks.{state_of}
 
-world_begins : (p : SharedProgram) (blocks : Blocks) (output : List ℕ) (threads : List Thread) → blocks ≡ first_blocks (program_of p) → output ≡ [] → threads ≡ record { function = p.main; argument = Null; stage = stages.Running } ∷ []
-    → ◌≡◌ {A = actions.World} (record { blocks = blocks; output = output; threads = map thread_of threads }) (start (program_of p))
-world_begins p blocks output threads e f g = rw (e, f, g) refl
+world_begins : (p : SharedProgram) (blocks : Blocks) (output : List ℕ) (threads : List Thread) (reached : List Reached) → blocks ≡ first_blocks (program_of p) → output ≡ [] → threads ≡ record { function = p.main; argument = Null; stage = stages.Running } ∷ [] → reached ≡ []
+    → ◌≡◌ {A = actions.World} (record { blocks = blocks; output = output; threads = map thread_of threads; reached = map reached_of reached }) (start (program_of p))
+world_begins p blocks output threads reached e f g h = rw (e, f, g, h) refl
 
-pub run_begins : (typed : tree.Typed) (p : SharedProgram) (own : Own) (owns : List (Option Own)) (blocks : Blocks) (output : List ℕ) (threads : List Thread)
+pub run_begins : (typed : tree.Typed) (p : SharedProgram) (own : Own) (owns : List (Option Own)) (blocks : Blocks) (output : List ℕ) (threads : List Thread) (reached : List Reached)
     → program_of p ≡ typed → control_of own ≡ begins_if p.main Null (slice_get (program_of p).funcs p.main) → owns ≡ Some own ∷ []
-    → blocks ≡ first_blocks (program_of p) → output ≡ [] → threads ≡ record { function = p.main; argument = Null; stage = stages.Running } ∷ []
-    → ◌≡◌ {A = State Control} (record { world = record { blocks = blocks; output = output; threads = map thread_of threads }; own = owns_of owns }) (first_state (program typed) (start typed))
-run_begins typed p own owns blocks output threads e b o f g h =
-    let w : actions.World = record { blocks = blocks; output = output; threads = map thread_of threads } in
+    → blocks ≡ first_blocks (program_of p) → output ≡ [] → threads ≡ record { function = p.main; argument = Null; stage = stages.Running } ∷ [] → reached ≡ []
+    → ◌≡◌ {A = State Control} (record { world = record { blocks = blocks; output = output; threads = map thread_of threads; reached = map reached_of reached }; own = owns_of owns }) (first_state (program typed) (start typed))
+run_begins typed p own owns blocks output threads reached e b o f g h r =
+    let w : actions.World = record { blocks = blocks; output = output; threads = map thread_of threads; reached = map reached_of reached } in
     ap (λ (l : List (Option Own)). state_of w (owns_of l)) o
     ∙ ap (λ (c : Control). state_of w (Some c ∷ [])) b
-    ∙ ap (λ (x : actions.World). state_of x (Some (begins_if p.main Null (slice_get (program_of p).funcs p.main)) ∷ [])) (world_begins p blocks output threads f g h)
+    ∙ ap (λ (x : actions.World). state_of x (Some (begins_if p.main Null (slice_get (program_of p).funcs p.main)) ∷ [])) (world_begins p blocks output threads reached f g h r)
     ∙ ap (λ (t : tree.Typed). first_state (program t) (start t)) e
 
 -- what comes of a turn, by its outcome

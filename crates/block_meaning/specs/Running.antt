@@ -2,14 +2,13 @@
 use Rattle.std.specs.Prelude.{ℕ, ◌==◌, Bool, if◌then◌else◌, List, ◌++◌, length, set, slice_get, Option, Some, None, ℤ}
 use Rattle.ak_words.specs.IntType.{int}
 use Rattle.ak_words.specs.Wrapped.{wrapped_value}
-use Rattle.block_store.specs.declared.values.BlockKind.TheVariants as kinds
 use Rattle.block_store.specs.Actions as actions
-use Rattle.block_store.specs.Blocks.{Block}
+use Rattle.block_store.specs.Blocks.{Block, global_block}
 use Rattle.block_store.specs.Runs as runs
 use Rattle.c_tree.specs.Typed as tree
 use Rattle.c_tree.specs.TypedLayout.{size_in}
 use Rattle.c_meaning.specs.Control.{Control}
-use Rattle.c_meaning.specs.Meaning.{program, first_cells}
+use Rattle.c_meaning.specs.Meaning.{program, first_value}
 use Rattle.source_tree.specs.SharedViews.{program_of}
 use Rattle.shared_world.specs.declared.world.World.{World}
 use Rattle.shared_world.specs.Worlds.{world_of}
@@ -91,4 +90,4 @@ owns_behind typed thread (outcomes.Broke rule place) own w all = set all thread 
 
 -- the block of a global at the start, where there are so many globals, and structs of these layouts
 abbrev pub global_in : List tree.Layout → (globals : ℕ) → tree.GlobalVar → Option Block
-global_in structs globals g = Some (record { kind = kinds.Global; cells = first_cells globals (size_in structs g.ty) g.init })
+global_in structs globals g = global_block (size_in structs g.ty) (first_value globals g.init)

@@ -3,9 +3,9 @@
 ghost use Rattle.std.specs.Prelude.{◌≡◌, ◌++◌, ◌∷◌, [], IfOk, OnOk, length, map, Some};
 ghost use Rattle.block_store.specs.declared.values.BlockKind.TheVariants as kinds;
 ghost use Rattle.block_store.specs.declared.values.Cell.TheVariants as cells;
-ghost use Rattle.block_store.specs.Blocks.{made};
+ghost use Rattle.block_store.specs.Blocks.{made, literal_block};
 ghost use Rattle.block_store.specs.Cells.{cells_of};
-ghost use Rattle.c_meaning.specs.Meaning.{first_blocks, literal_block};
+ghost use Rattle.c_meaning.specs.Meaning.{first_blocks};
 ghost use Rattle.c_tree.specs.TypedViews.{global_view, literal_view, layout_view};
 ghost use Rattle.source_tree.specs.SharedViews.{program_of};
 ghost use Rattle.block_meaning.specs.Running.{global_in};

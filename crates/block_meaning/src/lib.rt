@@ -14,3 +14,4 @@ mod turn;
 
 pub use block_store::Answer;
 pub use running::{SourceRun, Turned};
+pub use shared_world::Reached;

@@ -1,12 +1,13 @@
 //! A run of a program, turn by turn.
 
-ghost use Rattle.std.specs.Prelude.{◌≡◌, ℕ, true, false, Some, IfOk, OnOk, IsSome, length};
+ghost use Rattle.std.specs.Prelude.{◌≡◌, ℕ, true, false, Some, IfOk, OnOk, IsSome, length, map};
 ghost use Rattle.std.specs.Option.{is_some};
 ghost use Rattle.std.specs.Result.{is_err};
 ghost use Rattle.block_store.specs.Runs.{first_state, picked};
 ghost use Rattle.block_store.specs.declared.values.Answer.{Answer};
 ghost use Rattle.c_tree.specs.TypedViews.{typed_view};
 ghost use Rattle.c_meaning.specs.Meaning.{program, start};
+ghost use Rattle.shared_world.specs.Worlds.{reached_of};
 ghost use Rattle.block_meaning.specs.Counts.{HasFewDeclarations, MakesFew, ReachesFew};
 ghost use Rattle.block_meaning.specs.Running.{running_of, answered_if, left_by, ended_with};
 
@@ -18,7 +19,7 @@ use ak_words::{NoMemory, Rule};
 use block_store::{Answer, Ptr};
 use c_tree::typed::Typed;
 use kept_store::KeptStore;
-use shared_world::{Stage, Thread, World};
+use shared_world::{Reached, Stage, Thread, World};
 use source_tree::share;
 use source_tree::tree::SharedProgram;
 use std::alloc::Global;
@@ -76,6 +77,7 @@ impl SourceRun {
                 store: KeptStore::new(alloc, store),
                 output: Vec::new(alloc),
                 threads: made,
+                reached: Vec::new(alloc),
             },
             threads,
             out_of_memory: false,
@@ -87,6 +89,13 @@ impl SourceRun {
         ensures { result.now ≡ (running_of self.now).state.world.output }
     {
         &self.world.output
+    }
+
+    /// What the last action reached that was done, in order; nothing before the first.
+    pub fn reached(&self) -> &[Reached]
+        ensures { map reached_of result.now ≡ (running_of self.now).state.world.reached }
+    {
+        &self.world.reached
     }
 
     /// How many blocks were made: globals, literals, locals in memory and allocations.

@@ -3,7 +3,7 @@ ghost use Rattle.std.specs.FinSet as set;
 ghost use Rattle.std.specs.Option.{option_map};
 ghost use Rattle.handle_words.specs.Handle.{id_of};
 ghost use Rattle.handle_table.specs.Table.{translated};
-ghost use Rattle.flat_store.specs.Flat.{first_address, HasBytes, IsFirstOutside, IsFirstOutsideOfBoth, bytes_from, with_bytes};
+ghost use Rattle.flat_store.specs.Flat.{first_address, HasBytes, first_outside, first_outside_of_both, bytes_from, with_bytes};
 ghost use Rattle.flat_store.specs.Word.{is_word_size, low_bytes};
 ghost use Rattle.sub_heaps.specs.SubHeaps.{IsShape};
 ghost use Rattle.move_plan.specs.Holding.{is_pinned};
@@ -153,7 +153,7 @@ impl Arena {
         requires { IsTrue (is_word_size n) }
         ensures within { IsOk result ↔ HasBytes self.old.bytes at n }
         ensures stored { OnOk result (self.new ≡ record self.old { bytes = with_bytes self.old.bytes at (low_bytes n v) }) }
-        ensures outside { IfErr result (λ e. IsFirstOutside self.old.bytes at n e.0) }
+        ensures outside { IfErr result (λ e. first_outside self.old.bytes at n ≡ Some e.0) }
         ensures unchanged { OnErr result (self.new ≡ self.old) }
         ensures consistent { IsConsistent self.new }
     {
@@ -164,7 +164,7 @@ impl Arena {
     pub fn copy(&mut self, to: u64, from: u64, n: u64) -> Result<(), OutsideFlat>
         ensures within { IsOk result ↔ (HasBytes self.old.bytes to n × HasBytes self.old.bytes from n) }
         ensures copied { OnOk result (self.new ≡ record self.old { bytes = with_bytes self.old.bytes to (bytes_from self.old.bytes from n) }) }
-        ensures outside { IfErr result (λ e. IsFirstOutsideOfBoth self.old.bytes to from n e.0) }
+        ensures outside { IfErr result (λ e. first_outside_of_both self.old.bytes to from n ≡ Some e.0) }
         ensures unchanged { OnErr result (self.new ≡ self.old) }
         ensures consistent { IsConsistent self.new }
     {

@@ -1,5 +1,6 @@
 -- Bytes at addresses: which addresses have one, the bytes of an access, and the bytes with some of them written over.
-use Rattle.std.specs.Prelude.{◌≡◌, ◌≢◌, ℕ, ◌+◌, ◌-◌, ◌<◌, ◌≤◌, ◌⊎◌, List, ◌++◌, length, take, drop, slice_index}
+use Rattle.std.specs.Prelude.{◌≡◌, ◌≢◌, ℕ, ◌+◌, ◌-◌, ◌<◌, ◌≤◌, nat_le, nat_lt, ◌⊎◌, Bool, ◌&&◌, not, List, ◌++◌, length, take, drop, slice_index, Option, Some, None}
+use Rattle.std.specs.List.{find, range_with_len}
 
 -- the address of the first byte
 abbrev pub first_address : ℕ
@@ -17,15 +18,28 @@ byte_at bytes address = slice_index bytes (address - first_address)
 abbrev pub HasBytes : List ℕ → (at n : ℕ) → Type 0
 HasBytes bytes at n = (k : ℕ) → k < n → HasByte bytes (at + k)
 
--- of the n addresses from `at` on, this is the first that has no byte
+-- the same as a test
+abbrev pub has_byte : List ℕ → ℕ → Bool
+has_byte bytes address = nat_le first_address address && nat_lt address (first_address + length bytes)
+
+-- of the n addresses from `at` on, the first that has no byte, if there is one
+abbrev pub first_outside : List ℕ → (at n : ℕ) → Option ℕ
+first_outside bytes at n = find (λ address. not (has_byte bytes address)) (range_with_len at n)
+
+-- an address, or else that of the second
+abbrev pub first_of : Option ℕ → Option ℕ → Option ℕ
+first_of (Some address) second = Some address
+first_of None second = second
+
+-- of the n addresses from `to` on, and then of those from `from` on, the first that has no byte
+abbrev pub first_outside_of_both : List ℕ → (to from n : ℕ) → Option ℕ
+first_outside_of_both bytes to from n = first_of (first_outside bytes to n) (first_outside bytes from n)
+
+-- what the first such address is: it is one of the n addresses from `at` on, each before it has a byte, and it has none
 pub record IsFirstOutside (bytes : List ℕ) (at n address : ℕ) : Type 0 where
   pub reached : (at ≤ address) × (address < at + n)
   pub before : HasBytes bytes at (address - at)
   pub outside : ¬ HasByte bytes address
-
--- of the n addresses from `to` on, and then of those from `from` on, this is the first that has no byte
-abbrev pub IsFirstOutsideOfBoth : List ℕ → (to from n address : ℕ) → Type 0
-IsFirstOutsideOfBoth bytes to from n address = IsFirstOutside bytes to n address ⊎ (HasBytes bytes to n × IsFirstOutside bytes from n address)
 
 -- the n bytes from an address on
 abbrev pub bytes_from : List ℕ → (at n : ℕ) → List ℕ

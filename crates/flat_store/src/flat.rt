@@ -1,5 +1,5 @@
-ghost use Rattle.std.specs.Prelude.{◌≡◌, ◌≢◌, ℕ, ◌+◌, ◌-◌, ◌*◌, ◌^◌, ◌%◌, ◌<◌, ◌≤◌, ◌↔◌, length, slice_index, replicate, IsTrue, IsOk, OnOk, OnErr, IfOk, IfErr, IfSome, IfNone};
-ghost use Rattle.flat_store.specs.Flat.{first_address, HasBytes, IsFirstOutside, IsFirstOutsideOfBoth, bytes_from, with_bytes, ChangesOnly, IsTextLen, HasNoZero};
+ghost use Rattle.std.specs.Prelude.{◌≡◌, Some, ◌≢◌, ℕ, ◌+◌, ◌-◌, ◌*◌, ◌^◌, ◌%◌, ◌<◌, ◌≤◌, ◌↔◌, length, slice_index, replicate, IsTrue, IsOk, OnOk, OnErr, IfOk, IfErr, IfSome, IfNone};
+ghost use Rattle.flat_store.specs.Flat.{first_address, HasBytes, IsFirstOutside, first_outside, first_outside_of_both, bytes_from, with_bytes, ChangesOnly, IsTextLen, HasNoZero};
 ghost use Rattle.flat_store.specs.Word.{is_word_size, number_of, low_bytes};
 
 use crate::outside::OutsideFlat;
@@ -45,7 +45,7 @@ impl Flat {
         ensures within { IsOk result ↔ HasBytes self.now at n }
         ensures value { IfOk result (λ v. v ≡ number_of (bytes_from self.now at n)) }
         ensures fits { IfOk result (λ v. v < 256 ^ n) }
-        ensures outside { IfErr result (λ e. IsFirstOutside self.now at n e.0) }
+        ensures outside { IfErr result (λ e. first_outside self.now at n ≡ Some e.0) }
     {
         let start = index_of(&self.bytes, at, u64::from(n))?;
         Ok(number_from(&self.bytes[start..start + usize::from(n)]))
@@ -59,7 +59,7 @@ impl Flat {
         ensures stored { OnOk result (self.new ≡ with_bytes self.old at (low_bytes n v)) }
         ensures others { OnOk result (ChangesOnly self.old self.new at n) }
         ensures read_back { OnOk result (number_of (bytes_from self.new at n) ≡ v % 256 ^ n) }
-        ensures outside { IfErr result (λ e. IsFirstOutside self.old at n e.0) }
+        ensures outside { IfErr result (λ e. first_outside self.old at n ≡ Some e.0) }
         ensures unchanged { OnErr result (self.new ≡ self.old) }
     {
         let start = index_of(&self.bytes, at, u64::from(n))?;
@@ -77,7 +77,7 @@ impl Flat {
         ensures copied { OnOk result (self.new ≡ with_bytes self.old to (bytes_from self.old from n)) }
         ensures there { OnOk result (bytes_from self.new to n ≡ bytes_from self.old from n) }
         ensures others { OnOk result (ChangesOnly self.old self.new to n) }
-        ensures outside { IfErr result (λ e. IsFirstOutsideOfBoth self.old to from n e.0) }
+        ensures outside { IfErr result (λ e. first_outside_of_both self.old to from n ≡ Some e.0) }
         ensures unchanged { OnErr result (self.new ≡ self.old) }
     {
         if n == 0 {
@@ -96,7 +96,7 @@ impl Flat {
         // No two of these hold at once, so each answer comes exactly where its own does.
         ensures ended { IfOk result (λ text. IfSome text (λ len. (len ≤ most) × IsTextLen self.now at len)) }
         ensures longer { IfOk result (λ text. IfNone text (HasNoZero self.now at (most + 1))) }
-        ensures outside { IfErr result (λ e. IsFirstOutside self.now at (most + 1) e.0 × HasNoZero self.now at (e.0 - at)) }
+        ensures outside { IfErr result (λ e. (first_outside self.now at (most + 1) ≡ Some e.0) × HasNoZero self.now at (e.0 - at)) }
     {
         let start = index_of(&self.bytes, at, 1)?;
         let left = self.bytes.len() - start;

@@ -4,7 +4,9 @@
 #![tactic(auto)]
 
 mod flat;
+mod laws;
 mod outside;
 
 pub use flat::{FIRST_ADDRESS, Flat};
+pub use laws::first_outside_is_the_least;
 pub use outside::OutsideFlat;

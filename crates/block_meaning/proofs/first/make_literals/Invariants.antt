@@ -1,6 +1,6 @@
 use Rattle.std.proofs.Common.{◌≡◌, ◌++◌, drop, map}
 use Rattle.c_tree.specs.TypedViews.{literal_view}
-use Rattle.c_meaning.specs.Meaning.{literal_block}
+use Rattle.block_store.specs.Blocks.{literal_block}
 use Rattle.block_meaning.proofs.first.make_literals.Given as goal
 
 abbrev pub invariant-literals : goal.invariant-literals

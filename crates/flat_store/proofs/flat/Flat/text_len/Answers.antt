@@ -1,5 +1,6 @@
-use Rattle.std.proofs.Common.{◌≡◌, ℕ, ◌+◌, ◌-◌, ◌<◌, ◌≤◌, List, length, get_or, take, drop, ◌∙◌, subst, arith}
-use Rattle.flat_store.specs.Flat.{HasNoZero, IsTextLen, IsFirstOutside}
+use Rattle.std.proofs.Common.{◌≡◌, ℕ, ◌+◌, ◌-◌, ◌<◌, ◌≤◌, List, length, get_or, take, drop, Some, ◌∙◌, subst, arith}
+use Rattle.flat_store.specs.Flat.{HasNoZero, IsTextLen, first_outside}
+use Rattle.flat_store.proofs.Firsts.{outside_is}
 use Rattle.flat_store.proofs.Texts.{length-read, HasNoZero-read, IsTextLen-read, IsFirstOutside-end}
 use Rattle.flat_store.proofs.flat.Flat.text_len.Goals as goal
 
@@ -34,6 +35,6 @@ returns-in-None-2-clause-outside c =
     let text = HasNoZero-read xs c.args.at start m (c.args.at + c.min-reached.result - c.args.at) c.in_ok-start.ensures.index within (omega arith) none in
     let now = c.deref-2.ensures.value ∙ c.self.view_is in
     let outside = IsFirstOutside-end xs c.args.at (c.args.most + 1) c.min-reached.result (omega (arith, c.in_ok-start.ensures.index)) (omega (arith, c.in_ok-start.ensures.index, c.in_ok-start.ensures.within, c.deref.ensures.len, c.deref-2.ensures.len, c.len.ensures, c.min-reached.ensures, c.saturating_add.ensures)) (omega arith) in (
-      subst (λ (bytes : List ℕ). IsFirstOutside bytes c.args.at (c.args.most + 1) (c.args.at + c.min-reached.result)) now outside,
+      subst (λ (bytes : List ℕ). first_outside bytes c.args.at (c.args.most + 1) ≡ Some (c.args.at + c.min-reached.result)) now (outside_is xs c.args.at (c.args.most + 1) (c.args.at + c.min-reached.result) outside),
       subst (λ (bytes : List ℕ). HasNoZero bytes c.args.at (c.args.at + c.min-reached.result - c.args.at)) now text,
     )
