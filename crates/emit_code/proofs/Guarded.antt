@@ -1,5 +1,5 @@
 -- A row begins with no call, and with no end of a round: where control comes to it from elsewhere, no safepoint is passed by.
-use Rattle.std.proofs.Common.{◌≡◌, ℕ, ◌+◌, List, [], Option, Some, None, Bool, true, false, ◌&&◌, ◌⊎◌, inl, inr, refl, sym, ap, subst}
+use Rattle.std.proofs.Common.{◌≡◌, ℕ, ◌+◌, List, Option, Some, None, true, false, ◌&&◌, ◌⊎◌, inl, inr, refl, sym, ap, subst}
 use Rattle.std.specs.Prelude.{slice_get, is_some}
 use Rattle.struct_ir.specs.Nodes.{set, call, step, look, safepoint, begin_object, end_object, plain, if_, loop, break_, next_, ret, Nodes, no_nodes, more_nodes}
 use Rattle.struct_ir.specs.Valid.{last_list, are_placed}

@@ -1,11 +1,11 @@
 -- The linear code of valid code is valid.
-use Rattle.std.proofs.Common.{◌≡◌, ℕ, ◌+◌, List, [], ◌∷◌, ◌++◌, length, map, None, Bool, true, false, ◌&&◌, if◌then◌else◌, refl, ap, subst, sym, ◌∙◌}
+use Rattle.std.proofs.Common.{◌≡◌, ℕ, ◌+◌, List, [], ◌∷◌, ◌++◌, length, map, None, Bool, true, false, ◌&&◌, if◌then◌else◌, refl, ap, subst, sym}
 use Rattle.std.proofs.lemmas.Bool.{and_parts, and_from}
 use Rattle.std.specs.Prelude.{nat_lt}
 use Rattle.std.specs.List.{list_all}
 use Rattle.struct_ir.specs.Nodes.{Act, Node, plain, if_, loop, break_, next_, ret, Nodes, no_nodes, more_nodes, Func, Ir}
 use Rattle.struct_ir.specs.Valid.{Scope, Around, body_of, latch_of, outside, is_act, is_node, are_nodes, scope_of, is_valid}
-use Rattle.struct_ir.specs.Instrs.{Instr, acts, unless, jump, round_to, leave}
+use Rattle.struct_ir.specs.Instrs.{Instr, acts, jump, round_to, leave}
 use Rattle.struct_ir.specs.ValidCode.{code_scope_of, is_instr, is_valid_code}
 use Rattle.struct_ir.specs.Marks.{is_mark}
 use Rattle.emit_code.specs.inner.Layout.{node_long, long, emit_node, emit, code_of, func_linear, linear_of}

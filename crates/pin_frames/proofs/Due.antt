@@ -5,7 +5,7 @@ use Rattle.struct_ir.specs.Nodes.{Act, set, call, step, look, safepoint, begin_o
 use Rattle.struct_ir.specs.Placed.{node_is_call, begins_with_call, is_end, act_is_due, node_is_due, are_due}
 use Rattle.pin_flow.specs.Marks.{State}
 use Rattle.pin_flow.specs.Live.{Live, body_lives, latch_lives}
-use Rattle.pin_frames.specs.inner.Place.{stop, seated, act_listing, list_for, heads, turns, on_states, rest_lives, listed, listed_in}
+use Rattle.pin_frames.specs.inner.Place.{stop, seated, act_listing, heads, turns, on_states, rest_lives, listed, listed_in}
 
 -- ---- of the row with its safepoints
 

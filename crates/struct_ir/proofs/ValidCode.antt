@@ -3,12 +3,12 @@ use Rattle.std.proofs.Common.{◌≡◌, ℕ, zero, suc, List, [], ◌∷◌, Op
 use Rattle.std.proofs.lemmas.Bool.{and_parts}
 use Rattle.std.specs.Prelude.{slice_get, nat_lt}
 use Rattle.std.specs.List.{list_all}
-use Rattle.struct_ir.specs.Nodes.{Node, plain, if_, loop, break_, next_, ret, Nodes, no_nodes, more_nodes}
+use Rattle.struct_ir.specs.Nodes.{Node, plain, if_, loop, break_, next_, ret, no_nodes, more_nodes}
 use Rattle.struct_ir.specs.Flow.{Path, entry, on}
 use Rattle.struct_ir.specs.Structured.{Position, done, then_, in_body, in_latch, out_of, end_of, kind, leads, here, next, structured}
-use Rattle.struct_ir.specs.Instrs.{Instr, acts, unless, jump, round_to, leave, LinearFunc, LinearCode, instrs_if, instrs_of}
+use Rattle.struct_ir.specs.Instrs.{Instr, acts, unless, jump, round_to, leave, LinearFunc, instrs_if, instrs_of}
 use Rattle.struct_ir.specs.Linear.{Spot, instr_here, linear, entry_of}
-use Rattle.struct_ir.specs.Valid.{Scope, Around, body_of, latch_of, outside, is_act, is_node, are_nodes, scope_of}
+use Rattle.struct_ir.specs.Valid.{Scope, Around, body_of, latch_of, outside, is_node, are_nodes, scope_of}
 use Rattle.struct_ir.specs.ValidCode.{is_instr, code_scope_of, is_here, ValidIsReached, ValidCodeIsReached}
 
 -- ---- structured code

@@ -1,6 +1,6 @@
 -- Which linear code is valid: the numbers of each instruction are in range. Where jumps and rounds lead, lawful code says; how many
 -- registers and how much of a stack a thread may take are limits of the machine, which end a run and refuse no code.
-use Rattle.std.specs.Prelude.{◌≡◌, ℕ, Bool, true, ◌&&◌, nat_lt, List, length, map, Some, slice_get}
+use Rattle.std.specs.Prelude.{◌≡◌, ℕ, Bool, true, nat_lt, List, length, map, Some, slice_get}
 use Rattle.std.specs.List.{list_all}
 use Rattle.struct_ir.specs.Nodes.{Func, Ir}
 use Rattle.struct_ir.specs.Flow.{Here, does, tests, passes, round, returns, Path}

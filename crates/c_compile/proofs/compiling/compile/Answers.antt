@@ -1,0 +1,24 @@
+use Rattle.std.proofs.Common.{ap, ◌∙◌}
+use Rattle.c_tree.specs.TypedViews.{typed_view}
+use Rattle.c_meaning.specs.Meaning.{start}
+use Rattle.struct_ir.specs.Valid.{is_valid}
+use Rattle.pin_checker.specs.CheckedViews.{code_of}
+use Rattle.c_compile.proofs.compiling.compile.Goals as goal
+
+pub returns-in-Ok-clause-built : goal.returns-in-Ok-clause-built
+returns-in-Ok-clause-built c =
+    let t = typed_view c.in_ok-reading.reading.typed in
+    let formed = c.in_ok-reading.ensures.well_formed in
+    let made = c.in-Ok.ensures in
+    let ready = code_of c.in-Ok.field-0.checked in
+    record {
+      tree = record { tokens = c.in_ok-reading.reading.tokens.items; read = c.in_ok-reading.ensures.found; well_formed = formed };
+      prepared = made.prepared;
+      erased_valid = ap is_valid made.prepared.erased ∙ (c.lowered_code_is_sound.ensures t formed).valid;
+      turns = λ order. c.code_with_looks_keeps_every_turn.ensures.turns t formed ready made.prepared.erased order;
+      erased_turns = λ order. c.code_with_looks_keeps_every_turn.ensures.erased ready (start t) order ∙ c.code_with_looks_keeps_every_turn.ensures.turns t formed ready made.prepared.erased order;
+      emitted = made.emitted;
+      valid = c.keeps_valid.ensures;
+      lawful = c.keeps_lawful.ensures;
+      safe = made.safe;
+    }

@@ -1,0 +1,7 @@
+//! Texts that are compiled in one call, a text that is refused, and a caller that takes apart what the contract says.
+//! Promises nothing upward: it is tests alone, which see just the public call.
+//! Stands on c_compile, and on the law of c_reader that no text is both read and refused.
+#![tactic(auto)]
+
+#[cfg(test)]
+mod tests;
