@@ -1,12 +1,9 @@
 -- What a text of the subset is compiled to.
 use Rattle.std.specs.Prelude.{◌≡◌, ℕ, List, true}
-use Rattle.block_store.specs.Runs.{Pick}
-use Rattle.block_store.specs.Runs as runs
 use Rattle.c_lex.specs.declared.token.Token.{Token}
 use Rattle.c_tree.specs.Typed.{Typed}
 use Rattle.c_tree.specs.TypedForm.{IsWellFormed}
 use Rattle.c_reader.specs.Reading.{IsRead}
-use Rattle.c_meaning.specs.Meaning.{start, shown}
 use Rattle.struct_ir.specs.Nodes.{Ir}
 use Rattle.struct_ir.specs.Erased.{ir_erased}
 use Rattle.struct_ir.specs.Instrs.{LinearCode}
@@ -15,8 +12,8 @@ use Rattle.struct_ir.specs.Linear.{linear, entry_of}
 use Rattle.struct_ir.specs.Pins.{PinSafe}
 use Rattle.struct_ir.specs.Valid.{is_valid}
 use Rattle.struct_ir.specs.ValidCode.{is_valid_code}
-use Rattle.ir_meaning.specs.Threads.{program_of}
 use Rattle.lower_forms.specs.Programs.{lowered}
+use Rattle.lower_turns.specs.Turns.{KeepsEveryTurn}
 use Rattle.emit_code.specs.Emitted.{IsEmitted}
 use Rattle.compile_passes.specs.Compiled.{IsPrepared}
 
@@ -26,11 +23,6 @@ pub record IsTreeOf (text : List ℕ) (typed : Typed) : Type 0 where
   pub read : IsRead text tokens typed
   pub well_formed : IsWellFormed typed
 
--- under every order of the threads' turns and every answer, code shows what the typed tree shows: how each turn went and the world after
--- it, and which rule of C a turn breaks, and where
-abbrev pub KeepsEveryTurn : Typed → Ir → Type 0
-KeepsEveryTurn typed code = (order : List Pick) → runs.shown (program_of code) (start typed) order ≡ shown typed order
-
 -- typed is the text's tree; checked is the code that this tree is lowered to, with its Looks, safepoints, slots and lists; code is the
 -- machine's
 pub record IsBuilt (text : List ℕ) (typed : Typed) (checked : Ir) (code : LinearCode) : Type 0 where
@@ -39,7 +31,8 @@ pub record IsBuilt (text : List ℕ) (typed : Typed) (checked : Ir) (code : Line
   pub prepared : IsPrepared (lowered typed) checked
   -- ... which is valid
   pub erased_valid : is_valid (ir_erased checked) ≡ true
-  -- it keeps every turn of the tree, with its Looks, safepoints, slots and lists and without them
+  -- it keeps every turn of the tree, with its Looks, safepoints, slots and lists and without them: under every order of the threads' turns
+  -- and every answer it shows how each turn goes, the world after it, and which rule of C a turn breaks, and where
   pub turns : KeepsEveryTurn typed checked
   pub erased_turns : KeepsEveryTurn typed (ir_erased checked)
   -- the machine's code does the same act by act, test by test, round by round, call by call, and has the same registers, slots and objects

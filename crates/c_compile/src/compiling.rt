@@ -44,7 +44,7 @@ pub fn compile(alloc: Global, text: &[u8]) -> Result<Built, CompileFault>
     ensures refused { IfRefused result (λ r. Refuses text.now r) }
 {
     lower_forms::laws::lowered_code_is_sound();
-    lower_turns::laws::code_with_looks_keeps_every_turn();
+    lower_turns::laws::code_keeps_every_turn();
     let reading = read(alloc, text)?;
     match compiled(alloc, &reading.typed) {
         Ok(Compiled { checked, code }) => {

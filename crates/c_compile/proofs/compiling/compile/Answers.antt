@@ -1,6 +1,6 @@
 use Rattle.std.proofs.Common.{ap, ◌∙◌}
 use Rattle.c_tree.specs.TypedViews.{typed_view}
-use Rattle.c_meaning.specs.Meaning.{start}
+use Rattle.struct_ir.specs.Erased.{ir_erased}
 use Rattle.struct_ir.specs.Valid.{is_valid}
 use Rattle.pin_checker.specs.CheckedViews.{code_of}
 use Rattle.c_compile.proofs.compiling.compile.Goals as goal
@@ -15,8 +15,8 @@ returns-in-Ok-clause-built c =
       tree = record { tokens = c.in_ok-reading.reading.tokens.items; read = c.in_ok-reading.ensures.found; well_formed = formed };
       prepared = made.prepared;
       erased_valid = ap is_valid made.prepared.erased ∙ (c.lowered_code_is_sound.ensures t formed).valid;
-      turns = λ order. c.code_with_looks_keeps_every_turn.ensures.turns t formed ready made.prepared.erased order;
-      erased_turns = λ order. c.code_with_looks_keeps_every_turn.ensures.erased ready (start t) order ∙ c.code_with_looks_keeps_every_turn.ensures.turns t formed ready made.prepared.erased order;
+      turns = c.code_keeps_every_turn.ensures.turns t formed ready made.prepared.erased;
+      erased_turns = c.code_keeps_every_turn.ensures.turns t formed (ir_erased ready) (ap ir_erased made.prepared.erased ∙ (c.lowered_code_is_sound.ensures t formed).bare);
       emitted = made.emitted;
       valid = c.keeps_valid.ensures;
       lawful = c.keeps_lawful.ensures;
