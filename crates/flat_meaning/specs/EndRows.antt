@@ -1,6 +1,6 @@
 -- Small codes whose run ends before main returns, worked out by hand: by an address without a byte, by a free of what isn't live, or by
 -- a limit.
-use Rattle.std.specs.Prelude.{◌≡◌, ℕ, List, [], ◌∷◌, codes, true, false, Bool, Some, None}
+use Rattle.std.specs.Prelude.{◌≡◌, ℕ, List, [], ◌∷◌, codes, true, false, Bool, None}
 use Rattle.ak_words.specs.declared.rule.Rule.TheVariants.{C5, C10}
 use Rattle.block_store.specs.declared.values.Answer.TheVariants.{Plain, Got}
 use Rattle.c_tree.specs.Typed.{bytes, text}
@@ -9,11 +9,11 @@ use Rattle.struct_ir.specs.Instrs.{LinearCode}
 use Rattle.ir_meaning.specs.Rows.{broke}
 use Rattle.flat_meaning.specs.declared.endings.End.TheVariants as ends
 use Rattle.flat_meaning.specs.declared.endings.TrapKind.TheVariants as kinds
-use Rattle.flat_meaning.specs.Image.{Image, structured_image, linear_image}
+use Rattle.flat_meaning.specs.Image.{structured_image, linear_image}
 use Rattle.flat_meaning.specs.Stages.{starts, can_go}
 use Rattle.flat_meaning.specs.Events.{Event}
 use Rattle.flat_meaning.specs.SmallCodes.{row, instrs, small, counting_up, through_null, freed_twice, read_when_freed, read_past_the_end, unended_text, null_text}
-use Rattle.flat_meaning.specs.Rows.{go, looks, steps, gets, print_events, Seen, seen, structured_seen, linear_seen, turns, source_seen, cut}
+use Rattle.flat_meaning.specs.Rows.{go, looks, steps, gets, print_events, seen, structured_seen, linear_seen, turns, source_seen, cut}
 
 -- ---- addresses
 

@@ -1,6 +1,6 @@
 -- What the machine keeps: whatever is chosen, and whatever moves, its state stands for the source's after the same turns, until one of
 -- them breaks a rule of C. EventsFollowTurns and BarriersKeepObjects are stated here; proved with the simulation.
-use Rattle.std.specs.Prelude.{◌≡◌, ◌≢◌, ℕ, ◌≤◌, ◌^◌, List, [], ◌++◌, All, length, slice_get, true, Option, Some, None}
+use Rattle.std.specs.Prelude.{◌≡◌, ◌≢◌, ℕ, ◌≤◌, ◌^◌, List, ◌++◌, All, length, slice_get, true, Option, Some, None}
 use Rattle.block_store.specs.declared.values.Answer.{Answer}
 use Rattle.block_store.specs.Runs as runs
 use Rattle.block_store.specs.Runs.{Pick, Run, reaches, breaks, no_run, own_at, picked}
@@ -21,10 +21,10 @@ use Rattle.flat_meaning.specs.declared.endings.End.{End}
 use Rattle.flat_meaning.specs.declared.endings.End.TheVariants as ends
 use Rattle.flat_meaning.specs.Image.{limits_for, Layout, Image, structured_image, plain_size}
 use Rattle.flat_meaning.specs.Accesses.{Choice}
-use Rattle.flat_meaning.specs.Stages.{Stage, steps, thread_at, before}
+use Rattle.flat_meaning.specs.Stages.{Stage, steps, thread_at}
 use Rattle.flat_meaning.specs.Events.{State, Serve, Event, act, barrier, after, after_all, first_state}
 use Rattle.flat_meaning.specs.Order.{order_of, picks_of, tried_by}
-use Rattle.flat_meaning.specs.Allowed.{pinned, IsAllowed, AreAllowed}
+use Rattle.flat_meaning.specs.Allowed.{StandsBefore, pinned, IsAllowed, AreAllowed}
 use Rattle.flat_meaning.specs.Names.{Name}
 use Rattle.flat_meaning.specs.Stands.{StandsFor}
 use Rattle.flat_meaning.specs.Start.{AreMadeBy}
@@ -49,7 +49,7 @@ IsTrap end = ⊥
 -- thread, its turn waits, or breaks a rule; and where it traps, its turn breaks one
 pub record StepsFollow (x : Image Position) (p : Ir) (names : List Name) (u : runs.State (Thread Position Own)) (s : State Position) : Type 0 where
   pub reaches : (thread : ℕ) (choice : Choice) (t : Thread Position Own) (stage : Stage Position) → own_at u.own thread ≡ Some t → own_at s.own thread ≡ Some stage
-      → IsAllowed x s (act thread choice) → before x (thread_at x stage) ≡ steps
+      → IsAllowed x s (act thread choice) → StandsBefore x (own_at s.own thread) steps
       → All (λ (k : Pick). Unbroken (picked (program_of p) u k) → StepReaches x p names u s.memory k t (thread_at x stage)) (turns_at x s (act thread choice))
   pub waits : (thread : ℕ) (choice : Choice) → IsAllowed x s (act thread choice) → (after x s (act thread choice)).end ≡ None → AllComeOut p u Waits (tried_by x s (act thread choice))
   pub traps : (thread : ℕ) (choice : Choice) → IsAllowed x s (act thread choice) → IsTrap (after x s (act thread choice)).end → AllComeOut p u Broken (tried_by x s (act thread choice))

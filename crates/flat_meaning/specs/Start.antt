@@ -1,5 +1,5 @@
 -- The world in which structured code begins over blocks, and the names of its blocks; and the names that events make.
-use Rattle.std.specs.Prelude.{◌≡◌, ℕ, ◌+◌, List, [], ◌∷◌, ◌++◌, length, map, Option, Some}
+use Rattle.std.specs.Prelude.{◌≡◌, ℕ, ◌+◌, List, [], ◌∷◌, ◌++◌}
 use Rattle.ak_words.specs.Prefix.{IsPrefix}
 use Rattle.struct_ir.specs.Nodes.{Global}
 use Rattle.flat_meaning.specs.Image.{Layout, Image, global_address, literal_address}
