@@ -76,8 +76,8 @@ EachTurnTakesAnAnswer p =
     → (thread : ℕ) (main own : Thread Position Own) → own_at u.own 0 ≡ Some main → own_at u.own thread ≡ Some own
     → (answer : Answer) × ((program_of p).turn thread answer own u.world ≢ runs.unfit)
 
--- what is asked of a program: it is valid; on every path each access goes through its base's slot, which no list since lacks; no turn of
--- it goes wrong, as of each program that keeps every turn of a text; and its plain data is small
+-- what is asked of a program: it is valid; on every path each access goes through its base's slot, which no list since lacks; each turn
+-- takes some answer, as it does in code that keeps every turn of a well formed program; and its plain data is small
 pub record IsChecked (p : Ir) : Type 0 where
   pub valid : is_valid p ≡ true
   pub safe : (function : ℕ) → PinSafe structured (code_of p function)
