@@ -1,5 +1,5 @@
 -- The code of expressions is valid and bare.
-use Rattle.std.proofs.Common.{◌≡◌, ℕ, zero, suc, ◌+◌, ◌<◌, ◌≤◌, Bool, true, false, not, if◌then◌else◌, List, [], ◌∷◌, length, map, Option, Some, None, refl, ap, sym, ◌∙◌, ◌==◌, ◌&&◌, count_by, arith}
+use Rattle.std.proofs.Common.{◌≡◌, ℕ, zero, suc, ◌+◌, ◌<◌, ◌≤◌, Bool, true, false, not, if◌then◌else◌, List, [], ◌∷◌, length, map, Option, Some, None, ◌⊎◌, inl, inr, refl, ap, sym, subst, ◌∙◌, ◌==◌, ◌&&◌, count_by, arith}
 use Rattle.std.proofs.lemmas.List.Sums.{sum_by-cons}
 use mathlib.Core.Bool.{cond}
 use Rattle.std.proofs.lemmas.Bool.{and_from}
@@ -13,11 +13,35 @@ use Rattle.c_meaning.specs.Values.{element_size}
 use Rattle.struct_ir.specs.Nodes.{Calc, Place, Action, Step, Nodes, no_nodes, more_nodes, plain, if_, loop, break_, next_, ret, set, call, step, begin_object, end_object}
 use Rattle.struct_ir.specs.Nodes as ir
 use Rattle.struct_ir.specs.Lists.{bare_place}
-use Rattle.struct_ir.specs.Valid.{Scope, Around, is_below_if, are_below, is_calc, is_place, has_params}
+use Rattle.struct_ir.specs.Valid.{Scope, Around, is_below_if, are_below, is_calc, is_place, has_params, has_width, is_piece}
 use Rattle.lower_forms.specs.Counts.{count, count_parts, count_all}
 use Rattle.lower_forms.specs.Forms.{Frame, home, first_temp, calls, Reach, found, direct, indexed, at_temp, behind, member_reach, register_if, is_pointer, register_of, register_in, direct_if, indexed_if, pointer_register, pointed, reach, local_value, local_place, converts, sum_calc, temps_of, is_number, with_if, number_temps, text_places, lib_nodes, expr_nodes, value_nodes, place_nodes, object_place, args_nodes}
 use Rattle.lower_forms.proofs.Operands.{operands_promoted}
 use Rattle.lower_forms.proofs.Pieces.{Good, below, good_none, good_set, good_step, good_branches, good_int, good_long, good_truth, InReach, temp_in, member_in, good_loads, store_step, copy_step, good_object, good_member}
+
+-- ---- formats
+
+width : (bits : ℕ) (ty : tree.Ty) → HasBits bits ty → has_width bits ≡ true
+width bits (tree.integer s) h = of_width h.1
+  where
+    of_width : (bits ≡ 32) ⊎ (bits ≡ 64) → has_width bits ≡ true
+    of_width (inl e) = subst (λ b. has_width b ≡ true) (sym e) refl
+    of_width (inr e) = subst (λ b. has_width b ≡ true) (sym e) refl
+width bits ty h = elim h [ ]
+
+printed_pieces : (pieces : List tree.Piece) (es : tree.Exprs) → ArePrinted pieces es → list_all is_piece pieces ≡ true
+printed_pieces [] es h = refl
+printed_pieces (tree.bytes all ∷ pieces) es h = printed_pieces pieces es h
+printed_pieces (tree.signed bits ∷ pieces) (tree.more_exprs e es) h = and_from _ _ (width bits (tree.type_of e) h.0) (printed_pieces pieces es h.1)
+printed_pieces (tree.unsigned bits ∷ pieces) (tree.more_exprs e es) h = and_from _ _ (width bits (tree.type_of e) h.0) (printed_pieces pieces es h.1)
+printed_pieces (tree.hexadecimal bits ∷ pieces) (tree.more_exprs e es) h = and_from _ _ (width bits (tree.type_of e) h.0) (printed_pieces pieces es h.1)
+printed_pieces (tree.character ∷ pieces) (tree.more_exprs e es) h = printed_pieces pieces es h.1
+printed_pieces (tree.text ∷ pieces) (tree.more_exprs e es) h = printed_pieces pieces es h.1
+printed_pieces (tree.signed bits ∷ pieces) tree.no_exprs h = elim h [ ]
+printed_pieces (tree.unsigned bits ∷ pieces) tree.no_exprs h = elim h [ ]
+printed_pieces (tree.hexadecimal bits ∷ pieces) tree.no_exprs h = elim h [ ]
+printed_pieces (tree.character ∷ pieces) tree.no_exprs h = elim h [ ]
+printed_pieces (tree.text ∷ pieces) tree.no_exprs h = elim h [ ]
 
 -- what a function's nodes may name is there, where its tree names it
 pub record Suits (x : Scope) (c : Context) (f : Frame) : Type 0 where
@@ -160,7 +184,7 @@ module _ (x : Scope) (c : Context) (f : Frame) (s : Suits x c f) where
       → t + suc (count_all es) ≤ x.temps → Good x a rest → Good x a (lib_nodes place which es t rest)
   good_lib a place (tree.print pieces) es ty t rest h k g = good_step x a place _ rest (record {
     valid = and_from _ _ (and_from _ _ (texts_below x es t (omega (arith, k))) (and_from _ _ (numbers_below x es t (omega (arith, k))) (below x t (omega (arith, k)))))
-        (and_from _ _ (and_from _ _ (same_of _ _ (texts_counted pieces es t h.0)) (and_from _ _ (same_of _ _ (numbers_counted pieces es t h.0)) refl)) refl);
+        (and_from _ _ (and_from _ _ (same_of _ _ (texts_counted pieces es t h.0)) (and_from _ _ (same_of _ _ (numbers_counted pieces es t h.0)) refl)) (and_from _ _ (printed_pieces pieces es h.0) refl));
     bare = ap (λ l. record { action = ir.print pieces; places = l; to = Some t; temps = number_temps es t; slots = [] }) (texts_bare x es t);
   }) g
   good_lib a place tree.malloc es ty t rest h k g = good_step x a place _ rest (record {

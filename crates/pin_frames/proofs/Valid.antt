@@ -4,7 +4,7 @@ use Rattle.std.proofs.lemmas.Bool.{and_from, and_parts, lt-ltb}
 use Rattle.struct_ir.specs.Nodes.{Act, set, call, step, look, safepoint, begin_object, end_object, may_wait, Node, plain, if_, loop, break_, next_, ret, Nodes, no_nodes, more_nodes}
 use Rattle.std.specs.List.{list_all}
 use Rattle.struct_ir.specs.Pins.{lacks}
-use Rattle.struct_ir.specs.Valid.{Scope, Around, body_of, latch_of, are_below, is_distinct, is_list, is_own_list, is_place, is_below_if, has_counts, counts_of, starts, is_act, is_node, are_nodes}
+use Rattle.struct_ir.specs.Valid.{Scope, Around, body_of, latch_of, are_below, is_distinct, is_list, is_own_list, is_place, is_below_if, has_counts, counts_of, is_action, is_act, is_node, are_nodes}
 use Rattle.pin_flow.specs.Marks.{State}
 use Rattle.pin_flow.specs.Looks.{some_act}
 use Rattle.pin_flow.specs.Live.{Live, live_act, body_lives, latch_lives}
@@ -82,7 +82,7 @@ module _ (x : Scope) (slot_of : ℕ → ℕ) (apart : AreApart slot_of) where
     act_fine (step s) l e h =
         let shaped : Bool = list_all (is_place x) s.places && (are_below x.temps s.temps && is_below_if x.temps s.to) in
         let counted : Bool = has_counts (counts_of s.action) s in
-        let started : Bool = starts x s.action in
+        let started : Bool = is_action x s.action in
         let old : Bool = is_own_list x s.action s.slots in
         let new : Bool = is_own_list x s.action (if may_wait s.action then l else []) in
         let p = and_parts shaped (counted && (started && old)) h in

@@ -2,6 +2,7 @@
 use Rattle.std.specs.Prelude.{ℕ, Bool, true, false, ◌&&◌, ◌||◌, ◌==◌, not, nat_lt, List, [], ◌∷◌, length, map, count_by, Option, Some, None, is_none, is_some, slice_get}
 use Rattle.std.specs.List.{list_all, list_any}
 use Rattle.ak_words.specs.declared.int_type.IntType.{IntType}
+use Rattle.c_tree.specs.Typed.{Piece, bytes, signed, unsigned, hexadecimal, character, text}
 use Rattle.c_tree.specs.TypedForm.{is_comparison}
 use Rattle.c_tree.specs.TypedPrinting.{takes_number, takes_text}
 use Rattle.struct_ir.specs.Nodes.{Calc, constant, unset, null, global, literal, object, copy, convert, apply, pointer_add, pointer_sub, pointer_diff, pointer_compare, pointer_test, Place}
@@ -94,10 +95,24 @@ counts_of join = record { places = 1; temps = 1; gives = true }
 abbrev pub has_counts : Counts → Step → Bool
 has_counts n s = (length s.places == n.places) && ((length s.temps == n.temps) && (n.gives || is_none s.to))
 
--- a started function has one parameter
-abbrev pub starts : Scope → Action → Bool
-starts x (start function) = has_params (slice_get x.params function) 1
-starts x action = true
+-- printf's numbers have 32 or 64 bits (C11 7.21.6.1 p7)
+abbrev pub has_width : ℕ → Bool
+has_width bits = (bits == 32) || (bits == 64)
+
+-- a piece of a format, whose number, if it prints one, is of such a width
+abbrev pub is_piece : Piece → Bool
+is_piece (bytes all) = true
+is_piece (signed bits) = has_width bits
+is_piece (unsigned bits) = has_width bits
+is_piece (hexadecimal bits) = has_width bits
+is_piece character = true
+is_piece text = true
+
+-- a started function has one parameter, and what is printed are such pieces
+abbrev pub is_action : Scope → Action → Bool
+is_action x (start function) = has_params (slice_get x.params function) 1
+is_action x (print pieces) = list_all is_piece pieces
+is_action x action = true
 
 -- a step that doesn't wait has no list
 abbrev pub is_own_list : Scope → Action → List ℕ → Bool
@@ -106,7 +121,7 @@ is_own_list x action slots = is_list x slots && (may_wait action || (length slot
 -- a step with just what its action takes
 abbrev pub is_step : Scope → Step → Bool
 is_step x s = (list_all (is_place x) s.places && (are_below x.temps s.temps && is_below_if x.temps s.to))
-    && (has_counts (counts_of s.action) s && (starts x s.action && is_own_list x s.action s.slots))
+    && (has_counts (counts_of s.action) s && (is_action x s.action && is_own_list x s.action s.slots))
 
 -- a call has as many arguments as its function has parameters
 abbrev pub is_call : Scope → Call → Bool

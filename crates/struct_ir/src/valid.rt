@@ -6,7 +6,7 @@ ghost use Rattle.c_tree.specs.TypedPrinting.{takes_number, takes_text};
 ghost use Rattle.struct_ir.specs.Nodes.{may_wait};
 ghost use Rattle.struct_ir.specs.Views.{place_view, calc_view, action_view, step_view, call_view, node_view, nodes_view, func_view};
 ghost use Rattle.struct_ir.specs.WholeViews.{ir_view};
-ghost use Rattle.struct_ir.specs.Valid.{Scope, are_below, is_below_if, is_distinct, is_list, is_promoted, is_calc, is_place, has_params, counts_of, has_counts, starts, is_own_list, is_step, is_call, body_of, latch_of, outside, is_node, are_nodes, scope_of};
+ghost use Rattle.struct_ir.specs.Valid.{Scope, are_below, is_below_if, is_distinct, is_list, is_promoted, is_calc, is_place, has_params, counts_of, has_counts, has_width, is_piece, is_action, is_own_list, is_step, is_call, body_of, latch_of, outside, is_node, are_nodes, scope_of};
 ghost use Rattle.struct_ir.specs.Valid as valid;
 ghost use Rattle.struct_ir.specs.ValidViews.{scope_view, counts_view, around_view};
 
@@ -17,9 +17,9 @@ use ak_words::{IntType, Op};
 use c_tree::typed::Piece;
 
 /// Whether structured code is valid: each number is in range, operations are on promoted types, a
-/// call has as many arguments as its function has parameters, a started function has one, a step
-/// has just what its action takes, each Break and Next stands in its loop, and no list names a slot
-/// twice.
+/// call has as many arguments as its function has parameters, a started function has one, printf's
+/// numbers have 32 or 64 bits, a step has just what its action takes, each Break and Next stands in
+/// its loop, and no list names a slot twice.
 pub fn is_valid(ir: &Ir) -> bool
     ensures { result ≡ valid.is_valid (ir_view ir.now) }
 {
@@ -276,11 +276,38 @@ fn has_counts(n: Counts, s: &StepNode) -> bool
     s.places.len() == n.places && (s.temps.len() == n.temps && (n.gives || s.to.is_none()))
 }
 
-fn starts(x: &Scope, action: &Action) -> bool
-    ensures { result ≡ starts (scope_view x.now) (action_view action.now) }
+fn has_width(bits: u8) -> bool
+    ensures { result ≡ has_width bits }
+{
+    bits == 32 || bits == 64
+}
+
+fn is_piece(piece: &Piece) -> bool
+    ensures { result ≡ is_piece (piece_view piece.now) }
+{
+    match piece {
+        Piece::Signed(bits) | Piece::Unsigned(bits) | Piece::Hex(bits) => has_width(*bits),
+        Piece::Bytes(_) | Piece::Char | Piece::Text => true,
+    }
+}
+
+fn are_pieces(pieces: &[Piece]) -> bool
+    ensures { result ≡ list_all is_piece (map piece_view pieces.now) }
+{
+    for piece in pieces {
+        if !is_piece(piece) {
+            return false;
+        }
+    }
+    true
+}
+
+fn is_action(x: &Scope, action: &Action) -> bool
+    ensures { result ≡ is_action (scope_view x.now) (action_view action.now) }
 {
     match action {
         Action::Start(function) => has_params(x, *function, 1),
+        Action::Print(pieces) => are_pieces(pieces),
         _ => true,
     }
 }
@@ -296,5 +323,5 @@ fn is_step(x: &Scope, s: &StepNode) -> bool
 {
     (are_places(x, &s.places) && (are_below(x.temps, &s.temps) && is_below_if(x.temps, s.to)))
         && (has_counts(counts_of(&s.action), s)
-            && (starts(x, &s.action) && is_own_list(x, &s.action, &s.slots)))
+            && (is_action(x, &s.action) && is_own_list(x, &s.action, &s.slots)))
 }

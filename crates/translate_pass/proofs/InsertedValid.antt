@@ -9,7 +9,7 @@ use Rattle.struct_ir.specs.Nodes.{Action, load, store, copy_bytes, malloc, free,
 use Rattle.struct_ir.specs.Nodes.{Node, plain, if_, loop, break_, next_, ret, Nodes, no_nodes, more_nodes, places_of}
 use Rattle.struct_ir.specs.Lists.{bare_place, bare_step, bare_act}
 use Rattle.struct_ir.specs.Erased.{is_kept, put, erased}
-use Rattle.struct_ir.specs.Valid.{Scope, Around, Counts, body_of, latch_of, is_below_if, are_below, is_list, is_calc, is_place, starts, counts_of, has_counts, is_step, is_act, is_node, are_nodes}
+use Rattle.struct_ir.specs.Valid.{Scope, Around, Counts, body_of, latch_of, is_below_if, are_below, is_list, is_calc, is_place, is_action, counts_of, has_counts, is_step, is_act, is_node, are_nodes}
 use Rattle.pin_flow.proofs.Strip.{by_bool}
 use Rattle.translate_pass.specs.inner.Insert.{place_through, step_through, act_through, with_look, with_looks, places_in, place_of, inserted, inserted_in}
 
@@ -34,18 +34,18 @@ module _ (x : Scope) (n : ℕ) where
   calc_same (pointer_compare op p q) = refl
   calc_same (pointer_test p) = refl
 
-  starts_same : (a : Action) → starts (with_slots x n) a ≡ starts x a
-  starts_same (load how) = refl
-  starts_same (store how) = refl
-  starts_same (copy_bytes align same) = refl
-  starts_same malloc = refl
-  starts_same free = refl
-  starts_same (print pieces) = refl
-  starts_same lock = refl
-  starts_same unlock = refl
-  starts_same destroy = refl
-  starts_same (start function) = refl
-  starts_same join = refl
+  action_same : (a : Action) → is_action (with_slots x n) a ≡ is_action x a
+  action_same (load how) = refl
+  action_same (store how) = refl
+  action_same (copy_bytes align same) = refl
+  action_same malloc = refl
+  action_same free = refl
+  action_same (print pieces) = refl
+  action_same lock = refl
+  action_same unlock = refl
+  action_same destroy = refl
+  action_same (start function) = refl
+  action_same join = refl
 
 -- a step counts as many places after a change of each
 counts_same : (f : Place → Place) (n : Counts) (s : Step) (slots : List ℕ) → has_counts n s ≡ true
@@ -73,7 +73,7 @@ module _ (x : Scope) where
       let r = and_parts _ _ p.1 in
       let t = and_parts _ _ r.1 in
       let list : (may_wait s.action || (0 == 0)) ≡ true = or_right (may_wait s.action) (0 == 0) refl in
-      and_from _ _ (and_from _ _ (places_bare s.places q.0) q.1) (and_from _ _ (counts_same bare_place (counts_of s.action) s [] r.0) (and_from _ _ (starts_same x 0 s.action ∙ t.0) list))
+      and_from _ _ (and_from _ _ (places_bare s.places q.0) q.1) (and_from _ _ (counts_same bare_place (counts_of s.action) s [] r.0) (and_from _ _ (action_same x 0 s.action ∙ t.0) list))
 
   act_bare : (a : Act) → is_kept a ≡ true → is_act x a ≡ true → is_act bare (bare_act a) ≡ true
   act_bare (set to calc) g e = let p = and_parts _ _ e in and_from _ _ p.0 (calc_same x 0 calc ∙ p.1)
@@ -138,7 +138,7 @@ module _ (x : Scope) (n : ℕ) (few : x.slots ≤ n) (s : ℕ → Option ℕ) (b
       let t = and_parts _ _ r.1 in
       let u = and_parts _ _ t.1 in
       and_from _ _ (and_from _ _ (places_still s'.places q.0) q.1)
-      (and_from _ _ (counts_same (place_through s) (counts_of s'.action) s' s'.slots r.0) (and_from _ _ (starts_same x n s'.action ∙ t.0) (and_from _ _ (list_still s'.slots u.0) u.1)))
+      (and_from _ _ (counts_same (place_through s) (counts_of s'.action) s' s'.slots r.0) (and_from _ _ (action_same x n s'.action ∙ t.0) (and_from _ _ (list_still s'.slots u.0) u.1)))
 
   act_still : (a : Act) → is_act x a ≡ true → is_act y (act_through s a) ≡ true
   act_still (set to calc) e = let p = and_parts _ _ e in and_from _ _ p.0 (calc_same x n calc ∙ p.1)
