@@ -1,7 +1,7 @@
 -- Functions of a program, one by one.
 use Rattle.std.proofs.Common.{◌≡◌, ℕ, zero, suc, ◌≤◌, List, [], ◌∷◌, length, map, Bool, true, None, refl, sym, ap, ◌∙◌, subst}
 use Rattle.std.specs.Prelude.{slice_get}
-use Rattle.std.specs.List.{list_all}
+use Rattle.std.specs.List.{AllByRecursion, list_all}
 use Rattle.c_tree.specs.declared.typed.Literal.{Literal}
 use Rattle.c_tree.specs.TypedViews.{literal_view}
 use Rattle.struct_ir.specs.declared.code.IrFunc.{IrFunc}
@@ -13,7 +13,6 @@ use Rattle.struct_ir.specs.LinearViews.{linear_func_view}
 use Rattle.struct_ir.specs.Valid.{has_params, are_placed, scope_of, outside, are_nodes, is_valid}
 use Rattle.struct_ir.specs.Views.{global_view, func_view}
 use Rattle.struct_ir.specs.Whole.{takes_nothing, is_init_in, plain_bytes}
-use Rattle.pin_flow.specs.Funcs.{AreAll}
 use Rattle.emit_code.specs.inner.Layout.{func_linear}
 use Rattle.emit_code.specs.inner.Scoped.{IsScoped}
 use Rattle.emit_code.proofs.Safepoints.{left_of, right_of}
@@ -29,20 +28,20 @@ pub placed_rest : (all : List IrFunc) (f : IrFunc) (rest : List IrFunc) → all 
 placed_rest all f rest e h = right_of (is_placed (func_view f)) (list_all is_placed (map func_view rest)) (ap (λ l. list_all is_placed (map func_view l)) (sym e) ∙ h)
 
 -- so are their scopes
-pub scoped_first : (all : List IrFunc) (f : IrFunc) (rest : List IrFunc) → all ≡ f ∷ rest → AreAll IsScoped (map func_view all) → IsScoped (func_view f)
-scoped_first all f rest e h = (subst (λ (l : List IrFunc). AreAll IsScoped (map func_view l)) e h).0
+pub scoped_first : (all : List IrFunc) (f : IrFunc) (rest : List IrFunc) → all ≡ f ∷ rest → AllByRecursion IsScoped (map func_view all) → IsScoped (func_view f)
+scoped_first all f rest e h = (subst (λ (l : List IrFunc). AllByRecursion IsScoped (map func_view l)) e h).0
 
-pub scoped_rest : (all : List IrFunc) (f : IrFunc) (rest : List IrFunc) → all ≡ f ∷ rest → AreAll IsScoped (map func_view all) → AreAll IsScoped (map func_view rest)
-scoped_rest all f rest e h = (subst (λ (l : List IrFunc). AreAll IsScoped (map func_view l)) e h).1
+pub scoped_rest : (all : List IrFunc) (f : IrFunc) (rest : List IrFunc) → all ≡ f ∷ rest → AllByRecursion IsScoped (map func_view all) → AllByRecursion IsScoped (map func_view rest)
+scoped_rest all f rest e h = (subst (λ (l : List IrFunc). AllByRecursion IsScoped (map func_view l)) e h).1
 
-all_scoped : (p : Ir) (fs : List Func) → list_all (λ f. are_nodes (scope_of p f) outside f.nodes) fs ≡ true → AreAll IsScoped fs
+all_scoped : (p : Ir) (fs : List Func) → list_all (λ f. are_nodes (scope_of p f) outside f.nodes) fs ≡ true → AllByRecursion IsScoped fs
 all_scoped p [] e = tt
 all_scoped p (f ∷ fs) e =
     let here = are_nodes (scope_of p f) outside f.nodes in
     let rest = list_all (λ g. are_nodes (scope_of p g) outside g.nodes) fs in
     ((scope_of p f, left_of here rest e), all_scoped p fs (right_of here rest e))
 
-pub valid_scoped : (p : Ir) → is_valid p ≡ true → AreAll IsScoped p.funcs
+pub valid_scoped : (p : Ir) → is_valid p ≡ true → AllByRecursion IsScoped p.funcs
 valid_scoped p e = all_scoped p p.funcs e
 
 params_of : (xs : List CodeFunc) → map (λ f. f.params) xs ≡ map (λ g. g.params) (map linear_func_view xs)

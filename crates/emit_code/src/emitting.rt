@@ -8,8 +8,7 @@ ghost use Rattle.struct_ir.specs.Nodes.{if_, loop as loop_};
 ghost use Rattle.struct_ir.specs.Valid.{are_placed, is_valid};
 ghost use Rattle.struct_ir.specs.Views.{node_view, nodes_view, func_view};
 ghost use Rattle.struct_ir.specs.WholeViews.{ir_view};
-ghost use Rattle.std.specs.List.{list_all};
-ghost use Rattle.pin_flow.specs.Funcs.{AreAll};
+ghost use Rattle.std.specs.List.{AllByRecursion, list_all};
 ghost use Rattle.emit_code.specs.inner.Scoped.{IsScoped};
 ghost use Rattle.emit_code.specs.inner.Layout.{long, node_long, emit, emit_node, code_of, func_linear, linear_of};
 ghost use Rattle.emit_code.specs.Emitted.{IsEmitted};
@@ -68,7 +67,7 @@ fn emit_program(alloc: Global, ir: Ir) -> Result<Code, NoMemory>
 
 fn emit_funcs(alloc: Global, funcs: Vec<IrFunc>) -> Result<Vec<CodeFunc>, NoMemory>
     requires placed { IsTrue (list_all (λ f. are_placed None f.nodes) (map func_view funcs.items)) }
-    requires scoped { AreAll IsScoped (map func_view funcs.items) }
+    requires scoped { AllByRecursion IsScoped (map func_view funcs.items) }
     ensures { IfOk result (λ v. map linear_func_view v.items ≡ map func_linear (map func_view funcs.items)) }
 {
     let mut out = Vec::with_capacity(alloc, funcs.len())?;

@@ -7,6 +7,7 @@ use Rattle.struct_ir.specs.Flow.{Here, does, tests, passes, round, returns, IsCa
 use Rattle.struct_ir.specs.Instrs.{Instr, acts, unless, jump, round_to, leave, LinearFunc, instrs_if, instrs_of}
 use Rattle.struct_ir.specs.Linear.{Spot, linear, instr_here, instr_next, here_in, next_in}
 use Rattle.struct_ir.specs.Valid.{is_the_list}
+use Rattle.struct_ir.proofs.Lawful.{lawful_at}
 use Rattle.struct_ir.specs.Lawful.{safe_list, list_at_index, is_guarded, IsLawful, AllLawful}
 use Rattle.flat_meaning.specs.Machine.{ends_event}
 
@@ -115,28 +116,28 @@ guarded funcs p = is_guarded (slice_get (instrs_of funcs p.function) p.index)
 module _ (funcs : List LinearFunc) (lawful : AllLawful funcs) where
   entry_in : (f : ℕ) (o : Option LinearFunc) → slice_get funcs f ≡ o → is_guarded (slice_get (instrs_if o) 0) ≡ false
   entry_in f None e = refl
-  entry_in f (Some x) e = good_entry x.instrs (lawful f x e)
+  entry_in f (Some x) e = good_entry x.instrs (lawful_at funcs lawful f x e)
 
   pub unguarded_entry : (f : ℕ) → guarded funcs (record { function = f; index = 0 }) ≡ false
   unguarded_entry f = entry_in f (slice_get funcs f) refl
 
   step_in : (f : ℕ) (o : Option LinearFunc) → slice_get funcs f ≡ o → (at : ℕ) (c : Bool) → Passes (here_in (instrs_if o) at) → is_guarded (slice_get (instrs_if o) (next_in (instrs_if o) at c)) ≡ false
   step_in f None e at c g = absurd g
-  step_in f (Some x) e at c g = good_step x.instrs (lawful f x e) at c (slice_get x.instrs at) refl g
+  step_in f (Some x) e at c g = good_step x.instrs (lawful_at funcs lawful f x e) at c (slice_get x.instrs at) refl g
 
   pub unguarded_step : (p : Spot) (c : Bool) → Passes ((linear funcs).here p) → guarded funcs ((linear funcs).next p c) ≡ false
   unguarded_step p c g = step_in p.function (slice_get funcs p.function) refl p.index c g
 
   round_in : (f : ℕ) (o : Option LinearFunc) → slice_get funcs f ≡ o → (at : ℕ) → here_in (instrs_if o) at ≡ round → is_guarded (slice_get (instrs_if o) (next_in (instrs_if o) at true)) ≡ false
   round_in f None e at h = absurd cc
-  round_in f (Some x) e at h = good_round x.instrs (lawful f x e) at (slice_get x.instrs at) refl h
+  round_in f (Some x) e at h = good_round x.instrs (lawful_at funcs lawful f x e) at (slice_get x.instrs at) refl h
 
   pub unguarded_round : (p : Spot) → (linear funcs).here p ≡ round → guarded funcs ((linear funcs).next p true) ≡ false
   unguarded_round p h = round_in p.function (slice_get funcs p.function) refl p.index h
 
   call_in : (f : ℕ) (o : Option LinearFunc) → slice_get funcs f ≡ o → (at : ℕ) → IsCall (here_in (instrs_if o) at) → is_some (list_at_index (instrs_if o) (next_in (instrs_if o) at true)) ≡ true
   call_in f None e at h = absurd h
-  call_in f (Some x) e at h = good_call x.instrs (lawful f x e) at (slice_get x.instrs at) refl h
+  call_in f (Some x) e at h = good_call x.instrs (lawful_at funcs lawful f x e) at (slice_get x.instrs at) refl h
 
   pub safe_behind_call : (p : Spot) → IsCall ((linear funcs).here p) → is_some (list_at_index (instrs_of funcs p.function) ((linear funcs).next p true).index) ≡ true
   safe_behind_call p h = call_in p.function (slice_get funcs p.function) refl p.index h

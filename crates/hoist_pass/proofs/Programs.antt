@@ -2,11 +2,11 @@
 use Rattle.std.proofs.lemmas.List.{drop_all}
 use Rattle.std.proofs.Common.{◌≡◌, ℕ, ◌≤◌, List, [], ◌∷◌, map, drop, length, Option, Bool, true, inl, inr, refl, sym, ap, subst, ◌∙◌}
 use Rattle.std.proofs.lemmas.Bool.{and_parts, and_from}
-use Rattle.std.specs.List.{list_all}
+use Rattle.std.specs.List.{AllByRecursion, list_all}
 use Rattle.struct_ir.specs.Nodes.{Func, Ir, Nodes}
 use Rattle.struct_ir.specs.Erased.{erased, func_erased, ir_erased}
 use Rattle.struct_ir.specs.Valid.{scope_of, outside, are_nodes, is_valid}
-use Rattle.pin_flow.specs.Funcs.{AreAll, EveryFunc, IsCovered, IsHoisted, IsHoistedThroughout}
+use Rattle.pin_flow.specs.Funcs.{EveryFunc, IsCovered, IsHoisted, IsHoistedThroughout}
 use Rattle.pin_flow.specs.Slots.{bases_of, slot_in, slot_if, IsIn, IsOwn, HasOwnSlots}
 use Rattle.pin_flow.proofs.Bases.{same_bases, slots_are_apart, slot_known}
 use Rattle.hoist_pass.specs.inner.Hoist.{hoisted, hoisted_one, hoisted_for, hoisted_each, func_hoisted, ir_hoisted, HoistIsRight}
@@ -53,7 +53,7 @@ module _ (f : Func) (slots : HasOwnSlots f) where
     looks_at_bases = λ b e. subst (λ (l : List ℕ). IsIn l b) (sym bases_same) (right.looks b e);
   }
 
-all_are : (P Q R : Func → Type 0) → ((f : Func) → P f → Q f → R (func_hoisted f)) → (fs : List Func) → AreAll P fs → AreAll Q fs → AreAll R (map func_hoisted fs)
+all_are : (P Q R : Func → Type 0) → ((f : Func) → P f → Q f → R (func_hoisted f)) → (fs : List Func) → AllByRecursion P fs → AllByRecursion Q fs → AllByRecursion R (map func_hoisted fs)
 all_are P Q R each [] p q = tt
 all_are P Q R each (f ∷ fs) p q = (each f p.0 q.0, all_are P Q R each fs p.1 q.1)
 
@@ -62,11 +62,11 @@ every_is P Q R each x p q = all_are P Q R each x.funcs p q
 
 -- ---- valid code
 
-all_true : (test : Func → Bool) (fs : List Func) → AreAll (λ f. test f ≡ true) fs → list_all test fs ≡ true
+all_true : (test : Func → Bool) (fs : List Func) → AllByRecursion (λ f. test f ≡ true) fs → list_all test fs ≡ true
 all_true test [] h = refl
 all_true test (f ∷ fs) h = and_from _ _ h.0 (all_true test fs h.1)
 
-true_all : (test : Func → Bool) (fs : List Func) → list_all test fs ≡ true → AreAll (λ f. test f ≡ true) fs
+true_all : (test : Func → Bool) (fs : List Func) → list_all test fs ≡ true → AllByRecursion (λ f. test f ≡ true) fs
 true_all test [] e = tt
 true_all test (f ∷ fs) e = let p = and_parts (test f) (list_all test fs) e in (p.0, true_all test fs p.1)
 

@@ -1,19 +1,15 @@
 -- What is asked of the functions of a program.
-use Rattle.std.specs.Prelude.{ℕ, List, [], ◌∷◌}
+use Rattle.std.specs.Prelude.{ℕ}
+use Rattle.std.specs.List.{AllByRecursion}
 use Rattle.struct_ir.specs.Nodes.{Func, Ir}
 use Rattle.struct_ir.specs.Structured.{done, then_, structured, start_of}
 use Rattle.struct_ir.specs.Pins.{PinSafe}
 use Rattle.pin_flow.specs.Looks as looks
 use Rattle.pin_flow.specs.Held.{HoistedThroughout}
 
--- each of them is so
-abbrev pub AreAll : (Func → Type 0) → List Func → Type 0
-AreAll R [] = Unit {0}
-AreAll R (f ∷ fs) = R f × AreAll R fs
-
 -- each function is so
 abbrev pub EveryFunc : (Func → Type 0) → Ir → Type 0
-EveryFunc R x = AreAll R x.funcs
+EveryFunc R x = AllByRecursion R x.funcs
 
 -- each access has a slot, which is available there for its base
 abbrev pub IsCovered : Func → Type 0

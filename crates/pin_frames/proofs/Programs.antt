@@ -3,7 +3,7 @@ use Rattle.std.proofs.lemmas.List.{drop_all}
 use Rattle.std.proofs.lemmas.Bool.{and_from, and_parts, both_ways, or_cases}
 use Rattle.std.proofs.Common.{◌≡◌, ℕ, ◌<◌, ◌≤◌, List, [], ◌∷◌, map, drop, length, Option, None, Bool, true, false, ◌&&◌, ◌==◌, inl, inr, refl, sym, ap, subst, ◌∙◌}
 use Rattle.std.specs.Prelude.{not}
-use Rattle.std.specs.List.{list_all}
+use Rattle.std.specs.List.{AllByRecursion, list_all}
 use Rattle.struct_ir.specs.Nodes.{Place, Act, safepoint, Func, Ir, Nodes, no_nodes}
 use Rattle.struct_ir.specs.Structured.{done, then_, structured}
 use Rattle.struct_ir.specs.Erased.{erased, func_erased, ir_erased}
@@ -13,7 +13,7 @@ use Rattle.pin_flow.specs.Marks.{bad, Each}
 use Rattle.pin_flow.specs.Looks.{some_act, act_looks, Covered, Hoisted, PinsExact}
 use Rattle.pin_flow.specs.Held.{fresh, HoistedThroughout}
 use Rattle.pin_flow.specs.Live.{is_slot, has, uses}
-use Rattle.pin_flow.specs.Funcs.{AreAll, EveryFunc, IsCovered, IsHoisted, IsHoistedThroughout, IsExact, IsPinSafe}
+use Rattle.pin_flow.specs.Funcs.{EveryFunc, IsCovered, IsHoisted, IsHoistedThroughout, IsExact, IsPinSafe}
 use Rattle.pin_flow.specs.Slots.{has_base, accesses, bases_of, slot_in, own, IsIn, IsOwn, HasOwnSlots}
 use Rattle.pin_flow.proofs.Strip.{by_bool}
 use Rattle.pin_flow.proofs.At.{some_finds}
@@ -129,21 +129,21 @@ module _ (f : Func) where
 named_of : (p : Ir) (f : Func) → are_nodes (scope_of p (func_erased f)) outside (erased f.nodes) ≡ true → IsNamed f
 named_of p f e b h = some_below b (scope_of p (func_erased f)) outside (erased f.nodes) e (some_erased b f.nodes ∙ h)
 
-all_named : (p : Ir) (fs : List Func) → list_all (λ f. are_nodes (scope_of p f) outside f.nodes) (map func_erased fs) ≡ true → AreAll IsNamed fs
+all_named : (p : Ir) (fs : List Func) → list_all (λ f. are_nodes (scope_of p f) outside f.nodes) (map func_erased fs) ≡ true → AllByRecursion IsNamed fs
 all_named p [] e = tt
 all_named p (f ∷ fs) e = let q = and_parts (are_nodes (scope_of p (func_erased f)) outside (erased f.nodes)) _ e in (named_of p f q.0, all_named p fs q.1)
 
 pub every_named : (x : Ir) → is_valid (ir_erased x) ≡ true → EveryFunc IsNamed x
 every_named x e = all_named (ir_erased x) x.funcs e
 
-all_are : (P Q R : Func → Type 0) → ((f : Func) → P f → Q f → R (func_placed f)) → (fs : List Func) → AreAll P fs → AreAll Q fs → AreAll R (map func_placed fs)
+all_are : (P Q R : Func → Type 0) → ((f : Func) → P f → Q f → R (func_placed f)) → (fs : List Func) → AllByRecursion P fs → AllByRecursion Q fs → AllByRecursion R (map func_placed fs)
 all_are P Q R each [] p q = tt
 all_are P Q R each (f ∷ fs) p q = (each f p.0 q.0, all_are P Q R each fs p.1 q.1)
 
 pub every_is : (P Q R : Func → Type 0) → ((f : Func) → P f → Q f → R (func_placed f)) → (x : Ir) → EveryFunc P x → EveryFunc Q x → EveryFunc R (ir_placed x)
 every_is P Q R each x p q = all_are P Q R each x.funcs p q
 
-all_both : (P Q : Func → Type 0) (fs : List Func) → AreAll P fs → AreAll Q fs → AreAll (λ f. P f × Q f) fs
+all_both : (P Q : Func → Type 0) (fs : List Func) → AllByRecursion P fs → AllByRecursion Q fs → AllByRecursion (λ f. P f × Q f) fs
 all_both P Q [] p q = tt
 all_both P Q (f ∷ fs) p q = ((p.0, q.0), all_both P Q fs p.1 q.1)
 
@@ -178,7 +178,7 @@ same_params (f ∷ fs) = ap (λ l. f.params ∷ l) (same_params fs)
 same_scope : (x : Ir) (f : Func) → scope_of (ir_placed x) (func_placed f) ≡ scope_of x f
 same_scope x f = λ i. record { temps = f.temps; slots = f.slots; objects = length f.objects; globals = length x.globals; literals = length x.literals; params = same_params x.funcs i }
 
-funcs_valid : (x : Ir) (fs : List Func) → AreAll HasOwnSlots fs → list_all (λ f. are_nodes (scope_of x f) outside f.nodes) fs ≡ true → list_all (λ f. are_nodes (scope_of (ir_placed x) f) outside f.nodes) (map func_placed fs) ≡ true
+funcs_valid : (x : Ir) (fs : List Func) → AllByRecursion HasOwnSlots fs → list_all (λ f. are_nodes (scope_of x f) outside f.nodes) fs ≡ true → list_all (λ f. are_nodes (scope_of (ir_placed x) f) outside f.nodes) (map func_placed fs) ≡ true
 funcs_valid x [] q e = refl
 funcs_valid x (f ∷ fs) q e =
     let p = and_parts (are_nodes (scope_of x f) outside f.nodes) _ e in

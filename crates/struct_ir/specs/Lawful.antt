@@ -1,5 +1,6 @@
 -- What the instructions of each function keep.
 use Rattle.std.specs.Prelude.{◌≡◌, ℕ, ◌+◌, ◌-◌, ◌<◌, ◌≤◌, List, length, Option, Some, None, Bool, true, false, slice_get, is_some}
+use Rattle.std.specs.List.{AllByRecursion}
 use Rattle.struct_ir.specs.Nodes.{Call, Act, set, call, step, look, safepoint, begin_object, end_object, act_is_call}
 use Rattle.struct_ir.specs.Flow.{Shrinks}
 use Rattle.struct_ir.specs.Instrs.{Instr, acts, unless, jump, round_to, leave, LinearFunc}
@@ -78,7 +79,7 @@ pub record IsLawful (code : List Instr) : Type 0 where
 
 -- so does each function
 abbrev pub AllLawful : List LinearFunc → Type 0
-AllLawful funcs = (n : ℕ) (f : LinearFunc) → slice_get funcs n ≡ Some f → IsLawful f.instrs
+AllLawful funcs = AllByRecursion (λ (f : LinearFunc). IsLawful f.instrs) funcs
 
 -- in lawful code what is left to do gets less
 abbrev pub LawfulCodeShrinks : Type 0

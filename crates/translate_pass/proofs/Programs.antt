@@ -1,13 +1,13 @@
 -- Programs with Looks.
 use Rattle.std.proofs.Common.{◌≡◌, ℕ, List, [], ◌∷◌, map, length, Some, Bool, true, false, inl, inr, refl, sym, ap, subst, arith}
 use Rattle.std.proofs.lemmas.Bool.{and_parts, and_from, both_ways, lt-ltb}
-use Rattle.std.specs.List.{list_all}
+use Rattle.std.specs.List.{AllByRecursion, list_all}
 use Rattle.struct_ir.specs.Nodes.{Func, Ir, Nodes}
 use Rattle.struct_ir.specs.Structured.{done, then_, structured}
 use Rattle.struct_ir.specs.Erased.{erased, func_erased, ir_erased}
 use Rattle.struct_ir.specs.Valid.{scope_of, outside, is_below_if, are_nodes, is_valid}
 use Rattle.pin_flow.specs.Looks.{some_act, act_looks, Covered}
-use Rattle.pin_flow.specs.Funcs.{AreAll, EveryFunc, IsCovered}
+use Rattle.pin_flow.specs.Funcs.{EveryFunc, IsCovered}
 use Rattle.pin_flow.specs.Slots.{accesses, bases_of, slot_in, slot_if, IsIn, IsOwn, HasOwnSlots}
 use Rattle.pin_flow.proofs.Bases.{same_bases, base_in, slot_known, slots_are_few, slots_are_apart}
 use Rattle.translate_pass.specs.inner.Insert.{inserted, func_inserted, ir_inserted}
@@ -16,7 +16,7 @@ use Rattle.translate_pass.proofs.Looked.{erase_inserted, any_look, no_look_erase
 
 -- what is so of each function with its Looks, if it is valid and without Looks before
 pub all_are : (R : Func → Type 0) (x : Ir) → ((f : Func) → are_nodes (scope_of x f) outside f.nodes ≡ true → func_erased f ≡ f → R (func_inserted f)) → (fs : List Func)
-    → list_all (λ f. are_nodes (scope_of x f) outside f.nodes) fs ≡ true → map func_erased fs ≡ fs → AreAll R (map func_inserted fs)
+    → list_all (λ f. are_nodes (scope_of x f) outside f.nodes) fs ≡ true → map func_erased fs ≡ fs → AllByRecursion R (map func_inserted fs)
 all_are R x each [] e g = tt
 all_are R x each (f ∷ fs) e g =
     let p = and_parts (are_nodes (scope_of x f) outside f.nodes) _ e in
@@ -72,7 +72,7 @@ module _ (x : Ir) (f : Func) (valid : are_nodes (scope_of x f) outside f.nodes �
 
 -- ---- valid code
 
-all_true : (test : Func → Bool) (fs : List Func) → AreAll (λ f. test f ≡ true) fs → list_all test fs ≡ true
+all_true : (test : Func → Bool) (fs : List Func) → AllByRecursion (λ f. test f ≡ true) fs → list_all test fs ≡ true
 all_true test [] h = refl
 all_true test (f ∷ fs) h = and_from _ _ h.0 (all_true test fs h.1)
 

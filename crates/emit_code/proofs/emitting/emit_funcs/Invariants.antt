@@ -1,8 +1,7 @@
 use Rattle.std.proofs.Common.{◌≡◌, ◌++◌, map, true}
-use Rattle.std.specs.List.{list_all}
+use Rattle.std.specs.List.{AllByRecursion, list_all}
 use Rattle.struct_ir.specs.LinearViews.{linear_func_view}
 use Rattle.struct_ir.specs.Views.{func_view}
-use Rattle.pin_flow.specs.Funcs.{AreAll}
 use Rattle.emit_code.specs.inner.Layout.{func_linear}
 use Rattle.emit_code.specs.inner.Scoped.{IsScoped}
 use Rattle.emit_code.proofs.Program.{is_placed}
@@ -13,5 +12,5 @@ abbrev pub invariant-loop-f : goal.invariant-loop-f
 invariant-loop-f l = record {
   made : map linear_func_view l.out.items ++ map func_linear (map func_view l.f-iterator.rest.items) ≡ map func_linear (map func_view l.fn.funcs.items);
   placed : list_all is_placed (map func_view l.f-iterator.rest.items) ≡ true;
-  scoped : AreAll IsScoped (map func_view l.f-iterator.rest.items);
+  scoped : AllByRecursion IsScoped (map func_view l.f-iterator.rest.items);
 }
