@@ -1,0 +1,6 @@
+mod Reading
+mod Same
+mod Sums
+mod Bits
+mod Tests
+mod Shifts

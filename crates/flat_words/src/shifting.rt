@@ -1,0 +1,24 @@
+ghost use Rattle.std.specs.Prelude.{◌≡◌, ◌<◌};
+ghost use Rattle.ak_words.specs.declared.operation.Op.TheVariants.{Shl};
+ghost use Rattle.ak_words.specs.Wrapped.{residue};
+ghost use Rattle.flat_words.specs.Words.{applied, number_in};
+
+use crate::words::word_in;
+use ak_words::IntType;
+
+/// The first shifted to the left, by the second modulo the width.
+#[inline]
+pub fn shift_left(t: IntType, a: u64, b: u64) -> u64
+    ensures { result ≡ applied Shl t a b }
+{
+    word_in(t, a << places(t, b))
+}
+
+// A shift's count modulo the width: a width divides 2^bits, so the word tells it as the number does.
+#[inline]
+fn places(t: IntType, b: u64) -> u32
+    ensures value { result ≡ residue t.bits (number_in t b).value }
+    ensures below { result < 64 }
+{
+    (b % u64::from(t.bits)) as u32
+}

@@ -1,0 +1,54 @@
+ghost use Rattle.std.specs.Prelude.{◌≡◌, ◌^◌, ◌<◌, ◌≤◌, pos, neg_ℤ, ◌+ℤ◌};
+ghost use Rattle.ak_words.specs.IntType.{least};
+ghost use Rattle.flat_words.specs.Words.{applied, number_in, number_word, word_in};
+
+use ak_words::{IntType, Num, Op, wrap_apply};
+
+/// The word of a number.
+pub fn number_word(n: Num) -> u64
+    ensures { result ≡ number_word n }
+{
+    IntType::unsigned_long().bit_pattern(n.value)
+}
+
+/// The number of a type that a word stands for.
+pub fn number_of_word(t: IntType, word: u64) -> Num
+    ensures { result ≡ number_in t word }
+{
+    Num::from_bits(t, word)
+}
+
+/// The word of the number of a type that a word stands for.
+#[inline]
+pub fn word_in(t: IntType, word: u64) -> u64
+    ensures { result ≡ word_in t word }
+{
+    above_least(t, word).wrapping_sub(half(t))
+}
+
+/// Carries out an operation of C on the numbers of a type that two words stand for ([`wrap_apply`]). The functions that are named
+/// for an operation do the same, faster.
+pub fn apply(op: Op, t: IntType, a: u64, b: u64) -> u64
+    ensures { result ≡ applied op t a b }
+{
+    number_word(wrap_apply(op, number_of_word(t, a), number_of_word(t, b)))
+}
+
+// How far the least number of the type is below 0.
+#[inline]
+pub(crate) fn half(t: IntType) -> u64
+    ensures far { least t ≡ neg_ℤ (pos result) }
+    ensures small { result ≤ 2 ^ 63 }
+{
+    if t.signed { 1u64 << (t.bits - 1) } else { 0 }
+}
+
+// How far the number of a type that a word stands for is above the least one.
+#[inline]
+pub(crate) fn above_least(t: IntType, word: u64) -> u64
+    ensures above { (number_in t word).value ≡ least t +ℤ pos result }
+    ensures below { result < 2 ^ t.bits }
+{
+    let mask = u64::MAX >> (64 - t.bits);
+    word.wrapping_add(half(t)) & mask
+}
