@@ -1,0 +1,27 @@
+-- Laws of the rules.
+use Rattle.std.specs.Prelude.{◌≡◌, ◌+◌, ◌==◌, ◌<◌, ◌≤◌, true, List, [], ◌∷◌, length, count_by, Option, Some}
+use Rattle.ak_trace.specs.declared.entry.Entry.{Entry}
+use Rattle.ak_trace.specs.Kinds as kind
+use Rattle.flat_rules.specs.Rules.{Rules}
+use Rattle.flat_rules.specs.Machine.{Machine}
+use Rattle.flat_rules.specs.States.{State, none_out, kept_free}
+use Rattle.flat_rules.specs.Replays.{run, replay}
+
+-- a barrier serves at most those at home
+abbrev pub ServesFew : {S C : Type 0} → Machine S C → Type 0
+ServesFew {S} {C} m = (s : S) (homes : List (Option C)) → length (m.barrier s homes).served ≤ length homes
+
+module _ (S C : Type 0) where
+  -- the spare is the journal's limit less its entries
+  abbrev pub SpareIsLeft : Type 0
+  SpareIsLeft = (m : Machine S C) (settings : Rules) (shared : S) (log : List Entry) (s : State S C) → ServesFew m → replay m settings shared log ≡ Some s → s.spare + length log ≡ settings.entries
+
+  -- a run without a barrier meets TurnLimit with just 65 entries left
+  abbrev pub TurnLimitAt65 : Type 0
+  TurnLimitAt65 = (m : Machine S C) (settings : Rules) (shared : S) (log : List Entry) (s : State S C)
+      → ServesFew m → 65 ≤ settings.entries → count_by (λ e. e.kind == kind.barrier) log ≡ 0 → replay m settings shared log ≡ Some s → s.spare < kept_free → length log + 65 ≡ settings.entries
+
+  -- at a barrier no thread is out
+  abbrev pub BarriersAlone : Type 0
+  BarriersAlone = (m : Machine S C) (settings : Rules) (s : State S C) (e : Entry) (after : State S C)
+      → s.due ≡ [] → e.kind ≡ kind.barrier → run m settings (e ∷ []) s ≡ Some after → none_out m settings s ≡ true

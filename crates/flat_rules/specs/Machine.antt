@@ -1,0 +1,73 @@
+-- A flat machine with its code, as far as the rules of the shared world see it: its operations, on plain data.
+-- `S` is what the threads share, `C` one thread's context.
+use Rattle.std.specs.Prelude.{ℕ, Bool, List, Option, ℤ}
+use Rattle.ak_trace.specs.declared.entry.Entry.{Entry}
+use Rattle.flat_meaning.specs.declared.endings.TrapKind.{TrapKind}
+
+-- how a turn ended, with what its entry tells beside
+pub data Turned : Type 0 where
+  looked : Turned
+  stepped : Turned
+  got : (id place : ℕ) → Turned
+  got_null : Turned
+  made_thread : (number : ℕ) → Turned
+  refused_thread : Turned
+  found_busy : Turned
+  wants_room : Turned
+  rested : Turned
+  ended : (value : ℤ) → Turned
+  trapped : (word : ℕ) → TrapKind → Turned
+  passed_limit : Turned
+  lacked_stack : Turned
+
+-- what the pending step of a thread comes to, with the turns that it did by itself before
+pub record Acted (S C : Type 0) : Type 0 where
+  pub local : ℕ
+  pub turned : Turned
+  pub shared : S
+  pub context : C
+
+-- a thread that waited for room and was served: it got an object of this id at this place, or null
+pub record Served : Type 0 where
+  pub thread : ℕ
+  pub object : Option (ℕ × ℕ)
+
+-- what a barrier comes to, with those that it served, in order
+pub record Swept (S C : Type 0) : Type 0 where
+  pub shared : S
+  pub homes : List (Option C)
+  pub served : List Served
+
+-- how far a context is: not begun, about to work by itself, or at its pending step
+pub data Progress : Type 0 where
+  blank : Progress
+  works : Progress
+  steps : Progress
+
+pub record Machine (S C : Type 0) : Type 0 where
+  -- the context of a thread of this number, which has not begun
+  pub blank : ℕ → C
+  -- the number of the context's thread
+  pub thread_of : C → ℕ
+  -- the context at the start of its thread's function
+  pub begin : S → C → C
+  -- the context after one call of `local` with this `most`
+  pub local : ℕ → C → C
+  -- the pending step is done
+  pub act : S → C → Acted S C
+  -- all slots are united, the objects slid, and then those served that wait for room
+  pub barrier : S → List (Option C) → Swept S C
+  -- whether a thread at home waits for nothing, or for a mutex whose word is now 0, or for a thread that has ended
+  pub is_ready : S → C → Bool
+  -- whether the thread waits at a malloc for which no barrier has served it yet
+  pub waits : C → Bool
+  -- how many threads were made
+  pub threads : S → ℕ
+  -- the entries of the last step or barrier, with worker 0
+  pub made : S → List Entry
+  -- how far the context is
+  pub progress : C → Progress
+  -- whether the thread stands at a safepoint
+  pub stands : C → Bool
+  -- whether the thread of this number has ended
+  pub has_ended : S → ℕ → Bool
