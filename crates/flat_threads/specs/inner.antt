@@ -1,0 +1,6 @@
+-- What only the bodies of this crate stand on.
+pub mod Arrays
+pub mod Flat
+pub mod Steps
+pub mod Parts
+pub mod Runs

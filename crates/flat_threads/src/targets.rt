@@ -1,0 +1,8 @@
+/// The word in the base of a place, and the address to which the place leads.
+#[derive(Clone, Copy, Debug, PartialEq, Eq)]
+pub struct Target {
+    /// The word.
+    pub pointer: u64,
+    /// The address.
+    pub address: u64,
+}

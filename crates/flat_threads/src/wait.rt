@@ -1,0 +1,10 @@
+/// What a thread waits for.
+#[derive(Clone, Copy, Debug, PartialEq, Eq)]
+pub enum Wait {
+    /// Room for its malloc.
+    Room,
+    /// The mutex at this address.
+    Mutex(u64),
+    /// The end of the thread of this number.
+    Thread(u64),
+}
