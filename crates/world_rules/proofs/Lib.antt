@@ -1,0 +1,6 @@
+pub mod Keeps
+pub mod Sweeps
+pub mod Sits
+pub mod MoveKeeps
+pub mod Invariant
+pub mod CallsKeep

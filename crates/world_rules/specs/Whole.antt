@@ -7,6 +7,7 @@ use Rattle.flat_rules.specs.Rules.{Rules}
 use Rattle.flat_rules.specs.Machine.{Machine}
 use Rattle.flat_rules.specs.States.{State, Place, unbegun, home, out, gone, homes_of, is_out, waits_at, start}
 use Rattle.flat_rules.specs.Events.{turns_out}
+use Rattle.flat_rules.specs.Lawful.{IsOpened}
 use Rattle.flat_rules.specs.Replays.{run}
 use Rattle.world_rules.specs.declared.calls.Seat.{Seat}
 use Rattle.world_rules.specs.declared.calls.Seat.TheVariants as seat
@@ -66,3 +67,8 @@ module _ {S K C : Type 0} (machine : K → Machine S C) where
     pub state : State S C
     pub leads : Leads first log state
     pub is : x ≡ whole_of first log state
+
+  -- and in the world as it was made the machine had just been opened
+  pub record Reaches (shared_of : K → S → Type 0) (first : Whole S K C) (log : List Entry) (x : Whole S K C) : Type 0 where
+    pub opened : IsOpened (machine first.code) (shared_of first.code) first.shared
+    pub replays : Replays first log x
