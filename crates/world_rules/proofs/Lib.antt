@@ -4,3 +4,4 @@ pub mod Sits
 pub mod MoveKeeps
 pub mod Invariant
 pub mod CallsKeep
+pub mod Soundness
