@@ -185,13 +185,9 @@ module _ {S K C : Type 0} (machine : K → Machine S C) (first : Whole S K C) wh
           by asked e = ap (λ (z : C). Some (turn_event m first.settings s w t n asked (m.act s.shared z))) (sym e)
           by must e = absurd e
 
-      -- its entry replays to the world after it, where the machine's law of waiting holds
-      pub steps_good : end_before X ≡ None → MovedOn machine first c mood d → m.waits c ≡ false → ((goes a.turned ≡ away → ⊥) → m.waits a.context ≡ is_for_room a.turned) → Good log (calls.steps machine X w d).1 (calls.steps machine X w d).2
-      steps_good before moved calm law = record {
-        state = steps.whole_of m first.settings v;
-        stands = one_event v (turn_entry w t a.local a.turned) before (not_blocked t n c mood there) refl (event_is moved) refl (spare (goes a.turned)) (many (goes a.turned));
-        is = same (goes a.turned) refl;
-      }
+      -- the journal with its entry leads to the state after it
+      pub steps_stands : end_before X ≡ None → MovedOn machine first c mood d → Stands (log ++ turn_entry w t a.local a.turned ∷ []) (steps.whole_of m first.settings v)
+      steps_stands before moved = one_event v (turn_entry w t a.local a.turned) before (not_blocked t n c mood there) refl (event_is moved) refl (spare (goes a.turned)) (many (goes a.turned))
         where
           spare : (g : Goes) → (turned_by m first.settings s w t (n + 1) mood a g).spare ≡ s.spare
           spare on = refl
@@ -203,6 +199,14 @@ module _ {S K C : Type 0} (machine : K → Machine S C) (first : Whole S K C) wh
           many back = length-set s.places t _
           many away = length-set s.places t _
 
+      -- its entry replays to the world after it, where the machine's law of waiting holds
+      pub steps_good : end_before X ≡ None → MovedOn machine first c mood d → m.waits c ≡ false → ((goes a.turned ≡ away → ⊥) → m.waits a.context ≡ is_for_room a.turned) → Good log (calls.steps machine X w d).1 (calls.steps machine X w d).2
+      steps_good before moved calm law = record {
+        state = steps.whole_of m first.settings v;
+        stands = steps_stands before moved;
+        is = same (goes a.turned) refl;
+      }
+        where
           same : (g : Goes) → goes a.turned ≡ g → with_entries (seated X t (turns_more (seat_at X.seats t)) a g) (turn_entry w t a.local a.turned ∷ []) ≡ whole_of machine first (log ++ turn_entry w t a.local a.turned ∷ []) (turned_by m first.settings s w t (n + 1) mood a g)
           same on q = stays _ refl refl refl calm (law (λ e. let z : on ≡ away = sym q ∙ e in cc z))
           same back q = stays _ refl refl refl calm (law (λ e. let z : back ≡ away = sym q ∙ e in cc z))
@@ -215,6 +219,13 @@ module _ {S K C : Type 0} (machine : K → Machine S C) (first : Whole S K C) wh
     picked_ready sch last x t (k ∷ ks) e = refl
 
     -- a thread goes out
+    pub hands_stands : (t : ℕ) (p : Place C) (c : C) → end_before X ≡ None → is_wanted m first.settings s ≡ false → pick m first.settings s ≡ Some t → place_at s.places t ≡ p → out_event m first.settings s w t p ≡ Some (goes_out m first.settings s w t c)
+        → Stands (log ++ out_entry w t ∷ []) (steps.whole_of m first.settings (goes_out m first.settings s w t c))
+    hands_stands t p c before calm picked there event =
+        one_event (goes_out m first.settings s w t c) (out_entry w t) before (middle_first (is_none (slice_get (ready m s) 0)) (none_out m first.settings s) (not (is_wanted m first.settings s)) (picked_ready first.settings.schedule s.last s.x t (ready m s) picked)) refl
+        (ap (λ (b : Bool). cond b (cond (none_out m first.settings s) (Some (barrier_event m first.settings s w (m.barrier s.shared (homes_of s.places)))) None) (picked_event m first.settings s w (pick m first.settings s))) calm
+        ∙ (ap (picked_event m first.settings s w) picked ∙ (ap (out_event m first.settings s w t) there ∙ event))) refl refl (length-set s.places t (out w c 0 free))
+
     pub hands_good : (t : ℕ) (p : Place C) (c c' : C) → end_before X ≡ None → is_wanted m first.settings s ≡ false → pick m first.settings s ≡ Some t → place_at s.places t ≡ p
         → (p ≡ gone → ⊥) → is_out p ≡ false → out_event m first.settings s w t p ≡ Some (goes_out m first.settings s w t c') → as_it_goes machine X (seat_of p) c ≡ c' → waits_at m p ≡ m.waits c'
         → Good log (hands machine X w t (Some c)).1 (hands machine X w t (Some c)).2
@@ -228,9 +239,7 @@ module _ {S K C : Type 0} (machine : K → Machine S C) (first : Whole S K C) wh
         let counted : count_by is_out s.places + 1 ≡ count_by is_out v.after.places = omega arith in
         let same : count_by (waits_at m) s.places ≡ count_by (waits_at m) v.after.places = omega arith in record {
           state = steps.whole_of m first.settings v;
-          stands = one_event v (out_entry w t) before (middle_first (is_none (slice_get (ready m s) 0)) (none_out m first.settings s) (not (is_wanted m first.settings s)) (picked_ready first.settings.schedule s.last s.x t (ready m s) picked)) refl
-              (ap (λ (b : Bool). cond b (cond (none_out m first.settings s) (Some (barrier_event m first.settings s w (m.barrier s.shared (homes_of s.places)))) None) (picked_event m first.settings s w (pick m first.settings s))) calm
-              ∙ (ap (picked_event m first.settings s w) picked ∙ (ap (out_event m first.settings s w t) there ∙ event))) refl refl (length-set s.places t q);
+          stands = hands_stands t p c' before calm picked there event;
           is = λ i. record X {
             homes = sym (map-set at_home s.places t q) i;
             seats = sym (map-set seat_of s.places t q) i;

@@ -5,3 +5,4 @@ pub mod MoveKeeps
 pub mod Invariant
 pub mod CallsKeep
 pub mod Soundness
+pub mod Unchanged
