@@ -24,9 +24,9 @@ use Rattle.world_rules.specs.Calls as calls
 use Rattle.world_rules.specs.Allowed.{IsOut, MovedOn, MayCall, Allowed}
 use Rattle.world_rules.proofs.Keeps.{Stands, Good, X, steps_good, settles_good, hands_good}
 use Rattle.world_rules.proofs.Sweeps.{sweeps_good}
-use Rattle.world_rules.proofs.Sits.{SitsAt, Sit, OutAs, lives}
+use Rattle.world_rules.proofs.Sits.{SitsAt, Sit, OutAs, Moved, lives}
 use Rattle.world_rules.proofs.MoveKeeps.{begins_lives, may_sweep, of_run}
-use Rattle.world_rules.proofs.Invariant.{Invariant, Moved, moved, calm, picked, runs_keep}
+use Rattle.world_rules.proofs.Invariant.{Invariant, moved, calm, picked, runs_keep}
 
 -- where no end came before, the last entry brought none
 pub none_before : (o : Option End) (b : Bool) → or_else o (cond b (Some TurnLimit) None) ≡ None → o ≡ None
@@ -62,31 +62,30 @@ module _ {S K C : Type 0} (machine : K → Machine S C) (first : Whole S K C) wh
       same = record { state = s; stands = subst (λ (l : List Entry). Stands machine first l s) (sym (append-nil log)) stands; is = refl }
 
       module _ (before : end_before x ≡ None) where
-        going : s.ending ≡ None
+        pub going : s.ending ≡ None
         going = none_before s.ending _ before
 
         sits : Sit m ContextOf s.shared None s.places
         sits = subst (λ (e : Option End). Sit m ContextOf s.shared e s.places) going i.each
 
-        act_good : (d c : C) (n : ℕ) (mood : Mood) → place_at s.places (m.thread_of d) ≡ out w c n mood → MovedOn machine first c mood d → GoodOf (calls.steps machine x w d)
-        act_good d c n mood there on = steps_good machine first log s stands w known d c n mood there before on (rests mood on here.1)
-            (λ stays. (flat.goes_on s.shared d (lives m ContextOf SharedOf flat s.shared s.places i.of_ i.few sits w n c d mood there after.of_ after.progress) after.progress stays).waits)
-          where
-            here : SitsAt m ContextOf s.shared None (m.thread_of d) (out w c n mood)
-            here = subst (SitsAt m ContextOf s.shared None (m.thread_of d)) there (sits (m.thread_of d))
+        -- what `local` leaves of a context that a worker has
+        pub stepped_on : (d c : C) (n : ℕ) (mood : Mood) → place_at s.places (m.thread_of d) ≡ out w c n mood → MovedOn machine first c mood d → Moved m ContextOf (m.thread_of d) d
+        stepped_on d c n free at e = subst (Moved m ContextOf (m.thread_of d)) (sym e) (moved m SharedOf ContextOf first.settings flat s i going w (m.thread_of d) n most_local c free at (inr refl))
+        stepped_on d c n asked at e = subst (Moved m ContextOf (m.thread_of d)) (sym e) (moved m SharedOf ContextOf first.settings flat s i going w (m.thread_of d) n 0 c asked at (inl refl))
+        stepped_on d c n must at e = absurd e
 
+        -- it waits for no room
+        pub waited : (d c : C) (n : ℕ) (mood : Mood) → place_at s.places (m.thread_of d) ≡ out w c n mood → MovedOn machine first c mood d → m.waits c ≡ false
+        waited d c n mood there on = rests mood on (let h : SitsAt m ContextOf s.shared None (m.thread_of d) (out w c n mood) = subst (SitsAt m ContextOf s.shared None (m.thread_of d)) there (sits (m.thread_of d)) in h.1)
+          where
             rests : (mood : Mood) → MovedOn machine first c mood d → OutAs m ContextOf mood c → m.waits c ≡ false
             rests free e h = h
             rests asked e h = h
             rests must e h = absurd e
 
-            by : (mood : Mood) → MovedOn machine first c mood d → place_at s.places (m.thread_of d) ≡ out w c n mood → Moved m SharedOf ContextOf first.settings flat s i going w (m.thread_of d) d
-            by free e at = subst (Moved m SharedOf ContextOf first.settings flat s i going w (m.thread_of d)) (sym e) (moved m SharedOf ContextOf first.settings flat s i going w (m.thread_of d) n most_local c free at (inr refl))
-            by asked e at = subst (Moved m SharedOf ContextOf first.settings flat s i going w (m.thread_of d)) (sym e) (moved m SharedOf ContextOf first.settings flat s i going w (m.thread_of d) n 0 c asked at (inl refl))
-            by must e at = absurd e
-
-            after : Moved m SharedOf ContextOf first.settings flat s i going w (m.thread_of d) d
-            after = by mood on there
+        act_good : (d c : C) (n : ℕ) (mood : Mood) → place_at s.places (m.thread_of d) ≡ out w c n mood → MovedOn machine first c mood d → GoodOf (calls.steps machine x w d)
+        act_good d c n mood there on = let after = stepped_on d c n mood there on in steps_good machine first log s stands w known d c n mood there before on (waited d c n mood there on)
+            (λ stays. (flat.goes_on s.shared d (lives m ContextOf SharedOf flat s.shared s.places i.of_ i.few sits w n c d mood there after.of_ after.progress) after.progress stays).waits)
 
         out_good : is_wanted m first.settings s ≡ false → (t : ℕ) → pick m first.settings s ≡ Some t → (p : Place C) → place_at s.places t ≡ p → (o : Option C) → at_home p ≡ o → GoodOf (calls.hands machine x w t o)
         out_good rest t pick' p at None is = same

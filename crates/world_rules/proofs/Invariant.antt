@@ -15,7 +15,7 @@ use Rattle.flat_rules.specs.Lawful.{IsFlat, IsOpened, Lives, Leaves}
 use Rattle.flat_rules.specs.Replays.{step, run}
 use Rattle.flat_rules.specs.inner.Cases.{Cases, Holds, event_holds, same_number}
 use Rattle.flat_rules.specs.inner.Steps.{step_cases, run_keeps}
-use Rattle.world_rules.proofs.Sits.{SitsAt, Sit, stays_on, goes_back, goes_away, left}
+use Rattle.world_rules.proofs.Sits.{SitsAt, Sit, Moved, stays_on, goes_back, goes_away, left}
 use Rattle.world_rules.proofs.MoveKeeps.{home_sits, leaves_sits, begins_sits, may_sweep, of_run, sweep_sits}
 use Rattle.world_rules.proofs.Sweeps.{length_after}
 
@@ -100,16 +100,11 @@ module _ {S C : Type 0} (m : Machine S C) (SharedOf : S → Type 0) (ContextOf :
       sits = subst (λ (e : Option End). Sit m ContextOf s.shared e s.places) going i.each
 
       -- what one call of `local` leaves of a context that is out
-      pub record Moved (t : ℕ) (d : C) : Type 0 where
-        pub of_ : ContextOf d
-        pub thread : m.thread_of d ≡ t
-        pub progress : m.progress d ≡ steps
-
-      pub moved : (t n k : ℕ) (c : C) (mood : Mood) → place_at s.places t ≡ out w c n mood → (k ≡ 0) ⊎ (k ≡ most_local) → Moved t (m.local k c)
+      pub moved : (t n k : ℕ) (c : C) (mood : Mood) → place_at s.places t ≡ out w c n mood → (k ≡ 0) ⊎ (k ≡ most_local) → Moved m ContextOf t (m.local k c)
       moved t n k c mood there bound = let h : SitsAt m ContextOf s.shared None t (out w c n mood) = subst (SitsAt m ContextOf s.shared None t) there (sits t) in
           let l = flat.works k c h.0.of_ bound h.0.progress in record { of_ = l.of_; thread = l.thread ∙ h.0.thread; progress = l.progress }
 
-      turned : (t n : ℕ) (c d : C) (mood : Mood) → place_at s.places t ≡ out w c n mood → Moved t d → Invariant (turn_event m rules s w t n mood (m.act s.shared d)).after
+      turned : (t n : ℕ) (c d : C) (mood : Mood) → place_at s.places t ≡ out w c n mood → Moved m ContextOf t d → Invariant (turn_event m rules s w t n mood (m.act s.shared d)).after
       turned t n c d mood at x = subst (λ (z : ℕ). Invariant (turn_event m rules s w z n mood (m.act s.shared d)).after) x.thread (by (goes (m.act s.shared d).turned) refl)
         where
           there : place_at s.places (m.thread_of d) ≡ out w c n mood

@@ -94,7 +94,7 @@ module _ {S K C : Type 0} (machine : K → Machine S C) (first : Whole S K C) wh
     not_blocked t n c mood at = middle_false _ (none_out m first.settings s) _ (let a = some_out s.places t w n c mood at in grind (arith, nat_tests))
 
     -- how many pass a test, after a place was changed
-    recount : (test : Place C → Bool) (t : ℕ) (p q : Place C) → place_at s.places t ≡ p → (p ≡ gone → ⊥) → count_by test (set s.places t q) + cond (test p) 1 0 ≡ count_by test s.places + cond (test q) 1 0
+    pub recount : (test : Place C → Bool) (t : ℕ) (p q : Place C) → place_at s.places t ≡ p → (p ≡ gone → ⊥) → count_by test (set s.places t q) + cond (test p) 1 0 ≡ count_by test s.places + cond (test q) 1 0
     recount test t p q at here = ap (λ (z : Place C). count_by test (set s.places t q) + cond (test z) 1 0) (sym at) ∙ sum_by-set (λ (z : Place C). cond (test z) 1 0) s.places t q gone (inside s.places t (λ e. here (sym at ∙ e)))
 
     -- a thread comes home
@@ -139,6 +139,15 @@ module _ {S K C : Type 0} (machine : K → Machine S C) (first : Whole S K C) wh
       one_more : (p : Place C) → is_out p ≡ true → count_by is_out s.places ≡ count_by is_out (set s.places t p)
       one_more p is = let h = recount is_out t (out w c n mood) p there here in let z : cond {A = ℕ} (is_out p) 1 0 ≡ 1 = ap (λ (b : Bool). cond {A = ℕ} b 1 0) is in omega arith
 
+      -- how many wait for room then
+      pub waits_more : (q : Place C) → m.waits c ≡ false → waits_at m q ≡ is_for_room a.turned → cond (is_for_room a.turned) (count_by (waits_at m) s.places + 1) (count_by (waits_at m) s.places) ≡ count_by (waits_at m) (set s.places t q)
+      waits_more q before after = by (is_for_room a.turned) (ap (λ (z : Bool). cond {A = ℕ} z 1 0) after) (ap (λ (z : Bool). cond {A = ℕ} z 1 0) before) (recount (waits_at m) t (out w c n mood) q there here)
+        where
+          by : (b : Bool) → cond {A = ℕ} (waits_at m q) 1 0 ≡ cond {A = ℕ} b 1 0 → cond {A = ℕ} (m.waits c) 1 0 ≡ 0 → count_by (waits_at m) (set s.places t q) + cond {A = ℕ} (m.waits c) 1 0 ≡ count_by (waits_at m) s.places + cond {A = ℕ} (waits_at m q) 1 0
+              → cond b (count_by (waits_at m) s.places + 1) (count_by (waits_at m) s.places) ≡ count_by (waits_at m) (set s.places t q)
+          by true x y z = omega arith
+          by false x y z = omega arith
+
       -- where the thread stays with its worker or is to come home
       stays : (q : Place C) → at_home q ≡ None → is_out q ≡ true → seat_of q ≡ seat.Out (min (n + 1) 256) → m.waits c ≡ false → waits_at m q ≡ is_for_room a.turned
           → with_entries (seated X t (turns_more (seat_at X.seats t)) a on) (turn_entry w t a.local a.turned ∷ []) ≡ whole_of machine first (log ++ turn_entry w t a.local a.turned ∷ []) (turned_state m first.settings s w t a q)
@@ -147,20 +156,12 @@ module _ {S K C : Type 0} (machine : K → Machine S C) (first : Whole S K C) wh
         homes = sym (map-set_same at_home s.places t q gone (none ∙ sym (ap at_home there))) i;
         seats = (ap (λ (k : ℕ). set X.seats t (seat.Out k)) counted ∙ (ap (set X.seats t) (sym sits) ∙ sym (map-set seat_of s.places t q))) i;
         out = one_more q out' i;
-        waiting = waits (is_for_room a.turned) refl i;
+        waiting = waits_more q before after i;
         since = s.since + 1;
         x = after_draw first.settings.schedule s.x;
         ending = ends_with t a.turned;
         log = record { entries = log ++ turn_entry w t a.local a.turned ∷ []; limit = first.settings.entries };
       }
-        where
-          waits : (b : Bool) → is_for_room a.turned ≡ b → cond b (count_by (waits_at m) s.places + 1) (count_by (waits_at m) s.places) ≡ count_by (waits_at m) (set s.places t q)
-          waits b is = by b (ap (λ (z : Bool). cond {A = ℕ} z 1 0) (after ∙ is)) (ap (λ (z : Bool). cond {A = ℕ} z 1 0) before) (recount (waits_at m) t (out w c n mood) q there here)
-            where
-              by : (b : Bool) → cond {A = ℕ} (waits_at m q) 1 0 ≡ cond {A = ℕ} b 1 0 → cond {A = ℕ} (m.waits c) 1 0 ≡ 0 → count_by (waits_at m) (set s.places t q) + cond {A = ℕ} (m.waits c) 1 0 ≡ count_by (waits_at m) s.places + cond {A = ℕ} (waits_at m q) 1 0
-                  → cond b (count_by (waits_at m) s.places + 1) (count_by (waits_at m) s.places) ≡ count_by (waits_at m) (set s.places t q)
-              by true x y z = omega arith
-              by false x y z = omega arith
 
       -- where it ended, or the run did
       leaves : m.waits c ≡ false

@@ -4,5 +4,6 @@ pub mod Sits
 pub mod MoveKeeps
 pub mod Invariant
 pub mod CallsKeep
+pub mod Says
 pub mod Soundness
 pub mod Unchanged

@@ -37,6 +37,12 @@ module _ {S C : Type 0} (m : Machine S C) (ContextOf : C → Type 0) where
   abbrev pub Sit : S → Option End → List (Place C) → Type 0
   Sit s end places = (t : ℕ) → SitsAt s end t (place_at places t)
 
+  -- the context of thread t, at its pending step
+  pub record Moved (t : ℕ) (d : C) : Type 0 where
+    pub of_ : ContextOf d
+    pub thread : m.thread_of d ≡ t
+    pub progress : m.progress d ≡ steps
+
   -- one place is changed
   pub sit_with : (s : S) (end : Option End) (ps : List (Place C)) (t : ℕ) (q : Place C) → t < length ps → ((k : ℕ) → k ≢ t → SitsAt s end k (place_at ps k)) → SitsAt s end t q → Sit s end (set ps t q)
   sit_with s end ps t q within others mine k = by (k == t) refl
