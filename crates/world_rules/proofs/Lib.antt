@@ -7,3 +7,4 @@ pub mod CallsKeep
 pub mod Says
 pub mod Soundness
 pub mod Unchanged
+pub mod Fresh

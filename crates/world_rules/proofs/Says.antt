@@ -249,3 +249,26 @@ module _ {S K C : Type 0} (machine : K → Machine S C) (first : Whole S K C) wh
     acts_told : (d c : C) (n : ℕ) (mood : Mood) → place_at s.places (m.thread_of d) ≡ out w c n mood → MovedOn machine first c mood d → (o : Option End) → end_before x ≡ o → ActedSays machine mood first (log ++ (calls.acts_by machine x w o d).1) w (calls.acts_by machine x w o d).0
     acts_told d c n mood there moves (Some end) e = over end e
     acts_told d c n mood there moves None e = steps_told e d c n mood there moves
+
+module _ {S K C : Type 0} (machine : K → Machine S C) (SharedOf : K → S → Type 0) (ContextOf : K → C → Type 0) (flat : (code : K) → IsFlat (machine code) (SharedOf code) (ContextOf code)) (first : Whole S K C) (log : List Entry) (x : Whole S K C) (w : ℕ)
+    (r : Reaches machine SharedOf first log x) (known : w < first.settings.workers) where
+  abbrev f : IsFlat (machine first.code) (SharedOf first.code) (ContextOf first.code)
+  f = flat first.code
+
+  stands : Stands machine first log r.replays.state
+  stands = stands_of machine first (SharedOf first.code) (ContextOf first.code) f log r.replays.state r.opened r.replays.leads
+
+  holds : Invariant (machine first.code) (SharedOf first.code) (ContextOf first.code) first.settings r.replays.state
+  holds = runs_keep (machine first.code) (SharedOf first.code) (ContextOf first.code) first.settings f first.shared r.opened log r.replays.state r.replays.leads.runs
+
+  -- what `find` tells
+  pub found_says : FoundSays machine first (log ++ calls.entries_of machine x w call.Find) w (calls.finds machine x w).0
+  found_says = subst (λ (z : Whole S K C). FoundSays machine first (log ++ calls.entries_of machine z w call.Find) w (calls.finds machine z w).0) (sym r.replays.is)
+      (finds_told machine first (SharedOf first.code) (ContextOf first.code) f log r.replays.state stands holds w known (end_before (whole_of machine first log r.replays.state)) refl)
+
+  -- what `act` tells of a thread that went on as `mood` says
+  pub acted_says : (d c : C) (mood : Mood) → IsOut machine first log w ((machine first.code).thread_of d) c mood → MovedOn machine first c mood d → ActedSays machine mood first (log ++ calls.entries_of machine x w (call.Act d)) w (calls.acts machine x w d).0
+  acted_says d c mood is moves = subst (λ (z : Whole S K C). ActedSays machine mood first (log ++ calls.entries_of machine z w (call.Act d)) w (calls.acts machine z w d).0) (sym r.replays.is)
+      (acts_told machine first (SharedOf first.code) (ContextOf first.code) f log r.replays.state stands holds w known d c is.turns mood
+      (subst (λ (z : State S C). place_at z.places ((machine first.code).thread_of d) ≡ out w c is.turns mood) (one_state machine first log is.state r.replays.state is.leads r.replays.leads) is.there) moves
+      (end_before (whole_of machine first log r.replays.state)) refl)

@@ -9,13 +9,13 @@ use Rattle.flat_meaning.specs.declared.endings.End.{End}
 use Rattle.flat_rules.specs.Machine.{Machine, works, steps}
 use Rattle.flat_rules.specs.States.{State, Place, unbegun, home, out, gone, Mood, free, asked, must, place_at, at_home, homes_of, is_out, waits_at, most_threads}
 use Rattle.flat_rules.specs.Events.{most_local}
-use Rattle.flat_rules.specs.Lawful.{IsFlat, Lives, waits_at_home}
+use Rattle.flat_rules.specs.Lawful.{IsFlat, IsOpened, waits_at_home}
 use Rattle.world_rules.specs.declared.calls.Seat.TheVariants as seat
 use Rattle.world_rules.specs.declared.calls.Call.TheVariants as call
 use Rattle.world_rules.specs.Whole.{Whole, Leads, Reaches, whole_of, seat_of}
 use Rattle.world_rules.specs.Calls.{home_at, seat_at, end_before, pick}
 use Rattle.world_rules.specs.Allowed.{IsOut, MovedOn, MayCall}
-use Rattle.world_rules.specs.Sound.{IsNew, IsSound, MayStep}
+use Rattle.world_rules.specs.Sound.{IsNew, IsSound, MayStep, MayWork}
 use Rattle.world_rules.specs.inner.Stays.{some_out}
 use Rattle.world_rules.proofs.Sits.{SitsAt, Sit, are_of_run}
 use Rattle.world_rules.proofs.MoveKeeps.{may_sweep}
@@ -120,3 +120,10 @@ module _ {S K C : Type 0} (machine : K → Machine S C) (SharedOf : K → S → 
     may_come_home w d may = subst (λ (z : Whole S K C). (0 < z.out) × ((machine z.code).thread_of d < most_threads)) (sym r.replays.is)
         (some_out r.replays.state.places (m.thread_of d) w may.turns d must (there_of w (m.thread_of d) d must may),
          known log r.replays.state holds w may.turns d d must (there_of w (m.thread_of d) d must may))
+
+  -- a context that a worker has out may work by itself
+  pub may_work : IsOpened m (SharedOf first.code) first.shared → (log : List Entry) (w t : ℕ) (c : C) (mood : Mood) → IsOut machine first log w t c mood → MayWork machine SharedOf ContextOf first.code c
+  may_work opened log w t c mood is =
+      let i : Holds is.state = runs_keep m (SharedOf first.code) (ContextOf first.code) first.settings (flat first.code) first.shared opened log is.state is.leads.runs in
+      let h : SitsAt m (ContextOf first.code) is.state.shared is.state.ending t (out w c is.turns mood) = subst (SitsAt m (ContextOf first.code) is.state.shared is.state.ending t) is.there (i.each t) in
+      record { of_ = h.0.of_; begun = h.0.progress }
