@@ -2,9 +2,11 @@ pub mod Keeps
 pub mod Sweeps
 pub mod Sits
 pub mod MoveKeeps
+pub mod Picks
 pub mod Invariant
 pub mod CallsKeep
 pub mod Says
+pub mod Exact
 pub mod Soundness
 pub mod Unchanged
 pub mod Fresh
