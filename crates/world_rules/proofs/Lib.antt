@@ -7,6 +7,7 @@ pub mod Invariant
 pub mod CallsKeep
 pub mod Says
 pub mod Exact
+pub mod Walks
 pub mod Soundness
 pub mod Unchanged
 pub mod Fresh
