@@ -124,7 +124,7 @@ module _ {S C : Type 0} (m : Machine S C) (SharedOf : S → Type 0) (ContextOf :
         comes = λ t n c at. record { of_ = i.of_; few = i.few; places = length-set s.places t _ ∙ i.places; each = with_end _ (home_sits m ContextOf SharedOf flat s.shared s.places i.of_ i.few sits t w n c at) };
       }
 
-    keeps : (log : List Entry) (s : State S C) (e : Entry) (s' : State S C) → Invariant s → step m rules s e ≡ Some s' → Invariant s'
+    pub keeps : (log : List Entry) (s : State S C) (e : Entry) (s' : State S C) → Invariant s → step m rules s e ≡ Some s' → Invariant s'
     keeps log s e s' i st = step_cases m rules s e s' {R = Invariant s'}
         (λ n. subst Invariant (sym n.is) (record { of_ = i.of_; few = i.few; places = i.places; each = i.each }))
         (λ f. subst Invariant (sym f.is) (let h : Invariant f.v.after = subst (Holds m rules s e.worker (λ v. Invariant v.after)) f.event (event_holds m rules s e.worker (λ v. Invariant v.after) (cases s i (none_ends s.ending _ f.live) e.worker) e.kind e.thread) in

@@ -8,6 +8,7 @@ pub mod CallsKeep
 pub mod Says
 pub mod Exact
 pub mod Walks
+pub mod Bounded
 pub mod Soundness
 pub mod Unchanged
 pub mod Fresh
