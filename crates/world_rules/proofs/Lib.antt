@@ -8,7 +8,7 @@ pub mod CallsKeep
 pub mod Says
 pub mod Exact
 pub mod Walks
+pub mod Fresh
 pub mod Bounded
 pub mod Soundness
 pub mod Unchanged
-pub mod Fresh

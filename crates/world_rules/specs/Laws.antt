@@ -13,7 +13,7 @@ use Rattle.world_rules.specs.Allowed.{IsOut, MovedOn, MayCall, Allowed, FoundSay
 use Rattle.world_rules.specs.Sound.{IsSound, MayStep, MayWork}
 use Rattle.world_rules.specs.Tells.{FindTells, ActTells}
 use Rattle.world_rules.specs.Journals.{NoneOutAtBarriers, OutIsOwn}
-use Rattle.world_rules.specs.Every.{FewBefore, FewBetween}
+use Rattle.world_rules.specs.Every.{FewTurns}
 
 module _ {S K C : Type 0} (machine : K → Machine S C) where
   -- what a worker may call it may still call when others have added entries
@@ -75,4 +75,4 @@ module _ {S K C : Type 0} (machine : K → Machine S C) where
 
       -- how many Turn entries come between two barriers
       abbrev pub BarriersCome : Type 0
-      BarriersCome = (first : Whole S K C) → FewBefore machine shared_of context_of first × FewBetween machine shared_of context_of first
+      BarriersCome = (first : Whole S K C) → FewTurns machine first shared_of context_of

@@ -68,7 +68,7 @@ pub fn threads_are_apart<F: Flat<Code, Context>, Code, Context>()
     ensures { ThreadsApart F.machine }
 {}
 
-/// A law: with `every` n there are at most n Turn entries until a barrier is wanted, and then at most so many for each thread that is out as it takes to come home.
+/// A law: with `every` n there are at most n Turn entries between two barriers, and as many as each thread takes to come home that is out when one is wanted.
 pub fn turns_between_barriers<F: Flat<Code, Context>, Code, Context>()
     ensures { BarriersCome F.machine F.shared_of F.context_of }
 {}
