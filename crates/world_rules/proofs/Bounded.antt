@@ -4,7 +4,6 @@ use Rattle.std.specs.Prelude.{count_by, ◌⊎◌, option_and_then}
 use mathlib.Core.Logic.{inl, inr}
 use Rattle.std.proofs.Math.Nat.{mul-suc}
 use Rattle.std.proofs.lemmas.List.{append-nil}
-use Rattle.std.proofs.Math.Seq.{get_or-set_same}
 use Rattle.std.proofs.lemmas.List.Sums.{sum_by-set, sum_by-cons, sum_by-append}
 use Rattle.std.proofs.lemmas.Option.{option_and_then_some}
 use Rattle.std.proofs.lemmas.Bool.Decides.{nat_tests}
@@ -12,16 +11,16 @@ use Rattle.ak_trace.specs.declared.entry.Entry.{Entry}
 use Rattle.ak_trace.specs.Kinds as kind
 use Rattle.flat_meaning.specs.declared.endings.End.{End}
 use Rattle.flat_rules.specs.Rules.{Rules}
-use Rattle.flat_rules.specs.Machine.{Machine, Acted, works, steps}
-use Rattle.flat_rules.specs.Entries.{turn_entry, barrier_entry}
-use Rattle.flat_rules.specs.States.{State, Place, unbegun, home, out, gone, Mood, free, asked, must, place_at, homes_of, is_out, waits_at, waits_for_room, is_due, is_wanted, none_out, end_of, start}
+use Rattle.flat_rules.specs.Machine.{Machine, Acted}
+use Rattle.flat_rules.specs.Entries.{barrier_entry}
+use Rattle.flat_rules.specs.States.{State, Place, unbegun, home, out, gone, Mood, free, asked, must, place_at, homes_of, is_out, waits_at, waits_for_room, is_due, is_wanted, start}
 use Rattle.flat_rules.specs.Draws.{after_draw}
 use Rattle.flat_rules.specs.Events.{Event, Goes, on, back, away, goes, most_local, mood_after, draw_asks, turns_out, turn_event, turned_by, turned_state, come_home}
 use Rattle.flat_rules.specs.Lawful.{IsFlat, IsOpened, Goes_on}
 use Rattle.flat_rules.specs.Replays.{step, run}
 use Rattle.flat_rules.specs.inner.Cases.{Cases, Holds, event_holds, same_number}
 use Rattle.flat_rules.specs.inner.Steps.{step_cases, run_keeps, run-append, same_kind}
-use Rattle.world_rules.specs.Whole.{Whole, Leads}
+use Rattle.world_rules.specs.Whole.{Whole}
 use Rattle.world_rules.specs.Every.{ComesHome, AllComeHome, RunsEvery, IsBetween, IsWantedWithin, FewTurns, is_turn, is_barrier}
 use Rattle.world_rules.specs.inner.Stays.{inside}
 use Rattle.world_rules.proofs.Sits.{SitsAt, Sit, Moved, lives}
@@ -78,8 +77,8 @@ module _ {S C : Type 0} (m : Machine S C) (rules : Rules) where
   step_counts s e s' settled other st = step_cases m rules s e s' {R = (s'.due ≡ []) × (s'.since ≡ s.since + cond {A = ℕ} (is_turn e) 1 0)}
       (λ n. absurd (let z : [] ≡ n.d ∷ n.ds = sym settled ∙ n.due in cc z))
       (λ f. let kinds : e.kind ≡ f.d.kind = same_kind e f.d f.same in
-          let h = subst (Holds m rules s e.worker (Counts s)) f.event (event_holds m rules s e.worker (Counts s) (counts s e.worker) e.kind e.thread) f.d f.ds f.entries (λ q. other (kinds ∙ q)) in
-          (ap (λ (z : State S C). z.due) f.is ∙ h.0, ap (λ (z : State S C). z.since) f.is ∙ (h.1 ∙ ap (λ (k : ℕ). s.since + cond {A = ℕ} (k == kind.turn) 1 0) (sym kinds))))
+      let h = subst (Holds m rules s e.worker (Counts s)) f.event (event_holds m rules s e.worker (Counts s) (counts s e.worker) e.kind e.thread) f.d f.ds f.entries (λ q. other (kinds ∙ q)) in
+      (ap (λ (z : State S C). z.due) f.is ∙ h.0, ap (λ (z : State S C). z.since) f.is ∙ (h.1 ∙ ap (λ (k : ℕ). s.since + cond {A = ℕ} (k == kind.turn) 1 0) (sym kinds))))
       st
 
   -- the state counts the Turn entries
@@ -267,10 +266,10 @@ module _ {S C : Type 0} (m : Machine S C) (SharedOf : S → Type 0) (ContextOf :
     run_bounded (e ∷ es) s s' i settled b none' ran = option_and_then_some (run m rules es) (step m rules s e) s' ran (λ y st rest.
         run_bounded es y s' (keeps m SharedOf ContextOf rules flat [] s e y i st) (step_counts m rules s e y settled none'.0 st).0
         (step_cases m rules s e y {R = Bounded y}
-            (λ n. absurd (let z : [] ≡ n.d ∷ n.ds = sym settled ∙ n.due in cc z))
-            (λ f. let h : Bounded f.v.after = subst (Holds m rules s e.worker (Keeps s i (none_ends s.ending _ f.live) b e.worker)) f.event (event_holds m rules s e.worker (Keeps s i (none_ends s.ending _ f.live) b e.worker) (bounds s i (none_ends s.ending _ f.live) b e.worker) e.kind e.thread) f.d f.ds f.entries (λ q. none'.0 (same_kind e f.d f.same ∙ q)) in
-                subst Bounded (sym f.is) (record { wanted = h.wanted; total = h.total; fits = h.fits; within = h.within }))
-            st)
+        (λ n. absurd (let z : [] ≡ n.d ∷ n.ds = sym settled ∙ n.due in cc z))
+        (λ f. let h : Bounded f.v.after = subst (Holds m rules s e.worker (Keeps s i (none_ends s.ending _ f.live) b e.worker)) f.event (event_holds m rules s e.worker (Keeps s i (none_ends s.ending _ f.live) b e.worker) (bounds s i (none_ends s.ending _ f.live) b e.worker) e.kind e.thread) f.d f.ds f.entries (λ q. none'.0 (same_kind e f.d f.same ∙ q)) in
+        subst Bounded (sym f.is) (record { wanted = h.wanted; total = h.total; fits = h.fits; within = h.within }))
+        st)
         none'.1 rest)
 
 module _ {S K C : Type 0} (machine : K → Machine S C) (SharedOf : K → S → Type 0) (ContextOf : K → C → Type 0) (flat : (code : K) → IsFlat (machine code) (SharedOf code) (ContextOf code)) (first : Whole S K C) where
@@ -315,12 +314,12 @@ module _ {S K C : Type 0} (machine : K → Machine S C) (SharedOf : K → S → 
       let last : count_by is_turn (part ++ e ∷ []) ≤ count_by is_turn part + 1 = let z = sum_by-append (λ (x : Entry). cond {A = ℕ} (is_turn x) 1 0) part (e ∷ []) in let y = one (is_turn e) in omega arith in
       let low = not_due first.settings.every n calm.since (waits_for_room m' first.settings calm) r.every rest in
       let few = run_bounded m' (SharedOf first.code) (ContextOf first.code) first.settings l r.homes (flat first.code) (wanted.since + (l + 3) * count_by is_out wanted.places) more wanted s i at'.0
-            (record {
-              wanted = want;
-              total = (l + 3) * count_by is_out wanted.places;
-              fits = omega arith;
-              within = at_most m' (SharedOf first.code) (ContextOf first.code) first.settings l r.homes wanted.shared wanted.ending wanted.places 0 (λ t. subst (λ (z : ℕ). SitsAt m' (ContextOf first.code) wanted.shared wanted.ending z (place_at wanted.places t)) (let z : t ≡ 0 + t = omega arith in z) (i.each t));
-            }) (no_barrier more none') (run_from (log ++ (part ++ e ∷ [])) more wanted s b'.stands all) in
+      (record {
+        wanted = want;
+        total = (l + 3) * count_by is_out wanted.places;
+        fits = omega arith;
+        within = at_most m' (SharedOf first.code) (ContextOf first.code) first.settings l r.homes wanted.shared wanted.ending wanted.places 0 (λ t. subst (λ (z : ℕ). SitsAt m' (ContextOf first.code) wanted.shared wanted.ending z (place_at wanted.places t)) (let z : t ≡ 0 + t = omega arith in z) (i.each t));
+      }) (no_barrier more none') (run_from (log ++ (part ++ e ∷ [])) more wanted s b'.stands all) in
       omega arith
     where
       one : (b : Bool) → 0 + cond {A = ℕ} b 1 0 ≤ 1
@@ -362,10 +361,13 @@ module _ {S K C : Type 0} (machine : K → Machine S C) (SharedOf : K → S → 
         none' rest = calm m' (SharedOf first.code) (ContextOf first.code) first.settings (flat first.code) s i going w rest
 
     quiet_step : (log : List Entry) (s : State S C) (e : Entry) (s' : State S C) → Inv s × Quiet s → step m' first.settings s e ≡ Some s' → Inv s' × Quiet s'
-    quiet_step log s e s' h st = (keeps m' (SharedOf first.code) (ContextOf first.code) first.settings (flat first.code) log s e s' h.0 st, step_cases m' first.settings s e s' {R = Quiet s'}
-        (λ n. subst Quiet (sym n.is) h.1)
-        (λ f. subst Quiet (sym f.is) (subst (Holds m' first.settings s e.worker (λ v. Quiet v.after)) f.event (event_holds m' first.settings s e.worker (λ v. Quiet v.after) (quiets s h.0 (none_ends s.ending _ f.live) e.worker h.1) e.kind e.thread)))
-        st)
+    quiet_step log s e s' h st = (
+      keeps m' (SharedOf first.code) (ContextOf first.code) first.settings (flat first.code) log s e s' h.0 st,
+      step_cases m' first.settings s e s' {R = Quiet s'}
+          (λ n. subst Quiet (sym n.is) h.1)
+          (λ f. subst Quiet (sym f.is) (subst (Holds m' first.settings s e.worker (λ v. Quiet v.after)) f.event (event_holds m' first.settings s e.worker (λ v. Quiet v.after) (quiets s h.0 (none_ends s.ending _ f.live) e.worker h.1) e.kind e.thread)))
+          st,
+    )
 
     all_quiet : (log : List Entry) (s : State S C) → run m' first.settings log start' ≡ Some s → Quiet s
     all_quiet log s ran = (run_keeps m' first.settings (λ _ z. Inv z × Quiet z) quiet_step [] log start' s
@@ -392,7 +394,7 @@ module _ {S K C : Type 0} (machine : K → Machine S C) (SharedOf : K → S → 
     walk (e ∷ es) seen z s b calm b' = option_and_then_some (run m' first.settings es) (step m' first.settings z e) s
         (run_from (log ++ seen) (e ∷ es) z s b.stands (ap (λ (xs : List Entry). run m' first.settings xs start') (append_assoc log seen (e ∷ es)) ∙ b'.stands))
         (λ y st rest. by y (next y st) (is_wanted m' first.settings y) refl (λ c. subst (λ (xs : List Entry). (is_wanted m' first.settings s ≡ false) ⊎ IsWantedWithin machine first log xs) (append_assoc seen (e ∷ []) es)
-            (walk es (seen ++ e ∷ []) y s (next y st) c (subst (λ (xs : List Entry). IsBetween machine first log xs s) (sym (append_assoc seen (e ∷ []) es)) b'))))
+        (walk es (seen ++ e ∷ []) y s (next y st) c (subst (λ (xs : List Entry). IsBetween machine first log xs s) (sym (append_assoc seen (e ∷ []) es)) b'))))
       where
         next : (y : State S C) → step m' first.settings z e ≡ Some y → IsBetween machine first log (seen ++ e ∷ []) y
         next y st = record {
@@ -420,5 +422,8 @@ module _ {S K C : Type 0} (machine : K → Machine S C) (SharedOf : K → S → 
       by : (is_wanted m' first.settings s ≡ false) ⊎ IsWantedWithin machine first log part
           → ((is_wanted m' first.settings s ≡ false) × (count_by is_turn part ≤ n)) ⊎ ((w : IsWantedWithin machine first log part) × (count_by is_turn part ≤ n + (l + 3) * count_by is_out w.wanted.places))
       by (inl calm) = inl (calm, few_before n l log part s r b calm)
-      by (inr w) = inr (w, subst (λ (xs : List Entry). count_by is_turn xs ≤ n + (l + 3) * count_by is_out w.wanted.places) (sym w.is)
-          (few_between n l log w.front w.more w.entry w.calm w.wanted s r w.before w.not_yet w.after w.want (subst (λ (xs : List Entry). IsBetween machine first log xs s) w.is b)))
+      by (inr w) = inr (
+        w,
+        subst (λ (xs : List Entry). count_by is_turn xs ≤ n + (l + 3) * count_by is_out w.wanted.places) (sym w.is)
+            (few_between n l log w.front w.more w.entry w.calm w.wanted s r w.before w.not_yet w.after w.want (subst (λ (xs : List Entry). IsBetween machine first log xs s) w.is b)),
+      )
