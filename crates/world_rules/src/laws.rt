@@ -1,5 +1,13 @@
 //! Laws of the world's calls, over any flat machine.
 ghost use Rattle.world_rules.specs.Laws.{ActAnswers, BarriersCome, CallsChange, CallsOwn, CallsReplay, CallsStay, FindAnswers, FreshReaches, HomesOut, OutMayWork, PickedMade, StepsMay, ThreadsApart, WorldsSound};
+ghost use Rattle.std.specs.Prelude.{◌≡◌, [], ◌∷◌, Some, None, pos};
+ghost use Rattle.flat_meaning.specs.declared.endings.End.TheVariants.{Done, AllBlocked, TurnLimit};
+ghost use Rattle.flat_rules.specs.Toys.{safe, spin, store, lock, alloc, stop};
+ghost use Rattle.flat_rules.specs.Rows.{told, code, done_journal, blocked_journal, spin_journal, every_journal, room_journal};
+ghost use Rattle.world_rules.specs.declared.calls.Reply.TheVariants as reply;
+ghost use Rattle.world_rules.specs.declared.calls.Found.TheVariants as found;
+ghost use Rattle.world_rules.specs.declared.calls.Acted.TheVariants as acted;
+ghost use Rattle.world_rules.specs.Rows.{driven};
 
 use flat_rules::Flat;
 
@@ -71,4 +79,13 @@ pub fn threads_are_apart<F: Flat<Code, Context>, Code, Context>()
 /// A law: with `every` n there are at most n Turn entries between two barriers, and as many as each thread takes to come home that is out when one is wanted.
 pub fn turns_between_barriers<F: Flat<Code, Context>, Code, Context>()
     ensures { BarriersCome F.machine F.shared_of F.context_of }
+{}
+
+/// One worker drives main, which ends at once; takes a mutex twice; goes round for ever; is asked home by `every`; and waits for room.
+pub fn one_worker_by_hand()
+    ensures done { driven 2 (told 1 None None 1000) (code (stop (pos 0) ∷ []) []) ≡ (reply.Acted (acted.Over (Done (pos 0))), done_journal) }
+    ensures blocked { driven 5 (told 1 None None 1000) (code (lock ∷ lock ∷ []) []) ≡ (reply.Found (found.Over AllBlocked), blocked_journal) }
+    ensures limit { driven 7 (told 1 None None 70) (code (spin ∷ []) []) ≡ (reply.Found (found.Over TurnLimit), spin_journal) }
+    ensures every { driven 8 (told 1 None (Some 1) 1000) (code (store ∷ store ∷ safe ∷ stop (pos 7) ∷ []) []) ≡ (reply.Acted (acted.Over (Done (pos 7))), every_journal) }
+    ensures room { driven 8 (told 1 None None 1000) (code (alloc ∷ alloc ∷ alloc ∷ stop (pos 0) ∷ []) []) ≡ (reply.Acted (acted.Over (Done (pos 0))), room_journal) }
 {}
