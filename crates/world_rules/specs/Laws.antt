@@ -2,13 +2,14 @@
 use Rattle.std.specs.Prelude.{◌≡◌, ◌↔◌, ℕ, ◌<◌, List, [], ◌++◌, Some}
 use Rattle.ak_trace.specs.declared.entry.Entry.{Entry}
 use Rattle.turn_lock.specs.Histories.{of_worker}
-use Rattle.flat_rules.specs.Machine.{Machine}
+use Rattle.flat_rules.specs.Machine.{Machine, blank}
 use Rattle.flat_rules.specs.States.{State, Mood, most_threads}
-use Rattle.flat_rules.specs.Lawful.{IsOpened}
+use Rattle.flat_rules.specs.Lawful.{IsOpened, Lives}
 use Rattle.world_rules.specs.declared.calls.Call.{Call}
 use Rattle.world_rules.specs.declared.calls.Call.TheVariants as call
+use Rattle.world_rules.specs.declared.calls.Seat.TheVariants as seat
 use Rattle.world_rules.specs.Whole.{Whole, Leads, Replays, Reaches, IsFresh}
-use Rattle.world_rules.specs.Calls.{finds, acts, pick, entries_of, after}
+use Rattle.world_rules.specs.Calls.{home_at, seat_at, finds, acts, pick, entries_of, after}
 use Rattle.world_rules.specs.Allowed.{IsOut, MovedOn, MayCall, Allowed, FoundSays, ActedSays}
 use Rattle.world_rules.specs.Sound.{IsSound, MayStep, MayWork}
 use Rattle.world_rules.specs.Tells.{FindTells, ActTells}
@@ -65,11 +66,16 @@ module _ {S K C : Type 0} (machine : K → Machine S C) where
       abbrev pub WorldsSound : Type 0
       WorldsSound = (first : Whole S K C) (log : List Entry) (x : Whole S K C) → Reaches machine shared_of first log x → IsSound machine shared_of context_of x
 
-      -- and so has a context that may take its step
+      -- with it a thread that is picked and has not begun may begin
+      abbrev pub PickedMayBegin : Type 0
+      PickedMayBegin = (x : Whole S K C) (t : ℕ) (c : C) → IsSound machine shared_of context_of x → pick machine x ≡ Some t → home_at x.homes t ≡ Some c → seat_at x.seats t ≡ seat.New
+          → Lives (machine x.code) (shared_of x.code) (context_of x.code) x.shared c × ((machine x.code).progress c ≡ blank)
+
+      -- what `act` asks, of a context that may take its step
       abbrev pub StepsMay : Type 0
       StepsMay = (first : Whole S K C) (log : List Entry) (x : Whole S K C) (w : ℕ) (d : C) → Reaches machine shared_of first log x → MayCall machine first log w (call.Act d) → MayStep machine shared_of context_of x d
 
-      -- and one that a worker has out, for its work
+      -- what `local` asks, of one that a worker has out
       abbrev pub OutMayWork : Type 0
       OutMayWork = (first : Whole S K C) (log : List Entry) (w t : ℕ) (c : C) (mood : Mood) → IsOpened (machine first.code) (shared_of first.code) first.shared → IsOut machine first log w t c mood → MayWork machine shared_of context_of first.code c
 

@@ -1,5 +1,5 @@
 //! Laws of the world's calls, over any flat machine.
-ghost use Rattle.world_rules.specs.Laws.{ActAnswers, BarriersCome, CallsChange, CallsOwn, CallsReplay, CallsStay, FindAnswers, FreshReaches, HomesOut, OutMayWork, PickedMade, StepsMay, ThreadsApart, WorldsSound};
+ghost use Rattle.world_rules.specs.Laws.{ActAnswers, BarriersCome, CallsChange, CallsOwn, CallsReplay, CallsStay, FindAnswers, FreshReaches, HomesOut, OutMayWork, PickedMade, PickedMayBegin, StepsMay, ThreadsApart, WorldsSound};
 ghost use Rattle.std.specs.Prelude.{◌≡◌, [], ◌∷◌, Some, None, pos};
 ghost use Rattle.flat_meaning.specs.declared.endings.End.TheVariants.{Done, AllBlocked, TurnLimit};
 ghost use Rattle.flat_rules.specs.Toys.{safe, spin, store, lock, alloc, stop};
@@ -59,6 +59,11 @@ pub fn who_comes_home_is_out<F: Flat<Code, Context>, Code, Context>()
 /// A law: a thread that is picked was made.
 pub fn who_is_picked_was_made<F: Flat<Code, Context>, Code, Context>()
     ensures { PickedMade F.machine }
+{}
+
+/// A law: a thread that is picked and has not begun has what `begin` of the machine asks.
+pub fn who_is_picked_may_begin<F: Flat<Code, Context>, Code, Context>()
+    ensures { PickedMayBegin F.machine F.shared_of F.context_of }
 {}
 
 /// A law: exactly where each answer of `find` comes, and that the replay has the context out which it hands out.
