@@ -5,6 +5,7 @@ use Rattle.flat_rules.specs.Rules.{Rules}
 use Rattle.flat_rules.specs.Draws.{seeded}
 use Rattle.flat_rules.specs.States.{homes_of, unbegun_from, most_threads}
 use Rattle.flat_rules.specs.Events.{most_local}
+use Rattle.flat_rules.specs.Lawful.{IsFlat, IsOpened}
 use Rattle.flat_rules.specs.Toys.{Deed, Common, Thread, toy, common}
 use Rattle.world_rules.specs.declared.calls.Seat.TheVariants as seat
 use Rattle.world_rules.specs.declared.calls.Found.TheVariants as found
@@ -69,3 +70,11 @@ drive (suc n) x h r = let r' : Reply Thread = reply_of toy x 0 (next_call x.code
 -- the last reply after so many calls, and the journal
 abbrev pub driven : ℕ → Rules → (ℕ → List Deed) → Reply Thread × List Entry
 driven n rules code = let d = drive n (opened rules code) empty reply.Homed in (d.0, d.1.log.entries)
+
+-- Anything may be shared by the small machine's threads, and any context is one of its own
+abbrev pub Any : {A : Type 0} → A → Type 0
+Any a = Unit {0}
+
+-- The small machine is lawful, whatever its threads have to do, and what they share at first is that of a machine which was opened
+abbrev pub SmallIsLawful : Type 0
+SmallIsLawful = (code : ℕ → List Deed) → IsFlat (toy code) Any Any × IsOpened (toy code) Any common

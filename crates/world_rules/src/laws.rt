@@ -7,7 +7,7 @@ ghost use Rattle.flat_rules.specs.Rows.{told, code, done_journal, blocked_journa
 ghost use Rattle.world_rules.specs.declared.calls.Reply.TheVariants as reply;
 ghost use Rattle.world_rules.specs.declared.calls.Found.TheVariants as found;
 ghost use Rattle.world_rules.specs.declared.calls.Acted.TheVariants as acted;
-ghost use Rattle.world_rules.specs.Rows.{driven};
+ghost use Rattle.world_rules.specs.Rows.{driven, SmallIsLawful};
 
 use flat_rules::Flat;
 
@@ -93,4 +93,9 @@ pub fn one_worker_by_hand()
     ensures limit { driven 7 (told 1 None None 70) (code (spin ∷ []) []) ≡ (reply.Found (found.Over TurnLimit), spin_journal) }
     ensures every { driven 8 (told 1 None (Some 1) 1000) (code (store ∷ store ∷ safe ∷ stop (pos 7) ∷ []) []) ≡ (reply.Acted (acted.Over (Done (pos 7))), every_journal) }
     ensures room { driven 8 (told 1 None None 1000) (code (alloc ∷ alloc ∷ alloc ∷ stop (pos 0) ∷ []) []) ≡ (reply.Acted (acted.Over (Done (pos 0))), room_journal) }
+{}
+
+/// The machine that is driven by hand meets all that the laws ask of one.
+pub fn the_small_machine_is_lawful()
+    ensures { SmallIsLawful }
 {}
