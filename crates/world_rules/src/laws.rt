@@ -1,5 +1,4 @@
 //! Laws of the world's calls, over any flat machine.
-ghost use Rattle.world_rules.specs.Laws.{ActAnswers, BarriersCome, CallsChange, CallsOwn, CallsReplay, CallsStay, FindAnswers, FreshReaches, HomesOut, OutMayWork, PickedMade, PickedMayBegin, StepsMay, ThreadsApart, WorldsSound};
 ghost use Rattle.std.specs.Prelude.{◌≡◌, [], ◌∷◌, Some, None, pos};
 ghost use Rattle.flat_meaning.specs.declared.endings.End.TheVariants.{Done, AllBlocked, TurnLimit};
 ghost use Rattle.flat_rules.specs.Toys.{safe, spin, store, lock, alloc, stop};
@@ -7,6 +6,7 @@ ghost use Rattle.flat_rules.specs.Rows.{told, code, done_journal, blocked_journa
 ghost use Rattle.world_rules.specs.declared.calls.Reply.TheVariants as reply;
 ghost use Rattle.world_rules.specs.declared.calls.Found.TheVariants as found;
 ghost use Rattle.world_rules.specs.declared.calls.Acted.TheVariants as acted;
+ghost use Rattle.world_rules.specs.Laws.{ActAnswers, BarriersCome, CallsChange, CallsOwn, CallsReplay, CallsStay, FindAnswers, FreshReaches, HomesOut, JournalsFit, OutMayWork, PickedMade, PickedMayBegin, StepsMay, ThreadsApart, WorldsSound};
 ghost use Rattle.world_rules.specs.Rows.{driven, SmallIsLawful};
 
 use flat_rules::Flat;
@@ -19,6 +19,11 @@ pub fn fresh_worlds_replay<F: Flat<Code, Context>, Code, Context>()
 /// A law: after a call that is allowed, the journal replays to the world after it.
 pub fn allowed_calls_replay<F: Flat<Code, Context>, Code, Context>()
     ensures { CallsReplay F.machine F.shared_of }
+{}
+
+/// A law: no journal is longer than its limit.
+pub fn journals_are_within_their_limit<F: Flat<Code, Context>, Code, Context>()
+    ensures { JournalsFit F.machine F.shared_of }
 {}
 
 /// A law: a call that is allowed stays so while other workers add entries.
@@ -81,7 +86,7 @@ pub fn threads_are_apart<F: Flat<Code, Context>, Code, Context>()
     ensures { ThreadsApart F.machine }
 {}
 
-/// A law: with `every` n there are at most n Turn entries between two barriers, and as many as each thread takes to come home that is out when one is wanted.
+/// A law: with `every` n at most n Turn entries come between two barriers, and l + 3 more for each thread that was out when the second came to be wanted, where a thread that is asked home comes in l + 2 turns.
 pub fn turns_between_barriers<F: Flat<Code, Context>, Code, Context>()
     ensures { BarriersCome F.machine F.shared_of F.context_of }
 {}
