@@ -1,5 +1,5 @@
 -- Each call that a worker may make leaves a journal that replays to the world after it.
-use Rattle.std.proofs.Common.{◌≡◌, ℕ, ◌<◌, ◌≤◌, ◌==◌, Bool, true, false, cond, List, [], ◌++◌, length, ap, sym, subst, ◌∙◌, refl, Option, Some, None}
+use Rattle.std.proofs.Common.{◌≡◌, ℕ, ◌<◌, ◌≤◌, ◌==◌, Bool, true, false, cond, List, [], ◌++◌, length, ap, sym, subst, ◌∙◌, refl, arith, Option, Some, None}
 use Rattle.std.specs.Prelude.{count_by, option_and_then}
 use mathlib.Core.Logic.{inl, inr}
 use Rattle.std.proofs.lemmas.List.{append-nil}
