@@ -268,10 +268,11 @@ left_to_right order = told (run (whole [] []
 abbrev pub gives_pointer : Func
 gives_pointer = func 0 [] (printf_int (k 2) ∷ returns (decayed int_ty 2 (global 0)) ∷ [])
 
--- f()+g(), and g()+f(), where f is that function, and g this one
+-- f()+g(), where f is that function, and g this one
 abbrev pub number_first : Expr
 number_first = of_type int_star (pointer_add (call_of 1 []) (of_type int_star (call 2 no_exprs)))
 
+-- g()+f(), of the same two
 abbrev pub pointer_first : Expr
 pointer_first = of_type int_star (pointer_add (of_type int_star (call 2 no_exprs)) (call_of 1 []))
 

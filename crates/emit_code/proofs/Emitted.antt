@@ -11,6 +11,7 @@ use Rattle.struct_ir.proofs.Follows.{follows_mirrors, follows_safe}
 use Rattle.struct_ir.proofs.Lawful.{lawful_code_shrinks}
 use Rattle.struct_ir.proofs.Level.{same_events}
 use Rattle.struct_ir.proofs.Mirrors.{mirrors_runs}
+use Rattle.pin_flow.proofs.Starts.{each_start}
 use Rattle.emit_code.specs.inner.Layout.{long, emit, code_of, func_linear, linear_of}
 use Rattle.emit_code.specs.inner.Holds.{Holds}
 use Rattle.emit_code.specs.Stands.{StandsAt, StandsIn}
@@ -66,7 +67,7 @@ emitted p =
       frames = same_frames p.funcs;
       follows = follows funcs;
       starts = func_starts p.funcs;
-      safe = λ f safe. follows_safe structured structured_shrinks (linear funcs) (StandsIn funcs) (follows funcs) (start_of p.funcs f) (entry_of f) (func_starts p.funcs f) safe;
+      safe = λ all f. follows_safe structured structured_shrinks (linear funcs) (StandsIn funcs) (follows funcs) (start_of p.funcs f) (entry_of f) (func_starts p.funcs f) (each_start p.funcs all f);
       short = counts_short p.funcs;
     }
 

@@ -11,6 +11,7 @@ use Rattle.struct_ir.specs.Linear.{linear, entry_of}
 use Rattle.struct_ir.specs.Lawful.{AllLawful}
 use Rattle.struct_ir.specs.Marks.{MarksAreIdle, Follows}
 use Rattle.struct_ir.specs.Alike.{SameEvents}
+use Rattle.pin_flow.specs.Funcs.{EveryFunc, IsPinSafe}
 use Rattle.emit_code.specs.Stands.{StandsIn}
 
 -- how many nodes there are, with those inside others
@@ -50,8 +51,8 @@ pub record IsEmitted (p : Ir) (code : LinearCode) : Type 0 where
   -- instruction
   pub follows : Follows structured (linear code.funcs) (StandsIn code.funcs)
   pub starts : (f : ℕ) → StandsIn code.funcs (start_of p.funcs f) (entry_of f)
-  -- a function that is safe for moves stays so
-  pub safe : (f : ℕ) → PinSafe structured (start_of p.funcs f) → PinSafe (linear code.funcs) (entry_of f)
+  -- a program that is safe for moves stays so
+  pub safe : EveryFunc IsPinSafe p → (f : ℕ) → PinSafe (linear code.funcs) (entry_of f)
   -- two instructions a node at most, and one a function
   pub short : instr_count code.funcs ≤ 2 * nodes_count p.funcs + length p.funcs
 

@@ -6,6 +6,7 @@ use Rattle.ak_words.specs.Op.{exact_result, rule_of, replacement}
 use Rattle.ak_words.specs.Wrapped.{residue, wrapped_value}
 use Rattle.flat_words.specs.Words.{word_of, word_in, applied}
 
+-- numbers as words, words read at a type, and operations on words
 pub record WordRowsHold : Type 0 where
   -- of -1 all bits are set
   pub minus_one : word_of (negsuc 0) ≡ 18446744073709551615

@@ -2,6 +2,7 @@
 use Rattle.std.specs.Prelude.{◌≡◌, refl}
 use Rattle.handle_words.specs.Handle.{handle_of, id_of, offset_of, added}
 
+-- a handle, its id and its offset, and sums of handles and of addresses
 pub record Rows : Type 0 where
   pub handle : handle_of 5 12 ≡ 9223372058329612300
   pub id : id_of 9223372058329612300 ≡ 5

@@ -8,11 +8,10 @@ ghost use Rattle.struct_ir.specs.Instrs.{instr_count};
 ghost use Rattle.struct_ir.specs.Linear.{linear, entry_of};
 ghost use Rattle.struct_ir.specs.LinearViews.{code_view};
 ghost use Rattle.struct_ir.specs.Pins.{PinSafe};
-ghost use Rattle.struct_ir.specs.Structured.{structured, start_of};
 ghost use Rattle.struct_ir.specs.Valid.{is_valid};
 ghost use Rattle.struct_ir.specs.WholeViews.{ir_view};
 ghost use Rattle.emit_code.specs.Emitted.{nodes_count};
-ghost use Rattle.pin_flow.specs.Funcs.{EveryFunc, IsCovered, IsExact, IsHoisted};
+ghost use Rattle.pin_flow.specs.Funcs.{EveryFunc, IsCovered, IsExact, IsHoisted, IsPinSafe};
 ghost use Rattle.pin_flow.specs.Slots.{HasOwnSlots};
 
 use ak_words::NoMemory;
@@ -76,7 +75,7 @@ pub fn place_twice(alloc: Global, ir: &Ir) -> Result<Ir, NoMemory>
 /// The linear code, where the code is valid and safepoints stand as they should: what is safe stays so, and there are at most two instructions a node and
 /// one a function.
 pub fn emit_if_placed(alloc: Global, ir: &Ir) -> Result<Option<Code>, NoMemory>
-    ensures safe { IfOk result (λ o. IfSome o (λ code. (f : ℕ) → PinSafe structured (start_of (ir_view ir.now).funcs f) → PinSafe (linear (code_view code).funcs) (entry_of f))) }
+    ensures safe { IfOk result (λ o. IfSome o (λ code. EveryFunc IsPinSafe (ir_view ir.now) → (f : ℕ) → PinSafe (linear (code_view code).funcs) (entry_of f))) }
     ensures short { IfOk result (λ o. IfSome o (λ code. instr_count (code_view code).funcs ≤ 2 * nodes_count (ir_view ir.now).funcs + length (ir_view ir.now).funcs)) }
 {
     if is_placed(ir) && is_valid(ir) {

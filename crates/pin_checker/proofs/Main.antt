@@ -1,13 +1,14 @@
 -- The report is the answer.
-use Rattle.std.proofs.Common.{◌≡◌, ℕ, zero, suc, ◌≤◌, List, [], ◌∷◌, Option, Some, None, Bool, true, false, inl, inr, refl, sym, ap, subst, ◌∙◌, arith}
-use Rattle.std.specs.List.{list_all}
+use Rattle.std.proofs.Common.{◌≡◌, ℕ, ◌≤◌, List, [], ◌∷◌, Option, Some, None, Bool, true, false, inl, inr, refl, sym, ap, subst, ◌∙◌, arith}
+use Rattle.std.specs.List.{AllByRecursion, list_all}
 use Rattle.std.specs.Prelude.{not, nat_lt, ◌&&◌, ◌||◌, ◌==◌}
 use Rattle.std.proofs.lemmas.Bool.{and_parts, and_from, eqb-true, eq-eqb}
 use Rattle.struct_ir.specs.Nodes.{Place, Act, Node, plain, if_, loop, break_, next_, ret, Nodes, no_nodes, more_nodes, Func, Ir, places_of}
 use Rattle.struct_ir.specs.Flow.{does, Path}
-use Rattle.struct_ir.specs.Structured.{Position, done, then_, here, structured, start_of}
+use Rattle.struct_ir.specs.Structured.{Position, done, then_, here, structured}
 use Rattle.struct_ir.specs.Pins.{Fact, unlooked, looked, facts, lacks_if, held_by, Among, IsPlaced, PinSafe}
 use Rattle.struct_ir.specs.Valid.{Scope, Around, body_of, latch_of, outside, scope_of, list_at, last_list, is_node, are_nodes, node_is_placed, are_placed}
+use Rattle.pin_flow.specs.Funcs.{IsPinSafe}
 use Rattle.pin_flow.proofs.Strip.{by_bool}
 use Rattle.pin_checker.specs.declared.fault.Why.{Why}
 use Rattle.pin_checker.specs.declared.fault.Why.TheVariants.{BadTemp, NoLook, StaleLook, NotPinned}
@@ -89,30 +90,21 @@ placed_if ns safe w k path place act h a among (Some slot) named =
 pin_safe_if : (ns : Nodes) → ((place : ℕ) (why : Why) → Unsafe ns place why → ⊥) → PinSafe structured (then_ ns done)
 pin_safe_if ns safe = record { each = λ w k path place act h a among. placed_if ns safe w k path place act h a among a.slot refl }
 
--- nothing stands in no nodes
-nothing : (place : ℕ) (why : Why) → Unsafe no_nodes place why → ⊥
-nothing place why u =
-    Rattle.pin_flow.proofs.Sound.each_holds (λ a t. ⊥) (Rattle.pin_flow.specs.Held.held 0) (Rattle.pin_flow.proofs.Fresh.held_fair 0) (λ a t u le e. e) no_nodes tt u.way u.at u.path place u.act u.here
-
 record AllSafe (p : Ir) (fs : List Func) : Type 0 where
   valid : list_all (λ f. are_nodes (scope_of p f) outside f.nodes) fs ≡ true
   placed : list_all (λ f. are_placed None f.nodes) fs ≡ true
-  pinned : (i : ℕ) → PinSafe structured (start_of fs i)
+  pinned : AllByRecursion IsPinSafe fs
 
 all_safe_if : (p : Ir) (fs : List Func) → ((place : ℕ) (why : Why) → FailsAmong p fs place why → ⊥) → AllSafe p fs
-all_safe_if p [] h = record { valid = refl; placed = refl; pinned = λ i. pin_safe_if no_nodes nothing }
+all_safe_if p [] h = record { valid = refl; placed = refl; pinned = tt }
 all_safe_if p (f ∷ rest) h =
     let v = valid_if (scope_of p f) outside None f.nodes (λ place i. h place BadTemp (inl (inl (refl, i)))) in
     let r = all_safe_if p rest (λ place why i. h place why (inr i)) in
     record {
       valid = and_from _ _ v.0 r.valid;
       placed = and_from _ _ v.1 r.placed;
-      pinned = first_or (pin_safe_if f.nodes (λ place why u. h place why (inl (inr u)))) r.pinned;
+      pinned = (pin_safe_if f.nodes (λ place why u. h place why (inl (inr u))), r.pinned);
     }
-  where
-    first_or : PinSafe structured (then_ f.nodes done) → ((i : ℕ) → PinSafe structured (start_of rest i)) → (i : ℕ) → PinSafe structured (start_of (f ∷ rest) i)
-    first_or x y zero = x
-    first_or x y (suc i) = y i
 
 -- ---- safe code has no fault
 
@@ -181,8 +173,8 @@ safe_not p (f ∷ rest) s place why i =
     let g = and_parts (are_placed None f.nodes) (list_all (λ h. are_placed None h.nodes) rest) s.placed in
     elim i [
       | inl (inl j) ↦ valid_not (scope_of p f) outside None f.nodes v.0 g.0 place j.1
-      | inl (inr u) ↦ pinned_not f.nodes (s.pinned zero) place why u
-      | inr j ↦ safe_not p rest (record { valid = v.1; placed = g.1; pinned = λ i. s.pinned (suc i) }) place why j
+      | inl (inr u) ↦ pinned_not f.nodes s.pinned.0 place why u
+      | inr j ↦ safe_not p rest (record { valid = v.1; placed = g.1; pinned = s.pinned.1 }) place why j
     ]
 
 -- ---- the answers

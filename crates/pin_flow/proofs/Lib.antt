@@ -1,6 +1,7 @@
 pub mod Order
 pub mod EachAt
 pub mod Sound
+pub mod Starts
 pub mod Real
 pub mod Strip
 pub mod Switch

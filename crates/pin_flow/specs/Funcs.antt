@@ -1,8 +1,7 @@
 -- What is asked of the functions of a program.
-use Rattle.std.specs.Prelude.{ℕ}
 use Rattle.std.specs.List.{AllByRecursion}
 use Rattle.struct_ir.specs.Nodes.{Func, Ir}
-use Rattle.struct_ir.specs.Structured.{done, then_, structured, start_of}
+use Rattle.struct_ir.specs.Structured.{done, then_, structured}
 use Rattle.struct_ir.specs.Pins.{PinSafe}
 use Rattle.pin_flow.specs.Looks as looks
 use Rattle.pin_flow.specs.Held.{HoistedThroughout}
@@ -27,10 +26,6 @@ IsHoistedThroughout f = HoistedThroughout f.nodes
 abbrev pub IsExact : Func → Type 0
 IsExact f = looks.PinsExact f.nodes
 
--- safe for moves
+-- safe for moves: on every path, each access finds its base's word in its slot, which no list since lacks
 abbrev pub IsPinSafe : Func → Type 0
 IsPinSafe f = PinSafe structured (then_ f.nodes done)
-
--- in each function, on every path, each access finds its base's word in its slot, which no list since lacks
-abbrev pub AllPinSafe : Ir → Type 0
-AllPinSafe x = (f : ℕ) → PinSafe structured (start_of x.funcs f)

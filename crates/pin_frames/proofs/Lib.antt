@@ -14,5 +14,4 @@ pub mod Programs
 pub mod Seat
 pub mod Seated
 pub mod Stand
-pub mod Starts
 pub mod Valid

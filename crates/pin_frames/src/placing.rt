@@ -10,7 +10,7 @@ ghost use Rattle.struct_ir.specs.Views.{nodes_view, func_view};
 ghost use Rattle.struct_ir.specs.WholeViews.{ir_view};
 ghost use Rattle.pin_flow.specs.Marks.{bad};
 ghost use Rattle.pin_flow.specs.Live.{lives};
-ghost use Rattle.pin_flow.specs.Funcs.{AllPinSafe, EveryFunc, IsCovered, IsExact, IsHoisted, IsHoistedThroughout};
+ghost use Rattle.pin_flow.specs.Funcs.{EveryFunc, IsCovered, IsExact, IsHoisted, IsHoistedThroughout, IsPinSafe};
 ghost use Rattle.pin_flow.specs.Slots.{HasOwnSlots, slot_if};
 ghost use Rattle.pin_frames.specs.inner.Place.{seated, cleared, listed_one, listed_for, listed_each, func_placed, ir_placed};
 
@@ -40,7 +40,7 @@ pub fn place(alloc: Global, ir: &Ir) -> Result<Ir, NoMemory>
     ensures stand { IfOk result (λ x. list_all (λ f. are_placed None f.nodes) (ir_view x).funcs ≡ true) }
     ensures due { IfOk result (λ x. all_due (ir_view x) ≡ true) }
     ensures exact { IfOk result (λ x. EveryFunc IsExact (ir_view x)) }
-    ensures safe { EveryFunc IsCovered (ir_view ir.now) → IfOk result (λ x. AllPinSafe (ir_view x)) }
+    ensures safe { EveryFunc IsCovered (ir_view ir.now) → IfOk result (λ x. EveryFunc IsPinSafe (ir_view x)) }
     ensures hoisted { EveryFunc IsHoistedThroughout (ir_view ir.now) → IfOk result (λ x. EveryFunc IsHoisted (ir_view x)) }
     ensures valid { is_valid (ir_view ir.now) ≡ true → IfOk result (λ x. is_valid (ir_view x) ≡ true) }
 {
@@ -61,7 +61,7 @@ pub fn place_owned(alloc: Global, ir: Ir) -> Result<Ir, NoMemory>
     ensures stand { IfOk result (λ x. list_all (λ f. are_placed None f.nodes) (ir_view x).funcs ≡ true) }
     ensures due { IfOk result (λ x. all_due (ir_view x) ≡ true) }
     ensures exact { IfOk result (λ x. EveryFunc IsExact (ir_view x)) }
-    ensures safe { EveryFunc IsCovered (ir_view ir) → IfOk result (λ x. AllPinSafe (ir_view x)) }
+    ensures safe { EveryFunc IsCovered (ir_view ir) → IfOk result (λ x. EveryFunc IsPinSafe (ir_view x)) }
     ensures hoisted { EveryFunc IsHoistedThroughout (ir_view ir) → IfOk result (λ x. EveryFunc IsHoisted (ir_view x)) }
     ensures valid { is_valid (ir_view ir) ≡ true → IfOk result (λ x. is_valid (ir_view x) ≡ true) }
 {

@@ -6,11 +6,10 @@ use Rattle.struct_ir.specs.Erased.{ir_erased}
 use Rattle.struct_ir.specs.Placed.{all_due}
 use Rattle.struct_ir.specs.Valid.{is_valid, are_placed}
 use Rattle.struct_ir.specs.WholeViews.{ir_view}
-use Rattle.pin_flow.specs.Funcs.{AllPinSafe, EveryFunc, IsCovered, IsExact, IsHoisted, IsHoistedThroughout, IsPinSafe}
+use Rattle.pin_flow.specs.Funcs.{EveryFunc, IsCovered, IsExact, IsHoisted, IsHoistedThroughout, IsPinSafe}
 use Rattle.pin_flow.specs.Slots.{HasOwnSlots}
 use Rattle.pin_frames.specs.inner.Place.{ir_placed}
 use Rattle.pin_frames.proofs.Programs.{IsNamed, every_is, every_both, every_named, every_stands, every_due, func_exact, func_hoisted, func_safe, func_slots, whole_erased, whole_valid}
-use Rattle.pin_frames.proofs.Starts.{each_start}
 use Rattle.pin_frames.proofs.placing.place_owned.Goals as goal
 
 pub returns-clause-erased : goal.returns-clause-erased
@@ -52,7 +51,7 @@ returns-clause-safe c covered =
     let ir = ir_view c.args.ir in
     let all : EveryFunc IsPinSafe (ir_placed ir) =
     every_is (λ f. IsNamed f × HasOwnSlots f) IsCovered IsPinSafe (λ f p k. func_safe f p.0 p.1 k) ir (every_both IsNamed HasOwnSlots ir (every_named ir c.requires.named) c.requires.slots) covered in
-    IfOk-weaker c.place_all.result (λ x. ir_view x ≡ ir_placed ir) (λ x. AllPinSafe (ir_view x)) (λ x e. subst (λ (y : Ir). AllPinSafe y) (sym e) (each_start (ir_placed ir).funcs all)) c.place_all.ensures
+    IfOk-weaker c.place_all.result (λ x. ir_view x ≡ ir_placed ir) (λ x. EveryFunc IsPinSafe (ir_view x)) (λ x e. subst (λ (y : Ir). EveryFunc IsPinSafe y) (sym e) all) c.place_all.ensures
 
 pub returns-clause-valid : goal.returns-clause-valid
 returns-clause-valid c valid =
