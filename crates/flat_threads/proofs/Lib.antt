@@ -1,0 +1,4 @@
+mod Words
+mod Unsigned
+mod Applies
+mod Setting
