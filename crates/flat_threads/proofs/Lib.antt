@@ -2,3 +2,4 @@ mod Words
 mod Unsigned
 mod Applies
 mod Setting
+mod FlatRuns
