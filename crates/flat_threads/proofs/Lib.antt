@@ -2,4 +2,5 @@ mod Words
 mod Unsigned
 mod Applies
 mod Setting
+mod Addresses
 mod FlatRuns
