@@ -2,6 +2,11 @@ mod Words
 mod Unsigned
 mod Applies
 mod Setting
+mod Settings
+mod Linked
+mod Programs
+mod Pairs
+mod Instrs
 mod Calcs
 mod Addresses
 mod FlatRuns
