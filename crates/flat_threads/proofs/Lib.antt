@@ -4,6 +4,8 @@ mod Applies
 mod Setting
 mod Settings
 mod Linked
+mod ArrayFacts
+mod Ran
 mod Programs
 mod Pairs
 mod Instrs
