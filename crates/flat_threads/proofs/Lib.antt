@@ -1,0 +1,14 @@
+mod Words
+mod Unsigned
+mod Applies
+mod Setting
+mod Settings
+mod Linked
+mod ArrayFacts
+mod Ran
+mod Programs
+mod Pairs
+mod Instrs
+mod Calcs
+mod Addresses
+mod FlatRuns
