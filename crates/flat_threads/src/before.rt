@@ -1,7 +1,7 @@
 //! What a thread stands before, and whether there is room for a call.
 
 ghost use Rattle.std.specs.Prelude.{◌≡◌, ◌≤◌, ◌↔◌, ℕ, IsTrue, Some, slice_get};
-ghost use Rattle.struct_ir.specs.Instrs.{LinearFunc, LinearCode};
+ghost use Rattle.struct_ir.specs.Instrs.{LinearFunc};
 ghost use Rattle.struct_ir.specs.Linear.{Spot};
 ghost use Rattle.flat_meaning.specs.Local as alone;
 ghost use Rattle.flat_meaning.specs.Stages as stages;
@@ -79,7 +79,7 @@ fn may_enter(program: &Program, calls: &Calls) -> bool
 {
     let func = &program.code.funcs[calls.top.function as usize];
     match &func.instrs[calls.top.index as usize].kind {
-        InstrKind::Enter(node) => has_room(calls, &program.funcs[node.function as usize]),
+        InstrKind::Enter(node) => has_room(program, calls, &program.funcs[node.function as usize]),
         _ => false,
     }
 }
@@ -92,12 +92,14 @@ fn is_small(func: &FlatFunc) -> bool
 }
 
 /// Whether a thread has room for a call of the function above what it has.
-pub(crate) fn has_room(calls: &Calls, func: &FlatFunc) -> bool
-    ensures { (code : LinearCode) (function : ℕ) (f : LinearFunc) → slice_get code.funcs function ≡ Some f → IsFlatFunc (layout_of code) f func.now → IsThreadOf code calls.now → result ≡ room_for (own_image code) calls.now function }
+pub(crate) fn has_room(program: &Program, calls: &Calls, func: &FlatFunc) -> bool
+    requires { IsThreadOf program.now calls.now }
+    ensures { (function : ℕ) (f : LinearFunc) → slice_get program.now.funcs function ≡ Some f → IsFlatFunc (layout_of program.now) f func.now → result ≡ room_for (own_image program.now) calls.now function }
 {
     let top = &calls.top;
+    let stack = program.funcs[top.function as usize].stack;
     func.temps <= REGISTERS - (top.registers + top.own_registers)
         && func.slots <= SLOTS - (top.slots + top.own_slots)
         && calls.callers.len() as u32 + 2 <= FRAMES
-        && func.stack <= STACK - (top.stack + top.own_stack)
+        && top.stack + stack + func.stack <= STACK
 }
