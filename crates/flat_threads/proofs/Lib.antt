@@ -1,1 +1,4 @@
 pub mod Spans
+pub mod Programs
+pub mod Threads
+pub mod Entering

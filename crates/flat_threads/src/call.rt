@@ -1,7 +1,13 @@
-ghost use Rattle.std.specs.Prelude.{◌≡◌, ◌+◌, ◌^◌, ◌<◌};
+ghost use Rattle.std.specs.Prelude.{◌≡◌, ◌+◌, ◌^◌, ◌<◌, Some, slice_get};
+ghost use Rattle.struct_ir.specs.Instrs.{instrs_of};
+ghost use Rattle.struct_ir.specs.InstrViews.{instr_view};
+ghost use Rattle.flat_threads.specs.Contexts.{IsProgram};
 ghost use Rattle.flat_threads.specs.inner.Arrays.{call_above};
+ghost use Rattle.flat_threads.specs.inner.Parts.{IsAt};
 
 use crate::flat::FlatFunc;
+use crate::program::Program;
+use struct_ir::Instr;
 
 /// A call: the instruction before which it stands, and where in its thread's arrays what it has begins.
 #[derive(Clone, Copy, Debug, PartialEq, Eq)]
@@ -52,6 +58,16 @@ impl Call {
             own_slots: func.slots,
             stack: self.stack + stack,
         }
+    }
+
+    /// The instruction before which it stands.
+    pub(crate) fn instr<'a>(&self, program: &'a Program) -> &'a Instr
+        requires { IsAt program.now (record { function = self.now.function; index = self.now.index }) }
+        ensures is { slice_get (instrs_of program.now.funcs self.now.function) self.now.index ≡ Some (instr_view result.now) }
+        ensures small { self.now.index + 1 < 2 ^ 32 }
+        ensures program { IsProgram program.now }
+    {
+        &program.code.funcs[self.function as usize].instrs[self.index as usize]
     }
 }
 
