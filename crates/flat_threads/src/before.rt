@@ -77,8 +77,7 @@ fn may_enter(program: &Program, calls: &Calls) -> bool
     requires { IsThreadOf program.now calls.now }
     ensures { (function : ℕ) → stages.before (own_image program.now) calls.now ≡ stages.calls function → result ≡ room_for (own_image program.now) calls.now function }
 {
-    let func = &program.code.funcs[calls.top.function as usize];
-    match &func.instrs[calls.top.index as usize].kind {
+    match &calls.instr(program).kind {
         InstrKind::Enter(node) => has_room(program, calls, &program.funcs[node.function as usize]),
         _ => false,
     }
