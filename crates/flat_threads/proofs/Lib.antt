@@ -1,4 +1,6 @@
 pub mod Spans
-pub mod Programs
+pub mod Loaded
 pub mod Threads
 pub mod Entering
+pub mod Standing
+pub mod Rooms

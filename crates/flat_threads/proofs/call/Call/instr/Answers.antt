@@ -1,6 +1,6 @@
 use Rattle.std.proofs.Common.{arith, subst}
 use Rattle.flat_threads.specs.Contexts.{IsProgram}
-use Rattle.flat_threads.proofs.Programs.{program_is, instr_count, few_instrs}
+use Rattle.flat_threads.proofs.Loaded.{program_is, instr_count, few_instrs}
 use Rattle.flat_threads.proofs.call.Call.instr.Goals as goal
 
 pub index-requires-2 : goal.index-requires-2
