@@ -2,5 +2,5 @@ pub mod Spans
 pub mod Loaded
 pub mod Threads
 pub mod Entering
-pub mod Standing
 pub mod Rooms
+pub mod Standing

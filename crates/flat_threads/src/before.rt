@@ -6,7 +6,7 @@ ghost use Rattle.struct_ir.specs.Linear.{Spot};
 ghost use Rattle.flat_meaning.specs.Local as alone;
 ghost use Rattle.flat_meaning.specs.Stages as stages;
 ghost use Rattle.flat_meaning.specs.Stages.{Stage, room_for};
-ghost use Rattle.flat_threads.specs.Contexts.{IsStageIf, IsThreadOf, layout_of, own_image};
+ghost use Rattle.flat_threads.specs.Contexts.{IsProgram, IsStageIf, IsThreadOf, layout_of, own_image};
 ghost use Rattle.flat_meaning.specs.Words.{none_used};
 ghost use Rattle.flat_threads.specs.inner.Flat.{IsFlatFunc};
 ghost use Rattle.flat_threads.specs.inner.Parts.{fits_above};
@@ -38,7 +38,9 @@ pub(crate) enum Before {
 /// What a thread stands before.
 pub(crate) fn stands_before(program: &Program, calls: &Calls) -> Before
     requires { IsThreadOf program.now calls.now }
-    ensures { result ≡ told_before (stages.before (own_image program.now) calls.now) }
+    ensures before { result ≡ told_before (stages.before (own_image program.now) calls.now) }
+    ensures small { calls.now.top.at.index + 1 < 2 ^ 32 }
+    ensures program { IsProgram program.now }
 {
     match calls.instr(program).kind {
         InstrKind::Safe(_) => Before::Safe,
