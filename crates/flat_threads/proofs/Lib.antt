@@ -4,3 +4,4 @@ pub mod Threads
 pub mod Entering
 pub mod Rooms
 pub mod Standing
+pub mod Turns

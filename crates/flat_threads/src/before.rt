@@ -98,8 +98,8 @@ fn no_room_unless(room: bool) -> Option<Stop>
     if room { None } else { Some(Stop::NoRoom) }
 }
 
-// There is room for the call before which a thread stands.
-fn may_enter(program: &Program, calls: &Calls) -> bool
+/// Whether there is room for the call before which a thread stands.
+pub(crate) fn may_enter(program: &Program, calls: &Calls) -> bool
     requires { IsThreadOf program.now calls.now }
     ensures { (function : ℕ) → stages.before (own_image program.now) calls.now ≡ stages.calls function → result ≡ room_for (own_image program.now) calls.now function }
 {
@@ -116,8 +116,8 @@ fn is_small(func: &FlatFunc) -> bool
     fits(0, 0, 0, 0, func)
 }
 
-/// Whether a thread has room for a call of the function above what it has.
-pub(crate) fn has_room(program: &Program, calls: &Calls, func: &FlatFunc) -> bool
+// A thread has room for a call of the function above what it has.
+fn has_room(program: &Program, calls: &Calls, func: &FlatFunc) -> bool
     requires { IsThreadOf program.now calls.now }
     ensures { (function : ℕ) (f : LinearFunc) → slice_get program.now.funcs function ≡ Some f → IsFlatFunc (layout_of program.now) f func.now → result ≡ room_for (own_image program.now) calls.now function }
 {
