@@ -5,3 +5,4 @@ pub mod Entering
 pub mod Rooms
 pub mod Standing
 pub mod Turns
+pub mod GoesOn
