@@ -16,4 +16,4 @@ returns-in-Starts c = λ stage e.
     let there = sym (ap (λ (k : Context). k.stage) c.ctx.view_is) ∙ ap (λ (p : Phase). stage_of p c.ctx.inside.list.items c.ctx.inside.calls) c.in-Starts.is in
     c.no_room_unless.ensures ∙ (ap no_room_if c.is_small.ensures
     ∙ starts_stops c.args.program.now c.args.ctx.now.stage c.in-Starts.function c.in-Starts.field-1 there c.requires c.index.result.now
-        (λ (f : LinearFunc) (g : slice_get c.args.program.now.funcs c.in-Starts.function ≡ Some f). flat_at _ c.args.program.now c.program.view_is c.program.inside.funcs.items c.program.invariant.0 c.in-Starts.function f c.index.result.now g c.index.ensures) c.args.most c.args.turns stage e)
+    (λ (f : LinearFunc) (g : slice_get c.args.program.now.funcs c.in-Starts.function ≡ Some f). flat_at _ c.args.program.now c.program.view_is c.program.inside.funcs.items c.program.invariant.0 c.in-Starts.function f c.index.result.now g c.index.ensures) c.args.most c.args.turns stage e)
