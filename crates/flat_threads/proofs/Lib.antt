@@ -6,3 +6,4 @@ pub mod Rooms
 pub mod Standing
 pub mod Turns
 pub mod GoesOn
+pub mod Listed
