@@ -47,7 +47,7 @@ same_words ss first n (s ∷ list) all =
     let z : 0 + s ≡ s = omega arith in
     let lt : s < n = all 0 0 (omega arith) in
     let a : get_or (take n (drop first ss)) (0 + s) blank_slot ≡ get_or ss (first + s) blank_slot =
-      ap (λ k. get_or (take n (drop first ss)) k blank_slot) z ∙ (get_or-take n (drop first ss) s blank_slot lt ∙ get_or-drop first ss s blank_slot) in
+    ap (λ k. get_or (take n (drop first ss)) k blank_slot) z ∙ (get_or-take n (drop first ss) s blank_slot lt ∙ get_or-drop first ss s blank_slot) in
     let b = same_words ss first n list (λ k d lt. all (suc k) d (omega (arith, lt))) in
     ap (λ (p : PinSlot). p.word ∷ listed_words ss first list) (sym a) ∙ ap (λ l. (slot_at (take n (drop first ss)) (0 + s)).word ∷ l) b
 
@@ -87,7 +87,7 @@ module _ (xs : List ℕ) (ss : List PinSlot) (top : Call) (cs : List Call) (kept
 apart : (x : ℕ) (xs : List ℕ) → not (list_any (λ y. y == x) xs) ≡ true → AllByRecursion (λ y. (x == y) ≡ false) xs
 apart x [] e = tt
 apart x (y ∷ xs) e = by (apart x xs) (y == x) refl e where
-  by : (not (list_any (λ y. y == x) xs) ≡ true → AllByRecursion (λ y. (x == y) ≡ false) xs) → (b : Bool) → (y == x) ≡ b → not (cond b true (list_any (λ y. y == x) xs)) ≡ true → ((x == y) ≡ false) × AllByRecursion (λ y. (x == y) ≡ false) xs
+  by : (not (list_any (λ y. y == x) xs) ≡ true → AllByRecursion (λ y. (x == y) ≡ false) xs) → (b : Bool) → (y == x) ≡ b → not (b || list_any (λ y. y == x) xs) ≡ true → ((x == y) ≡ false) × AllByRecursion (λ y. (x == y) ≡ false) xs
   by go true f g = absurd cc
   by go false f g = (Rattle.std.proofs.lemmas.Bool.ne_eqb x y (λ h. Rattle.std.proofs.lemmas.Bool.eqb-false y x f (sym h)), go g)
 
@@ -102,7 +102,7 @@ below_any n (x ∷ xs) e q h = by (λ e g. below_any n xs e q g) (q == x) refl h
   parts : (nat_lt x n ≡ true) × (are_below n xs ≡ true)
   parts = and_parts (nat_lt x n) (are_below n xs) e
 
-  by : (are_below n xs ≡ true → list_any (λ y. q == y) xs ≡ true → q < n) → (b : Bool) → (q == x) ≡ b → cond b true (list_any (λ y. q == y) xs) ≡ true → q < n
+  by : (are_below n xs ≡ true → list_any (λ y. q == y) xs ≡ true → q < n) → (b : Bool) → (q == x) ≡ b → (b || list_any (λ y. q == y) xs) ≡ true → q < n
   by go true f g = let same = eqb-true q x f in omega (arith, same, ltb-true x n parts.0)
   by go false f g = go parts.1 g
 
@@ -125,9 +125,9 @@ act_list x (step s) list e f =
     let d = and_parts (is_action x s.action) (is_own_list x s.action s.slots) b.1 in
     let l = and_parts (is_list x s.slots) (may_wait s.action || (length s.slots == 0)) d.1 in
     by (may_wait s.action) l.0 f where
-  by : (b : Bool) → is_list x s.slots ≡ true → cond b (Some s.slots) None ≡ Some list → is_list x list ≡ true
-  by true l f = subst (λ k. is_list x k ≡ true) (same_Some _ _ f) l
-  by false l f = absurd cc
+      by : (b : Bool) → is_list x s.slots ≡ true → cond b (Some s.slots) None ≡ Some list → is_list x list ≡ true
+      by true l f = subst (λ k. is_list x k ≡ true) (same_Some _ _ f) l
+      by false l f = absurd cc
 act_list x (look slot base) list e f = absurd cc
 act_list x (safepoint slots) list e f = subst (λ k. is_list x k ≡ true) (same_Some _ _ f) e
 act_list x (begin_object i) list e f = absurd cc
