@@ -12,3 +12,12 @@ mod Instrs
 mod Calcs
 mod Addresses
 mod FlatRuns
+pub mod Spans
+pub mod Loaded
+pub mod Threads
+pub mod Entering
+pub mod Rooms
+pub mod Standing
+pub mod Turns
+pub mod GoesOn
+pub mod Listed
