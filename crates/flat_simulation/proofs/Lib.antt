@@ -1,0 +1,4 @@
+pub mod Written
+pub mod Loaded
+pub mod Actions
+pub mod Barriers

@@ -1,0 +1,2 @@
+-- What proofs of the laws use: nothing here has to be believed.
+pub mod Storage
