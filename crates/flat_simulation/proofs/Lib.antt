@@ -2,3 +2,4 @@ pub mod Written
 pub mod Loaded
 pub mod Actions
 pub mod Barriers
+pub mod Blocks

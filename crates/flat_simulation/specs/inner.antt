@@ -1,2 +1,3 @@
 -- What proofs of the laws use: nothing here has to be believed.
 pub mod Storage
+pub mod Aged
