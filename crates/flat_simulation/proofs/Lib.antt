@@ -3,3 +3,4 @@ pub mod Loaded
 pub mod Actions
 pub mod Barriers
 pub mod Blocks
+pub mod Numbers

@@ -1,3 +1,4 @@
 -- What proofs of the laws use: nothing here has to be believed.
 pub mod Storage
 pub mod Aged
+pub mod Values
