@@ -4,3 +4,4 @@ pub mod Actions
 pub mod Barriers
 pub mod Blocks
 pub mod Numbers
+pub mod Pointers
