@@ -5,3 +5,4 @@ pub mod Barriers
 pub mod Blocks
 pub mod Numbers
 pub mod Pointers
+pub mod Compared

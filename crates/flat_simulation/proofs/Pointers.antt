@@ -1,23 +1,19 @@
 -- Pointers into named blocks, and their words: moved, tested, told apart and subtracted.
-use Rattle.std.proofs.Common.{◌≡◌, ◌≢◌, ℕ, zero, suc, ◌+◌, ◌-◌, ◌*◌, ◌/◌, ◌%◌, ◌^◌, ◌<◌, ◌≤◌, ℤ, pos, negsuc, ◌+ℤ◌, ◌-ℤ◌, ◌*ℤ◌, Bool, true, false, not, ◌&&◌, ◌==◌, leb, List, length, Option, Some, None, Result, Ok, Err, refl, sym, ap, subst, ◌∙◌, arith, ◌⊎◌, inl, inr}
-use Rattle.std.specs.Prelude.{neg_ℤ, if◌then◌else◌, nat_le, int_lt}
-use Rattle.std.specs.Ordering.{int_eq}
+use Rattle.std.proofs.Common.{◌≡◌, ◌≢◌, ℕ, ◌+◌, ◌*◌, ◌%◌, ◌^◌, ◌<◌, ◌≤◌, ℤ, pos, negsuc, ◌+ℤ◌, Bool, true, false, ◌==◌, leb, List, length, Option, Some, None, Ok, Err, refl, sym, ap, subst, ◌∙◌, arith, inl, inr}
+use Rattle.std.specs.Prelude.{if◌then◌else◌, nat_le}
 use Rattle.std.proofs.lemmas.Int.{ints}
-use Rattle.std.proofs.lemmas.Bool.{cases_eq, cases_lt, eq-eqb, ne_eqb, eqb-true, le-leb, leb-true}
+use Rattle.std.proofs.lemmas.Bool.{eqb-true, le-leb, leb-true}
 use Rattle.std.proofs.lemmas.Bool.Decides.{nat_tests}
-use Rattle.ak_words.specs.declared.rule.Rule.{Rule}
-use Rattle.ak_words.specs.declared.rule.Rule.TheVariants.{C7, C8, C9}
+use Rattle.ak_words.specs.declared.rule.Rule.TheVariants.{C7}
 use Rattle.block_store.specs.declared.values.Ptr.{Ptr}
 use Rattle.block_store.specs.declared.values.Ptr.TheVariants.{Null, To}
 use Rattle.block_store.specs.Blocks.{Block, Blocks, live}
-use Rattle.block_store.specs.Pointers.{within, moved_in, moved_null, moved, lives_in, is_usable, both_usable}
-use Rattle.c_tree.specs.TypedForm.{taken}
+use Rattle.block_store.specs.Pointers.{within, moved_in, moved_null, moved, lives_in, is_usable}
 use Rattle.handle_words.specs.Handle.{handle_of, id_of, offset_of, added}
-use Rattle.flat_store.specs.Flat.{first_address}
 use Rattle.flat_words.specs.Words.{word_of}
 use Rattle.flat_meaning.specs.Names.{Name, heap, plain, name_of, word_for}
 use Rattle.flat_simulation.specs.inner.Values.{IsPlaced, LieApart, Sees, Points, PointerStands}
-use Rattle.flat_simulation.proofs.Numbers.{word_apart, word_below, word_small, word_same}
+use Rattle.flat_simulation.proofs.Numbers.{word_apart, word_small}
 
 -- ---- words of placed blocks
 
