@@ -6,3 +6,4 @@ pub mod Blocks
 pub mod Numbers
 pub mod Pointers
 pub mod Compared
+pub mod Registers

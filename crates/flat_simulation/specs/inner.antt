@@ -2,3 +2,4 @@
 pub mod Storage
 pub mod Aged
 pub mod Values
+pub mod Calls
