@@ -7,3 +7,5 @@ pub mod Numbers
 pub mod Pointers
 pub mod Compared
 pub mod Registers
+pub mod Values
+pub mod Cells

@@ -3,3 +3,4 @@ pub mod Storage
 pub mod Aged
 pub mod Values
 pub mod Calls
+pub mod Cells
