@@ -9,3 +9,4 @@ pub mod Compared
 pub mod Registers
 pub mod Values
 pub mod Cells
+pub mod Placed
