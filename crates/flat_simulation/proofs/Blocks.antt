@@ -45,6 +45,10 @@ live_in blocks n b e = go (slice_get blocks n) refl e
     go (Some x) d e = slice_get_within blocks n x d
     go None d e = absurd cc
 
+-- one live block
+pub one_live : (blocks : Blocks) (block : ℕ) (b d : Block) → live blocks block ≡ Some b → live blocks block ≡ Some d → b ≡ d
+one_live blocks block b d e f = let both : Some b ≡ Some d = sym e ∙ f in cc
+
 -- a new block, first of all
 abbrev pub new_block : ℕ → BlockKind → Cell → Block
 new_block size kind first = record { kind = kind; cells = replicate size first }

@@ -10,3 +10,5 @@ pub mod Registers
 pub mod Values
 pub mod Cells
 pub mod Placed
+pub mod Rows
+pub mod Memory

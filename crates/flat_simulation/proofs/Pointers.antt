@@ -13,6 +13,7 @@ use Rattle.handle_words.specs.Handle.{handle_of, id_of, offset_of, added}
 use Rattle.flat_words.specs.Words.{word_of}
 use Rattle.flat_meaning.specs.Names.{Name, heap, plain, name_of, word_for}
 use Rattle.flat_simulation.specs.inner.Values.{IsPlaced, LieApart, Sees, Points, PointerStands}
+use Rattle.flat_simulation.proofs.Blocks.{one_live}
 use Rattle.flat_simulation.proofs.Numbers.{word_apart, word_small}
 
 -- ---- words of placed blocks
@@ -64,10 +65,6 @@ pub if_ok : {A E : Type 0} (c : Bool) (x y : A) (f : E) → (if c then Ok x else
 if_ok true x y f e = (refl, cc)
 if_ok false x y f e = absurd cc
 
--- one live block
-one_block : (blocks : Blocks) (block : ℕ) (b d : Block) → live blocks block ≡ Some b → live blocks block ≡ Some d → b ≡ d
-one_block blocks block b d e f = let both : Some b ≡ Some d = sym e ∙ f in cc
-
 -- nothing is added
 nothing_added : added 0 (word_of (pos 0)) ≡ 0
 nothing_added = ap (added 0) (word_small 0 (omega arith))
@@ -83,7 +80,7 @@ module _ (names : List Name) (K : ℕ → Type 0) (blocks : Blocks) (sees : Sees
       subst (λ q. PointerStands names K blocks q (added word (word_of by))) fits.1 (record {
         known = points.known;
         made = points.made;
-        within = λ d f. subst (λ (c : Block). to ≤ length c.cells) (one_block blocks block b d lives f) inside;
+        within = λ d f. subst (λ (c : Block). to ≤ length c.cells) (one_live blocks block b d lives f) inside;
         agrees = λ d f. word_is;
       })
 
