@@ -12,3 +12,5 @@ pub mod Cells
 pub mod Placed
 pub mod Rows
 pub mod Memory
+pub mod Names
+pub mod Accesses

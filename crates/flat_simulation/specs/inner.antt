@@ -4,3 +4,4 @@ pub mod Aged
 pub mod Values
 pub mod Calls
 pub mod Cells
+pub mod World
