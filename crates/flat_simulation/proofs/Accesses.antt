@@ -76,13 +76,13 @@ module _ (names : List Name) (blocks : Blocks) (m : Memory) (stand : BlocksStand
   sees = sees_all names blocks s stand.consistent stand.names_stand
 
   -- where a pointer goes that has a range
-  reaches : (size : ℕ) (p : Ptr) (at : Spot) (a : ℕ) → 0 < size → IsFound blocks size p at → GoesTo names blocks s p a → a ≡ address at.name + at.offset
+  pub reaches : (size : ℕ) (p : Ptr) (at : Spot) (a : ℕ) → 0 < size → IsFound blocks size p at → GoesTo names blocks s p a → a ≡ address at.name + at.offset
   reaches size p at a some at_found goes =
       let there = in_bytes names blocks s stand.consistent stand.names_stand at.name at.block at_found.lives in
       let to : GoesTo names blocks s (To at.name at.offset) a = subst (λ q. GoesTo names blocks s q a) at_found.is goes in
       to at.block at_found.lives ∙ mod-eq_of_lt (omega (arith, there.1, at_found.within, stand.consistent.whole, stand.consistent.small))
 
-  there_at : (size : ℕ) (p : Ptr) (at : Spot) (a : ℕ) → 0 < size → IsFound blocks size p at → GoesTo names blocks s p a → first_outside s.bytes a size ≡ None
+  pub there_at : (size : ℕ) (p : Ptr) (at : Spot) (a : ℕ) → 0 < size → IsFound blocks size p at → GoesTo names blocks s p a → first_outside s.bytes a size ≡ None
   there_at size p at a some at_found goes =
       ap (λ x. first_outside s.bytes x size) (reaches size p at a some at_found goes) ∙ none_outside names blocks s stand.consistent stand.names_stand stand.memory at.name at.block at_found.lives at.offset size at_found.within
 
@@ -91,7 +91,7 @@ module _ (names : List Name) (blocks : Blocks) (m : Memory) (stand : BlocksStand
     pub stands : BlocksStand names later (written m at bytes).storage
     pub ages : Aged names names blocks later
 
-  write_stands : (new : List Cell) (at : Spot) (bytes : List ℕ) → live blocks at.name ≡ Some at.block → at.offset + length new ≤ length at.block.cells → RowStands names blocks new bytes
+  pub write_stands : (new : List Cell) (at : Spot) (bytes : List ℕ) → live blocks at.name ≡ Some at.block → at.offset + length new ≤ length at.block.cells → RowStands names blocks new bytes
       → IsWritten (with_cells_at blocks new at) (address at.name + at.offset) bytes
   write_stands new at bytes here fits row =
       let later = with_cells_at blocks new at in

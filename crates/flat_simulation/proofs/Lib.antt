@@ -14,3 +14,4 @@ pub mod Rows
 pub mod Memory
 pub mod Names
 pub mod Accesses
+pub mod Copies
