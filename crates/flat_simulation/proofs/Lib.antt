@@ -15,3 +15,4 @@ pub mod Memory
 pub mod Names
 pub mod Accesses
 pub mod Copies
+pub mod Places

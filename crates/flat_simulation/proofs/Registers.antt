@@ -35,18 +35,18 @@ use Rattle.flat_simulation.proofs.Compared.{tested_stands, compared_stands, diff
 -- ---- what was read, where a result is there
 
 -- a value
-was_value : {A : Type 0} (place : ℕ) (h : Held) (go : Value → Result A Fault) (r : A) → on_value (known place h) go ≡ Ok r → (v : Value) × (h ≡ value v) × (go v ≡ Ok r)
+pub was_value : {A : Type 0} (place : ℕ) (h : Held) (go : Value → Result A Fault) (r : A) → on_value (known place h) go ≡ Ok r → (v : Value) × (h ≡ value v) × (go v ≡ Ok r)
 was_value place (value v) go r e = (v, refl, e)
 was_value place unset go r e = absurd cc
 was_value place missing go r e = absurd cc
 
 -- a number
-was_number : {A : Type 0} (go : Num → Result A Fault) (v : Value) (r : A) → on_number go v ≡ Ok r → (n : Num) × (v ≡ values.Num n) × (go n ≡ Ok r)
+pub was_number : {A : Type 0} (go : Num → Result A Fault) (v : Value) (r : A) → on_number go v ≡ Ok r → (n : Num) × (v ≡ values.Num n) × (go n ≡ Ok r)
 was_number go (values.Num n) r e = (n, refl, e)
 was_number go (values.Pointer p) r e = absurd cc
 
 -- a pointer
-was_pointer : {A : Type 0} (go : Ptr → Result A Fault) (v : Value) (r : A) → on_pointer go v ≡ Ok r → (p : Ptr) × (v ≡ values.Pointer p) × (go p ≡ Ok r)
+pub was_pointer : {A : Type 0} (go : Ptr → Result A Fault) (v : Value) (r : A) → on_pointer go v ≡ Ok r → (p : Ptr) × (v ≡ values.Pointer p) × (go p ≡ Ok r)
 was_pointer go (values.Num n) r e = absurd cc
 was_pointer go (values.Pointer p) r e = (p, refl, e)
 
@@ -66,7 +66,7 @@ both false b e = absurd cc
 -- ---- products
 
 -- a number times a size, and its word times it
-scaled : (x : ℤ) (a m j k c : ℕ) → x +ℤ pos (j * m) ≡ pos a +ℤ pos (k * m) → x *ℤ pos c +ℤ pos (j * c * m) ≡ pos (a * c) +ℤ pos (k * c * m)
+pub scaled : (x : ℤ) (a m j k c : ℕ) → x +ℤ pos (j * m) ≡ pos a +ℤ pos (k * m) → x *ℤ pos c +ℤ pos (j * c * m) ≡ pos (a * c) +ℤ pos (k * c * m)
 scaled x a m j k c e =
     let p : up x + j * m ≡ down x + (a + k * m) = omega (arith, ints, e) in
     let times = ap (λ v. v * c) p in
