@@ -16,3 +16,4 @@ pub mod Names
 pub mod Accesses
 pub mod Copies
 pub mod Places
+pub mod Acts

@@ -51,7 +51,7 @@ was_pointer go (values.Num n) r e = absurd cc
 was_pointer go (values.Pointer p) r e = (p, refl, e)
 
 -- no rule was broken
-unbroken : {A B : Type 0} (place : ℕ) (f : A → B) (result : Result A Rule) (r : B) → or_broken place f result ≡ Ok r → (x : A) × (result ≡ Ok x) × (f x ≡ r)
+pub unbroken : {A B : Type 0} (place : ℕ) (f : A → B) (result : Result A Rule) (r : B) → or_broken place f result ≡ Ok r → (x : A) × (result ≡ Ok x) × (f x ≡ r)
 unbroken place f (Ok x) r e = (x, refl, cc)
 unbroken place f (Err rule) r e = absurd cc
 
