@@ -17,3 +17,4 @@ pub mod Accesses
 pub mod Copies
 pub mod Places
 pub mod Acts
+pub mod Heap
