@@ -18,3 +18,4 @@ pub mod Copies
 pub mod Places
 pub mod Acts
 pub mod Heap
+pub mod Frees
