@@ -19,3 +19,4 @@ pub mod Places
 pub mod Acts
 pub mod Heap
 pub mod Frees
+pub mod Moves

@@ -86,10 +86,10 @@ module _ (names : List Name) (blocks : Blocks) (s : Storage) (consistent : IsCon
   lies block b e = either (is_heap b.kind) (name_of names block) (length b.cells) (names_stand.lies block b e)
 
   -- the address of an object
-  here_address : (n : Name) (size : ℕ) (h : IsHere n size) → address_for s n ≡ s.start + h.object.at
+  pub here_address : (n : Name) (size : ℕ) (h : IsHere n size) → address_for s n ≡ s.start + h.object.at
   here_address n size h = ap (address_for s) h.named ∙ ap address_if h.in_use
 
-  outside_address : (n : Name) (size : ℕ) (h : IsOutside s n size) → address_for s n ≡ h.address
+  pub outside_address : (n : Name) (size : ℕ) (h : IsOutside s n size) → address_for s n ≡ h.address
   outside_address n size h = ap (address_for s) h.named
 
   -- a block lies in bytes that there are
