@@ -90,7 +90,7 @@ bytes_at w k (suc n) = slice_index (low_bytes 8 w) k ∷ bytes_at w (k + 1) n
 
 module _ (names : List Name) (blocks : Blocks) where
   -- bytes are stored as they are
-  bytes_stand : (bs : List ℕ) → RowStands names blocks (map Byte bs) bs
+  pub bytes_stand : (bs : List ℕ) → RowStands names blocks (map Byte bs) bs
   bytes_stand [] = tt
   bytes_stand (b ∷ bs) = (refl, bytes_stand bs)
 
@@ -125,7 +125,7 @@ module _ (names : List Name) (blocks : Blocks) where
       omega (arith, same, rest h refl, is)
 
   -- a number, where each cell is a byte
-  number_stands : (cells : List Cell) (bs : List ℕ) (n : ℕ) → RowStands names blocks cells bs → number_of cells ≡ Some n → bytes.number_of bs ≡ n
+  pub number_stands : (cells : List Cell) (bs : List ℕ) (n : ℕ) → RowStands names blocks cells bs → number_of cells ≡ Some n → bytes.number_of bs ≡ n
   number_stands [] [] n row e = cc
   number_stands [] (b ∷ bs) n row e = absurd row
   number_stands (c ∷ cells) [] n row e = absurd row

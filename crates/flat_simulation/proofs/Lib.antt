@@ -20,3 +20,4 @@ pub mod Acts
 pub mod Heap
 pub mod Frees
 pub mod Moves
+pub mod Mutexes
