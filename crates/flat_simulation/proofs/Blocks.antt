@@ -1,6 +1,6 @@
 -- What is live after a change of the blocks, and that each change ages them.
 use Rattle.std.proofs.Common.{◌≡◌, ◌≢◌, ℕ, zero, suc, ◌+◌, ◌-◌, ◌<◌, ◌≤◌, List, [], ◌∷◌, ◌++◌, length, Option, Some, None, refl, sym, ap, subst, ◌∙◌, arith, ◌⊎◌, inl, inr, append_assoc}
-use Rattle.std.specs.Prelude.{set, slice_get, take, drop, replicate}
+use Rattle.std.specs.Prelude.{set, slice_get, take, drop}
 use Rattle.std.specs.Option.{option_flatten}
 use Rattle.std.proofs.lemmas.Bool.{cases_eq, cases_lt}
 use Rattle.std.proofs.lemmas.List.{length-append, length-set, length-take-le, length-drop, get_or_append_left}
@@ -12,6 +12,7 @@ use Rattle.block_store.specs.Blocks.{Block, Blocks, live, made, ended, with_cell
 use Rattle.flat_meaning.specs.Names.{Name, plain, name_of}
 use Rattle.flat_meaning.specs.Stands.{Ages}
 use Rattle.flat_simulation.specs.inner.Aged.{Aged}
+use Rattle.flat_simulation.specs.inner.Blocks.{new_block}
 
 -- ---- elements of lists
 
@@ -48,10 +49,6 @@ live_in blocks n b e = go (slice_get blocks n) refl e
 -- one live block
 pub one_live : (blocks : Blocks) (block : ℕ) (b d : Block) → live blocks block ≡ Some b → live blocks block ≡ Some d → b ≡ d
 one_live blocks block b d e f = let both : Some b ≡ Some d = sym e ∙ f in cc
-
--- a new block, first of all
-abbrev pub new_block : ℕ → BlockKind → Cell → Block
-new_block size kind first = record { kind = kind; cells = replicate size first }
 
 -- after a new block was made
 module _ (blocks : Blocks) (size : ℕ) (kind : BlockKind) (first : Cell) where

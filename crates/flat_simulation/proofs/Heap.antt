@@ -20,9 +20,10 @@ use Rattle.defrag_move.proofs.Kept.{matches}
 use Rattle.defrag_move.proofs.Owners.{owner_found}
 use Rattle.flat_meaning.specs.Names.{Name, heap, plain, name_of, address_if, address_for, Apart, Owns, IsOnHeap, LiesAt}
 use Rattle.flat_simulation.specs.inner.Aged.{Aged}
+use Rattle.flat_simulation.specs.inner.Blocks.{new_block}
 use Rattle.flat_simulation.specs.inner.Cells.{CellStands}
 use Rattle.flat_simulation.specs.inner.World.{BlocksStand}
-use Rattle.flat_simulation.proofs.Blocks.{new_block, live_in, length-made, made_new, made_live, made_still, aged_made, aged_name, name_new}
+use Rattle.flat_simulation.proofs.Blocks.{live_in, length-made, made_new, made_live, made_still, aged_made, aged_name, name_new}
 use Rattle.flat_simulation.proofs.Names.{lives_there}
 use Rattle.flat_simulation.proofs.Values.{cell_later}
 use Rattle.flat_simulation.proofs.Placed.{lies}

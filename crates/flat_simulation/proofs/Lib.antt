@@ -21,3 +21,4 @@ pub mod Heap
 pub mod Frees
 pub mod Moves
 pub mod Mutexes
+pub mod Objects

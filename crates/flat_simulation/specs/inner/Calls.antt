@@ -1,7 +1,7 @@
 -- What a call over named blocks and one over words have in common within a turn.
 use Rattle.std.specs.Prelude.{◌≡◌, ℕ, ◌+◌, ◌<◌, List, length, slice_get, Some, false}
 use Rattle.block_store.specs.Blocks.{Block, Blocks, live, is_heap}
-use Rattle.struct_ir.specs.Nodes.{Calc, pointer_diff, Ir}
+use Rattle.struct_ir.specs.Nodes.{Calc, pointer_diff, StackObject, Ir}
 use Rattle.ir_meaning.specs.Blocks.{Own, objects_of, size_of}
 use Rattle.flat_meaning.specs.Image.{Layout, global_address, literal_address}
 use Rattle.flat_meaning.specs.Words.{Words, word_at, object_address}
@@ -19,12 +19,17 @@ pub record DataStands (y : Layout) (p : Ir) (names : List Name) (K : ℕ → Typ
   pub globals : (n : ℕ) → n < length p.globals → LiesThere names K blocks n (global_address y n)
   pub literals : (n : ℕ) → n < length p.literals → LiesThere names K blocks (length p.globals + n) (literal_address y n)
 
--- the size of a stack object of a function
+-- the stack objects of a function
+abbrev pub objects_in : Ir → (function : ℕ) → List StackObject
+objects_in p function = objects_of (slice_get p.funcs function)
+
+-- and the size of one
 abbrev pub object_size : Ir → (function i : ℕ) → ℕ
-object_size p function i = size_of (slice_get (objects_of (slice_get p.funcs function)) i)
+object_size p function i = size_of (slice_get (objects_in p function) i)
 
 -- a stack object that has begun has a block at its address, of its size while that lives
 pub record IsObject (p : Ir) (names : List Name) (K : ℕ → Type 0) (blocks : Blocks) (function i block address : ℕ) : Type 0 where
+  pub index : i < length (objects_in p function)
   pub there : LiesThere names K blocks block address
   pub size : (b : Block) → live blocks block ≡ Some b → length b.cells ≡ object_size p function i
   pub kind : (b : Block) → live blocks block ≡ Some b → is_heap b.kind ≡ false
