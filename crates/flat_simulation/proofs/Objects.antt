@@ -1,17 +1,21 @@
 -- Stack objects that begin and end within a turn, over named blocks; over words nothing happens.
-use Rattle.std.proofs.Common.{◌≡◌, ◌≢◌, ℕ, ◌<◌, List, length, Option, Some, None, refl, sym, ap, subst, ◌∙◌, arith, inl, inr}
+use Rattle.std.proofs.Common.{◌≡◌, ◌≢◌, ℕ, suc, ◌+◌, ◌<◌, ◌≤◌, Bool, true, false, eqb, List, [], ◌∷◌, ◌++◌, length, Option, Some, None, refl, sym, ap, subst, ◌∙◌, arith, ◌⊎◌, inl, inr}
 use Rattle.std.proofs.lemmas.Bool.{cases_eq, eq-eqb, ne_eqb}
-use Rattle.block_store.specs.Blocks.{Blocks, ended, is_heap}
+use Rattle.std.proofs.lemmas.List.{length-replicate}
+use Rattle.block_store.specs.declared.values.BlockKind.TheVariants as block_kinds
+use Rattle.block_store.specs.declared.values.Cell.TheVariants.{Unknown}
+use Rattle.block_store.specs.Blocks.{Block, Blocks, live, made, ended, is_heap}
 use Rattle.struct_ir.specs.Nodes.{Ir}
-use Rattle.ir_meaning.specs.Blocks.{Own, set_at, with_blocks, without, object_ended}
+use Rattle.ir_meaning.specs.Blocks.{Own, set_at, with_blocks, without, begun, object_ended}
 use Rattle.flat_meaning.specs.Image.{Layout}
 use Rattle.flat_meaning.specs.Words.{Words, word_at, object_address}
 use Rattle.flat_meaning.specs.Names.{Name, heap, plain, name_of}
 use Rattle.flat_simulation.specs.inner.Aged.{Aged}
+use Rattle.flat_simulation.specs.inner.Blocks.{new_block}
 use Rattle.flat_simulation.specs.inner.Values.{KnownIn, Stands}
-use Rattle.flat_simulation.specs.inner.Calls.{IsObject, CallStands}
+use Rattle.flat_simulation.specs.inner.Calls.{LiesThere, objects_in, object_size, IsObject, CallStands}
 use Rattle.flat_simulation.specs.inner.Turns.{Far}
-use Rattle.flat_simulation.proofs.Blocks.{live_in, ended_other, ended_live, aged_still, aged_then, aged_ended, aged_name, aged_more}
+use Rattle.flat_simulation.proofs.Blocks.{live_in, length-made, made_live, made_still, ended_other, ended_live, aged_still, aged_then, aged_made, aged_ended, aged_name, aged_more, name_new}
 use Rattle.flat_simulation.proofs.Values.{stands_later}
 
 -- ---- functions with another value in one place
@@ -110,3 +114,89 @@ module _ (y : Layout) (p : Ir) (before : ℕ) (first : List Name) (blocks : Bloc
 
   pub object_ended_stands : (names : List Name) (l : Own) (q : Words) → CallTo names l q → FarTo names l q → (i : ℕ) → Went names names l (object_ended l i) q
   object_ended_stands names l q stands far i = ended_with names l q stands far i (l.objects i) refl
+
+  -- ---- an object begins
+
+  -- its name
+  abbrev named : List Name → Words → ℕ → List Name
+  named names q i = names ++ plain (object_address y thread q i) ∷ []
+
+  module _ (names : List Name) (l : Own) (q : Words) (stands : CallTo names l q) (far : FarTo names l q) (i : ℕ) (within : i < length (objects_in p l.function)) (none : l.objects i ≡ None) (after : ℕ → Option ℕ)
+      (here : after i ≡ Some (length l.blocks)) (there : (j : ℕ) → j ≢ i → after j ≡ l.objects j) where
+    abbrev size : ℕ
+    size = object_size p l.function i
+
+    abbrev later : Blocks
+    later = made l.blocks size block_kinds.Local Unknown
+
+    abbrev own : Own
+    own = record { function = l.function; temps = l.temps; objects = after; blocks = later }
+
+    aged : Aged names (named names q i) l.blocks later
+    aged = aged_made names (plain (object_address y thread q i)) l.blocks size block_kinds.Local Unknown far.aged.each_later
+
+    grown : length blocks ≤ length l.blocks
+    grown = aged_more first names blocks l.blocks far.aged
+
+    which : (n : ℕ) (b : Block) → live later n ≡ Some b → ((n ≡ length l.blocks) × (b ≡ new_block size block_kinds.Local Unknown)) ⊎ (live l.blocks n ≡ Some b)
+    which n b e = made_live l.blocks size block_kinds.Local Unknown n b e
+
+    in_after : (n : ℕ) → (j : ℕ) × (l.objects j ≡ Some n) → (j : ℕ) × (after j ≡ Some n)
+    in_after n (j, e) = (j, there j (λ same. (let x : None ≡ Some n = sym none ∙ ap l.objects (sym same) ∙ e in absurd cc)) ∙ e)
+
+    new_object : (n : ℕ) → n ≡ length l.blocks → IsObject p (named names q i) K later l.function i n (object_address y thread q i)
+    new_object n is = record {
+      index = within;
+      there = record {
+        known = inr (omega (arith, is, grown));
+        made = omega (arith, is, length-made l.blocks size block_kinds.Local Unknown);
+        at = ap (name_of (named names q i)) (is ∙ sym far.aged.each_later) ∙ name_new names (plain (object_address y thread q i));
+      };
+      size = λ b e. elim (which n b e) [
+        | inl x ↦ ap (λ (z : Block). length z.cells) x.1 ∙ length-replicate size Unknown
+        | inr x ↦ let below = live_in l.blocks n b x in absurd (omega (arith, is, below))
+      ];
+      kind = λ b e. elim (which n b e) [
+        | inl x ↦ ap (λ (z : Block). is_heap z.kind) x.1
+        | inr x ↦ let below = live_in l.blocks n b x in absurd (omega (arith, is, below))
+      ];
+    }
+
+    object_after : (j n : ℕ) → after j ≡ Some n → IsObject p (named names q i) K later l.function j n (object_address y thread q j)
+    object_after j n e = elim (cases_eq j i) [
+      | inl same ↦
+          let both : Some (length l.blocks) ≡ Some n = sym here ∙ ap after (sym same) ∙ e in
+          let is : length l.blocks ≡ n = cc in
+          subst (λ k. IsObject p (named names q i) K later l.function k n (object_address y thread q k)) (sym same) (new_object n (sym is))
+      | inr ne ↦ object_later names (named names q i) l.blocks later aged K K (λ m lt k. k) p l.function j n (object_address y thread q j) (stands.objects j n (sym (there j ne) ∙ e))
+    ]
+
+    new_stands : Went names (named names q i) l own q
+    new_stands = record {
+      call = record {
+        function = stands.function;
+        temps = (call_later names (named names q i) l.blocks later aged K K (λ n lt k. k) y p thread l q refl stands).temps;
+        objects = object_after;
+      };
+      far = record {
+        aged = aged_then first names (named names q i) blocks l.blocks later far.aged aged;
+        kept = λ n b lt v. elim (which n b v) [ inl e ↦ absurd (omega (arith, e.0, lt, grown)) | inr x ↦ far.kept n b lt x ];
+        unwritten = λ n b ge v. elim (which n b v) [ inl e ↦ (size, e.1) | inr x ↦ far.unwritten n b ge x ];
+        heaps = λ n id b f v. made_still l.blocks size block_kinds.Local Unknown n b (far.heaps n id b f v);
+        begun = λ n b ge v. elim (which n b v) [ inl e ↦ (i, here ∙ ap (λ (u : ℕ). Some u) (sym e.0)) | inr x ↦ in_after n (far.begun n b ge x) ];
+        clear = λ n a b k v f. elim (which n b v) [
+          | inl e ↦ inr (inr (i, here ∙ ap (λ (u : ℕ). Some u) (sym e.0)))
+          | inr x ↦ elim (far.clear n a b k x (sym (aged_name names (named names q i) l.blocks later aged n (live_in l.blocks n b x)) ∙ f)) [ inl r ↦ inl r | inr s ↦ elim s [ inl r ↦ inr (inl r) | inr r ↦ inr (inr (in_after n r)) ] ]
+        ];
+      };
+      aged = aged;
+    }
+
+  -- the earlier block of the object ends first
+  pub object_begun_stands : (names : List Name) (l : Own) (q : Words) → CallTo names l q → FarTo names l q → (i : ℕ) → i < length (objects_in p l.function) → Went names (named names q i) l (begun p l i) q
+  object_begun_stands names l q stands far i within =
+      let old = object_ended_stands names l q stands far i in
+      let ended_own : Own = object_ended l i in
+      let new = new_stands names ended_own q old.call old.far i within (set_same l.objects i None) (set_at l.objects i (Some (length ended_own.blocks))) (set_same l.objects i (Some (length ended_own.blocks)))
+          (λ j ne. set_other l.objects i (Some (length ended_own.blocks)) j ne ∙ sym (set_other l.objects i None j ne)) in
+      record { call = new.call; far = new.far; aged = aged_then names names (named names q i) l.blocks ended_own.blocks _ old.aged new.aged }
