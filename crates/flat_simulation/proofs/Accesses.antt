@@ -147,6 +147,7 @@ module _ (names : List Name) (blocks : Blocks) (m : Memory) (stand : BlocksStand
   -- ---- a store
 
   pub record IsStored (v : Value) (a : Target) (word : ℕ) (later : Blocks) : Type 0 where
+    pub there : first_outside s.bytes a.address (size_of (access_of v)) ≡ None
     pub went : words.stored (access_of v) a word m ≡ went None (written m a.address (low_bytes (size_of (access_of v)) word))
     pub after : IsWritten later a.address (low_bytes (size_of (access_of v)) word)
 
@@ -170,6 +171,7 @@ module _ (names : List Name) (blocks : Blocks) (m : Memory) (stand : BlocksStand
       let row = stored_stands names blocks v word stands in
       let long : length (cells_of v) ≡ size = row_length names blocks (cells_of v) (low_bytes size word) row ∙ length-low_bytes size word in
       record {
+        there = there;
         went = ap (λ o. within kinds.Store o (went None (written m a.address (low_bytes size word)))) there;
         after = subst (λ x. IsWritten x a.address (low_bytes size word)) r.2 (subst (λ x. IsWritten (with_cells_at blocks (cells_of v) at) x (low_bytes size word)) (sym here)
             (write_stands (cells_of v) at (low_bytes size word) f.lives (subst (λ n. at.offset + n ≤ length at.block.cells) (sym long) f.within) row));

@@ -1,5 +1,5 @@
 -- Values that are stored as cells and as bytes, and read from them.
-use Rattle.std.proofs.Common.{◌≡◌, ℕ, zero, suc, ◌+◌, ◌-◌, ◌*◌, ◌/◌, ◌%◌, ◌^◌, ◌<◌, pos, Bool, true, false, ◌&&◌, ◌==◌, List, [], ◌∷◌, length, map, Option, Some, None, Ok, Err, refl, sym, ap, subst, ◌∙◌, arith}
+use Rattle.std.proofs.Common.{◌≡◌, ℕ, ℤ, zero, suc, ◌+◌, ◌-◌, ◌*◌, ◌/◌, ◌%◌, ◌^◌, ◌<◌, pos, Bool, true, false, ◌&&◌, ◌==◌, List, [], ◌∷◌, length, map, Option, Some, None, Ok, Err, refl, sym, ap, subst, ◌∙◌, arith}
 use Rattle.std.specs.Prelude.{IsTrue, slice_index, if◌then◌else◌}
 use Rattle.std.specs.Option.{option_map, ok_or}
 use Rattle.std.proofs.lemmas.Bool.{eqb-true}
@@ -48,21 +48,25 @@ low_again : (k a : ℕ) → low_bytes k a ≡ low_bytes k (a % 256 ^ k)
 low_again k a = sym (low_bytes-number_of (low_bytes k a) (low_bytes-AreBytes k a)) ∙ (λ i. low_bytes (length-low_bytes k a i) (number_of-low_bytes k a i))
 
 -- the low bits of a number's word are those of the number
-low_word : (t : IntType) (n : Num) → word_of n.value % 2 ^ t.bits ≡ bit_pattern t n.value
-low_word t n =
+low_word : (t : IntType) (z : ℤ) → word_of z % 2 ^ t.bits ≡ bit_pattern t z
+low_word t z =
     let m = 2 ^ t.bits in
     let q = 2 ^ (64 - t.bits) in
-    let w = word_of n.value in
-    let x = word_apart n.value in
+    let w = word_of z in
+    let x = word_apart z in
     let whole : q * m ≡ 2 ^ 64 = powers t.bits 64 (width_bounds t.bits t.known_width).1 in
     let left : x.0 * q * m ≡ x.0 * 2 ^ 64 = mul_assoc x.0 q m ∙ ap (λ k. x.0 * k) whole in
     let right : x.1 * q * m ≡ x.1 * 2 ^ 64 = mul_assoc x.1 q m ∙ ap (λ k. x.1 * k) whole in
-    sym (residue_is m n.value (x.0 * q) (w + x.1 * q * m) (pow_pos t.bits) (omega (arith, ints, x.2, left, right)) ∙ add-mul-mod_self_right w (x.1 * q) m)
+    sym (residue_is m z (x.0 * q) (w + x.1 * q * m) (pow_pos t.bits) (omega (arith, ints, x.2, left, right)) ∙ add-mul-mod_self_right w (x.1 * q) m)
+
+-- so its low bytes are those of its bits
+pub word_bytes : (t : IntType) (z : ℤ) → low_bytes (t.bits / 8) (word_of z) ≡ low_bytes (t.bits / 8) (bit_pattern t z)
+word_bytes t z =
+    let k = t.bits / 8 in
+    low_again k (word_of z) ∙ ap (λ m. low_bytes k (word_of z % m)) (width_bytes t.bits t.known_width) ∙ ap (low_bytes k) (low_word t z)
 
 number_bytes : (n : Num) → low_bytes (n.ty.bits / 8) (number_word n) ≡ low_bytes (n.ty.bits / 8) (bit_pattern n.ty n.value)
-number_bytes n =
-    let k = n.ty.bits / 8 in
-    low_again k (number_word n) ∙ ap (λ m. low_bytes k (number_word n % m)) (width_bytes n.ty.bits n.ty.known_width) ∙ ap (low_bytes k) (low_word n.ty n)
+number_bytes n = word_bytes n.ty n.value
 
 both_true : (a b : Bool) → (a && b) ≡ true → (a ≡ true) × (b ≡ true)
 both_true true b e = (refl, e)

@@ -22,3 +22,4 @@ pub mod Frees
 pub mod Moves
 pub mod Mutexes
 pub mod Objects
+pub mod Crews
