@@ -23,3 +23,4 @@ pub mod Moves
 pub mod Mutexes
 pub mod Objects
 pub mod Crews
+pub mod Others

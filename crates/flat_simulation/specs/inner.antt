@@ -5,5 +5,6 @@ pub mod Aged
 pub mod Values
 pub mod Calls
 pub mod Turns
+pub mod Lags
 pub mod Cells
 pub mod World
