@@ -1,12 +1,12 @@
 -- New threads and joined ones: the number and the result that are stored.
-use Rattle.std.proofs.Common.{◌≡◌, ℕ, ◌+◌, ◌/◌, ◌^◌, ◌<◌, ℤ, pos, Bool, true, false, ◌==◌, length, List, Option, Some, None, Result, Ok, Err, refl, sym, ap, subst, ◌∙◌, arith}
+use Rattle.std.proofs.Common.{◌≡◌, ℕ, ◌^◌, ◌<◌, ℤ, pos, true, false, ◌==◌, length, List, Some, Ok, refl, sym, ap, subst, ◌∙◌, arith}
 use Rattle.std.specs.Prelude.{if◌then◌else◌}
 use Rattle.std.proofs.lemmas.Bool.{eq-eqb}
 use Rattle.std.proofs.lemmas.Int.{ints}
 use Rattle.ak_words.specs.IntType.{int, unsigned_long}
 use Rattle.ak_words.specs.Bytes.{low_bytes}
 use Rattle.ak_words.specs.Num.{num}
-use Rattle.ak_words.specs.Wrapped.{bit_pattern, wrapped_value}
+use Rattle.ak_words.specs.Wrapped.{wrapped_value}
 use Rattle.ak_words.proofs.Wraps.{wrapped_value-in_type, residue-wrapped_value}
 use Rattle.block_store.specs.declared.values.Ptr.{Ptr}
 use Rattle.block_store.specs.declared.values.Ptr.TheVariants.{Null, To}
@@ -28,7 +28,7 @@ use Rattle.flat_simulation.specs.inner.World.{BlocksStand, GoesTo}
 use Rattle.flat_simulation.proofs.Blocks.{aged_still}
 use Rattle.flat_simulation.proofs.Numbers.{word_small}
 use Rattle.flat_simulation.proofs.Cells.{word_bytes}
-use Rattle.flat_simulation.proofs.Accesses.{IsWritten, IsStored, store_stands}
+use Rattle.flat_simulation.proofs.Accesses.{IsWritten, store_stands}
 
 -- the word of the next thread's number
 number_small : (n : ℕ) → n < 2 ^ 64 → number_word (num unsigned_long (pos n)) ≡ n

@@ -24,3 +24,4 @@ pub mod Mutexes
 pub mod Objects
 pub mod Crews
 pub mod Others
+pub mod TurnEnds

@@ -1,5 +1,5 @@
 -- Stack objects that begin and end within a turn, over named blocks; over words nothing happens.
-use Rattle.std.proofs.Common.{◌≡◌, ◌≢◌, ℕ, suc, ◌+◌, ◌<◌, ◌≤◌, Bool, true, false, eqb, List, [], ◌∷◌, ◌++◌, length, Option, Some, None, refl, sym, ap, subst, ◌∙◌, arith, ◌⊎◌, inl, inr}
+use Rattle.std.proofs.Common.{◌≡◌, ◌≢◌, ℕ, ◌<◌, ◌≤◌, List, [], ◌∷◌, ◌++◌, length, Option, Some, None, refl, sym, ap, subst, ◌∙◌, arith, ◌⊎◌, inl, inr}
 use Rattle.std.proofs.lemmas.Bool.{cases_eq, eq-eqb, ne_eqb}
 use Rattle.std.proofs.lemmas.List.{length-replicate}
 use Rattle.block_store.specs.declared.values.BlockKind.TheVariants as block_kinds
@@ -13,7 +13,7 @@ use Rattle.flat_meaning.specs.Names.{Name, heap, plain, name_of}
 use Rattle.flat_simulation.specs.inner.Aged.{Aged}
 use Rattle.flat_simulation.specs.inner.Blocks.{new_block}
 use Rattle.flat_simulation.specs.inner.Values.{KnownIn, Stands}
-use Rattle.flat_simulation.specs.inner.Calls.{LiesThere, objects_in, object_size, IsObject, CallStands}
+use Rattle.flat_simulation.specs.inner.Calls.{objects_in, object_size, IsObject, CallStands}
 use Rattle.flat_simulation.specs.inner.Turns.{Far}
 use Rattle.flat_simulation.proofs.Blocks.{live_in, length-made, made_live, made_still, ended_other, ended_live, aged_still, aged_then, aged_made, aged_ended, aged_name, aged_more, name_new}
 use Rattle.flat_simulation.proofs.Values.{stands_later}
@@ -198,5 +198,5 @@ module _ (y : Layout) (p : Ir) (before : ℕ) (first : List Name) (blocks : Bloc
       let old = object_ended_stands names l q stands far i in
       let ended_own : Own = object_ended l i in
       let new = new_stands names ended_own q old.call old.far i within (set_same l.objects i None) (set_at l.objects i (Some (length ended_own.blocks))) (set_same l.objects i (Some (length ended_own.blocks)))
-          (λ j ne. set_other l.objects i (Some (length ended_own.blocks)) j ne ∙ sym (set_other l.objects i None j ne)) in
+      (λ j ne. set_other l.objects i (Some (length ended_own.blocks)) j ne ∙ sym (set_other l.objects i None j ne)) in
       record { call = new.call; far = new.far; aged = aged_then names names (named names q i) l.blocks ended_own.blocks _ old.aged new.aged }

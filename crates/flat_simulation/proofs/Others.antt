@@ -1,6 +1,5 @@
 -- Others' turns leave a thread in the middle of its own where it is.
-use Rattle.std.proofs.Common.{◌≡◌, ℕ, ◌+◌, ◌<◌, ◌≤◌, ◌^◌, Bool, true, false, leb, List, length, Option, Some, None, refl, sym, ap, subst, ◌∙◌, arith, ◌⊎◌, inl, inr}
-use Rattle.std.specs.Prelude.{nat_le, if◌then◌else◌}
+use Rattle.std.proofs.Common.{◌≡◌, ℕ, ◌+◌, ◌<◌, ◌≤◌, ◌^◌, false, leb, List, length, Option, Some, refl, sym, ap, subst, ◌∙◌, arith, inl, inr}
 use Rattle.std.proofs.lemmas.Bool.{cases_lt}
 use Rattle.std.proofs.lemmas.Bool.Decides.{nat_tests}
 use Rattle.block_store.specs.declared.values.Ptr.TheVariants.{Null, To}
@@ -16,13 +15,13 @@ use Rattle.struct_ir.specs.Machine.{Point}
 use Rattle.ir_meaning.specs.Blocks.{Held, value, unset, missing, Own}
 use Rattle.flat_meaning.specs.Image.{Image, stack_address}
 use Rattle.flat_meaning.specs.Words.{Words, word_at, object_address}
-use Rattle.flat_meaning.specs.Names.{Name, plain, name_of, word_for, SlotAgrees}
+use Rattle.flat_meaning.specs.Names.{Name, name_of, word_for, SlotAgrees}
 use Rattle.flat_simulation.specs.inner.Aged.{Aged}
 use Rattle.flat_simulation.specs.inner.Values.{KnownIn, Points, Stands}
 use Rattle.flat_simulation.specs.inner.Calls.{CallStands, objects_in, object_size}
 use Rattle.flat_simulation.specs.inner.Turns.{IsClear, Far}
-use Rattle.flat_simulation.specs.inner.Lags.{StandsIn, Reaches, comes, breaks, InTurn, IsAside, KeepsAddresses, LieLow}
-use Rattle.flat_simulation.proofs.Blocks.{aged_still, aged_then, aged_name, aged_more}
+use Rattle.flat_simulation.specs.inner.Lags.{Reaches, comes, breaks, InTurn, IsAside, KeepsAddresses, LieLow}
+use Rattle.flat_simulation.proofs.Blocks.{aged_still, aged_then, aged_name}
 use Rattle.flat_simulation.proofs.Names.{lives_there}
 use Rattle.flat_simulation.proofs.Objects.{call_later}
 

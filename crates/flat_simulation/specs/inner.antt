@@ -6,5 +6,6 @@ pub mod Values
 pub mod Calls
 pub mod Turns
 pub mod Lags
+pub mod Frames
 pub mod Cells
 pub mod World

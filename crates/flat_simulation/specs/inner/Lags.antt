@@ -1,5 +1,5 @@
 -- A thread in the middle of a turn: from the turn's start the source's thread comes to where the machine's is, whatever others do before.
-use Rattle.std.specs.Prelude.{◌≡◌, ℕ, ◌+◌, ◌<◌, ◌≤◌, ◌^◌, ◌⊎◌, List, length, false, Option, Some, Err}
+use Rattle.std.specs.Prelude.{◌≡◌, ℕ, ◌+◌, ◌<◌, ◌≤◌, ◌^◌, ◌⊎◌, List, length, false, Some, Err}
 use Rattle.block_store.specs.Blocks.{Block, Blocks, live}
 use Rattle.c_tree.specs.TypedForm.{taken}
 use Rattle.handle_table.specs.Table.{translated}
@@ -10,7 +10,7 @@ use Rattle.struct_ir.specs.Flow.{Path}
 use Rattle.struct_ir.specs.Machine.{Point, Steps, run}
 use Rattle.struct_ir.specs.Pins.{looked, lacks_if, listing, facts}
 use Rattle.ir_meaning.specs.Blocks.{Own, Fault, blocks_machine}
-use Rattle.flat_meaning.specs.Image.{Layout, Image, stack_address}
+use Rattle.flat_meaning.specs.Image.{Layout, Image}
 use Rattle.flat_meaning.specs.Words.{Words, object_address}
 use Rattle.flat_meaning.specs.Allowed.{list_at}
 use Rattle.flat_meaning.specs.Names.{Name, plain, name_of, word_for, SlotAgrees}
