@@ -25,3 +25,4 @@ pub mod Objects
 pub mod Crews
 pub mod Others
 pub mod TurnEnds
+pub mod Seen
