@@ -26,3 +26,4 @@ pub mod Crews
 pub mod Others
 pub mod TurnEnds
 pub mod Seen
+pub mod Frames

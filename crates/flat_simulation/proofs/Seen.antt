@@ -1,5 +1,5 @@
 -- What a thread sees in the middle of a turn: the known blocks that live are placed and lie apart, whatever others have made meanwhile.
-use Rattle.std.proofs.Common.{◌≡◌, ◌≢◌, ℕ, ◌+◌, ◌<◌, ◌≤◌, ◌^◌, List, length, Option, Some, None, refl, sym, ap, subst, ◌∙◌, arith, ◌⊎◌, inl, inr}
+use Rattle.std.proofs.Common.{◌≡◌, ◌≢◌, ℕ, ◌<◌, List, length, Some, refl, sym, ap, subst, ◌∙◌, arith, inl, inr}
 use Rattle.block_store.specs.Blocks.{Block, Blocks, live}
 use Rattle.c_tree.specs.TypedForm.{taken}
 use Rattle.defrag_move.specs.Arena.{Storage}
@@ -14,7 +14,7 @@ use Rattle.flat_simulation.specs.inner.Frames.{FrameLies}
 use Rattle.flat_simulation.specs.inner.Turns.{Far}
 use Rattle.flat_simulation.specs.inner.Values.{IsPlaced, LieApart, Sees, AnyBlock, KnownIn}
 use Rattle.flat_simulation.specs.inner.World.{BlocksStand}
-use Rattle.flat_simulation.proofs.Blocks.{aged_then, aged_name, aged_more}
+use Rattle.flat_simulation.proofs.Blocks.{aged_then, aged_name}
 use Rattle.flat_simulation.proofs.Placed.{sees_all}
 
 -- apart both ways
@@ -99,7 +99,7 @@ module _ (y : Layout) (p : Ir) (thread : ℕ) (before first names : List Name) (
       let e = lived m d le v in
       subst (λ w. LieApart w (length b.cells) (name_of names m) (length d.cells)) (sym (its_name n lt))
       (subst (λ w. LieApart (name_of before n) (length b.cells) w (length d.cells)) (sym (its_name m le))
-        (subst (λ k. LieApart (name_of before n) k (name_of before m) (length d.cells)) c.2 (subst (λ k. LieApart (name_of before n) (length c.0.cells) (name_of before m) k) e.2 (all.apart n m c.0 e.0 ne tt tt c.1 e.1))))
+      (subst (λ k. LieApart (name_of before n) k (name_of before m) (length d.cells)) c.2 (subst (λ k. LieApart (name_of before n) (length c.0.cells) (name_of before m) k) e.2 (all.apart n m c.0 e.0 ne tt tt c.1 e.1))))
 
   pub sees_in_turn : Sees names K l.blocks
   sees_in_turn = record { placed = seen_placed; apart = seen_apart }
