@@ -27,3 +27,4 @@ pub mod Others
 pub mod TurnEnds
 pub mod Seen
 pub mod Frames
+pub mod Texts
