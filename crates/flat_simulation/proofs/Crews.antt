@@ -1,0 +1,92 @@
+-- New threads and joined ones: the number and the result that are stored.
+use Rattle.std.proofs.Common.{◌≡◌, ℕ, ◌^◌, ◌<◌, ℤ, pos, true, false, ◌==◌, length, List, Some, Ok, refl, sym, ap, subst, ◌∙◌, arith}
+use Rattle.std.specs.Prelude.{if◌then◌else◌}
+use Rattle.std.proofs.lemmas.Bool.{eq-eqb}
+use Rattle.std.proofs.lemmas.Int.{ints}
+use Rattle.ak_words.specs.IntType.{int, unsigned_long}
+use Rattle.ak_words.specs.Bytes.{low_bytes}
+use Rattle.ak_words.specs.Num.{num}
+use Rattle.ak_words.specs.Wrapped.{wrapped_value}
+use Rattle.ak_words.proofs.Wraps.{wrapped_value-in_type, residue-wrapped_value}
+use Rattle.block_store.specs.declared.values.Ptr.{Ptr}
+use Rattle.block_store.specs.declared.values.Ptr.TheVariants.{Null, To}
+use Rattle.block_store.specs.declared.values.Value.TheVariants as values
+use Rattle.block_store.specs.Actions.{stored_unless_null}
+use Rattle.block_store.specs.Blocks as source
+use Rattle.block_store.specs.Blocks.{Blocks}
+use Rattle.flat_store.specs.Flat.{first_outside}
+use Rattle.flat_words.specs.Words.{word_of, number_word}
+use Rattle.flat_meaning.specs.declared.endings.TrapKind.TheVariants as kinds
+use Rattle.flat_meaning.specs.Words.{Target}
+use Rattle.flat_meaning.specs.Memory.{Memory, written, beginning, with_thread}
+use Rattle.flat_meaning.specs.Accesses.{went, within}
+use Rattle.flat_meaning.specs.Actions as words
+use Rattle.flat_meaning.specs.Actions.{may_start}
+use Rattle.flat_meaning.specs.Names.{Name}
+use Rattle.flat_simulation.specs.inner.Aged.{Aged}
+use Rattle.flat_simulation.specs.inner.World.{BlocksStand, GoesTo}
+use Rattle.flat_simulation.proofs.Blocks.{aged_still}
+use Rattle.flat_simulation.proofs.Numbers.{word_small}
+use Rattle.flat_simulation.proofs.Cells.{word_bytes}
+use Rattle.flat_simulation.proofs.Accesses.{IsWritten, store_stands}
+
+-- the word of the next thread's number
+number_small : (n : ℕ) → n < 2 ^ 64 → number_word (num unsigned_long (pos n)) ≡ n
+number_small n small = ap word_of (wrapped_value-in_type unsigned_long (pos n) (omega (arith, ints), omega (arith, ints, small))) ∙ word_small n small
+
+-- the bytes of a result as an int
+result_bytes : (z : ℤ) → low_bytes 4 (number_word (num int z)) ≡ low_bytes 4 (word_of z)
+result_bytes z = word_bytes int (wrapped_value int z) ∙ ap (low_bytes 4) (residue-wrapped_value int z) ∙ sym (word_bytes int z)
+
+module _ (names : List Name) (blocks : Blocks) (m : Memory) (stand : BlocksStand names blocks m.storage) (p : Ptr) (a : Target) (goes : GoesTo names blocks m.storage p a.address) where
+  -- ---- a new thread
+
+  pub record IsStarted (limit function argument : ℕ) (later : Blocks) : Type 0 where
+    pub went : words.started limit function a argument m ≡ went (Some 0) (with_thread (written m a.address (low_bytes 8 (length m.threads))) (beginning function argument))
+    pub after : IsWritten names blocks m stand later a.address (low_bytes 8 (length m.threads))
+
+  pub start_stands : (limit function argument : ℕ) (later : Blocks) → may_start limit m ≡ true → length m.threads < 2 ^ 64 → source.stored blocks p (values.Num (num unsigned_long (pos (length m.threads)))) ≡ Ok later
+      → IsStarted limit function argument later
+  start_stands limit function argument later may small e =
+      let n = num unsigned_long (pos (length m.threads)) in
+      let s = store_stands names blocks m stand (values.Num n) p a (number_word n) later goes refl e in
+      let bytes : low_bytes 8 (number_word n) ≡ low_bytes 8 (length m.threads) = ap (low_bytes 8) (number_small (length m.threads) small) in
+      record {
+        went = λ i. if may i then within kinds.Start (s.there i) (went (Some 0) (with_thread (written m a.address (low_bytes 8 (length m.threads))) (beginning function argument))) else went (Some 1) m;
+        after = subst (λ bs. IsWritten names blocks m stand later a.address bs) bytes s.after;
+      }
+
+  -- ---- a joined one
+
+  pub record IsJoined (word : ℕ) (later : Blocks) : Type 0 where
+    pub to : Memory
+    pub went : words.joined_with a word m ≡ went (Some 0) to
+    pub stands : BlocksStand names later to.storage
+    pub aged : Aged names names blocks later
+    pub output : to.output ≡ m.output
+    pub threads : to.threads ≡ m.threads
+
+  pub join_stands : (z : ℤ) (later : Blocks) → (p ≡ Null → a.pointer ≡ 0) → ((name offset : ℕ) → p ≡ To name offset → (a.pointer == 0) ≡ false) → stored_unless_null blocks p z ≡ Ok later → IsJoined (word_of z) later
+  join_stands z later null some e = by_pointer p refl e
+    where
+      by_pointer : (r : Ptr) → p ≡ r → stored_unless_null blocks r z ≡ Ok later → IsJoined (word_of z) later
+      by_pointer Null is e = record {
+        to = m;
+        went = ap (λ b. if b then went (Some 0) m else within kinds.Join (first_outside m.storage.bytes a.address 4) (went (Some 0) (written m a.address (low_bytes 4 (word_of z))))) (eq-eqb a.pointer 0 (null is));
+        stands = (let same : blocks ≡ later = cc in subst (λ x. BlocksStand names x m.storage) same stand);
+        aged = (let same : blocks ≡ later = cc in subst (λ x. Aged names names blocks x) same (aged_still names blocks stand.names_stand.each));
+        output = refl;
+        threads = refl;
+      }
+      by_pointer (To name offset) is e =
+          let n = num int z in
+          let s = store_stands names blocks m stand (values.Num n) p a (number_word n) later goes refl (ap (λ r. source.stored blocks r (values.Num n)) is ∙ e) in
+          let after = subst (λ bs. IsWritten names blocks m stand later a.address bs) (result_bytes z) s.after in
+          record {
+            to = written m a.address (low_bytes 4 (word_of z));
+            went = λ i. if some name offset is i then went (Some 0) m else within kinds.Join (s.there i) (went (Some 0) (written m a.address (low_bytes 4 (word_of z))));
+            stands = after.stands;
+            aged = after.ages;
+            output = refl;
+            threads = refl;
+          }

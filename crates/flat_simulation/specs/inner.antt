@@ -1,0 +1,11 @@
+-- What proofs of the laws use: nothing here has to be believed.
+pub mod Storage
+pub mod Blocks
+pub mod Aged
+pub mod Values
+pub mod Calls
+pub mod Turns
+pub mod Lags
+pub mod Frames
+pub mod Cells
+pub mod World
