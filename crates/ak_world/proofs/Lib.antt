@@ -1,3 +1,4 @@
 pub mod Ready
 pub mod Handing
 pub mod Sweeping
+pub mod Stepping

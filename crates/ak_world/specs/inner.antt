@@ -1,0 +1,2 @@
+-- What the bodies use: nothing here has to be believed.
+pub mod Placed
