@@ -107,8 +107,8 @@ module _ {S C : Type 0} (m : Machine S C) where
     pub leaves : (s : S) (c : C) → Lives SharedOf ContextOf s c → m.progress c ≡ steps → m.threads s ≤ most_threads → Leaves SharedOf s (m.thread_of c) (m.act s c)
     pub sweeps : (s : S) (homes : List (Option C)) → SharedOf s → All (IsOfRun ContextOf) homes → AreHome s homes → Sweeps SharedOf ContextOf s homes
 
-  -- where nothing has run thread 0 alone was made, and it hasn't ended
+  -- where nothing has run thread 0 alone was made, and none has ended
   pub record IsOpened (SharedOf : S → Type 0) (s : S) : Type 0 where
     pub of_ : SharedOf s
     pub one : m.threads s ≡ 1
-    pub going : m.has_ended s 0 ≡ false
+    pub going : (k : ℕ) → m.has_ended s k ≡ false

@@ -1,12 +1,14 @@
 -- The world as contracts see it, and the state of the replay that it shows.
-use Rattle.std.specs.Prelude.{◌≡◌, ℕ, min, List, [], map, count_by, Option, Some}
+use Rattle.std.specs.Prelude.{◌≡◌, ℕ, min, List, [], map, replicate, count_by, Option, Some, None}
 use Rattle.ak_trace.specs.declared.entry.Entry.{Entry}
 use Rattle.ak_trace.specs.Log.{Log}
 use Rattle.flat_meaning.specs.declared.endings.End.{End}
 use Rattle.flat_rules.specs.Rules.{Rules}
 use Rattle.flat_rules.specs.Machine.{Machine}
-use Rattle.flat_rules.specs.States.{State, Place, unbegun, home, out, gone, homes_of, is_out, waits_at, start}
+use Rattle.flat_rules.specs.Draws.{seeded}
+use Rattle.flat_rules.specs.States.{State, Place, unbegun, home, out, gone, homes_of, is_out, waits_at, unbegun_from, start, most_threads}
 use Rattle.flat_rules.specs.Events.{turns_out}
+use Rattle.flat_rules.specs.Lawful.{IsOpened}
 use Rattle.flat_rules.specs.Replays.{run}
 use Rattle.world_rules.specs.declared.calls.Seat.{Seat}
 use Rattle.world_rules.specs.declared.calls.Seat.TheVariants as seat
@@ -66,3 +68,20 @@ module _ {S K C : Type 0} (machine : K → Machine S C) where
     pub state : State S C
     pub leads : Leads first log state
     pub is : x ≡ whole_of first log state
+
+  -- and in the world as it was made the machine had just been opened
+  pub record Reaches (shared_of : K → S → Type 0) (first : Whole S K C) (log : List Entry) (x : Whole S K C) : Type 0 where
+    pub opened : IsOpened (machine first.code) (shared_of first.code) first.shared
+    pub replays : Replays first log x
+
+  -- a world in which nothing has run: no thread has begun, and the journal is empty
+  pub record IsFresh (x : Whole S K C) : Type 0 where
+    pub homes : x.homes ≡ homes_of (unbegun_from (machine x.code) x.settings 0 most_threads)
+    pub seats : x.seats ≡ replicate most_threads seat.New
+    pub out : x.out ≡ 0
+    pub waiting : x.waiting ≡ 0
+    pub last : x.last ≡ 0
+    pub seed : x.x ≡ seeded x.settings.schedule
+    pub since : x.since ≡ 0
+    pub ending : x.ending ≡ None
+    pub log : x.log ≡ record { entries = []; limit = x.settings.entries }

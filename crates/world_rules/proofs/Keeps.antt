@@ -94,7 +94,7 @@ module _ {S K C : Type 0} (machine : K → Machine S C) (first : Whole S K C) wh
     not_blocked t n c mood at = middle_false _ (none_out m first.settings s) _ (let a = some_out s.places t w n c mood at in grind (arith, nat_tests))
 
     -- how many pass a test, after a place was changed
-    recount : (test : Place C → Bool) (t : ℕ) (p q : Place C) → place_at s.places t ≡ p → (p ≡ gone → ⊥) → count_by test (set s.places t q) + cond (test p) 1 0 ≡ count_by test s.places + cond (test q) 1 0
+    pub recount : (test : Place C → Bool) (t : ℕ) (p q : Place C) → place_at s.places t ≡ p → (p ≡ gone → ⊥) → count_by test (set s.places t q) + cond (test p) 1 0 ≡ count_by test s.places + cond (test q) 1 0
     recount test t p q at here = ap (λ (z : Place C). count_by test (set s.places t q) + cond (test z) 1 0) (sym at) ∙ sum_by-set (λ (z : Place C). cond (test z) 1 0) s.places t q gone (inside s.places t (λ e. here (sym at ∙ e)))
 
     -- a thread comes home
@@ -139,6 +139,15 @@ module _ {S K C : Type 0} (machine : K → Machine S C) (first : Whole S K C) wh
       one_more : (p : Place C) → is_out p ≡ true → count_by is_out s.places ≡ count_by is_out (set s.places t p)
       one_more p is = let h = recount is_out t (out w c n mood) p there here in let z : cond {A = ℕ} (is_out p) 1 0 ≡ 1 = ap (λ (b : Bool). cond {A = ℕ} b 1 0) is in omega arith
 
+      -- how many wait for room then
+      pub waits_more : (q : Place C) → m.waits c ≡ false → waits_at m q ≡ is_for_room a.turned → cond (is_for_room a.turned) (count_by (waits_at m) s.places + 1) (count_by (waits_at m) s.places) ≡ count_by (waits_at m) (set s.places t q)
+      waits_more q before after = by (is_for_room a.turned) (ap (λ (z : Bool). cond {A = ℕ} z 1 0) after) (ap (λ (z : Bool). cond {A = ℕ} z 1 0) before) (recount (waits_at m) t (out w c n mood) q there here)
+        where
+          by : (b : Bool) → cond {A = ℕ} (waits_at m q) 1 0 ≡ cond {A = ℕ} b 1 0 → cond {A = ℕ} (m.waits c) 1 0 ≡ 0 → count_by (waits_at m) (set s.places t q) + cond {A = ℕ} (m.waits c) 1 0 ≡ count_by (waits_at m) s.places + cond {A = ℕ} (waits_at m q) 1 0
+              → cond b (count_by (waits_at m) s.places + 1) (count_by (waits_at m) s.places) ≡ count_by (waits_at m) (set s.places t q)
+          by true x y z = omega arith
+          by false x y z = omega arith
+
       -- where the thread stays with its worker or is to come home
       stays : (q : Place C) → at_home q ≡ None → is_out q ≡ true → seat_of q ≡ seat.Out (min (n + 1) 256) → m.waits c ≡ false → waits_at m q ≡ is_for_room a.turned
           → with_entries (seated X t (turns_more (seat_at X.seats t)) a on) (turn_entry w t a.local a.turned ∷ []) ≡ whole_of machine first (log ++ turn_entry w t a.local a.turned ∷ []) (turned_state m first.settings s w t a q)
@@ -147,20 +156,12 @@ module _ {S K C : Type 0} (machine : K → Machine S C) (first : Whole S K C) wh
         homes = sym (map-set_same at_home s.places t q gone (none ∙ sym (ap at_home there))) i;
         seats = (ap (λ (k : ℕ). set X.seats t (seat.Out k)) counted ∙ (ap (set X.seats t) (sym sits) ∙ sym (map-set seat_of s.places t q))) i;
         out = one_more q out' i;
-        waiting = waits (is_for_room a.turned) refl i;
+        waiting = waits_more q before after i;
         since = s.since + 1;
         x = after_draw first.settings.schedule s.x;
         ending = ends_with t a.turned;
         log = record { entries = log ++ turn_entry w t a.local a.turned ∷ []; limit = first.settings.entries };
       }
-        where
-          waits : (b : Bool) → is_for_room a.turned ≡ b → cond b (count_by (waits_at m) s.places + 1) (count_by (waits_at m) s.places) ≡ count_by (waits_at m) (set s.places t q)
-          waits b is = by b (ap (λ (z : Bool). cond {A = ℕ} z 1 0) (after ∙ is)) (ap (λ (z : Bool). cond {A = ℕ} z 1 0) before) (recount (waits_at m) t (out w c n mood) q there here)
-            where
-              by : (b : Bool) → cond {A = ℕ} (waits_at m q) 1 0 ≡ cond {A = ℕ} b 1 0 → cond {A = ℕ} (m.waits c) 1 0 ≡ 0 → count_by (waits_at m) (set s.places t q) + cond {A = ℕ} (m.waits c) 1 0 ≡ count_by (waits_at m) s.places + cond {A = ℕ} (waits_at m q) 1 0
-                  → cond b (count_by (waits_at m) s.places + 1) (count_by (waits_at m) s.places) ≡ count_by (waits_at m) (set s.places t q)
-              by true x y z = omega arith
-              by false x y z = omega arith
 
       -- where it ended, or the run did
       leaves : m.waits c ≡ false
@@ -185,13 +186,9 @@ module _ {S K C : Type 0} (machine : K → Machine S C) (first : Whole S K C) wh
           by asked e = ap (λ (z : C). Some (turn_event m first.settings s w t n asked (m.act s.shared z))) (sym e)
           by must e = absurd e
 
-      -- its entry replays to the world after it, where the machine's law of waiting holds
-      pub steps_good : end_before X ≡ None → MovedOn machine first c mood d → m.waits c ≡ false → ((goes a.turned ≡ away → ⊥) → m.waits a.context ≡ is_for_room a.turned) → Good log (calls.steps machine X w d).1 (calls.steps machine X w d).2
-      steps_good before moved calm law = record {
-        state = steps.whole_of m first.settings v;
-        stands = one_event v (turn_entry w t a.local a.turned) before (not_blocked t n c mood there) refl (event_is moved) refl (spare (goes a.turned)) (many (goes a.turned));
-        is = same (goes a.turned) refl;
-      }
+      -- the journal with its entry leads to the state after it
+      pub steps_stands : end_before X ≡ None → MovedOn machine first c mood d → Stands (log ++ turn_entry w t a.local a.turned ∷ []) (steps.whole_of m first.settings v)
+      steps_stands before moved = one_event v (turn_entry w t a.local a.turned) before (not_blocked t n c mood there) refl (event_is moved) refl (spare (goes a.turned)) (many (goes a.turned))
         where
           spare : (g : Goes) → (turned_by m first.settings s w t (n + 1) mood a g).spare ≡ s.spare
           spare on = refl
@@ -203,6 +200,14 @@ module _ {S K C : Type 0} (machine : K → Machine S C) (first : Whole S K C) wh
           many back = length-set s.places t _
           many away = length-set s.places t _
 
+      -- its entry replays to the world after it, where the machine's law of waiting holds
+      pub steps_good : end_before X ≡ None → MovedOn machine first c mood d → m.waits c ≡ false → ((goes a.turned ≡ away → ⊥) → m.waits a.context ≡ is_for_room a.turned) → Good log (calls.steps machine X w d).1 (calls.steps machine X w d).2
+      steps_good before moved calm law = record {
+        state = steps.whole_of m first.settings v;
+        stands = steps_stands before moved;
+        is = same (goes a.turned) refl;
+      }
+        where
           same : (g : Goes) → goes a.turned ≡ g → with_entries (seated X t (turns_more (seat_at X.seats t)) a g) (turn_entry w t a.local a.turned ∷ []) ≡ whole_of machine first (log ++ turn_entry w t a.local a.turned ∷ []) (turned_by m first.settings s w t (n + 1) mood a g)
           same on q = stays _ refl refl refl calm (law (λ e. let z : on ≡ away = sym q ∙ e in cc z))
           same back q = stays _ refl refl refl calm (law (λ e. let z : back ≡ away = sym q ∙ e in cc z))
@@ -215,6 +220,13 @@ module _ {S K C : Type 0} (machine : K → Machine S C) (first : Whole S K C) wh
     picked_ready sch last x t (k ∷ ks) e = refl
 
     -- a thread goes out
+    pub hands_stands : (t : ℕ) (p : Place C) (c : C) → end_before X ≡ None → is_wanted m first.settings s ≡ false → pick m first.settings s ≡ Some t → place_at s.places t ≡ p → out_event m first.settings s w t p ≡ Some (goes_out m first.settings s w t c)
+        → Stands (log ++ out_entry w t ∷ []) (steps.whole_of m first.settings (goes_out m first.settings s w t c))
+    hands_stands t p c before calm picked there event =
+        one_event (goes_out m first.settings s w t c) (out_entry w t) before (middle_first (is_none (slice_get (ready m s) 0)) (none_out m first.settings s) (not (is_wanted m first.settings s)) (picked_ready first.settings.schedule s.last s.x t (ready m s) picked)) refl
+        (ap (λ (b : Bool). cond b (cond (none_out m first.settings s) (Some (barrier_event m first.settings s w (m.barrier s.shared (homes_of s.places)))) None) (picked_event m first.settings s w (pick m first.settings s))) calm
+        ∙ (ap (picked_event m first.settings s w) picked ∙ (ap (out_event m first.settings s w t) there ∙ event))) refl refl (length-set s.places t (out w c 0 free))
+
     pub hands_good : (t : ℕ) (p : Place C) (c c' : C) → end_before X ≡ None → is_wanted m first.settings s ≡ false → pick m first.settings s ≡ Some t → place_at s.places t ≡ p
         → (p ≡ gone → ⊥) → is_out p ≡ false → out_event m first.settings s w t p ≡ Some (goes_out m first.settings s w t c') → as_it_goes machine X (seat_of p) c ≡ c' → waits_at m p ≡ m.waits c'
         → Good log (hands machine X w t (Some c)).1 (hands machine X w t (Some c)).2
@@ -228,9 +240,7 @@ module _ {S K C : Type 0} (machine : K → Machine S C) (first : Whole S K C) wh
         let counted : count_by is_out s.places + 1 ≡ count_by is_out v.after.places = omega arith in
         let same : count_by (waits_at m) s.places ≡ count_by (waits_at m) v.after.places = omega arith in record {
           state = steps.whole_of m first.settings v;
-          stands = one_event v (out_entry w t) before (middle_first (is_none (slice_get (ready m s) 0)) (none_out m first.settings s) (not (is_wanted m first.settings s)) (picked_ready first.settings.schedule s.last s.x t (ready m s) picked)) refl
-              (ap (λ (b : Bool). cond b (cond (none_out m first.settings s) (Some (barrier_event m first.settings s w (m.barrier s.shared (homes_of s.places)))) None) (picked_event m first.settings s w (pick m first.settings s))) calm
-              ∙ (ap (picked_event m first.settings s w) picked ∙ (ap (out_event m first.settings s w t) there ∙ event))) refl refl (length-set s.places t q);
+          stands = hands_stands t p c' before calm picked there event;
           is = λ i. record X {
             homes = sym (map-set at_home s.places t q) i;
             seats = sym (map-set seat_of s.places t q) i;
