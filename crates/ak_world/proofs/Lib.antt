@@ -2,3 +2,5 @@ pub mod Ready
 pub mod Handing
 pub mod Sweeping
 pub mod Stepping
+pub mod Answering
+pub mod Beginning
