@@ -18,6 +18,7 @@ use Rattle.flat_rules.specs.inner.Steps.{step_cases, run_keeps}
 use Rattle.world_rules.proofs.Sits.{SitsAt, Sit, Moved, stays_on, goes_back, goes_away, left}
 use Rattle.world_rules.proofs.MoveKeeps.{home_sits, leaves_sits, begins_sits, may_sweep, of_run, sweep_sits}
 use Rattle.world_rules.proofs.Sweeps.{length_after}
+use Rattle.world_rules.proofs.Picks.{picked_below}
 
 -- where the run goes on the last entry brought no end
 pub none_ends : (o e : Option End) → is_none (or_else o e) ≡ true → o ≡ None
@@ -27,43 +28,6 @@ none_ends None e h = refl
 or_left : (a b : Bool) → (a || b) ≡ false → a ≡ false
 or_left true b h = absurd (cc h)
 or_left false b h = refl
-
-module _ {S C : Type 0} (m : Machine S C) (shared : S) where
-  abbrev Below : List ℕ → Type 0
-  Below [] = Unit {0}
-  Below (k ∷ ks) = (k < m.threads shared) × Below ks
-
-  -- a ready thread was made
-  ready_below : (k : ℕ) (hs : List (Option C)) → Below (ready_from m shared k hs)
-  ready_below k [] = tt
-  ready_below k (None ∷ hs) = ready_below (k + 1) hs
-  ready_below k (Some c ∷ hs) = by (nat_lt k (m.threads shared)) (m.is_ready shared c) refl (ready_below (k + 1) hs)
-    where
-      by : (a b : Bool) → nat_lt k (m.threads shared) ≡ a → Below (ready_from m shared (k + 1) hs) → Below (cond (a && b) (k ∷ ready_from m shared (k + 1) hs) (ready_from m shared (k + 1) hs))
-      by true true e rest = (let x : k < m.threads shared = grind (arith, nat_tests) in x, rest)
-      by true false e rest = rest
-      by false b e rest = rest
-
-  at_below : (ks : List ℕ) (i t : ℕ) → Below ks → slice_get ks i ≡ Some t → t < m.threads shared
-  at_below [] i t b e = absurd (cc e)
-  at_below (k ∷ ks) zero t b e = let same : k ≡ t = cc e in let x = b.0 in omega arith
-  at_below (k ∷ ks) (suc i) t b e = at_below ks i t b.1 e
-
-  found_below : (test : ℕ → Bool) (ks : List ℕ) (t : ℕ) → Below ks → find test ks ≡ Some t → t < m.threads shared
-  found_below test [] t b e = absurd (cc e)
-  found_below test (k ∷ ks) t b e = by (test k) e (found_below test ks t b.1)
-    where
-      by : (x : Bool) → cond x (Some k) (find test ks) ≡ Some t → (find test ks ≡ Some t → t < m.threads shared) → t < m.threads shared
-      by true e rest = let same : k ≡ t = cc e in let x = b.0 in omega arith
-      by false e rest = rest e
-
-  pub picked_below : (sch : Option ℕ) (last x t : ℕ) (hs : List (Option C)) → pick_by sch last x (ready_from m shared 0 hs) ≡ Some t → t < m.threads shared
-  picked_below (Some seed) last x t hs e = at_below (ready_from m shared 0 hs) _ t (ready_below 0 hs) e
-  picked_below None last x t hs e = by (find (λ k. nat_lt last k) (ready_from m shared 0 hs)) refl e
-    where
-      by : (o : Option ℕ) → find (λ k. nat_lt last k) (ready_from m shared 0 hs) ≡ o → or_else o (slice_get (ready_from m shared 0 hs) 0) ≡ Some t → t < m.threads shared
-      by None f e = at_below (ready_from m shared 0 hs) 0 t (ready_below 0 hs) e
-      by (Some k) f e = let same : k ≡ t = cc e in let x = found_below _ (ready_from m shared 0 hs) k (ready_below 0 hs) f in omega arith
 
 module _ {S C : Type 0} (m : Machine S C) (SharedOf : S → Type 0) (ContextOf : C → Type 0) (rules : Rules) where
   pub record Invariant (s : State S C) : Type 0 where
@@ -160,7 +124,7 @@ module _ {S C : Type 0} (m : Machine S C) (SharedOf : S → Type 0) (ContextOf :
         comes = λ t n c at. record { of_ = i.of_; few = i.few; places = length-set s.places t _ ∙ i.places; each = with_end _ (home_sits m ContextOf SharedOf flat s.shared s.places i.of_ i.few sits t w n c at) };
       }
 
-    keeps : (log : List Entry) (s : State S C) (e : Entry) (s' : State S C) → Invariant s → step m rules s e ≡ Some s' → Invariant s'
+    pub keeps : (log : List Entry) (s : State S C) (e : Entry) (s' : State S C) → Invariant s → step m rules s e ≡ Some s' → Invariant s'
     keeps log s e s' i st = step_cases m rules s e s' {R = Invariant s'}
         (λ n. subst Invariant (sym n.is) (record { of_ = i.of_; few = i.few; places = i.places; each = i.each }))
         (λ f. subst Invariant (sym f.is) (let h : Invariant f.v.after = subst (Holds m rules s e.worker (λ v. Invariant v.after)) f.event (event_holds m rules s e.worker (λ v. Invariant v.after) (cases s i (none_ends s.ending _ f.live) e.worker) e.kind e.thread) in

@@ -90,7 +90,7 @@ module _ {S K C : Type 0} (machine : K → Machine S C) (first : Whole S K C) wh
     }
 
     -- where one is out the run is not blocked
-    not_blocked : (t n : ℕ) (c : C) (mood : Mood) → place_at s.places t ≡ out w c n mood → is_blocked m first.settings s ≡ false
+    pub not_blocked : (t n : ℕ) (c : C) (mood : Mood) → place_at s.places t ≡ out w c n mood → is_blocked m first.settings s ≡ false
     not_blocked t n c mood at = middle_false _ (none_out m first.settings s) _ (let a = some_out s.places t w n c mood at in grind (arith, nat_tests))
 
     -- how many pass a test, after a place was changed
@@ -214,7 +214,7 @@ module _ {S K C : Type 0} (machine : K → Machine S C) (first : Whole S K C) wh
           same away q = leaves calm
 
     -- a thread that is picked has others ready, or is
-    picked_ready : (sch : Option ℕ) (last x t : ℕ) (ks : List ℕ) → pick_by sch last x ks ≡ Some t → is_none (slice_get ks 0) ≡ false
+    pub picked_ready : (sch : Option ℕ) (last x t : ℕ) (ks : List ℕ) → pick_by sch last x ks ≡ Some t → is_none (slice_get ks 0) ≡ false
     picked_ready (Some seed) last x t [] e = absurd (cc e)
     picked_ready None last x t [] e = absurd (cc e)
     picked_ready sch last x t (k ∷ ks) e = refl

@@ -19,7 +19,8 @@ use Rattle.world_rules.specs.Sound.{IsNew, IsSound, MayStep, MayWork}
 use Rattle.world_rules.specs.inner.Stays.{some_out}
 use Rattle.world_rules.proofs.Sits.{SitsAt, Sit, are_of_run}
 use Rattle.world_rules.proofs.MoveKeeps.{may_sweep}
-use Rattle.world_rules.proofs.Invariant.{Invariant, runs_keep, picked_below}
+use Rattle.world_rules.proofs.Invariant.{Invariant, runs_keep}
+use Rattle.world_rules.proofs.Picks.{picked_below}
 use Rattle.world_rules.proofs.CallsKeep.{none_before, one_state}
 
 -- at home and not begun

@@ -1,0 +1,53 @@
+-- How many Turn entries may come between two barriers.
+use Rattle.std.specs.Prelude.{◌≡◌, ℕ, zero, suc, ◌+◌, ◌*◌, ◌≤◌, ◌==◌, Bool, true, false, count_by, List, [], ◌∷◌, ◌++◌, Some}
+use Rattle.ak_trace.specs.declared.entry.Entry.{Entry}
+use Rattle.ak_trace.specs.Kinds as kind
+use Rattle.flat_rules.specs.Machine.{Machine, works}
+use Rattle.flat_rules.specs.States.{State, is_out, is_wanted}
+use Rattle.flat_rules.specs.Events.{on, goes}
+use Rattle.flat_rules.specs.Lawful.{IsOpened, Lives}
+use Rattle.world_rules.specs.Whole.{Whole, Leads}
+use Rattle.world_rules.specs.Journals.{MayStand}
+
+abbrev pub is_turn : Entry → Bool
+is_turn e = e.kind == kind.turn
+
+abbrev pub is_barrier : Entry → Bool
+is_barrier e = e.kind == kind.barrier
+
+module _ {S C : Type 0} (m : Machine S C) (SharedOf : S → Type 0) (ContextOf : C → Type 0) where
+  -- a thread that is asked home takes at most so many turns more, whatever the others do between them: after the last it comes home, or is nowhere
+  abbrev pub ComesHome : ℕ → C → Type 0
+  ComesHome zero c = ⊥
+  ComesHome (suc n) c = (s : S) → Lives m SharedOf ContextOf s (m.local 0 c) → goes (m.act s (m.local 0 c)).turned ≡ on → ComesHome n (m.act s (m.local 0 c)).context
+
+  -- each thread that works does, in l + 2 turns
+  abbrev pub AllComeHome : ℕ → Type 0
+  AllComeHome l = (c : C) → ContextOf c → m.progress c ≡ works → ComesHome (l + 2) c
+
+module _ {S K C : Type 0} (machine : K → Machine S C) (shared_of : K → S → Type 0) (context_of : K → C → Type 0) (first : Whole S K C) where
+  -- with `every` n, in a run whose threads come home in l + 2 turns
+  pub record RunsEvery (n l : ℕ) : Type 0 where
+    pub every : first.settings.every ≡ Some n
+    pub opened : IsOpened (machine first.code) (shared_of first.code) first.shared
+    pub homes : AllComeHome (machine first.code) (shared_of first.code) (context_of first.code) l
+
+  -- a part of a journal that begins just after a barrier, or at the start, and has no barrier
+  pub record IsBetween (log part : List Entry) (s : State S C) : Type 0 where
+    pub before : State S C
+    pub leads : Leads machine first log before
+    pub fresh : before.since ≡ 0
+    pub stands : MayStand machine first (log ++ part) s
+    pub between : count_by is_barrier part ≡ 0
+
+  -- as long as no barrier is wanted, there are at most n Turn entries
+  abbrev pub FewBefore : Type 0
+  FewBefore = (n l : ℕ) (log part : List Entry) (s : State S C) → RunsEvery n l → IsBetween log part s → is_wanted (machine first.code) first.settings s ≡ false → count_by is_turn part ≤ n
+
+  -- Where a barrier comes to be wanted by an entry, there are at most n up to it and with it, and then l + 3 for each thread that is out
+  abbrev pub FewBetween : Type 0
+  FewBetween = (n l : ℕ) (log part more : List Entry) (e : Entry) (calm wanted s : State S C) → RunsEvery n l
+      → IsBetween log part calm → is_wanted (machine first.code) first.settings calm ≡ false
+      → IsBetween log (part ++ e ∷ []) wanted → is_wanted (machine first.code) first.settings wanted ≡ true
+      → IsBetween log ((part ++ e ∷ []) ++ more) s
+      → count_by is_turn ((part ++ e ∷ []) ++ more) ≤ n + (l + 3) * count_by is_out wanted.places
