@@ -4,3 +4,5 @@ pub mod Sweeping
 pub mod Stepping
 pub mod Answering
 pub mod Beginning
+pub mod Calling
+pub mod Over
