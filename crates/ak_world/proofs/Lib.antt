@@ -6,3 +6,4 @@ pub mod Answering
 pub mod Beginning
 pub mod Calling
 pub mod Over
+pub mod Finishing

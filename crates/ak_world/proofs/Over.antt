@@ -14,7 +14,8 @@ use Rattle.flat_rules.specs.inner.Steps.{run-append}
 use Rattle.world_rules.specs.Whole.{Whole, Leads, Reaches, whole_of}
 use Rattle.world_rules.specs.Calls.{end_now}
 use Rattle.world_rules.specs.Allowed.{IsOver}
-use Rattle.world_rules.proofs.CallsKeep.{Stands, stands_of, one_state}
+use Rattle.world_rules.proofs.Keeps.{Stands}
+use Rattle.world_rules.proofs.CallsKeep.{stands_of, one_state}
 
 module _ {S K C : Type 0} (machine : K → Machine S C) (first : Whole S K C) where
   abbrev m : Machine S C
