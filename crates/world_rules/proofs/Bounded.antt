@@ -3,7 +3,7 @@ use Rattle.std.proofs.Common.{◌≡◌, ◌≢◌, ℕ, zero, suc, ◌+◌, ◌
 use Rattle.std.specs.Prelude.{count_by, ◌⊎◌, option_and_then}
 use mathlib.Core.Logic.{inl, inr}
 use Rattle.std.proofs.Math.Nat.{mul-suc}
-use Rattle.std.proofs.Math.Seq.{get_or-set_same}
+use Rattle.std.proofs.lemmas.List.{append-nil}
 use Rattle.std.proofs.lemmas.List.Sums.{sum_by-set, sum_by-cons, sum_by-append}
 use Rattle.std.proofs.lemmas.Option.{option_and_then_some}
 use Rattle.std.proofs.lemmas.Bool.Decides.{nat_tests}
@@ -11,20 +11,23 @@ use Rattle.ak_trace.specs.declared.entry.Entry.{Entry}
 use Rattle.ak_trace.specs.Kinds as kind
 use Rattle.flat_meaning.specs.declared.endings.End.{End}
 use Rattle.flat_rules.specs.Rules.{Rules}
-use Rattle.flat_rules.specs.Machine.{Machine, Acted, works, steps}
-use Rattle.flat_rules.specs.Entries.{turn_entry, barrier_entry}
-use Rattle.flat_rules.specs.States.{State, Place, unbegun, home, out, gone, Mood, free, asked, must, place_at, homes_of, is_out, waits_at, waits_for_room, is_due, is_wanted, none_out, end_of, start}
+use Rattle.flat_rules.specs.Machine.{Machine, Acted}
+use Rattle.flat_rules.specs.Entries.{barrier_entry}
+use Rattle.flat_rules.specs.States.{State, Place, unbegun, home, out, gone, Mood, free, asked, must, place_at, homes_of, is_out, waits_at, waits_for_room, is_due, is_wanted, start}
 use Rattle.flat_rules.specs.Draws.{after_draw}
 use Rattle.flat_rules.specs.Events.{Event, Goes, on, back, away, goes, most_local, mood_after, draw_asks, turns_out, turn_event, turned_by, turned_state, come_home}
-use Rattle.flat_rules.specs.Lawful.{IsFlat, Goes_on}
+use Rattle.flat_rules.specs.Lawful.{IsFlat, IsOpened, Goes_on}
 use Rattle.flat_rules.specs.Replays.{step, run}
-use Rattle.flat_rules.specs.inner.Cases.{Cases, Holds, event_holds}
-use Rattle.flat_rules.specs.inner.Steps.{step_cases, run-append, same_kind}
-use Rattle.world_rules.specs.Whole.{Whole, Leads}
-use Rattle.world_rules.specs.Every.{ComesHome, AllComeHome, RunsEvery, IsBetween, FewBefore, FewBetween, is_turn, is_barrier}
+use Rattle.flat_rules.specs.inner.Cases.{Cases, Holds, event_holds, same_number}
+use Rattle.flat_rules.specs.inner.Steps.{step_cases, run_keeps, run-append, same_kind}
+use Rattle.world_rules.specs.Whole.{Whole}
+use Rattle.world_rules.specs.Every.{ComesHome, AllComeHome, RunsEvery, IsBetween, IsWantedWithin, FewTurns, is_turn, is_barrier}
 use Rattle.world_rules.specs.inner.Stays.{inside}
 use Rattle.world_rules.proofs.Sits.{SitsAt, Sit, Moved, lives}
-use Rattle.world_rules.proofs.Invariant.{Invariant, none_ends, moved, keeps, runs_keep}
+use Rattle.world_rules.proofs.Invariant.{Invariant, none_ends, moved, picked, calm, starts, keeps, runs_keep}
+use Rattle.world_rules.proofs.MoveKeeps.{begins_lives, may_sweep, of_run}
+use Rattle.world_rules.proofs.Sweeps.{waits_after}
+use Rattle.world_rules.proofs.Fresh.{none_waits}
 
 -- no entry is a barrier
 abbrev NoBarrier : List Entry → Type 0
@@ -74,8 +77,8 @@ module _ {S C : Type 0} (m : Machine S C) (rules : Rules) where
   step_counts s e s' settled other st = step_cases m rules s e s' {R = (s'.due ≡ []) × (s'.since ≡ s.since + cond {A = ℕ} (is_turn e) 1 0)}
       (λ n. absurd (let z : [] ≡ n.d ∷ n.ds = sym settled ∙ n.due in cc z))
       (λ f. let kinds : e.kind ≡ f.d.kind = same_kind e f.d f.same in
-          let h = subst (Holds m rules s e.worker (Counts s)) f.event (event_holds m rules s e.worker (Counts s) (counts s e.worker) e.kind e.thread) f.d f.ds f.entries (λ q. other (kinds ∙ q)) in
-          (ap (λ (z : State S C). z.due) f.is ∙ h.0, ap (λ (z : State S C). z.since) f.is ∙ (h.1 ∙ ap (λ (k : ℕ). s.since + cond {A = ℕ} (k == kind.turn) 1 0) (sym kinds))))
+      let h = subst (Holds m rules s e.worker (Counts s)) f.event (event_holds m rules s e.worker (Counts s) (counts s e.worker) e.kind e.thread) f.d f.ds f.entries (λ q. other (kinds ∙ q)) in
+      (ap (λ (z : State S C). z.due) f.is ∙ h.0, ap (λ (z : State S C). z.since) f.is ∙ (h.1 ∙ ap (λ (k : ℕ). s.since + cond {A = ℕ} (k == kind.turn) 1 0) (sym kinds))))
       st
 
   -- the state counts the Turn entries
@@ -263,10 +266,10 @@ module _ {S C : Type 0} (m : Machine S C) (SharedOf : S → Type 0) (ContextOf :
     run_bounded (e ∷ es) s s' i settled b none' ran = option_and_then_some (run m rules es) (step m rules s e) s' ran (λ y st rest.
         run_bounded es y s' (keeps m SharedOf ContextOf rules flat [] s e y i st) (step_counts m rules s e y settled none'.0 st).0
         (step_cases m rules s e y {R = Bounded y}
-            (λ n. absurd (let z : [] ≡ n.d ∷ n.ds = sym settled ∙ n.due in cc z))
-            (λ f. let h : Bounded f.v.after = subst (Holds m rules s e.worker (Keeps s i (none_ends s.ending _ f.live) b e.worker)) f.event (event_holds m rules s e.worker (Keeps s i (none_ends s.ending _ f.live) b e.worker) (bounds s i (none_ends s.ending _ f.live) b e.worker) e.kind e.thread) f.d f.ds f.entries (λ q. none'.0 (same_kind e f.d f.same ∙ q)) in
-                subst Bounded (sym f.is) (record { wanted = h.wanted; total = h.total; fits = h.fits; within = h.within }))
-            st)
+        (λ n. absurd (let z : [] ≡ n.d ∷ n.ds = sym settled ∙ n.due in cc z))
+        (λ f. let h : Bounded f.v.after = subst (Holds m rules s e.worker (Keeps s i (none_ends s.ending _ f.live) b e.worker)) f.event (event_holds m rules s e.worker (Keeps s i (none_ends s.ending _ f.live) b e.worker) (bounds s i (none_ends s.ending _ f.live) b e.worker) e.kind e.thread) f.d f.ds f.entries (λ q. none'.0 (same_kind e f.d f.same ∙ q)) in
+        subst Bounded (sym f.is) (record { wanted = h.wanted; total = h.total; fits = h.fits; within = h.within }))
+        st)
         none'.1 rest)
 
 module _ {S K C : Type 0} (machine : K → Machine S C) (SharedOf : K → S → Type 0) (ContextOf : K → C → Type 0) (flat : (code : K) → IsFlat (machine code) (SharedOf code) (ContextOf code)) (first : Whole S K C) where
@@ -281,7 +284,7 @@ module _ {S K C : Type 0} (machine : K → Machine S C) (SharedOf : K → S → 
   run_from xs ys a b at all = sym (ap (option_and_then (run m' first.settings ys)) at) ∙ (sym (run-append m' first.settings xs ys start') ∙ all)
 
   -- the state after a part without a barrier
-  part_counts : (log part : List Entry) (s : State S C) → IsBetween machine SharedOf ContextOf first log part s → (s.due ≡ []) × (s.since ≡ count_by is_turn part)
+  part_counts : (log part : List Entry) (s : State S C) → IsBetween machine first log part s → (s.due ≡ []) × (s.since ≡ count_by is_turn part)
   part_counts log part s b =
       let h = run_counts m' first.settings part b.before s b.leads.settled (no_barrier part b.between) (run_from log part b.before s b.leads.runs b.stands) in
       (h.0, let a = h.1 in let c = b.fresh in omega arith)
@@ -291,11 +294,15 @@ module _ {S K C : Type 0} (machine : K → Machine S C) (SharedOf : K → S → 
   not_due (Some k) n since true e h = absurd (cc h)
   not_due (Some k) n since false e h = let same : k ≡ n = cc e in let z : since < k = grind (arith, nat_tests) in omega arith
 
-  pub few_before : FewBefore machine SharedOf ContextOf first
+  few_before : (n l : ℕ) (log part : List Entry) (s : State S C) → RunsEvery machine first SharedOf ContextOf n l → IsBetween machine first log part s → is_wanted m' first.settings s ≡ false → count_by is_turn part ≤ n
   few_before n l log part s r b calm =
       let a = (part_counts log part s b).1 in let c = not_due first.settings.every n s.since (waits_for_room m' first.settings s) r.every calm in omega arith
 
-  pub few_between : FewBetween machine SharedOf ContextOf first
+  few_between : (n l : ℕ) (log part more : List Entry) (e : Entry) (calm wanted s : State S C) → RunsEvery machine first SharedOf ContextOf n l
+      → IsBetween machine first log part calm → is_wanted m' first.settings calm ≡ false
+      → IsBetween machine first log (part ++ e ∷ []) wanted → is_wanted m' first.settings wanted ≡ true
+      → IsBetween machine first log ((part ++ e ∷ []) ++ more) s
+      → count_by is_turn ((part ++ e ∷ []) ++ more) ≤ n + (l + 3) * count_by is_out wanted.places
   few_between n l log part more e calm wanted s r b rest b' want b'' =
       let i : Invariant m' (SharedOf first.code) (ContextOf first.code) first.settings wanted = runs_keep m' (SharedOf first.code) (ContextOf first.code) first.settings (flat first.code) first.shared r.opened (log ++ (part ++ e ∷ [])) wanted b'.stands in
       let all : run m' first.settings ((log ++ (part ++ e ∷ [])) ++ more) start' ≡ Some s = ap (λ (es : List Entry). run m' first.settings es start') (append_assoc log (part ++ e ∷ []) more) ∙ b''.stands in
@@ -307,14 +314,116 @@ module _ {S K C : Type 0} (machine : K → Machine S C) (SharedOf : K → S → 
       let last : count_by is_turn (part ++ e ∷ []) ≤ count_by is_turn part + 1 = let z = sum_by-append (λ (x : Entry). cond {A = ℕ} (is_turn x) 1 0) part (e ∷ []) in let y = one (is_turn e) in omega arith in
       let low = not_due first.settings.every n calm.since (waits_for_room m' first.settings calm) r.every rest in
       let few = run_bounded m' (SharedOf first.code) (ContextOf first.code) first.settings l r.homes (flat first.code) (wanted.since + (l + 3) * count_by is_out wanted.places) more wanted s i at'.0
-            (record {
-              wanted = want;
-              total = (l + 3) * count_by is_out wanted.places;
-              fits = omega arith;
-              within = at_most m' (SharedOf first.code) (ContextOf first.code) first.settings l r.homes wanted.shared wanted.ending wanted.places 0 (λ t. subst (λ (z : ℕ). SitsAt m' (ContextOf first.code) wanted.shared wanted.ending z (place_at wanted.places t)) (let z : t ≡ 0 + t = omega arith in z) (i.each t));
-            }) (no_barrier more none') (run_from (log ++ (part ++ e ∷ [])) more wanted s b'.stands all) in
+      (record {
+        wanted = want;
+        total = (l + 3) * count_by is_out wanted.places;
+        fits = omega arith;
+        within = at_most m' (SharedOf first.code) (ContextOf first.code) first.settings l r.homes wanted.shared wanted.ending wanted.places 0 (λ t. subst (λ (z : ℕ). SitsAt m' (ContextOf first.code) wanted.shared wanted.ending z (place_at wanted.places t)) (let z : t ≡ 0 + t = omega arith in z) (i.each t));
+      }) (no_barrier more none') (run_from (log ++ (part ++ e ∷ [])) more wanted s b'.stands all) in
       omega arith
     where
       one : (b : Bool) → 0 + cond {A = ℕ} b 1 0 ≤ 1
       one true = omega arith
       one false = omega arith
+
+  -- where no Turn entry has come since a barrier or the start, none waits for room
+  module _ (opened : IsOpened m' (SharedOf first.code) first.shared) where
+    abbrev Inv : State S C → Type 0
+    Inv s = Invariant m' (SharedOf first.code) (ContextOf first.code) first.settings s
+
+    abbrev Quiet : State S C → Type 0
+    Quiet s = s.since ≡ 0 → count_by (waits_at m') s.places ≡ 0
+
+    -- one place is changed, whose thread waits as before
+    same_wait : (s : State S C) (t : ℕ) (p q : Place C) → place_at s.places t ≡ p → (p ≡ gone → ⊥) → waits_at m' q ≡ waits_at m' p → count_by (waits_at m') s.places ≡ 0 → count_by (waits_at m') (set s.places t q) ≡ 0
+    same_wait s t p q at never same none' =
+        let a = sum_by-set (λ (z : Place C). cond {A = ℕ} (waits_at m' z) 1 0) s.places t q gone (inside s.places t (λ e. never (sym at ∙ e))) in
+        let e : cond {A = ℕ} (waits_at m' (place_at s.places t)) 1 0 ≡ cond {A = ℕ} (waits_at m' q) 1 0 = ap (λ (z : Place C). cond {A = ℕ} (waits_at m' z) 1 0) at ∙ ap (λ (z : Bool). cond {A = ℕ} z 1 0) (sym same) in omega arith
+
+    quiets : (s : State S C) (i : Inv s) (going : s.ending ≡ None) (w : ℕ) → Quiet s → Cases m' first.settings s w (λ v. Quiet v.after)
+    quiets s i going w quiet = record {
+      begins = λ t c rest pick at e.
+          let sits : Sit m' (ContextOf first.code) s.shared None s.places = subst (λ (e : Option End). Sit m' (ContextOf first.code) s.shared e s.places) going i.each in
+          let k = begins_lives m' (ContextOf first.code) (SharedOf first.code) (flat first.code) s.shared s.places i.of_ i.few sits t c at (picked m' (SharedOf first.code) (ContextOf first.code) first.settings (flat first.code) s i going w t pick) in
+          same_wait s t (unbegun c) _ at (λ z. absurd (cc z)) ((flat first.code).begins s.shared c k.0 k.1).waits (none' rest);
+      leaves = λ t c rest pick at e. same_wait s t (home c) _ at (λ z. absurd (cc z)) refl (none' rest);
+      sweeps = λ want alone e.
+          let sits : Sit m' (ContextOf first.code) s.shared None s.places = subst (λ (e : Option End). Sit m' (ContextOf first.code) s.shared e s.places) going i.each in
+          let none'' : count_by is_out s.places ≡ 0 = same_number _ 0 alone in
+          let b = (flat first.code).sweeps s.shared (homes_of s.places) i.of_ (of_run m' (ContextOf first.code) (SharedOf first.code) (flat first.code) s.shared s.places i.of_ i.few sits) (may_sweep m' (ContextOf first.code) (SharedOf first.code) (flat first.code) s.shared s.places i.of_ i.few sits i.places none'') in
+          waits_after m' (ContextOf first.code) s.places (m'.barrier s.shared (homes_of s.places)).homes b.kept none'';
+      works = λ t n c at e. absurd (let z = turn_counts m' first.settings s w t n free (m'.act s.shared (m'.local most_local c)) in omega arith);
+      rests = λ t n c at e. absurd (let z = turn_counts m' first.settings s w t n asked (m'.act s.shared (m'.local 0 c)) in omega arith);
+      comes = λ t n c at e. same_wait s t (out w c n must) (home c) at (λ z. absurd (cc z)) refl (quiet e);
+    }
+      where
+        none' : is_wanted m' first.settings s ≡ false → count_by (waits_at m') s.places ≡ 0
+        none' rest = calm m' (SharedOf first.code) (ContextOf first.code) first.settings (flat first.code) s i going w rest
+
+    quiet_step : (log : List Entry) (s : State S C) (e : Entry) (s' : State S C) → Inv s × Quiet s → step m' first.settings s e ≡ Some s' → Inv s' × Quiet s'
+    quiet_step log s e s' h st = (
+      keeps m' (SharedOf first.code) (ContextOf first.code) first.settings (flat first.code) log s e s' h.0 st,
+      step_cases m' first.settings s e s' {R = Quiet s'}
+          (λ n. subst Quiet (sym n.is) h.1)
+          (λ f. subst Quiet (sym f.is) (subst (Holds m' first.settings s e.worker (λ v. Quiet v.after)) f.event (event_holds m' first.settings s e.worker (λ v. Quiet v.after) (quiets s h.0 (none_ends s.ending _ f.live) e.worker h.1) e.kind e.thread)))
+          st,
+    )
+
+    all_quiet : (log : List Entry) (s : State S C) → run m' first.settings log start' ≡ Some s → Quiet s
+    all_quiet log s ran = (run_keeps m' first.settings (λ _ z. Inv z × Quiet z) quiet_step [] log start' s
+        (starts m' (SharedOf first.code) (ContextOf first.code) first.settings (flat first.code) first.shared opened, λ e. none_waits m' first.settings (flat first.code).blank_waits 64 0) ran).1
+
+  module _ (n l : ℕ) (r : RunsEvery machine first SharedOf ContextOf n l) (log : List Entry) where
+    -- at first no barrier is wanted
+    not_first : (s : State S C) → IsBetween machine first log [] s → is_wanted m' first.settings s ≡ false
+    not_first s b =
+        let since : s.since ≡ 0 = (part_counts log [] s b).1 in
+        let quiet : count_by (waits_at m') s.places ≡ 0 = all_quiet r.opened (log ++ []) s b.stands since in
+        by first.settings.every r.every since (let z : nat_lt 0 (count_by (waits_at m') s.places) ≡ false = grind (arith, nat_tests) in z)
+      where
+        by : (every : Option ℕ) → every ≡ Some n → s.since ≡ 0 → waits_for_room m' first.settings s ≡ false → (waits_for_room m' first.settings s || is_due every s.since) ≡ false
+        by None e since room = absurd (cc e)
+        by (Some k) e since room = let same : k ≡ n = cc e in let few = r.some in let z : nat_le k s.since ≡ false = grind (arith, nat_tests) in λ i. room i || z i
+
+    -- a barrier comes to be wanted by an entry, or is not wanted
+    walk : (todo seen : List Entry) (z s : State S C) → IsBetween machine first log seen z → is_wanted m' first.settings z ≡ false → IsBetween machine first log (seen ++ todo) s → (is_wanted m' first.settings s ≡ false) ⊎ IsWantedWithin machine first log (seen ++ todo)
+    walk [] seen z s b calm b' =
+        let k : run m' first.settings (log ++ seen) start' ≡ Some s = ap (λ (es : List Entry). run m' first.settings (log ++ es) start') (sym (append-nil seen)) ∙ b'.stands in
+        let e : Some z ≡ Some s = sym b.stands ∙ k in let same : z ≡ s = cc e in
+        inl (subst (λ (x : State S C). is_wanted m' first.settings x ≡ false) same calm)
+    walk (e ∷ es) seen z s b calm b' = option_and_then_some (run m' first.settings es) (step m' first.settings z e) s
+        (run_from (log ++ seen) (e ∷ es) z s b.stands (ap (λ (xs : List Entry). run m' first.settings xs start') (append_assoc log seen (e ∷ es)) ∙ b'.stands))
+        (λ y st rest. by y (next y st) (is_wanted m' first.settings y) refl (λ c. subst (λ (xs : List Entry). (is_wanted m' first.settings s ≡ false) ⊎ IsWantedWithin machine first log xs) (append_assoc seen (e ∷ []) es)
+        (walk es (seen ++ e ∷ []) y s (next y st) c (subst (λ (xs : List Entry). IsBetween machine first log xs s) (sym (append_assoc seen (e ∷ []) es)) b'))))
+      where
+        next : (y : State S C) → step m' first.settings z e ≡ Some y → IsBetween machine first log (seen ++ e ∷ []) y
+        next y st = record {
+          before = b.before;
+          leads = b.leads;
+          fresh = b.fresh;
+          stands = ap (λ (xs : List Entry). run m' first.settings xs start') (sym (append_assoc log seen (e ∷ []))) ∙ (run-append m' first.settings (log ++ seen) (e ∷ []) start' ∙ (ap (option_and_then (run m' first.settings (e ∷ []))) b.stands ∙ ap (option_and_then (run m' first.settings [])) st));
+          between =
+              let x = sum_by-append (λ (x : Entry). cond {A = ℕ} (is_barrier x) 1 0) seen (e ∷ es) in let k = b'.between in
+              let y' = sum_by-append (λ (x : Entry). cond {A = ℕ} (is_barrier x) 1 0) seen (e ∷ []) in
+              let w = sum_by-append (λ (x : Entry). cond {A = ℕ} (is_barrier x) 1 0) (e ∷ []) es in omega arith;
+        }
+
+        by : (y : State S C) → IsBetween machine first log (seen ++ e ∷ []) y → (c : Bool) → is_wanted m' first.settings y ≡ c → (is_wanted m' first.settings y ≡ false → (is_wanted m' first.settings s ≡ false) ⊎ IsWantedWithin machine first log (seen ++ e ∷ es))
+            → (is_wanted m' first.settings s ≡ false) ⊎ IsWantedWithin machine first log (seen ++ e ∷ es)
+        by y b'' true want again = inr (record { calm = z; wanted = y; front = seen; entry = e; more = es; is = sym (append_assoc seen (e ∷ []) es); before = b; not_yet = calm; after = b''; want = want })
+        by y b'' false want again = again want
+
+  pub few_turns : FewTurns machine first SharedOf ContextOf
+  few_turns n l log part s r b = by (walk n l r log part [] b.before s at_first (not_first n l r log b.before at_first) b)
+    where
+      at_first : IsBetween machine first log [] b.before
+      at_first = record { before = b.before; leads = b.leads; fresh = b.fresh; stands = ap (λ (xs : List Entry). run m' first.settings xs start') (append-nil log) ∙ b.leads.runs; between = refl }
+
+      by : (is_wanted m' first.settings s ≡ false) ⊎ IsWantedWithin machine first log part
+          → ((is_wanted m' first.settings s ≡ false) × (count_by is_turn part ≤ n)) ⊎ ((w : IsWantedWithin machine first log part) × (count_by is_turn part ≤ n + (l + 3) * count_by is_out w.wanted.places))
+      by (inl calm) = inl (calm, few_before n l log part s r b calm)
+      by (inr w) = inr (
+        w,
+        subst (λ (xs : List Entry). count_by is_turn xs ≤ n + (l + 3) * count_by is_out w.wanted.places) (sym w.is)
+            (few_between n l log w.front w.more w.entry w.calm w.wanted s r w.before w.not_yet w.after w.want (subst (λ (xs : List Entry). IsBetween machine first log xs s) w.is b)),
+      )

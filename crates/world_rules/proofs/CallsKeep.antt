@@ -1,32 +1,30 @@
 -- Each call that a worker may make leaves a journal that replays to the world after it.
-use Rattle.std.proofs.Common.{◌≡◌, ℕ, suc, ◌+◌, ◌<◌, ◌≤◌, ◌==◌, Bool, true, false, cond, nat_lt, List, [], ◌∷◌, ◌++◌, length, map, ap, sym, subst, ◌∙◌, refl, arith, Option, Some, None}
-use Rattle.std.specs.Prelude.{count_by, ◌⊎◌, is_none, option_and_then}
+use Rattle.std.proofs.Common.{◌≡◌, ℕ, ◌<◌, ◌==◌, Bool, true, false, cond, List, [], ◌++◌, length, ap, sym, subst, ◌∙◌, refl, Option, Some, None}
+use Rattle.std.specs.Prelude.{count_by, option_and_then}
 use mathlib.Core.Logic.{inl, inr}
-use Rattle.std.proofs.lemmas.List.{length-map, append-nil}
+use Rattle.std.proofs.lemmas.List.{append-nil}
 use Rattle.std.proofs.Math.ListN.{get_or-map}
 use Rattle.ak_trace.specs.declared.entry.Entry.{Entry}
 use Rattle.flat_meaning.specs.declared.endings.End.{End}
 use Rattle.flat_meaning.specs.declared.endings.End.TheVariants.{TurnLimit}
-use Rattle.flat_rules.specs.Rules.{Rules}
-use Rattle.flat_rules.specs.Machine.{Machine, Acted, works, steps}
-use Rattle.flat_rules.specs.States.{State, Place, unbegun, home, out, gone, Mood, free, asked, must, place_at, at_home, homes_of, is_out, waits_at, is_wanted, none_out, pick, or_else, start, most_threads}
+use Rattle.flat_rules.specs.Machine.{Machine}
+use Rattle.flat_rules.specs.States.{State, Place, unbegun, home, out, gone, Mood, free, asked, must, place_at, at_home, homes_of, is_out, is_wanted, none_out, pick, or_else}
 use Rattle.flat_rules.specs.Events.{most_local}
-use Rattle.flat_rules.specs.Lawful.{IsFlat, IsOpened, Begins, Lives}
-use Rattle.flat_rules.specs.Replays.{run, replay, settled}
+use Rattle.flat_rules.specs.Lawful.{IsFlat, IsOpened, Begins}
+use Rattle.flat_rules.specs.Replays.{settled}
 use Rattle.flat_rules.specs.inner.Cases.{same_number}
 use Rattle.flat_rules.proofs.Spares.{spare_is_left}
 use Rattle.world_rules.specs.declared.calls.Call.{Call}
 use Rattle.world_rules.specs.declared.calls.Call.TheVariants as call
-use Rattle.world_rules.specs.declared.calls.Found.TheVariants as found
 use Rattle.world_rules.specs.Whole.{Whole, Leads, Replays, Reaches, whole_of}
 use Rattle.world_rules.specs.Calls.{Result, with_entries, end_before, home_at}
 use Rattle.world_rules.specs.Calls as calls
 use Rattle.world_rules.specs.Allowed.{IsOut, MovedOn, MayCall, Allowed}
-use Rattle.world_rules.proofs.Keeps.{Stands, Good, X, steps_good, settles_good, hands_good}
+use Rattle.world_rules.proofs.Keeps.{Stands, Good, steps_good, settles_good, hands_good}
 use Rattle.world_rules.proofs.Sweeps.{sweeps_good}
 use Rattle.world_rules.proofs.Sits.{SitsAt, Sit, OutAs, Moved, lives}
 use Rattle.world_rules.proofs.MoveKeeps.{begins_lives, may_sweep, of_run}
-use Rattle.world_rules.proofs.Invariant.{Invariant, moved, calm, picked, runs_keep}
+use Rattle.world_rules.proofs.Invariant.{Invariant, moved, picked, runs_keep}
 
 -- where no end came before, the last entry brought none
 pub none_before : (o : Option End) (b : Bool) → or_else o (cond b (Some TurnLimit) None) ≡ None → o ≡ None

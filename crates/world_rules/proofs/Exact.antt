@@ -1,5 +1,5 @@
 -- Exactly where each answer comes.
-use Rattle.std.proofs.Common.{◌≡◌, ◌≢◌, ◌↔◌, ℕ, ◌+◌, ◌-◌, ◌<◌, ◌≤◌, ◌==◌, ◌&&◌, Bool, true, false, not, cond, nat_lt, get_or, List, [], ◌∷◌, ◌++◌, length, ap, sym, subst, ◌∙◌, refl, arith, Option, Some, None}
+use Rattle.std.proofs.Common.{◌≡◌, ◌≢◌, ◌↔◌, ℕ, ◌+◌, ◌-◌, ◌<◌, ◌&&◌, Bool, true, false, not, cond, nat_lt, List, [], ◌∷◌, ◌++◌, length, ap, sym, subst, ◌∙◌, refl, arith, Option, Some, None}
 use Rattle.std.specs.Prelude.{ℤ, ◌⊎◌, is_none, slice_get}
 use mathlib.Core.Logic.{inl, inr}
 use Rattle.std.proofs.lemmas.List.{append-nil}
@@ -9,7 +9,7 @@ use Rattle.flat_meaning.specs.declared.endings.End.{End}
 use Rattle.flat_meaning.specs.declared.endings.End.TheVariants.{TurnLimit, AllBlocked}
 use Rattle.flat_rules.specs.Machine.{Machine, Acted, Turned, looked, stepped, got, got_null, made_thread, refused_thread, found_busy, wants_room, rested, ended, trapped, passed_limit, lacked_stack}
 use Rattle.flat_rules.specs.Entries.{turn_entry}
-use Rattle.flat_rules.specs.States.{State, Mood, out, place_at, homes_of, is_wanted, none_out, ready, pick, pick_by, is_blocked, end_of, or_else, start}
+use Rattle.flat_rules.specs.States.{State, Mood, out, place_at, homes_of, is_wanted, none_out, ready, pick, is_blocked, end_of, or_else}
 use Rattle.flat_rules.specs.Events.{Goes, on, back, away, goes, ends_with, turn_event, turned_by}
 use Rattle.flat_rules.specs.Lawful.{IsFlat}
 use Rattle.flat_rules.specs.inner.Steps as steps
@@ -21,7 +21,7 @@ use Rattle.world_rules.specs.declared.calls.Call.TheVariants as call
 use Rattle.world_rules.specs.Whole.{Whole, Leads, Reaches, whole_of}
 use Rattle.world_rules.specs.Calls.{Result, end_before, acted_by, home_at, seat_at, turns_more, seated}
 use Rattle.world_rules.specs.Calls as calls
-use Rattle.world_rules.specs.Allowed.{IsOut, MovedOn, MayCall, Allowed}
+use Rattle.world_rules.specs.Allowed.{MovedOn, MayCall}
 use Rattle.world_rules.specs.Tells.{MustWait, MaySweep, FindTells, ActTells}
 use Rattle.world_rules.proofs.Keeps.{Stands, low, middle_false, middle_first, last_false, picked_ready, not_blocked, steps_stands}
 use Rattle.world_rules.proofs.Picks.{picked_home}
@@ -186,8 +186,8 @@ module _ {S K C : Type 0} (machine : K → Machine S C) (first : Whole S K C) (l
     seeks_tells : Tells (calls.seeks machine x w).0
     seeks_tells = cond_tells (is_wanted m first.settings s) _ _
         (λ want. cond_tells (none_out m first.settings s) _ _
-            (λ alone. sweep_tells (record { going = going_by (last_false _ (not (is_wanted m first.settings s)) (ap not want)); wanted = want; alone = alone }))
-            (λ others. wait_tells (record { going = going_by (middle_false _ (none_out m first.settings s) _ others); others = others; idle = inl want })))
+        (λ alone. sweep_tells (record { going = going_by (last_false _ (not (is_wanted m first.settings s)) (ap not want)); wanted = want; alone = alone }))
+        (λ others. wait_tells (record { going = going_by (middle_false _ (none_out m first.settings s) _ others); others = others; idle = inl want })))
         (λ rest. picks_tells rest (pick m first.settings s) refl)
 
   -- the run was over before
@@ -269,6 +269,6 @@ module _ {S K C : Type 0} (machine : K → Machine S C) (SharedOf : K → S → 
   act_tells d may s' after =
       subst (λ (z : Whole S K C). Leads machine first (log ++ calls.entries_of machine z w (call.Act d)) s' → ActTells machine first r.replays.state z d s' (calls.acts machine z w d).0) (sym r.replays.is)
       (λ after'. acts_tells machine first log r.replays.state stands w known d may.0 may.2.turns may.1
-          (subst (λ (z : State S C). place_at z.places ((machine first.code).thread_of d) ≡ out w may.0 may.2.turns may.1) (one_state machine first log may.2.state r.replays.state may.2.leads r.replays.leads) may.2.there) may.3
-          s' (end_before (whole_of machine first log r.replays.state)) refl after')
+      (subst (λ (z : State S C). place_at z.places ((machine first.code).thread_of d) ≡ out w may.0 may.2.turns may.1) (one_state machine first log may.2.state r.replays.state may.2.leads r.replays.leads) may.2.there) may.3
+      s' (end_before (whole_of machine first log r.replays.state)) refl after')
       after

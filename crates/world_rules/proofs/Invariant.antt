@@ -1,17 +1,16 @@
 -- What holds of each state of a replay: what is shared is of the run, each thread is where its place says, and its context is so far along.
-use Rattle.std.proofs.Common.{◌≡◌, ℕ, suc, ◌+◌, ◌<◌, ◌≤◌, ◌&&◌, ◌||◌, Bool, true, false, cond, nat_lt, List, [], ◌∷◌, ◌++◌, length, ap, sym, subst, ◌∙◌, refl, arith, Option, Some, None}
-use Rattle.std.specs.Prelude.{count_by, is_none, find, slice_get, ◌%◌, zero, ◌⊎◌}
+use Rattle.std.proofs.Common.{◌≡◌, ℕ, suc, ◌+◌, ◌<◌, ◌≤◌, ◌||◌, Bool, true, false, List, [], length, ap, sym, subst, ◌∙◌, refl, arith, Option, Some, None}
+use Rattle.std.specs.Prelude.{count_by, is_none, zero, ◌⊎◌}
 use mathlib.Core.Logic.{inl, inr}
 use Rattle.std.proofs.lemmas.Bool.Decides.{nat_tests}
 use Rattle.std.proofs.Math.ListN.{length-set}
 use Rattle.ak_trace.specs.declared.entry.Entry.{Entry}
 use Rattle.flat_meaning.specs.declared.endings.End.{End}
 use Rattle.flat_rules.specs.Rules.{Rules}
-use Rattle.flat_rules.specs.Machine.{Machine, Acted, works, steps}
-use Rattle.flat_rules.specs.States.{State, Place, unbegun, home, out, gone, Mood, free, asked, must, place_at, homes_of, is_out, waits_at, waits_for_room, is_due, is_wanted, none_out, is_ready_at, ready_from, ready, pick, pick_by, or_else, end_of, start, unbegun_from, most_threads}
-use Rattle.flat_rules.specs.Draws.{after_draw, drawn}
-use Rattle.flat_rules.specs.Events.{Event, Goes, on, back, away, goes, most_local, turn_event, turned_by, turned_state, come_home, places_after}
-use Rattle.flat_rules.specs.Lawful.{IsFlat, IsOpened, Lives, Leaves}
+use Rattle.flat_rules.specs.Machine.{Machine}
+use Rattle.flat_rules.specs.States.{State, Place, out, Mood, free, asked, place_at, homes_of, is_out, waits_at, waits_for_room, is_due, is_wanted, pick, or_else, start, unbegun_from, most_threads}
+use Rattle.flat_rules.specs.Events.{Goes, on, back, away, goes, most_local, turn_event, turned_by, turned_state, come_home, places_after}
+use Rattle.flat_rules.specs.Lawful.{IsFlat, IsOpened, Leaves}
 use Rattle.flat_rules.specs.Replays.{step, run}
 use Rattle.flat_rules.specs.inner.Cases.{Cases, Holds, event_holds, same_number}
 use Rattle.flat_rules.specs.inner.Steps.{step_cases, run_keeps}

@@ -1,5 +1,5 @@
 -- What the answers tell of the replay, with the call's entries.
-use Rattle.std.proofs.Common.{◌≡◌, ℕ, suc, ◌+◌, ◌-◌, ◌<◌, ◌≤◌, ◌==◌, ◌||◌, ◌&&◌, Bool, true, false, not, cond, min, nat_lt, nat_le, List, [], ◌∷◌, ◌++◌, length, set, ap, sym, subst, ◌∙◌, refl, arith, Option, Some, None}
+use Rattle.std.proofs.Common.{◌≡◌, ℕ, ◌+◌, ◌-◌, ◌<◌, ◌||◌, ◌&&◌, Bool, true, false, not, cond, min, nat_lt, nat_le, List, [], ◌∷◌, ◌++◌, length, set, ap, sym, subst, ◌∙◌, refl, arith, Option, Some, None}
 use Rattle.std.specs.Prelude.{count_by, is_none, find, slice_get, ◌%◌}
 use Rattle.std.proofs.lemmas.List.{append-nil}
 use Rattle.std.proofs.lemmas.Option.{slice_get-get_or}
@@ -12,14 +12,13 @@ use Rattle.flat_meaning.specs.declared.endings.End.TheVariants.{TurnLimit, AllBl
 use Rattle.flat_rules.specs.Machine.{Machine, Acted, Turned, looked, stepped, got, got_null, made_thread, refused_thread, found_busy, wants_room, rested, ended, trapped, passed_limit, lacked_stack}
 use Rattle.flat_rules.specs.Entries.{turn_entry, out_entry}
 use Rattle.flat_rules.specs.Draws.{after_draw, drawn}
-use Rattle.flat_rules.specs.States.{State, Place, unbegun, home, out, gone, Mood, free, asked, must, place_at, at_home, homes_of, is_out, waits_at, is_due, is_wanted, none_out, ready, pick, pick_by, is_blocked, end_of, or_else, start}
+use Rattle.flat_rules.specs.States.{State, Place, unbegun, home, out, gone, Mood, free, must, place_at, at_home, waits_at, is_due, is_wanted, none_out, ready, pick, pick_by, is_blocked, or_else}
 use Rattle.flat_rules.specs.Events.{Event, Goes, on, back, away, goes, goes_out, ends_with, mood_after, draw_asks, turn_event, turned_by, turned_state}
 use Rattle.flat_rules.specs.Events as events
 use Rattle.flat_rules.specs.Lawful.{IsFlat, Begins, Goes_on, is_for_room}
 use Rattle.flat_rules.specs.inner.Steps as steps
 use Rattle.world_rules.specs.declared.calls.Found.{Found}
 use Rattle.world_rules.specs.declared.calls.Found.TheVariants as found
-use Rattle.world_rules.specs.declared.calls.Acted.{Acted as ActReply}
 use Rattle.world_rules.specs.declared.calls.Call.TheVariants as call
 use Rattle.world_rules.specs.declared.calls.Seat.{Seat}
 use Rattle.world_rules.specs.Whole.{Whole, Leads, Reaches, whole_of, seat_of}

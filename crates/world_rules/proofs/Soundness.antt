@@ -1,19 +1,19 @@
 -- The world that a journal replays to is sound, and a call that is allowed has what the machine asks for it.
-use Rattle.std.proofs.Common.{◌≡◌, ℕ, ◌+◌, ◌<◌, ◌≤◌, Bool, cond, List, [], ◌∷◌, length, map, ap, sym, subst, ◌∙◌, refl, arith, Option, Some, None}
-use Rattle.std.specs.Prelude.{count_by, All, ◌⊎◌}
+use Rattle.std.proofs.Common.{◌≡◌, ℕ, ◌+◌, ◌<◌, cond, List, [], ◌∷◌, map, ap, sym, subst, ◌∙◌, refl, arith, Option, Some}
+use Rattle.std.specs.Prelude.{count_by, ◌⊎◌}
 use mathlib.Core.Logic.{inl, inr}
 use Rattle.std.proofs.Math.ListN.{get_or-map}
 use Rattle.std.proofs.lemmas.List.Sums.{sum_by-cons, count_by-le-length}
 use Rattle.ak_trace.specs.declared.entry.Entry.{Entry}
 use Rattle.flat_meaning.specs.declared.endings.End.{End}
-use Rattle.flat_rules.specs.Machine.{Machine, works, steps}
-use Rattle.flat_rules.specs.States.{State, Place, unbegun, home, out, gone, Mood, free, asked, must, place_at, at_home, homes_of, is_out, waits_at, most_threads}
+use Rattle.flat_rules.specs.Machine.{Machine}
+use Rattle.flat_rules.specs.States.{State, Place, unbegun, home, out, gone, Mood, free, asked, must, place_at, at_home, is_out, waits_at, most_threads}
 use Rattle.flat_rules.specs.Events.{most_local}
 use Rattle.flat_rules.specs.Lawful.{IsFlat, IsOpened, waits_at_home}
 use Rattle.world_rules.specs.declared.calls.Seat.TheVariants as seat
 use Rattle.world_rules.specs.declared.calls.Call.TheVariants as call
-use Rattle.world_rules.specs.Whole.{Whole, Leads, Reaches, whole_of, seat_of}
-use Rattle.world_rules.specs.Calls.{home_at, seat_at, end_before, pick}
+use Rattle.world_rules.specs.Whole.{Whole, Reaches, whole_of, seat_of}
+use Rattle.world_rules.specs.Calls.{home_at, seat_at, pick}
 use Rattle.world_rules.specs.Allowed.{IsOut, MovedOn, MayCall}
 use Rattle.world_rules.specs.Sound.{IsNew, IsSound, MayStep, MayWork}
 use Rattle.world_rules.specs.inner.Stays.{some_out}
@@ -118,9 +118,10 @@ module _ {S K C : Type 0} (machine : K → Machine S C) (SharedOf : K → S → 
 
     -- a thread that comes home is out, and is one of those that may be made
     pub may_come_home : (w : ℕ) (d : C) → MayCall machine first log w (call.Home d) → (0 < x.out) × ((machine x.code).thread_of d < most_threads)
-    may_come_home w d may = subst (λ (z : Whole S K C). (0 < z.out) × ((machine z.code).thread_of d < most_threads)) (sym r.replays.is)
-        (some_out r.replays.state.places (m.thread_of d) w may.turns d must (there_of w (m.thread_of d) d must may),
-         known log r.replays.state holds w may.turns d d must (there_of w (m.thread_of d) d must may))
+    may_come_home w d may = subst (λ (z : Whole S K C). (0 < z.out) × ((machine z.code).thread_of d < most_threads)) (sym r.replays.is) (
+      some_out r.replays.state.places (m.thread_of d) w may.turns d must (there_of w (m.thread_of d) d must may),
+      known log r.replays.state holds w may.turns d d must (there_of w (m.thread_of d) d must may),
+    )
 
   -- a context that a worker has out may work by itself
   pub may_work : IsOpened m (SharedOf first.code) first.shared → (log : List Entry) (w t : ℕ) (c : C) (mood : Mood) → IsOut machine first log w t c mood → MayWork machine SharedOf ContextOf first.code c

@@ -1,20 +1,19 @@
 -- A walk over a journal: at a barrier no thread is out, and the entries of a thread that is out are its worker's.
-use Rattle.std.proofs.Common.{◌≡◌, ◌≢◌, ℕ, suc, ◌+◌, ◌<◌, ◌==◌, ◌&&◌, Bool, true, false, cond, List, [], ◌∷◌, ◌++◌, length, map, ap, sym, subst, ◌∙◌, refl, arith, Option, Some, None}
-use Rattle.std.specs.Prelude.{count_by, option_and_then}
+use Rattle.std.proofs.Common.{◌≡◌, ℕ, ◌==◌, ◌&&◌, Bool, true, false, List, [], ◌∷◌, ◌++◌, map, ap, sym, subst, ◌∙◌, refl, arith, Option, Some, None}
+use Rattle.std.specs.Prelude.{option_and_then}
 use Rattle.std.proofs.lemmas.Option.{option_and_then_some}
 use Rattle.ak_trace.specs.declared.entry.Entry.{Entry}
 use Rattle.ak_trace.specs.Kinds as kind
 use Rattle.flat_rules.specs.Rules.{Rules}
 use Rattle.flat_rules.specs.Machine.{Machine, Served}
 use Rattle.flat_rules.specs.Entries.{served_with, served_entry}
-use Rattle.flat_rules.specs.States.{State, Place, unbegun, home, out, free, asked, must, Mood, place_at, homes_of, none_out, is_out, start}
+use Rattle.flat_rules.specs.States.{State, Place, unbegun, home, out, free, asked, must, Mood, place_at, homes_of, none_out, start}
 use Rattle.flat_rules.specs.Events.{Event}
 use Rattle.flat_rules.specs.Replays.{same_entry, step, run}
 use Rattle.flat_rules.specs.inner.Cases.{Cases, Holds, event_holds, same_number}
 use Rattle.flat_rules.specs.inner.Steps.{step_cases, run_keeps, run-append, same_kind}
 use Rattle.flat_rules.proofs.Alone.{barriers_alone}
 use Rattle.world_rules.specs.Whole.{Whole, Leads}
-use Rattle.world_rules.specs.Allowed.{IsOut}
 use Rattle.world_rules.specs.Journals.{NoneOutAtBarriers, OutIsOwn}
 use Rattle.world_rules.specs.inner.Stays.{some_out}
 
@@ -118,8 +117,8 @@ module _ {S K C : Type 0} (machine : K → Machine S C) (first : Whole S K C) wh
   pub none_out_at_barriers : NoneOutAtBarriers machine first
   none_out_at_barriers before e more s ran is = at_entry m' first.settings (start m' first.settings first.shared) before e more s ran {R = (z : State S C) × Leads machine first before z × (none_out m' first.settings z ≡ true)} (λ z y was st after.
       let settled : z.due ≡ [] = step_cases m' first.settings z e y {R = z.due ≡ []}
-            (λ n. absurd (let h : AllServed (n.d ∷ n.ds) = subst AllServed n.due (due_served m' first.settings first.shared before z was) in let k : kind.barrier ≡ kind.served = sym is ∙ (same_kind e n.d n.same ∙ h.0) in cc k))
-            (λ f. f.settled) st in
+      (λ n. absurd (let h : AllServed (n.d ∷ n.ds) = subst AllServed n.due (due_served m' first.settings first.shared before z was) in let k : kind.barrier ≡ kind.served = sym is ∙ (same_kind e n.d n.same ∙ h.0) in cc k))
+      (λ f. f.settled) st in
       (z, record { runs = was; settled = settled }, barriers_alone S C m' first.settings z e y settled is (ap (option_and_then (run m' first.settings [])) st)))
 
   pub out_is_own : OutIsOwn machine first

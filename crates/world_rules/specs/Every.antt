@@ -1,5 +1,5 @@
 -- How many Turn entries may come between two barriers.
-use Rattle.std.specs.Prelude.{◌≡◌, ℕ, zero, suc, ◌+◌, ◌*◌, ◌≤◌, ◌==◌, Bool, true, false, count_by, List, [], ◌∷◌, ◌++◌, Some}
+use Rattle.std.specs.Prelude.{◌≡◌, ℕ, zero, suc, ◌+◌, ◌*◌, ◌≤◌, ◌==◌, ◌⊎◌, Bool, true, false, count_by, List, [], ◌∷◌, ◌++◌, Some}
 use Rattle.ak_trace.specs.declared.entry.Entry.{Entry}
 use Rattle.ak_trace.specs.Kinds as kind
 use Rattle.flat_rules.specs.Machine.{Machine, works}
@@ -25,14 +25,8 @@ module _ {S C : Type 0} (m : Machine S C) (SharedOf : S → Type 0) (ContextOf :
   abbrev pub AllComeHome : ℕ → Type 0
   AllComeHome l = (c : C) → ContextOf c → m.progress c ≡ works → ComesHome (l + 2) c
 
-module _ {S K C : Type 0} (machine : K → Machine S C) (shared_of : K → S → Type 0) (context_of : K → C → Type 0) (first : Whole S K C) where
-  -- with `every` n, in a run whose threads come home in l + 2 turns
-  pub record RunsEvery (n l : ℕ) : Type 0 where
-    pub every : first.settings.every ≡ Some n
-    pub opened : IsOpened (machine first.code) (shared_of first.code) first.shared
-    pub homes : AllComeHome (machine first.code) (shared_of first.code) (context_of first.code) l
-
-  -- a part of a journal that begins just after a barrier, or at the start, and has no barrier
+module _ {S K C : Type 0} (machine : K → Machine S C) (first : Whole S K C) where
+  -- a part of a journal that begins where no Turn entry has come since a barrier or the start, and has no barrier
   pub record IsBetween (log part : List Entry) (s : State S C) : Type 0 where
     pub before : State S C
     pub leads : Leads machine first log before
@@ -40,14 +34,28 @@ module _ {S K C : Type 0} (machine : K → Machine S C) (shared_of : K → S →
     pub stands : MayStand machine first (log ++ part) s
     pub between : count_by is_barrier part ≡ 0
 
-  -- as long as no barrier is wanted, there are at most n Turn entries
-  abbrev pub FewBefore : Type 0
-  FewBefore = (n l : ℕ) (log part : List Entry) (s : State S C) → RunsEvery n l → IsBetween log part s → is_wanted (machine first.code) first.settings s ≡ false → count_by is_turn part ≤ n
+  -- by an entry of such a part a barrier comes to be wanted
+  pub record IsWantedWithin (log part : List Entry) : Type 0 where
+    pub calm : State S C
+    pub wanted : State S C
+    pub front : List Entry
+    pub entry : Entry
+    pub more : List Entry
+    pub is : part ≡ (front ++ entry ∷ []) ++ more
+    pub before : IsBetween log front calm
+    pub not_yet : is_wanted (machine first.code) first.settings calm ≡ false
+    pub after : IsBetween log (front ++ entry ∷ []) wanted
+    pub want : is_wanted (machine first.code) first.settings wanted ≡ true
 
-  -- Where a barrier comes to be wanted by an entry, there are at most n up to it and with it, and then l + 3 for each thread that is out
-  abbrev pub FewBetween : Type 0
-  FewBetween = (n l : ℕ) (log part more : List Entry) (e : Entry) (calm wanted s : State S C) → RunsEvery n l
-      → IsBetween log part calm → is_wanted (machine first.code) first.settings calm ≡ false
-      → IsBetween log (part ++ e ∷ []) wanted → is_wanted (machine first.code) first.settings wanted ≡ true
-      → IsBetween log ((part ++ e ∷ []) ++ more) s
-      → count_by is_turn ((part ++ e ∷ []) ++ more) ≤ n + (l + 3) * count_by is_out wanted.places
+  module _ (shared_of : K → S → Type 0) (context_of : K → C → Type 0) where
+    -- with `every` n, in a run whose threads come home in l + 2 turns
+    pub record RunsEvery (n l : ℕ) : Type 0 where
+      pub every : first.settings.every ≡ Some n
+      pub some : 1 ≤ n
+      pub opened : IsOpened (machine first.code) (shared_of first.code) first.shared
+      pub homes : AllComeHome (machine first.code) (shared_of first.code) (context_of first.code) l
+
+    -- As long as no barrier is wanted such a part has at most n Turn entries. Else it has at most n, and l + 3 for each thread that was out when a barrier came to be wanted
+    abbrev pub FewTurns : Type 0
+    FewTurns = (n l : ℕ) (log part : List Entry) (s : State S C) → RunsEvery n l → IsBetween log part s
+        → ((is_wanted (machine first.code) first.settings s ≡ false) × (count_by is_turn part ≤ n)) ⊎ ((w : IsWantedWithin log part) × (count_by is_turn part ≤ n + (l + 3) * count_by is_out w.wanted.places))

@@ -1,5 +1,5 @@
 -- Exactly where each answer comes: by the state that the journal before the call leads to, and by the turn.
-use Rattle.std.specs.Prelude.{◌≡◌, ◌↔◌, ◌⊎◌, ℕ, true, false, List, [], Some, None}
+use Rattle.std.specs.Prelude.{◌≡◌, ◌↔◌, ◌⊎◌, true, false, [], Some, None}
 use Rattle.flat_meaning.specs.declared.endings.End.{End}
 use Rattle.flat_rules.specs.Machine.{Machine, Turned, found_busy, wants_room, rested}
 use Rattle.flat_rules.specs.States.{State, is_wanted, none_out, ready, end_of}
