@@ -2,7 +2,8 @@
 ghost use Rattle.std.specs.Prelude.{◌≡◌, if◌then◌else◌};
 ghost use Rattle.turn_lock.specs.Locks.{IsPassOf, first_of, seen_of, worker_of};
 ghost use Rattle.flat_rules.specs.States.{free};
-ghost use Rattle.world_rules.specs.Allowed.{IsOut};
+ghost use Rattle.world_rules.specs.declared.calls.Call.TheVariants as call;
+ghost use Rattle.world_rules.specs.Allowed.{IsOut, MayCall};
 ghost use Rattle.world_rules.specs.Sound.{MayWork};
 
 use crate::gate::{Gate, Point};
@@ -28,6 +29,28 @@ fn work_alone<F: Flat<Code, Context> + Drop, Code: Drop, Context: Drop>(
     } else {
         F::local(code, ctx, MOST_LOCAL);
     }
+}
+
+// Brings home a thread that rests, is busy or waits for room.
+fn bring_home<
+    F: Flat<Code, Context> + Drop,
+    Code: Drop,
+    Context: Drop,
+    R: Wait,
+    G: Gate,
+>(
+    rt: &R,
+    world: &SharedWorld<F, Code, Context>,
+    pass: &mut Pass<World<F, Code, Context>>,
+    gate: &G,
+    ctx: Context,
+)
+    requires pass { IsPassOf world.now.lock pass.old }
+    requires out { MayCall F.machine (first_of world.now.lock) (seen_of pass.old) (worker_of pass.old) (call.Home ctx) }
+    ensures { IsPassOf world.now.lock pass.new × (worker_of pass.new ≡ worker_of pass.old) }
+{
+    gate.pause(pass.worker(), Point::Home);
+    world.home(rt, pass, ctx);
 }
 
 /// Goes on with a thread that was handed out, until it comes home or is nowhere.
@@ -62,12 +85,11 @@ pub(crate) fn carry<
                 ctx = next;
                 asked = asked || come_home;
             }
-            Acted::Rested(next) | Acted::Busy(next) | Acted::WaitRoom(next) => {
-                gate.pause(worker, Point::Home);
-                world.home(rt, pass, next);
-                return;
-            }
-            Acted::Ended | Acted::Over(_) => return,
+            Acted::Rested(next) => return bring_home(rt, world, pass, gate, next),
+            Acted::Busy(next) => return bring_home(rt, world, pass, gate, next),
+            Acted::WaitRoom(next) => return bring_home(rt, world, pass, gate, next),
+            Acted::Ended => return,
+            Acted::Over(_) => return,
         }
     }
 }
