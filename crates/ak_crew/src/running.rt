@@ -34,10 +34,11 @@ pub fn run<
     ensures all { (length passes.new ≡ length passes.old) × AllPasses world.now.lock passes.new }
     ensures over { SawOver F.machine F.shared_of F.context_of (first_of world.now.lock) passes.new }
 {
+    let workers = passes.len();
     thread::for_each_mut(
         rt,
         passes,
-        passes.len(),
+        workers,
         &|_number: usize, pass: &mut Pass<World<F, Code, Context>>|
             requires { (code.now ≡ (first_of world.now.lock).code) × IsPassOf world.now.lock pass.now }
             ensures { IsPassOf world.entry.now.lock pass.exit.now × (worker_of pass.exit.now ≡ worker_of pass.entry.now) × ((end : End) × IsOver F.machine (first_of world.entry.now.lock) (seen_of pass.exit.now) end) }
