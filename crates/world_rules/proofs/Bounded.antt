@@ -28,6 +28,7 @@ use Rattle.world_rules.proofs.Invariant.{Invariant, none_ends, moved, picked, ca
 use Rattle.world_rules.proofs.MoveKeeps.{begins_lives, may_sweep, of_run}
 use Rattle.world_rules.proofs.Sweeps.{waits_after}
 use Rattle.world_rules.proofs.Fresh.{none_waits}
+use Rattle.world_rules.proofs.Walks.{fresh_since}
 
 -- no entry is a barrier
 abbrev NoBarrier : List Entry → Type 0
@@ -287,7 +288,7 @@ module _ {S K C : Type 0} (machine : K → Machine S C) (SharedOf : K → S → 
   part_counts : (log part : List Entry) (s : State S C) → IsBetween machine first log part s → (s.due ≡ []) × (s.since ≡ count_by is_turn part)
   part_counts log part s b =
       let h = run_counts m' first.settings part b.before s b.leads.settled (no_barrier part b.between) (run_from log part b.before s b.leads.runs b.stands) in
-      (h.0, let a = h.1 in let c = b.fresh in omega arith)
+      (h.0, let a = h.1 in let c = fresh_since m' first.settings first.shared log b.before b.fresh b.leads.runs in omega arith)
 
   not_due : (every : Option ℕ) (n since : ℕ) (room : Bool) → every ≡ Some n → (room || is_due every since) ≡ false → since < n
   not_due None n since room e h = absurd (cc e)

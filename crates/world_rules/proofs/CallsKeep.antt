@@ -1,5 +1,5 @@
 -- Each call that a worker may make leaves a journal that replays to the world after it.
-use Rattle.std.proofs.Common.{◌≡◌, ℕ, ◌<◌, ◌==◌, Bool, true, false, cond, List, [], ◌++◌, length, ap, sym, subst, ◌∙◌, refl, Option, Some, None}
+use Rattle.std.proofs.Common.{◌≡◌, ℕ, ◌<◌, ◌≤◌, ◌==◌, Bool, true, false, cond, List, [], ◌++◌, length, ap, sym, subst, ◌∙◌, refl, arith, Option, Some, None}
 use Rattle.std.specs.Prelude.{count_by, option_and_then}
 use mathlib.Core.Logic.{inl, inr}
 use Rattle.std.proofs.lemmas.List.{append-nil}
@@ -153,3 +153,8 @@ replays_on {S} {K} {C} machine SharedOf ContextOf flat first log x w c r may =
       opened = r.opened;
       replays = subst (λ (z : Whole S K C). Replays machine first (log ++ calls.entries_of machine z w c) (calls.after machine z w c)) (sym r.replays.is) (record { state = g.state; leads = g.stands.leads; is = g.is });
     }
+
+-- a journal is within its limit
+pub fits : {S K C : Type 0} (machine : K → Machine S C) (SharedOf : K → S → Type 0) (ContextOf : K → C → Type 0) → ((code : K) → IsFlat (machine code) (SharedOf code) (ContextOf code))
+    → (first : Whole S K C) (log : List Entry) (x : Whole S K C) → Reaches machine SharedOf first log x → length log ≤ first.settings.entries
+fits machine SharedOf ContextOf flat first log x r = let h = (stands_of machine first (SharedOf first.code) (ContextOf first.code) (flat first.code) log r.replays.state r.opened r.replays.leads).spare in omega arith

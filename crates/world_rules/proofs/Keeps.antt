@@ -1,4 +1,4 @@
--- Each call leaves a journal that replays to the world after it.
+-- A thread goes out, takes a step or comes home: its entry leads from the state before to the one that the world after shows.
 use Rattle.std.proofs.Common.{◌≡◌, ℕ, ◌+◌, ◌-◌, ◌<◌, ◌≤◌, ◌&&◌, Bool, true, false, not, nat_lt, cond, min, List, [], ◌∷◌, ◌++◌, length, set, ap, sym, ◌∙◌, refl, arith, Option, Some, None, length-append, length-set}
 use Rattle.std.specs.Prelude.{option_and_then, is_none, count_by, slice_get}
 use Rattle.std.proofs.lemmas.List.{map-set}

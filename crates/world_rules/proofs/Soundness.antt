@@ -6,10 +6,10 @@ use Rattle.std.proofs.Math.ListN.{get_or-map}
 use Rattle.std.proofs.lemmas.List.Sums.{sum_by-cons, count_by-le-length}
 use Rattle.ak_trace.specs.declared.entry.Entry.{Entry}
 use Rattle.flat_meaning.specs.declared.endings.End.{End}
-use Rattle.flat_rules.specs.Machine.{Machine}
+use Rattle.flat_rules.specs.Machine.{Machine, blank}
 use Rattle.flat_rules.specs.States.{State, Place, unbegun, home, out, gone, Mood, free, asked, must, place_at, at_home, is_out, waits_at, most_threads}
 use Rattle.flat_rules.specs.Events.{most_local}
-use Rattle.flat_rules.specs.Lawful.{IsFlat, IsOpened, waits_at_home}
+use Rattle.flat_rules.specs.Lawful.{IsFlat, IsOpened, Lives, waits_at_home}
 use Rattle.world_rules.specs.declared.calls.Seat.TheVariants as seat
 use Rattle.world_rules.specs.declared.calls.Call.TheVariants as call
 use Rattle.world_rules.specs.Whole.{Whole, Reaches, whole_of, seat_of}
@@ -49,6 +49,12 @@ room_at_home {S} {C} m (p ∷ ps) none =
 -- who is picked was made
 pub picked_made : {S K C : Type 0} (machine : K → Machine S C) (x : Whole S K C) (t : ℕ) → pick machine x ≡ Some t → t < (machine x.code).threads x.shared
 picked_made machine x t e = picked_below (machine x.code) x.shared x.settings.schedule x.last x.x t x.homes e
+
+-- and may begin, where it has not
+pub may_begin : {S K C : Type 0} (machine : K → Machine S C) (SharedOf : K → S → Type 0) (ContextOf : K → C → Type 0) (x : Whole S K C) (t : ℕ) (c : C) → IsSound machine SharedOf ContextOf x → pick machine x ≡ Some t → home_at x.homes t ≡ Some c → seat_at x.seats t ≡ seat.New
+    → Lives (machine x.code) (SharedOf x.code) (ContextOf x.code) x.shared c × ((machine x.code).progress c ≡ blank)
+may_begin machine SharedOf ContextOf x t c sound picked at new = let n = sound.begins t c at new in let below = picked_made machine x t picked in
+    (record { shared = sound.shared; context = n.of_; made = let e = n.thread in omega arith; going = ap ((machine x.code).has_ended x.shared) n.thread ∙ n.going }, n.progress)
 
 module _ {S K C : Type 0} (machine : K → Machine S C) (SharedOf : K → S → Type 0) (ContextOf : K → C → Type 0) (flat : (code : K) → IsFlat (machine code) (SharedOf code) (ContextOf code)) (first : Whole S K C) where
   abbrev m : Machine S C

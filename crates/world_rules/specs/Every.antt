@@ -15,6 +15,19 @@ is_turn e = e.kind == kind.turn
 abbrev pub is_barrier : Entry → Bool
 is_barrier e = e.kind == kind.barrier
 
+-- the entries of one barrier: its own, and those of the threads that it serves
+abbrev pub AllServed : List Entry → Type 0
+AllServed [] = Unit {0}
+AllServed (e ∷ es) = (e.kind ≡ kind.served) × AllServed es
+
+abbrev pub IsBarrier : List Entry → Type 0
+IsBarrier [] = ⊥
+IsBarrier (e ∷ es) = (e.kind ≡ kind.barrier) × AllServed es
+
+-- the journal ends with a barrier, or has not begun
+abbrev pub EndsAtBarrier : List Entry → Type 0
+EndsAtBarrier log = (log ≡ []) ⊎ ((before : List Entry) × (barrier : List Entry) × (log ≡ before ++ barrier) × IsBarrier barrier)
+
 module _ {S C : Type 0} (m : Machine S C) (SharedOf : S → Type 0) (ContextOf : C → Type 0) where
   -- a thread that is asked home takes at most so many turns more, whatever the others do between them: after the last it comes home, or is nowhere
   abbrev pub ComesHome : ℕ → C → Type 0
@@ -26,11 +39,11 @@ module _ {S C : Type 0} (m : Machine S C) (SharedOf : S → Type 0) (ContextOf :
   AllComeHome l = (c : C) → ContextOf c → m.progress c ≡ works → ComesHome (l + 2) c
 
 module _ {S K C : Type 0} (machine : K → Machine S C) (first : Whole S K C) where
-  -- a part of a journal that begins where no Turn entry has come since a barrier or the start, and has no barrier
+  -- a part of a journal that begins after a barrier or at the start, and has no barrier
   pub record IsBetween (log part : List Entry) (s : State S C) : Type 0 where
+    pub fresh : EndsAtBarrier log
     pub before : State S C
     pub leads : Leads machine first log before
-    pub fresh : before.since ≡ 0
     pub stands : MayStand machine first (log ++ part) s
     pub between : count_by is_barrier part ≡ 0
 
@@ -55,7 +68,7 @@ module _ {S K C : Type 0} (machine : K → Machine S C) (first : Whole S K C) wh
       pub opened : IsOpened (machine first.code) (shared_of first.code) first.shared
       pub homes : AllComeHome (machine first.code) (shared_of first.code) (context_of first.code) l
 
-    -- As long as no barrier is wanted such a part has at most n Turn entries. Else it has at most n, and l + 3 for each thread that was out when a barrier came to be wanted
+    -- As long as no barrier is wanted such a part has at most n Turn entries. Else it has at most n, and l + 3 more for each thread that was out when the barrier came to be wanted
     abbrev pub FewTurns : Type 0
     FewTurns = (n l : ℕ) (log part : List Entry) (s : State S C) → RunsEvery n l → IsBetween log part s
         → ((is_wanted (machine first.code) first.settings s ≡ false) × (count_by is_turn part ≤ n)) ⊎ ((w : IsWantedWithin log part) × (count_by is_turn part ≤ n + (l + 3) * count_by is_out w.wanted.places))

@@ -1,5 +1,13 @@
 //! Laws of the world's calls, over any flat machine.
-ghost use Rattle.world_rules.specs.Laws.{ActAnswers, BarriersCome, CallsChange, CallsOwn, CallsReplay, CallsStay, FindAnswers, FreshReaches, HomesOut, OutMayWork, PickedMade, StepsMay, ThreadsApart, WorldsSound};
+ghost use Rattle.std.specs.Prelude.{◌≡◌, [], ◌∷◌, Some, None, pos};
+ghost use Rattle.flat_meaning.specs.declared.endings.End.TheVariants.{Done, AllBlocked, TurnLimit};
+ghost use Rattle.flat_rules.specs.Toys.{safe, spin, store, lock, alloc, stop};
+ghost use Rattle.flat_rules.specs.Rows.{told, code, done_journal, blocked_journal, spin_journal, every_journal, room_journal};
+ghost use Rattle.world_rules.specs.declared.calls.Reply.TheVariants as reply;
+ghost use Rattle.world_rules.specs.declared.calls.Found.TheVariants as found;
+ghost use Rattle.world_rules.specs.declared.calls.Acted.TheVariants as acted;
+ghost use Rattle.world_rules.specs.Laws.{ActAnswers, BarriersCome, CallsChange, CallsOwn, CallsReplay, CallsStay, FindAnswers, FreshReaches, HomesOut, JournalsFit, OutMayWork, PickedMade, PickedMayBegin, StepsMay, ThreadsApart, WorldsSound};
+ghost use Rattle.world_rules.specs.Rows.{driven, SmallIsLawful};
 
 use flat_rules::Flat;
 
@@ -11,6 +19,11 @@ pub fn fresh_worlds_replay<F: Flat<Code, Context>, Code, Context>()
 /// A law: after a call that is allowed, the journal replays to the world after it.
 pub fn allowed_calls_replay<F: Flat<Code, Context>, Code, Context>()
     ensures { CallsReplay F.machine F.shared_of }
+{}
+
+/// A law: no journal is longer than its limit.
+pub fn journals_are_within_their_limit<F: Flat<Code, Context>, Code, Context>()
+    ensures { JournalsFit F.machine F.shared_of }
 {}
 
 /// A law: a call that is allowed stays so while other workers add entries.
@@ -53,6 +66,11 @@ pub fn who_is_picked_was_made<F: Flat<Code, Context>, Code, Context>()
     ensures { PickedMade F.machine }
 {}
 
+/// A law: a thread that is picked and has not begun has what `begin` of the machine asks.
+pub fn who_is_picked_may_begin<F: Flat<Code, Context>, Code, Context>()
+    ensures { PickedMayBegin F.machine F.shared_of F.context_of }
+{}
+
 /// A law: exactly where each answer of `find` comes, and that the replay has the context out which it hands out.
 pub fn answers_of_find<F: Flat<Code, Context>, Code, Context>()
     ensures { FindAnswers F.machine F.shared_of }
@@ -68,7 +86,21 @@ pub fn threads_are_apart<F: Flat<Code, Context>, Code, Context>()
     ensures { ThreadsApart F.machine }
 {}
 
-/// A law: with `every` n there are at most n Turn entries between two barriers, and as many as each thread takes to come home that is out when one is wanted.
+/// A law: with `every` n at most n Turn entries come between two barriers, and l + 3 more for each thread that was out when the second came to be wanted, where a thread that is asked home comes in l + 2 turns.
 pub fn turns_between_barriers<F: Flat<Code, Context>, Code, Context>()
     ensures { BarriersCome F.machine F.shared_of F.context_of }
+{}
+
+/// One worker drives main, which ends at once; takes a mutex twice; goes round for ever; is asked home by `every`; and waits for room.
+pub fn one_worker_by_hand()
+    ensures done { driven 2 (told 1 None None 1000) (code (stop (pos 0) ∷ []) []) ≡ (reply.Acted (acted.Over (Done (pos 0))), done_journal) }
+    ensures blocked { driven 5 (told 1 None None 1000) (code (lock ∷ lock ∷ []) []) ≡ (reply.Found (found.Over AllBlocked), blocked_journal) }
+    ensures limit { driven 7 (told 1 None None 70) (code (spin ∷ []) []) ≡ (reply.Found (found.Over TurnLimit), spin_journal) }
+    ensures every { driven 8 (told 1 None (Some 1) 1000) (code (store ∷ store ∷ safe ∷ stop (pos 7) ∷ []) []) ≡ (reply.Acted (acted.Over (Done (pos 7))), every_journal) }
+    ensures room { driven 8 (told 1 None None 1000) (code (alloc ∷ alloc ∷ alloc ∷ stop (pos 0) ∷ []) []) ≡ (reply.Acted (acted.Over (Done (pos 0))), room_journal) }
+{}
+
+/// The machine that is driven by hand meets all that the laws ask of one.
+pub fn the_small_machine_is_lawful()
+    ensures { SmallIsLawful }
 {}
