@@ -1,13 +1,12 @@
 -- A context that is out, from one step to the next.
-use Rattle.std.proofs.Common.{◌≡◌, ℕ, ◌||◌, Bool, true, false, cond, List, ap, sym, subst, ◌∙◌, refl}
+use Rattle.std.proofs.Common.{◌≡◌, ℕ, ◌||◌, Bool, true, false, cond, ap, sym, subst, ◌∙◌, refl}
 use Rattle.std.specs.Prelude.{◌⊎◌}
-use Rattle.ak_trace.specs.declared.entry.Entry.{Entry}
 use mathlib.Core.Logic.{inl, inr}
 use Rattle.turn_lock.specs.declared.lock.Pass.{Pass}
 use Rattle.turn_lock.specs.Locks.{seen_of, worker_of}
 use Rattle.flat_meaning.specs.declared.endings.End.{End}
 use Rattle.flat_rules.specs.Machine.{Machine}
-use Rattle.flat_rules.specs.States.{Mood, free, asked, must}
+use Rattle.flat_rules.specs.States.{Mood, free, asked}
 use Rattle.flat_rules.specs.Events.{mood_after}
 use Rattle.flat_rules.specs.Lawful.{IsFlat}
 use Rattle.world_rules.specs.declared.calls.Found.{Found}

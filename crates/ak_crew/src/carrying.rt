@@ -32,13 +32,7 @@ fn work_alone<F: Flat<Code, Context> + Drop, Code: Drop, Context: Drop>(
 }
 
 // Brings home a thread that rests, is busy or waits for room.
-fn bring_home<
-    F: Flat<Code, Context> + Drop,
-    Code: Drop,
-    Context: Drop,
-    R: Wait,
-    G: Gate,
->(
+fn bring_home<F: Flat<Code, Context> + Drop, Code: Drop, Context: Drop, R: Wait, G: Gate>(
     rt: &R,
     world: &SharedWorld<F, Code, Context>,
     pass: &mut Pass<World<F, Code, Context>>,
@@ -54,13 +48,7 @@ fn bring_home<
 }
 
 /// Goes on with a thread that was handed out, until it comes home or is nowhere.
-pub(crate) fn carry<
-    F: Flat<Code, Context> + Drop,
-    Code: Drop,
-    Context: Drop,
-    R: Wait,
-    G: Gate,
->(
+pub(crate) fn carry<F: Flat<Code, Context> + Drop, Code: Drop, Context: Drop, R: Wait, G: Gate>(
     rt: &R,
     code: &Code,
     world: &SharedWorld<F, Code, Context>,
@@ -81,7 +69,10 @@ pub(crate) fn carry<
         work_alone::<F, Code, Context>(code, &mut ctx, asked);
         gate.pause(worker, Point::Act);
         match world.act(rt, pass, ctx) {
-            Acted::Went { ctx: next, come_home } => {
+            Acted::Went {
+                ctx: next,
+                come_home,
+            } => {
                 ctx = next;
                 asked = asked || come_home;
             }

@@ -1,19 +1,17 @@
 -- What a turn of the lock tells its worker.
-use Rattle.std.proofs.Common.{◌≡◌, ℕ, ◌<◌, List, ◌++◌, ap, sym, subst, ◌∙◌}
+use Rattle.std.proofs.Common.{◌≡◌, ℕ, ◌<◌, List, ◌++◌, sym, subst}
 use Rattle.ak_trace.specs.declared.entry.Entry.{Entry}
 use Rattle.turn_lock.specs.declared.lock.Pass.{Pass}
 use Rattle.turn_lock.specs.Locks.{seen_of, worker_of}
 use Rattle.flat_rules.specs.Machine.{Machine}
-use Rattle.flat_rules.specs.States.{State, Mood, free}
+use Rattle.flat_rules.specs.States.{Mood, free}
 use Rattle.flat_rules.specs.Events.{mood_after}
 use Rattle.flat_rules.specs.Lawful.{IsFlat, IsOpened}
 use Rattle.world_rules.specs.declared.calls.Found.{Found}
 use Rattle.world_rules.specs.declared.calls.Found.TheVariants as found
 use Rattle.world_rules.specs.declared.calls.Acted.{Acted}
 use Rattle.world_rules.specs.declared.calls.Acted.TheVariants as acted
-use Rattle.world_rules.specs.declared.calls.Call.{Call}
 use Rattle.world_rules.specs.declared.calls.Call.TheVariants as call
-use Rattle.world_rules.specs.declared.calls.Reply.{Reply}
 use Rattle.world_rules.specs.declared.calls.Reply.TheVariants as reply
 use Rattle.world_rules.specs.Whole.{Whole, Leads, Reaches}
 use Rattle.world_rules.specs.Calls.{entries_of, reply_of, after}
@@ -56,7 +54,7 @@ module _ {S K C : Type 0} (machine : K → Machine S C) (shared_of : K → S →
         let x : Whole S K C = turn.state in
         let is : f ≡ (calls.finds machine x w).0 = found_is f _ turn.answers in
         let says : FoundSays machine first (seen_of after') (worker_of after') f = subst (λ (z : List Entry × ℕ × Found C). FoundSays machine first z.0 z.1 z.2) (λ i. (sym turn.seen i, sym same i, sym is i))
-            (found_says machine shared_of context_of flat first log x w turn.leads known) in
+        (found_says machine shared_of context_of flat first log x w turn.leads known) in
         record {
           turn = turn;
           state = turn.leads.replays.state;

@@ -28,8 +28,11 @@ module _ {S K C : Type 0} (machine : K → Machine S C) (shared_of : K → S →
 
   -- once some pass saw the end, that is the end
   pub world_over : SawOver machine shared_of context_of first passes → (end : End) × (end_now machine x ≡ Some end)
-  world_over saw = (saw.end, end_over machine first shared_of context_of flat closes.log x saw.end r
-      (over_stays machine first _ closes.log saw.end r.replays.state saw.over (closes.accounts saw.number saw.pass saw.there).1 r.replays.leads))
+  world_over saw = (
+    saw.end,
+    end_over machine first shared_of context_of flat closes.log x saw.end r
+        (over_stays machine first _ closes.log saw.end r.replays.state saw.over (closes.accounts saw.number saw.pass saw.there).1 r.replays.leads),
+  )
 
   module _ (log : Log) (is : log ≡ x.log) where
     same : log.entries ≡ closes.log

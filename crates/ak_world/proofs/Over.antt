@@ -1,6 +1,6 @@
 -- Once the run is over the journal stays as it is.
-use Rattle.std.proofs.Common.{◌≡◌, ℕ, ◌-◌, ◌&&◌, Bool, true, false, not, nat_lt, cond, List, [], ◌∷◌, ◌++◌, length, ap, sym, subst, ◌∙◌, refl, arith, Option, Some, None}
-use Rattle.std.specs.Prelude.{option_and_then, is_none, slice_get, ◌==◌}
+use Rattle.std.proofs.Common.{◌≡◌, ℕ, ◌-◌, ◌&&◌, Bool, true, false, nat_lt, cond, List, [], ◌∷◌, ◌++◌, length, ap, sym, subst, ◌∙◌, refl, arith, Option, Some, None}
+use Rattle.std.specs.Prelude.{option_and_then, is_none}
 use Rattle.std.proofs.lemmas.List.{append-nil}
 use Rattle.ak_words.specs.Prefix.{IsPrefix}
 use Rattle.ak_trace.specs.declared.entry.Entry.{Entry}
@@ -34,7 +34,7 @@ module _ {S K C : Type 0} (machine : K → Machine S C) (first : Whole S K C) wh
   pub over_stays : (log log' : List Entry) (end : End) (s : State S C) → IsOver machine first log end → IsPrefix log log' → Leads machine first log' s → IsOver machine first log' end
   over_stays log log' end s over front leads =
       let ran : run m first.settings front.0 over.state ≡ Some s = sym (ap (option_and_then (run m first.settings front.0)) over.leads.runs)
-          ∙ (sym (run-append m first.settings log front.0 (start m first.settings first.shared)) ∙ (ap (λ (l : List Entry). run m first.settings l (start m first.settings first.shared)) (sym front.1) ∙ leads.runs)) in
+      ∙ (sym (run-append m first.settings log front.0 (start m first.settings first.shared)) ∙ (ap (λ (l : List Entry). run m first.settings l (start m first.settings first.shared)) (sym front.1) ∙ leads.runs)) in
       let none : front.0 ≡ [] = no_more over.state s end front.0 over.leads.settled over.ends ran in
       let same : log' ≡ log = front.1 ∙ (ap (λ (l : List Entry). log ++ l) none ∙ append-nil log) in
       subst (λ (l : List Entry). IsOver machine first l end) (sym same) over

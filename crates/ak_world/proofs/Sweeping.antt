@@ -1,11 +1,10 @@
 -- The barrier's entries, as its worker's, and the world after it.
 use Rattle.std.proofs.Common.{◌≡◌, ℕ, nat_lt, List, [], ◌∷◌, ◌++◌, map, ap, sym, subst, ◌∙◌, refl, Option, Some, None}
-use Rattle.std.specs.Prelude.{count_by}
 use Rattle.ak_trace.specs.declared.entry.Entry.{Entry}
 use Rattle.ak_trace.specs.Log.{Log}
 use Rattle.flat_rules.specs.Machine.{Machine, Served, Swept}
 use Rattle.flat_rules.specs.Entries.{barrier_entry, served_with, served_entry}
-use Rattle.flat_rules.specs.Lawful.{AreHome, BarrierMakes, waits_at_home}
+use Rattle.flat_rules.specs.Lawful.{AreHome, BarrierMakes}
 use Rattle.world_rules.specs.Whole.{Whole, by_worker}
 use Rattle.world_rules.specs.Calls.{with_entries, end_before, sweeps}
 use Rattle.world_rules.specs.Sound.{IsSound}
@@ -32,10 +31,10 @@ module _ {S K C : Type 0} (machine : K → Machine S C) (shared_of : K → S →
       → s' ≡ ((machine k).barrier y.shared hs).shared → hs' ≡ ((machine k).barrier y.shared hs).homes → made ≡ (machine k').made s' → BarrierMakes (machine k) y.shared hs
       → log ≡ record y.log { entries = y.log.entries ++ map (by_worker w) made }
       → record y { settings = record y.settings { entries = log.limit }; shared = s'; homes = hs'; waiting = 0; since = 0; log = log }
-        ≡ with_entries (sweeps machine x w ((machine x.code).barrier x.shared x.homes)).2 (sweeps machine x w ((machine x.code).barrier x.shared x.homes)).1
+      ≡ with_entries (sweeps machine x w ((machine x.code).barrier x.shared x.homes)).2 (sweeps machine x w ((machine x.code).barrier x.shared x.homes)).1
   swept y x w k k' hs hs' s' made log is limit sound alone code code' homes shared homes' told makes wrote =
       subst (λ (z : Whole S K C). record y { settings = record y.settings { entries = log.limit }; shared = s'; homes = hs'; waiting = 0; since = 0; log = log }
-        ≡ with_entries (sweeps machine z w ((machine z.code).barrier z.shared z.homes)).2 (sweeps machine z w ((machine z.code).barrier z.shared z.homes)).1) is
+      ≡ with_entries (sweeps machine z w ((machine z.code).barrier z.shared z.homes)).2 (sweeps machine z w ((machine z.code).barrier z.shared z.homes)).1) is
       (λ i. record y { settings = record y.settings { entries = (ap (λ (l : Log). l.limit) wrote ∙ sym limit) i }; shared = shared' i; homes = homes'' i; waiting = 0; since = 0; log = log' i })
     where
       b : Swept S C
