@@ -1,0 +1,9 @@
+pub mod Ready
+pub mod Handing
+pub mod Sweeping
+pub mod Stepping
+pub mod Answering
+pub mod Beginning
+pub mod Calling
+pub mod Over
+pub mod Finishing

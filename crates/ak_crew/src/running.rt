@@ -1,0 +1,47 @@
+//! The workers together.
+ghost use Rattle.std.specs.Prelude.{◌≡◌, ℕ, length, slice_get, Some};
+ghost use Rattle.flat_meaning.specs.declared.endings.End.{End};
+ghost use Rattle.turn_lock.specs.Locks.{IsPassOf, AllPasses, first_of, passes_of, seen_of, worker_of};
+ghost use Rattle.world_rules.specs.Allowed.{IsOver};
+ghost use Rattle.ak_world.specs.Turns.{SawOver};
+
+use crate::gate::Gate;
+use crate::working::work;
+use ak_world::{SharedWorld, World};
+use flat_rules::Flat;
+use std::marker::{Send, Sync};
+use std::sync::Wait;
+use std::thread;
+use std::thread::Threads;
+use turn_lock::Pass;
+
+/// Gives each pass to a worker of its own, on a thread of its own where one can be made, and returns when each has found the run over. It takes no memory.
+pub fn run<
+    F: Flat<Code, Context> + Drop + Send,
+    Code: Drop + Send + Sync,
+    Context: Drop + Send,
+    R: Threads + Wait + Sync,
+    G: Gate,
+>(
+    rt: &R,
+    code: &Code,
+    world: &SharedWorld<F, Code, Context>,
+    passes: &mut [Pass<World<F, Code, Context>>],
+    gate: &G,
+)
+    requires code { code.now ≡ (first_of world.now.lock).code }
+    requires all { (length passes.old ≡ passes_of world.now.lock) × AllPasses world.now.lock passes.old }
+    ensures all { (length passes.new ≡ length passes.old) × AllPasses world.now.lock passes.new }
+    ensures over { SawOver F.machine F.shared_of F.context_of (first_of world.now.lock) passes.new }
+{
+    let workers = passes.len();
+    thread::for_each_mut(
+        rt,
+        passes,
+        workers,
+        &|_number: usize, pass: &mut Pass<World<F, Code, Context>>|
+            requires { (code.now ≡ (first_of world.now.lock).code) × IsPassOf world.now.lock pass.now }
+            ensures { IsPassOf world.entry.now.lock pass.exit.now × (worker_of pass.exit.now ≡ worker_of pass.entry.now) × ((end : End) × IsOver F.machine (first_of world.entry.now.lock) (seen_of pass.exit.now) end) }
+        { work(rt, code, world, pass, gate) },
+    );
+}

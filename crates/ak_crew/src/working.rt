@@ -1,0 +1,43 @@
+//! What a worker does.
+ghost use Rattle.std.specs.Prelude.{◌≡◌};
+ghost use Rattle.flat_meaning.specs.declared.endings.End.{End};
+ghost use Rattle.turn_lock.specs.Locks.{IsPassOf, first_of, seen_of, worker_of};
+ghost use Rattle.world_rules.specs.Allowed.{IsOver};
+
+use crate::carrying::carry;
+use crate::gate::{Gate, Point};
+use ak_world::{Found, SharedWorld, World};
+use crossbeam_utils::Backoff;
+use flat_rules::Flat;
+use std::sync::Wait;
+use turn_lock::Pass;
+
+/// Does what there is to do until the run is over.
+pub(crate) fn work<F: Flat<Code, Context> + Drop, Code: Drop, Context: Drop, R: Wait, G: Gate>(
+    rt: &R,
+    code: &Code,
+    world: &SharedWorld<F, Code, Context>,
+    pass: &mut Pass<World<F, Code, Context>>,
+    gate: &G,
+)
+    requires code { code.now ≡ (first_of world.now.lock).code }
+    requires pass { IsPassOf world.now.lock pass.old }
+    ensures pass { IsPassOf world.now.lock pass.new × (worker_of pass.new ≡ worker_of pass.old) }
+    ensures over { (end : End) × IsOver F.machine (first_of world.now.lock) (seen_of pass.new) end }
+{
+    let worker = pass.worker();
+    let backoff = Backoff::new();
+    for _ in rt.forever() {
+        gate.pause(worker, Point::Find);
+        match world.find(rt, pass) {
+            Found::Work(ctx) => {
+                carry(rt, code, world, pass, gate, ctx);
+                backoff.reset();
+            }
+            Found::Nothing => backoff.snooze(),
+            Found::Swept => backoff.reset(),
+            Found::Over(_) => return,
+        }
+    }
+    unreachable!()
+}
