@@ -1,0 +1,5 @@
+pub mod Choices
+pub mod Waits
+pub mod Doing
+pub mod Mutexes
+pub mod Mallocs
