@@ -1,6 +1,6 @@
 -- What an answer of the code has done, from what the calls of the objects promise. The code sees what threads share as `v`, which a
 -- contract calls `old`.
-use Rattle.std.proofs.Common.{◌≡◌, ℕ, List, Option, Some, None, refl, ap, sym, ◌∙◌, subst}
+use Rattle.std.proofs.Common.{◌≡◌, ℕ, Bool, true, false, cond, List, Option, Some, None, refl, ap, sym, ◌∙◌, subst}
 use Rattle.block_store.specs.declared.values.Access.{Access}
 use Rattle.block_store.specs.Cells.{size_of}
 use Rattle.flat_store.specs.Flat.{HasBytes, bytes_from, first_outside_of_both, with_bytes}
@@ -39,6 +39,20 @@ module _ (v : Shared) (r : Done) (d : actions.Done) where
   -- it ends the run
   pub does_trap : (new : Shared) (address : ℕ) (kind : TrapKind) → r ≡ dones.Trap address kind → d ≡ actions.over (trap address kind) → new ≡ v → Does v new r d
   does_trap new address kind r_is d_is new_is = rw (r_is, d_is, new_is) (record { done_ = refl; left = refl })
+
+-- ---- tests
+
+pub within_none : (kind : TrapKind) (outside : Option ℕ) (d : actions.Done) → outside ≡ None → within kind outside d ≡ d
+within_none kind None d e = refl
+within_none kind (Some a) d e = absurd cc
+
+pub if_so : (b : Bool) (x y : actions.Done) → b ≡ true → cond b x y ≡ x
+if_so true x y e = refl
+if_so false x y e = absurd cc
+
+pub if_not : (b : Bool) (x y : actions.Done) → b ≡ false → cond b x y ≡ y
+if_not true x y e = absurd cc
+if_not false x y e = refl
 
 -- ---- accesses
 

@@ -3,3 +3,4 @@ pub mod Waits
 pub mod Doing
 pub mod Mutexes
 pub mod Mallocs
+pub mod Threads

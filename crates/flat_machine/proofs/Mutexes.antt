@@ -5,20 +5,12 @@ use Rattle.std.proofs.lemmas.Bool.Decides.{nat_tests}
 use Rattle.flat_store.specs.Flat.{HasBytes, bytes_from, first_outside}
 use Rattle.flat_store.specs.Word.{number_of}
 use Rattle.flat_store.proofs.Firsts.{none_outside}
-use Rattle.flat_meaning.specs.declared.endings.TrapKind.{TrapKind}
-use Rattle.flat_meaning.specs.Accesses.{Done, waits, within}
+use Rattle.flat_meaning.specs.Accesses.{Done, waits}
 use Rattle.flat_meaning.specs.Actions.{is_free, locked}
 use Rattle.flat_meaning.specs.Memory.{Memory}
 use Rattle.flat_meaning.specs.Ready.{may_lock}
 use Rattle.flat_meaning.specs.Words.{Target}
-
-within_none : (kind : TrapKind) (outside : Option ℕ) (d : Done) → outside ≡ None → within kind outside d ≡ d
-within_none kind None d e = refl
-within_none kind (Some a) d e = absurd cc
-
-if_not : (b : Bool) (x y : Done) → b ≡ false → cond b x y ≡ y
-if_not true x y e = absurd cc
-if_not false x y e = refl
+use Rattle.flat_machine.proofs.Doing.{within_none, if_not}
 
 or_none : (outside : Option ℕ) (b : Bool) → outside ≡ None → (is_some outside || b) ≡ b
 or_none None b e = refl

@@ -11,4 +11,4 @@ returns-in-Ok-clause-does c =
     let v = the_view c.self.inside in
     let a = target_view c.args.at in
     rw (← c.self.view_is)
-    (does_wait v _ (locked c.args.thread a v.memory) _ refl (locked_waits v.memory c.flat.result.now c.flat.ensures.bytes c.args.at.address (c.in-Ok.ensures.within.0 refl) c.in-Ok.field-0 c.in-Ok.ensures.value c.args.thread a refl c.in-Ok.field-0-test))
+    (does_wait v _ (locked c.args.thread a v.memory) _ refl (locked_waits v.memory c.flat.result.now c.flat.ensures.bytes c.args.at.address (c.in-Ok.ensures.within.0 refl) c.in-Ok.field-0 c.in-Ok.ensures.value c.args.thread a refl c.in-Ok.field-0-test.1))
