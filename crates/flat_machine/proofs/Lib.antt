@@ -4,3 +4,5 @@ pub mod Doing
 pub mod Mutexes
 pub mod Mallocs
 pub mod Threads
+pub mod Texts
+pub mod Prints
