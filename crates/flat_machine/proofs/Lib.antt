@@ -6,3 +6,5 @@ pub mod Mallocs
 pub mod Threads
 pub mod Texts
 pub mod Prints
+pub mod Digits
+pub mod Pieces

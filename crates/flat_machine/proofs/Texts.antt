@@ -41,14 +41,12 @@ text_ends (suc b ∷ xs) at (suc room) e before fits is =
 -- ---- at an address
 
 module _ (bytes : List ℕ) (at : ℕ) where
-  rest : List ℕ
+  abbrev rest : List ℕ
   rest = drop (at - first_address) bytes
 
-  unfolding rest
   rest_len : first_address ≤ at → length rest ≡ length bytes - (at - first_address)
   rest_len low = length-drop (at - first_address) bytes
 
-  unfolding rest
   rest_at : first_address ≤ at → (k : ℕ) → get_or rest k 0 ≡ byte_at bytes (at + k)
   rest_at low k =
       let same : at - first_address + k ≡ at + k - first_address = omega arith in
@@ -60,7 +58,6 @@ module _ (bytes : List ℕ) (at : ℕ) where
   if_there : (x y : Read) → HasByte bytes at → cond (has_byte bytes at) x y ≡ x
   if_there x y has = let e : has_byte bytes at ≡ true = grind (arith, nat_tests, has.0, has.1) in rw e refl
 
-  unfolding rest
   text_at_is : (room : ℕ) (r : Read) → HasByte bytes at → text_in at rest room ≡ r → text_at bytes at room ≡ r
   text_at_is room r has e = if_there _ _ has ∙ e
 
@@ -68,12 +65,11 @@ module _ (bytes : List ℕ) (at : ℕ) where
   first_byte zero has ends = (omega (arith, ends.0), omega (arith, ends.1))
   first_byte (suc n) has ends = let h = (has 0 (omega arith)).0 in (omega (arith, h.0), omega (arith, h.1))
 
-  unfolding rest
   pub text_of_len : (len room : ℕ) → IsTextLen bytes at len → len ≤ room → text_at bytes at room ≡ reads (bytes_from bytes at len)
   text_of_len len room is fits =
-      let has = first_byte len is.0 is.1.0 in
+      let has = first_byte len is.0 is.1 in
       text_at_is room (reads (take len rest)) has
-      (text_reads rest at len room (no_zero len has.0 is.0) (omega (arith, rest_len has.0, is.1.0.0, is.1.0.1)) (rest_at has.0 len ∙ is.1.1) fits)
+      (text_reads rest at len room (no_zero len has.0 is.0) (omega (arith, rest_len has.0, is.1.0, is.1.1)) (rest_at has.0 len ∙ is.2) fits)
 
   pub text_too_long : (room : ℕ) → HasNoZero bytes at (room + 1) → text_at bytes at room ≡ too_long
   text_too_long room has =
@@ -98,7 +94,6 @@ module _ (bytes : List ℕ) (at : ℕ) where
           has_byte-true e = (grind (arith, nat_tests), grind (arith, nat_tests))
       by false e = refl
 
-  unfolding rest
   pub text_outside : (room e : ℕ) → first_outside bytes at (room + 1) ≡ Some e → HasNoZero bytes at (e - at) → text_at bytes at room ≡ outside e
   text_outside room e is has = by (cases_lt at e)
     where

@@ -5,7 +5,7 @@ ghost use Rattle.std.specs.List.{list_all};
 ghost use Rattle.std.specs.Fmt.{digit_glyph, digits};
 ghost use Rattle.ak_words.specs.Wrapped.{residue};
 ghost use Rattle.c_tree.specs.Typed.{signed};
-ghost use Rattle.c_tree.specs.TypedPrinting.{signed_value, takes_number, takes_text, written};
+ghost use Rattle.c_tree.specs.TypedPrinting.{takes_number, takes_text, written};
 ghost use Rattle.c_tree.specs.TypedViews.{piece_view};
 ghost use Rattle.struct_ir.specs.Valid.{has_width, is_piece};
 ghost use Rattle.struct_ir.specs.Views.{place_view};
@@ -102,13 +102,13 @@ impl Shared {
     }
 
     // The bytes of a piece.
-    fn put_bytes(&mut self, bytes: &[u8]) -> Result<(), Fault>
-        ensures { PrintsPart (read_part self.old.memory.storage.bytes (bytes bytes.now) (output_room self.old.output_limit self.old.memory)) self.old self.new result }
+    fn put_bytes(&mut self, all: &[u8]) -> Result<(), Fault>
+        ensures { PrintsPart (read_part self.old.memory.storage.bytes (bytes all.now) (output_room self.old.output_limit self.old.memory)) self.old self.new result }
     {
-        if bytes.len() > self.output_limit as usize - self.output.len() {
+        if all.len() > self.output_limit as usize - self.output.len() {
             return Err(Fault::Full);
         }
-        append(&mut self.output, bytes);
+        append(&mut self.output, all);
         Ok(())
     }
 
@@ -146,11 +146,13 @@ impl Shared {
         requires { has_width bits ≡ true }
         ensures { PrintsPart (read_part self.old.memory.storage.bytes (bytes (written (signed bits) (pos word))) (output_room self.old.output_limit self.old.memory)) self.old self.new result }
     {
-        let number = signed_number(bits, word);
-        if number < 0 {
-            self.put_bytes(b"-")?;
+        let half = if bits == 32 { 1u64 << 31 } else { 1u64 << 63 };
+        let number = low(bits, word);
+        if number < half {
+            return self.put_digits(number, 10);
         }
-        self.put_digits(number.unsigned_abs(), 10)
+        self.put_bytes(b"-")?;
+        self.put_digits(half - (number - half), 10)
     }
 
     // A number in a base, without leading zeros.
@@ -179,6 +181,7 @@ fn append(output: &mut Vec<u8>, bytes: &[u8])
 // Writes the bytes from an address on behind others.
 fn append_text(output: &mut Vec<u8>, flat: &Flat, at: u64, len: u64)
     requires there { HasBytes flat.now at len }
+    requires fits { at + len < 2 ^ 64 }
     requires room { vec_len output.old + len ≤ vec_capacity output.old }
     ensures items { output.new.items ≡ output.old.items ++ bytes_from flat.now at len }
     ensures capacity { vec_capacity output.new ≡ vec_capacity output.old }
@@ -196,18 +199,6 @@ fn byte_at(flat: &Flat, at: u64) -> u8
     match flat.load(at, 1) {
         Ok(byte) => byte as u8,
         Err(_) => unreachable!(),
-    }
-}
-
-// The number of so many bits that a word stands for.
-fn signed_number(bits: u8, word: u64) -> i64
-    requires { has_width bits ≡ true }
-    ensures { result ≡ signed_value bits (pos word) }
-{
-    if bits == 32 {
-        i64::from(word as u32 as i32)
-    } else {
-        word as i64
     }
 }
 
