@@ -1,5 +1,6 @@
 use Rattle.std.proofs.Common.{◌≡◌, ◌∙◌, ◌<◌, ◌+◌, ◌-◌, ◌∷◌, [], List, ℕ, false, inl, inr, refl, ap, sym, subst, Err, Ok, arith}
 use Rattle.std.specs.Fmt.{digits}
+use Rattle.std.proofs.lemmas.Result.{err_from_is_err_and}
 use Rattle.flat_machine.proofs.Digits.{IsHalf, width_is, signed_up, signed_down, low_below}
 use Rattle.flat_machine.proofs.Prints.{PutsBytes, puts_both, puts_neither}
 use Rattle.flat_machine.proofs.shared.Shared.put_signed.Goals as goal
@@ -26,14 +27,16 @@ overflow_sub-half c = omega (arith, below (goal.at.overflow_sub-half c).After-lo
 
 pub returns-in_err-put_bytes : goal.returns-in_err-put_bytes
 returns-in_err-put_bytes c =
-    let d = goal.at.returns-in_err-put_bytes c in
-    let h = c.from_residual.ensures in let k = c.in_err-put_bytes.was in let l = c.in_err-put_bytes.is in
-    ?
+    let d = (goal.at.returns-in_err-put_bytes c).After-low-number in
+    let p = err_from_is_err_and c.from_residual.result c.from_residual.ensures.1 in
+    rw (p.1, p.2)
+    (subst (λ (all : List ℕ). PutsBytes all c.args.self.now c.put_bytes.new.self (Err c.in_err-put_bytes.field-0.0))
+    (signed_down c.args.bits c.if-bits-eq32.half c.args.word c.low-number.result (half_is d) c.ranges.word.fits c.low-number.ensures c.if-number-half.false (below d))
+    (puts_neither (45 ∷ []) (digits 10 false (c.if-bits-eq32.half - (c.low-number.result - c.if-bits-eq32.half))) c.args.self.now c.put_bytes.new.self c.in_err-put_bytes.field-0.0 c.in_err-put_bytes.ensures))
 
 pub returns : goal.returns
 returns c =
     let d = (goal.at.returns c).After-low-number in
-    let m = c.in_ok-put_bytes.was in let l = c.in_ok-put_bytes.is in
     subst (λ (all : List ℕ). PutsBytes all c.args.self.now c.put_digits-2.new.self c.put_digits-2.result)
     (signed_down c.args.bits c.if-bits-eq32.half c.args.word c.low-number.result (half_is d) c.ranges.word.fits c.low-number.ensures c.if-number-half.false (below d))
-    (puts_both (45 ∷ []) (digits 10 false (c.if-bits-eq32.half - (c.low-number.result - c.if-bits-eq32.half))) c.args.self.now c.put_bytes.new.self c.put_digits-2.new.self c.put_digits-2.result ? c.put_digits-2.ensures)
+    (puts_both (45 ∷ []) (digits 10 false (c.if-bits-eq32.half - (c.low-number.result - c.if-bits-eq32.half))) c.args.self.now c.put_bytes.new.self c.put_digits-2.new.self c.put_digits-2.result c.in_ok-put_bytes.ensures c.put_digits-2.ensures)
