@@ -60,7 +60,7 @@ whole_is w fits =
 abbrev pub IsHalf : (bits half : ℕ) → Type 0
 IsHalf bits half = ((bits ≡ 32) × (half ≡ 2147483648)) ⊎ ((bits ≡ 64) × (half ≡ 9223372036854775808))
 
-value_up : (bits half w n : ℕ) → IsHalf bits half → w < 2 ^ 64 → n ≡ residue (2 ^ bits) (pos w) → n < half → signed_value bits (pos w) ≡ pos n
+pub value_up : (bits half w n : ℕ) → IsHalf bits half → w < 2 ^ 64 → n ≡ residue (2 ^ bits) (pos w) → n < half → signed_value bits (pos w) ≡ pos n
 value_up bits half w n (inl is) fits n_is low =
     let low_bits : n ≡ w % 4294967296 = rw is.0 at n_is ∙ sym (low_is (2 ^ 32) w (omega arith)) in
     let sum : (w + 2147483648) % 4294967296 ≡ n + 2147483648 = rw low_bits (small_above w (omega (arith, is.1, low_bits))) in

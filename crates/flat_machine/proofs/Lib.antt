@@ -8,3 +8,4 @@ pub mod Texts
 pub mod Prints
 pub mod Digits
 pub mod Pieces
+pub mod Printed

@@ -5,6 +5,7 @@ use Rattle.std.specs.List.{list_all, filter}
 use Rattle.std.specs.Prelude.{Vec}
 use Rattle.std.specs.declared.alloc.Global.{Global}
 use Rattle.std.proofs.lemmas.List.{drop_more, get_or-map, length-map}
+use Rattle.std.proofs.lemmas.List.Elements.{All-get_or}
 use Rattle.std.proofs.lemmas.List.Sums.{length-filter}
 use Rattle.c_tree.specs.declared.typed.Piece.{Piece as CodePiece}
 use Rattle.c_tree.specs.declared.typed.Piece.TheVariants as code
@@ -19,6 +20,7 @@ use Rattle.flat_meaning.specs.Printing.{Printed, Read, bytes, text, read_part, r
 use Rattle.flat_meaning.specs.Words.{Words, Target, target_of, word_at}
 use Rattle.struct_ir.specs.Views.{place_view}
 use Rattle.struct_ir.specs.declared.code.Place.{Place as CodePlace}
+use Rattle.flat_threads.specs.Deeds.{IsPlaceOf, ArePlacesOf}
 use Rattle.flat_machine.specs.declared.printing.Fault.{Fault}
 use Rattle.flat_machine.specs.Shares.{Shared}
 use Rattle.flat_machine.specs.inner.Prints.{PrintsPart}
@@ -157,6 +159,13 @@ pub word_there : (own : Words) (temps : List ℕ) (k : ℕ) (w : ℕ) → k < le
 word_there own temps k w within is =
     let inner : k < length temps = rw length-map at within in
     is ∙ sym (get_or-map (word_at own) temps k 0 w inner)
+
+-- a place names registers and slots of the call, as all of them do
+pub place_there : (own : Words) (places : List CodePlace) (k : ℕ) (d : CodePlace) → k < length (map (target_of own) (map place_view places)) → ArePlacesOf own (map place_view places) → IsPlaceOf own (place_view (get_or places k d))
+place_there own places k d within all_are =
+    let inner : k < length (map place_view places) = rw length-map at within in
+    let innermost : k < length places = rw length-map at inner in
+    subst (IsPlaceOf own) (get_or-map place_view places k d (place_view d) innermost) (All-get_or (IsPlaceOf own) (map place_view places) k (place_view d) inner all_are)
 
 -- ---- all pieces
 
