@@ -1,8 +1,7 @@
 -- The least id and the lowest place, as the definitions find them.
-use Rattle.std.proofs.Common.{◌≡◌, ◌≢◌, ℕ, ◌+◌, ◌*◌, ◌%◌, ◌<◌, ◌≤◌, ◌⊎◌, ◌&&◌, ◌||◌, Bool, true, false, cond, not, leb, ltb, List, [], ◌∷◌, length, get_or, Option, Some, None, refl, ap, sym, ◌∙◌, arith, Decides}
-use Rattle.std.specs.Prelude.{IsSome, IsNone, is_some, is_none, nat_le, position}
-use Rattle.std.specs.List.{All, find, list_all, range_with_len, position_or_len}
-use Rattle.std.proofs.lemmas.Bool.{false≢true}
+use Rattle.std.proofs.Common.{◌≡◌, ℕ, ◌+◌, ◌*◌, ◌%◌, ◌<◌, ◌≤◌, Bool, true, false, not, ltb, List, length, get_or, Option, Some, None, refl, ap, arith, Decides}
+use Rattle.std.specs.Prelude.{IsSome, IsNone, is_none, nat_le, position}
+use Rattle.std.specs.List.{All, list_all, position_or_len}
 use Rattle.std.proofs.lemmas.Bool.Decides.{nat_tests, Decides-and, Decides-or, Decides-by_and, Decides-like}
 use Rattle.std.proofs.lemmas.List.Sums.{position_or_len_is}
 use Rattle.handle_table.specs.Table.{IsFull, IsLeastFree, address_of}

@@ -1,7 +1,7 @@
 -- The digits of numbers of 32 or 64 bits.
-use Rattle.std.proofs.Common.{◌≡◌, ◌≢◌, ℕ, suc, ◌+◌, ◌-◌, ◌*◌, ◌/◌, ◌%◌, ◌^◌, ◌<◌, ◌≤◌, ◌⊎◌, inl, inr, Bool, true, false, eqb, List, [], ◌∷◌, refl, ap, sym, ◌∙◌, arith}
-use Rattle.std.specs.Prelude.{ℤ, pos, negsuc, neg_ℤ, ◌+ℤ◌, ◌||◌, decimal}
-use Rattle.std.specs.Fmt.{digits, digits_onto, signed_decimal}
+use Rattle.std.proofs.Common.{◌≡◌, ◌≢◌, ℕ, suc, ◌+◌, ◌-◌, ◌%◌, ◌^◌, ◌<◌, ◌≤◌, ◌⊎◌, inl, inr, true, false, [], ◌∷◌, refl, ap, sym, ◌∙◌, arith}
+use Rattle.std.specs.Prelude.{pos, negsuc, neg_ℤ, ◌+ℤ◌}
+use Rattle.std.specs.Fmt.{digits, signed_decimal}
 use Rattle.std.proofs.lemmas.Bool.Decides.{nat_tests}
 use Rattle.std.proofs.lemmas.Int.{ints}
 use Rattle.ak_words.specs.Wrapped.{residue}

@@ -1,6 +1,6 @@
 -- What an answer of the code has done, from what the calls of the objects promise. The code sees what threads share as `v`, which a
 -- contract calls `old`.
-use Rattle.std.proofs.Common.{◌≡◌, ℕ, Bool, true, false, cond, List, Option, Some, None, refl, ap, sym, ◌∙◌, subst}
+use Rattle.std.proofs.Common.{◌≡◌, ℕ, Bool, true, false, cond, List, Option, Some, None, refl, ap, subst}
 use Rattle.block_store.specs.declared.values.Access.{Access}
 use Rattle.block_store.specs.Cells.{size_of}
 use Rattle.flat_store.specs.Flat.{HasBytes, bytes_from, first_outside_of_both, with_bytes}

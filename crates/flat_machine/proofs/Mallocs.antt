@@ -1,5 +1,5 @@
 -- What alloc answers is what the machine chooses.
-use Rattle.std.proofs.Common.{◌≡◌, ℕ, ◌*◌, ◌%◌, ◌<◌, ◌≤◌, false, ltb, Option, Some, None, refl, ap, sym, ◌∙◌, subst, arith}
+use Rattle.std.proofs.Common.{◌≡◌, ℕ, ◌%◌, ◌≤◌, false, ltb, Option, Some, None, refl, arith}
 use Rattle.std.proofs.lemmas.Bool.Decides.{nat_tests}
 use Rattle.handle_words.specs.Handle.{handle_of}
 use Rattle.sub_heaps.specs.SubHeaps.{rounded}
@@ -7,15 +7,12 @@ use Rattle.defrag_move.specs.declared.answers.Alloced.{Alloced}
 use Rattle.defrag_move.specs.declared.answers.Alloced.TheVariants.{Got, NoGap, NoId}
 use Rattle.defrag_move.specs.Arena.{Storage, IsConsistent}
 use Rattle.defrag_move.specs.Changes.{IsAnswer, after_alloc}
-use Rattle.flat_rules.specs.Machine as turns
-use Rattle.flat_meaning.specs.Accesses as actions
 use Rattle.flat_meaning.specs.Accesses.{Choice, got, null, wait, allocated}
-use Rattle.flat_meaning.specs.Memory.{with_storage}
 use Rattle.flat_machine.specs.declared.done.Done.{Done}
 use Rattle.flat_machine.specs.declared.done.Done.TheVariants as dones
 use Rattle.flat_machine.specs.declared.turned.Turned.TheVariants as code
 use Rattle.flat_threads.specs.declared.wait.Wait.TheVariants.{Room}
-use Rattle.flat_machine.specs.Choices.{got_or, least_free, lowest_fit, room_or, malloc_choice, served_choice}
+use Rattle.flat_machine.specs.Choices.{got_or, least_free, lowest_fit, room_or, malloc_choice}
 use Rattle.flat_machine.specs.Shares.{Shared}
 use Rattle.flat_machine.specs.Turns.{malloc_turned}
 use Rattle.flat_machine.specs.inner.Dones.{Does, Went}

@@ -1,11 +1,11 @@
 -- Locks that wait, and mutexes that are free.
-use Rattle.std.proofs.Common.{◌≡◌, ◌≢◌, ℕ, ◌||◌, Bool, true, false, cond, eqb, List, Option, Some, None, refl, ap, sym, ◌∙◌, arith}
+use Rattle.std.proofs.Common.{◌≡◌, ◌≢◌, ℕ, ◌||◌, Bool, false, eqb, List, Option, Some, None, refl, ap, sym, ◌∙◌, arith}
 use Rattle.std.specs.Prelude.{is_some}
 use Rattle.std.proofs.lemmas.Bool.Decides.{nat_tests}
 use Rattle.flat_store.specs.Flat.{HasBytes, bytes_from, first_outside}
 use Rattle.flat_store.specs.Word.{number_of}
 use Rattle.flat_store.proofs.Firsts.{none_outside}
-use Rattle.flat_meaning.specs.Accesses.{Done, waits}
+use Rattle.flat_meaning.specs.Accesses.{waits}
 use Rattle.flat_meaning.specs.Actions.{is_free, locked}
 use Rattle.flat_meaning.specs.Memory.{Memory}
 use Rattle.flat_meaning.specs.Ready.{may_lock}

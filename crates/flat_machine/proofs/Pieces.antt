@@ -1,5 +1,5 @@
 -- The pieces of a print, one after the other.
-use Rattle.std.proofs.Common.{◌≡◌, ℕ, suc, ◌+◌, ◌-◌, ◌<◌, ◌≤◌, Bool, true, false, ◌&&◌, List, [], ◌∷◌, ◌++◌, length, map, drop, get_or, Result, Ok, Err, refl, ap, sym, ◌∙◌, subst, length-drop, arith}
+use Rattle.std.proofs.Common.{◌≡◌, ℕ, suc, ◌+◌, ◌<◌, Bool, true, false, ◌&&◌, List, [], ◌∷◌, length, map, drop, get_or, Result, Ok, Err, refl, ap, sym, ◌∙◌, subst, length-drop, arith}
 use Rattle.std.specs.Prelude.{count_by, pos}
 use Rattle.std.specs.List.{list_all, filter}
 use Rattle.std.specs.Prelude.{Vec}
@@ -24,7 +24,7 @@ use Rattle.flat_threads.specs.Deeds.{IsPlaceOf, ArePlacesOf}
 use Rattle.flat_machine.specs.declared.printing.Fault.{Fault}
 use Rattle.flat_machine.specs.Shares.{Shared}
 use Rattle.flat_machine.specs.inner.Prints.{PrintsPart}
-use Rattle.flat_machine.proofs.Prints.{PrintsOn, Next, prints_first, prints_next, prints_all}
+use Rattle.flat_machine.proofs.Prints.{PrintsOn, prints_first, prints_next, prints_all}
 
 -- ---- what is left
 

@@ -1,5 +1,5 @@
 -- What a print comes to.
-use Rattle.std.proofs.Common.{◌≡◌, ℕ, ◌+◌, ◌-◌, ◌%◌, ◌^◌, ◌<◌, ◌≤◌, ◌++◌, List, length, take, Option, Some, Result, Ok, Err, inl, refl, ap, sym, ◌∙◌, subst, length-append, arith}
+use Rattle.std.proofs.Common.{◌≡◌, ℕ, ◌+◌, ◌-◌, ◌%◌, ◌^◌, ◌≤◌, ◌++◌, List, length, take, Some, Ok, Err, inl, refl, ap, sym, ◌∙◌, length-append, arith}
 use Rattle.std.specs.Prelude.{pos}
 use Rattle.std.proofs.Math.Seq.{take-append_seam}
 use Rattle.ak_words.specs.IntType.{int}
@@ -8,7 +8,6 @@ use Rattle.ak_words.specs.Wrapped.{residue, wrapped_value}
 use Rattle.flat_words.specs.Words.{number_word}
 use Rattle.flat_meaning.specs.declared.endings.TrapKind.TheVariants as kinds
 use Rattle.flat_meaning.specs.Accesses.{prints}
-use Rattle.flat_meaning.specs.Memory.{Memory}
 use Rattle.flat_meaning.specs.Printing.{Read, reads, outside, too_long}
 use Rattle.flat_machine.specs.declared.done.Done.{Done}
 use Rattle.flat_machine.specs.declared.done.Done.TheVariants as dones

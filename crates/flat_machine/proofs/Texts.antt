@@ -1,9 +1,9 @@
 -- The text at an address, byte by byte, is what text_len finds.
-use Rattle.std.proofs.Common.{◌≡◌, ◌≢◌, ℕ, zero, suc, ◌+◌, ◌-◌, ◌<◌, ◌≤◌, Bool, true, false, cond, not, List, [], ◌∷◌, ◌++◌, length, take, drop, get_or, Option, Some, None, refl, ap, sym, ◌∙◌, subst, ◌⊎◌, inl, inr, arith, length-drop}
+use Rattle.std.proofs.Common.{◌≡◌, ◌≢◌, ℕ, zero, suc, ◌+◌, ◌-◌, ◌<◌, ◌≤◌, Bool, true, false, cond, List, [], ◌∷◌, ◌++◌, length, take, drop, get_or, Some, refl, ap, sym, ◌∙◌, subst, ◌⊎◌, inl, inr, arith, length-drop}
 use Rattle.std.proofs.lemmas.Bool.{cases_lt}
 use Rattle.std.proofs.lemmas.List.{get_or-drop, take_more}
 use Rattle.std.proofs.lemmas.Bool.Decides.{nat_tests}
-use Rattle.flat_store.specs.Flat.{first_address, HasByte, HasBytes, has_byte, byte_at, bytes_from, first_outside, HasNoZero, IsTextLen, IsFirstOutside}
+use Rattle.flat_store.specs.Flat.{first_address, HasByte, has_byte, byte_at, bytes_from, first_outside, HasNoZero, IsTextLen, IsFirstOutside}
 use Rattle.flat_store.proofs.Firsts.{outside_meant}
 use Rattle.flat_meaning.specs.Printing.{Read, reads, outside, too_long, behind, text_in, text_at}
 
@@ -99,6 +99,7 @@ module _ (bytes : List ℕ) (at : ℕ) where
     where
       first : IsFirstOutside bytes at (room + 1) e
       first = (outside_meant bytes at (room + 1) e).0 is
+
       by : (at < e) ⊎ (e ≤ at) → text_at bytes at room ≡ outside e
       by (inl below) =
           let here = (has 0 (omega arith)).0 in

@@ -1,9 +1,9 @@
 -- Threads that were made, begin and end.
-use Rattle.std.proofs.Common.{◌≡◌, ◌≢◌, ℕ, ◌<◌, ◌≤◌, true, false, cond, eqb, ltb, List, [], ◌∷◌, ◌++◌, length, map, get_or, Option, Some, None, refl, ap, sym, ◌∙◌, arith}
+use Rattle.std.proofs.Common.{◌≡◌, ◌≢◌, ℕ, ◌<◌, true, false, eqb, ltb, List, [], ◌∷◌, ◌++◌, length, map, get_or, Some, refl, ap, sym, ◌∙◌, arith}
 use Rattle.std.specs.Prelude.{slice_get, slice_set}
 use Rattle.std.proofs.lemmas.Bool.Decides.{nat_tests}
-use Rattle.std.proofs.lemmas.List.{map-set, map-append, length-map}
-use Rattle.std.proofs.lemmas.Option.{slice_get-map, slice_get-get_or, slice_get_read}
+use Rattle.std.proofs.lemmas.List.{map-set, length-map}
+use Rattle.std.proofs.lemmas.Option.{slice_get-map, slice_get_read}
 use Rattle.flat_store.specs.Flat.{HasBytes, first_outside, with_bytes}
 use Rattle.flat_store.specs.Word.{low_bytes}
 use Rattle.flat_store.proofs.Firsts.{none_outside}
@@ -11,8 +11,8 @@ use Rattle.defrag_move.specs.Arena.{Storage}
 use Rattle.flat_meaning.specs.declared.endings.TrapKind.TheVariants as kinds
 use Rattle.flat_meaning.specs.Accesses as actions
 use Rattle.flat_meaning.specs.Accesses.{within}
-use Rattle.flat_meaning.specs.Actions.{may_start, started, joined_if, joined_at, joined_with}
-use Rattle.flat_meaning.specs.Memory.{Made, Memory, beginning, ended_if, with_result, with_storage, with_thread, written}
+use Rattle.flat_meaning.specs.Actions.{may_start, started, joined_if, joined_at}
+use Rattle.flat_meaning.specs.Memory.{Made, Memory, beginning, ended_if, with_thread, written}
 use Rattle.flat_meaning.specs.Words.{Target}
 use Rattle.flat_machine.specs.declared.done.Done.{Done}
 use Rattle.flat_machine.specs.declared.done.Done.TheVariants as dones

@@ -1,5 +1,5 @@
 -- What a context waits for is what its stage waits for.
-use Rattle.std.proofs.Common.{◌≡◌, List, [], ◌∷◌, ℕ, true, false, Some, None, refl, map}
+use Rattle.std.proofs.Common.{◌≡◌, List, [], ◌∷◌, ℕ, false, Some, refl, map}
 use Rattle.struct_ir.specs.Nodes.{Action, load, store, copy_bytes, malloc, free, print, lock, unlock, destroy, start, join, set, call, step, look, safepoint, begin_object, end_object}
 use Rattle.struct_ir.specs.Flow.{Here, does, tests, passes, round, returns}
 use Rattle.struct_ir.specs.Linear.{Spot}

@@ -1,4 +1,4 @@
-use Rattle.std.proofs.Common.{◌≡◌, ◌∙◌, ◌^◌, ap, sym, arith, ℕ}
+use Rattle.std.proofs.Common.{◌∙◌, ◌^◌, ap, sym, arith, ℕ}
 use Rattle.std.specs.Prelude.{pos}
 use Rattle.ak_words.specs.Wrapped.{residue}
 use Rattle.flat_machine.proofs.Digits.{width_is, low_is, whole_is}

@@ -1,4 +1,4 @@
-use Rattle.std.proofs.Common.{◌≡◌, ◌∙◌, ap, false, arith}
+use Rattle.std.proofs.Common.{◌∙◌, ap, false, arith}
 use Rattle.std.proofs.Math.ListN.{drop_of_length-le}
 use Rattle.std.specs.Fmt.{digits_onto}
 use Rattle.core.proofs.fmt.DigitsParse.{digits_onto-nil}

@@ -1,5 +1,5 @@
-use Rattle.std.proofs.Common.{◌≡◌, ◌<◌, ap, ◌∙◌, length, map, sym, arith}
-use Rattle.flat_meaning.specs.Memory.{Memory, thread_ended}
+use Rattle.std.proofs.Common.{◌<◌, ap, ◌∙◌, length}
+use Rattle.flat_meaning.specs.Memory.{thread_ended}
 use Rattle.flat_machine.specs.Shares.{Shared}
 use Rattle.flat_machine.specs.inner.Dones.{with_memory}
 use Rattle.flat_machine.specs.contracts.shared.Shared.{the_view}

@@ -2,7 +2,7 @@ use Rattle.std.proofs.Common.{refl}
 use Rattle.flat_meaning.specs.Actions.{locked}
 use Rattle.flat_threads.specs.Targets.{target_view}
 use Rattle.flat_machine.specs.contracts.shared.Shared.{the_view}
-use Rattle.flat_machine.proofs.Doing.{does_same, does_wait}
+use Rattle.flat_machine.proofs.Doing.{does_wait}
 use Rattle.flat_machine.proofs.Mutexes.{locked_waits}
 use Rattle.flat_machine.proofs.shared.Shared.lock.Goals as goal
 

@@ -1,15 +1,14 @@
-use Rattle.std.proofs.Common.{◌≡◌, ◌∙◌, Some, inl, inr, ap, sym, subst, arith}
+use Rattle.std.proofs.Common.{◌≡◌, ◌∙◌, inl, inr, ap, sym, subst, arith}
 use Rattle.sub_heaps.specs.SubHeaps.{SubHeaps}
 use Rattle.flat_meaning.specs.Accesses.{Choice, wait, allocated}
 use Rattle.flat_threads.specs.declared.wait.Wait.TheVariants.{Room}
 use Rattle.flat_machine.specs.declared.done.Done.TheVariants as dones
-use Rattle.flat_machine.specs.declared.turned.Turned.TheVariants as code
 use Rattle.flat_machine.specs.Choices.{malloc_choice}
 use Rattle.flat_machine.specs.Turns.{malloc_turned}
 use Rattle.flat_machine.specs.inner.Dones.{Does, Went}
 use Rattle.flat_machine.specs.contracts.shared.Shared.{the_view}
 use Rattle.flat_machine.proofs.Doing.{does_same, with_arena}
-use Rattle.flat_machine.proofs.Mallocs.{AnswerIs, chosen, chosen_is, malloc_is, does_alloc, does_serve, went_alloc, went_serve}
+use Rattle.flat_machine.proofs.Mallocs.{AnswerIs, chosen, malloc_is, does_alloc, went_alloc}
 use Rattle.flat_machine.proofs.shared.Shared.malloc.Goals as goal
 use Rattle.flat_machine.proofs.shared.Shared.malloc.Goals.{in-Got, in-NoGap}
 

@@ -1,4 +1,4 @@
-use Rattle.std.proofs.Common.{◌≤◌, map, drop, length}
+use Rattle.std.proofs.Common.{map, drop}
 use Rattle.c_tree.specs.TypedViews.{piece_view}
 use Rattle.struct_ir.specs.Views.{place_view}
 use Rattle.flat_meaning.specs.Accesses.{output_room}

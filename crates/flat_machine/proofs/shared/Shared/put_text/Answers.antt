@@ -1,4 +1,4 @@
-use Rattle.std.proofs.Common.{◌≡◌, ◌∙◌, ◌-◌, ◌+◌, ◌++◌, [], ℕ, Some, refl, ap, sym, arith}
+use Rattle.std.proofs.Common.{◌≡◌, ◌∙◌, ◌-◌, ◌+◌, ◌++◌, [], Some, refl, ap, sym, arith}
 use Rattle.flat_store.specs.Flat.{IsTextLen, HasNoZero, bytes_from, first_outside}
 use Rattle.flat_meaning.specs.Accesses.{output_room}
 use Rattle.flat_meaning.specs.Printing.{reads, outside, too_long}

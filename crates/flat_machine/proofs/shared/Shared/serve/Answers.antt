@@ -1,7 +1,5 @@
-use Rattle.std.proofs.Common.{◌≡◌, ◌∙◌, Some, inl, inr, ap, sym, subst, arith}
-use Rattle.sub_heaps.specs.SubHeaps.{SubHeaps}
+use Rattle.std.proofs.Common.{◌≡◌, ◌∙◌, Some, inl, inr, sym, subst}
 use Rattle.flat_meaning.specs.Accesses.{Choice, null, allocated}
-use Rattle.flat_threads.specs.declared.wait.Wait.TheVariants.{Room}
 use Rattle.flat_machine.specs.declared.done.Done.TheVariants as dones
 use Rattle.flat_machine.specs.declared.turned.Turned.TheVariants as code
 use Rattle.flat_machine.specs.Choices.{served_choice}
@@ -9,7 +7,7 @@ use Rattle.flat_machine.specs.Turns.{malloc_turned}
 use Rattle.flat_machine.specs.inner.Dones.{Does, Went}
 use Rattle.flat_machine.specs.contracts.shared.Shared.{the_view}
 use Rattle.flat_machine.proofs.Doing.{does_same, with_arena}
-use Rattle.flat_machine.proofs.Mallocs.{AnswerIs, chosen, chosen_is, malloc_is, does_alloc, does_serve, went_alloc, went_serve}
+use Rattle.flat_machine.proofs.Mallocs.{AnswerIs, chosen, chosen_is, does_serve, went_serve}
 use Rattle.flat_machine.proofs.shared.Shared.serve.Goals as goal
 use Rattle.flat_machine.proofs.shared.Shared.serve.Goals.{in-Got, in-NoGap}
 

@@ -1,7 +1,7 @@
 use Rattle.std.proofs.Common.{◌≡◌, ◌∙◌, ◌++◌, ◌∷◌, [], ◌<◌, List, map, length, ap, sym, refl, arith}
 use Rattle.std.proofs.lemmas.List.{map-append, length-map}
 use Rattle.flat_meaning.specs.Actions.{started}
-use Rattle.flat_meaning.specs.Memory.{Made, beginning}
+use Rattle.flat_meaning.specs.Memory.{beginning}
 use Rattle.flat_threads.specs.Targets.{target_view}
 use Rattle.flat_machine.specs.declared.made.MadeThread.{MadeThread}
 use Rattle.flat_machine.specs.inner.Shares.{made_view}
