@@ -1,5 +1,5 @@
 -- A context begins, and is ready or not; what that says of its stage.
-use Rattle.std.specs.Prelude.{◌≡◌, ℕ, Bool, true, false, slice_get, Option, Some, None}
+use Rattle.std.specs.Prelude.{◌≡◌, Bool, true, false, slice_get, Option, Some, None}
 use Rattle.struct_ir.specs.Linear.{Spot}
 use Rattle.flat_meaning.specs.Image.{Image}
 use Rattle.flat_meaning.specs.Memory.{Made, Memory}

@@ -1,5 +1,5 @@
 -- What the code's answers of actions are.
-use Rattle.std.specs.Prelude.{◌≡◌, ℕ, Option, Some}
+use Rattle.std.specs.Prelude.{◌≡◌, Option, Some}
 use Rattle.flat_rules.specs.Machine as turns
 use Rattle.flat_meaning.specs.Memory.{Memory}
 use Rattle.flat_meaning.specs.Accesses as actions

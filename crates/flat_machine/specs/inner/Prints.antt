@@ -1,6 +1,5 @@
 -- What printing a part leaves.
 use Rattle.std.specs.Prelude.{◌≡◌, ℕ, List, ◌++◌, Result, Ok, Err}
-use Rattle.flat_meaning.specs.Memory.{Memory}
 use Rattle.flat_meaning.specs.Printing.{Read, reads, outside, too_long}
 use Rattle.flat_machine.specs.declared.printing.Fault.{Fault}
 use Rattle.flat_machine.specs.declared.printing.Fault.TheVariants as faults
