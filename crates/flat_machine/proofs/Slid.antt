@@ -1,13 +1,14 @@
 -- The pins of a barrier, the moves that slide, and what they leave.
 use Rattle.std.proofs.Common.{◌≡◌, ℕ, zero, suc, ◌+◌, ◌*◌, ◌<◌, ◌≤◌, ◌⊎◌, ◌↔◌, Bool, true, false, eqb, ◌||◌, List, [], ◌∷◌, ◌++◌, length, get_or, take, map, Option, Some, None, Contains, refl, sym, ap, ◌∙◌, subst, inl, inr, arith}
-use Rattle.std.specs.Prelude.{flat_map, count_by, nat_lt}
+use Rattle.std.specs.Prelude.{flat_map, sum_by, count_by, nat_lt}
 use Rattle.ak_trace.specs.declared.entry.Entry.{Entry}
 use Rattle.std.specs.FinSet as set
 use Rattle.std.specs.List.{list_any, range_with_len}
 use Rattle.std.specs.Ordering.{nat_cmp}
 use Rattle.std.proofs.lemmas.Bool.{eq-eqb, eqb-true}
 use Rattle.sub_heaps.specs.declared.objects.Object.{Object}
-use Rattle.sub_heaps.specs.SubHeaps.{SubHeaps, IsSound}
+use Rattle.sub_heaps.specs.SubHeaps.{SubHeaps, IsSound, extent_of}
+use Rattle.move_plan.specs.Stretches.{room_of}
 use Rattle.move_plan.specs.declared.moves.Move.{Move}
 use Rattle.move_plan.specs.Holding.{PinSet, is_pinned}
 use Rattle.move_plan.specs.Moving.{AreLegal, after_move, after_moves}
@@ -26,7 +27,7 @@ use Rattle.flat_rules.specs.Entries.{barrier_entry, served_entry}
 use Rattle.flat_machine.specs.Shares.{Shared, image_of}
 use Rattle.flat_machine.specs.Slides.{move_to, slide_moves}
 use Rattle.flat_meaning.specs.Memory.{with_storage}
-use Rattle.flat_machine.specs.Sweeping.{at_home, home_at, last_of, with_barrier, served_of, serves_from, swept_by, sweep_moves, waits_at_home}
+use Rattle.flat_machine.specs.Sweeping.{at_home, counted, home_at, last_of, with_barrier, served_of, serves_from, swept_by, sweep_moves, waits_at_home}
 use Rattle.flat_machine.specs.inner.Swept.{AreServed, handles_home, shared_slid}
 use Rattle.flat_threads.specs.Contexts.{Context}
 use Rattle.flat_machine.proofs.Homes.{handles_of_home, length-stages_home}
@@ -59,7 +60,7 @@ found (p ∷ ps) q is =
       | false ↦ λ e h. let w = found ps q h in (suc w.0, omega (arith, w.1), w.2)
     ] refl is
 
-one_bool : (a b : Bool) → (a ≡ true → b ≡ true) → (b ≡ true → a ≡ true) → a ≡ b
+pub one_bool : (a b : Bool) → (a ≡ true → b ≡ true) → (b ≡ true → a ≡ true) → a ≡ b
 one_bool true true f g = refl
 one_bool true false f g = sym (f refl)
 one_bool false true f g = g refl
@@ -73,7 +74,7 @@ pins_are pins empty places none members = λ i at. one_bool (is_pinned pins at) 
 
 -- ---- limits
 
-plan_keeps : (ms : List Move) (s : Storage) → ((after_plan ms s).heaps.count ≡ s.heaps.count) × ((after_plan ms s).heaps.size ≡ s.heaps.size) × ((after_plan ms s).heaps.most ≡ s.heaps.most)
+pub plan_keeps : (ms : List Move) (s : Storage) → ((after_plan ms s).heaps.count ≡ s.heaps.count) × ((after_plan ms s).heaps.size ≡ s.heaps.size) × ((after_plan ms s).heaps.most ≡ s.heaps.most)
 plan_keeps [] s = (refl, refl, refl)
 plan_keeps (m ∷ ms) s =
     let next = one_keeps (object_at m.from s.heaps.objects) m s in
@@ -128,6 +129,20 @@ module _ (code : LinearCode) (s : Shared) (home : List (Option Context)) (told :
 
 -- ---- the slide
 
+-- with these moves and pins
+abbrev pub slid_by : Shared → List Move → (ℕ → Bool) → Shared
+slid_by s moves pinned = record { memory = with_storage s.memory (after_plan moves s.memory.storage); output_limit = s.output_limit; made = s.made; barriers = with_barrier s.barriers moves (last_of pinned s.memory.storage.heaps moves) }
+
+pub parts_are : (s : Shared) (ms : List Move) (pinned : ℕ → Bool) (storage : Storage) (count objects bytes before after room : ℕ) → storage ≡ after_plan ms s.memory.storage → count ≡ counted (s.barriers.count + 1) → objects ≡ counted (s.barriers.objects + length ms) → bytes ≡ counted (s.barriers.bytes + sum_by (λ m. m.size) ms)
+    → before ≡ extent_of s.memory.storage.heaps → after ≡ extent_of (after_moves ms s.memory.storage.heaps) → room ≡ room_of pinned (after_moves ms s.memory.storage.heaps)
+    → record { memory = record { storage = storage; output = s.memory.output; threads = s.memory.threads }; output_limit = s.output_limit; made = s.made; barriers = record { count = count; objects = objects; bytes = bytes; last = Some (record { before = before; after = after; room = room }) } } ≡ slid_by s ms pinned
+parts_are s ms pinned storage count objects bytes before after room p0 p1 p2 p3 p4 p5 p6 = λ i. record {
+  memory = record { storage = p0 i; output = s.memory.output; threads = s.memory.threads };
+  output_limit = s.output_limit;
+  made = s.made;
+  barriers = record { count = p1 i; objects = p2 i; bytes = p3 i; last = Some (record { before = p4 i; after = p5 i; room = p6 i }) };
+}
+
 module _ (code : LinearCode) (s : Shared) (home : List (Option Context)) (pins empty : PinSet) (words : List ℕ) (ms : List Move) where
   abbrev storage : Storage
   storage = s.memory.storage
@@ -141,9 +156,10 @@ module _ (code : LinearCode) (s : Shared) (home : List (Option Context)) (pins e
     moves_is : ms ≡ sweep_moves (image_of code s) (at_home s home)
     moves_is = slide_is (is_pinned pins) storage.heaps ms sound slides ∙ ap (λ f. slide_moves f storage.heaps.size 0 storage.heaps.objects) pins_is
 
-    -- with these moves and pins
-    abbrev pub slid_by : List Move → (ℕ → Bool) → Shared
-    slid_by moves pinned = record { memory = with_storage s.memory (after_plan moves storage); output_limit = s.output_limit; made = s.made; barriers = with_barrier s.barriers moves (last_of pinned storage.heaps moves) }
+    pub slid_by_is : slid_by s ms (is_pinned pins) ≡ shared_slid code s home
+    slid_by_is = ap (λ ns. slid_by s ns (is_pinned pins)) moves_is ∙ ap (slid_by s (sweep_moves (image_of code s) (at_home s home))) pins_is
 
-    pub slid_by_is : slid_by ms (is_pinned pins) ≡ shared_slid code s home
-    slid_by_is = ap (λ ns. slid_by ns (is_pinned pins)) moves_is ∙ ap (slid_by (sweep_moves (image_of code s) (at_home s home))) pins_is
+pub few_taken : {A : Type 0} (n : ℕ) (xs : List A) → length (take n xs) ≤ n
+few_taken zero xs = omega arith
+few_taken (suc n) [] = omega arith
+few_taken (suc n) (x ∷ xs) = omega (arith, few_taken n xs)

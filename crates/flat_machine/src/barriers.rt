@@ -49,10 +49,14 @@ pub fn barrier(shared: &mut Shared, program: &Program, home: &mut [Option<Contex
 fn wants_room(home: &[Option<Context>]) -> bool
     ensures { result ≡ nat_lt 0 (count_by waits_at_home home.now) }
 {
-    home.iter().any(|place| match place {
-        Some(ctx) => ctx.wants_room(),
-        None => false,
-    })
+    for place in home {
+        if let Some(ctx) = place
+            && ctx.wants_room()
+        {
+            return true;
+        }
+    }
+    false
 }
 
 // Gathers the handles in listed slots, of all calls of the threads at home.
