@@ -4,3 +4,4 @@ pub mod Homes
 pub mod Serves
 pub mod Slid
 pub mod Waiting
+pub mod Opened
