@@ -9,3 +9,9 @@ pub mod Prints
 pub mod Digits
 pub mod Pieces
 pub mod Printed
+pub mod Written
+pub mod Homes
+pub mod Serves
+pub mod Slid
+pub mod Waiting
+pub mod Opened

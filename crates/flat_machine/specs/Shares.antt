@@ -8,7 +8,7 @@ use Rattle.flat_meaning.specs.Memory.{Made, Memory}
 use Rattle.flat_threads.specs.Contexts.{IsProgram}
 use Rattle.flat_machine.specs.declared.answers.LastBarrier.{LastBarrier}
 
--- what all barriers did: how many there were, the moves with their bytes, and the last one
+-- what all barriers did: how many there were, the moves with their bytes, each up to 2^64 - 1, and the last one
 pub record Barriers : Type 0 where
   pub count : ℕ
   pub objects : ℕ

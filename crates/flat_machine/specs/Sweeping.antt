@@ -1,5 +1,5 @@
 -- What barrier makes of what threads share, and of the contexts at home.
-use Rattle.std.specs.Prelude.{ℕ, suc, ◌+◌, Bool, true, false, nat_lt, List, [], ◌∷◌, ◌++◌, length, map, sum_by, count_by, Option, Some, None}
+use Rattle.std.specs.Prelude.{ℕ, ◌+◌, ◌-◌, ◌^◌, min, Bool, true, false, nat_lt, List, [], ◌∷◌, ◌++◌, length, map, sum_by, count_by, Option, Some, None}
 use Rattle.std.specs.List.{range_with_len}
 use Rattle.block_store.specs.Runs.{own_at}
 use Rattle.sub_heaps.specs.SubHeaps.{SubHeaps, extent_of}
@@ -63,14 +63,15 @@ sweep_moves x s = moves_of (pinned x s) s.memory.storage.heaps
 abbrev pub serve_of : Image Spot → State Spot → (thread : ℕ) → Stage Spot → Serve
 serve_of x s thread stage = let p = (thread_at x stage).top in record { thread = thread; choice = choice_here (served_choice s.memory.storage) p.own (x.flow.here p.at) }
 
--- of a thread, if it waits at one
+-- where a thread waits at one
+abbrev pub if_wants : Bool → Serve → List Serve
+if_wants true v = v ∷ []
+if_wants false v = []
+
+-- of a thread
 abbrev pub serves_if : Image Spot → State Spot → (thread : ℕ) → Option (Stage Spot) → List Serve
 serves_if x s thread None = []
 serves_if x s thread (Some stage) = if_wants (stages.wants_room x stage) (serve_of x s thread stage)
-  where
-    if_wants : Bool → Serve → List Serve
-    if_wants true v = v ∷ []
-    if_wants false v = []
 
 -- of these threads, one after the other
 abbrev pub serves_from : Image Spot → List ℕ → State Spot → List Serve
@@ -127,9 +128,13 @@ served_of v = record { thread = v.thread; object = object_got v.choice }
 abbrev pub last_of : ((at : ℕ) → Bool) → SubHeaps → List Move → LastBarrier
 last_of pinned h moves = record { before = extent_of h; after = extent_of (after_moves moves h); room = room_of pinned (after_moves moves h) }
 
+-- a count stays at the greatest number of 64 bits once it is there
+abbrev pub counted : ℕ → ℕ
+counted n = min n (2 ^ 64 - 1)
+
 -- one barrier more
 abbrev pub with_barrier : Barriers → List Move → LastBarrier → Barriers
-with_barrier w moves last = record { count = suc w.count; objects = w.objects + length moves; bytes = w.bytes + sum_by (λ m. m.size) moves; last = Some last }
+with_barrier w moves last = record { count = counted (w.count + 1); objects = counted (w.objects + length moves); bytes = counted (w.bytes + sum_by (λ m. m.size) moves); last = Some last }
 
 -- what threads share behind a barrier, with its entries, told with worker 0
 abbrev pub shared_swept : Image Spot → Shared → (for_room : Bool) → State Spot → Shared

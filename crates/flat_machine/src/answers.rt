@@ -18,8 +18,8 @@ pub struct Report {
     pub threads: u32,
     /// How many entries the journal has.
     pub entries: u32,
-    /// How many barriers there were.
-    pub barriers: u32,
+    /// How many barriers there were. This count and the two below stay at their greatest number once they are there.
+    pub barriers: u64,
     /// How many moves they made.
     pub moved_objects: u64,
     /// How many bytes those moved.

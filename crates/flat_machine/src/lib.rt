@@ -9,6 +9,7 @@ mod allocating;
 mod answers;
 mod barriers;
 mod done;
+mod flat;
 mod laws;
 mod loading;
 mod locking;

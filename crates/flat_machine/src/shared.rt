@@ -38,7 +38,7 @@ pub struct Shared {
     pub(crate) output_limit: u32,
     pub(crate) threads: Vec<MadeThread>,
     pub(crate) made: Vec<Entry>,
-    pub(crate) barriers: u32,
+    pub(crate) barriers: u64,
     pub(crate) moved_objects: u64,
     pub(crate) moved_bytes: u64,
     pub(crate) last: Option<LastBarrier>,
