@@ -6,7 +6,6 @@ mod Settings
 mod Linked
 mod ArrayFacts
 mod Ran
-mod Programs
 mod Pairs
 mod Instrs
 mod Calcs
