@@ -7,6 +7,7 @@ mod Linked
 mod ArrayFacts
 mod Ran
 mod Pairs
+pub mod Locals
 mod Instrs
 mod Calcs
 mod Addresses
