@@ -51,7 +51,8 @@ impl Calls {
         ensures pinned { into.new ≡ record into.old { words = into.old.words ++ flat_map (handles_here (own_image program.now).flow) self.now.callers } }
         ensures few { length into.new.words ≤ length into.old.words + self.now.top.own.below.slots }
     {
-        for call in self.callers.iter().rev() {
+        for at in (0..self.callers.len()).rev() {
+            let call = &self.callers[at];
             unite(&self.slots, call.slots, list_at(program, call), into);
         }
     }
