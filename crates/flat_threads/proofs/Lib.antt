@@ -21,3 +21,4 @@ pub mod Standing
 pub mod Turns
 pub mod GoesOn
 pub mod Listed
+pub mod Pinned
