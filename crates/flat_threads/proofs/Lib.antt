@@ -6,8 +6,8 @@ mod Settings
 mod Linked
 mod ArrayFacts
 mod Ran
-mod Programs
 mod Pairs
+pub mod Locals
 mod Instrs
 mod Calcs
 mod Addresses
@@ -21,3 +21,4 @@ pub mod Standing
 pub mod Turns
 pub mod GoesOn
 pub mod Listed
+pub mod Pinned

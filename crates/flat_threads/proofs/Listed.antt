@@ -1,5 +1,5 @@
 -- Listed slots of a call, in the array of its thread.
-use Rattle.std.proofs.Common.{◌≡◌, ℕ, zero, suc, ◌+◌, ◌<◌, ◌≤◌, ◌^◌, List, [], ◌∷◌, ◌++◌, length, map, take, drop, get_or, All, Bool, true, false, cond, refl, sym, subst, ap, ◌∙◌, arith, Some}
+use Rattle.std.proofs.Common.{◌≡◌, ℕ, suc, ◌+◌, ◌<◌, ◌≤◌, ◌^◌, List, [], ◌∷◌, ◌++◌, length, take, drop, get_or, All, Bool, true, false, cond, refl, sym, subst, ap, ◌∙◌, arith, Some}
 use Rattle.std.specs.Prelude.{nat_le, nat_lt, not, ◌&&◌, ◌==◌}
 use Rattle.std.specs.List.{filter, list_any, IsDistinct, AllByRecursion}
 use Rattle.std.proofs.lemmas.Bool.{and_parts, ltb-true, eqb-true, eq-eqb}
@@ -15,7 +15,7 @@ use Rattle.flat_meaning.specs.Allowed.{handles_in}
 use Rattle.flat_threads.specs.declared.call.Call.{Call}
 use Rattle.flat_threads.specs.Contexts.{IsListFor}
 use Rattle.flat_threads.specs.inner.Arrays.{thread_of, IsKept}
-use Rattle.std.proofs.Common.{Option, None}
+use Rattle.std.proofs.Common.{None}
 use Rattle.std.specs.Prelude.{slice_get, ◌||◌}
 use Rattle.std.specs.List.{list_all}
 use Rattle.std.proofs.lemmas.Option.{same_Some}

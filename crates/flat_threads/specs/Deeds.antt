@@ -1,7 +1,6 @@
 -- What a thread has behind its pending step, and what it reads for it.
-use Rattle.std.specs.Prelude.{◌≡◌, ℕ, ◌+◌, ◌<◌, ◌≤◌, List, [], All, length, slice_set, Option, Some, None}
+use Rattle.std.specs.Prelude.{ℕ, ◌+◌, ◌<◌, List, [], All, length, slice_set, Option, Some, None}
 use Rattle.std.specs.Option.{ForSome}
-use Rattle.handle_table.specs.declared.frame.PinSlot.{PinSlot}
 use Rattle.struct_ir.specs.Nodes.{Place, Step, own_list}
 use Rattle.struct_ir.specs.Linear.{Spot}
 use Rattle.struct_ir.specs.Machine.{Point}

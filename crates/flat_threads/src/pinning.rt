@@ -3,7 +3,7 @@
 ghost use Rattle.std.specs.Prelude.{◌≡◌, ◌+◌, ◌≤◌, ◌++◌, Some, flat_map, length};
 ghost use Rattle.flat_meaning.specs.Allowed.{handles_here, handles_if, handles_in};
 ghost use Rattle.flat_threads.specs.Belonging.{IsContextOf};
-ghost use Rattle.flat_threads.specs.Contexts.{IsListFor, IsThreadOf, own_image};
+ghost use Rattle.flat_threads.specs.Contexts.{IsListFor, IsProgram, IsThreadOf, own_image};
 ghost use Rattle.flat_threads.specs.inner.Parts.{IsAt, listed_at};
 
 use crate::call::{Call, Phase};
@@ -46,12 +46,14 @@ impl Calls {
 
     // Appends the handles in the slots that are listed where the calls stand that wait, the last one first.
     fn pin_callers(&self, program: &Program, into: &mut PinWords)
+        requires program { IsProgram program.now }
         requires of { IsThreadOf program.now self.now }
         requires room { length into.old.words + self.now.top.own.below.slots ≤ into.old.room }
         ensures pinned { into.new ≡ record into.old { words = into.old.words ++ flat_map (handles_here (own_image program.now).flow) self.now.callers } }
         ensures few { length into.new.words ≤ length into.old.words + self.now.top.own.below.slots }
     {
-        for call in self.callers.iter().rev() {
+        for at in (0..self.callers.len()).rev() {
+            let call = &self.callers[at];
             unite(&self.slots, call.slots, list_at(program, call), into);
         }
     }

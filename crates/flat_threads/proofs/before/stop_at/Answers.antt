@@ -1,8 +1,6 @@
-use Rattle.std.proofs.Common.{◌≡◌, ap, ◌∙◌, sym, subst, Option, Some}
+use Rattle.std.proofs.Common.{◌≡◌, ap, ◌∙◌, sym, Some}
 use Rattle.std.specs.Prelude.{slice_get}
-use Rattle.struct_ir.specs.Linear.{Spot}
 use Rattle.struct_ir.specs.Instrs.{LinearFunc}
-use Rattle.flat_meaning.specs.Stages.{Stage, starts}
 use Rattle.flat_meaning.specs.Local.{no_room_if}
 use Rattle.flat_threads.specs.Contexts.{Context}
 use Rattle.flat_threads.specs.declared.call.Phase.{Phase}

@@ -1,4 +1,4 @@
-use Rattle.std.proofs.Common.{◌≡◌, ◌++◌, List, ℕ, ap, ◌∙◌, length, arith}
+use Rattle.std.proofs.Common.{List, ℕ, ap, ◌∙◌, length, arith}
 use Rattle.std.proofs.lemmas.List.{length-append}
 use Rattle.handle_table.specs.Words.{WordList}
 use Rattle.handle_table.specs.Frame.{listed_handles}
