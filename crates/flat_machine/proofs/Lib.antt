@@ -1,0 +1,11 @@
+pub mod Choices
+pub mod Waits
+pub mod Doing
+pub mod Mutexes
+pub mod Mallocs
+pub mod Threads
+pub mod Texts
+pub mod Prints
+pub mod Digits
+pub mod Pieces
+pub mod Printed
