@@ -1,19 +1,21 @@
 //! What a thread stands before, and whether there is room for a call.
 
-ghost use Rattle.std.specs.Prelude.{◌≡◌, ◌≤◌, ◌↔◌, ℕ, IsTrue, Some, slice_get};
-ghost use Rattle.struct_ir.specs.Instrs.{LinearFunc, LinearCode};
+ghost use Rattle.std.specs.Prelude.{◌≡◌, ◌+◌, ◌-◌, ◌^◌, ◌<◌, ℕ, Some, nat_le, slice_get};
+ghost use Rattle.struct_ir.specs.Instrs.{LinearFunc};
 ghost use Rattle.struct_ir.specs.Linear.{Spot};
 ghost use Rattle.flat_meaning.specs.Local as alone;
 ghost use Rattle.flat_meaning.specs.Stages as stages;
 ghost use Rattle.flat_meaning.specs.Stages.{Stage, room_for};
-ghost use Rattle.flat_threads.specs.Contexts.{IsStageIf, IsThreadOf, layout_of, own_image};
+ghost use Rattle.flat_threads.specs.Contexts.{IsProgram, IsStageIf, IsThreadOf, layout_of, own_image};
+ghost use Rattle.flat_meaning.specs.Words.{none_used};
 ghost use Rattle.flat_threads.specs.inner.Flat.{IsFlatFunc};
+ghost use Rattle.flat_threads.specs.inner.Parts.{fits_above};
 ghost use Rattle.flat_threads.specs.inner.Steps.{told_before};
 
 use crate::call::Phase;
 use crate::calls::{Calls, FRAMES, REGISTERS, SLOTS, STACK};
 use crate::context::Context;
-use crate::flat::{Flat, FlatFunc};
+use crate::flat::FlatFunc;
 use crate::program::Program;
 use flat_meaning::Stop;
 use struct_ir::InstrKind;
@@ -36,17 +38,28 @@ pub(crate) enum Before {
 /// What a thread stands before.
 pub(crate) fn stands_before(program: &Program, calls: &Calls) -> Before
     requires { IsThreadOf program.now calls.now }
-    ensures { result ≡ told_before (stages.before (own_image program.now) calls.now) }
+    ensures before { result ≡ told_before (stages.before (own_image program.now) calls.now) }
+    ensures small { calls.now.top.at.index + 1 < 2 ^ 32 }
+    ensures program { IsProgram program.now }
 {
-    let func = &program.funcs[calls.top.function as usize];
-    match func.instrs[calls.top.index as usize] {
-        Flat::Safe => Before::Safe,
-        Flat::Stop => Before::Shared,
-        Flat::Enter => Before::Calls,
-        Flat::Round(_) => Before::TurnOver,
-        Flat::Leave if calls.callers.is_empty() => Before::Shared,
-        Flat::Leave => Before::TurnOver,
-        _ => Before::Nothing,
+    match calls.instr(program).kind {
+        InstrKind::Safe(_) => Before::Safe,
+        InstrKind::Look(_, _) | InstrKind::Step(_) => Before::Shared,
+        InstrKind::Enter(_) => Before::Calls,
+        InstrKind::Round(_) => Before::TurnOver,
+        InstrKind::Leave(_) => before_return(calls),
+        InstrKind::Set(_, _) | InstrKind::Unless(_, _) | InstrKind::Jump(_) => Before::Nothing,
+    }
+}
+
+// A return is shared where no call waits.
+fn before_return(calls: &Calls) -> Before
+    ensures { result ≡ told_before (stages.before_return calls.now.callers) }
+{
+    if calls.callers.is_empty() {
+        Before::Shared
+    } else {
+        Before::TurnOver
     }
 }
 
@@ -55,13 +68,26 @@ pub(crate) fn stop_at(program: &Program, ctx: &Context, most: u32, turns: u32) -
     requires { IsStageIf program.now ctx.now.stage }
     ensures { (stage : Stage Spot) → ctx.now.stage ≡ Some stage → result ≡ alone.stop_at (own_image program.now) most turns stage }
 {
-    if let Phase::Starts(function, _) = ctx.phase {
-        return no_room_unless(is_small(&program.funcs[function as usize]));
+    match ctx.phase {
+        Phase::Away => None,
+        Phase::Starts(function, _) => {
+            no_room_unless(is_small(&program.funcs[function as usize]))
+        }
+        Phase::Going | Phase::Waiting | Phase::Landed => {
+            stop_before(program, &ctx.calls, most, turns)
+        }
     }
-    match stands_before(program, &ctx.calls) {
+}
+
+// The same, of a thread that is somewhere.
+fn stop_before(program: &Program, calls: &Calls, most: u32, turns: u32) -> Option<Stop>
+    requires { IsThreadOf program.now calls.now }
+    ensures { result ≡ alone.stop_before (own_image program.now) most turns calls.now (stages.before (own_image program.now) calls.now) }
+{
+    match stands_before(program, calls) {
         Before::Safe if most <= turns => Some(Stop::Spent),
         Before::Shared => Some(Stop::AtStep),
-        Before::Calls => no_room_unless(may_enter(program, &ctx.calls)),
+        Before::Calls => no_room_unless(may_enter(program, calls)),
         _ => None,
     }
 }
@@ -72,32 +98,54 @@ fn no_room_unless(room: bool) -> Option<Stop>
     if room { None } else { Some(Stop::NoRoom) }
 }
 
-// There is room for the call before which a thread stands.
-fn may_enter(program: &Program, calls: &Calls) -> bool
+/// Whether there is room for the call before which a thread stands.
+pub(crate) fn may_enter(program: &Program, calls: &Calls) -> bool
     requires { IsThreadOf program.now calls.now }
     ensures { (function : ℕ) → stages.before (own_image program.now) calls.now ≡ stages.calls function → result ≡ room_for (own_image program.now) calls.now function }
 {
-    let func = &program.code.funcs[calls.top.function as usize];
-    match &func.instrs[calls.top.index as usize].kind {
-        InstrKind::Enter(node) => has_room(calls, &program.funcs[node.function as usize]),
+    match &calls.instr(program).kind {
+        InstrKind::Enter(node) => has_room(program, calls, &program.funcs[node.function as usize]),
         _ => false,
     }
 }
 
 // A thread has room for a call of the function, if it has no other.
 fn is_small(func: &FlatFunc) -> bool
-    ensures { IsTrue result ↔ ((func.now.temps ≤ 4096) × (func.now.slots ≤ 1024) × (func.now.stack ≤ 65536)) }
+    ensures { result ≡ fits_above none_used func.now }
 {
-    func.temps <= REGISTERS && func.slots <= SLOTS && func.stack <= STACK
+    fits(0, 0, 0, 0, func)
 }
 
-/// Whether a thread has room for a call of the function above what it has.
-pub(crate) fn has_room(calls: &Calls, func: &FlatFunc) -> bool
-    ensures { (code : LinearCode) (function : ℕ) (f : LinearFunc) → slice_get code.funcs function ≡ Some f → IsFlatFunc (layout_of code) f func.now → IsThreadOf code calls.now → result ≡ room_for (own_image code) calls.now function }
+// A thread has room for a call of the function above what it has.
+fn has_room(program: &Program, calls: &Calls, func: &FlatFunc) -> bool
+    requires { IsThreadOf program.now calls.now }
+    ensures { (function : ℕ) (f : LinearFunc) → slice_get program.now.funcs function ≡ Some f → IsFlatFunc (layout_of program.now) f func.now → result ≡ room_for (own_image program.now) calls.now function }
 {
     let top = &calls.top;
-    func.temps <= REGISTERS - (top.registers + top.own_registers)
-        && func.slots <= SLOTS - (top.slots + top.own_slots)
-        && calls.callers.len() as u32 + 2 <= FRAMES
-        && func.stack <= STACK - (top.stack + top.own_stack)
+    let stack = program.funcs[top.function as usize].stack;
+    fits(
+        top.registers + top.own_registers,
+        top.slots + top.own_slots,
+        calls.callers.len() as u32 + 1,
+        top.stack + stack,
+        func,
+    )
+}
+
+// There is room for a call of the function where so much is in use.
+fn fits(registers: u32, slots: u32, frames: u32, stack: u32, func: &FlatFunc) -> bool
+    requires { frames < 2 ^ 32 - 1 }
+    ensures { result ≡ fits_above (record { registers = registers; slots = slots; frames = frames; stack = stack }) func.now }
+{
+    let registers = is_within(registers, func.temps, REGISTERS);
+    let slots = is_within(slots, func.slots, SLOTS);
+    let frames = frames + 1 <= FRAMES;
+    let stack = is_within(stack, func.stack, STACK);
+    (registers && slots) && (frames && stack)
+}
+
+fn is_within(used: u32, more: u32, most: u32) -> bool
+    ensures { result ≡ nat_le (used + more) most }
+{
+    u64::from(used) + u64::from(more) <= u64::from(most)
 }

@@ -1,4 +1,4 @@
-ghost use Rattle.std.specs.Prelude.{◌≡◌, ◌≤◌, ◌<◌, ◌↔◌, length, slice_get, Some, None, IsTrue, IfOk};
+ghost use Rattle.std.specs.Prelude.{◌≡◌, ◌+◌, ◌^◌, ◌≤◌, ◌<◌, ◌↔◌, length, slice_get, vec_capacity, Some, None, IsTrue, IfOk};
 ghost use Rattle.std.specs.Option.{ForSome};
 ghost use Rattle.struct_ir.specs.Instrs.{instrs_of};
 ghost use Rattle.struct_ir.specs.InstrViews.{instr_view};
@@ -6,7 +6,7 @@ ghost use Rattle.struct_ir.specs.Views.{place_view, step_view};
 ghost use Rattle.flat_meaning.specs.Machine.{given};
 ghost use Rattle.flat_meaning.specs.Stages.{starts};
 ghost use Rattle.flat_meaning.specs.Words.{target_of, word_at};
-ghost use Rattle.flat_threads.specs.Contexts.{IsInCall, IsStageIf, blank_context, standing, with_stop};
+ghost use Rattle.flat_threads.specs.Contexts.{IsInCall, IsListFor, IsStageIf, blank_context, standing, with_stop};
 ghost use Rattle.flat_threads.specs.Deeds.{IsPlaceOf, landed_stage, looked_stage, top_of, waiting_stage};
 ghost use Rattle.flat_threads.specs.Targets.{target_view};
 
@@ -117,9 +117,10 @@ impl Context {
     pub fn instr<'a>(&self, program: &'a Program) -> &'a Instr
         requires call { IsInCall self.now.stage }
         requires of { IsStageIf program.now self.now.stage }
-        ensures { slice_get (instrs_of program.now.funcs (top_of self.now).at.function) (top_of self.now).at.index ≡ Some (instr_view result.now) }
+        ensures is { slice_get (instrs_of program.now.funcs (top_of self.now).at.function) (top_of self.now).at.index ≡ Some (instr_view result.now) }
+        ensures small { (top_of self.now).at.index + 1 < 2 ^ 32 }
     {
-        &program.code.funcs[self.calls.top.function as usize].instrs[self.calls.top.index as usize]
+        self.calls.instr(program)
     }
 
     /// The word in a register of the call under way.
@@ -153,10 +154,11 @@ impl Context {
     pub fn look(&mut self, slot: u32, word: u64, address: u64)
         requires call { IsInCall self.old.stage }
         requires slot { slot < length (top_of self.old).own.slots }
+        requires index { (top_of self.old).at.index + 1 < 2 ^ 32 }
         ensures { self.new ≡ standing self.old (looked_stage self.old.stage slot word address) None }
     {
         self.calls.set_slot(slot, word, address);
-        self.calls.top.index += 1;
+        self.calls.go_on();
         self.phase = Phase::Going;
         self.wait = None;
     }
@@ -165,26 +167,18 @@ impl Context {
     pub fn land(&mut self, node: &StepNode, word: Option<u64>)
         requires call { IsInCall self.old.stage }
         requires to { ForSome node.now.to (λ r. r < length (top_of self.old).own.temps) }
-        requires room { length node.now.slots.items ≤ 1024 }
+        requires list { IsListFor (top_of self.old).own node.now.slots.items }
+        requires index { (top_of self.old).at.index + 1 < 2 ^ 32 }
         ensures { self.new ≡ standing self.old (landed_stage (step_view node.now) self.old.stage word) None }
     {
-        if let Some(word) = word {
-            self.calls.put(node.to, word);
-        }
-        self.calls.top.index += 1;
+        self.calls.keeps_slots();
+        self.calls.put_given(node.to, word);
+        self.calls.go_on();
         self.wait = None;
         self.phase = Phase::Going;
         if node.action.may_wait() {
             self.phase = Phase::Landed;
-            self.keep_list(node.slots.as_slice());
-        }
-    }
-
-    // Keeps the list of the step behind which the thread has landed.
-    fn keep_list(&mut self, slots: &[u32]) {
-        self.list.clear();
-        for slot in slots {
-            self.list.push_reserved(*slot);
+            keep_list(&mut self.list, node.slots.as_slice());
         }
     }
 
@@ -203,5 +197,17 @@ impl Context {
     {
         self.phase = Phase::Away;
         self.wait = None;
+    }
+}
+
+// Keeps the list of a step.
+fn keep_list(list: &mut Vec<u32>, slots: &[u32])
+    requires { length slots.now ≤ vec_capacity list.old }
+    ensures items { list.new.items ≡ slots.now }
+    ensures capacity { vec_capacity list.new ≡ vec_capacity list.old }
+{
+    list.clear();
+    for slot in slots {
+        list.push_reserved(*slot);
     }
 }

@@ -4,6 +4,7 @@ ghost use Rattle.std.specs.Prelude.{◌≡◌, ◌+◌, ◌≤◌, ◌++◌, tru
 ghost use Rattle.flat_meaning.specs.Allowed.{handles_if};
 ghost use Rattle.flat_threads.specs.Belonging.{IsContextOf};
 ghost use Rattle.flat_threads.specs.Contexts.{own_image};
+ghost use Rattle.flat_threads.specs.inner.Parts.{IsAt, listed_at};
 
 use crate::call::{Call, Phase};
 use crate::context::Context;
@@ -27,18 +28,20 @@ impl Context {
                 unite(&self.calls.slots, self.calls.top.slots, list, into);
             }
         }
-        for call in &self.calls.callers {
+        for call in self.calls.callers.iter().rev() {
             unite(&self.calls.slots, call.slots, list_at(program, call), into);
         }
     }
 }
 
 // The slots that are listed where a call stands.
-fn list_at<'a>(program: &'a Program, call: &Call) -> &'a [u32] {
-    let func = &program.code.funcs[call.function as usize];
-    match &func.instrs[call.index as usize].kind {
+fn list_at<'a>(program: &'a Program, call: &Call) -> &'a [u32]
+    requires { IsAt program.now (record { function = call.now.function; index = call.now.index }) }
+    ensures { result.now ≡ listed_at ((own_image program.now).flow.here (record { function = call.now.function; index = call.now.index })) }
+{
+    match &call.instr(program).kind {
         InstrKind::Safe(slots) => slots,
-        InstrKind::Enter(node) => node.slots.as_slice(),
+        InstrKind::Enter(node) => &node.slots,
         InstrKind::Step(node) if node.action.may_wait() => node.slots.as_slice(),
         _ => &[],
     }
