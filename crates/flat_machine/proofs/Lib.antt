@@ -9,3 +9,4 @@ pub mod Prints
 pub mod Digits
 pub mod Pieces
 pub mod Printed
+pub mod Steps

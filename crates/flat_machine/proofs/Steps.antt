@@ -1,0 +1,301 @@
+-- The step, the Look or the return before which a thread stands, from what stands there.
+use Rattle.std.proofs.Common.{◌≡◌, ℕ, zero, suc, ◌+◌, ◌<◌, ◌≤◌, Bool, true, false, ◌&&◌, List, [], ◌∷◌, length, map, All, get_or, Option, Some, None, refl, ap, sym, ◌∙◌, subst, arith}
+use Rattle.std.specs.Prelude.{slice_get, slice_set, nat_lt}
+use Rattle.std.proofs.lemmas.Option.{slice_get_within, slice_get-get_or, get_or_from_slice_get}
+use Rattle.std.proofs.lemmas.List.{get_or-set_same, length-set}
+use Rattle.handle_table.specs.Table.{translated}
+use Rattle.struct_ir.specs.Nodes.{Action, Place, load, store, copy_bytes, malloc, free, print, lock, unlock, destroy, start, join, Step, set, call, step, look, safepoint, begin_object, end_object, own_list}
+use Rattle.struct_ir.specs.Flow.{Here, does, tests, passes, round, returns}
+use Rattle.struct_ir.specs.Linear.{Spot}
+use Rattle.struct_ir.specs.Threads.{Thread, Outcome, served}
+use Rattle.flat_meaning.specs.declared.endings.Stop.{Stop}
+use Rattle.flat_meaning.specs.declared.endings.Stop.TheVariants.{AtStep, Spent, NoRoom}
+use Rattle.flat_meaning.specs.Accesses as actions
+use Rattle.flat_meaning.specs.Accesses.{Choice}
+use Rattle.flat_meaning.specs.Actions.{acted}
+use Rattle.flat_meaning.specs.Effects as effects
+use Rattle.flat_meaning.specs.Effects.{Effect, landing}
+use Rattle.flat_meaning.specs.Image.{Image}
+use Rattle.flat_meaning.specs.Machine.{given, looked, served_by}
+use Rattle.flat_meaning.specs.Memory.{Made, Memory, beginning, ended_if, thread_ended, with_result}
+use Rattle.flat_meaning.specs.Stages.{Stage, starts, going, waiting, landed, thread_at}
+use Rattle.flat_meaning.specs.Words.{Words, target_of, word_at}
+use Rattle.flat_threads.specs.declared.wait.Wait.{Wait}
+use Rattle.flat_threads.specs.declared.wait.Wait.TheVariants as waits
+use Rattle.flat_threads.specs.Contexts.{Context, IsInCall, standing}
+use Rattle.flat_threads.specs.Deeds.{landed_stage, looked_stage, looked_thread, stepped, waiting_stage}
+use Rattle.flat_threads.specs.Waits.{action_waits, waits_at}
+use Rattle.flat_rules.specs.Machine as turns
+use Rattle.flat_machine.specs.declared.done.Done.{Done}
+use Rattle.flat_machine.specs.declared.done.Done.TheVariants as dones
+use Rattle.flat_machine.specs.declared.turned.Turned.{Turned}
+use Rattle.flat_machine.specs.Acting.{effect_if}
+use Rattle.flat_machine.specs.Choices.{action_choice, malloc_choice}
+use Rattle.flat_machine.specs.Shares.{Shared}
+use Rattle.flat_machine.specs.Turns.{done_turned, blocked_turned, outcome_turned, turned_of, value_of, value_if}
+use Rattle.flat_machine.specs.inner.Acted.{IsSettled, settled_stage, settled_turned, settled_wait, wait_turned}
+use Rattle.flat_machine.specs.inner.Dones.{Does, WaitsFor, Went, done_view, memory_after, with_memory}
+use Rattle.flat_machine.specs.inner.Turneds.{turned_view}
+
+-- ---- a step that couldn't be done
+
+-- where nothing that a malloc gives is `waits` but a choice to wait
+malloc_waits : (choice : Choice) (size : ℕ) (m : Memory) → actions.allocated choice size m ≡ actions.waits → turns.wants_room ≡ blocked_turned choice
+malloc_waits actions.plain size m e = absurd cc
+malloc_waits (actions.got id place) size m e = absurd cc
+malloc_waits actions.null size m e = absurd cc
+malloc_waits actions.wait size m e = refl
+
+module _ (x : Image Spot) (n : ℕ) (rule : (size : ℕ) → Choice) (l : Words) (m : Memory) (for : Wait) where
+  lock_blocked : (places : List Place) (temps : List ℕ) → action_waits lock (map (target_of l) places) (map (word_at l) temps) ≡ Some for → wait_turned for ≡ turns.found_busy
+  lock_blocked [] temps e = absurd cc
+  lock_blocked (a ∷ []) [] e = let is : waits.Mutex (target_of l a).address ≡ for = cc in ap wait_turned (sym is)
+  lock_blocked (a ∷ []) (t ∷ temps) e = absurd cc
+  lock_blocked (a ∷ b ∷ places) temps e = absurd cc
+
+  join_blocked : (places : List Place) (temps : List ℕ) → action_waits join (map (target_of l) places) (map (word_at l) temps) ≡ Some for → wait_turned for ≡ turns.found_busy
+  join_blocked [] temps e = absurd cc
+  join_blocked (a ∷ []) [] e = absurd cc
+  join_blocked (a ∷ []) (t ∷ []) e = let is : waits.Thread (word_at l t) ≡ for = cc in ap wait_turned (sym is)
+  join_blocked (a ∷ []) (t ∷ u ∷ temps) e = absurd cc
+  join_blocked (a ∷ b ∷ places) temps e = absurd cc
+
+  malloc_blocked : (places : List Place) (temps : List ℕ)
+      → acted x.layout n (action_choice rule l malloc temps) malloc (map (target_of l) places) (map (word_at l) temps) m ≡ actions.waits → Some waits.Room ≡ Some for
+      → wait_turned for ≡ blocked_turned (action_choice rule l malloc temps)
+  malloc_blocked (a ∷ places) temps e f = absurd cc
+  malloc_blocked [] [] e f = absurd cc
+  malloc_blocked [] (t ∷ u ∷ temps) e f = absurd cc
+  malloc_blocked [] (t ∷ []) e f = let is : waits.Room ≡ for = cc in ap wait_turned (sym is) ∙ malloc_waits (rule (word_at l t)) (word_at l t) m e
+
+  -- it is told so
+  pub blocked_is : (a : Action) (places : List Place) (temps : List ℕ)
+      → acted x.layout n (action_choice rule l a temps) a (map (target_of l) places) (map (word_at l) temps) m ≡ actions.waits → action_waits a (map (target_of l) places) (map (word_at l) temps) ≡ Some for
+      → wait_turned for ≡ blocked_turned (action_choice rule l a temps)
+  blocked_is (load how) places temps e f = absurd cc
+  blocked_is (store how) places temps e f = absurd cc
+  blocked_is (copy_bytes align same) places temps e f = absurd cc
+  blocked_is malloc places temps e f = malloc_blocked places temps e f
+  blocked_is free places temps e f = absurd cc
+  blocked_is (print pieces) places temps e f = absurd cc
+  blocked_is lock places temps e f = lock_blocked places temps f
+  blocked_is unlock places temps e f = absurd cc
+  blocked_is destroy places temps e f = absurd cc
+  blocked_is (start function) places temps e f = absurd cc
+  blocked_is join places temps e f = join_blocked places temps f
+
+-- ---- what comes of it
+
+-- the parts of what a step leaves that depend on how the program is loaded
+pub record Comes (x own : Image Spot) (old new : Shared) (c behind : Context) (turned : turns.Turned) : Type 0 where
+  pub shared : new ≡ with_memory old (effect_if x c.number old.memory c.stage (Some AtStep)).memory
+  pub context : behind ≡ standing c behind.stage (waits_at own behind.stage)
+  pub stage : behind.stage ≡ (effect_if x c.number old.memory c.stage (Some AtStep)).stage
+  pub turned_ : turned ≡ turned_of x c.number old.memory c.stage (Some AtStep)
+
+-- from the context's parts
+comes : (x own : Image Spot) (old new : Shared) (c behind : Context) (turned : turns.Turned) (at behind_at : Option (Stage Spot)) (wait : Option Wait) → c.stage ≡ at → behind ≡ standing c behind_at wait
+    → new ≡ with_memory old (effect_if x c.number old.memory at (Some AtStep)).memory → wait ≡ waits_at own behind_at → behind_at ≡ (effect_if x c.number old.memory at (Some AtStep)).stage → turned ≡ turned_of x c.number old.memory at (Some AtStep)
+    → Comes x own old new c behind turned
+comes x own old new c behind turned at behind_at wait at_is behind_is shared wait_is stage_is turned_is =
+    let b : behind.stage ≡ behind_at = ap (λ (b : Context). b.stage) behind_is in
+    record {
+      shared = rw at_is shared;
+      context = rw b (behind_is ∙ ap (standing c behind_at) wait_is);
+      stage = rw at_is (b ∙ stage_is);
+      turned_ = rw at_is turned_is;
+    }
+
+-- ---- a step
+
+abbrev spot_behind : Spot → Spot
+spot_behind p = record { function = p.function; index = p.index + 1 }
+
+module _ (x : Image Spot) (n : ℕ) (m : Memory) (place : ℕ) (s : Step) where
+  abbrev choice_at : Words → Choice
+  choice_at l = action_choice (malloc_choice m.storage) l s.action s.temps
+
+  abbrev done_at : Words → actions.Done
+  done_at l = acted x.layout n (choice_at l) s.action (map (target_of l) s.places) (map (word_at l) s.temps) m
+
+  abbrev outcome_at : Thread Spot Words → actions.Done → Outcome Spot Words actions.Fault Memory
+  outcome_at t d = served x.flow t (served_by t.top.own s.to d)
+
+  step_effect_is : (stage : Stage Spot) → IsInCall (Some stage) → x.flow.here (thread_at x stage).top.at ≡ does place (step s)
+      → effect_if x n m (Some stage) (Some AtStep) ≡ effects.acted n stage (thread_at x stage) (own_list s) m (outcome_at (thread_at x stage) (done_at (thread_at x stage).top.own))
+  step_effect_is (starts function argument) call h = absurd call
+  step_effect_is (going t) call h = rw h refl
+  step_effect_is (waiting t) call h = rw h refl
+  step_effect_is (landed list t) call h = rw h refl
+
+  step_turned_is : (stage : Stage Spot) → IsInCall (Some stage) → x.flow.here (thread_at x stage).top.at ≡ does place (step s)
+      → turned_of x n m (Some stage) (Some AtStep) ≡ outcome_turned x n m (choice_at (thread_at x stage).top.own) (does place (step s)) (outcome_at (thread_at x stage) (done_at (thread_at x stage).top.own))
+  step_turned_is (starts function argument) call h = absurd call
+  step_turned_is (going t) call h = rw h refl
+  step_turned_is (waiting t) call h = rw h refl
+  step_turned_is (landed list t) call h = rw h refl
+
+  landed_is : (stage : Stage Spot) → IsInCall (Some stage) → (word : Option ℕ) → landed_stage s (Some stage) word ≡ Some (stepped s (thread_at x stage) word)
+  landed_is (starts function argument) call word = absurd call
+  landed_is (going t) call word = refl
+  landed_is (waiting t) call word = refl
+  landed_is (landed list t) call word = refl
+
+  waiting_is : (stage : Stage Spot) → IsInCall (Some stage) → waiting_stage (Some stage) ≡ Some (waiting (thread_at x stage))
+  waiting_is (starts function argument) call = absurd call
+  waiting_is (going t) call = refl
+  waiting_is (waiting t) call = refl
+  waiting_is (landed list t) call = refl
+
+  stage_is : (stage : Stage Spot) → IsInCall (Some stage) → (t : Thread Spot Words) → t ≡ thread_at x stage → x.flow.next t.top.at true ≡ spot_behind t.top.at → (after : Memory) (r : Done)
+      → settled_stage s (Some stage) r ≡ (effects.acted n stage t (own_list s) m (outcome_at t (done_view after r))).stage
+  stage_is stage call t t_is next after (dones.Went None turned) = landed_is stage call None ∙ rw (← t_is, next) refl
+  stage_is stage call t t_is next after (dones.Went (Some word) turned) = landed_is stage call (Some word) ∙ rw (← t_is, next) refl
+  stage_is stage call t t_is next after (dones.Waits for) = waiting_is stage call ∙ rw (← t_is) refl
+  stage_is stage call t t_is next after (dones.Trap word kind) = refl
+  stage_is stage call t t_is next after dones.Full = refl
+
+  memory_is : (stage : Stage Spot) (t : Thread Spot Words) (after : Memory) (r : Done) → memory_after m (done_view after r) ≡ (effects.acted n stage t (own_list s) m (outcome_at t (done_view after r))).memory
+  memory_is stage t after (dones.Went None turned) = refl
+  memory_is stage t after (dones.Went (Some word) turned) = refl
+  memory_is stage t after (dones.Waits for) = refl
+  memory_is stage t after (dones.Trap word kind) = refl
+  memory_is stage t after dones.Full = refl
+
+  turned_is : (t : Thread Spot Words) (after : Memory) (r : Done) → done_view after r ≡ done_at t.top.own → Went r (done_turned x m (choice_at t.top.own) s.action)
+      → WaitsFor r (action_waits s.action (map (target_of t.top.own) s.places) (map (word_at t.top.own) s.temps))
+      → settled_turned r ≡ outcome_turned x n m (choice_at t.top.own) (does place (step s)) (outcome_at t (done_view after r))
+  turned_is t after (dones.Went None turned) e told waits_for = told
+  turned_is t after (dones.Went (Some word) turned) e told waits_for = told
+  turned_is t after (dones.Waits for) e told waits_for = blocked_is x n (malloc_choice m.storage) t.top.own m for s.action s.places s.temps (sym e) waits_for
+  turned_is t after (dones.Trap word kind) e told waits_for = refl
+  turned_is t after dones.Full e told waits_for = refl
+
+  module _ (own : Image Spot) where
+    landing_waits : (list : Option (List ℕ)) (t : Thread Spot Words) → None ≡ waits_at own (Some (landing list t))
+    landing_waits None t = refl
+    landing_waits (Some list) t = refl
+
+    wait_is : (stage : Stage Spot) → IsInCall (Some stage) → (t : Thread Spot Words) → t ≡ thread_at x stage → own.flow.here t.top.at ≡ does place (step s) → (wait : Option Wait) → wait ≡ waits_at own (Some stage) → (r : Done)
+        → WaitsFor r (action_waits s.action (map (target_of t.top.own) s.places) (map (word_at t.top.own) s.temps)) → settled_wait wait r ≡ waits_at own (settled_stage s (Some stage) r)
+    wait_is stage call t t_is h wait w (dones.Went word turned) waits_for = landing_waits (own_list s) _ ∙ ap (waits_at own) (sym (landed_is stage call word))
+    wait_is stage call t t_is h wait w (dones.Waits for) waits_for =
+        let here_waits : waits_at own (Some (waiting t)) ≡ Some for = rw h waits_for in
+        sym here_waits ∙ ap (λ (t : Thread Spot Words). waits_at own (Some (waiting t))) t_is ∙ ap (waits_at own) (sym (waiting_is stage call))
+    wait_is stage call t t_is h wait w (dones.Trap word kind) waits_for = w
+    wait_is stage call t t_is h wait w dones.Full waits_for = w
+
+-- a step is done
+pub step_comes : (x own : Image Spot) (old new : Shared) (c behind : Context) (turned : Turned) (stage : Stage Spot) (place : ℕ) (s : Step) (r : Done) → c.stage ≡ Some stage → IsInCall (Some stage)
+    → (t : Thread Spot Words) → t ≡ thread_at x stage → x.flow.here t.top.at ≡ does place (step s) → x.flow.next t.top.at true ≡ spot_behind t.top.at → own.flow.here t.top.at ≡ does place (step s) → c.wait ≡ waits_at own c.stage
+    → Does old new r (done_at x c.number old.memory place s t.top.own) → Went r (done_turned x old.memory (choice_at x c.number old.memory place s t.top.own) s.action)
+    → WaitsFor r (action_waits s.action (map (target_of t.top.own) s.places) (map (word_at t.top.own) s.temps)) → IsSettled s r c behind turned → Comes x own old new c behind (turned_view turned)
+step_comes x own old new c behind turned stage place s r at call t t_is h next own_h wait d told waits_for settled =
+    let n = c.number in
+    let m : Memory = old.memory in
+    let eff = step_effect_is x n m place s stage call (rw (← t_is) h) in
+    let tur = step_turned_is x n m place s stage call (rw (← t_is) h) in
+    let eff_t : effect_if x n m (Some stage) (Some AtStep) ≡ effects.acted n stage t (own_list s) m (outcome_at x n m place s t (done_view new.memory r)) = rw d.done_ (rw t_is eff) in
+    let tur_t : turned_of x n m (Some stage) (Some AtStep) ≡ outcome_turned x n m (choice_at x n m place s t.top.own) (does place (step s)) (outcome_at x n m place s t (done_view new.memory r)) = rw d.done_ (rw t_is tur) in
+    comes x own old new c behind (turned_view turned) (Some stage) (settled_stage s (Some stage) r) (settled_wait c.wait r) at
+    (rw at at settled.context)
+    (d.left ∙ ap (with_memory old) (ap (memory_after m) (sym d.done_) ∙ memory_is x n m place s stage t new.memory r ∙ ap (λ (e : Effect Spot). e.memory) (sym eff_t)))
+    (wait_is x n m place s own stage call t t_is own_h c.wait (rw at at wait) r waits_for)
+    (stage_is x n m place s stage call t t_is next new.memory r ∙ ap (λ (e : Effect Spot). e.stage) (sym eff_t))
+    (settled.turned_ ∙ turned_is x n m place s t new.memory r d.done_ told waits_for ∙ sym tur_t)
+
+-- ---- a Look
+
+module _ (x : Image Spot) (n : ℕ) (m : Memory) (place slot base : ℕ) where
+  abbrev looked_at : Thread Spot Words → Thread Spot Words
+  looked_at t = record { top = record { at = x.flow.next t.top.at true; own = looked m.storage t.top.own slot (word_at t.top.own base) }; callers = t.callers }
+
+  look_effect_is : (stage : Stage Spot) → IsInCall (Some stage) → x.flow.here (thread_at x stage).top.at ≡ does place (look slot base)
+      → effect_if x n m (Some stage) (Some AtStep) ≡ record { memory = m; stage = Some (going (looked_at (thread_at x stage))); end = None }
+  look_effect_is (starts function argument) call h = absurd call
+  look_effect_is (going t) call h = rw h refl
+  look_effect_is (waiting t) call h = rw h refl
+  look_effect_is (landed list t) call h = rw h refl
+
+  look_turned_is : (stage : Stage Spot) → IsInCall (Some stage) → x.flow.here (thread_at x stage).top.at ≡ does place (look slot base) → turned_of x n m (Some stage) (Some AtStep) ≡ turns.looked
+  look_turned_is (starts function argument) call h = absurd call
+  look_turned_is (going t) call h = rw h refl
+  look_turned_is (waiting t) call h = rw h refl
+  look_turned_is (landed list t) call h = rw h refl
+
+  looked_is : (stage : Stage Spot) → IsInCall (Some stage) → (word address : ℕ) → looked_stage (Some stage) slot word address ≡ Some (going (looked_thread (thread_at x stage) slot word address))
+  looked_is (starts function argument) call word address = absurd call
+  looked_is (going t) call word address = refl
+  looked_is (waiting t) call word address = refl
+  looked_is (landed list t) call word address = refl
+
+  same_looked : (t : Thread Spot Words) → x.flow.next t.top.at true ≡ spot_behind t.top.at → (word address : ℕ) → word ≡ word_at t.top.own base → address ≡ translated m.storage.table word → looked_thread t slot word address ≡ looked_at t
+  same_looked t next word address word_is address_is = rw (address_is, word_is, next) refl
+
+-- a Look is done
+pub look_comes : (x own : Image Spot) (old new : Shared) (c behind : Context) (stage : Stage Spot) (place slot base word address : ℕ) → c.stage ≡ Some stage → IsInCall (Some stage)
+    → (t : Thread Spot Words) → t ≡ thread_at x stage → x.flow.here t.top.at ≡ does place (look slot base) → x.flow.next t.top.at true ≡ spot_behind t.top.at
+    → word ≡ word_at t.top.own base → address ≡ translated old.memory.storage.table word → new ≡ old → behind ≡ standing c (looked_stage c.stage slot word address) None → Comes x own old new c behind turns.looked
+look_comes x own old new c behind stage place slot base word address at call t t_is h next word_is address_is same b =
+    let n = c.number in
+    let m : Memory = old.memory in
+    let eff = look_effect_is x n m place slot base stage call (rw (← t_is) h) in
+    let l : looked_stage (Some stage) slot word address ≡ Some (going (looked_at x n m place slot base t)) =
+        looked_is x n m place slot base stage call word address ∙ ap (λ (t : Thread Spot Words). Some (going (looked_thread t slot word address))) (sym t_is) ∙ ap (λ (t : Thread Spot Words). Some (going t)) (same_looked x n m place slot base t next word address word_is address_is) in
+    comes x own old new c behind turns.looked (Some stage) (Some (going (looked_at x n m place slot base t))) None at
+    (b ∙ ap (λ (o : Option (Stage Spot)). standing c (looked_stage o slot word address) None) at ∙ ap (λ o. standing c o None) l)
+    (same ∙ ap (λ (e : Effect Spot). with_memory old e.memory) (sym eff))
+    refl
+    (ap (λ (t : Thread Spot Words). Some (going (looked_at x n m place slot base t))) t_is ∙ ap (λ (e : Effect Spot). e.stage) (sym eff))
+    (sym (look_turned_is x n m place slot base stage call (rw (← t_is) h)))
+
+-- ---- the return of a first function
+
+module _ (x : Image Spot) (n : ℕ) (m : Memory) (temp : Option ℕ) where
+  abbrev ended_at : Words → Memory
+  ended_at l = thread_ended m n (given l temp)
+
+  leave_memory_is : (stage : Stage Spot) → IsInCall (Some stage) → x.flow.here (thread_at x stage).top.at ≡ returns temp → (thread_at x stage).callers ≡ []
+      → (effect_if x n m (Some stage) (Some AtStep)).memory ≡ ended_at (thread_at x stage).top.own
+  leave_memory_is (starts function argument) call h none = absurd call
+  leave_memory_is (going t) call h none = rw (h, none) refl
+  leave_memory_is (waiting t) call h none = rw (h, none) refl
+  leave_memory_is (landed list t) call h none = rw (h, none) refl
+
+  leave_stage_is : (stage : Stage Spot) → IsInCall (Some stage) → x.flow.here (thread_at x stage).top.at ≡ returns temp → (thread_at x stage).callers ≡ [] → (effect_if x n m (Some stage) (Some AtStep)).stage ≡ None
+  leave_stage_is (starts function argument) call h none = absurd call
+  leave_stage_is (going t) call h none = rw (h, none) refl
+  leave_stage_is (waiting t) call h none = rw (h, none) refl
+  leave_stage_is (landed list t) call h none = rw (h, none) refl
+
+  leave_turned_is : (stage : Stage Spot) → IsInCall (Some stage) → x.flow.here (thread_at x stage).top.at ≡ returns temp → (thread_at x stage).callers ≡ []
+      → turned_of x n m (Some stage) (Some AtStep) ≡ turns.ended (value_of (slice_get (ended_at (thread_at x stage).top.own).threads n))
+  leave_turned_is (starts function argument) call h none = absurd call
+  leave_turned_is (going t) call h none = rw (h, none) refl
+  leave_turned_is (waiting t) call h none = rw (h, none) refl
+  leave_turned_is (landed list t) call h none = rw (h, none) refl
+
+-- the value of a thread that has ended
+ended_value : (threads : List Made) (n word : ℕ) (d : Made) → n < length threads → value_of (slice_get (ended_if threads n word (slice_get threads n)) n) ≡ value_if (Some word)
+ended_value threads n word d within =
+    let there = slice_get-get_or threads n d within in
+    let now : List Made = slice_set threads n (with_result word (get_or threads n d)) in
+    let longer : n < length now = rw length-set within in
+    let same : get_or now n d ≡ with_result word (get_or threads n d) = get_or-set_same threads n _ d within in
+    ap (λ o. value_of (slice_get (ended_if threads n word o) n)) there ∙ ap value_of (slice_get-get_or now n d longer) ∙ ap (λ (t : Made). value_if t.result) same
+
+-- it is done
+pub leave_comes : (x own : Image Spot) (old new : Shared) (c behind : Context) (turned : turns.Turned) (stage : Stage Spot) (temp : Option ℕ) (word : ℕ) → c.stage ≡ Some stage → IsInCall (Some stage)
+    → (t : Thread Spot Words) → t ≡ thread_at x stage → x.flow.here t.top.at ≡ returns temp → t.callers ≡ []
+    → word ≡ given t.top.own temp → c.number < length old.memory.threads → new ≡ with_memory old (thread_ended old.memory c.number word) → behind ≡ standing c None None → turned ≡ turns.ended (value_if (Some word)) → Comes x own old new c behind turned
+leave_comes x own old new c behind turned stage temp word at call t t_is h none word_is made left b ends =
+    let n = c.number in
+    let m : Memory = old.memory in
+    let w : word ≡ given (thread_at x stage).top.own temp = rw (← t_is) word_is in
+    let h2 : x.flow.here (thread_at x stage).top.at ≡ returns temp = rw (← t_is) h in
+    let none2 : (thread_at x stage).callers ≡ [] = rw (← t_is) none in
+    comes x own old new c behind turned (Some stage) None None at b
+    (left ∙ ap (λ word. with_memory old (thread_ended m n word)) w ∙ ap (with_memory old) (sym (leave_memory_is x n m temp stage call h2 none2)))
+    refl
+    (sym (leave_stage_is x n m temp stage call h2 none2))
+    (ends ∙ sym (ended_value m.threads n word (beginning 0 0) made) ∙ ap (λ word. turns.ended (value_of (slice_get (thread_ended m n word).threads n))) w ∙ sym (leave_turned_is x n m temp stage call h2 none2))
