@@ -1,38 +1,51 @@
 -- The step, the Look or the return before which a thread stands, from what stands there.
-use Rattle.std.proofs.Common.{◌≡◌, ℕ, zero, suc, ◌+◌, ◌<◌, ◌≤◌, Bool, true, false, ◌&&◌, List, [], ◌∷◌, length, map, All, get_or, Option, Some, None, refl, ap, sym, ◌∙◌, subst, arith}
-use Rattle.std.specs.Prelude.{slice_get, slice_set, nat_lt}
+use Rattle.std.proofs.Common.{◌≡◌, ℕ, zero, suc, ◌+◌, ◌<◌, ◌≤◌, Bool, true, false, ◌&&◌, ◌||◌, ◌==◌, List, [], ◌∷◌, length, map, All, get_or, Option, Some, None, refl, ap, sym, ◌∙◌, subst, arith}
+use Rattle.std.specs.Prelude.{slice_get, slice_index_or, slice_set, is_none}
+use Rattle.std.proofs.lemmas.Bool.{and_parts, eqb-true}
+use Rattle.struct_ir.specs.declared.code.StepNode.{StepNode}
+use Rattle.struct_ir.specs.Valid.{Counts, Scope, counts_of, has_counts}
+use Rattle.struct_ir.specs.declared.code.Place.{Place as CodePlace}
+use Rattle.struct_ir.specs.Views.{action_view, place_view, step_view}
 use Rattle.std.proofs.lemmas.Option.{slice_get_within, slice_get-get_or, get_or_from_slice_get}
-use Rattle.std.proofs.lemmas.List.{get_or-set_same, length-set}
+use Rattle.std.proofs.lemmas.List.{get_or-map, get_or-set_same, length-map, length-set}
 use Rattle.handle_table.specs.Table.{translated}
-use Rattle.struct_ir.specs.Nodes.{Action, Place, load, store, copy_bytes, malloc, free, print, lock, unlock, destroy, start, join, Step, set, call, step, look, safepoint, begin_object, end_object, own_list}
+use Rattle.struct_ir.specs.Nodes.{Action, Place, load, store, copy_bytes, malloc, free, print, lock, unlock, destroy, start, join, Step, step, look, own_list}
 use Rattle.struct_ir.specs.Flow.{Here, does, tests, passes, round, returns}
+use Rattle.std.specs.List.{list_all}
+use Rattle.struct_ir.proofs.ValidCode.{of_all}
+use Rattle.struct_ir.specs.Instrs.{Instr, LinearCode, instrs_if, instrs_of}
+use Rattle.struct_ir.specs.Machine.{Point}
+use Rattle.struct_ir.specs.ValidCode.{code_scope_of, is_instr}
 use Rattle.struct_ir.specs.Linear.{Spot}
-use Rattle.struct_ir.specs.Threads.{Thread, Outcome, served}
+use Rattle.struct_ir.specs.Threads.{Thread, Outcome, ended, left_call, served, stop_at}
 use Rattle.flat_meaning.specs.declared.endings.Stop.{Stop}
 use Rattle.flat_meaning.specs.declared.endings.Stop.TheVariants.{AtStep, Spent, NoRoom}
 use Rattle.flat_meaning.specs.Accesses as actions
 use Rattle.flat_meaning.specs.Accesses.{Choice}
-use Rattle.flat_meaning.specs.Actions.{acted}
+use Rattle.flat_meaning.specs.Actions.{acted, locked, started, unlocked}
 use Rattle.flat_meaning.specs.Effects as effects
-use Rattle.flat_meaning.specs.Effects.{Effect, landing}
-use Rattle.flat_meaning.specs.Image.{Image}
-use Rattle.flat_meaning.specs.Machine.{given, looked, served_by}
+use Rattle.flat_meaning.specs.Effects.{Effect, landing, own_list_of}
+use Rattle.flat_meaning.specs.Image.{Image, Layout}
+use Rattle.flat_meaning.specs.Local.{no_room_if, stop_before}
+use Rattle.flat_meaning.specs.Local.{stop_at as stop_at_stage}
+use Rattle.flat_meaning.specs.Machine.{given, looked, served_by, words_machine, words_world}
 use Rattle.flat_meaning.specs.Memory.{Made, Memory, beginning, ended_if, thread_ended, with_result}
-use Rattle.flat_meaning.specs.Stages.{Stage, starts, going, waiting, landed, thread_at}
-use Rattle.flat_meaning.specs.Words.{Words, target_of, word_at}
+use Rattle.flat_meaning.specs.Stages.{Stage, starts, going, waiting, landed, thread_at, Before, looks, steps, before, before_here, before_return}
+use Rattle.flat_meaning.specs.Words.{Target, Used, Words, none_used, target_of, used_with, word_at}
 use Rattle.flat_threads.specs.declared.wait.Wait.{Wait}
 use Rattle.flat_threads.specs.declared.wait.Wait.TheVariants as waits
-use Rattle.flat_threads.specs.Contexts.{Context, IsInCall, standing}
-use Rattle.flat_threads.specs.Deeds.{landed_stage, looked_stage, looked_thread, stepped, waiting_stage}
+use Rattle.flat_threads.specs.Contexts.{Context, AreCallsOf, IsCallOf, IsInCall, IsProgram, IsStageIf, IsStageOf, IsThreadOf, layout_of, own_image, standing}
+use Rattle.flat_threads.specs.Belonging.{HasStopped, IsContextOf}
+use Rattle.flat_threads.specs.Deeds.{ArePlacesOf, IsPlaceOf, top_at, top_of, landed_stage, looked_stage, looked_thread, stepped, waiting_stage}
 use Rattle.flat_threads.specs.Waits.{action_waits, waits_at}
 use Rattle.flat_rules.specs.Machine as turns
 use Rattle.flat_machine.specs.declared.done.Done.{Done}
 use Rattle.flat_machine.specs.declared.done.Done.TheVariants as dones
 use Rattle.flat_machine.specs.declared.turned.Turned.{Turned}
-use Rattle.flat_machine.specs.Acting.{effect_if}
-use Rattle.flat_machine.specs.Choices.{action_choice, malloc_choice}
+use Rattle.flat_machine.specs.Acting.{effect_before, effect_if}
+use Rattle.flat_machine.specs.Choices.{action_choice, choice_here, malloc_choice}
 use Rattle.flat_machine.specs.Shares.{Shared}
-use Rattle.flat_machine.specs.Turns.{done_turned, blocked_turned, outcome_turned, turned_of, value_of, value_if}
+use Rattle.flat_machine.specs.Turns.{done_turned, blocked_turned, outcome_turned, turned_before, turned_of, value_of, value_if}
 use Rattle.flat_machine.specs.inner.Acted.{IsSettled, settled_stage, settled_turned, settled_wait, wait_turned}
 use Rattle.flat_machine.specs.inner.Dones.{Does, WaitsFor, Went, done_view, memory_after, with_memory}
 use Rattle.flat_machine.specs.inner.Turneds.{turned_view}
@@ -101,7 +114,7 @@ comes x own old new c behind turned at behind_at wait at_is behind_is shared wai
     let b : behind.stage ≡ behind_at = ap (λ (b : Context). b.stage) behind_is in
     record {
       shared = rw at_is shared;
-      context = rw b (behind_is ∙ ap (standing c behind_at) wait_is);
+      context = behind_is ∙ ap (standing c behind_at) wait_is ∙ ap (λ (o : Option (Stage Spot)). standing c o (waits_at own o)) (sym b);
       stage = rw at_is (b ∙ stage_is);
       turned_ = rw at_is turned_is;
     }
@@ -110,6 +123,44 @@ comes x own old new c behind turned at behind_at wait at_is behind_is shared wai
 
 abbrev spot_behind : Spot → Spot
 spot_behind p = record { function = p.function; index = p.index + 1 }
+
+module _ (x : Image Spot) (n : ℕ) (m : Memory) where
+  -- what comes of it where this stands there
+  abbrev outcome_here : Choice → Thread Spot Words → Here → Outcome Spot Words actions.Fault Memory
+  outcome_here choice t h = stop_at x.flow (words_machine x.layout n) (words_world x.layout n) x.start choice t m h
+
+  abbrev chosen : Thread Spot Words → Here → Choice
+  chosen t h = choice_here (malloc_choice m.storage) t.top.own h
+
+  abbrev effect_here : Stage Spot → Thread Spot Words → Here → Effect Spot
+  effect_here stage t h = effects.acted n stage t (own_list_of h) m (outcome_here (chosen t h) t h)
+
+  before_is : (t : Thread Spot Words) (h : Here) (b : Before) → x.flow.here t.top.at ≡ h → before_here t.callers h ≡ b → before x t ≡ b
+  before_is t h b here_is is = ap (before_here t.callers) here_is ∙ is
+
+  to_step : (stage : Stage Spot) (t : Thread Spot Words) (h : Here) → x.flow.here t.top.at ≡ h → before_here t.callers h ≡ steps
+      → effects.act_before x n (chosen t (x.flow.here t.top.at)) stage t m (before x t) ≡ effect_here stage t h
+  to_step stage t h here_is is =
+      ap (effects.act_before x n (chosen t (x.flow.here t.top.at)) stage t m) (before_is t h steps here_is is) ∙ ap (effect_here stage t) here_is
+
+  effect_is : (stage : Stage Spot) → IsInCall (Some stage) → (h : Here) → x.flow.here (thread_at x stage).top.at ≡ h → before_here (thread_at x stage).callers h ≡ steps
+      → effect_if x n m (Some stage) (Some AtStep) ≡ effect_here stage (thread_at x stage) h
+  effect_is (starts function argument) call h here_is is = absurd call
+  effect_is (going t) call h here_is is = ap (effect_before x n (chosen t (x.flow.here t.top.at)) (going t) m AtStep) (before_is t h steps here_is is) ∙ to_step (going t) t h here_is is
+  effect_is (waiting t) call h here_is is = ap (effect_before x n (chosen t (x.flow.here t.top.at)) (waiting t) m AtStep) (before_is t h steps here_is is) ∙ to_step (waiting t) t h here_is is
+  effect_is (landed list t) call h here_is is = ap (effect_before x n (chosen t (x.flow.here t.top.at)) (landed list t) m AtStep) (before_is t h steps here_is is) ∙ to_step (landed list t) t h here_is is
+
+  turned_to_step : (t : Thread Spot Words) (h : Here) → x.flow.here t.top.at ≡ h → before_here t.callers h ≡ steps
+      → turned_before x n m (chosen t (x.flow.here t.top.at)) t AtStep (before x t) ≡ outcome_turned x n m (chosen t h) h (outcome_here (chosen t h) t h)
+  turned_to_step t h here_is is =
+      ap (turned_before x n m (chosen t (x.flow.here t.top.at)) t AtStep) (before_is t h steps here_is is)
+      ∙ ap (λ (h : Here). outcome_turned x n m (chosen t h) h (outcome_here (chosen t h) t h)) here_is
+
+  to_look : (stage : Stage Spot) (t : Thread Spot Words) (h : Here) → x.flow.here t.top.at ≡ h → before_here t.callers h ≡ looks
+      → effects.look_before x n stage t m (before x t) ≡ effects.acted n stage t (own_list_of h) m (outcome_here actions.plain t h)
+  to_look stage t h here_is is =
+      ap (effects.look_before x n stage t m) (before_is t h looks here_is is)
+      ∙ ap (λ (h : Here). effects.acted n stage t (own_list_of h) m (outcome_here actions.plain t h)) here_is
 
 module _ (x : Image Spot) (n : ℕ) (m : Memory) (place : ℕ) (s : Step) where
   abbrev choice_at : Words → Choice
@@ -123,17 +174,11 @@ module _ (x : Image Spot) (n : ℕ) (m : Memory) (place : ℕ) (s : Step) where
 
   step_effect_is : (stage : Stage Spot) → IsInCall (Some stage) → x.flow.here (thread_at x stage).top.at ≡ does place (step s)
       → effect_if x n m (Some stage) (Some AtStep) ≡ effects.acted n stage (thread_at x stage) (own_list s) m (outcome_at (thread_at x stage) (done_at (thread_at x stage).top.own))
-  step_effect_is (starts function argument) call h = absurd call
-  step_effect_is (going t) call h = rw h refl
-  step_effect_is (waiting t) call h = rw h refl
-  step_effect_is (landed list t) call h = rw h refl
+  step_effect_is stage call h = effect_is x n m stage call (does place (step s)) h refl
 
   step_turned_is : (stage : Stage Spot) → IsInCall (Some stage) → x.flow.here (thread_at x stage).top.at ≡ does place (step s)
       → turned_of x n m (Some stage) (Some AtStep) ≡ outcome_turned x n m (choice_at (thread_at x stage).top.own) (does place (step s)) (outcome_at (thread_at x stage) (done_at (thread_at x stage).top.own))
-  step_turned_is (starts function argument) call h = absurd call
-  step_turned_is (going t) call h = rw h refl
-  step_turned_is (waiting t) call h = rw h refl
-  step_turned_is (landed list t) call h = rw h refl
+  step_turned_is stage call h = turned_to_step x n m (thread_at x stage) (does place (step s)) h refl
 
   landed_is : (stage : Stage Spot) → IsInCall (Some stage) → (word : Option ℕ) → landed_stage s (Some stage) word ≡ Some (stepped s (thread_at x stage) word)
   landed_is (starts function argument) call word = absurd call
@@ -213,15 +258,12 @@ module _ (x : Image Spot) (n : ℕ) (m : Memory) (place slot base : ℕ) where
   look_effect_is : (stage : Stage Spot) → IsInCall (Some stage) → x.flow.here (thread_at x stage).top.at ≡ does place (look slot base)
       → effect_if x n m (Some stage) (Some AtStep) ≡ record { memory = m; stage = Some (going (looked_at (thread_at x stage))); end = None }
   look_effect_is (starts function argument) call h = absurd call
-  look_effect_is (going t) call h = rw h refl
-  look_effect_is (waiting t) call h = rw h refl
-  look_effect_is (landed list t) call h = rw h refl
+  look_effect_is (going t) call h = ap (effect_before x n (chosen x n m t (x.flow.here t.top.at)) (going t) m AtStep) (before_is x n m t _ looks h refl) ∙ to_look x n m (going t) t _ h refl
+  look_effect_is (waiting t) call h = ap (effect_before x n (chosen x n m t (x.flow.here t.top.at)) (waiting t) m AtStep) (before_is x n m t _ looks h refl) ∙ to_look x n m (waiting t) t _ h refl
+  look_effect_is (landed list t) call h = ap (effect_before x n (chosen x n m t (x.flow.here t.top.at)) (landed list t) m AtStep) (before_is x n m t _ looks h refl) ∙ to_look x n m (landed list t) t _ h refl
 
   look_turned_is : (stage : Stage Spot) → IsInCall (Some stage) → x.flow.here (thread_at x stage).top.at ≡ does place (look slot base) → turned_of x n m (Some stage) (Some AtStep) ≡ turns.looked
-  look_turned_is (starts function argument) call h = absurd call
-  look_turned_is (going t) call h = rw h refl
-  look_turned_is (waiting t) call h = rw h refl
-  look_turned_is (landed list t) call h = rw h refl
+  look_turned_is stage call h = let t = thread_at x stage in ap (turned_before x n m (chosen x n m t (x.flow.here t.top.at)) t AtStep) (before_is x n m t _ looks h refl)
 
   looked_is : (stage : Stage Spot) → IsInCall (Some stage) → (word address : ℕ) → looked_stage (Some stage) slot word address ≡ Some (going (looked_thread (thread_at x stage) slot word address))
   looked_is (starts function argument) call word address = absurd call
@@ -255,25 +297,24 @@ module _ (x : Image Spot) (n : ℕ) (m : Memory) (temp : Option ℕ) where
   abbrev ended_at : Words → Memory
   ended_at l = thread_ended m n (given l temp)
 
+  leave_outcome : (t : Thread Spot Words) → t.callers ≡ [] → outcome_here x n m actions.plain t (returns temp) ≡ ended t.top.own (ended_at t.top.own)
+  leave_outcome t none = ap (λ callers. left_call x.flow (words_world x.layout n) actions.plain t.top.own temp m callers) none
+
+  leave_effect_is : (stage : Stage Spot) → IsInCall (Some stage) → x.flow.here (thread_at x stage).top.at ≡ returns temp → (thread_at x stage).callers ≡ []
+      → effect_if x n m (Some stage) (Some AtStep) ≡ effects.acted n stage (thread_at x stage) None m (ended (thread_at x stage).top.own (ended_at (thread_at x stage).top.own))
+  leave_effect_is stage call h none = effect_is x n m stage call (returns temp) h (ap before_return none) ∙ ap (effects.acted n stage (thread_at x stage) None m) (leave_outcome (thread_at x stage) none)
+
   leave_memory_is : (stage : Stage Spot) → IsInCall (Some stage) → x.flow.here (thread_at x stage).top.at ≡ returns temp → (thread_at x stage).callers ≡ []
       → (effect_if x n m (Some stage) (Some AtStep)).memory ≡ ended_at (thread_at x stage).top.own
-  leave_memory_is (starts function argument) call h none = absurd call
-  leave_memory_is (going t) call h none = rw (h, none) refl
-  leave_memory_is (waiting t) call h none = rw (h, none) refl
-  leave_memory_is (landed list t) call h none = rw (h, none) refl
+  leave_memory_is stage call h none = ap (λ (e : Effect Spot). e.memory) (leave_effect_is stage call h none)
 
   leave_stage_is : (stage : Stage Spot) → IsInCall (Some stage) → x.flow.here (thread_at x stage).top.at ≡ returns temp → (thread_at x stage).callers ≡ [] → (effect_if x n m (Some stage) (Some AtStep)).stage ≡ None
-  leave_stage_is (starts function argument) call h none = absurd call
-  leave_stage_is (going t) call h none = rw (h, none) refl
-  leave_stage_is (waiting t) call h none = rw (h, none) refl
-  leave_stage_is (landed list t) call h none = rw (h, none) refl
+  leave_stage_is stage call h none = ap (λ (e : Effect Spot). e.stage) (leave_effect_is stage call h none)
 
   leave_turned_is : (stage : Stage Spot) → IsInCall (Some stage) → x.flow.here (thread_at x stage).top.at ≡ returns temp → (thread_at x stage).callers ≡ []
       → turned_of x n m (Some stage) (Some AtStep) ≡ turns.ended (value_of (slice_get (ended_at (thread_at x stage).top.own).threads n))
-  leave_turned_is (starts function argument) call h none = absurd call
-  leave_turned_is (going t) call h none = rw (h, none) refl
-  leave_turned_is (waiting t) call h none = rw (h, none) refl
-  leave_turned_is (landed list t) call h none = rw (h, none) refl
+  leave_turned_is stage call h none =
+      turned_to_step x n m (thread_at x stage) (returns temp) h (ap before_return none) ∙ ap (outcome_turned x n m actions.plain (returns temp)) (leave_outcome (thread_at x stage) none)
 
 -- the value of a thread that has ended
 ended_value : (threads : List Made) (n word : ℕ) (d : Made) → n < length threads → value_of (slice_get (ended_if threads n word (slice_get threads n)) n) ≡ value_if (Some word)
@@ -298,4 +339,113 @@ leave_comes x own old new c behind turned stage temp word at call t t_is h none 
     (left ∙ ap (λ word. with_memory old (thread_ended m n word)) w ∙ ap (with_memory old) (sym (leave_memory_is x n m temp stage call h2 none2)))
     refl
     (sym (leave_stage_is x n m temp stage call h2 none2))
-    (ends ∙ sym (ended_value m.threads n word (beginning 0 0) made) ∙ ap (λ word. turns.ended (value_of (slice_get (thread_ended m n word).threads n))) w ∙ sym (leave_turned_is x n m temp stage call h2 none2))
+    (ends ∙ ap turns.ended (sym (ended_value m.threads n word (beginning 0 0) made)) ∙ ap (λ word. turns.ended (value_of (slice_get (thread_ended m n word).threads n))) w ∙ sym (leave_turned_is x n m temp stage call h2 none2))
+
+-- ---- what a step names
+
+pub one_is : {A : Type 0} (xs : List A) (d : A) → length xs ≡ 1 → xs ≡ slice_index_or xs 0 d ∷ []
+one_is [] d e = absurd (omega (arith, e))
+one_is (a ∷ []) d e = refl
+one_is (a ∷ b ∷ xs) d e = absurd (omega (arith, e))
+
+pub two_are : {A : Type 0} (xs : List A) (d : A) → length xs ≡ 2 → xs ≡ slice_index_or xs 0 d ∷ slice_index_or xs 1 d ∷ []
+two_are [] d e = absurd (omega (arith, e))
+two_are (a ∷ []) d e = absurd (omega (arith, e))
+two_are (a ∷ b ∷ []) d e = refl
+two_are (a ∷ b ∷ c ∷ xs) d e = absurd (omega (arith, e))
+
+pub none_are : {A : Type 0} (xs : List A) → length xs ≡ 0 → xs ≡ []
+none_are [] e = refl
+none_are (a ∷ xs) e = absurd (omega (arith, e))
+
+-- the places of a step are those of its call
+pub place_is : (l : Words) (xs : List CodePlace) (i : ℕ) (d : CodePlace) → ArePlacesOf l (map place_view xs) → i < length xs → IsPlaceOf l (place_view (slice_index_or xs i d))
+place_is l xs i d h within = subst (IsPlaceOf l) (get_or-map place_view xs i d (place_view d) within) (h i (place_view d) (rw length-map within))
+
+-- as many as its action takes
+pub counted : (s : StepNode) (a : Action) → action_view s.action ≡ a → has_counts (counts_of (action_view s.action)) (step_view s) ≡ true → (length s.places.items ≡ (counts_of a).places) × (length s.temps.items ≡ (counts_of a).temps)
+counted s a is h =
+    let n : Counts = counts_of a in
+    let e : has_counts n (step_view s) ≡ true = subst (λ (a : Action). has_counts (counts_of a) (step_view s) ≡ true) is h in
+    let p = and_parts (length (map place_view s.places.items) == n.places) ((length s.temps.items == n.temps) && (n.gives || is_none s.to)) e in
+    let q = and_parts (length s.temps.items == n.temps) (n.gives || is_none s.to) p.1 in
+    (sym (length-map s.places.items place_view) ∙ eqb-true _ _ p.0, eqb-true _ _ q.0)
+
+-- ---- actions with their places and words
+
+module _ (x : Layout) (n : ℕ) (rule : (size : ℕ) → Choice) (l : Words) (m : Memory) (a : Action) (ps xs : List CodePlace) (ts ys : List ℕ) (d : CodePlace) (e : ℕ) (xs_is : xs ≡ ps) (ys_is : ys ≡ ts) where
+  abbrev acts : actions.Done
+  acts = acted x n (action_choice rule l a ts) a (map (target_of l) (map place_view ps)) (map (word_at l) ts) m
+
+  target_here : (i : ℕ) (to : Target) → to ≡ target_of l (place_view (slice_index_or xs i d)) → to ≡ target_of l (place_view (slice_index_or ps i d))
+  target_here i to is = rw (← xs_is) is
+
+  word_here : (i w : ℕ) → w ≡ word_at l (slice_index_or ys i e) → w ≡ word_at l (slice_index_or ts i e)
+  word_here i w is = rw (← ys_is) is
+
+  pub copies : (align : ℕ) (same : Bool) (to from : Target) (w : ℕ) → a ≡ copy_bytes align same → length ps ≡ 2 → length ts ≡ 1 → to ≡ target_of l (place_view (slice_index_or xs 0 d)) → from ≡ target_of l (place_view (slice_index_or xs 1 d)) → w ≡ word_at l (slice_index_or ys 0 e)
+      → actions.copied to from w m ≡ acts
+  copies align same to from w a_is two one to_is from_is w_is = rw (target_here 0 to to_is, target_here 1 from from_is, word_here 0 w w_is, a_is, two_are ps d two, one_is ts e one) refl
+
+  pub locks : (number : ℕ) (at : Target) → a ≡ lock → length ps ≡ 1 → length ts ≡ 0 → at ≡ target_of l (place_view (slice_index_or xs 0 d)) → number ≡ n → locked number at m ≡ acts
+  locks number at a_is one none at_is n_is = rw (n_is, target_here 0 at at_is, a_is, one_is ps d one, none_are ts none) refl
+
+  pub unlocks : (at : Target) → a ≡ unlock → length ps ≡ 1 → length ts ≡ 0 → at ≡ target_of l (place_view (slice_index_or xs 0 d)) → unlocked at m ≡ acts
+  unlocks at a_is one none at_is = rw (target_here 0 at at_is, a_is, one_is ps d one, none_are ts none) refl
+
+  pub begins : (function : ℕ) (to : Target) (w : ℕ) → a ≡ start function → length ps ≡ 1 → length ts ≡ 1 → to ≡ target_of l (place_view (slice_index_or xs 0 d)) → w ≡ word_at l (slice_index_or ys 0 e) → x.limits.threads ≡ 64 → started 64 function to w m ≡ acts
+  begins function to w a_is one one_word to_is w_is few = rw (target_here 0 to to_is, word_here 0 w w_is, ← few, a_is, one_is ps d one, one_is ts e one_word) refl
+
+-- ---- where a context stands
+
+-- in a call, before what this instruction does, and it has stopped there
+pub record Stands (code : LinearCode) (c : Context) : Type 0 where
+  pub stage : Stage Spot
+  pub is : c.stage ≡ Some stage
+  pub inside : IsInCall (Some stage)
+  pub t : Thread Spot Words
+  pub t_is : (x : Image Spot) → t ≡ thread_at x stage
+  pub top_is : top_of c ≡ t.top
+  pub thread : IsThreadOf code t
+  pub most : ℕ
+  pub ends : ℕ
+  pub stops : stop_before (own_image code) most ends t (before (own_image code) t) ≡ Some AtStep
+
+no_room_stops : (b : Bool) → no_room_if b ≡ Some AtStep → ⊥
+no_room_stops true e = absurd cc
+no_room_stops false e = absurd cc
+
+stands_at : (code : LinearCode) (c : Context) (stage : Stage Spot) → c.stage ≡ Some stage → IsStageOf code stage → (most ends : ℕ) → stop_at_stage (own_image code) most ends stage ≡ Some AtStep → Stands code c
+stands_at code c (starts function argument) is of most ends stops = absurd (no_room_stops _ stops)
+stands_at code c (going t) is of most ends stops = record { stage = going t; is = is; inside = tt; t = t; t_is = λ x. refl; top_is = ap top_at is; thread = of; most = most; ends = ends; stops = stops }
+stands_at code c (waiting t) is of most ends stops = record { stage = waiting t; is = is; inside = tt; t = t; t_is = λ x. refl; top_is = ap top_at is; thread = of; most = most; ends = ends; stops = stops }
+stands_at code c (landed list t) is of most ends stops = record { stage = landed list t; is = is; inside = tt; t = t; t_is = λ x. refl; top_is = ap top_at is; thread = of.0; most = most; ends = ends; stops = stops }
+
+pub stands : (code : LinearCode) (c : Context) → IsContextOf code c → HasStopped (own_image code) c.stage AtStep → Stands code c
+stands code c of h = stands_at code c h.at_stage h.is (subst (IsStageIf code) h.is of.stage) h.most h.turns h.stops
+
+-- the call under way
+called : (code : LinearCode) (x : Layout) (p : Point Spot Words) (cs : List (Point Spot Words)) → AreCallsOf code x (p ∷ cs) → (below : Used) × IsCallOf code below p
+called code x p [] h = (none_used, h)
+called code x p (q ∷ cs) h = (used_with x q.own, h.0)
+
+-- an instruction there is in range
+pub record InRange (code : LinearCode) (l : Words) (i : Instr) : Type 0 where
+  pub scope : Scope
+  pub temps : length l.temps ≡ scope.temps
+  pub slots : length l.slots ≡ scope.slots
+  pub valid : is_instr scope i ≡ true
+
+pub in_range : (code : LinearCode) (c : Context) → IsProgram code → (s : Stands code c) → (i : Instr) → slice_get (instrs_of code.funcs (top_of c).at.function) (top_of c).at.index ≡ Some i → InRange code (top_of c).own i
+in_range code c program s i at =
+    let f = (called code (layout_of code) s.t.top s.t.callers s.thread).1 in
+    let p : Point Spot Words = s.t.top in
+    let at2 : slice_get (instrs_of code.funcs p.at.function) p.at.index ≡ Some i = subst (λ (p : Point Spot Words). slice_get (instrs_of code.funcs p.at.function) p.at.index ≡ Some i) s.top_is at in
+    let at3 : slice_get f.function.instrs p.at.index ≡ Some i = subst (λ (is : List Instr). slice_get is p.at.index ≡ Some i) (ap instrs_if f.there) at2 in
+    let all = of_all (λ g. list_all (is_instr (code_scope_of code g)) g.instrs) code.funcs p.at.function f.function program.valid f.there in
+    record {
+      scope = code_scope_of code f.function;
+      temps = ap (λ (p : Point Spot Words). length p.own.temps) s.top_is ∙ f.temps;
+      slots = ap (λ (p : Point Spot Words). length p.own.slots) s.top_is ∙ f.slots;
+      valid = of_all (is_instr (code_scope_of code f.function)) f.function.instrs p.at.index i all at3;
+    }
