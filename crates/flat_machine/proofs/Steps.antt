@@ -1,22 +1,30 @@
 -- The step, the Look or the return before which a thread stands, from what stands there.
-use Rattle.std.proofs.Common.{◌≡◌, ℕ, zero, suc, ◌+◌, ◌<◌, ◌≤◌, Bool, true, false, ◌&&◌, ◌||◌, ◌==◌, List, [], ◌∷◌, length, map, All, get_or, Option, Some, None, refl, ap, sym, ◌∙◌, subst, arith}
-use Rattle.std.specs.Prelude.{slice_get, slice_index_or, slice_set, is_none}
-use Rattle.std.proofs.lemmas.Bool.{and_parts, eqb-true}
+use Rattle.std.proofs.Common.{◌≡◌, ℕ, zero, suc, ◌+◌, ◌<◌, ◌≤◌, Bool, true, false, ◌&&◌, ◌||◌, ◌==◌, not, eqb, ◌≢◌, List, [], ◌∷◌, length, map, All, get_or, Option, Some, None, refl, ap, sym, ◌∙◌, subst, arith}
+use Rattle.std.specs.Prelude.{slice_get, slice_index_or, slice_set, is_none, nat_lt}
+use Rattle.std.proofs.lemmas.Bool.{and_parts, eqb-true, ltb-true}
 use Rattle.struct_ir.specs.declared.code.StepNode.{StepNode}
-use Rattle.struct_ir.specs.Valid.{Counts, Scope, counts_of, has_counts}
+use Rattle.struct_ir.specs.Valid.{Counts, Scope, counts_of, has_counts, are_below, is_action, is_below_if, is_distinct, is_list, is_own_list, is_place, is_step}
 use Rattle.struct_ir.specs.declared.code.Place.{Place as CodePlace}
 use Rattle.struct_ir.specs.Views.{action_view, place_view, step_view}
 use Rattle.std.proofs.lemmas.Option.{slice_get_within, slice_get-get_or, get_or_from_slice_get}
 use Rattle.std.proofs.lemmas.List.{get_or-map, get_or-set_same, length-map, length-set}
 use Rattle.handle_table.specs.Table.{translated}
-use Rattle.struct_ir.specs.Nodes.{Action, Place, load, store, copy_bytes, malloc, free, print, lock, unlock, destroy, start, join, Step, step, look, own_list}
+use Rattle.struct_ir.specs.Nodes.{Action, Place, load, store, copy_bytes, malloc, free, print, lock, unlock, destroy, start, join, Step, step, look, own_list, may_wait}
 use Rattle.struct_ir.specs.Flow.{Here, does, tests, passes, round, returns}
 use Rattle.std.specs.List.{list_all}
 use Rattle.struct_ir.proofs.ValidCode.{of_all}
 use Rattle.struct_ir.specs.Instrs.{Instr, LinearCode, instrs_if, instrs_of}
 use Rattle.struct_ir.specs.Machine.{Point}
 use Rattle.struct_ir.specs.ValidCode.{code_scope_of, is_instr}
-use Rattle.struct_ir.specs.Linear.{Spot}
+use Rattle.struct_ir.specs.declared.linear.Instr.{Instr as CodeInstr}
+use Rattle.struct_ir.specs.declared.linear.InstrKind.{InstrKind}
+use Rattle.struct_ir.specs.declared.linear.InstrKind.TheVariants as kinds
+use Rattle.struct_ir.specs.InstrViews.{instr_view, instr_kind_view}
+use Rattle.std.specs.List.{list_any, AllByRecursion, IsDistinct}
+use Rattle.std.specs.Option.{ForSome}
+use Rattle.std.proofs.lemmas.Bool.Decides.{nat_tests}
+use Rattle.std.proofs.lemmas.Map.Steps.{length-le_from_distinct_below}
+use Rattle.struct_ir.specs.Linear.{Spot, instr_here, instr_next, linear}
 use Rattle.struct_ir.specs.Threads.{Thread, Outcome, ended, left_call, served, stop_at}
 use Rattle.flat_meaning.specs.declared.endings.Stop.{Stop}
 use Rattle.flat_meaning.specs.declared.endings.Stop.TheVariants.{AtStep, Spent, NoRoom}
@@ -26,7 +34,7 @@ use Rattle.flat_meaning.specs.Actions.{acted, locked, started, unlocked}
 use Rattle.flat_meaning.specs.Effects as effects
 use Rattle.flat_meaning.specs.Effects.{Effect, landing, own_list_of}
 use Rattle.flat_meaning.specs.Image.{Image, Layout}
-use Rattle.flat_meaning.specs.Local.{no_room_if, stop_before}
+use Rattle.flat_meaning.specs.Local.{no_room_if, spent_if, stop_before}
 use Rattle.flat_meaning.specs.Local.{stop_at as stop_at_stage}
 use Rattle.flat_meaning.specs.Machine.{given, looked, served_by, words_machine, words_world}
 use Rattle.flat_meaning.specs.Memory.{Made, Memory, beginning, ended_if, thread_ended, with_result}
@@ -34,7 +42,7 @@ use Rattle.flat_meaning.specs.Stages.{Stage, starts, going, waiting, landed, thr
 use Rattle.flat_meaning.specs.Words.{Target, Used, Words, none_used, target_of, used_with, word_at}
 use Rattle.flat_threads.specs.declared.wait.Wait.{Wait}
 use Rattle.flat_threads.specs.declared.wait.Wait.TheVariants as waits
-use Rattle.flat_threads.specs.Contexts.{Context, AreCallsOf, IsCallOf, IsInCall, IsProgram, IsStageIf, IsStageOf, IsThreadOf, layout_of, own_image, standing}
+use Rattle.flat_threads.specs.Contexts.{Context, AreCallsOf, IsCallOf, IsInCall, IsListFor, IsProgram, IsStageIf, IsStageOf, IsThreadOf, layout_of, own_image, standing}
 use Rattle.flat_threads.specs.Belonging.{HasStopped, IsContextOf}
 use Rattle.flat_threads.specs.Deeds.{ArePlacesOf, IsPlaceOf, top_at, top_of, landed_stage, looked_stage, looked_thread, stepped, waiting_stage}
 use Rattle.flat_threads.specs.Waits.{action_waits, waits_at}
@@ -46,7 +54,7 @@ use Rattle.flat_machine.specs.Acting.{effect_before, effect_if}
 use Rattle.flat_machine.specs.Choices.{action_choice, choice_here, malloc_choice}
 use Rattle.flat_machine.specs.Shares.{Shared}
 use Rattle.flat_machine.specs.Turns.{done_turned, blocked_turned, outcome_turned, turned_before, turned_of, value_of, value_if}
-use Rattle.flat_machine.specs.inner.Acted.{IsSettled, settled_stage, settled_turned, settled_wait, wait_turned}
+use Rattle.flat_machine.specs.inner.Acted.{IsSettled, IsStepOf, settled_stage, settled_turned, settled_wait, wait_turned}
 use Rattle.flat_machine.specs.inner.Dones.{Does, WaitsFor, Went, done_view, memory_after, with_memory}
 use Rattle.flat_machine.specs.inner.Turneds.{turned_view}
 
@@ -449,3 +457,106 @@ in_range code c program s i at =
       slots = ap (λ (p : Point Spot Words). length p.own.slots) s.top_is ∙ f.slots;
       valid = of_all (is_instr (code_scope_of code f.function)) f.function.instrs p.at.index i all at3;
     }
+
+-- what is in range, as the call has it
+below_if : (n : ℕ) (o : Option ℕ) → is_below_if n o ≡ true → ForSome o (λ r. r < n)
+below_if n None h r e = absurd cc
+below_if n (Some x) h r e = let same : x ≡ r = cc in subst (λ (r : ℕ). r < n) same (ltb-true x n h)
+
+all_of : {A : Type 0} (q : A → Bool) (xs : List A) → list_all q xs ≡ true → (k : ℕ) (d : A) → k < length xs → q (slice_index_or xs k d) ≡ true
+all_of q xs h k d within = of_all q xs k (slice_index_or xs k d) h (slice_get-get_or xs k d within)
+
+place_fits : (x : Scope) (l : Words) (a : Place) → length l.temps ≡ x.temps → length l.slots ≡ x.slots → is_place x a ≡ true → IsPlaceOf l a
+place_fits x l a temps slots h =
+    let p = and_parts (nat_lt a.base x.temps) (is_below_if x.temps a.index && is_below_if x.slots a.slot) h in
+    let q = and_parts (is_below_if x.temps a.index) (is_below_if x.slots a.slot) p.1 in
+    rw (temps, slots) (ltb-true a.base x.temps p.0, below_if x.temps a.index q.0, below_if x.slots a.slot q.1)
+
+lacks_distinct : (x : ℕ) (ys : List ℕ) → not (list_any (λ y. y == x) ys) ≡ true → AllByRecursion (λ y. (x == y) ≡ false) ys
+lacks_distinct x [] h = tt
+lacks_distinct x (y ∷ ys) h = by (y == x) refl h (lacks_distinct x ys) where
+  turned : (y == x) ≡ false → (x == y) ≡ false
+  turned e = grind (arith, nat_tests, e)
+  by : (b : Bool) → (y == x) ≡ b → not (b || list_any (λ y. y == x) ys) ≡ true → (not (list_any (λ y. y == x) ys) ≡ true → AllByRecursion (λ y. (x == y) ≡ false) ys) → AllByRecursion (λ y. (x == y) ≡ false) (y ∷ ys)
+  by true e g rest = absurd cc
+  by false e g rest = (turned e, rest g)
+
+distinct : (xs : List ℕ) → is_distinct xs ≡ true → IsDistinct eqb xs
+unfolding IsDistinct
+distinct [] h = tt
+distinct (x ∷ xs) h = let p = and_parts (not (list_any (λ y. y == x) xs)) (is_distinct xs) h in (lacks_distinct x xs p.0, distinct xs p.1)
+
+member_below : (n : ℕ) (xs : List ℕ) → are_below n xs ≡ true → (q : ℕ) → list_any (eqb q) xs ≡ true → q < n
+member_below n [] h q e = absurd cc
+member_below n (x ∷ xs) h q e = let p = and_parts (nat_lt x n) (list_all (λ x. nat_lt x n) xs) h in by p.0 (member_below n xs p.1 q) (eqb q x) refl e where
+  by : nat_lt x n ≡ true → (list_any (eqb q) xs ≡ true → q < n) → (b : Bool) → eqb q x ≡ b → (b || list_any (eqb q) xs) ≡ true → q < n
+  by first rest true g e = let same = eqb-true q x g in let lt = ltb-true x n first in omega (arith, same, lt)
+  by first rest false g e = rest e
+
+list_fits : (x : Scope) (l : Words) (list : List ℕ) → length l.slots ≡ x.slots → is_list x list ≡ true → IsListFor l list
+list_fits x l list slots h =
+    let p = and_parts (are_below x.slots list) (is_distinct list) h in
+    rw slots ((λ k d within. ltb-true _ _ (all_of (λ y. nat_lt y x.slots) list p.0 k d within)), length-le_from_distinct_below list x.slots (distinct list p.1) (member_below x.slots list p.0))
+
+pub step_fits : (x : Scope) (l : Words) (s : Step) → length l.temps ≡ x.temps → length l.slots ≡ x.slots → is_step x s ≡ true → IsStepOf l s
+step_fits x l s temps slots h =
+    let p = and_parts (list_all (is_place x) s.places && (are_below x.temps s.temps && is_below_if x.temps s.to)) (has_counts (counts_of s.action) s && (is_action x s.action && is_own_list x s.action s.slots)) h in
+    let q = and_parts (list_all (is_place x) s.places) (are_below x.temps s.temps && is_below_if x.temps s.to) p.0 in
+    let r = and_parts (are_below x.temps s.temps) (is_below_if x.temps s.to) q.1 in
+    let u = and_parts (has_counts (counts_of s.action) s) (is_action x s.action && is_own_list x s.action s.slots) p.1 in
+    let v = and_parts (is_action x s.action) (is_own_list x s.action s.slots) u.1 in
+    let w = and_parts (is_list x s.slots) (may_wait s.action || (length s.slots == 0)) v.1 in
+    record {
+      scope = x;
+      action = v.0;
+      counts = u.0;
+      places = λ k d within. place_fits x l (slice_index_or s.places k d) temps slots (all_of (is_place x) s.places q.0 k d within);
+      temps = λ k d within. rw temps (ltb-true _ _ (all_of (λ y. nat_lt y x.temps) s.temps r.0 k d within));
+      to = rw temps (below_if x.temps s.to r.1);
+      list = list_fits x l s.slots slots w.0;
+    }
+
+pub look_fits : (x : Scope) (l : Words) (slot base : ℕ) → length l.temps ≡ x.temps → length l.slots ≡ x.slots → (nat_lt slot x.slots && nat_lt base x.temps) ≡ true → (slot < length l.slots) × (base < length l.temps)
+look_fits x l slot base temps slots h = let p = and_parts (nat_lt slot x.slots) (nat_lt base x.temps) h in rw (temps, slots) (ltb-true slot x.slots p.0, ltb-true base x.temps p.1)
+
+pub given_fits : (x : Scope) (l : Words) (temp : Option ℕ) → length l.temps ≡ x.temps → is_below_if x.temps temp ≡ true → ForSome temp (λ r. r < length l.temps)
+given_fits x l temp temps h = rw temps (below_if x.temps temp h)
+
+-- what it stands before, by the instruction
+pub stops_before : (code : LinearCode) (c : Context) → (s : Stands code c) → (i : Instr) → slice_get (instrs_of code.funcs (top_of c).at.function) (top_of c).at.index ≡ Some i
+    → stop_before (own_image code) s.most s.ends s.t (before_here s.t.callers (instr_here (Some i))) ≡ Some AtStep
+stops_before code c s i at =
+    subst (λ (o : Option Instr). stop_before (own_image code) s.most s.ends s.t (before_here s.t.callers (instr_here o)) ≡ Some AtStep)
+    (subst (λ (p : Point Spot Words). slice_get (instrs_of code.funcs p.at.function) p.at.index ≡ Some i) s.top_is at) s.stops
+
+pub here_at : (code : LinearCode) (c : Context) → (s : Stands code c) → (i : Instr) → slice_get (instrs_of code.funcs (top_of c).at.function) (top_of c).at.index ≡ Some i → (linear code.funcs).here s.t.top.at ≡ instr_here (Some i)
+here_at code c s i at = ap instr_here (subst (λ (p : Point Spot Words). slice_get (instrs_of code.funcs p.at.function) p.at.index ≡ Some i) s.top_is at)
+
+pub next_at : (code : LinearCode) (c : Context) → (s : Stands code c) → (i : Instr) → slice_get (instrs_of code.funcs (top_of c).at.function) (top_of c).at.index ≡ Some i
+    → (linear code.funcs).next s.t.top.at true ≡ record { function = s.t.top.at.function; index = instr_next s.t.top.at.index (Some i) true }
+next_at code c s i at =
+    ap (λ (o : Option Instr). record { function = s.t.top.at.function; index = instr_next s.t.top.at.index o true }) (subst (λ (p : Point Spot Words). slice_get (instrs_of code.funcs p.at.function) p.at.index ≡ Some i) s.top_is at)
+
+-- a return before which a thread stops is that of its first function
+pub last_call : (x : Image Spot) (most ends : ℕ) (t : Thread Spot Words) (cs : List (Point Spot Words)) → stop_before x most ends t (before_return cs) ≡ Some AtStep → cs ≡ []
+last_call x most ends t [] e = refl
+last_call x most ends t (c ∷ cs) e = absurd cc
+
+no_spent : (b : Bool) → spent_if b ≡ Some AtStep → ⊥
+no_spent true e = absurd cc
+no_spent false e = absurd cc
+
+-- nothing else is stopped before
+pub stops_at_these : (x : Image Spot) (most ends : ℕ) (t : Thread Spot Words) (i : CodeInstr) → stop_before x most ends t (before_here t.callers (instr_here (Some (instr_view i)))) ≡ Some AtStep
+    → ((slot base : ℕ) → i.kind ≢ kinds.Look slot base) → ((temp : Option ℕ) → i.kind ≢ kinds.Leave temp) → ((node : StepNode) → i.kind ≢ kinds.Step node) → ⊥
+stops_at_these x most ends t i e no_look no_leave no_step = by i.kind refl e where
+  by : (k : InstrKind) → i.kind ≡ k → stop_before x most ends t (before_here t.callers (instr_here (Some (instr_kind_view i.place k)))) ≡ Some AtStep → ⊥
+  by (kinds.Set to calc) is e = absurd cc
+  by (kinds.Step node) is e = no_step node is
+  by (kinds.Look slot base) is e = no_look slot base is
+  by (kinds.Safe slots) is e = no_spent _ e
+  by (kinds.Unless temp to) is e = absurd cc
+  by (kinds.Jump to) is e = absurd cc
+  by (kinds.Round to) is e = absurd cc
+  by (kinds.Enter node) is e = no_room_stops _ e
+  by (kinds.Leave temp) is e = no_leave temp is
