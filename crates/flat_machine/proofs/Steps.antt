@@ -52,9 +52,9 @@ use Rattle.flat_machine.specs.declared.done.Done.TheVariants as dones
 use Rattle.flat_machine.specs.declared.turned.Turned.{Turned}
 use Rattle.flat_machine.specs.Acting.{effect_before, effect_if}
 use Rattle.flat_machine.specs.Choices.{action_choice, choice_here, malloc_choice}
-use Rattle.flat_machine.specs.Shares.{Shared}
+use Rattle.flat_machine.specs.Shares.{Shared, image_of}
 use Rattle.flat_machine.specs.Turns.{done_turned, blocked_turned, outcome_turned, turned_before, turned_of, value_of, value_if}
-use Rattle.flat_machine.specs.inner.Acted.{IsSettled, IsStepOf, settled_stage, settled_turned, settled_wait, wait_turned}
+use Rattle.flat_machine.specs.inner.Acted.{IsSettled, IsStepOf, StepIsDone, settled_stage, settled_turned, settled_wait, wait_turned}
 use Rattle.flat_machine.specs.inner.Dones.{Does, WaitsFor, Went, done_view, memory_after, with_memory}
 use Rattle.flat_machine.specs.inner.Turneds.{turned_view}
 
@@ -560,3 +560,40 @@ stops_at_these x most ends t i e no_look no_leave no_step = by i.kind refl e whe
   by (kinds.Round to) is e = absurd cc
   by (kinds.Enter node) is e = no_room_stops _ e
   by (kinds.Leave temp) is e = no_leave temp is
+
+-- ---- the whole
+
+-- with the image and the settings of a run
+pub all_done : (code : LinearCode) (old new : Shared) (c behind : Context) (turned : Turned) → Comes (image_of code old) (own_image code) old new c behind (turned_view turned) → StepIsDone code old new c behind turned
+all_done code old new c behind turned h = record { shared = h.shared; context = h.context; stage = h.stage; turned_ = h.turned_ }
+
+-- a step is done
+pub step_is_done : (code : LinearCode) (old new : Shared) (c behind : Context) (turned : Turned) (s : Stands code c) (i : CodeInstr) (node : StepNode) (r : Done) → i.kind ≡ kinds.Step node
+    → slice_get (instrs_of code.funcs (top_of c).at.function) (top_of c).at.index ≡ Some (instr_view i) → c.wait ≡ waits_at (own_image code) c.stage
+    → Does old new r (done_at (image_of code old) c.number old.memory i.place (step_view node) (top_of c).own) → Went r (done_turned (image_of code old) old.memory (choice_at (image_of code old) c.number old.memory i.place (step_view node) (top_of c).own) (action_view node.action))
+    → WaitsFor r (action_waits (action_view node.action) (map (target_of (top_of c).own) (map place_view node.places.items)) (map (word_at (top_of c).own) node.temps.items)) → IsSettled (step_view node) r c behind turned → StepIsDone code old new c behind turned
+step_is_done code old new c behind turned s i node r is at wait d told waits_for settled =
+    let x : Image Spot = image_of code old in
+    let h : (linear code.funcs).here s.t.top.at ≡ does i.place (step (step_view node)) = here_at code c s (instr_view i) at ∙ ap (λ (k : InstrKind). instr_here (Some (instr_kind_view i.place k))) is in
+    let next : (linear code.funcs).next s.t.top.at true ≡ spot_behind s.t.top.at =
+        next_at code c s (instr_view i) at ∙ ap (λ (k : InstrKind). record { function = s.t.top.at.function; index = instr_next s.t.top.at.index (Some (instr_kind_view i.place k)) true }) is in
+    all_done code old new c behind turned (step_comes x (own_image code) old new c behind turned s.stage i.place (step_view node) r s.is s.inside s.t (s.t_is x) h next h wait
+    (subst (λ (p : Point Spot Words). Does old new r (done_at x c.number old.memory i.place (step_view node) p.own)) s.top_is d)
+    (subst (λ (p : Point Spot Words). Went r (done_turned x old.memory (choice_at x c.number old.memory i.place (step_view node) p.own) (action_view node.action))) s.top_is told)
+    (subst (λ (p : Point Spot Words). WaitsFor r (action_waits (action_view node.action) (map (target_of p.own) (map place_view node.places.items)) (map (word_at p.own) node.temps.items))) s.top_is waits_for)
+    settled)
+
+-- a first function returns
+pub leave_is_done : (code : LinearCode) (old new : Shared) (c behind : Context) (turned : Turned) (s : Stands code c) (i : CodeInstr) (temp : Option ℕ) (number word : ℕ) → i.kind ≡ kinds.Leave temp
+    → slice_get (instrs_of code.funcs (top_of c).at.function) (top_of c).at.index ≡ Some (instr_view i)
+    → word ≡ given (top_of c).own temp → number ≡ behind.number → c.number < length old.memory.threads → new ≡ with_memory old (thread_ended old.memory number word) → behind ≡ standing c None None → turned_view turned ≡ turns.ended (value_if (Some word))
+    → StepIsDone code old new c behind turned
+leave_is_done code old new c behind turned s i temp number word is at word_is number_is made left b ends =
+    let x : Image Spot = image_of code old in
+    let h : (linear code.funcs).here s.t.top.at ≡ returns temp = here_at code c s (instr_view i) at ∙ ap (λ (k : InstrKind). instr_here (Some (instr_kind_view i.place k))) is in
+    let stops : stop_before (own_image code) s.most s.ends s.t (before_return s.t.callers) ≡ Some AtStep =
+        subst (λ (k : InstrKind). stop_before (own_image code) s.most s.ends s.t (before_here s.t.callers (instr_here (Some (instr_kind_view i.place k)))) ≡ Some AtStep) is (stops_before code c s (instr_view i) at) in
+    let n_is : number ≡ c.number = number_is ∙ ap (λ (c : Context). c.number) b in
+    all_done code old new c behind turned (leave_comes x (own_image code) old new c behind (turned_view turned) s.stage temp word s.is s.inside s.t (s.t_is x) h (last_call (own_image code) s.most s.ends s.t s.t.callers stops)
+    (word_is ∙ ap (λ (p : Point Spot Words). given p.own temp) s.top_is) made
+    (subst (λ (n : ℕ). new ≡ with_memory old (thread_ended old.memory n word)) n_is left) b ends)

@@ -1,4 +1,3 @@
-use Rattle.flat_machine.proofs.Steps.{step_fits, stops_at_these}
 use Rattle.flat_machine.proofs.Waits.{waits_are_told}
 use Rattle.flat_machine.proofs.laws.waits_are_told.Goals as goal
 

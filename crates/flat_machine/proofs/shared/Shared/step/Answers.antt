@@ -7,7 +7,8 @@ use Rattle.struct_ir.specs.Instrs.{Instr}
 use Rattle.struct_ir.specs.ValidCode.{is_instr}
 use Rattle.flat_meaning.specs.Stages.{before_here}
 use Rattle.flat_meaning.specs.Local.{stop_before}
-use Rattle.flat_machine.proofs.Steps.{stands, in_range, look_fits, given_fits, step_fits, stops_before, stops_at_these, last_call, here_at, next_at, step_comes, look_comes, leave_comes}
+use Rattle.flat_machine.proofs.Steps.{stands, in_range, look_fits, given_fits, step_fits, stops_before, stops_at_these, last_call, step_is_done, leave_is_done}
+use Rattle.flat_threads.specs.Contexts.{own_image}
 use Rattle.flat_threads.specs.Deeds.{top_of}
 use Rattle.flat_machine.proofs.shared.Shared.step.Goals as goal
 
@@ -44,10 +45,16 @@ settle-requires-clause-step c =
 pub returns-in_default : goal.returns-in_default
 returns-in_default c =
     let s = stands c.args.program.now c.args.ctx.now c.requires.of c.requires.stopped in
-    absurd (stops_at_these _ s.most s.ends s.t c.instr.result.now (stops_before _ _ s _ c.instr.ensures.is) ? ? ?)
+    absurd (stops_at_these (own_image c.args.program.now) s.most s.ends s.t c.instr.result.now (stops_before c.args.program.now c.args.ctx.now s _ c.instr.ensures.is) c.in_default.not-Look c.in_default.not-Leave c.in_default.not-Step)
 
 pub returns-in-Leave : goal.returns-in-Leave
-returns-in-Leave c = ?
+returns-in-Leave c =
+    let s = stands c.args.program.now c.args.ctx.now c.requires.of c.requires.stopped in
+    leave_is_done c.args.program.now c.args.self.now c.finish.new.self c.args.ctx.now c.end.new.self c.finish.result s c.instr.result.now c.in-Leave.temp c.thread.result c.given-word.result c.in-Leave.is c.instr.ensures.is c.given-word.ensures c.thread.ensures.number c.requires.made c.finish.ensures.ended c.end.ensures
+    c.finish.ensures.turned
 
 pub returns-in-Step : goal.returns-in-Step
-returns-in-Step c = ?
+returns-in-Step c =
+    let s = stands c.args.program.now c.args.ctx.now c.requires.of c.requires.stopped in
+    step_is_done c.args.program.now c.args.self.now c.done-done.new.self c.args.ctx.now c.settle.new.ctx c.settle.result s c.instr.result.now c.in-Step.node c.done-done.result c.in-Step.is c.instr.ensures.is c.requires.of.wait (c.done-done.ensures.does c.args.program.now)
+    (c.done-done.ensures.told c.args.program.now) c.done-done.ensures.waits c.settle.ensures
