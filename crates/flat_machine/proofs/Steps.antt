@@ -1,5 +1,5 @@
 -- The step, the Look or the return before which a thread stands, from what stands there.
-use Rattle.std.proofs.Common.{◌≡◌, ℕ, zero, suc, ◌+◌, ◌<◌, ◌≤◌, Bool, true, false, ◌&&◌, ◌||◌, ◌==◌, not, eqb, ◌≢◌, List, [], ◌∷◌, length, map, All, get_or, Option, Some, None, refl, ap, sym, ◌∙◌, subst, arith}
+use Rattle.std.proofs.Common.{◌≡◌, ℕ, zero, suc, ◌+◌, ◌<◌, ◌≤◌, Bool, true, false, cond, ◌&&◌, ◌||◌, ◌==◌, not, eqb, ◌≢◌, List, [], ◌∷◌, length, map, All, get_or, Option, Some, None, refl, ap, sym, ◌∙◌, subst, arith}
 use Rattle.std.specs.Prelude.{slice_get, slice_index_or, slice_set, is_none, nat_lt}
 use Rattle.std.proofs.lemmas.Bool.{and_parts, eqb-true, ltb-true}
 use Rattle.struct_ir.specs.declared.code.StepNode.{StepNode}
@@ -33,6 +33,8 @@ use Rattle.flat_meaning.specs.Accesses.{Choice}
 use Rattle.flat_meaning.specs.Actions.{acted, locked, started, unlocked}
 use Rattle.flat_meaning.specs.Effects as effects
 use Rattle.flat_meaning.specs.Effects.{Effect, landing, own_list_of}
+use Rattle.flat_meaning.specs.declared.endings.End.{End}
+use Rattle.flat_meaning.specs.Stages as stages
 use Rattle.flat_meaning.specs.Image.{Image, Layout}
 use Rattle.flat_meaning.specs.Local.{no_room_if, spent_if, stop_before}
 use Rattle.flat_meaning.specs.Local.{stop_at as stop_at_stage}
@@ -291,7 +293,7 @@ look_comes x own old new c behind stage place slot base word address at call t t
     let m : Memory = old.memory in
     let eff = look_effect_is x n m place slot base stage call (rw (← t_is) h) in
     let l : looked_stage (Some stage) slot word address ≡ Some (going (looked_at x n m place slot base t)) =
-        looked_is x n m place slot base stage call word address ∙ ap (λ (t : Thread Spot Words). Some (going (looked_thread t slot word address))) (sym t_is) ∙ ap (λ (t : Thread Spot Words). Some (going t)) (same_looked x n m place slot base t next word address word_is address_is) in
+    looked_is x n m place slot base stage call word address ∙ ap (λ (t : Thread Spot Words). Some (going (looked_thread t slot word address))) (sym t_is) ∙ ap (λ (t : Thread Spot Words). Some (going t)) (same_looked x n m place slot base t next word address word_is address_is) in
     comes x own old new c behind turns.looked (Some stage) (Some (going (looked_at x n m place slot base t))) None at
     (b ∙ ap (λ (o : Option (Stage Spot)). standing c (looked_stage o slot word address) None) at ∙ ap (λ o. standing c o None) l)
     (same ∙ ap (λ (e : Effect Spot). with_memory old e.memory) (sym eff))
@@ -477,6 +479,7 @@ lacks_distinct x [] h = tt
 lacks_distinct x (y ∷ ys) h = by (y == x) refl h (lacks_distinct x ys) where
   turned : (y == x) ≡ false → (x == y) ≡ false
   turned e = grind (arith, nat_tests, e)
+
   by : (b : Bool) → (y == x) ≡ b → not (b || list_any (λ y. y == x) ys) ≡ true → (not (list_any (λ y. y == x) ys) ≡ true → AllByRecursion (λ y. (x == y) ≡ false) ys) → AllByRecursion (λ y. (x == y) ≡ false) (y ∷ ys)
   by true e g rest = absurd cc
   by false e g rest = (turned e, rest g)
@@ -576,7 +579,7 @@ step_is_done code old new c behind turned s i node r is at wait d told waits_for
     let x : Image Spot = image_of code old in
     let h : (linear code.funcs).here s.t.top.at ≡ does i.place (step (step_view node)) = here_at code c s (instr_view i) at ∙ ap (λ (k : InstrKind). instr_here (Some (instr_kind_view i.place k))) is in
     let next : (linear code.funcs).next s.t.top.at true ≡ spot_behind s.t.top.at =
-        next_at code c s (instr_view i) at ∙ ap (λ (k : InstrKind). record { function = s.t.top.at.function; index = instr_next s.t.top.at.index (Some (instr_kind_view i.place k)) true }) is in
+    next_at code c s (instr_view i) at ∙ ap (λ (k : InstrKind). record { function = s.t.top.at.function; index = instr_next s.t.top.at.index (Some (instr_kind_view i.place k)) true }) is in
     all_done code old new c behind turned (step_comes x (own_image code) old new c behind turned s.stage i.place (step_view node) r s.is s.inside s.t (s.t_is x) h next h wait
     (subst (λ (p : Point Spot Words). Does old new r (done_at x c.number old.memory i.place (step_view node) p.own)) s.top_is d)
     (subst (λ (p : Point Spot Words). Went r (done_turned x old.memory (choice_at x c.number old.memory i.place (step_view node) p.own) (action_view node.action))) s.top_is told)
@@ -592,8 +595,56 @@ leave_is_done code old new c behind turned s i temp number word is at word_is nu
     let x : Image Spot = image_of code old in
     let h : (linear code.funcs).here s.t.top.at ≡ returns temp = here_at code c s (instr_view i) at ∙ ap (λ (k : InstrKind). instr_here (Some (instr_kind_view i.place k))) is in
     let stops : stop_before (own_image code) s.most s.ends s.t (before_return s.t.callers) ≡ Some AtStep =
-        subst (λ (k : InstrKind). stop_before (own_image code) s.most s.ends s.t (before_here s.t.callers (instr_here (Some (instr_kind_view i.place k)))) ≡ Some AtStep) is (stops_before code c s (instr_view i) at) in
+    subst (λ (k : InstrKind). stop_before (own_image code) s.most s.ends s.t (before_here s.t.callers (instr_here (Some (instr_kind_view i.place k)))) ≡ Some AtStep) is (stops_before code c s (instr_view i) at) in
     let n_is : number ≡ c.number = number_is ∙ ap (λ (c : Context). c.number) b in
     all_done code old new c behind turned (leave_comes x (own_image code) old new c behind (turned_view turned) s.stage temp word s.is s.inside s.t (s.t_is x) h (last_call (own_image code) s.most s.ends s.t s.t.callers stops)
     (word_is ∙ ap (λ (p : Point Spot Words). given p.own temp) s.top_is) made
     (subst (λ (n : ℕ). new ≡ with_memory old (thread_ended old.memory n word)) n_is left) b ends)
+
+-- ---- where no step is done
+
+-- what threads share and the stage stay as they are
+pub record Stays (x : Image Spot) (n : ℕ) (m : Memory) (stage : Option (Stage Spot)) (stop : Stop) (turned : turns.Turned) : Type 0 where
+  pub memory : (effect_if x n m stage (Some stop)).memory ≡ m
+  pub same : (effect_if x n m stage (Some stop)).stage ≡ stage
+  pub turned_ : turned_of x n m stage (Some stop) ≡ turned
+
+-- a thread rests
+pub rests : (x : Image Spot) (n : ℕ) (m : Memory) (stage : Stage Spot) → Stays x n m (Some stage) Spent turns.rested
+rests x n m stage = record { memory = refl; same = refl; turned_ = refl }
+
+either_memory : (b : Bool) (m : Memory) (stage : Stage Spot) (end : End) → (cond b (effects.no_effect m stage) (effects.ends_run m stage end)).memory ≡ m
+either_memory true m stage end = refl
+either_memory false m stage end = refl
+
+either_stage : (b : Bool) (m : Memory) (stage : Stage Spot) (end : End) → (cond b (effects.no_effect m stage) (effects.ends_run m stage end)).stage ≡ Some stage
+either_stage true m stage end = refl
+either_stage false m stage end = refl
+
+spent_no_room : (b : Bool) → spent_if b ≡ Some NoRoom → ⊥
+spent_no_room true e = absurd cc
+spent_no_room false e = absurd cc
+
+module _ (x own : Image Spot) (n : ℕ) (m : Memory) (choice : Choice) (most ends : ℕ) (stage : Stage Spot) (t : Thread Spot Words) where
+  lacks_memory : (b : Before) → stop_before own most ends t b ≡ Some NoRoom → (effects.act_before x n choice stage t m b).memory ≡ m
+  lacks_memory stages.safe e = refl
+  lacks_memory looks e = refl
+  lacks_memory steps e = absurd cc
+  lacks_memory (stages.calls function) e = either_memory _ m stage _
+  lacks_memory stages.turn_over e = refl
+  lacks_memory stages.nothing e = refl
+
+  lacks_stage : (b : Before) → stop_before own most ends t b ≡ Some NoRoom → (effects.act_before x n choice stage t m b).stage ≡ Some stage
+  lacks_stage stages.safe e = refl
+  lacks_stage looks e = refl
+  lacks_stage steps e = absurd cc
+  lacks_stage (stages.calls function) e = either_stage _ m stage _
+  lacks_stage stages.turn_over e = refl
+  lacks_stage stages.nothing e = refl
+
+-- a call has no room
+pub lacks : (code : LinearCode) (s : Shared) (n : ℕ) (stage : Stage Spot) (most ends : ℕ) → stop_at_stage (own_image code) most ends stage ≡ Some NoRoom → Stays (image_of code s) n s.memory (Some stage) NoRoom turns.lacked_stack
+lacks code s n (starts function argument) most ends e = record { memory = either_memory _ s.memory _ _; same = either_stage _ s.memory _ _; turned_ = refl }
+lacks code s n (going t) most ends e = record { memory = lacks_memory (image_of code s) (own_image code) n s.memory _ most ends (going t) t _ e; same = lacks_stage (image_of code s) (own_image code) n s.memory _ most ends (going t) t _ e; turned_ = refl }
+lacks code s n (waiting t) most ends e = record { memory = lacks_memory (image_of code s) (own_image code) n s.memory _ most ends (waiting t) t _ e; same = lacks_stage (image_of code s) (own_image code) n s.memory _ most ends (waiting t) t _ e; turned_ = refl }
+lacks code s n (landed list t) most ends e = record { memory = lacks_memory (image_of code s) (own_image code) n s.memory _ most ends (landed list t) t _ e; same = lacks_stage (image_of code s) (own_image code) n s.memory _ most ends (landed list t) t _ e; turned_ = refl }
