@@ -99,7 +99,6 @@ module _ (bytes : List ℕ) (at : ℕ) where
     where
       first : IsFirstOutside bytes at (room + 1) e
       first = (outside_meant bytes at (room + 1) e).0 is
-
       by : (at < e) ⊎ (e ≤ at) → text_at bytes at room ≡ outside e
       by (inl below) =
           let here = (has 0 (omega arith)).0 in

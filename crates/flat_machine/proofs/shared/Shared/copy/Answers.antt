@@ -16,12 +16,12 @@ returns-clause-does c =
     let from = target_view c.args.from in
     let bytes : List ℕ = v.memory.storage.bytes in
     does_same v c.args.self.now _ c.match-copy.result (λ s. copied to from c.args.n s.memory) c.self.view_is (
-    elim c.match-copy.branch [
-      | in-Ok w ↦
-          does_write v kinds.Copy (first_outside_of_both bytes to.address from.address c.args.n) c.match-copy.result c.copy.new.self to.address (bytes_from bytes from.address c.args.n) None _ (w.result-is ∙ w.plain.ensures)
-          (none_of_both bytes to.address from.address c.args.n (w.in-Ok.ensures.within.0 refl))
-          w.in-Ok.ensures.copied
-      | in-Err w ↦
-          does_reach v kinds.Copy (first_outside_of_both bytes to.address from.address c.args.n) c.match-copy.result c.copy.new.self w.in-Err.outside.0 _ w.result-is w.in-Err.ensures.outside w.in-Err.ensures.unchanged
-    ]
+      elim c.match-copy.branch [
+        | in-Ok w ↦
+            does_write v kinds.Copy (first_outside_of_both bytes to.address from.address c.args.n) c.match-copy.result c.copy.new.self to.address (bytes_from bytes from.address c.args.n) None _ (w.result-is ∙ w.plain.ensures)
+            (none_of_both bytes to.address from.address c.args.n (w.in-Ok.ensures.within.0 refl))
+            w.in-Ok.ensures.copied
+        | in-Err w ↦
+            does_reach v kinds.Copy (first_outside_of_both bytes to.address from.address c.args.n) c.match-copy.result c.copy.new.self w.in-Err.outside.0 _ w.result-is w.in-Err.ensures.outside w.in-Err.ensures.unchanged
+      ]
     )

@@ -23,10 +23,10 @@ returns-clause-does c =
     let d = joined_is v.memory c.self.inside.threads.items refl c.args.number c.index.result.now c.in-Some.word within c.index.ensures c.in-Some.is to c.if-to-eq0.false in
     does_same v c.args.self.now _ c.match-store.result (λ s. joined_if to (slice_get s.memory.threads c.args.number) s.memory) c.self.view_is
     (subst (λ (d : Done). Does v (with_arena v c.store.new.self) c.match-store.result d) (sym d) (
-    elim c.match-store.branch [
-      | in-Ok w ↦
-          does_write v kinds.Join outside c.match-store.result c.store.new.self to.address (low_bytes 4 c.in-Some.word) (Some 0) _ (w.result-is ∙ w.went-in-Ok.ensures) (none_outside _ _ _ (w.in-Ok.ensures.within.0 refl)) w.in-Ok.ensures.stored
-      | in-Err w ↦
-          does_reach v kinds.Join outside c.match-store.result c.store.new.self w.in-Err.outside.0 _ w.result-is w.in-Err.ensures.outside w.in-Err.ensures.unchanged
-    ]
+      elim c.match-store.branch [
+        | in-Ok w ↦
+            does_write v kinds.Join outside c.match-store.result c.store.new.self to.address (low_bytes 4 c.in-Some.word) (Some 0) _ (w.result-is ∙ w.went-in-Ok.ensures) (none_outside _ _ _ (w.in-Ok.ensures.within.0 refl)) w.in-Ok.ensures.stored
+        | in-Err w ↦
+            does_reach v kinds.Join outside c.match-store.result c.store.new.self w.in-Err.outside.0 _ w.result-is w.in-Err.ensures.outside w.in-Err.ensures.unchanged
+      ]
     ))

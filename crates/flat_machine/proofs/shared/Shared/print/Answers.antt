@@ -20,10 +20,10 @@ pub returns-after-fault-clause-does : goal.returns-after-fault-clause-does
 returns-after-fault-clause-does c =
     let v = the_view c.self-2.inside in
     let r_is : c.match-fault.result ≡ fault_done c.in-Err.fault =
-    elim c.match-fault.branch [
-      | in-Outside w ↦ rw w.in-Outside.is w.result-is
-      | in-Full w ↦ rw w.in-Full.is w.result-is
-    ] in
+        elim c.match-fault.branch [
+          | in-Outside w ↦ rw w.in-Outside.is w.result-is
+          | in-Full w ↦ rw w.in-Full.is w.result-is
+        ] in
     print_stopped c.args.self.now c.put_pieces.new.self _ _ c.in-Err.fault c.match-fault.result c.len-before.result (before_is (goal.at.returns-after-fault-clause-does c).After-len-before) c.in-Err.ensures
     (ap (with_output v) c.truncate.ensures.items ∙ ap (λ (s : Shared). with_output s (take c.len-before.result s.memory.output)) c.self-2.view_is)
     r_is

@@ -46,13 +46,13 @@ loop-piece-preserved c =
     let targets : List Target = map (target_of own) (map place_view c.args.places.now) in
     let words : List ℕ = map (word_at own) c.args.temps.now in
     elim c.match-piece.branch [
-      | in-Bytes+in_ok-put_bytes-in-Bytes w ↦
+      | in-Bytes+in_ok-put_bytes-in-Bytes w ↦ 
           rw (w.self-is, w.texts-is, w.numbers-is)
           ((next_bytes c.args.self.now l.self _ c.args.pieces.now targets words l.piece-index l.texts l.numbers l.invariant c.piece-item.result c.loop-piece-test.true c.piece-item.is _ (ap piece_view w.in-Bytes.is) w.put_bytes.new.self w.put_bytes.result (subst (λ (all : List ℕ). PutsBytes all l.self w.put_bytes.new.self w.put_bytes.result) w.deref.ensures.value w.put_bytes.ensures)).goes w.in_ok-put_bytes-in-Bytes.was)
       | in-Text+in_ok-put_text-in-Text w ↦
           rw (w.self-is, w.texts-is, w.numbers-is)
           ((next_text c.args.self.now l.self _ c.args.pieces.now targets words l.piece-index l.texts l.numbers l.invariant c.piece-item.result c.loop-piece-test.true c.piece-item.is (ap piece_view w.in-Text.is) (target_view w.target.result) (λ within. target_there own c.args.places.now l.texts _ _ within w.target.ensures) w.put_text.new.self w.put_text.result w.put_text.ensures).goes w.in_ok-put_text-in-Text.was)
-      | in_default+in_ok-put_number-in_default w ↦
+      | in_default+in_ok-put_number-in_default w ↦ 
           rw (w.self-is, w.texts-is, w.numbers-is)
           ((next_number c.args.self.now l.self _ c.args.pieces.now targets words l.piece-index l.texts l.numbers l.invariant c.piece-item.result c.loop-piece-test.true c.piece-item.is (others_take c.piece-item.result w.in_default.not-Bytes w.in_default.not-Text) w.word.result (λ within. word_there own c.args.temps.now l.numbers _ within w.word.ensures) w.put_number.new.self w.put_number.result w.put_number.ensures).goes w.in_ok-put_number-in_default.was)
     ]
