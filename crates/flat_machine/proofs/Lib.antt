@@ -15,3 +15,4 @@ pub mod Serves
 pub mod Slid
 pub mod Waiting
 pub mod Opened
+pub mod Steps

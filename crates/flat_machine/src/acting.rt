@@ -1,23 +1,21 @@
 //! A thread's pending step.
 
-ghost use Rattle.std.specs.Prelude.{◌≡◌, ◌<◌, ◌≤◌, All, length, map, true, IsSome};
-ghost use Rattle.std.specs.Option.{ForSome};
+ghost use Rattle.std.specs.Prelude.{◌≡◌, ◌+◌, ◌^◌, ◌<◌, length, map, IsSome};
 ghost use Rattle.struct_ir.specs.Instrs.{LinearCode};
-ghost use Rattle.struct_ir.specs.Valid.{counts_of, has_counts};
-ghost use Rattle.struct_ir.specs.Views.{action_view, step_view};
+ghost use Rattle.struct_ir.specs.Views.{step_view};
 ghost use Rattle.flat_meaning.specs.declared.endings.Stop.TheVariants.{AtStep};
 ghost use Rattle.flat_meaning.specs.Actions.{acted};
 ghost use Rattle.flat_meaning.specs.Words.{target_of, word_at};
 ghost use Rattle.flat_rules.specs.Answers.{step_of};
 ghost use Rattle.flat_threads.specs.Belonging.{HasStopped, IsContextOf};
 ghost use Rattle.flat_threads.specs.Contexts.{IsInCall, own_image};
-ghost use Rattle.flat_threads.specs.Deeds.{ArePlacesOf, top_of};
+ghost use Rattle.flat_threads.specs.Deeds.{top_of};
 ghost use Rattle.flat_threads.specs.Waits.{action_waits};
 ghost use Rattle.flat_machine.specs.Acting.{acted_by};
 ghost use Rattle.flat_machine.specs.Choices.{action_choice, malloc_choice};
 ghost use Rattle.flat_machine.specs.Shares.{IsSharedOf, image_of};
 ghost use Rattle.flat_machine.specs.Turns.{done_turned};
-ghost use Rattle.flat_machine.specs.inner.Acted.{IsSettled, StepIsDone};
+ghost use Rattle.flat_machine.specs.inner.Acted.{IsSettled, IsStepOf, StepIsDone};
 ghost use Rattle.flat_machine.specs.inner.Dones.{Does, WaitsFor, Went};
 
 use crate::done::Done;
@@ -82,9 +80,7 @@ impl Shared {
     fn done(&mut self, ctx: &Context, node: &StepNode) -> Done
         requires call { IsInCall ctx.now.stage }
         requires number { ctx.now.number < 64 }
-        requires counts { has_counts (counts_of (action_view node.now.action)) (step_view node.now) ≡ true }
-        requires places { ArePlacesOf (top_of ctx.now).own (step_view node.now).places }
-        requires temps { All (λ r. r < length (top_of ctx.now).own.temps) (step_view node.now).temps }
+        requires step { IsStepOf (top_of ctx.now).own (step_view node.now) }
         ensures does { (code : LinearCode) → let l = (top_of ctx.now).own in let s = step_view node.now in Does self.old self.new result
             (acted (image_of code self.old).layout ctx.now.number (action_choice (malloc_choice self.old.memory.storage) l s.action s.temps) s.action (map (target_of l) s.places) (map (word_at l) s.temps) self.old.memory) }
         ensures told { (code : LinearCode) → let l = (top_of ctx.now).own in let s = step_view node.now in
@@ -121,8 +117,8 @@ impl Shared {
 // What the thread has behind an action, and how its step went.
 fn settle(ctx: &mut Context, node: &StepNode, done: Done) -> Turned
     requires call { IsInCall ctx.old.stage }
-    requires to { ForSome node.now.to (λ r. r < length (top_of ctx.old).own.temps) }
-    requires room { length node.now.slots.items ≤ 1024 }
+    requires step { IsStepOf (top_of ctx.old).own (step_view node.now) }
+    requires index { (top_of ctx.old).at.index + 1 < 2 ^ 32 }
     ensures { IsSettled (step_view node.now) done ctx.old ctx.new result }
 {
     match done {

@@ -1,12 +1,15 @@
 -- What the parts of act leave.
-use Rattle.std.specs.Prelude.{◌≡◌, ℕ, Option, Some, None}
+use Rattle.std.specs.Prelude.{◌≡◌, ◌<◌, All, length, true, Option, Some, None}
+use Rattle.std.specs.Option.{ForSome}
 use Rattle.struct_ir.specs.Nodes.{Step}
+use Rattle.struct_ir.specs.Valid.{Scope, counts_of, has_counts, is_action}
 use Rattle.struct_ir.specs.Instrs.{LinearCode}
 use Rattle.struct_ir.specs.Linear.{Spot}
 use Rattle.flat_meaning.specs.declared.endings.Stop.TheVariants.{AtStep}
 use Rattle.flat_meaning.specs.Stages.{Stage}
-use Rattle.flat_threads.specs.Contexts.{Context, own_image, standing}
-use Rattle.flat_threads.specs.Deeds.{landed_stage, waiting_stage}
+use Rattle.flat_meaning.specs.Words.{Words}
+use Rattle.flat_threads.specs.Contexts.{Context, IsListFor, own_image, standing}
+use Rattle.flat_threads.specs.Deeds.{ArePlacesOf, landed_stage, waiting_stage}
 use Rattle.flat_threads.specs.declared.wait.Wait.{Wait}
 use Rattle.flat_threads.specs.declared.wait.Wait.TheVariants as waits
 use Rattle.flat_threads.specs.Waits.{waits_at}
@@ -28,6 +31,16 @@ pub record StepIsDone (code : LinearCode) (old new : Shared) (c behind : Context
   pub turned_ : turned_view turned ≡ turned_of (image_of code old) c.number old.memory c.stage (Some AtStep)
 
 -- ---- a step that was done, or not
+
+-- a valid step of a call: it has just what its action takes, and each number is one of the call's
+pub record IsStepOf (l : Words) (s : Step) : Type 0 where
+  pub scope : Scope
+  pub action : is_action scope s.action ≡ true
+  pub counts : has_counts (counts_of s.action) s ≡ true
+  pub places : ArePlacesOf l s.places
+  pub temps : All (λ r. r < length l.temps) s.temps
+  pub to : ForSome s.to (λ r. r < length l.temps)
+  pub list : IsListFor l s.slots
 
 -- its stage
 abbrev pub settled_stage : Step → Option (Stage Spot) → Done → Option (Stage Spot)
