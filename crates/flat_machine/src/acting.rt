@@ -3,6 +3,7 @@
 ghost use Rattle.std.specs.Prelude.{◌≡◌, ◌+◌, ◌^◌, ◌<◌, length, map, IsSome};
 ghost use Rattle.struct_ir.specs.Instrs.{LinearCode};
 ghost use Rattle.struct_ir.specs.Views.{step_view};
+ghost use Rattle.flat_meaning.specs.declared.endings.Stop.{Stop as FlatStop};
 ghost use Rattle.flat_meaning.specs.declared.endings.Stop.TheVariants.{AtStep};
 ghost use Rattle.flat_meaning.specs.Actions.{acted};
 ghost use Rattle.flat_meaning.specs.Words.{target_of, word_at};
@@ -15,7 +16,7 @@ ghost use Rattle.flat_machine.specs.Acting.{acted_by};
 ghost use Rattle.flat_machine.specs.Choices.{action_choice, malloc_choice};
 ghost use Rattle.flat_machine.specs.Shares.{IsSharedOf, image_of};
 ghost use Rattle.flat_machine.specs.Turns.{done_turned};
-ghost use Rattle.flat_machine.specs.inner.Acted.{IsSettled, IsStepOf, StepIsDone};
+ghost use Rattle.flat_machine.specs.inner.Acted.{TurnIsDone, IsSettled, IsStepOf, StepIsDone};
 ghost use Rattle.flat_machine.specs.inner.Dones.{Does, WaitsFor, Went};
 
 use crate::done::Done;
@@ -39,16 +40,30 @@ pub fn act(shared: &mut Shared, program: &Program, ctx: &mut Context) -> Step
     ensures context { ctx.new ≡ (acted_by program.now shared.old ctx.old).context }
     ensures step { result ≡ step_of ctx.old.number (acted_by program.now shared.old ctx.old).turned }
 {
-    let turned = match ctx.take_stop() {
-        Some(Stop::NoRoom) => Turned::LackedStack,
-        Some(Stop::AtStep) => shared.step(program, ctx),
-        _ => Turned::Rested,
-    };
+    let stop = ctx.take_stop();
+    let turned = shared.turn(program, ctx, stop);
     shared.tell(turned.entry(ctx.thread(), ctx.turns()));
     turned.step(ctx.thread())
 }
 
 impl Shared {
+    // What a thread does that has stopped for this reason.
+    fn turn(&mut self, program: &Program, ctx: &mut Context, stop: Option<Stop>) -> Turned
+        requires of { IsContextOf program.now ctx.old }
+        requires shared { IsSharedOf program.now self.old }
+        requires stopped { (reason : FlatStop) → stop ≡ Some reason → HasStopped (own_image program.now) ctx.old.stage reason }
+        requires some { IsSome stop }
+        requires made { ctx.old.number < length self.old.memory.threads }
+        ensures { TurnIsDone program.now stop self.old self.new ctx.old ctx.new result }
+    {
+        match stop {
+            Some(Stop::AtStep) => self.step(program, ctx),
+            Some(Stop::NoRoom) => Turned::LackedStack,
+            Some(Stop::Spent) => Turned::Rested,
+            None => unreachable!(),
+        }
+    }
+
     // The Look, the step or the return before which the thread stands.
     fn step(&mut self, program: &Program, ctx: &mut Context) -> Turned
         requires of { IsContextOf program.now ctx.old }

@@ -5,6 +5,7 @@ use Rattle.struct_ir.specs.Nodes.{Step}
 use Rattle.struct_ir.specs.Valid.{Scope, counts_of, has_counts, is_action}
 use Rattle.struct_ir.specs.Instrs.{LinearCode}
 use Rattle.struct_ir.specs.Linear.{Spot}
+use Rattle.flat_meaning.specs.declared.endings.Stop.{Stop}
 use Rattle.flat_meaning.specs.declared.endings.Stop.TheVariants.{AtStep}
 use Rattle.flat_meaning.specs.Stages.{Stage}
 use Rattle.flat_meaning.specs.Words.{Words}
@@ -29,6 +30,12 @@ pub record StepIsDone (code : LinearCode) (old new : Shared) (c behind : Context
   pub context : behind ≡ standing c behind.stage (waits_at (own_image code) behind.stage)
   pub stage : behind.stage ≡ (effect_if (image_of code old) c.number old.memory c.stage (Some AtStep)).stage
   pub turned_ : turned_view turned ≡ turned_of (image_of code old) c.number old.memory c.stage (Some AtStep)
+
+-- what a thread does that has stopped for this reason
+pub record TurnIsDone (code : LinearCode) (stop : Option Stop) (old new : Shared) (c behind : Context) (turned : Turned) : Type 0 where
+  pub shared : new ≡ with_memory old (effect_if (image_of code old) c.number old.memory c.stage stop).memory
+  pub context : behind ≡ standing c (effect_if (image_of code old) c.number old.memory c.stage stop).stage (waits_at (own_image code) (effect_if (image_of code old) c.number old.memory c.stage stop).stage)
+  pub turned_ : turned_view turned ≡ turned_of (image_of code old) c.number old.memory c.stage stop
 
 -- ---- a step that was done, or not
 
