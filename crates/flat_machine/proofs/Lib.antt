@@ -15,3 +15,5 @@ pub mod Serves
 pub mod Slid
 pub mod Waiting
 pub mod Opened
+pub mod Lawful
+pub mod Kept
