@@ -16,3 +16,5 @@ pub mod Slid
 pub mod Waiting
 pub mod Opened
 pub mod Steps
+pub mod Lawful
+pub mod Kept

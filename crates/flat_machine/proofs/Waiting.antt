@@ -1,13 +1,13 @@
 -- A malloc that waits, and what serving it does.
-use Rattle.std.proofs.Common.{◌≡◌, ℕ, zero, suc, ◌+◌, ◌<◌, Bool, true, false, eqb, ltb, ◌&&◌, List, [], ◌∷◌, ◌++◌, length, map, Option, Some, None, refl, sym, ap, ◌∙◌, subst, arith}
+use Rattle.std.proofs.Common.{◌≡◌, ℕ, zero, suc, ◌+◌, ◌<◌, Bool, true, false, eqb, ltb, ◌&&◌, cond, List, [], ◌∷◌, ◌++◌, length, map, Option, Some, None, refl, sym, ap, ◌∙◌, subst, arith}
 use Rattle.std.specs.Prelude.{slice_get}
 use Rattle.std.specs.List.{list_all}
 use Rattle.std.specs.Option.{ForSome}
 use Rattle.std.proofs.lemmas.Bool.{eqb-true, ltb-true}
-use Rattle.struct_ir.specs.Nodes.{Action, load, store, copy_bytes, malloc, free, print, lock, unlock, destroy, start, join, set, call, step, look, safepoint, begin_object, end_object, Step, Act}
+use Rattle.struct_ir.specs.Nodes.{Action, load, store, copy_bytes, malloc, free, print, lock, unlock, destroy, start, join, set, call, step, look, safepoint, begin_object, end_object, may_wait, Step, Act}
 use Rattle.struct_ir.specs.Flow.{Here, does, tests, passes, round, returns}
 use Rattle.struct_ir.specs.Instrs.{Instr, acts, unless, jump, round_to, leave, LinearCode, LinearFunc, instrs_if, instrs_of}
-use Rattle.struct_ir.specs.Linear.{Spot, instr_here}
+use Rattle.struct_ir.specs.Linear.{Spot, instr_here, linear}
 use Rattle.struct_ir.specs.Machine.{Point}
 use Rattle.struct_ir.specs.Threads.{Thread}
 use Rattle.struct_ir.specs.Valid.{Scope, are_below, is_action, is_own_list, is_place, has_counts, counts_of, is_below_if, is_step}
@@ -21,6 +21,7 @@ use Rattle.flat_meaning.specs.Effects.{Effect, serve_effect}
 use Rattle.flat_meaning.specs.Image.{Image, Layout, Limits, limits_for}
 use Rattle.flat_meaning.specs.Memory.{Memory}
 use Rattle.flat_meaning.specs.Machine.{served_by}
+use Rattle.flat_meaning.specs.Allowed.{list_at}
 use Rattle.flat_meaning.specs.Ready as stages
 use Rattle.struct_ir.specs.Threads as threads
 use Rattle.struct_ir.specs.Threads.{Served}
@@ -28,8 +29,9 @@ use Rattle.flat_meaning.specs.Accesses.{Fault}
 use Rattle.flat_meaning.specs.Stages.{Stage, starts, going, waiting, landed}
 use Rattle.flat_meaning.specs.Words.{Target, Used, Words, none_used, used_with, word_at, target_of}
 use Rattle.flat_threads.specs.Belonging.{IsContextOf}
-use Rattle.flat_threads.specs.Contexts.{AreCallsOf, Context, IsCallOf, IsStageIf, IsThreadOf, layout_of, own_image, standing}
+use Rattle.flat_threads.specs.Contexts.{AreCallsOf, Context, IsCallOf, IsListFor, IsStageIf, IsThreadOf, layout_of, own_image, standing}
 use Rattle.flat_threads.specs.Deeds.{landed_stage, stepped, top_at, top_of, with_word}
+use Rattle.flat_threads.proofs.Listed.{listed_for}
 use Rattle.flat_threads.specs.Waits.{action_waits, waits_at, waits_here}
 use Rattle.flat_threads.specs.declared.wait.Wait.TheVariants.{Room, Mutex}
 use Rattle.flat_machine.specs.declared.turned.Turned.{Turned}
@@ -191,6 +193,15 @@ before_malloc p c i of_ waits at =
     let calls : IsThreadOf p w.thread = subst (IsStageIf p) w.is of_.stage in
     let call = first_call p (layout_of p) w.thread.top w.thread.callers calls in
     record { thread = w.thread; is = w.is; top = top; there = there; at = malloc_at p w.thread i call.0 of_.program.valid call.1 w.here there }
+
+-- its list names slots of the call
+pub list_before : (p : LinearCode) (c : Context) (i : Instr) → IsContextOf p c → (b : IsBefore p c i) → IsListFor (top_of c).own b.at.node.slots
+list_before p c i of_ b =
+    let calls : IsThreadOf p b.thread = subst (IsStageIf p) b.is of_.stage in
+    let call = first_call p (layout_of p) b.thread.top b.thread.callers calls in
+    let here : (linear p.funcs).here b.thread.top.at ≡ does b.at.place (step b.at.node) = ap instr_here (b.there ∙ ap Some b.at.is) in
+    let list : list_at ((linear p.funcs).here b.thread.top.at) ≡ Some b.at.node.slots = ap list_at here ∙ ap (λ a. cond (may_wait a) (Some b.at.node.slots) None) b.at.action in
+    subst (λ (q : Point Spot Words). IsListFor q.own b.at.node.slots) (sym b.top) (listed_for p of_.program call.0 b.thread.top call.1 b.at.node.slots list)
 
 -- ---- what serving it does
 

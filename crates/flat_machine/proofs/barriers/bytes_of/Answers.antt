@@ -1,4 +1,4 @@
-use Rattle.std.proofs.Common.{◌≡◌, ◌+◌, length, ap, arith}
+use Rattle.std.proofs.Common.{length, ap, arith}
 use Rattle.flat_machine.proofs.barriers.bytes_of.Goals as goal
 
 pub overflow_add-sum : goal.overflow_add-sum
