@@ -16,5 +16,6 @@ pub mod Slid
 pub mod Waiting
 pub mod Opened
 pub mod Steps
+pub mod Acts
 pub mod Lawful
 pub mod Kept
