@@ -17,5 +17,8 @@ pub mod Waiting
 pub mod Opened
 pub mod Steps
 pub mod Acts
+pub mod Outcomes
+pub mod Goes
+pub mod Leaves
 pub mod Lawful
 pub mod Kept
