@@ -1,5 +1,5 @@
 -- What act makes of a context and of what threads share, from what its parts leave.
-use Rattle.std.proofs.Common.{◌≡◌, ℕ, Option, Some, None, sym, ap, ◌∙◌, subst}
+use Rattle.std.proofs.Common.{◌≡◌, Option, Some, sym, ap, ◌∙◌, subst}
 use Rattle.struct_ir.specs.Instrs.{LinearCode}
 use Rattle.struct_ir.specs.Linear.{Spot}
 use Rattle.flat_meaning.specs.declared.endings.Stop.{Stop}
@@ -9,7 +9,6 @@ use Rattle.flat_rules.specs.Machine as turns
 use Rattle.flat_threads.specs.Belonging.{HasStopped, IsContextOf}
 use Rattle.flat_threads.specs.Contexts.{Context, own_image, standing}
 use Rattle.flat_threads.specs.Waits.{waits_at}
-use Rattle.flat_machine.specs.Acting.{effect_if}
 use Rattle.flat_machine.specs.Shares.{Shared, image_of}
 use Rattle.flat_machine.specs.declared.turned.Turned.TheVariants.{LackedStack}
 use Rattle.flat_machine.specs.inner.Acted.{TurnIsDone}

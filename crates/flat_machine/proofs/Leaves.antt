@@ -1,55 +1,43 @@
 -- What a step leaves of the threads: those that there were, and one more at most; and just the thread itself may have ended.
-use Rattle.std.proofs.Common.{◌≡◌, ℕ, zero, suc, ◌+◌, ◌<◌, ◌≤◌, ◌⊎◌, Bool, true, false, cond, ◌||◌, ◌&&◌, ◌==◌, List, [], ◌∷◌, ◌++◌, length, map, get_or, All, Option, Some, None, refl, ap, sym, ◌∙◌, subst, inl, inr, arith}
-use Rattle.std.specs.Prelude.{is_some, slice_get, slice_set}
-use Rattle.std.proofs.lemmas.Bool.{eq-eqb, eqb-true, eqb-false}
-use Rattle.std.proofs.lemmas.Option.{slice_get-get_or, slice_get_past}
+use Rattle.std.proofs.Common.{◌≡◌, ℕ, zero, suc, ◌+◌, ◌<◌, ◌≤◌, Bool, true, false, ◌||◌, ◌&&◌, ◌==◌, List, [], ◌∷◌, ◌++◌, length, map, get_or, All, Option, Some, None, refl, ap, sym, ◌∙◌, subst, arith}
+use Rattle.std.specs.Prelude.{slice_get, slice_set}
+use Rattle.std.proofs.lemmas.Bool.{eqb-true, eqb-false}
+use Rattle.std.proofs.lemmas.Option.{slice_get-get_or}
 use Rattle.std.proofs.lemmas.List.{get_or-set_same, get_or-set_other, length-set, length-append, length-map}
 use Rattle.std.proofs.lemmas.List.Elements.{All-append}
-use Rattle.struct_ir.specs.Flow.{Here, does, tests, passes, round, returns, GoesOn}
+use Rattle.struct_ir.specs.Flow.{Here, does, returns}
 use Rattle.struct_ir.specs.Instrs.{LinearCode, LinearFunc}
 use Rattle.struct_ir.specs.Linear.{Spot, linear}
-use Rattle.struct_ir.specs.Machine.{Point}
-use Rattle.struct_ir.specs.Nodes.{Action, malloc, start, Step, set, call, step, look, safepoint, begin_object, end_object, may_wait, own_list}
-use Rattle.struct_ir.specs.Threads.{Thread, behind}
-use Rattle.std.specs.List.{list_all}
-use Rattle.std.proofs.lemmas.Bool.{and_parts}
-use Rattle.struct_ir.specs.Valid.{Scope, are_below, counts_of, has_counts, has_params, is_action, is_below_if, is_own_list, is_place, is_step}
+use Rattle.struct_ir.specs.Nodes.{Action, start, Step, set, call, step, look, own_list}
+use Rattle.struct_ir.specs.Threads.{Thread}
+use Rattle.struct_ir.specs.Valid.{has_params, is_action, is_step}
 use Rattle.struct_ir.specs.ValidCode.{code_scope_of, is_here}
 use Rattle.flat_meaning.specs.declared.endings.Stop.{Stop}
 use Rattle.flat_meaning.specs.declared.endings.Stop.TheVariants.{AtStep, Spent, NoRoom}
 use Rattle.flat_meaning.specs.Accesses as actions
-use Rattle.flat_meaning.specs.Allowed as stages
-use Rattle.flat_meaning.specs.Allowed.{list_at}
 use Rattle.flat_meaning.specs.Effects as effects
-use Rattle.flat_meaning.specs.Effects.{Effect, landing}
+use Rattle.flat_meaning.specs.Effects.{Effect}
 use Rattle.flat_meaning.specs.Image.{Image}
-use Rattle.flat_meaning.specs.Local.{no_room_if, stop_before}
-use Rattle.flat_meaning.specs.Local.{stop_at as stop_at_stage}
+use Rattle.flat_meaning.specs.Local.{stop_before}
 use Rattle.flat_meaning.specs.Memory.{Made, Memory, beginning, ended_if, with_result}
 use Rattle.flat_meaning.specs.Ready.{has_ended}
-use Rattle.flat_meaning.specs.Stages.{Stage, starts, going, waiting, landed, thread_at, before_here, before_return}
-use Rattle.flat_meaning.specs.Words.{Used, Words, set_if, target_of, with_temps, word_at}
-use Rattle.flat_meaning.specs.Machine.{given, looked}
-use Rattle.flat_rules.specs.Events.{Goes, away, back, goes, on}
-use Rattle.flat_rules.specs.Lawful.{Goes_on, Leaves, Lives, is_end, is_for_room}
+use Rattle.flat_meaning.specs.Stages.{Stage, thread_at, before_here}
+use Rattle.flat_meaning.specs.Words.{Words, target_of, word_at}
+use Rattle.flat_meaning.specs.Machine.{given}
+use Rattle.flat_rules.specs.Lawful.{Leaves, Lives, is_end}
 use Rattle.flat_rules.specs.Machine as turns
 use Rattle.flat_rules.specs.Machine.{steps}
 use Rattle.flat_rules.specs.States.{most_threads}
-use Rattle.flat_threads.proofs.Threads.{SameCounts, behind_is, here_fits, same_counts, top_is}
+use Rattle.flat_threads.proofs.Threads.{here_fits, top_is}
 use Rattle.flat_threads.specs.Belonging.{HasStopped, IsContextOf}
-use Rattle.flat_threads.specs.Contexts.{Context, IsCallOf, IsInCall, IsListFor, IsProgram, IsStageIf, IsStageOf, IsThreadOf, own_image}
-use Rattle.flat_threads.specs.Waits.{action_waits, waits_at, waits_here}
-use Rattle.flat_machine.specs.Acting.{act_of, acted_by, effect_if}
-use Rattle.flat_machine.specs.Machine.{machine_of, progress_of, stands_of}
-use Rattle.flat_machine.specs.Readiness.{wants_room}
+use Rattle.flat_threads.specs.Contexts.{Context, IsInCall, IsThreadOf, own_image}
+use Rattle.flat_machine.specs.Acting.{acted_by, effect_if}
+use Rattle.flat_machine.specs.Machine.{machine_of, progress_of}
 use Rattle.flat_machine.specs.Shares.{Shared, IsSharedOf, image_of}
-use Rattle.flat_machine.specs.Turns.{blocked_turned, done_turned, fault_turned, outcome_turned, turned_of}
-use Rattle.flat_machine.specs.Choices.{malloc_choice}
-use Rattle.flat_machine.specs.inner.Acted.{IsStepOf}
+use Rattle.flat_machine.specs.Turns.{blocked_turned, fault_turned, outcome_turned, turned_of}
 use Rattle.flat_machine.proofs.Goes.{Pending, looks_so, does_so, returns_so, action_valid, pending, stop_is}
-use Rattle.flat_machine.proofs.Outcomes.{AreThreads, same, one_more, done_on, malloc_fits, room_or_malloc, threads_are, wait_told, waits_may}
-use Rattle.flat_machine.proofs.Steps.{Stands, choice_at, done_at, lacks, last_call, leave_memory_is, leave_turned_is, look_effect_is, look_turned_is, looked_at, no_spent, outcome_at, stands, step_effect_is, step_fits, step_turned_is}
-use Rattle.flat_machine.proofs.Waiting.{sized}
+use Rattle.flat_machine.proofs.Outcomes.{AreThreads, same, one_more, done_on, threads_are}
+use Rattle.flat_machine.proofs.Steps.{choice_at, done_at, lacks, last_call, leave_memory_is, leave_turned_is, look_effect_is, look_turned_is, outcome_at, stands, step_effect_is, step_turned_is}
 
 -- ---- the threads
 

@@ -20,5 +20,7 @@ pub mod Acts
 pub mod Outcomes
 pub mod Goes
 pub mod Leaves
+pub mod Allowed
+pub mod ActEvents
 pub mod Lawful
 pub mod Kept

@@ -1,10 +1,9 @@
 -- What an action can come to: which may wait, when one doesn't fit, and which threads there are then.
-use Rattle.std.proofs.Common.{◌≡◌, ℕ, ◌+◌, ◌<◌, ◌⊎◌, Bool, true, false, cond, ltb, eqb, List, [], ◌∷◌, ◌++◌, length, map, Option, Some, None, refl, ap, sym, ◌∙◌, subst, inl, inr, arith}
-use Rattle.std.specs.Prelude.{nat_lt, slice_get}
+use Rattle.std.proofs.Common.{◌≡◌, ℕ, ◌+◌, ◌<◌, ◌⊎◌, Bool, true, false, cond, eqb, List, [], ◌∷◌, ◌++◌, length, map, Option, Some, None, refl, subst, inl, inr}
+use Rattle.std.specs.Prelude.{slice_get}
 use Rattle.std.proofs.lemmas.Bool.{ltb-true}
 use Rattle.struct_ir.specs.Linear.{Spot}
 use Rattle.struct_ir.specs.Nodes.{Action, load, store, copy_bytes, malloc, free, print, lock, unlock, destroy, start, join, may_wait, Step}
-use Rattle.defrag_move.specs.Arena.{Storage}
 use Rattle.ak_words.specs.Bytes.{low_bytes}
 use Rattle.block_store.specs.declared.values.Access.{Access}
 use Rattle.block_store.specs.Cells.{size_of}
@@ -15,16 +14,14 @@ use Rattle.flat_meaning.specs.declared.endings.TrapKind.{TrapKind}
 use Rattle.flat_meaning.specs.declared.endings.TrapKind.TheVariants as kinds
 use Rattle.flat_meaning.specs.Accesses as actions
 use Rattle.flat_meaning.specs.Accesses.{Choice, Done, allocated, copied, freed, is_live_start, is_plain, loaded, output_room, printed, prints, stored, within, word_read}
-use Rattle.flat_meaning.specs.Actions.{acted, is_free, joined_at, joined_if, joined_with, locked, may_start, printed_parts, started, unlocked}
+use Rattle.flat_meaning.specs.Actions.{acted, is_free, joined_at, joined_if, locked, may_start, printed_parts, started, unlocked}
 use Rattle.flat_meaning.specs.Image.{Image, Layout}
 use Rattle.flat_meaning.specs.Memory.{Made, Memory, beginning, with_storage, with_thread, written}
 use Rattle.flat_meaning.specs.Printing.{Read, read_parts, reads, outside, too_long}
 use Rattle.flat_meaning.specs.Words.{Target, Words, target_of, word_at}
 use Rattle.flat_rules.specs.Events.{back, goes}
 use Rattle.flat_rules.specs.Lawful.{is_end, is_for_room}
-use Rattle.flat_rules.specs.Machine as turns
 use Rattle.flat_threads.specs.Waits.{action_waits}
-use Rattle.flat_threads.specs.declared.wait.Wait.TheVariants as waits
 use Rattle.flat_machine.specs.Choices.{action_choice, got_or, malloc_choice}
 use Rattle.flat_machine.specs.Readiness.{wants_room}
 use Rattle.flat_machine.specs.Turns.{blocked_turned, done_turned, malloc_turned, start_turned}

@@ -1,8 +1,8 @@
 -- Laws of the machine's calls: each does events that may come, and the choices are the least and the lowest.
-use Rattle.std.specs.Prelude.{◌≡◌, ℕ, List, [], ◌∷◌, All, Option, Some, None}
+use Rattle.std.specs.Prelude.{◌≡◌, ℕ, List, [], ◌∷◌, All, length, Option, Some, None}
 use Rattle.block_store.specs.Runs.{own_at}
 use Rattle.handle_table.specs.Table.{IsFull, IsLeastFree}
-use Rattle.sub_heaps.specs.SubHeaps.{SubHeaps, FitsAt, IsLowestFit}
+use Rattle.sub_heaps.specs.SubHeaps.{SubHeaps, FitsAt, IsLowestFit, IsSound}
 use Rattle.struct_ir.specs.Instrs.{LinearCode}
 use Rattle.struct_ir.specs.Linear.{Spot}
 use Rattle.flat_meaning.specs.declared.endings.Stop.{Stop}
@@ -35,10 +35,10 @@ pub record ChoicesAreLeast : Type 0 where
 
 -- ---- act
 
--- the event of a pending step; a rest is none
+-- the event of a pending step; a rest is none, and before a call without room nothing is chosen
 abbrev pub event_before : (number : ℕ) → Choice → Stop → Before → List Event
 event_before number choice Spent b = []
-event_before number choice NoRoom b = act number choice ∷ []
+event_before number choice NoRoom b = act number plain ∷ []
 event_before number choice AtStep looks = look number ∷ []
 event_before number choice AtStep b = act number choice ∷ []
 
@@ -50,10 +50,10 @@ pub record IsTheEvent (x : Image Spot) (s : State Spot) (number : ℕ) (stage : 
   pub allowed : AreAllowed x (events_of x number s.memory stage stop) s
   pub after : after_all x (events_of x number s.memory stage stop) s ≡ put s number (effect_of x number (choice_for x s.memory stage) stage s.memory stop)
 
--- where a thread has stopped so
+-- where a thread has stopped so, in a run that goes on, and each thread that was made has a stage or none
 abbrev pub ActIsItsEvent : Type 0
 ActIsItsEvent =
-    (x : Image Spot) (s : State Spot) (number most turns : ℕ) (stage : Stage Spot) (stop : Stop) → s.end ≡ None → own_at s.own number ≡ Some stage → stop_at x most turns stage ≡ Some stop → IsTheEvent x s number stage stop
+    (x : Image Spot) (s : State Spot) (number most turns : ℕ) (stage : Stage Spot) (stop : Stop) → s.end ≡ None → length s.own ≡ length s.memory.threads → own_at s.own number ≡ Some stage → stop_at x most turns stage ≡ Some stop → IsTheEvent x s number stage stop
 
 -- ---- barrier
 
@@ -66,10 +66,10 @@ pub record IsTheBarrier (code : LinearCode) (s : Shared) (home : List (Option Co
   pub allowed : AreAllowed (image_of code s) (barrier_of (image_of code s) (at_home s home) ∷ []) (at_home s home)
   pub after : at_home (swept_by code s home).shared (swept_by code s home).homes ≡ after_all (image_of code s) (barrier_of (image_of code s) (at_home s home) ∷ []) (at_home s home)
 
--- where all contexts are at home
+-- where all contexts are at home, and no two objects overlap
 abbrev pub BarrierIsItsEvent : Type 0
 BarrierIsItsEvent =
-    (code : LinearCode) (s : Shared) (home : List (Option Context)) → IsSharedOf code s → All (IsOfRun (machine_of code) (IsContextOf code)) home → AreHome (machine_of code) s home → IsTheBarrier code s home
+    (code : LinearCode) (s : Shared) (home : List (Option Context)) → IsSharedOf code s → IsSound s.memory.storage.heaps → All (IsOfRun (machine_of code) (IsContextOf code)) home → AreHome (machine_of code) s home → IsTheBarrier code s home
 
 -- ---- the rules of a run
 

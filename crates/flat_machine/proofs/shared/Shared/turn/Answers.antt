@@ -1,5 +1,4 @@
-use Rattle.std.proofs.Common.{◌≡◌, Option, Some, ap, ◌∙◌}
-use Rattle.flat_meaning.specs.declared.endings.Stop.{Stop}
+use Rattle.std.proofs.Common.{◌≡◌, Some, ap, ◌∙◌}
 use Rattle.flat_meaning.specs.declared.endings.Stop.TheVariants.{NoRoom}
 use Rattle.flat_machine.proofs.Acts.{turn_lacks}
 use Rattle.flat_machine.proofs.shared.Shared.turn.Goals as goal
