@@ -22,5 +22,6 @@ pub mod Goes
 pub mod Leaves
 pub mod Allowed
 pub mod ActEvents
+pub mod BarrierEvents
 pub mod Lawful
 pub mod Kept
