@@ -18,3 +18,4 @@ pub mod Opened
 pub mod Steps
 pub mod Lawful
 pub mod Kept
+pub mod MachineIsFlat

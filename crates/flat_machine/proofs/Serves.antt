@@ -113,7 +113,7 @@ module _ (code : LinearCode) (s : Shared) (home : List (Option Context)) where
         at_first = sym (is.unserved n (omega arith)) ∙ place
 
         number : c.number ≡ n
-        number = (subst (IsHomeAt (machine_of code) s n) at_first (each_here (IsHomeAt (machine_of code) s) home n None homes.1 within)).0
+        number = (subst (IsHomeAt (machine_of code) s n) at_first (each_here (IsHomeAt (machine_of code) s) home n None homes.1 within)).thread
 
         stage_is : own_at state.own n ≡ Some served.stage
         stage_is = own_stage.1 ∙ ap (stage_home own_stage.0) at_first ∙ ap (stage_or own_stage.0) served.is

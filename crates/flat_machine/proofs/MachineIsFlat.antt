@@ -1,0 +1,20 @@
+-- The machine is one that the rules of a run are of.
+use Rattle.std.proofs.Common.{refl}
+use Rattle.flat_machine.specs.Laws.{MachineIsFlat}
+use Rattle.flat_machine.proofs.Lawful.{begins, blank_of, few_served, works_on}
+use Rattle.flat_machine.proofs.Kept.{sweeps}
+
+pub machine_is_flat : MachineIsFlat
+machine_is_flat code = record {
+  blank_of = blank_of code;
+  blank_thread = λ k. refl;
+  blank_progress = λ k. refl;
+  blank_stands = λ k. refl;
+  blank_waits = λ k. refl;
+  few = few_served code;
+  begins = begins code;
+  works = works_on code;
+  goes_on = ?;
+  leaves = ?;
+  sweeps = sweeps code;
+}
