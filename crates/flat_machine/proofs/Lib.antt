@@ -1,5 +1,4 @@
 pub mod Choices
-pub mod Waits
 pub mod Doing
 pub mod Mutexes
 pub mod Mallocs
@@ -10,12 +9,7 @@ pub mod Digits
 pub mod Pieces
 pub mod Printed
 pub mod Written
-pub mod Homes
 pub mod Serves
 pub mod Slid
-pub mod Waiting
 pub mod Opened
 pub mod Steps
-pub mod Lawful
-pub mod Kept
-pub mod MachineIsFlat

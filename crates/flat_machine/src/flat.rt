@@ -5,7 +5,7 @@ ghost use Rattle.flat_threads.specs.Belonging.{IsContextOf};
 ghost use Rattle.flat_machine.specs.Machine.{machine_of};
 ghost use Rattle.flat_machine.specs.Shares.{IsSharedOf};
 ghost use Rattle.flat_machine.specs.Start.{first_shared, settings_limits};
-ghost use Rattle.flat_machine.specs.inner.Lawful.{machine_is_flat};
+ghost use Rattle.flat_machine.specs.lemmas.MachineIsFlat.{machine_is_flat};
 
 use crate::acting::act;
 use crate::barriers::barrier;

@@ -1,4 +1,4 @@
-use Rattle.flat_machine.proofs.MachineIsFlat.{machine_is_flat}
+use Rattle.flat_machine.specs.lemmas.MachineIsFlat.{machine_is_flat}
 use Rattle.flat_machine.proofs.laws.machine_is_flat.Goals as goal
 
 pub returns : goal.returns

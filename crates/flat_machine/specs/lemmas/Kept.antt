@@ -38,10 +38,9 @@ use Rattle.flat_machine.specs.Machine.{machine_of, progress_of, stands_of}
 use Rattle.flat_machine.specs.Readiness.{wants_room}
 use Rattle.flat_machine.specs.Shares.{Shared, IsSharedOf, image_of}
 use Rattle.flat_machine.specs.Sweeping.{at_home, context_at, home_at, if_wants, place_at, serve_of, serves_from, serves_if, stage_home, stage_or, stages_home, sweep_moves, swept_by, swept_state, waits_at_home}
-use Rattle.flat_machine.proofs.Homes.{each_here, length-stages_home, none_served, own_at_home, own_at_set, own_at_set-later, place_is, wants_same}
-use Rattle.flat_machine.proofs.Lawful.{blank_stage}
-use Rattle.flat_machine.proofs.Serves.{after_serves-append}
-use Rattle.flat_machine.proofs.Waiting.{IsMalloc, before_malloc, behind_waits, choice_is, keeps, list_before, node_is, node_of, serve_is, waiting_of, wants_is}
+use Rattle.flat_machine.specs.lemmas.Homes.{after_serves-append, each_here, length-stages_home, none_served, own_at_home, own_at_set, own_at_set-later, place_is, wants_same}
+use Rattle.flat_machine.specs.lemmas.Lawful.{blank_stage}
+use Rattle.flat_machine.specs.lemmas.Waiting.{IsMalloc, before_malloc, behind_waits, choice_is, keeps, list_before, node_is, node_of, serve_is, waiting_of, wants_is}
 
 -- ---- a context at home
 

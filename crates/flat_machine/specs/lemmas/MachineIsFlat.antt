@@ -1,8 +1,8 @@
 -- The machine is one that the rules of a run are of.
 use Rattle.std.proofs.Common.{refl}
 use Rattle.flat_machine.specs.Laws.{MachineIsFlat}
-use Rattle.flat_machine.proofs.Lawful.{begins, blank_of, few_served, works_on}
-use Rattle.flat_machine.proofs.Kept.{sweeps}
+use Rattle.flat_machine.specs.lemmas.Lawful.{begins, blank_of, few_served, works_on}
+use Rattle.flat_machine.specs.lemmas.Kept.{sweeps}
 
 pub machine_is_flat : MachineIsFlat
 machine_is_flat code = record {

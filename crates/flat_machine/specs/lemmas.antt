@@ -1,0 +1,7 @@
+-- Lemmas on which the proof stands that the machine is one of the rules: its `impl` names that proof.
+pub mod Waits
+pub mod Homes
+pub mod Lawful
+pub mod Waiting
+pub mod Kept
+pub mod MachineIsFlat
