@@ -12,4 +12,4 @@ pub mod Written
 pub mod Serves
 pub mod Slid
 pub mod Opened
-pub mod Steps
+pub mod Acts

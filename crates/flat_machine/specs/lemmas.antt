@@ -4,4 +4,8 @@ pub mod Homes
 pub mod Lawful
 pub mod Waiting
 pub mod Kept
+pub mod Steps
+pub mod Outcomes
+pub mod Goes
+pub mod Leaves
 pub mod MachineIsFlat

@@ -3,6 +3,8 @@ use Rattle.std.proofs.Common.{refl}
 use Rattle.flat_machine.specs.Laws.{MachineIsFlat}
 use Rattle.flat_machine.specs.lemmas.Lawful.{begins, blank_of, few_served, works_on}
 use Rattle.flat_machine.specs.lemmas.Kept.{sweeps}
+use Rattle.flat_machine.specs.lemmas.Goes.{goes_on}
+use Rattle.flat_machine.specs.lemmas.Leaves.{leaves}
 
 pub machine_is_flat : MachineIsFlat
 machine_is_flat code = record {
@@ -14,7 +16,7 @@ machine_is_flat code = record {
   few = few_served code;
   begins = begins code;
   works = works_on code;
-  goes_on = ?;
-  leaves = ?;
+  goes_on = goes_on code;
+  leaves = leaves code;
   sweeps = sweeps code;
 }

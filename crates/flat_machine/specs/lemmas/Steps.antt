@@ -173,20 +173,20 @@ module _ (x : Image Spot) (n : ℕ) (m : Memory) where
       ∙ ap (λ (h : Here). effects.acted n stage t (own_list_of h) m (outcome_here actions.plain t h)) here_is
 
 module _ (x : Image Spot) (n : ℕ) (m : Memory) (place : ℕ) (s : Step) where
-  abbrev choice_at : Words → Choice
+  abbrev pub choice_at : Words → Choice
   choice_at l = action_choice (malloc_choice m.storage) l s.action s.temps
 
-  abbrev done_at : Words → actions.Done
+  abbrev pub done_at : Words → actions.Done
   done_at l = acted x.layout n (choice_at l) s.action (map (target_of l) s.places) (map (word_at l) s.temps) m
 
-  abbrev outcome_at : Thread Spot Words → actions.Done → Outcome Spot Words actions.Fault Memory
+  abbrev pub outcome_at : Thread Spot Words → actions.Done → Outcome Spot Words actions.Fault Memory
   outcome_at t d = served x.flow t (served_by t.top.own s.to d)
 
-  step_effect_is : (stage : Stage Spot) → IsInCall (Some stage) → x.flow.here (thread_at x stage).top.at ≡ does place (step s)
+  pub step_effect_is : (stage : Stage Spot) → IsInCall (Some stage) → x.flow.here (thread_at x stage).top.at ≡ does place (step s)
       → effect_if x n m (Some stage) (Some AtStep) ≡ effects.acted n stage (thread_at x stage) (own_list s) m (outcome_at (thread_at x stage) (done_at (thread_at x stage).top.own))
   step_effect_is stage call h = effect_is x n m stage call (does place (step s)) h refl
 
-  step_turned_is : (stage : Stage Spot) → IsInCall (Some stage) → x.flow.here (thread_at x stage).top.at ≡ does place (step s)
+  pub step_turned_is : (stage : Stage Spot) → IsInCall (Some stage) → x.flow.here (thread_at x stage).top.at ≡ does place (step s)
       → turned_of x n m (Some stage) (Some AtStep) ≡ outcome_turned x n m (choice_at (thread_at x stage).top.own) (does place (step s)) (outcome_at (thread_at x stage) (done_at (thread_at x stage).top.own))
   step_turned_is stage call h = turned_to_step x n m (thread_at x stage) (does place (step s)) h refl
 
@@ -262,17 +262,17 @@ step_comes x own old new c behind turned stage place s r at call t t_is h next o
 -- ---- a Look
 
 module _ (x : Image Spot) (n : ℕ) (m : Memory) (place slot base : ℕ) where
-  abbrev looked_at : Thread Spot Words → Thread Spot Words
+  abbrev pub looked_at : Thread Spot Words → Thread Spot Words
   looked_at t = record { top = record { at = x.flow.next t.top.at true; own = looked m.storage t.top.own slot (word_at t.top.own base) }; callers = t.callers }
 
-  look_effect_is : (stage : Stage Spot) → IsInCall (Some stage) → x.flow.here (thread_at x stage).top.at ≡ does place (look slot base)
+  pub look_effect_is : (stage : Stage Spot) → IsInCall (Some stage) → x.flow.here (thread_at x stage).top.at ≡ does place (look slot base)
       → effect_if x n m (Some stage) (Some AtStep) ≡ record { memory = m; stage = Some (going (looked_at (thread_at x stage))); end = None }
   look_effect_is (starts function argument) call h = absurd call
   look_effect_is (going t) call h = ap (effect_before x n (chosen x n m t (x.flow.here t.top.at)) (going t) m AtStep) (before_is x n m t _ looks h refl) ∙ to_look x n m (going t) t _ h refl
   look_effect_is (waiting t) call h = ap (effect_before x n (chosen x n m t (x.flow.here t.top.at)) (waiting t) m AtStep) (before_is x n m t _ looks h refl) ∙ to_look x n m (waiting t) t _ h refl
   look_effect_is (landed list t) call h = ap (effect_before x n (chosen x n m t (x.flow.here t.top.at)) (landed list t) m AtStep) (before_is x n m t _ looks h refl) ∙ to_look x n m (landed list t) t _ h refl
 
-  look_turned_is : (stage : Stage Spot) → IsInCall (Some stage) → x.flow.here (thread_at x stage).top.at ≡ does place (look slot base) → turned_of x n m (Some stage) (Some AtStep) ≡ turns.looked
+  pub look_turned_is : (stage : Stage Spot) → IsInCall (Some stage) → x.flow.here (thread_at x stage).top.at ≡ does place (look slot base) → turned_of x n m (Some stage) (Some AtStep) ≡ turns.looked
   look_turned_is stage call h = let t = thread_at x stage in ap (turned_before x n m (chosen x n m t (x.flow.here t.top.at)) t AtStep) (before_is x n m t _ looks h refl)
 
   looked_is : (stage : Stage Spot) → IsInCall (Some stage) → (word address : ℕ) → looked_stage (Some stage) slot word address ≡ Some (going (looked_thread (thread_at x stage) slot word address))
@@ -304,24 +304,24 @@ look_comes x own old new c behind stage place slot base word address at call t t
 -- ---- the return of a first function
 
 module _ (x : Image Spot) (n : ℕ) (m : Memory) (temp : Option ℕ) where
-  abbrev ended_at : Words → Memory
+  abbrev pub ended_at : Words → Memory
   ended_at l = thread_ended m n (given l temp)
 
   leave_outcome : (t : Thread Spot Words) → t.callers ≡ [] → outcome_here x n m actions.plain t (returns temp) ≡ ended t.top.own (ended_at t.top.own)
   leave_outcome t none = ap (λ callers. left_call x.flow (words_world x.layout n) actions.plain t.top.own temp m callers) none
 
-  leave_effect_is : (stage : Stage Spot) → IsInCall (Some stage) → x.flow.here (thread_at x stage).top.at ≡ returns temp → (thread_at x stage).callers ≡ []
+  pub leave_effect_is : (stage : Stage Spot) → IsInCall (Some stage) → x.flow.here (thread_at x stage).top.at ≡ returns temp → (thread_at x stage).callers ≡ []
       → effect_if x n m (Some stage) (Some AtStep) ≡ effects.acted n stage (thread_at x stage) None m (ended (thread_at x stage).top.own (ended_at (thread_at x stage).top.own))
   leave_effect_is stage call h none = effect_is x n m stage call (returns temp) h (ap before_return none) ∙ ap (effects.acted n stage (thread_at x stage) None m) (leave_outcome (thread_at x stage) none)
 
-  leave_memory_is : (stage : Stage Spot) → IsInCall (Some stage) → x.flow.here (thread_at x stage).top.at ≡ returns temp → (thread_at x stage).callers ≡ []
+  pub leave_memory_is : (stage : Stage Spot) → IsInCall (Some stage) → x.flow.here (thread_at x stage).top.at ≡ returns temp → (thread_at x stage).callers ≡ []
       → (effect_if x n m (Some stage) (Some AtStep)).memory ≡ ended_at (thread_at x stage).top.own
   leave_memory_is stage call h none = ap (λ (e : Effect Spot). e.memory) (leave_effect_is stage call h none)
 
   leave_stage_is : (stage : Stage Spot) → IsInCall (Some stage) → x.flow.here (thread_at x stage).top.at ≡ returns temp → (thread_at x stage).callers ≡ [] → (effect_if x n m (Some stage) (Some AtStep)).stage ≡ None
   leave_stage_is stage call h none = ap (λ (e : Effect Spot). e.stage) (leave_effect_is stage call h none)
 
-  leave_turned_is : (stage : Stage Spot) → IsInCall (Some stage) → x.flow.here (thread_at x stage).top.at ≡ returns temp → (thread_at x stage).callers ≡ []
+  pub leave_turned_is : (stage : Stage Spot) → IsInCall (Some stage) → x.flow.here (thread_at x stage).top.at ≡ returns temp → (thread_at x stage).callers ≡ []
       → turned_of x n m (Some stage) (Some AtStep) ≡ turns.ended (value_of (slice_get (ended_at (thread_at x stage).top.own).threads n))
   leave_turned_is stage call h none =
       turned_to_step x n m (thread_at x stage) (returns temp) h (ap before_return none) ∙ ap (outcome_turned x n m actions.plain (returns temp)) (leave_outcome (thread_at x stage) none)
@@ -545,7 +545,7 @@ pub last_call : (x : Image Spot) (most ends : ℕ) (t : Thread Spot Words) (cs :
 last_call x most ends t [] e = refl
 last_call x most ends t (c ∷ cs) e = absurd cc
 
-no_spent : (b : Bool) → spent_if b ≡ Some AtStep → ⊥
+pub no_spent : (b : Bool) → spent_if b ≡ Some AtStep → ⊥
 no_spent true e = absurd cc
 no_spent false e = absurd cc
 
