@@ -13,7 +13,7 @@ use Rattle.flat_machine.specs.Shares.{Shared, image_of}
 use Rattle.flat_machine.specs.declared.turned.Turned.TheVariants.{LackedStack}
 use Rattle.flat_machine.specs.inner.Acted.{TurnIsDone}
 use Rattle.flat_machine.specs.inner.Dones.{with_memory}
-use Rattle.flat_machine.proofs.Steps.{Stays, lacks}
+use Rattle.flat_machine.specs.lemmas.Steps.{Stays, lacks}
 
 -- a call has no room: nothing is changed
 pub turn_lacks : (code : LinearCode) (stop : Option Stop) (s : Shared) (c : Context) → IsContextOf code c → stop ≡ Some NoRoom → HasStopped (own_image code) c.stage NoRoom → TurnIsDone code stop s s c c LackedStack

@@ -39,10 +39,9 @@ use Rattle.flat_machine.specs.Readiness.{wants_room}
 use Rattle.flat_machine.specs.Shares.{Shared, image_of}
 use Rattle.flat_machine.specs.Sweeping.{at_home, context_at, home_at, if_wants, place_at, serve_of, serves_from, serves_if, stage_home, stage_or, stages_home, sweep_moves, sweep_serves, swept_state, waits_at_home}
 use Rattle.flat_machine.proofs.Allowed.{here_may, served_goes, served_may}
-use Rattle.flat_machine.proofs.Homes.{each_here, length-stages_home, none_served, own_at_set, own_at_set-later, place_is, wants_same}
-use Rattle.flat_machine.proofs.Serves.{after_serves-append}
+use Rattle.flat_machine.specs.lemmas.Homes.{after_serves-append, each_here, length-stages_home, none_served, own_at_set, own_at_set-later, place_is, wants_same}
 use Rattle.flat_machine.proofs.Slid.{slide_is}
-use Rattle.flat_machine.proofs.Waiting.{IsMalloc, before_malloc, choice_is, keeps, node_is, node_of, serve_is, waiting_of, wants_is}
+use Rattle.flat_machine.specs.lemmas.Waiting.{IsBefore, IsMalloc, before_malloc, choice_is, keeps, node_is, node_of, serve_is, waiting_of, wants_is}
 
 -- ---- stages by number
 
@@ -146,16 +145,18 @@ module _ (code : LinearCode) where
         threads = (keeps choice (word_at t.top.own size) m given.after given.word done).threads;
       }
 
+  served_before : (s : Shared) (st : State Spot) (n : ℕ) (c : Context) (i : Instr) → IsBefore code c i → Served s st n c
+  served_before s st n c i b =
+      let h = b.at.has in
+      let form : b.at.node ≡ node_of code s b.thread n b.at.place h.size b.at.node.to b.at.node.slots = node_is (length b.thread.top.own.temps) b.at.node h b.at.action in
+      served_at s st n c b.thread b.is b.at.place h.size b.at.node.to b.at.node.slots (b.there ∙ ap Some b.at.is ∙ ap (λ node. Some (acts b.at.place (step node))) form)
+
   served : (s : Shared) (st : State Spot) (n : ℕ) (c : Context) → IsContextOf code c → c.wait ≡ Some Room → Served s st n c
   served s st n c of_ wait =
       let w = waiting_of code c.stage (sym of_.wait ∙ wait) in
       let there = instr_there (slice_get (instrs_of code.funcs w.thread.top.at.function) w.thread.top.at.index) w.here in
-      let i = there.0 in
-      let b = before_malloc code c i of_ wait (subst (λ (q : Point Spot Words). slice_get (instrs_of code.funcs q.at.function) q.at.index ≡ Some i) (sym (ap top_at w.is)) there.1) in
-      let form : b.at.node ≡ node_of code s b.thread n b.at.place b.at.has.size b.at.node.to b.at.node.slots = node_is (length b.thread.top.own.temps) b.at.node b.at.has b.at.action in
-      let at : slice_get (instrs_of code.funcs b.thread.top.at.function) b.thread.top.at.index ≡ Some (acts b.at.place (step (node_of code s b.thread n b.at.place b.at.has.size b.at.node.to b.at.node.slots))) =
-      b.there ∙ ap Some b.at.is ∙ ap (λ n. Some (acts b.at.place (step n))) form in
-      served_at s st n c b.thread b.is b.at.place b.at.has.size b.at.node.to b.at.node.slots at
+      let at_top = subst (λ (q : Point Spot Words). slice_get (instrs_of code.funcs q.at.function) q.at.index ≡ Some there.0) (sym (ap top_at w.is)) there.1 in
+      served_before s st n c there.0 (before_malloc code c there.0 of_ wait at_top)
 
   -- ---- one thread after the other
 
@@ -324,7 +325,7 @@ module _ (code : LinearCode) where
 
     place_stands : (k : ℕ) (p : Option Context) → IsHomeAt (machine_of code) s k p → (t : Made) (stage : Stage Spot) → stage_home t p ≡ Some stage → stages.stands x.flow stage ≡ true
     place_stands k None at t stage is = absurd cc
-    place_stands k (Some c) at t stage is = stands_if c c.stage refl at.1 t stage is
+    place_stands k (Some c) at t stage is = stands_if c c.stage refl at.stands t stage is
 
     all_stand : AllStand x.flow here.own
     all_stand k stage is = by (leb_tells (length s.memory.threads) k) where

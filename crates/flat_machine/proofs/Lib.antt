@@ -1,5 +1,4 @@
 pub mod Choices
-pub mod Waits
 pub mod Doing
 pub mod Mutexes
 pub mod Mallocs
@@ -10,18 +9,10 @@ pub mod Digits
 pub mod Pieces
 pub mod Printed
 pub mod Written
-pub mod Homes
 pub mod Serves
 pub mod Slid
-pub mod Waiting
 pub mod Opened
-pub mod Steps
 pub mod Acts
-pub mod Outcomes
-pub mod Goes
-pub mod Leaves
 pub mod Allowed
 pub mod ActEvents
 pub mod BarrierEvents
-pub mod Lawful
-pub mod Kept

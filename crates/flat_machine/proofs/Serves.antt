@@ -22,7 +22,7 @@ use Rattle.flat_machine.specs.Machine.{machine_of}
 use Rattle.flat_machine.specs.Shares.{Shared, image_of, limits_of}
 use Rattle.flat_machine.specs.Sweeping.{at_home, context_at, home_at, if_wants, place_at, serve_of, served_of, serves_from, serves_if, stage_home, stage_or, waits_at_home}
 use Rattle.flat_machine.specs.inner.Swept.{IsServed, IsServedAt, IsServedIf, serve_now, serves_below, state_below}
-use Rattle.flat_machine.proofs.Homes.{each_here, own_at_set, own_at_set-later, length-stages_home, own_at_home, home_at_set, home_is, none_served, wants_same}
+use Rattle.flat_machine.specs.lemmas.Homes.{after_serves-append, each_here, own_at_set, own_at_set-later, length-stages_home, own_at_home, home_at_set, home_is, none_served, wants_same}
 
 -- ---- one more behind the others
 
@@ -31,10 +31,6 @@ range_push a zero j e = let same : a ≡ j = omega arith in ap (λ k. k ∷ []) 
 range_push a (suc n) j e = ap (λ ks. a ∷ ks) (range_push (a + 1) n j (omega arith))
 
 module _ (x : Image Spot) where
-  pub after_serves-append : (vs ws : List Serve) (s : State Spot) → after_serves x (vs ++ ws) s ≡ after_serves x ws (after_serves x vs s)
-  after_serves-append [] ws s = refl
-  after_serves-append (v ∷ vs) ws s = after_serves-append vs ws (after_serve x s v)
-
   -- the serves of one thread in a state
   abbrev pub turn_of : State Spot → (thread : ℕ) → List Serve
   turn_of s thread = serves_if x s thread (own_at s.own thread)
@@ -47,7 +43,7 @@ module _ (x : Image Spot) where
       let rest = serves_from x threads next in
       ap (λ (ws : List Serve). v ++ ws) (serves_from-push threads k next)
       ∙ sym (append_assoc v rest (turn_of (after_serves x rest next) k))
-      ∙ ap (λ (now : State Spot). (v ++ rest) ++ turn_of now k) (sym (after_serves-append v rest s))
+      ∙ ap (λ (now : State Spot). (v ++ rest) ++ turn_of now k) (sym (after_serves-append x v rest s))
 
 -- the entry of a malloc that was served
 abbrev pub told : Serve → Entry
@@ -113,7 +109,7 @@ module _ (code : LinearCode) (s : Shared) (home : List (Option Context)) where
         at_first = sym (is.unserved n (omega arith)) ∙ place
 
         number : c.number ≡ n
-        number = (subst (IsHomeAt (machine_of code) s n) at_first (each_here (IsHomeAt (machine_of code) s) home n None homes.1 within)).0
+        number = (subst (IsHomeAt (machine_of code) s n) at_first (each_here (IsHomeAt (machine_of code) s) home n None homes.1 within)).thread
 
         stage_is : own_at state.own n ≡ Some served.stage
         stage_is = own_stage.1 ∙ ap (stage_home own_stage.0) at_first ∙ ap (stage_or own_stage.0) served.is

@@ -30,7 +30,7 @@ use Rattle.flat_meaning.specs.Memory.{with_storage}
 use Rattle.flat_machine.specs.Sweeping.{at_home, counted, home_at, last_of, with_barrier, served_of, serves_from, swept_by, sweep_moves, waits_at_home}
 use Rattle.flat_machine.specs.inner.Swept.{AreServed, handles_home, shared_slid}
 use Rattle.flat_threads.specs.Contexts.{Context}
-use Rattle.flat_machine.proofs.Homes.{handles_of_home, length-stages_home}
+use Rattle.flat_machine.specs.lemmas.Homes.{handles_of_home, length-stages_home}
 
 -- ---- moves
 

@@ -10,3 +10,4 @@ pub mod Reports
 pub mod Machine
 pub mod Laws
 pub mod inner
+pub mod lemmas

@@ -5,6 +5,7 @@ ghost use Rattle.flat_threads.specs.Belonging.{IsContextOf};
 ghost use Rattle.flat_machine.specs.Machine.{machine_of};
 ghost use Rattle.flat_machine.specs.Shares.{IsSharedOf};
 ghost use Rattle.flat_machine.specs.Start.{first_shared, settings_limits};
+ghost use Rattle.flat_machine.specs.lemmas.MachineIsFlat.{machine_is_flat};
 
 use crate::acting::act;
 use crate::barriers::barrier;
@@ -25,7 +26,7 @@ impl Flat<Program, Context> for Shared {
 
     ghost context_of = { λ code c. IsContextOf code c };
 
-    ghost lawful = { ? };
+    ghost lawful = { λ code. machine_is_flat code };
 
     fn open(alloc: Global, code: &Program, settings: &Settings) -> Result<Shared, NoMemory> {
         Shared::new(alloc, code, settings)

@@ -1,5 +1,5 @@
 -- Where each thread is, its context is as far as the place says; each event keeps that, by the machine's laws alone.
-use Rattle.std.proofs.Common.{◌≡◌, ◌≢◌, ℕ, suc, ◌+◌, ◌<◌, ◌≤◌, ◌==◌, ◌&&◌, ◌||◌, Bool, true, false, cond, List, [], ◌∷◌, length, map, set, sym, subst, ◌∙◌, refl, arith, Option, None}
+use Rattle.std.proofs.Common.{◌≡◌, ◌≢◌, ℕ, suc, ◌+◌, ◌<◌, ◌≤◌, ◌==◌, ◌&&◌, ◌||◌, Bool, true, false, cond, List, [], ◌∷◌, length, map, set, sym, subst, ◌∙◌, refl, arith, inl, inr, Option, None}
 use Rattle.std.specs.Prelude.{count_by, All}
 use Rattle.std.proofs.lemmas.List.{get_or-set_other}
 use Rattle.std.proofs.lemmas.List.Elements.{All-nil, All-cons}
@@ -30,7 +30,7 @@ module _ {S C : Type 0} (m : Machine S C) (ContextOf : C → Type 0) where
   -- the context of thread t at its place
   abbrev pub SitsAt : S → Option End → ℕ → Place C → Type 0
   SitsAt s end t (unbegun c) = Has s t c blank × (m.stands c ≡ true)
-  SitsAt s end t (home c) = Has s t c works × (m.stands c ≡ true)
+  SitsAt s end t (home c) = Has s t c works × (m.stands c ≡ true) × (t < m.threads s)
   SitsAt s end t (out w c n mood) = Has s t c works × OutAs mood c × (t < m.threads s)
   SitsAt s end t gone = end ≡ None → t < most_threads → m.has_ended s t ≡ true
 
@@ -58,7 +58,7 @@ module _ {S C : Type 0} (m : Machine S C) (ContextOf : C → Type 0) where
   -- what another thread's step leaves
   pub other_sits : (s s' : S) (end : Option End) (k : ℕ) (p : Place C) → m.has_ended s' k ≡ m.has_ended s k → m.threads s ≤ m.threads s' → SitsAt s None k p → SitsAt s' end k p
   other_sits s s' end k (unbegun c) e more h = (has_after s s' k c blank e h.0, h.1)
-  other_sits s s' end k (home c) e more h = (has_after s s' k c works e h.0, h.1)
+  other_sits s s' end k (home c) e more h = (has_after s s' k c works e h.0, h.1, let made = h.2 in omega arith)
   other_sits s s' end k (out w c n mood) e more h = (has_after s s' k c works e h.0, h.1, let made = h.2 in omega arith)
   other_sits s s' end k gone e more h = λ o few. e ∙ h refl few
 
@@ -192,8 +192,8 @@ module _ {S C : Type 0} (m : Machine S C) (ContextOf : C → Type 0) where
       )
     where
       one : (p : Place C) → SitsAt s None k p → cond {A = ℕ} (is_out p) 1 0 ≡ 0 → IsHomeAt m s k (at_home p)
-      one (unbegun c) h e = (h.0.thread, h.1)
-      one (home c) h e = (h.0.thread, h.1)
+      one (unbegun c) h e = record { thread = h.0.thread; stands = h.1; rests = inl h.0.progress }
+      one (home c) h e = record { thread = h.0.thread; stands = h.1; rests = inr (h.0.progress, h.2) }
       one (out w c n mood) h e = absurd (cc e)
       one gone h e = λ made. h refl (omega arith)
 

@@ -16,7 +16,7 @@ use Rattle.flat_machine.specs.Turns.{malloc_turned}
 use Rattle.flat_machine.specs.inner.Dones.{Does}
 use Rattle.flat_machine.specs.inner.Swept.{object_told}
 use Rattle.flat_machine.specs.inner.Turneds.{turned_view}
-use Rattle.flat_machine.proofs.Waiting.{before_malloc, list_before, served_is}
+use Rattle.flat_machine.specs.lemmas.Waiting.{before_malloc, list_before, served_is}
 use Rattle.flat_machine.proofs.barriers.serve.Goals as goal
 
 pub bounds-as_slice-0 : goal.bounds-as_slice-0

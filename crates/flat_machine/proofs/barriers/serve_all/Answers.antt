@@ -6,7 +6,7 @@ use Rattle.flat_machine.specs.Machine.{machine_of}
 use Rattle.flat_machine.specs.Shares.{Shared}
 use Rattle.flat_machine.specs.inner.Shares.{made_view}
 use Rattle.flat_machine.specs.inner.Swept.{IsServedIf}
-use Rattle.flat_machine.proofs.Homes.{get_or_any}
+use Rattle.flat_machine.specs.lemmas.Homes.{get_or_any}
 use Rattle.flat_machine.proofs.Serves.{next_below, none_below}
 use Rattle.flat_machine.proofs.barriers.serve_all.Goals as goal
 

@@ -1,7 +1,7 @@
 use Rattle.std.proofs.Common.{◌∙◌, ap, false, arith}
 use Rattle.std.proofs.Math.ListN.{drop_of_length-le}
 use Rattle.std.specs.Fmt.{digits_onto}
-use Rattle.core.proofs.fmt.DigitsParse.{digits_onto-nil}
+use Rattle.std.proofs.DigitsParse.{digits_onto-nil}
 use Rattle.flat_machine.proofs.printing.write_digits.Goals as goal
 
 pub loop-first-init : goal.loop-first-init

@@ -1,4 +1,4 @@
-use Rattle.flat_machine.proofs.Lawful.{works_stage}
+use Rattle.flat_machine.specs.lemmas.Lawful.{works_stage}
 use Rattle.flat_machine.proofs.flat.SharedFlatProgramContext.local.Goals as goal
 
 pub local-requires-clause-begun : goal.local-requires-clause-begun

@@ -8,7 +8,7 @@ use Rattle.struct_ir.specs.Views.{action_view, step_view}
 use Rattle.struct_ir.specs.Instrs.{LinearCode}
 use Rattle.flat_meaning.specs.Accesses as actions
 use Rattle.flat_machine.specs.inner.Dones.{Does}
-use Rattle.flat_machine.proofs.Steps.{counted, place_is, copies, locks, unlocks, begins}
+use Rattle.flat_machine.specs.lemmas.Steps.{counted, place_is, copies, locks, unlocks, begins}
 use Rattle.flat_machine.proofs.shared.Shared.done.Goals as goal
 use Rattle.struct_ir.specs.declared.code.Place.{Place as CodePlace}
 use Rattle.std.specs.Prelude.{None}

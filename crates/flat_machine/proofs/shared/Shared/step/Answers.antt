@@ -7,7 +7,7 @@ use Rattle.struct_ir.specs.Instrs.{Instr}
 use Rattle.struct_ir.specs.ValidCode.{is_instr}
 use Rattle.flat_meaning.specs.Stages.{before_here}
 use Rattle.flat_meaning.specs.Local.{stop_before}
-use Rattle.flat_machine.proofs.Steps.{stands, in_range, look_fits, given_fits, step_fits, stops_before, stops_at_these, last_call, step_is_done, leave_is_done}
+use Rattle.flat_machine.specs.lemmas.Steps.{stands, in_range, look_fits, given_fits, step_fits, stops_before, stops_at_these, last_call, step_is_done, leave_is_done}
 use Rattle.flat_threads.specs.Contexts.{own_image}
 use Rattle.flat_threads.specs.Deeds.{top_of}
 use Rattle.flat_machine.proofs.shared.Shared.step.Goals as goal

@@ -25,7 +25,7 @@ use Rattle.flat_threads.specs.Waits.{action_waits}
 use Rattle.flat_machine.specs.Choices.{action_choice, got_or, malloc_choice}
 use Rattle.flat_machine.specs.Readiness.{wants_room}
 use Rattle.flat_machine.specs.Turns.{blocked_turned, done_turned, malloc_turned, start_turned}
-use Rattle.flat_machine.proofs.Waiting.{IsSized, node_is}
+use Rattle.flat_machine.specs.lemmas.Waiting.{IsSized, node_is}
 
 -- ---- what waits
 

@@ -35,9 +35,9 @@ use Rattle.flat_machine.specs.Acting.{acted_by, effect_if}
 use Rattle.flat_machine.specs.Machine.{machine_of, progress_of}
 use Rattle.flat_machine.specs.Shares.{Shared, IsSharedOf, image_of}
 use Rattle.flat_machine.specs.Turns.{blocked_turned, fault_turned, outcome_turned, turned_of}
-use Rattle.flat_machine.proofs.Goes.{Pending, looks_so, does_so, returns_so, action_valid, pending, stop_is}
-use Rattle.flat_machine.proofs.Outcomes.{AreThreads, same, one_more, done_on, threads_are}
-use Rattle.flat_machine.proofs.Steps.{choice_at, done_at, lacks, last_call, leave_memory_is, leave_turned_is, look_effect_is, look_turned_is, outcome_at, stands, step_effect_is, step_turned_is}
+use Rattle.flat_machine.specs.lemmas.Goes.{Pending, looks_so, does_so, returns_so, action_valid, pending, stop_is}
+use Rattle.flat_machine.specs.lemmas.Outcomes.{AreThreads, same, one_more, done_on, threads_are}
+use Rattle.flat_machine.specs.lemmas.Steps.{choice_at, done_at, lacks, last_call, leave_memory_is, leave_turned_is, look_effect_is, look_turned_is, outcome_at, stands, step_effect_is, step_turned_is}
 
 -- ---- the threads
 

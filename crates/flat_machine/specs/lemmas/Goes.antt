@@ -40,9 +40,9 @@ use Rattle.flat_machine.specs.Readiness.{wants_room}
 use Rattle.flat_machine.specs.Shares.{Shared, IsSharedOf, image_of}
 use Rattle.flat_machine.specs.Turns.{done_turned, fault_turned, outcome_turned, turned_of}
 use Rattle.flat_machine.specs.Choices.{malloc_choice}
-use Rattle.flat_machine.proofs.Outcomes.{same, done_on, malloc_fits, room_or_malloc, wait_told, waits_may}
-use Rattle.flat_machine.proofs.Steps.{choice_at, done_at, lacks, last_call, leave_turned_is, look_effect_is, look_turned_is, looked_at, no_spent, outcome_at, stands, step_effect_is, step_fits, step_turned_is}
-use Rattle.flat_machine.proofs.Waiting.{sized}
+use Rattle.flat_machine.specs.lemmas.Outcomes.{done_on, malloc_fits, room_or_malloc, wait_told, waits_may}
+use Rattle.flat_machine.specs.lemmas.Steps.{choice_at, done_at, lacks, last_call, leave_turned_is, look_effect_is, look_turned_is, looked_at, no_spent, outcome_at, stands, step_effect_is, step_fits, step_turned_is}
+use Rattle.flat_machine.specs.lemmas.Waiting.{sized}
 
 -- ---- what a thread stands before that has stopped
 

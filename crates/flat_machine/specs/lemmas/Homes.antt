@@ -5,7 +5,8 @@ use Rattle.block_store.specs.Runs.{own_at}
 use Rattle.struct_ir.specs.Instrs.{LinearCode}
 use Rattle.struct_ir.specs.Linear.{Spot}
 use Rattle.flat_meaning.specs.Allowed.{handles_if}
-use Rattle.flat_meaning.specs.Events.{State, Serve}
+use Rattle.flat_meaning.specs.Events.{State, Serve, after_serve, after_serves}
+use Rattle.flat_meaning.specs.Image.{Image}
 use Rattle.flat_meaning.specs.Memory.{Made}
 use Rattle.flat_meaning.specs.Ready as stages
 use Rattle.flat_meaning.specs.Stages.{Stage, starts, going, waiting, landed}
@@ -18,7 +19,7 @@ use Rattle.flat_machine.specs.Readiness.{wants_room}
 use Rattle.flat_machine.specs.Shares.{Shared, image_of}
 use Rattle.flat_machine.specs.Sweeping.{context_at, home_at, if_wants, place_at, serve_of, serves_if, stage_home, stage_or, stages_home, waits_at_home}
 use Rattle.flat_machine.specs.inner.Swept.{handles_home}
-use Rattle.flat_machine.proofs.Waits.{waits_are_told}
+use Rattle.flat_machine.specs.lemmas.Waits.{waits_are_told}
 
 -- ---- each at its place
 
@@ -61,6 +62,13 @@ own_at_home [] home n below within = absurd (omega arith)
 own_at_home (t ∷ ts) [] n below within = absurd (omega arith)
 own_at_home (t ∷ ts) (c ∷ home) zero below within = (t, refl)
 own_at_home (t ∷ ts) (c ∷ home) (suc n) below within = own_at_home ts home n (omega arith) (omega arith)
+
+-- ---- serves
+
+-- one behind the other
+pub after_serves-append : (x : Image Spot) (vs ws : List Serve) (s : State Spot) → after_serves x (vs ++ ws) s ≡ after_serves x ws (after_serves x vs s)
+after_serves-append x [] ws s = refl
+after_serves-append x (v ∷ vs) ws s = after_serves-append x vs ws (after_serve x s v)
 
 -- ---- places with other stages
 

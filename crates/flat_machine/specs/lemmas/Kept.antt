@@ -22,7 +22,7 @@ use Rattle.flat_meaning.specs.Ready as stages
 use Rattle.flat_meaning.specs.Ready.{has_ended}
 use Rattle.flat_meaning.specs.Stages.{Stage, waiting}
 use Rattle.flat_meaning.specs.Words.{Words, word_at}
-use Rattle.flat_rules.specs.Lawful.{AreHome, EachAt, IsHomeAt, IsOfRun, KeptAt, Sweeps}
+use Rattle.flat_rules.specs.Lawful.{AreHome, IsHomeAt, IsOfRun, KeptAt, Sweeps}
 use Rattle.flat_rules.specs.Machine.{blank, works}
 use Rattle.flat_threads.proofs.Standing.{behind_act}
 use Rattle.flat_threads.proofs.Threads.{SameCounts, same_counts, behind_is}
@@ -38,17 +38,11 @@ use Rattle.flat_machine.specs.Machine.{machine_of, progress_of, stands_of}
 use Rattle.flat_machine.specs.Readiness.{wants_room}
 use Rattle.flat_machine.specs.Shares.{Shared, IsSharedOf, image_of}
 use Rattle.flat_machine.specs.Sweeping.{at_home, context_at, home_at, if_wants, place_at, serve_of, serves_from, serves_if, stage_home, stage_or, stages_home, sweep_moves, swept_by, swept_state, waits_at_home}
-use Rattle.flat_machine.proofs.Homes.{each_here, length-stages_home, none_served, own_at_home, own_at_set, own_at_set-later, place_is, wants_same}
-use Rattle.flat_machine.proofs.Lawful.{blank_stage}
-use Rattle.flat_machine.proofs.Serves.{after_serves-append}
-use Rattle.flat_machine.proofs.Waiting.{IsMalloc, before_malloc, behind_waits, choice_is, keeps, list_before, node_is, node_of, serve_is, waiting_of, wants_is}
+use Rattle.flat_machine.specs.lemmas.Homes.{after_serves-append, each_here, length-stages_home, none_served, own_at_home, own_at_set, own_at_set-later, place_is, wants_same}
+use Rattle.flat_machine.specs.lemmas.Lawful.{blank_stage}
+use Rattle.flat_machine.specs.lemmas.Waiting.{IsMalloc, before_malloc, behind_waits, choice_is, keeps, list_before, node_is, node_of, serve_is, waiting_of, wants_is}
 
 -- ---- a context at home
-
--- it hasn't begun, or its thread was made and works: no step of it is pending
-abbrev pub IsAtRest : Shared → ℕ → Option Context → Type 0
-IsAtRest s k None = Unit {0}
-IsAtRest s k (Some c) = (progress_of c.stage c.stop ≡ blank) ⊎ ((progress_of c.stage c.stop ≡ works) × (k < length s.memory.threads))
 
 module _ (code : LinearCode) where
   none_stop : (c : Context) → IsContextOf code c → c.stage ≡ None → c.stop ≡ None
@@ -62,15 +56,22 @@ module _ (code : LinearCode) where
   works_stop (Some stage) None e = refl
   works_stop (Some stage) (Some stop) e = absurd cc
 
-  rest_stop : (s : Shared) (k : ℕ) (c : Context) → IsContextOf code c → IsAtRest s k (Some c) → c.stop ≡ None
+  -- its thread has not begun, or was made and works
+  abbrev Rests : Shared → ℕ → Context → Type 0
+  Rests s k c = (progress_of c.stage c.stop ≡ blank) ⊎ ((progress_of c.stage c.stop ≡ works) × (k < length s.memory.threads))
+
+  rest_stop : (s : Shared) (k : ℕ) (c : Context) → IsContextOf code c → Rests s k c → c.stop ≡ None
   rest_stop s k c of_ (inl e) = none_stop c of_ (blank_stage code c.stage c.stop e)
   rest_stop s k c of_ (inr e) = works_stop c.stage c.stop e.0
 
   -- one of a thread that wasn't made doesn't wait
-  rest_waits : (s : Shared) (k : ℕ) (p : Option Context) → IsOfRun (machine_of code) (IsContextOf code) p → IsAtRest s k p → length s.memory.threads ≤ k → waits_at_home p ≡ false
-  rest_waits s k None of_ rest le = refl
-  rest_waits s k (Some c) of_ (inl e) le = ap wants_room (of_.wait ∙ ap (waits_at (own_image code)) (blank_stage code c.stage c.stop e))
-  rest_waits s k (Some c) of_ (inr e) le = absurd (omega (arith, e.1, le))
+  rest_unmade : (s : Shared) (k : ℕ) (c : Context) → IsContextOf code c → Rests s k c → length s.memory.threads ≤ k → wants_room c.wait ≡ false
+  rest_unmade s k c of_ (inl e) le = ap wants_room (of_.wait ∙ ap (waits_at (own_image code)) (blank_stage code c.stage c.stop e))
+  rest_unmade s k c of_ (inr e) le = absurd (omega (arith, e.1, le))
+
+  rest_waits : (s : Shared) (k : ℕ) (p : Option Context) → IsOfRun (machine_of code) (IsContextOf code) p → IsHomeAt (machine_of code) s k p → length s.memory.threads ≤ k → waits_at_home p ≡ false
+  rest_waits s k None of_ home le = refl
+  rest_waits s k (Some c) of_ home le = rest_unmade s k c of_ home.rests le
 
   -- one that doesn't wait is kept as it is
   pub kept_same : (p : Option Context) → IsOfRun (machine_of code) (IsContextOf code) p → waits_at_home p ≡ false → KeptAt (machine_of code) (IsContextOf code) p p
@@ -184,7 +185,7 @@ module _ (code : LinearCode) where
   own_at_set-before (x ∷ own) (suc n) zero v below = refl
   own_at_set-before (x ∷ own) (suc n) (suc k) v below = own_at_set-before own n k v (omega arith)
 
-  module _ (s : Shared) (home : List (Option Context)) (all : All (IsOfRun (machine_of code) (IsContextOf code)) home) (homes : AreHome (machine_of code) s home) (rests : EachAt (IsAtRest s) 0 home) where
+  module _ (s : Shared) (home : List (Option Context)) (all : All (IsOfRun (machine_of code) (IsContextOf code)) home) (homes : AreHome (machine_of code) s home) where
     abbrev x : Image Spot
     x = image_of code s
 
@@ -292,8 +293,7 @@ module _ (code : LinearCode) where
         waits_here (Some c) at w =
             let of_ : IsContextOf code c = subst (IsOfRun (machine_of code) (IsContextOf code)) at of_run in
             let home_at_ : IsHomeAt (machine_of code) s n (Some c) = subst (IsHomeAt (machine_of code) s n) at (each_here (IsHomeAt (machine_of code) s) home n None homes.1 within) in
-            let rest : IsAtRest s n (Some c) = subst (IsAtRest s n) at (each_here (IsAtRest s) home n None rests within) in
-            was_served c at (served s st n c of_ (rest_stop s n c of_ rest) home_at_.1 (room_waits c.wait w))
+            was_served c at (served s st n c of_ (rest_stop s n c of_ home_at_.rests) home_at_.stands (room_waits c.wait w))
 
         by : (b : Bool) → waits_at_home (place n) ≡ b → IsSwept (n + 1) (after_serves x (serves_if x st n (own_at st.own n)) st)
         by true w = waits_here (place n) refl w
@@ -337,14 +337,14 @@ module _ (code : LinearCode) where
     functions = subst (λ (ts : List Made). All (λ (t : Made). t.function < length code.funcs) ts) (sym same) is.functions;
   }
 
-  -- what the rules ask of a barrier, where no step of a context at home is pending
-  pub sweeps : (s : Shared) (home : List (Option Context)) → IsSharedOf code s → All (IsOfRun (machine_of code) (IsContextOf code)) home → AreHome (machine_of code) s home → EachAt (IsAtRest s) 0 home → Sweeps (machine_of code) (IsSharedOf code) (IsContextOf code) s home
-  sweeps s home shared all homes rests =
-      let is = end_swept s home all homes rests in
-      let state = end_state s home all homes rests in
+  -- what the rules ask of a barrier
+  pub sweeps : (s : Shared) (home : List (Option Context)) → IsSharedOf code s → All (IsOfRun (machine_of code) (IsContextOf code)) home → AreHome (machine_of code) s home → Sweeps (machine_of code) (IsSharedOf code) (IsContextOf code) s home
+  sweeps s home shared all homes =
+      let is = end_swept s home all homes in
+      let state = end_state s home all homes in
       record {
         of_ = shared_same s (swept_by code s home).shared is.threads shared;
-        kept = zip_kept state.own home (λ k lt. is.kept k (omega (arith, lt, is.long))) (λ k le lt. kept_same (get_or home k None) (all k None lt) (rest_waits s k (get_or home k None) (all k None lt) (each_here (IsAtRest s) home k None rests lt) (omega (arith, le, is.long))));
+        kept = zip_kept state.own home (λ k lt. is.kept k (omega (arith, lt, is.long))) (λ k le lt. kept_same (get_or home k None) (all k None lt) (rest_waits s k (get_or home k None) (all k None lt) (each_here (IsHomeAt (machine_of code) s) home k None homes.1 lt) (omega (arith, le, is.long))));
         threads = ap length is.threads;
         ends = λ k. ap (λ (ts : List Made). has_ended (slice_get ts k)) is.threads;
       }

@@ -29,7 +29,7 @@ use Rattle.flat_machine.specs.Machine.{machine_of, progress_of}
 use Rattle.flat_machine.specs.Readiness.{begun, stage_of_made, wants_room}
 use Rattle.flat_machine.specs.Shares.{Shared, IsSharedOf, image_of}
 use Rattle.flat_machine.specs.Sweeping.{at_home, if_wants, serve_of, served_of, serves_from, serves_if, stages_home, sweep_moves, sweep_serves, swept_by}
-use Rattle.flat_machine.proofs.Homes.{own_at_set-later}
+use Rattle.flat_machine.specs.lemmas.Homes.{own_at_set-later}
 
 -- ---- a context that hasn't begun
 
