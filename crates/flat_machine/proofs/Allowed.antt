@@ -1,5 +1,5 @@
 -- What the machine chooses is allowed: a free id, and a place where the object fits.
-use Rattle.std.proofs.Common.{◌≡◌, ℕ, zero, suc, ◌+◌, ◌*◌, ◌<◌, Bool, true, false, cond, ltb, List, [], ◌∷◌, length, get_or, Option, Some, None, refl, subst, arith}
+use Rattle.std.proofs.Common.{◌≡◌, ℕ, zero, suc, ◌+◌, ◌*◌, ◌<◌, Bool, true, false, cond, List, [], ◌∷◌, length, Option, Some, None, refl, subst, arith}
 use Rattle.std.specs.Prelude.{IsNone, is_none, nat_lt}
 use Rattle.std.specs.List.{find, position_or_len, range_with_len}
 use Rattle.std.proofs.lemmas.Bool.{ltb-true}

@@ -12,7 +12,6 @@ use Rattle.flat_meaning.specs.Memory.{Memory}
 use Rattle.flat_meaning.specs.Accesses.{Choice, plain}
 use Rattle.flat_meaning.specs.Stages.{Stage, Before, looks, thread_at, before}
 use Rattle.flat_meaning.specs.Local.{stop_at}
-use Rattle.flat_meaning.specs.Effects.{Effect}
 use Rattle.flat_meaning.specs.Events.{State, Event, look, act, barrier, put, after_all}
 use Rattle.flat_meaning.specs.Allowed.{AreAllowed}
 use Rattle.flat_machine.specs.Acting.{choice_for, effect_of}

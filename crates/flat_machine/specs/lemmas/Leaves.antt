@@ -1,5 +1,5 @@
 -- What a step leaves of the threads: those that there were, and one more at most; and just the thread itself may have ended.
-use Rattle.std.proofs.Common.{◌≡◌, ℕ, zero, suc, ◌+◌, ◌<◌, ◌≤◌, Bool, true, false, ◌||◌, ◌&&◌, ◌==◌, List, [], ◌∷◌, ◌++◌, length, map, get_or, All, Option, Some, None, refl, ap, sym, ◌∙◌, subst, arith}
+use Rattle.std.proofs.Common.{◌≡◌, ℕ, zero, suc, ◌<◌, ◌≤◌, Bool, true, false, ◌||◌, ◌&&◌, ◌==◌, List, [], ◌∷◌, ◌++◌, length, map, get_or, All, Option, Some, None, refl, ap, sym, ◌∙◌, subst, arith}
 use Rattle.std.specs.Prelude.{slice_get, slice_set}
 use Rattle.std.proofs.lemmas.Bool.{eqb-true, eqb-false}
 use Rattle.std.proofs.lemmas.Option.{slice_get-get_or}
@@ -8,7 +8,7 @@ use Rattle.std.proofs.lemmas.List.Elements.{All-append}
 use Rattle.struct_ir.specs.Flow.{Here, does, returns}
 use Rattle.struct_ir.specs.Instrs.{LinearCode, LinearFunc}
 use Rattle.struct_ir.specs.Linear.{Spot, linear}
-use Rattle.struct_ir.specs.Nodes.{Action, start, Step, set, call, step, look, own_list}
+use Rattle.struct_ir.specs.Nodes.{Action, start, Step, step, look, own_list}
 use Rattle.struct_ir.specs.Threads.{Thread}
 use Rattle.struct_ir.specs.Valid.{has_params, is_action, is_step}
 use Rattle.struct_ir.specs.ValidCode.{code_scope_of, is_here}
