@@ -21,16 +21,17 @@ EachAt at k [] = Unit {0}
 EachAt at k (a ∷ as') = at k a × EachAt at (k + 1) as'
 
 module _ {S C : Type 0} (m : Machine S C) where
-  -- a context at home is that of its place's thread and stands at a safepoint; no step of it is pending: it has not begun, or its thread was made and works
-  pub record IsAtHome (s : S) (k : ℕ) (c : C) : Type 0 where
+  -- where so many threads were made: a context at home is that of its place's thread and stands at a safepoint; no step of it is pending: it has not
+  -- begun, or its thread was made and works
+  pub record IsAtHome (threads k : ℕ) (c : C) : Type 0 where
     pub thread : m.thread_of c ≡ k
     pub stands : m.stands c ≡ true
-    pub rests : (m.progress c ≡ blank) ⊎ ((m.progress c ≡ works) × (k < m.threads s))
+    pub rests : (m.progress c ≡ blank) ⊎ ((m.progress c ≡ works) × (k < threads))
 
   -- a place of the list that `barrier` is handed: that of a thread that was made and has not ended has its context
   abbrev pub IsHomeAt : S → ℕ → Option C → Type 0
   IsHomeAt s k None = k < m.threads s → m.has_ended s k ≡ true
-  IsHomeAt s k (Some c) = IsAtHome s k c
+  IsHomeAt s k (Some c) = IsAtHome (m.threads s) k c
 
   abbrev pub AreHome : S → List (Option C) → Type 0
   AreHome s homes = (m.threads s ≤ length homes) × EachAt (IsHomeAt s) 0 homes

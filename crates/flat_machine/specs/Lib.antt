@@ -1,0 +1,13 @@
+pub mod Shares
+pub mod Start
+pub mod Choices
+pub mod Readiness
+pub mod Turns
+pub mod Acting
+pub mod Slides
+pub mod Sweeping
+pub mod Reports
+pub mod Machine
+pub mod Laws
+pub mod inner
+pub mod lemmas

@@ -1,0 +1,333 @@
+-- A malloc that waits, and what serving it does.
+use Rattle.std.proofs.Common.{◌≡◌, ℕ, zero, suc, ◌+◌, ◌<◌, Bool, true, false, eqb, ltb, ◌&&◌, cond, List, [], ◌∷◌, ◌++◌, length, map, Option, Some, None, refl, sym, ap, ◌∙◌, subst, arith}
+use Rattle.std.specs.Prelude.{slice_get}
+use Rattle.std.specs.List.{list_all}
+use Rattle.std.specs.Option.{ForSome}
+use Rattle.std.proofs.lemmas.Bool.{eqb-true, ltb-true}
+use Rattle.struct_ir.specs.Nodes.{Action, load, store, copy_bytes, malloc, free, print, lock, unlock, destroy, start, join, set, call, step, look, safepoint, begin_object, end_object, may_wait, Step, Act}
+use Rattle.struct_ir.specs.Flow.{Here, does, tests, passes, round, returns}
+use Rattle.struct_ir.specs.Instrs.{Instr, acts, unless, jump, round_to, leave, LinearCode, LinearFunc, instrs_if, instrs_of}
+use Rattle.struct_ir.specs.Linear.{Spot, instr_here, linear}
+use Rattle.struct_ir.specs.Machine.{Point}
+use Rattle.struct_ir.specs.Threads.{Thread}
+use Rattle.struct_ir.specs.Valid.{Scope, are_below, is_action, is_own_list, is_place, has_counts, counts_of, is_below_if, is_step}
+use Rattle.struct_ir.specs.ValidCode.{code_scope_of, is_instr, is_valid_code}
+use Rattle.struct_ir.proofs.ValidCode.{of_all}
+use Rattle.defrag_move.specs.Arena.{Storage}
+use Rattle.flat_rules.specs.Machine as turns
+use Rattle.flat_meaning.specs.Accesses as actions
+use Rattle.flat_meaning.specs.Accesses.{Choice, plain, got, null, wait, allocated}
+use Rattle.flat_meaning.specs.Effects.{Effect, serve_effect}
+use Rattle.flat_meaning.specs.Image.{Image, Layout, Limits, limits_for}
+use Rattle.flat_meaning.specs.Memory.{Memory}
+use Rattle.flat_meaning.specs.Machine.{served_by}
+use Rattle.flat_meaning.specs.Allowed.{list_at}
+use Rattle.flat_meaning.specs.Ready as stages
+use Rattle.struct_ir.specs.Threads as threads
+use Rattle.struct_ir.specs.Threads.{Served}
+use Rattle.flat_meaning.specs.Accesses.{Fault}
+use Rattle.flat_meaning.specs.Stages.{Stage, starts, going, waiting, landed}
+use Rattle.flat_meaning.specs.Words.{Target, Used, Words, none_used, used_with, word_at, target_of}
+use Rattle.flat_threads.specs.Belonging.{IsContextOf}
+use Rattle.flat_threads.specs.Contexts.{AreCallsOf, Context, IsCallOf, IsListFor, IsStageIf, IsThreadOf, layout_of, own_image, standing}
+use Rattle.flat_threads.specs.Deeds.{landed_stage, stepped, top_at, top_of, with_word}
+use Rattle.flat_threads.proofs.Listed.{listed_for}
+use Rattle.flat_threads.specs.Waits.{action_waits, waits_at, waits_here}
+use Rattle.flat_threads.specs.declared.wait.Wait.TheVariants.{Room, Mutex}
+use Rattle.flat_machine.specs.declared.turned.Turned.{Turned}
+use Rattle.flat_machine.specs.declared.turned.Turned.TheVariants as code
+use Rattle.flat_machine.specs.Choices.{choice_here, served_choice}
+use Rattle.sub_heaps.specs.SubHeaps.{SubHeaps}
+use Rattle.flat_rules.specs.Entries.{served_with}
+use Rattle.flat_machine.specs.declared.done.Done.TheVariants as dones
+use Rattle.flat_machine.specs.Shares.{Shared, image_of, limits_of}
+use Rattle.flat_machine.specs.inner.Dones.{Does, memory_after, with_memory}
+use Rattle.flat_machine.specs.Sweeping.{object_got}
+use Rattle.flat_machine.specs.Turns.{malloc_turned}
+use Rattle.flat_machine.specs.inner.Swept.{IsServed, object_told, serve_now}
+use Rattle.flat_machine.specs.inner.Turneds.{turned_view}
+
+-- ---- where a thread waits for room
+
+act_waits : (a : Action) (places : List Target) (words : List ℕ) → action_waits a places words ≡ Some Room → a ≡ malloc
+act_waits (load how) places words is = absurd cc
+act_waits (store how) places words is = absurd cc
+act_waits (copy_bytes align same) places words is = absurd cc
+act_waits malloc places words is = refl
+act_waits free places words is = absurd cc
+act_waits (print pieces) places words is = absurd cc
+act_waits lock [] words is = absurd cc
+act_waits lock (a ∷ []) [] is = absurd cc
+act_waits lock (a ∷ []) (w ∷ words) is = absurd cc
+act_waits lock (a ∷ b ∷ places) words is = absurd cc
+act_waits unlock places words is = absurd cc
+act_waits destroy places words is = absurd cc
+act_waits (start function) places words is = absurd cc
+act_waits join [] words is = absurd cc
+act_waits join (a ∷ []) [] is = absurd cc
+act_waits join (a ∷ []) (w ∷ []) is = absurd cc
+act_waits join (a ∷ []) (w ∷ v ∷ words) is = absurd cc
+act_waits join (a ∷ b ∷ places) words is = absurd cc
+
+-- a malloc stands there
+pub record IsMalloc (h : Here) : Type 0 where
+  pub place : ℕ
+  pub node : Step
+  pub there : h ≡ does place (step node)
+  pub action : node.action ≡ malloc
+
+here_waits : (l : Words) (h : Here) → waits_here l h ≡ Some Room → IsMalloc h
+here_waits l (does place (step s)) is = record { place = place; node = s; there = refl; action = act_waits s.action (map (target_of l) s.places) (map (word_at l) s.temps) is }
+here_waits l (does place (set to calc)) is = absurd cc
+here_waits l (does place (call c)) is = absurd cc
+here_waits l (does place (look slot base)) is = absurd cc
+here_waits l (does place (safepoint slots)) is = absurd cc
+here_waits l (does place (begin_object number)) is = absurd cc
+here_waits l (does place (end_object number)) is = absurd cc
+here_waits l (tests place temp) is = absurd cc
+here_waits l passes is = absurd cc
+here_waits l round is = absurd cc
+here_waits l (returns temp) is = absurd cc
+
+pub record IsWaiting (p : LinearCode) (stage : Option (Stage Spot)) : Type 0 where
+  pub thread : Thread Spot Words
+  pub is : stage ≡ Some (waiting thread)
+  pub here : IsMalloc ((own_image p).flow.here thread.top.at)
+
+pub waiting_of : (p : LinearCode) (stage : Option (Stage Spot)) → waits_at (own_image p) stage ≡ Some Room → IsWaiting p stage
+waiting_of p None is = absurd cc
+waiting_of p (Some (starts function argument)) is = absurd cc
+waiting_of p (Some (going t)) is = absurd cc
+waiting_of p (Some (waiting t)) is = record { thread = t; is = refl; here = here_waits t.top.own ((own_image p).flow.here t.top.at) is }
+waiting_of p (Some (landed list t)) is = absurd cc
+
+-- ---- the instruction there
+
+both : (a b : Bool) → (a && b) ≡ true → (a ≡ true) × (b ≡ true)
+both true b is = (refl, is)
+both false b is = absurd cc
+
+-- what a malloc has
+pub record IsSized (temps : ℕ) (s : Step) : Type 0 where
+  pub size : ℕ
+  pub only : s.temps ≡ size ∷ []
+  pub below : size < temps
+  pub to : ForSome s.to (λ r. r < temps)
+  pub no_places : s.places ≡ []
+
+one_temp : (n : ℕ) (temps : List ℕ) → length temps ≡ 1 → are_below n temps ≡ true → (size : ℕ) × (temps ≡ size ∷ []) × (size < n)
+one_temp n [] one all = absurd (omega arith)
+one_temp n (t ∷ []) one all = (t, refl, ltb-true t n (both (ltb t n) true all).0)
+one_temp n (t ∷ u ∷ temps) one all = absurd (omega arith)
+
+none_of : {A : Type 0} (xs : List A) → length xs ≡ 0 → xs ≡ []
+none_of [] none = refl
+none_of (x ∷ xs) none = absurd (omega arith)
+
+to_below : (n : ℕ) (o : Option ℕ) → is_below_if n o ≡ true → ForSome o (λ r. r < n)
+to_below n None is = λ r e. absurd cc
+to_below n (Some x) is = λ r e. let same : x ≡ r = cc in subst (λ y. y < n) same (ltb-true x n is)
+
+pub sized : (x : Scope) (s : Step) → s.action ≡ malloc → is_step x s ≡ true → IsSized x.temps s
+sized x s is valid =
+    let p = list_all (is_place x) s.places in
+    let b = are_below x.temps s.temps in
+    let t = is_below_if x.temps s.to in
+    let d = has_counts (counts_of s.action) s in
+    let e = is_action x s.action && is_own_list x s.action s.slots in
+    let halves = both (p && (b && t)) (d && e) valid in
+    let first = both b t (both p (b && t) halves.0).1 in
+    let counts : has_counts (counts_of malloc) s ≡ true = subst (λ a. has_counts (counts_of a) s ≡ true) is (both d e halves.1).0 in
+    let parts = both (eqb (length s.places) 0) (eqb (length s.temps) 1 && true) counts in
+    let one = one_temp x.temps s.temps (eqb-true (length s.temps) 1 (both (eqb (length s.temps) 1) true parts.1).0) first.0 in
+    record { size = one.0; only = one.1; below = one.2; to = to_below x.temps s.to first.1; no_places = none_of s.places (eqb-true (length s.places) 0 parts.0) }
+
+-- the instruction at a malloc, and what it has
+pub record IsAt (p : LinearCode) (t : Thread Spot Words) (i : Instr) : Type 0 where
+  pub place : ℕ
+  pub node : Step
+  pub is : i ≡ acts place (step node)
+  pub action : node.action ≡ malloc
+  pub has : IsSized (length t.top.own.temps) node
+
+instr_is : (i : Instr) → IsMalloc (instr_here (Some i)) → (place : ℕ) × (node : Step) × (i ≡ acts place (step node)) × (node.action ≡ malloc)
+instr_is (acts place (step s)) m = let same : s ≡ m.node = cc in (place, s, refl, ap (λ (n : Step). n.action) same ∙ m.action)
+instr_is (acts place (set to calc)) m = absurd (let w = m.there in cc)
+instr_is (acts place (call c)) m = absurd (let w = m.there in cc)
+instr_is (acts place (look slot base)) m = absurd (let w = m.there in cc)
+instr_is (acts place (safepoint slots)) m = absurd (let w = m.there in cc)
+instr_is (acts place (begin_object number)) m = absurd (let w = m.there in cc)
+instr_is (acts place (end_object number)) m = absurd (let w = m.there in cc)
+instr_is (unless place temp to) m = absurd (let w = m.there in cc)
+instr_is (jump place to) m = absurd (let w = m.there in cc)
+instr_is (round_to place to) m = absurd (let w = m.there in cc)
+instr_is (leave place temp) m = absurd (let w = m.there in cc)
+
+pub malloc_at : (p : LinearCode) (t : Thread Spot Words) (i : Instr) (below : Used) → is_valid_code p ≡ true → IsCallOf p below t.top → IsMalloc ((own_image p).flow.here t.top.at) → slice_get (instrs_of p.funcs t.top.at.function) t.top.at.index ≡ Some i → IsAt p t i
+malloc_at p t i below valid of_call m at =
+    let f = of_call.function in
+    let is = instr_is i (subst (λ o. IsMalloc (instr_here o)) at m) in
+    let inside : slice_get f.instrs t.top.at.index ≡ Some i = ap (λ o. slice_get (instrs_if o) t.top.at.index) (sym of_call.there) ∙ at in
+    let all = of_all (λ g. list_all (is_instr (code_scope_of p g)) g.instrs) p.funcs t.top.at.function f valid of_call.there in
+    let one = of_all (is_instr (code_scope_of p f)) f.instrs t.top.at.index i all inside in
+    let step_valid : is_step (code_scope_of p f) is.1 ≡ true = subst (λ j. is_instr (code_scope_of p f) j ≡ true) is.2 one in
+    record { place = is.0; node = is.1; is = is.2; action = is.3; has = subst (λ n. IsSized n is.1) (sym of_call.temps) (sized (code_scope_of p f) is.1 is.3 step_valid) }
+
+first_call : (p : LinearCode) (x : Layout) (q : Point Spot Words) (callers : List (Point Spot Words)) → AreCallsOf p x (q ∷ callers) → (below : Used) × IsCallOf p below q
+first_call p x q [] calls = (none_used, calls)
+first_call p x q (c ∷ callers) calls = (used_with x c.own, calls.0)
+
+-- a context waits for room before this instruction
+pub record IsBefore (p : LinearCode) (c : Context) (i : Instr) : Type 0 where
+  pub thread : Thread Spot Words
+  pub is : c.stage ≡ Some (waiting thread)
+  pub top : top_of c ≡ thread.top
+  pub there : slice_get (instrs_of p.funcs thread.top.at.function) thread.top.at.index ≡ Some i
+  pub at : IsAt p thread i
+
+pub before_malloc : (p : LinearCode) (c : Context) (i : Instr) → IsContextOf p c → c.wait ≡ Some Room → slice_get (instrs_of p.funcs (top_of c).at.function) (top_of c).at.index ≡ Some i → IsBefore p c i
+before_malloc p c i of_ waits at =
+    let w = waiting_of p c.stage (sym of_.wait ∙ waits) in
+    let top : top_of c ≡ w.thread.top = ap top_at w.is in
+    let there = subst (λ (q : Point Spot Words). slice_get (instrs_of p.funcs q.at.function) q.at.index ≡ Some i) top at in
+    let calls : IsThreadOf p w.thread = subst (IsStageIf p) w.is of_.stage in
+    let call = first_call p (layout_of p) w.thread.top w.thread.callers calls in
+    record { thread = w.thread; is = w.is; top = top; there = there; at = malloc_at p w.thread i call.0 of_.program.valid call.1 w.here there }
+
+-- its list names slots of the call
+pub list_before : (p : LinearCode) (c : Context) (i : Instr) → IsContextOf p c → (b : IsBefore p c i) → IsListFor (top_of c).own b.at.node.slots
+list_before p c i of_ b =
+    let calls : IsThreadOf p b.thread = subst (IsStageIf p) b.is of_.stage in
+    let call = first_call p (layout_of p) b.thread.top b.thread.callers calls in
+    let here : (linear p.funcs).here b.thread.top.at ≡ does b.at.place (step b.at.node) = ap instr_here (b.there ∙ ap Some b.at.is) in
+    let list : list_at ((linear p.funcs).here b.thread.top.at) ≡ Some b.at.node.slots = ap list_at here ∙ ap (λ a. cond (may_wait a) (Some b.at.node.slots) None) b.at.action in
+    subst (λ (q : Point Spot Words). IsListFor q.own b.at.node.slots) (sym b.top) (listed_for p of_.program call.0 b.thread.top call.1 b.at.node.slots list)
+
+-- ---- what serving it does
+
+-- the thread behind it
+served_word : (l : Words) (to word : Option ℕ) (m : Memory) → served_by l to (actions.went word m) ≡ threads.serves (with_word l to word) m
+served_word l to None m = refl
+served_word l to (Some word) m = refl
+
+module _ (p : LinearCode) (s : Shared) (t : Thread Spot Words) (k place size : ℕ) (to : Option ℕ) (slots : List ℕ) where
+  abbrev pub node_of : Step
+  node_of = record { action = malloc; places = []; to = to; temps = size ∷ []; slots = slots }
+
+  pub serve_is : (m after : Memory) (choice : Choice) (word : Option ℕ) → slice_get (instrs_of p.funcs t.top.at.function) t.top.at.index ≡ Some (acts place (step node_of)) → allocated choice (word_at t.top.own size) m ≡ actions.went word after
+      → serve_effect (image_of p s) k choice (waiting t) m ≡ record { memory = after; stage = Some (stepped node_of t word); end = None }
+  serve_is m after choice word at done = rw (at, done, served_word t.top.own to word after, at) refl
+
+  pub choice_is : slice_get (instrs_of p.funcs t.top.at.function) t.top.at.index ≡ Some (acts place (step node_of)) → choice_here (served_choice s.memory.storage) t.top.own ((image_of p s).flow.here t.top.at) ≡ served_choice s.memory.storage (word_at t.top.own size)
+  choice_is at = rw at refl
+
+  pub wants_is : slice_get (instrs_of p.funcs t.top.at.function) t.top.at.index ≡ Some (acts place (step node_of)) → stages.wants_room (own_image p) (waiting t) ≡ true
+  wants_is at = rw at refl
+
+  -- behind it a thread waits for nothing
+  pub behind_waits : (word : Option ℕ) → waits_at (own_image p) (Some (stepped node_of t word)) ≡ None
+  behind_waits word = refl
+
+-- a node that is a malloc
+pub node_is : (temps : ℕ) (s : Step) (h : IsSized temps s) → s.action ≡ malloc → s ≡ record { action = malloc; places = []; to = s.to; temps = h.size ∷ []; slots = s.slots }
+node_is temps s h is = λ i. record { action = is i; places = h.no_places i; to = s.to; temps = h.only i; slots = s.slots }
+
+-- ---- what it leaves
+
+-- threads and the shape of the sub-heaps are as they were
+pub record KeepsShape (m after : Memory) : Type 0 where
+  pub threads : after.threads ≡ m.threads
+  pub count : after.storage.heaps.count ≡ m.storage.heaps.count
+  pub size : after.storage.heaps.size ≡ m.storage.heaps.size
+  pub most : after.storage.heaps.most ≡ m.storage.heaps.most
+
+abbrev memory_of : Memory → actions.Done → Memory
+memory_of m (actions.went word after) = after
+memory_of m actions.waits = m
+memory_of m actions.unfit = m
+memory_of m (actions.over f) = m
+
+keeps_by : (choice : Choice) (size : ℕ) (m : Memory) → KeepsShape m (memory_of m (allocated choice size m))
+keeps_by plain size m = record { threads = refl; count = refl; size = refl; most = refl }
+keeps_by (got id place) size m = record { threads = refl; count = refl; size = refl; most = refl }
+keeps_by null size m = record { threads = refl; count = refl; size = refl; most = refl }
+keeps_by wait size m = record { threads = refl; count = refl; size = refl; most = refl }
+
+pub keeps : (choice : Choice) (size : ℕ) (m after : Memory) (word : Option ℕ) → allocated choice size m ≡ actions.went word after → KeepsShape m after
+keeps choice size m after word is = subst (KeepsShape m) (ap (memory_of m) is) (keeps_by choice size m)
+
+-- ---- what is told
+
+abbrev object_in : turns.Turned → Option (ℕ × ℕ)
+object_in (turns.got id place) = Some (id, place)
+object_in turned = None
+
+told_in : (turned : Turned) → object_told turned ≡ object_in (turned_view turned)
+told_in code.Looked = refl
+told_in code.Stepped = refl
+told_in (code.Got id place) = refl
+told_in code.GotNull = refl
+told_in (code.MadeThread number) = refl
+told_in code.RefusedThread = refl
+told_in code.FoundBusy = refl
+told_in code.WantsRoom = refl
+told_in code.Rested = refl
+told_in (code.Ended value) = refl
+told_in (code.Trapped word kind) = refl
+told_in code.PassedLimit = refl
+told_in code.LackedStack = refl
+
+got_in : (choice : Choice) → object_in (malloc_turned choice) ≡ object_got choice
+got_in plain = refl
+got_in (got id place) = refl
+got_in null = refl
+got_in wait = refl
+
+pub told_object : (turned : Turned) (choice : Choice) → turned_view turned ≡ malloc_turned choice → object_told turned ≡ object_got choice
+told_object turned choice is = told_in turned ∙ ap object_in is ∙ got_in choice
+
+-- ---- a served malloc
+
+limits_same : (o : ℕ) (h k : SubHeaps) → k.count ≡ h.count → k.size ≡ h.size → k.most ≡ h.most → limits_for o k.count k.size k.most ≡ limits_for o h.count h.size h.most
+limits_same o h k count size most = ap (λ n. limits_for o n k.size k.most) count ∙ ap (λ n. limits_for o h.count n k.most) size ∙ ap (limits_for o h.count h.size) most
+
+module _ (p : LinearCode) (old mid new : Shared) (c d : Context) (i : Instr) (b : IsBefore p c i) (word : Option ℕ) (turned : Turned) where
+  abbrev size : ℕ
+  size = word_at b.thread.top.own b.at.has.size
+
+  abbrev choice : Choice
+  choice = served_choice old.memory.storage size
+
+  abbrev node : Step
+  node = node_of p old b.thread c.number b.at.place b.at.has.size b.at.node.to b.at.node.slots
+
+  pub served_is : Does old mid (dones.Went word turned) (allocated choice size old.memory) → turned_view turned ≡ malloc_turned choice → d ≡ standing c (landed_stage b.at.node c.stage word) None
+      → new ≡ record mid { made = mid.made ++ served_with 0 c.number (object_told turned) ∷ [] } → IsServed p old new c d
+  served_is did told context shared =
+      let done : allocated choice size old.memory ≡ actions.went word mid.memory = sym did.done_ in
+      let left : mid ≡ with_memory old mid.memory = did.left ∙ ap (λ a. with_memory old (memory_after old.memory a)) done in
+      let kept = keeps choice size old.memory mid.memory word done in
+      let form : b.at.node ≡ node = node_is (length b.thread.top.own.temps) b.at.node b.at.has b.at.action in
+      let at : slice_get (instrs_of p.funcs b.thread.top.at.function) b.thread.top.at.index ≡ Some (acts b.at.place (step node)) = b.there ∙ ap Some b.at.is ∙ ap (λ n. Some (acts b.at.place (step n))) form in
+      let memory : new.memory ≡ mid.memory = ap (λ (v : Shared). v.memory) shared in
+      let chosen : (serve_now p old c.number (waiting b.thread)).choice ≡ choice = choice_is p old b.thread c.number b.at.place b.at.has.size b.at.node.to b.at.node.slots at in
+      let behind : Stage Spot = stepped node b.thread word in
+      let stood : landed_stage b.at.node c.stage word ≡ Some behind = ap (λ o. landed_stage b.at.node o word) b.is ∙ ap (λ n. Some (stepped n b.thread word)) form in
+      record {
+        stage = waiting b.thread;
+        is = b.is;
+        wants = wants_is p old b.thread c.number b.at.place b.at.has.size b.at.node.to b.at.node.slots at;
+        behind = behind;
+        effect =
+            ap (λ v. serve_effect (image_of p old) c.number v (waiting b.thread) old.memory) chosen
+            ∙ serve_is p old b.thread c.number b.at.place b.at.has.size b.at.node.to b.at.node.slots old.memory mid.memory choice word at done
+            ∙ ap (λ m. record { memory = m; stage = Some behind; end = None }) (sym memory);
+        context = context ∙ ap (λ o. standing c o None) stood ∙ ap (standing c (Some behind)) (sym (behind_waits p old b.thread c.number b.at.place b.at.has.size b.at.node.to b.at.node.slots word));
+        threads = ap (λ (m : Memory). m.threads) memory ∙ kept.threads;
+        limits = ap limits_of shared ∙ ap limits_of left ∙ limits_same old.output_limit old.memory.storage.heaps mid.memory.storage.heaps kept.count kept.size kept.most;
+        shared =
+            shared
+            ∙ ap (λ (v : Shared). record v { made = v.made ++ served_with 0 c.number (object_told turned) ∷ [] }) left
+            ∙ ap (λ m. record old { memory = m; made = old.made ++ served_with 0 c.number (object_told turned) ∷ [] }) (sym memory)
+            ∙ ap (λ o. record old { memory = new.memory; made = old.made ++ served_with 0 c.number o ∷ [] }) (told_object turned choice told ∙ ap object_got (sym chosen));
+      }

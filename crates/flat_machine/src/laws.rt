@@ -1,0 +1,25 @@
+//! Laws of the machine's calls, as contracts of functions that do nothing.
+
+ghost use Rattle.flat_machine.specs.Laws.{ActIsItsEvent, BarrierIsItsEvent, ChoicesAreLeast, MachineIsFlat};
+ghost use Rattle.flat_machine.specs.Readiness.{WaitsAreTold};
+
+/// What is chosen at a malloc is the least free id and the lowest place that fits.
+pub fn choices_are_least()
+    ensures { ChoicesAreLeast }
+{}
+
+/// What a context waits for is what its stage waits for.
+pub fn waits_are_told()
+    ensures { WaitsAreTold }
+{}
+
+/// Act and barrier do events that may come: what is chosen at a malloc is free and fits, and what a listed slot names is not moved.
+pub fn calls_are_events()
+    ensures act { ActIsItsEvent }
+    ensures barrier { BarrierIsItsEvent }
+{}
+
+/// The machine is one that the rules of a run are of.
+pub fn machine_is_flat()
+    ensures { MachineIsFlat }
+{}

@@ -1,0 +1,31 @@
+//! The machine: what threads share, a call for each event of flat_meaning, and the machine as the rules of a run see it.
+//! Promises upward: each call does just the event that its contract names, and what it chooses is a function of the state.
+//! Stands on flat_threads for threads, on flat_rules for entries and rules, and on defrag_move for objects that move.
+#![tactic(auto)]
+
+mod accesses;
+mod acting;
+mod allocating;
+mod answers;
+mod barriers;
+mod done;
+mod flat;
+mod laws;
+mod loading;
+mod locking;
+mod made;
+mod printing;
+mod ready;
+mod shared;
+mod starting;
+mod turned;
+
+pub use acting::act;
+pub use answers::{LastBarrier, Report};
+pub use barriers::barrier;
+pub use flat_meaning::{End, Stop, TrapKind};
+pub use flat_rules::{Mode, Settings, Step};
+pub use flat_threads::{Context, Program, local};
+pub use laws::{calls_are_events, choices_are_least, machine_is_flat, waits_are_told};
+pub use ready::{begin, is_ready};
+pub use shared::Shared;
