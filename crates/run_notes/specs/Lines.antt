@@ -1,0 +1,49 @@
+-- The line of a run that never began.
+use Rattle.std.specs.Prelude.{ℕ, ◌+◌, List, [], ◌∷◌, ◌++◌, length, take, count_by, codes, decimal, ◌==◌, not, reverse, take_while}
+use Rattle.c_lex.specs.declared.refusal.Kind.{Kind}
+use Rattle.c_lex.specs.declared.refusal.Kind.TheVariants as kinds
+use Rattle.run_notes.specs.declared.status.Status.{Status}
+use Rattle.run_notes.specs.declared.status.Status.TheVariants as statuses
+
+-- the line of a text that a place stands in, from 1; lines end at line feeds
+abbrev pub line_at : List ℕ → ℕ → ℕ
+line_at text place = count_by (λ byte. byte == 10) (take place text) + 1
+
+-- where in its line a place stands, in bytes from 1: the bytes before it, back to a line feed
+abbrev pub column_at : List ℕ → ℕ → ℕ
+column_at text place = length (take_while (λ byte. not (byte == 10)) (reverse (take place text))) + 1
+
+-- the name of a kind of refusal
+abbrev pub kind_name : Kind → List ℕ
+kind_name kinds.BadByte = codes "BadByte"
+kind_name kinds.OpenLiteral = codes "OpenLiteral"
+kind_name kinds.NumberTooWide = codes "NumberTooWide"
+kind_name kinds.UnexpectedToken = codes "UnexpectedToken"
+kind_name kinds.TooDeep = codes "TooDeep"
+kind_name kinds.UnknownName = codes "UnknownName"
+kind_name kinds.DoubleName = codes "DoubleName"
+kind_name kinds.TypeMismatch = codes "TypeMismatch"
+kind_name kinds.NotAnLvalue = codes "NotAnLvalue"
+kind_name kinds.BadSize = codes "BadSize"
+kind_name (kinds.OutsideSubset feature) = codes "OutsideSubset"
+kind_name kinds.TooLong = codes "TooLong"
+kind_name (kinds.TooMany count) = codes "TooMany"
+
+-- the number of a kind of refusal, a blank before it, where it has one
+abbrev pub kind_number : Kind → List ℕ
+kind_number (kinds.OutsideSubset feature) = 32 ∷ decimal feature
+kind_number (kinds.TooMany count) = 32 ∷ decimal count
+kind_number _ = []
+
+-- the line of a text that is refused, of the file with this name
+abbrev pub refusal_line : (name text : List ℕ) → ℕ → Kind → List ℕ
+refusal_line name text place kind = name ++ codes ":" ++ decimal (line_at text place)
+    ++ codes ":" ++ decimal (column_at text place) ++ codes ": refused: " ++ kind_name kind ++ kind_number kind ++ codes "\n"
+
+-- the line of a status before any run, of the file with this name and this text; a run that ended has a report, and a fault of writing has no line
+abbrev pub fault_line : (name text : List ℕ) → Status → List ℕ
+fault_line name text statuses.Usage = codes "usage: alaska FILE [options]\n"
+fault_line name text (statuses.Refused place kind) = refusal_line name text place kind
+fault_line name text statuses.ReadFault = codes "alaska: can't read " ++ name ++ codes "\n"
+fault_line name text statuses.NoMemory = codes "alaska: out of memory\n"
+fault_line name text _ = []

@@ -1,0 +1,71 @@
+-- Texts of note, as they are written.
+use Rattle.std.specs.Prelude.{◌≡◌, pos, negsuc, [], ◌++◌, codes, replicate, Some, None, refl}
+use Rattle.std.specs.Fmt.{digits}
+use Rattle.c_lex.specs.declared.refusal.Kind.TheVariants.{TooDeep, UnknownName, OutsideSubset}
+use Rattle.flat_meaning.specs.declared.endings.End.TheVariants.{Done, Trap, AllBlocked, TurnLimit, OutputLimit, StackLimit}
+use Rattle.flat_meaning.specs.declared.endings.TrapKind.TheVariants.{Store, Free}
+use Rattle.run_notes.specs.declared.status.Status.TheVariants as statuses
+use Rattle.run_report.specs.declared.report.Report.{Report}
+use Rattle.run_notes.specs.Reports.{report_text, end_text}
+use Rattle.run_notes.specs.Lines.{fault_line}
+
+-- the report of a main that ends at once
+abbrev pub short_run : Report
+short_run = record {
+  threads = 1;
+  entries = 2;
+  barriers = 0;
+  moved_objects = 0;
+  moved_bytes = 0;
+  live_objects = 0;
+  live_bytes = 0;
+  extent = 0;
+  heap = 1048576;
+  last = None;
+}
+
+pub short_run_text : report_text (Done (pos 0)) short_run ≡ codes "ended: done 0\nthreads: 1\nentries: 2\nbarriers: 0\nmoved: 0 objects, 0 bytes\nlive: 0 objects, 0 bytes\nextent: 0 of 1048576\nlast barrier: none\n"
+unfolding report_text digits
+short_run_text = refl
+
+-- two barriers in a heap of 4,096 bytes, which is full at the end
+abbrev pub full_heap : Report
+full_heap = record {
+  threads = 1;
+  entries = 700;
+  barriers = 2;
+  moved_objects = 128;
+  moved_bytes = 2048;
+  live_objects = 129;
+  live_bytes = 4096;
+  extent = 4096;
+  heap = 4096;
+  last = Some (record { before = 4096; after = 4096; room = 0 });
+}
+
+pub full_heap_text : report_text (Done (pos 0)) full_heap ≡ codes "ended: done 0\nthreads: 1\nentries: 700\nbarriers: 2\nmoved: 128 objects, 2048 bytes\nlive: 129 objects, 4096 bytes\nextent: 4096 of 4096\nlast barrier: extent 4096 to 4096, room 0\n"
+unfolding report_text digits
+full_heap_text = refl
+
+pub ends_text : end_text (Done (negsuc 0)) ++ end_text (Trap 0 Store) ++ end_text (Trap 9223372036854775808 Free) ++ end_text AllBlocked
+    ++ end_text TurnLimit ++ end_text OutputLimit ++ end_text (StackLimit 0)
+    ≡ codes "done -1trap store 0trap free 9223372036854775808all blockedturn limitoutput limitstack limit 0"
+unfolding digits
+ends_text = refl
+
+-- 128 brackets in one line
+pub too_deep_line : fault_line (codes "a.c") (codes "int main(void){return " ++ replicate 128 40 ++ codes "1") (statuses.Refused 149 TooDeep) ≡ codes "a.c:1:150: refused: TooDeep\n"
+unfolding digits
+too_deep_line = refl
+
+-- a literal that isn't one of the language, in the second line
+pub outside_line : fault_line (codes "a.c") (codes "\nint main(void){return 1.5;}") (statuses.Refused 23 (OutsideSubset 2)) ≡ codes "a.c:2:23: refused: OutsideSubset 2\n"
+unfolding digits
+outside_line = refl
+
+pub no_main_line : fault_line (codes "a.c") [] (statuses.Refused 0 UnknownName) ≡ codes "a.c:1:1: refused: UnknownName\n"
+unfolding digits
+no_main_line = refl
+
+pub unread_line : fault_line (codes "a.c") [] statuses.ReadFault ≡ codes "alaska: can't read a.c\n"
+unread_line = refl

@@ -1,0 +1,29 @@
+-- The number of each status, and the status of each end of a run.
+use Rattle.std.specs.Prelude.{ℕ}
+use Rattle.flat_meaning.specs.declared.endings.End.{End}
+use Rattle.flat_meaning.specs.declared.endings.End.TheVariants as ends
+use Rattle.run_notes.specs.declared.status.Status.{Status}
+use Rattle.run_notes.specs.declared.status.Status.TheVariants as statuses
+
+-- the number that the program ends with
+abbrev pub number_of : Status → ℕ
+number_of (statuses.Done value) = 0
+number_of statuses.Usage = 2
+number_of (statuses.Refused place kind) = 3
+number_of statuses.ReadFault = 4
+number_of statuses.WriteFault = 5
+number_of (statuses.Trap word kind) = 6
+number_of statuses.AllBlocked = 7
+number_of statuses.TurnLimit = 8
+number_of statuses.OutputLimit = 9
+number_of (statuses.StackLimit thread) = 10
+number_of statuses.NoMemory = 11
+
+-- the status of a run that ended so, where all was written
+abbrev pub status_of : End → Status
+status_of (ends.Done value) = statuses.Done value
+status_of (ends.Trap word kind) = statuses.Trap word kind
+status_of ends.AllBlocked = statuses.AllBlocked
+status_of ends.TurnLimit = statuses.TurnLimit
+status_of ends.OutputLimit = statuses.OutputLimit
+status_of (ends.StackLimit thread) = statuses.StackLimit thread

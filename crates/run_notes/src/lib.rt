@@ -1,0 +1,15 @@
+//! What is told of a run at its end: its status, with the number that the program ends with, and the text of note.
+//! Promises upward: the report of a run that ended, the one line of a run that never began, and the status of each end, exactly.
+//! Stands on ak_words, c_lex for the kinds of refusals, flat_meaning for the ends of a run, run_report and itoa.
+#![tactic(auto)]
+
+mod ends;
+mod lines;
+mod pieces;
+mod report;
+mod status;
+
+pub use ends::status_of;
+pub use lines::fault_line;
+pub use report::push_report;
+pub use status::Status;

@@ -1,0 +1,128 @@
+ghost use Rattle.std.specs.Prelude.{◌≡◌, ◌++◌, ◌==◌, [], length, not, reverse, take_while, IfOk, OnOk};
+ghost use Rattle.run_notes.specs.Lines.{column_at, fault_line, kind_name, kind_number, line_at, refusal_line};
+
+use crate::status::Status;
+use ak_words::NoMemory;
+use c_lex::Kind;
+use itoa::{Buffer, Integer};
+use std::alloc::Global;
+
+// The line of the text that a place stands in, from 1.
+fn line_number(text: &[u8], place: usize) -> usize
+    ensures { result ≡ line_at text.now place }
+{
+    let before = &text[..place.min(text.len())];
+    before.iter().filter(|byte| **byte == b'\n').count() + 1
+}
+
+// How many bytes stand behind the last line feed, or all of them where there is none.
+fn tail_len(bytes: &[u8]) -> usize
+    ensures { result ≡ length (take_while (λ byte. not (byte == 10)) (reverse bytes.now)) }
+{
+    bytes
+        .iter()
+        .rev()
+        .take_while(|byte| **byte != b'\n')
+        .count()
+}
+
+// Where in its line a place stands, in bytes from 1.
+fn column_number(text: &[u8], place: usize) -> usize
+    ensures { result ≡ column_at text.now place }
+{
+    tail_len(&text[..place.min(text.len())]) + 1
+}
+
+// Writes a number at the end of a line.
+fn push_number<I: Integer>(line: &mut Vec<u8>, number: I) -> Result<(), NoMemory>
+    ensures { OnOk result (line.new.items ≡ line.old.items ++ I.text number) }
+{
+    let mut buffer = Buffer::new();
+    line.extend_from_slice(buffer.format(number).as_bytes())?;
+    Ok(())
+}
+
+// The name of a kind of refusal.
+fn name_of_kind(kind: Kind) -> &'static [u8]
+    ensures { result.now ≡ kind_name kind }
+{
+    match kind {
+        Kind::BadByte => b"BadByte",
+        Kind::OpenLiteral => b"OpenLiteral",
+        Kind::NumberTooWide => b"NumberTooWide",
+        Kind::UnexpectedToken => b"UnexpectedToken",
+        Kind::TooDeep => b"TooDeep",
+        Kind::UnknownName => b"UnknownName",
+        Kind::DoubleName => b"DoubleName",
+        Kind::TypeMismatch => b"TypeMismatch",
+        Kind::NotAnLvalue => b"NotAnLvalue",
+        Kind::BadSize => b"BadSize",
+        Kind::OutsideSubset(_) => b"OutsideSubset",
+        Kind::TooLong => b"TooLong",
+        Kind::TooMany(_) => b"TooMany",
+    }
+}
+
+// Writes the number of a kind of refusal, where it has one, with a blank before it.
+fn push_number_of_kind(line: &mut Vec<u8>, kind: Kind) -> Result<(), NoMemory>
+    ensures { OnOk result (line.new.items ≡ line.old.items ++ kind_number kind) }
+{
+    match kind {
+        Kind::OutsideSubset(number) | Kind::TooMany(number) => {
+            line.push(b' ')?;
+            push_number(line, number)
+        }
+        _ => Ok(()),
+    }
+}
+
+// The line of a refusal: the file, the line and the column of its place, and its kind.
+fn line_of_refusal(
+    alloc: Global,
+    name: &str,
+    text: &[u8],
+    place: u32,
+    kind: Kind,
+) -> Result<Vec<u8>, NoMemory>
+    ensures { IfOk result (λ line. line.items ≡ refusal_line name.now text.now place kind) }
+{
+    let mut line = Vec::from_slice(alloc, name.as_bytes())?;
+    line.extend_from_slice(b":")?;
+    push_number(&mut line, line_number(text, place as usize))?;
+    line.extend_from_slice(b":")?;
+    push_number(&mut line, column_number(text, place as usize))?;
+    line.extend_from_slice(b": refused: ")?;
+    line.extend_from_slice(name_of_kind(kind))?;
+    push_number_of_kind(&mut line, kind)?;
+    line.push(b'\n')?;
+    Ok(line)
+}
+
+// The line of a file that couldn't be read.
+fn line_of_read_fault(alloc: Global, name: &str) -> Result<Vec<u8>, NoMemory>
+    ensures { IfOk result (λ line. line.items ≡ fault_line name.now [] Status.ReadFault) }
+{
+    let mut line = Vec::from_slice(alloc, b"alaska: can't read ")?;
+    line.extend_from_slice(name.as_bytes())?;
+    line.push(b'\n')?;
+    Ok(line)
+}
+
+/// The line that is written to note where no run began, by the status, and by the name and the text of the file. A run that ended has a report in its
+/// place, and a fault of writing has no line.
+pub fn fault_line(
+    alloc: Global,
+    name: &str,
+    text: &[u8],
+    status: Status,
+) -> Result<Vec<u8>, NoMemory>
+    ensures { IfOk result (λ line. line.items ≡ fault_line name.now text.now status) }
+{
+    match status {
+        Status::Usage => Ok(Vec::from_slice(alloc, b"usage: alaska FILE [options]\n")?),
+        Status::Refused(place, kind) => line_of_refusal(alloc, name, text, place, kind),
+        Status::ReadFault => line_of_read_fault(alloc, name),
+        Status::NoMemory => Ok(Vec::from_slice(alloc, b"alaska: out of memory\n")?),
+        _ => Ok(Vec::new(alloc)),
+    }
+}

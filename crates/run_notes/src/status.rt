@@ -1,0 +1,53 @@
+use c_lex::Kind;
+use flat_meaning::TrapKind;
+
+/// How a call of `alaska` ended.
+#[derive(Clone, Copy, Debug, PartialEq, Eq)]
+pub enum Status {
+    /// `main` of the C program ended with this value, and all was written.
+    Done(i32),
+    /// The words of the command line are wrong.
+    Usage,
+    /// The text is no program of the language: the place, as a byte offset from 0, and why.
+    Refused(u32, Kind),
+    /// The file couldn't be read.
+    ReadFault,
+    /// What was to be written couldn't be written.
+    WriteFault,
+    /// An access would have reached an address without a byte, or a word was freed that is not live.
+    Trap(u64, TrapKind),
+    /// Each thread that had not ended waited for a mutex or for another thread.
+    AllBlocked,
+    /// The journal had no room for another event.
+    TurnLimit,
+    /// A print would have passed the output's limit.
+    OutputLimit,
+    /// A call of this thread would have needed more than was left.
+    StackLimit(u32),
+    /// Want of memory.
+    NoMemory,
+}
+
+impl Status {
+    ghost use Rattle.std.specs.Prelude.{◌≡◌};
+    ghost use Rattle.run_notes.specs.Statuses.{number_of};
+
+    /// The number that the program ends with: 0 exactly where `main` of the C program ended and all was written.
+    pub fn number(self) -> u8
+        ensures { result ≡ number_of self }
+    {
+        match self {
+            Status::Done(_) => 0,
+            Status::Usage => 2,
+            Status::Refused(_, _) => 3,
+            Status::ReadFault => 4,
+            Status::WriteFault => 5,
+            Status::Trap(_, _) => 6,
+            Status::AllBlocked => 7,
+            Status::TurnLimit => 8,
+            Status::OutputLimit => 9,
+            Status::StackLimit(_) => 10,
+            Status::NoMemory => 11,
+        }
+    }
+}
