@@ -8,6 +8,7 @@ pub mod Slides
 pub mod Sweeping
 pub mod Reports
 pub mod Machine
+pub mod Replays
 pub mod Laws
 pub mod inner
 pub mod lemmas

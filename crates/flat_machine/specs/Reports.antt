@@ -1,7 +1,7 @@
 -- The report of a run.
 use Rattle.std.specs.Prelude.{ℕ, ◌*◌, length, sum_by}
 use Rattle.sub_heaps.specs.SubHeaps.{SubHeaps, extent_of}
-use Rattle.flat_machine.specs.declared.answers.Report.{Report}
+use Rattle.run_report.specs.declared.report.Report.{Report}
 use Rattle.flat_machine.specs.Shares.{Shared}
 
 -- what threads share, with so many entries of the journal

@@ -6,7 +6,7 @@ use Rattle.struct_ir.specs.Linear.{Spot}
 use Rattle.flat_meaning.specs.Image.{Limits, limits_for, Image, linear_image}
 use Rattle.flat_meaning.specs.Memory.{Made, Memory}
 use Rattle.flat_threads.specs.Contexts.{IsProgram}
-use Rattle.flat_machine.specs.declared.answers.LastBarrier.{LastBarrier}
+use Rattle.run_report.specs.declared.report.LastBarrier.{LastBarrier}
 
 -- what all barriers did: how many there were, the moves with their bytes, each up to 2^64 - 1, and the last one
 pub record Barriers : Type 0 where

@@ -19,7 +19,7 @@ use Rattle.flat_rules.specs.Entries.{barrier_entry, served_entry}
 use Rattle.flat_rules.specs.Machine.{Served, Swept}
 use Rattle.flat_threads.specs.Contexts.{Context, own_image, standing}
 use Rattle.flat_threads.specs.Waits.{waits_at}
-use Rattle.flat_machine.specs.declared.answers.LastBarrier.{LastBarrier}
+use Rattle.run_report.specs.declared.report.LastBarrier.{LastBarrier}
 use Rattle.flat_machine.specs.Choices.{served_choice, choice_here}
 use Rattle.flat_machine.specs.Readiness.{wants_room}
 use Rattle.flat_machine.specs.Shares.{Shared, Barriers, image_of}

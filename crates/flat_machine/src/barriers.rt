@@ -9,7 +9,6 @@ ghost use Rattle.flat_machine.specs.Shares.{IsSharedOf};
 ghost use Rattle.flat_machine.specs.Sweeping.{swept_by, waits_at_home};
 ghost use Rattle.flat_machine.specs.inner.Swept.{AreServed, IsServed, IsServedIf, handles_home, object_told, shared_slid};
 
-use crate::answers::LastBarrier;
 use crate::done::Done;
 use crate::shared::Shared;
 use crate::turned::Turned;
@@ -17,6 +16,7 @@ use ak_trace::{Entry, how, kind};
 use flat_threads::{Context, Program, Wait};
 use handle_table::PinWords;
 use move_plan::{Plan, room, slide};
+use run_report::LastBarrier;
 use struct_ir::linear::InstrKind;
 
 /// Slides all objects that no listed slot names, and then serves the mallocs that wait, in rising order of their threads: each gets the

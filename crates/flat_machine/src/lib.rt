@@ -6,7 +6,6 @@
 mod accesses;
 mod acting;
 mod allocating;
-mod answers;
 mod barriers;
 mod done;
 mod flat;
@@ -21,11 +20,11 @@ mod starting;
 mod turned;
 
 pub use acting::act;
-pub use answers::{LastBarrier, Report};
 pub use barriers::barrier;
 pub use flat_meaning::{End, Stop, TrapKind};
 pub use flat_rules::{Mode, Settings, Step};
 pub use flat_threads::{Context, Program, local};
 pub use laws::{calls_are_events, choices_are_least, machine_is_flat, waits_are_told};
 pub use ready::{begin, is_ready};
+pub use run_report::{LastBarrier, Report};
 pub use shared::Shared;

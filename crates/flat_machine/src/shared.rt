@@ -4,7 +4,6 @@ ghost use Rattle.flat_machine.specs.Reports.{report_of};
 ghost use Rattle.flat_machine.specs.Shares.{IsSharedOf};
 ghost use Rattle.flat_machine.specs.Start.{first_shared, settings_limits};
 
-use crate::answers::{LastBarrier, Report};
 use crate::loading::write_plain_data;
 use crate::made::MadeThread;
 use ak_trace::Entry;
@@ -15,6 +14,7 @@ use flat_store::FIRST_ADDRESS;
 use flat_threads::Program;
 use handle_table::PinWords;
 use move_plan::{Pins, Plan};
+use run_report::{LastBarrier, Report};
 use std::alloc::Global;
 use std::marker::Model;
 
