@@ -13,7 +13,7 @@ pub fn waits_are_told()
     ensures { WaitsAreTold }
 {}
 
-/// Act and barrier do events that may come.
+/// Act and barrier do events that may come: what is chosen at a malloc is free and fits, and what a listed slot names is not moved.
 pub fn calls_are_events()
     ensures act { ActIsItsEvent }
     ensures barrier { BarrierIsItsEvent }
