@@ -9,3 +9,4 @@ pub mod Lags
 pub mod Frames
 pub mod Cells
 pub mod World
+pub mod Level
