@@ -29,3 +29,4 @@ pub mod Seen
 pub mod Frames
 pub mod Texts
 pub mod Numbering
+pub mod GoingAlike

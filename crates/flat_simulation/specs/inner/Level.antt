@@ -4,11 +4,16 @@ use Rattle.block_store.specs.Runs.{own_at}
 use Rattle.struct_ir.specs.Flow.{Flow, IsCall}
 use Rattle.struct_ir.specs.Threads.{Thread}
 use Rattle.struct_ir.specs.Alike.{LevelThreads, SameThreads}
+use Rattle.flat_meaning.specs.Image.{Layout, Image}
 use Rattle.flat_meaning.specs.Words.{Words}
 use Rattle.flat_meaning.specs.Memory.{Memory}
 use Rattle.flat_meaning.specs.Stages.{Stage, starts, going, waiting, landed, Gone}
 use Rattle.flat_meaning.specs.Effects.{Effect}
 use Rattle.flat_meaning.specs.Events.{State}
+
+-- code, where its functions begin, and the rest of a program
+abbrev pub image : {P : Type 0} → Flow P → (ℕ → P) → Layout → Image P
+image C code Y = record { flow = C; start = code; layout = Y }
 
 module _ {P Q : Type 0} (C : Flow P) (D : Flow Q) (R : P → Q → Type 0) where
   -- both stand before the same; or they are level, and the second stands before no call
