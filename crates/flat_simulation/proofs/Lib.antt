@@ -30,3 +30,4 @@ pub mod Frames
 pub mod Texts
 pub mod Numbering
 pub mod GoingAlike
+pub mod SteppingAlike
