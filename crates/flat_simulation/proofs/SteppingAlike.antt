@@ -31,6 +31,15 @@ IsStuck blocked = ⊥
 IsStuck (broke f) = Unit {0}
 IsStuck unfit = Unit {0}
 
+-- no turn is over there, and no call is entered
+abbrev pub IsStep : Before → Type 0
+IsStep safe = ⊥
+IsStep looks = Unit {0}
+IsStep steps = Unit {0}
+IsStep (calls function) = ⊥
+IsStep turn_over = ⊥
+IsStep nothing = ⊥
+
 -- ---- where a thread goes on behind what it stood before
 
 module _ {P : Type 0} (x : Image P) (thread : ℕ) (choice : Choice) (t : Thread P Words) (m : Memory) where
@@ -54,15 +63,6 @@ module _ {P : Type 0} (x : Image P) (thread : ℕ) (choice : Choice) (t : Thread
   finished_behind refuses = tt
   finished_behind (fails f) = tt
 
-  -- no turn is over there, and no call is entered
-  abbrev pub IsStep : Before → Type 0
-  IsStep safe = ⊥
-  IsStep looks = Unit {0}
-  IsStep steps = Unit {0}
-  IsStep (calls function) = ⊥
-  IsStep turn_over = ⊥
-  IsStep nothing = ⊥
-
   left_behind : (temp : Option ℕ) (callers : List (Point P Words)) → IsStep (before_here callers (returns temp)) → GoesBehind (left_call x.flow (words_world x.layout thread) choice t.top.own temp m callers)
   left_behind temp [] e = finished_behind _
   left_behind temp (c ∷ callers) e = absurd e
@@ -83,18 +83,18 @@ module _ {P : Type 0} (x : Image P) (thread : ℕ) (choice : Choice) (t : Thread
   pub step_behind : IsStep (before x t) → GoesBehind (stop_of x thread choice t m)
   step_behind e = here_behind (x.flow.here t.top.at) e
 
-step_is_no_safepoint : {A : Type 0} (callers : List A) (h : Here) (b : Before) → before_here callers h ≡ b → (b ≡ safe → ⊥) → IsSafepoint h → ⊥
-step_is_no_safepoint callers (does place (set to calc)) b e f s = s
-step_is_no_safepoint callers (does place (call c)) b e f s = s
-step_is_no_safepoint callers (does place (step z)) b e f s = s
-step_is_no_safepoint callers (does place (look slot base)) b e f s = s
-step_is_no_safepoint callers (does place (safepoint slots)) b e f s = f (sym e)
-step_is_no_safepoint callers (does place (begin_object i)) b e f s = s
-step_is_no_safepoint callers (does place (end_object i)) b e f s = s
-step_is_no_safepoint callers (tests place temp) b e f s = s
-step_is_no_safepoint callers passes b e f s = s
-step_is_no_safepoint callers round b e f s = s
-step_is_no_safepoint callers (returns temp) b e f s = s
+no_safepoint : {A : Type 0} (callers : List A) (h : Here) → IsStep (before_here callers h) → IsSafepoint h → ⊥
+no_safepoint callers (does place (set to calc)) b s = s
+no_safepoint callers (does place (call c)) b s = s
+no_safepoint callers (does place (step z)) b s = s
+no_safepoint callers (does place (look slot base)) b s = s
+no_safepoint callers (does place (safepoint slots)) b s = b
+no_safepoint callers (does place (begin_object i)) b s = s
+no_safepoint callers (does place (end_object i)) b s = s
+no_safepoint callers (tests place temp) b s = s
+no_safepoint callers passes b s = s
+no_safepoint callers round b s = s
+no_safepoint callers (returns temp) b s = s
 
 module _ {P Q : Type 0} (Y : Layout) (C : Flow P) (D : Flow Q) (code : ℕ → P) (code' : ℕ → Q) (R : P → Q → Type 0) (one : AreOne (image C code Y) (image D code' Y) R) (guarded : CallsAreGuarded (image D code' Y)) (thread : ℕ) (choice : Choice) where
   abbrev x : Image P
@@ -128,3 +128,77 @@ module _ {P Q : Type 0} (Y : Layout) (C : Flow P) (D : Flow Q) (code : ℕ → P
     acted_match g h list blocked _ e b n k = absurd e
     acted_match g h list (broke f) _ e b n k = absurd e
     acted_match g h list unfit _ e b n k = absurd e
+
+    -- a step or a Look
+    pub step_match : (g : Stage P) (h : Stage Q) → IsStep (before y u) → (IsStuck (stop_of y thread choice u m) → StagesMatch C D R (Some g) (Some h)) → EffectsMatch C D R (step_effect x thread choice g t m) (step_effect y thread choice h u m)
+    step_match g h b k =
+        let not : IsCall (D.here (D.next u.top.at true)) → ⊥ = λ c. no_safepoint u.callers (D.here u.top.at) b (guarded.behind u.top.at true c) in
+        subst (λ (z : Here). EffectsMatch C D R (step_effect x thread choice g t m) (acted thread h u (own_list_of z) m (stop_of y thread choice u m))) (sym s.top.same.here)
+        (acted_match g h (own_list_of (C.here t.top.at)) (stop_of x thread choice t m) (stop_of y thread choice u m) same_outcome (step_behind y thread choice u m b) not k)
+
+    -- ---- turns
+
+    picks_alike : (a : Answer) (o : Outcome P Words Fault Memory) (o' : Outcome Q Words Fault Memory) → Level o o' → pick_if thread a o ≡ pick_if thread a o'
+    picks_alike a (went q m2) (went v m3) e = refl
+    picks_alike a (ended l m2) (ended l' m3) e = refl
+    picks_alike a blocked blocked e = refl
+    picks_alike a (broke f) (broke f') e = refl
+    picks_alike a unfit unfit e = refl
+    picks_alike a (went q m2) _ e = absurd e
+    picks_alike a (ended l m2) _ e = absurd e
+    picks_alike a blocked _ e = absurd e
+    picks_alike a (broke f) _ e = absurd e
+    picks_alike a unfit _ e = absurd e
+
+    pub step_picks_same : step_picks x m thread choice t ≡ step_picks y m thread choice u
+    step_picks_same =
+        picks_alike (answer_of x m choice t) (stop_of x thread choice t m) (stop_of y thread choice u m) same_outcome
+        ∙ ap (λ (h : Here). pick_if thread (answer_here x m choice h) (stop_of y thread choice u m)) (sym s.top.same.here)
+
+    tried_alike : (c : Choice) (h : Here) (o : Outcome P Words Fault Memory) (o' : Outcome Q Words Fault Memory) → Level o o' → tried_if thread c h o ≡ tried_if thread c h o'
+    tried_alike wait h o o' e = refl
+    tried_alike c h (went q m2) (went v m3) e = by c
+      where
+        by : (c : Choice) → tried_if thread c h (went q m2) ≡ tried_if thread c h (went v m3)
+        by plain = refl
+        by (got id place) = refl
+        by null = refl
+        by wait = refl
+    tried_alike c h (ended l m2) (ended l' m3) e = by c
+      where
+        by : (c : Choice) → tried_if {P = P} thread c h (ended l m2) ≡ tried_if {P = Q} thread c h (ended l' m3)
+        by plain = refl
+        by (got id place) = refl
+        by null = refl
+        by wait = refl
+    tried_alike c h blocked blocked e = by c
+      where
+        by : (c : Choice) → tried_if {P = P} thread c h blocked ≡ tried_if {P = Q} thread c h blocked
+        by plain = refl
+        by (got id place) = refl
+        by null = refl
+        by wait = refl
+    tried_alike c h (broke f) (broke f') e = by c
+      where
+        by : (c : Choice) → tried_if {P = P} thread c h (broke f) ≡ tried_if {P = Q} thread c h (broke f')
+        by plain = refl
+        by (got id place) = refl
+        by null = refl
+        by wait = refl
+    tried_alike c h unfit unfit e = by c
+      where
+        by : (c : Choice) → tried_if {P = P} thread c h unfit ≡ tried_if {P = Q} thread c h unfit
+        by plain = refl
+        by (got id place) = refl
+        by null = refl
+        by wait = refl
+    tried_alike c h (went q m2) _ e = absurd e
+    tried_alike c h (ended l m2) _ e = absurd e
+    tried_alike c h blocked _ e = absurd e
+    tried_alike c h (broke f) _ e = absurd e
+    tried_alike c h unfit _ e = absurd e
+
+    pub tried_same : tried_if thread choice (C.here t.top.at) (stop_of x thread choice t m) ≡ tried_if thread choice (D.here u.top.at) (stop_of y thread choice u m)
+    tried_same =
+        tried_alike choice (C.here t.top.at) (stop_of x thread choice t m) (stop_of y thread choice u m) same_outcome
+        ∙ ap (λ (h : Here). tried_if thread choice h (stop_of y thread choice u m)) (sym s.top.same.here)
