@@ -31,3 +31,4 @@ pub mod Texts
 pub mod Numbering
 pub mod GoingAlike
 pub mod SteppingAlike
+pub mod EventRuns

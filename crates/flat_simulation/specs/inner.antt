@@ -10,3 +10,4 @@ pub mod Frames
 pub mod Cells
 pub mod World
 pub mod Level
+pub mod EventRuns
