@@ -32,3 +32,4 @@ pub mod Numbering
 pub mod GoingAlike
 pub mod SteppingAlike
 pub mod EventRuns
+pub mod EventKinds
