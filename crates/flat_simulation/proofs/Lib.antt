@@ -33,3 +33,4 @@ pub mod GoingAlike
 pub mod SteppingAlike
 pub mod EventRuns
 pub mod EventKinds
+pub mod StatesAlike
