@@ -9,7 +9,7 @@ use Rattle.flat_meaning.specs.Image.{Image}
 use Rattle.flat_meaning.specs.Words.{Words}
 use Rattle.flat_meaning.specs.Memory.{Memory}
 use Rattle.flat_meaning.specs.Accesses.{Choice, plain}
-use Rattle.flat_meaning.specs.Stages.{Stage, starts, going, waiting, landed, thread_at, Before, safe, looks, steps, calls, turn_over, nothing, before, room_for, gone, can_go}
+use Rattle.flat_meaning.specs.Stages.{Stage, starts, going, waiting, landed, thread_at, Before, safe, looks, steps, calls, turn_over, nothing, before, room_for, past_if, gone_from, gone, goes_alone, can_go}
 use Rattle.flat_meaning.specs.Effects.{Effect, no_effect, ends_run, stop_of, step_effect, act_before, act_effect, look_before, look_effect, gone_effect}
 use Rattle.flat_meaning.specs.Events.{State, Event, local, look, act, put, put_if, after}
 use Rattle.flat_meaning.specs.Order.{pick, step_picks, act_picks, local_picks, picks_of_local, picks_of_act, picks_of, tried_if, tried_before, tried_at, tried_by}
@@ -21,6 +21,25 @@ HasBegun (starts function argument) = ⊥
 HasBegun (going t) = Unit {0}
 HasBegun (waiting t) = Unit {0}
 HasBegun (landed list t) = Unit {0}
+
+module _ {P : Type 0} (x : Image P) where
+  pub gone_begun : (thread : ℕ) (g : Stage P) → HasBegun g → gone x thread g ≡ gone_from x thread (past_if x (thread_at x g) (before x (thread_at x g)))
+  gone_begun thread (starts function argument) h = absurd h
+  gone_begun thread (going t) h = refl
+  gone_begun thread (waiting t) h = refl
+  gone_begun thread (landed list t) h = refl
+
+  pub can_begun : (g : Stage P) → HasBegun g → can_go x g ≡ goes_alone x (thread_at x g) (before x (thread_at x g))
+  can_begun (starts function argument) h = absurd h
+  can_begun (going t) h = refl
+  can_begun (waiting t) h = refl
+  can_begun (landed list t) h = refl
+
+  pub stands_begun : (g : Stage P) (b : Before) → StandsBefore x (Some g) b → HasBegun g × (before x (thread_at x g) ≡ b)
+  stands_begun (starts function argument) b h = absurd h
+  stands_begun (going t) b h = (tt, h)
+  stands_begun (waiting t) b h = (tt, h)
+  stands_begun (landed list t) b h = (tt, h)
 
 module _ {P : Type 0} (x : Image P) (s : State P) (thread : ℕ) (g : Stage P) (at : own_at s.own thread ≡ Some g) where
   -- ---- it goes on alone

@@ -32,7 +32,7 @@ safe_stays callers round e = tt
 safe_stays [] (returns temp) e = absurd cc
 safe_stays (c ∷ callers) (returns temp) e = absurd cc
 
-unseen_nothing : {A : Type 0} (callers : List A) (h : Here) → IsUnseen h → before_here callers h ≡ nothing
+pub unseen_nothing : {A : Type 0} (callers : List A) (h : Here) → IsUnseen h → before_here callers h ≡ nothing
 unseen_nothing callers (does place a) u = by_act a u
   where
     by_act : (a : Act) → IsUnseen (does place a) → before_act a ≡ nothing

@@ -34,3 +34,4 @@ pub mod SteppingAlike
 pub mod EventRuns
 pub mod EventKinds
 pub mod StatesAlike
+pub mod EventsAlike
