@@ -79,6 +79,13 @@ module _ {P Q : Type 0} (Y : Layout) (C : Flow P) (D : Flow Q) (code : ℕ → P
   kind (landed list t) (going u) k = absurd k
   kind (landed list t) (waiting u) k = absurd k
 
+  -- no stage stands for one that the first doesn't have
+  no_first : (h : Stage Q) → StagesMatch C D R None (Some h) → ⊥
+  no_first (starts f a) z = z
+  no_first (going u) z = z
+  no_first (waiting u) z = z
+  no_first (landed other u) z = z
+
   module _ (m : Memory) where
     abbrev first_in : List (Option (Stage P)) → State P
     first_in own = record { memory = m; own = own; end = None }
@@ -142,3 +149,90 @@ module _ {P Q : Type 0} (Y : Layout) (C : Flow P) (D : Flow Q) (code : ℕ → P
 
         stays_there : (u : Thread Q Words) → Same (thread_at x g) u → IsThere own u
         stays_there u s = record { stages = own; leads = none_leads x (first_in own); others = k; stage = g; at = at; begun = begun; same = s }
+
+      module _ (own : List (Option (Stage P))) (k : OwnsMatch C D R m own other) where
+        abbrev s : State P
+        s = first_in own
+
+        abbrev r : State Q
+        r = second_in other
+
+        abbrev all : OthersMatch C D R thread m own other
+        all = others_match C D R thread m own other k
+
+        -- where the second's thread is held, the first's comes there
+        comes : (g : Stage P) (h : Stage Q) → own_at own thread ≡ Some g → HasBegun h → IsHeld Y C D code code' R one guarded (thread_at y h) (before y (thread_at y h)) → Kind g h → IsThere own (thread_at y h)
+        comes g h at b held (fresh f a e e') = absurd (subst HasBegun e' b)
+        comes g h at b held (alike a a' z) = stays_there own all g at a (thread_at y h) z
+        comes g h at b held (behind a a' l e) = catches_up own all g at a (thread_at y h) l e held
+
+        -- ---- a thread goes on alone
+
+        abbrev Local : Type 0
+        Local = HasEvents s (after y r (local thread)) (picks_of y r (local thread)) []
+
+        local_fresh : (f a : ℕ) → own_at own thread ≡ Some (starts f a) → own_at other thread ≡ Some (starts f a) → can_go y (starts f a) ≡ true → Local
+        local_fresh f a at at' can =
+            let l : Level (first_thread x f a) (first_thread y f a) = record { top = record { at = one.starts f; own = refl }; callers = tt } in
+            both_go own all (starts f a) (starts f a) at at' can can (gone_level Y C D code code' R one guarded thread (first_thread x f a) (first_thread y f a) l)
+
+        same_gone : (g : Stage P) (h : Stage Q) → HasBegun g → HasBegun h → Same (thread_at x g) (thread_at y h) → GonesMatch C D R (gone x thread g) (gone y thread h)
+        same_gone g h a b z =
+            subst (λ e. GonesMatch C D R e (gone y thread h)) (sym (gone_begun x thread g a))
+            (subst (λ e. GonesMatch C D R (gone_from x thread (past_if x (thread_at x g) (before x (thread_at x g)))) e) (sym (gone_begun y thread h b))
+            (gone_same Y C D code code' R one guarded thread (thread_at x g) (thread_at y h) z))
+
+        same_can : (g : Stage P) (h : Stage Q) → HasBegun g → HasBegun h → Same (thread_at x g) (thread_at y h) → can_go y h ≡ true → can_go x g ≡ true
+        same_can g h a b z can = can_begun x g a ∙ sym (goes_same Y C D code code' R one (thread_at x g) (thread_at y h) z) ∙ sym (can_begun y h b) ∙ can
+
+        local_same : (own1 : List (Option (Stage P))) → OthersMatch C D R thread m own1 other → (g : Stage P) (h : Stage Q) → own_at own1 thread ≡ Some g → own_at other thread ≡ Some h → HasBegun g → HasBegun h
+            → Same (thread_at x g) (thread_at y h) → can_go y h ≡ true → HasEvents (first_in own1) (after y r (local thread)) (picks_of y r (local thread)) []
+        local_same own1 k1 g h at at' a b z can = both_go own1 k1 g h at at' (same_can g h a b z can) can (same_gone g h a b z)
+
+        module _ (g : Stage P) (h : Stage Q) (at : own_at own thread ≡ Some g) (at' : own_at other thread ≡ Some h) (a : HasBegun g) (b : HasBegun h) (l : Level (thread_at x g) (thread_at y h)) (e : IsUnseen (C.here (thread_at x g).top.at)) (can : can_go y h ≡ true) where
+          abbrev t : Thread P Words
+          t = thread_at x g
+
+          abbrev u : Thread Q Words
+          u = thread_at y h
+
+          lag_before : before x t ≡ nothing
+          lag_before = unseen_nothing t.callers (C.here t.top.at) e
+
+          lag_once : gone y thread h ≡ gone_from y thread u → Local
+          lag_once is =
+              let to : gone x thread g ≡ gone_from x thread t = gone_begun x thread g a ∙ ap (λ c. gone_from x thread (past_if x t c)) lag_before in
+              both_go own all g h at at' (can_begun x g a ∙ ap (goes_alone x t) lag_before) can
+              (subst (λ z. GonesMatch C D R z (gone y thread h)) (sym to) (subst (λ z. GonesMatch C D R (gone_from x thread t) z) (sym is) (gone_level Y C D code code' R one guarded thread t u l)))
+
+          lag_twice : IsThere own u → Local
+          lag_twice w =
+              let z = local_same w.stages w.others w.stage h w.at at' w.begun b w.same can in
+              record { later = z.later; leads = then_leads x s (first_in w.stages) z.later (picks_of y r (local thread)) [] w.leads z.leads; match = z.match }
+
+          past_other : (c : Before) → before y u ≡ c → past_if y u c ≡ u → gone y thread h ≡ gone_from y thread u
+          past_other c is p = gone_begun y thread h b ∙ ap (λ d. gone_from y thread (past_if y u d)) is ∙ ap (gone_from y thread) p
+
+          goes_if : (c : Before) → before y u ≡ c → goes_alone y u c ≡ true
+          goes_if c is = ap (goes_alone y u) (sym is) ∙ sym (can_begun y h b) ∙ can
+
+          lag_local : (c : Before) → before y u ≡ c → Local
+          lag_local safe is = lag_twice (catches_up own all g at a u l e (subst (IsHeld Y C D code code' R one guarded u) (sym is) tt))
+          lag_local looks is = absurd (let f = goes_if looks is in cc)
+          lag_local steps is = absurd (let f = goes_if steps is in cc)
+          lag_local (calls function) is = lag_once (past_other (calls function) is refl)
+          lag_local turn_over is = lag_once (past_other turn_over is refl)
+          lag_local nothing is = lag_once (past_other nothing is refl)
+
+        local_by : (g : Stage P) (h : Stage Q) → own_at own thread ≡ Some g → own_at other thread ≡ Some h → can_go y h ≡ true → Kind g h → Local
+        local_by g h at at' can (fresh f a e e') = local_fresh f a (at ∙ ap (λ z. Some z) e) (at' ∙ ap (λ z. Some z) e') (ap (can_go y) (sym e') ∙ can)
+        local_by g h at at' can (alike a b z) = local_same own all g h at at' a b z can
+        local_by g h at at' can (behind a b l e) = lag_local g h at at' a b l e can (before y (thread_at y h)) refl
+
+        local_at : (o : Option (Stage P)) (p : Option (Stage Q)) → own_at own thread ≡ o → own_at other thread ≡ p → StagesMatch C D R o p → MayGo y p → Local
+        local_at (Some g) (Some h) at at' z may = local_by g h at at' may (kind g h z)
+        local_at o None at at' z may = absurd may
+        local_at None (Some h) at at' z may = absurd (no_first h z)
+
+        pub local_follows : MayCome y r (local thread) → Local
+        local_follows may = local_at (own_at own thread) (own_at other thread) refl refl (k.each thread) may
