@@ -143,3 +143,19 @@ module _ {P : Type 0} (x : Image P) (s : State P) (thread : ℕ) (g : Stage P) (
 
       pub may_look : MayCome x s (look thread)
       may_look = subst (λ o. StandsBefore x o looks) (sym at) (stands_at g begun looks e)
+
+-- the first function of a thread has no room
+module _ {P : Type 0} (x : Image P) (s : State P) (thread : ℕ) (choice : Choice) (function argument : ℕ) (at : own_at s.own thread ≡ Some (starts function argument)) (none : can_go x (starts function argument) ≡ false) where
+  pub after_fresh : after x s (act thread choice) ≡ put s thread (ends_run s.memory (starts function argument) (ends.StackLimit thread))
+  after_fresh =
+      ap (put_if s thread (act_effect x thread choice)) at
+      ∙ ap (λ (b : Bool). put s thread (if b then no_effect s.memory (starts function argument) else ends_run s.memory (starts function argument) (ends.StackLimit thread))) none
+
+  pub picks_of-fresh : picks_of x s (act thread choice) ≡ []
+  picks_of-fresh = ap (picks_of_act x s.memory thread choice) at
+
+  pub tried_by-fresh : tried_by x s (act thread choice) ≡ pick thread answers.Plain ∷ []
+  tried_by-fresh = ap (tried_at x s.memory thread choice) at ∙ ap (λ (b : Bool). if b then [] else (pick thread answers.Plain ∷ [])) none
+
+  pub may_fresh : choice ≡ plain → MayCome x s (act thread choice)
+  may_fresh p = subst (λ (T : Type 0). T) (sym (ap (MayStepAt x s.memory choice) at)) (none, p)

@@ -11,7 +11,8 @@ use Rattle.flat_meaning.specs.Words.{Words}
 use Rattle.flat_meaning.specs.Memory.{Memory}
 use Rattle.flat_meaning.specs.Accesses.{Fault, Choice, plain, got, null, wait}
 use Rattle.flat_meaning.specs.Stages.{Stage, starts, going, waiting, landed, first_thread, thread_at, Before, safe, looks, steps, calls, turn_over, nothing, before, room_for, past_if, gone_from, gone, goes_alone, can_go}
-use Rattle.flat_meaning.specs.Effects.{Effect, no_effect, ends_run, acted, stop_of, step_effect}
+use Rattle.flat_meaning.specs.declared.endings.End.TheVariants as ends
+use Rattle.flat_meaning.specs.Effects.{Effect, no_effect, ends_run, end_of, own_list_of, acted, stop_of, step_effect}
 use Rattle.flat_meaning.specs.Events.{State, Event, local, look, act, put, after, new_stages}
 use Rattle.flat_meaning.specs.Order.{local_picks, pick_if, tried_if, answer_of, picks_of, tried_by, step_picks}
 use Rattle.flat_meaning.specs.Allowed.{MayGo, MayAct, StandsBefore, MayStepAt, MayCome}
@@ -236,3 +237,114 @@ module _ {P Q : Type 0} (Y : Layout) (C : Flow P) (D : Flow Q) (code : ℕ → P
 
         pub local_follows : MayCome y r (local thread) → Local
         local_follows may = local_at (own_at own thread) (own_at other thread) refl refl (k.each thread) may
+
+        -- ---- a step
+
+        module _ (choice : Choice) (h : Stage Q) (at' : own_at other thread ≡ Some h) (b : HasBegun h) (w : IsThere own (thread_at y h)) where
+          abbrev held : Thread Q Words
+          held = thread_at y h
+
+          abbrev came : Thread P Words
+          came = thread_at x w.stage
+
+          abbrev s1 : State P
+          s1 = first_in w.stages
+
+          -- both have done it, wait, or ended the run; or the choice doesn't fit
+          data StepDone : Type 0 where
+            does : StatesMatch C D R (put s1 thread (step_effect x thread choice w.stage came m)) (put r thread (step_effect y thread choice h held m)) → StepDone
+            unfits : stop_of y thread choice held m ≡ unfit → StepDone
+
+          abbrev Outcomes : Outcome P Words Fault Memory → Outcome Q Words Fault Memory → Type 0
+          Outcomes o o' = SameOutcomes (LevelThreads C D R) o o'
+
+          broken : (list list' : Option (List ℕ)) (f : Fault) (o : Outcome P Words Fault Memory) → Outcomes o (broke f) → StatesMatch C D R (put s1 thread (acted thread w.stage came list m o)) (put r thread (acted thread h held list' m (broke f)))
+          broken list list' f (broke f') e = record { memory = refl; end = ap (λ z. Some (end_of z)) e; stages = λ on. absurd cc }
+          broken list list' f (went q m2) e = absurd e
+          broken list list' f (ended l m2) e = absurd e
+          broken list list' f blocked e = absurd e
+          broken list list' f unfit e = absurd e
+
+          matched : IsStep (before y held) → (IsStuck (stop_of y thread choice held m) → ⊥) → StepDone
+          matched i free =
+              does (put_match C D R thread m w.stages other w.others (own_within w.stages thread w.stage w.at) _ _ (step_match Y C D code code' R one guarded thread choice came held w.same m w.stage h i (λ stuck. absurd (free stuck))))
+
+          by_outcome : IsStep (before y held) → (o : Outcome Q Words Fault Memory) → stop_of y thread choice held m ≡ o → StepDone
+          by_outcome i (went q m2) e = matched i (λ stuck. subst (λ z. IsStuck z) e stuck)
+          by_outcome i (ended l m2) e = matched i (λ stuck. subst (λ z. IsStuck z) e stuck)
+          by_outcome i blocked e = matched i (λ stuck. subst (λ z. IsStuck z) e stuck)
+          by_outcome i (broke f) e =
+              let o = same_outcome Y C D code code' R one guarded thread choice came held w.same m in
+              let list = own_list_of (C.here came.top.at) in
+              let list' = own_list_of (D.here held.top.at) in
+              does (subst (λ z. StatesMatch C D R (put s1 thread (step_effect x thread choice w.stage came m)) (put r thread (acted thread h held list' m z))) (sym e)
+              (broken list list' f (stop_of x thread choice came m) (subst (λ z. Outcomes (stop_of x thread choice came m) z) e o)))
+          by_outcome i unfit e = unfits e
+
+          -- the step stays where it was
+          still : stop_of y thread choice held m ≡ unfit → StatesMatch C D R s (put r thread (step_effect y thread choice h held m))
+          still e = subst (λ z. StatesMatch C D R s (put r thread (acted thread h held (own_list_of (D.here held.top.at)) m z))) (sym e) (put_still C D R thread m own other k h at')
+
+          abbrev Act : Type 0
+          Act = HasEvents s (after y r (act thread choice)) (picks_of y r (act thread choice)) (tried_by y r (act thread choice))
+
+          no_attempt : (c : Choice) (z : Here) → tried_if {P = Q} thread c z unfit ≡ []
+          no_attempt plain z = refl
+          no_attempt (got id place) z = refl
+          no_attempt null z = refl
+          no_attempt wait z = refl
+
+          module _ (is : before y held ≡ steps) where
+            is' : before x came ≡ steps
+            is' = sym (before_same Y C D code code' R one came held w.same) ∙ is
+
+            may_first : MayAct m.storage held.top.own choice (D.here held.top.at) → MayCome x s1 (act thread choice)
+            may_first may =
+                let z : MayAct m.storage came.top.own choice (C.here came.top.at) = subst (λ l. MayAct m.storage l choice (C.here came.top.at)) w.same.top.own (subst (λ d. MayAct m.storage held.top.own choice d) w.same.top.same.here may) in
+                subst (λ (T : Type 0). T) (sym (may_step x s1 thread w.stage w.at w.begun choice is')) z
+
+            step_done : MayAct m.storage held.top.own choice (D.here held.top.at) → StepDone → Act
+            step_done may (does z) =
+                let e = act thread choice in
+                let picks : picks_of x s1 e ≡ picks_of y r e
+                = picks_of-step x s1 thread w.stage w.at w.begun choice is' ∙ step_picks_same Y C D code code' R one guarded thread choice came held w.same m ∙ sym (picks_of-step y r thread h at' b choice is) in
+                let tried : tried_by x s1 e ≡ tried_by y r e
+                = tried_by-step x s1 thread w.stage w.at w.begun choice is' ∙ tried_same Y C D code code' R one guarded thread choice came held w.same m ∙ sym (tried_by-step y r thread h at' b choice is) in
+                record {
+                  later = after x s1 e;
+                  leads = then_leads x s s1 (after x s1 e) (picks_of y r e) (tried_by y r e) w.leads
+                      (subst (λ p. Leads x s1 (after x s1 e) p (tried_by y r e)) picks (subst (λ p. Leads x s1 (after x s1 e) (picks_of x s1 e) p) tried (one_leads x s1 e (refl, may_first may))));
+                  match = subst (λ q. StatesMatch C D R q (after y r e)) (sym (after_step x s1 thread w.stage w.at w.begun choice is'))
+                      (subst (λ q. StatesMatch C D R (put s1 thread (step_effect x thread choice w.stage came m)) q) (sym (after_step y r thread h at' b choice is)) z);
+                }
+            step_done may (unfits z) =
+                let e = act thread choice in
+                let picks : [] ≡ picks_of y r e = sym (picks_of-step y r thread h at' b choice is ∙ ap (pick_if thread (answer_of y m choice held)) z) in
+                let tried : [] ≡ tried_by y r e = sym (tried_by-step y r thread h at' b choice is ∙ ap (tried_if thread choice (D.here held.top.at)) z ∙ no_attempt choice (D.here held.top.at)) in
+                record {
+                  later = s;
+                  leads = subst (λ p. Leads x s s p (tried_by y r e)) picks (subst (λ p. Leads x s s [] p) tried (none_leads x s));
+                  match = subst (λ q. StatesMatch C D R s q) (sym (after_step y r thread h at' b choice is)) (still z);
+                }
+
+            act_step : MayAct m.storage held.top.own choice (D.here held.top.at) → Act
+            act_step may = step_done may (by_outcome (subst IsStep (sym is) tt) (stop_of y thread choice held m) refl)
+
+          -- ---- a call without room
+
+          act_full : (function : ℕ) → before y held ≡ calls function → room_for y held function ≡ false → choice ≡ plain → Act
+          act_full function is none p =
+              let e = act thread choice in
+              let is' : before x came ≡ calls function = sym (before_same Y C D code code' R one came held w.same) ∙ is in
+              let none' : room_for x came function ≡ false = sym (ap (λ (l : Words). room_for x (record { top = record { at = came.top.at; own = l }; callers = came.callers }) function) w.same.top.own) ∙ none in
+              let picks : picks_of x s1 e ≡ picks_of y r e = picks_of-full x s1 thread w.stage w.at w.begun choice function is' none' ∙ sym (picks_of-full y r thread h at' b choice function is none) in
+              let tried : tried_by x s1 e ≡ tried_by y r e = tried_by-full x s1 thread w.stage w.at w.begun choice function is' none' ∙ sym (tried_by-full y r thread h at' b choice function is none) in
+              let z : StatesMatch C D R (put s1 thread (ends_run m w.stage (ends.StackLimit thread))) (put r thread (ends_run m h (ends.StackLimit thread))) = record { memory = refl; end = refl; stages = λ on. absurd cc } in
+              record {
+                later = after x s1 e;
+                leads = then_leads x s s1 (after x s1 e) (picks_of y r e) (tried_by y r e) w.leads
+                    (subst (λ q. Leads x s1 (after x s1 e) q (tried_by y r e)) picks
+                    (subst (λ q. Leads x s1 (after x s1 e) (picks_of x s1 e) q) tried (one_leads x s1 e (refl, may_full x s1 thread w.stage w.at w.begun choice function is' none' p))));
+                match = subst (λ q. StatesMatch C D R q (after y r e)) (sym (after_full x s1 thread w.stage w.at w.begun choice function is' none'))
+                    (subst (λ q. StatesMatch C D R (put s1 thread (ends_run m w.stage (ends.StackLimit thread))) q) (sym (after_full y r thread h at' b choice function is none)) z);
+              }
