@@ -15,14 +15,14 @@ use Rattle.flat_meaning.specs.declared.endings.End.TheVariants as ends
 use Rattle.flat_meaning.specs.Effects.{Effect, no_effect, ends_run, end_of, own_list_of, acted, stop_of, step_effect}
 use Rattle.flat_meaning.specs.Events.{State, Event, local, look, act, put, after, new_stages}
 use Rattle.flat_meaning.specs.Order.{local_picks, pick_if, tried_if, answer_of, picks_of, tried_by, step_picks}
-use Rattle.flat_meaning.specs.Allowed.{MayGo, MayAct, StandsBefore, MayStepAt, MayCome}
+use Rattle.flat_meaning.specs.Allowed.{MayGo, MayAct, StandsBefore, MayStep, MayStepAt, MayCome}
 use Rattle.flat_meaning.specs.Emitted.{AreOne}
 use Rattle.flat_simulation.specs.OneProgram.{CallsAreGuarded}
 use Rattle.flat_simulation.specs.inner.Level.{image, Near, same, level, GonesMatch, StagesMatch, OthersMatch, OwnsMatch, StatesMatch, EffectsMatch}
 use Rattle.flat_simulation.specs.inner.EventRuns.{Leads}
 use Rattle.flat_simulation.proofs.Numbering.{own_within, own_at-set_same}
 use Rattle.flat_simulation.proofs.EventRuns.{none_leads, one_leads, then_leads}
-use Rattle.flat_simulation.proofs.EventKinds.{HasBegun, gone_begun, can_begun, stands_begun, after_local, picks_of-local, may_local, after_step, picks_of-step, tried_by-step, may_step, after_full, picks_of-full, tried_by-full, may_full, after_look, may_look}
+use Rattle.flat_simulation.proofs.EventKinds.{HasBegun, gone_begun, can_begun, stands_begun, after_local, picks_of-local, may_local, after_step, picks_of-step, tried_by-step, may_step, after_full, picks_of-full, tried_by-full, may_full, after_look, may_look, after_fresh, picks_of-fresh, tried_by-fresh, may_fresh}
 use Rattle.flat_simulation.proofs.GoingAlike.{unseen_nothing, before_same, goes_same, Lag, there, lags, lag, gone_level, gone_same, IsHeld, comes_there}
 use Rattle.flat_simulation.proofs.SteppingAlike.{IsStuck, IsStep, same_outcome, step_match, step_picks_same, tried_same}
 use Rattle.flat_simulation.proofs.StatesAlike.{no_new_stages, put_match, put_first, others_match, put_still}
@@ -348,3 +348,74 @@ module _ {P Q : Type 0} (Y : Layout) (C : Flow P) (D : Flow Q) (code : ℕ → P
                 match = subst (λ q. StatesMatch C D R q (after y r e)) (sym (after_full x s1 thread w.stage w.at w.begun choice function is' none'))
                     (subst (λ q. StatesMatch C D R (put s1 thread (ends_run m w.stage (ends.StackLimit thread))) q) (sym (after_full y r thread h at' b choice function is none)) z);
               }
+
+        act_begun : (choice : Choice) (g : Stage P) (h : Stage Q) → own_at own thread ≡ Some g → own_at other thread ≡ Some h → HasBegun h → Kind g h → (c : Before) → before y (thread_at y h) ≡ c → MayStep y m choice (thread_at y h) c
+            → HasEvents s (after y r (act thread choice)) (picks_of y r (act thread choice)) (tried_by y r (act thread choice))
+        act_begun choice g h at at' b z safe is may = absurd may
+        act_begun choice g h at at' b z looks is may = absurd may
+        act_begun choice g h at at' b z steps is may = act_step choice h at' b (comes g h at b (subst (IsHeld Y C D code code' R one guarded (thread_at y h)) (sym is) tt) z) is may
+        act_begun choice g h at at' b z (calls function) is may =
+            act_full choice h at' b (comes g h at b (subst (IsHeld Y C D code code' R one guarded (thread_at y h)) (sym is) may.0) z) function is may.0 may.1
+        act_begun choice g h at at' b z turn_over is may = absurd may
+        act_begun choice g h at at' b z nothing is may = absurd may
+
+        act_fresh : (choice : Choice) (f a : ℕ) → own_at own thread ≡ Some (starts f a) → own_at other thread ≡ Some (starts f a) → can_go y (starts f a) ≡ false → choice ≡ plain
+            → HasEvents s (after y r (act thread choice)) (picks_of y r (act thread choice)) (tried_by y r (act thread choice))
+        act_fresh choice f a at at' none p =
+            let e = act thread choice in
+            let picks : picks_of x s e ≡ picks_of y r e = picks_of-fresh x s thread choice f a at none ∙ sym (picks_of-fresh y r thread choice f a at' none) in
+            let tried : tried_by x s e ≡ tried_by y r e = tried_by-fresh x s thread choice f a at none ∙ sym (tried_by-fresh y r thread choice f a at' none) in
+            let z : StatesMatch C D R (put s thread (ends_run m (starts f a) (ends.StackLimit thread))) (put r thread (ends_run m (starts f a) (ends.StackLimit thread))) = record { memory = refl; end = refl; stages = λ on. absurd cc } in
+            record {
+              later = after x s e;
+              leads = subst (λ q. Leads x s (after x s e) q (tried_by y r e)) picks (subst (λ q. Leads x s (after x s e) (picks_of x s e) q) tried (one_leads x s e (refl, may_fresh x s thread choice f a at none p)));
+              match = subst (λ q. StatesMatch C D R q (after y r e)) (sym (after_fresh x s thread choice f a at none))
+                  (subst (λ q. StatesMatch C D R (put s thread (ends_run m (starts f a) (ends.StackLimit thread))) q) (sym (after_fresh y r thread choice f a at' none)) z);
+            }
+
+        act_at : (choice : Choice) (o : Option (Stage P)) (p : Option (Stage Q)) → own_at own thread ≡ o → own_at other thread ≡ p → StagesMatch C D R o p → MayStepAt y m choice p
+            → HasEvents s (after y r (act thread choice)) (picks_of y r (act thread choice)) (tried_by y r (act thread choice))
+        act_at choice o None at at' z may = absurd may
+        act_at choice None (Some h) at at' z may = absurd (no_first h z)
+        act_at choice (Some (starts f a)) (Some (starts g b)) at at' z may =
+            act_fresh choice f a at (at' ∙ (λ i. Some (starts (z.0 i) (z.1 i)))) (ap (can_go y) (λ i. starts (sym z.0 i) (sym z.1 i)) ∙ may.0) may.1
+        act_at choice (Some (going t)) (Some (starts g b)) at at' z may = absurd z
+        act_at choice (Some (waiting t)) (Some (starts g b)) at at' z may = absurd z
+        act_at choice (Some (landed list t)) (Some (starts g b)) at at' z may = absurd z
+        act_at choice (Some g) (Some (going u)) at at' z may = act_begun choice g (going u) at at' tt (kind g (going u) z) (before y u) refl may
+        act_at choice (Some g) (Some (waiting u)) at at' z may = act_begun choice g (waiting u) at at' tt (kind g (waiting u) z) (before y u) refl may
+        act_at choice (Some g) (Some (landed list u)) at at' z may = act_begun choice g (landed list u) at at' tt (kind g (landed list u) z) (before y u) refl may
+
+        pub act_follows : (choice : Choice) → MayCome y r (act thread choice) → HasEvents s (after y r (act thread choice)) (picks_of y r (act thread choice)) (tried_by y r (act thread choice))
+        act_follows choice may = act_at choice (own_at own thread) (own_at other thread) refl refl (k.each thread) may
+
+        -- ---- a Look
+
+        abbrev Look : Type 0
+        Look = HasEvents s (after y r (look thread)) [] []
+
+        look_done : (h : Stage Q) (at' : own_at other thread ≡ Some h) (b : HasBegun h) (w : IsThere own (thread_at y h)) → before y (thread_at y h) ≡ looks → StepDone plain h at' b w → Look
+        look_done h at' b w is (does z) =
+            let s1 = first_in w.stages in
+            let is' : before x (thread_at x w.stage) ≡ looks = sym (before_same Y C D code code' R one (thread_at x w.stage) (thread_at y h) w.same) ∙ is in
+            record {
+              later = after x s1 (look thread);
+              leads = then_leads x s s1 (after x s1 (look thread)) [] [] w.leads (one_leads x s1 (look thread) (refl, may_look x s1 thread w.stage w.at w.begun is'));
+              match = subst (λ q. StatesMatch C D R q (after y r (look thread))) (sym (after_look x s1 thread w.stage w.at w.begun is'))
+                  (subst (λ q. StatesMatch C D R (put s1 thread (step_effect x thread plain w.stage (thread_at x w.stage) m)) q) (sym (after_look y r thread h at' b is)) z);
+            }
+        look_done h at' b w is (unfits z) =
+            record { later = s; leads = none_leads x s; match = subst (λ q. StatesMatch C D R s q) (sym (after_look y r thread h at' b is)) (still plain h at' b w z) }
+
+        look_begun : (g : Stage P) (h : Stage Q) → own_at own thread ≡ Some g → own_at other thread ≡ Some h → HasBegun h × (before y (thread_at y h) ≡ looks) → Kind g h → Look
+        look_begun g h at at' (b, is) z =
+            let w = comes g h at b (subst (IsHeld Y C D code code' R one guarded (thread_at y h)) (sym is) tt) z in
+            look_done h at' b w is (by_outcome plain h at' b w (subst IsStep (sym is) tt) (stop_of y thread plain (thread_at y h) m) refl)
+
+        look_at : (o : Option (Stage P)) (p : Option (Stage Q)) → own_at own thread ≡ o → own_at other thread ≡ p → StagesMatch C D R o p → StandsBefore y p looks → Look
+        look_at o None at at' z may = absurd may
+        look_at None (Some h) at at' z may = absurd (no_first h z)
+        look_at (Some g) (Some h) at at' z may = look_begun g h at at' (stands_begun y h looks may) (kind g h z)
+
+        pub look_follows : MayCome y r (look thread) → Look
+        look_follows may = look_at (own_at own thread) (own_at other thread) refl refl (k.each thread) may
