@@ -127,20 +127,25 @@ module _ {P Q : Type 0} (Y : Layout) (C : Flow P) (D : Flow Q) (code : ℕ → P
         alone_put : (q : Thread P Words) → put (first_in own) thread (no_effect m (going q)) ≡ first_in (set own thread (Some (going q)))
         alone_put q = ap first_in (ap (λ l. set own thread (Some (going q)) ++ l) (no_new_stages own m k.made) ∙ append-nil (set own thread (Some (going q))))
 
-        catches_up : (u : Thread Q Words) → Level (thread_at x g) u → IsUnseen (C.here (thread_at x g).top.at) → IsHeld Y C D code code' R one guarded u (before y u) → IsThere own u
-        catches_up u l e held =
+        pub goes_there : (u : Thread Q Words) → Level (thread_at x g) u → IsUnseen (C.here (thread_at x g).top.at) → IsHeld Y C D code code' R one guarded u (before y u)
+            → (q : Thread P Words) × Leads x (first_in own) (first_in (set own thread (Some (going q)))) [] [] × Same q u
+        goes_there u l e held =
             let t = thread_at x g in
             let s = first_in own in
             let is : before x t ≡ nothing = unseen_nothing t.callers (C.here t.top.at) e in
             let can : can_go x g ≡ true = can_begun x g begun ∙ ap (goes_alone x t) is in
             let q = comes_there Y C D code code' R one guarded thread t u l held in
             let to : gone x thread g ≡ record { thread = q.0; turns = 0 } = gone_begun x thread g begun ∙ ap (λ b. gone_from x thread (past_if x t b)) is ∙ q.1 in
-            let own' = set own thread (Some (going q.0)) in
-            let ends : after x s (local thread) ≡ first_in own' = after_local x s thread g at can ∙ ap (λ z. put s thread (no_effect m (going z.thread))) to ∙ alone_put q.0 in
+            let ends : after x s (local thread) ≡ first_in (set own thread (Some (going q.0))) = after_local x s thread g at can ∙ ap (λ z. put s thread (no_effect m (going z.thread))) to ∙ alone_put q.0 in
             let picks : picks_of x s (local thread) ≡ [] = picks_of-local x s thread g at can ∙ ap (λ z. local_picks thread z.turns) to in
+            (q.0, subst (λ z. Leads x s z [] []) ends (subst (λ p. Leads x s (after x s (local thread)) p []) picks (one_leads x s (local thread) (refl, may_local x s thread g at can))), q.2)
+
+        catches_up : (u : Thread Q Words) → Level (thread_at x g) u → IsUnseen (C.here (thread_at x g).top.at) → IsHeld Y C D code code' R one guarded u (before y u) → IsThere own u
+        catches_up u l e held =
+            let q = goes_there u l e held in
             record {
-              stages = own';
-              leads = subst (λ z. Leads x s z [] []) ends (subst (λ p. Leads x s (after x s (local thread)) p []) picks (one_leads x s (local thread) (refl, may_local x s thread g at can)));
+              stages = set own thread (Some (going q.0));
+              leads = q.1;
               others = put_first C D R thread m own other k (own_within own thread g at) (Some (going q.0));
               stage = going q.0;
               at = own_at-set_same own thread (Some (going q.0)) (own_within own thread g at);

@@ -35,3 +35,4 @@ pub mod EventRuns
 pub mod EventKinds
 pub mod StatesAlike
 pub mod EventsAlike
+pub mod BarriersAlike

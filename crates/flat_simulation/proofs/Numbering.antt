@@ -1,5 +1,5 @@
 -- What threads have of their own, by number: where one of them changes, and where new ones come behind.
-use Rattle.std.proofs.Common.{◌≡◌, ◌≢◌, ℕ, zero, suc, ◌<◌, List, [], ◌∷◌, ◌++◌, length, Option, Some, None, refl, arith}
+use Rattle.std.proofs.Common.{◌≡◌, ◌≢◌, ℕ, zero, suc, ◌<◌, ◌≤◌, List, [], ◌∷◌, ◌++◌, length, Option, Some, None, refl, arith}
 use Rattle.std.specs.Prelude.{set}
 use Rattle.block_store.specs.Runs.{own_at}
 
@@ -9,6 +9,11 @@ module _ {A : Type 0} where
   own_within [] n a e = absurd cc
   own_within (o ∷ own) zero a e = omega arith
   own_within (o ∷ own) (suc n) a e = let h = own_within own n a e in omega (arith, h)
+
+  pub own_at-past : (own : List (Option A)) (n : ℕ) → length own ≤ n → own_at own n ≡ None
+  own_at-past [] n le = refl
+  own_at-past (o ∷ own) zero le = absurd (omega (arith, le))
+  own_at-past (o ∷ own) (suc n) le = own_at-past own n (omega (arith, le))
 
   pub own_at-set_same : (own : List (Option A)) (n : ℕ) (o : Option A) → n < length own → own_at (set own n o) n ≡ o
   own_at-set_same [] n o lt = absurd (omega (arith, lt))

@@ -64,16 +64,15 @@ module _ {P Q : Type 0} (C : Flow P) (D : Flow Q) (R : P → Q → Type 0) where
         omega (arith, a, b, c, d, d', f)
 
     -- what came of the thread is put in both
-    pub put_match : (e : Effect P) (f : Effect Q) → EffectsMatch C D R e f → StatesMatch C D R (put (record { memory = m; own = own; end = None }) thread e) (put (record { memory = m; own = other; end = None }) thread f)
-    put_match e f k = record {
-      memory = k.memory;
-      end = ap (λ o. end_or o None) k.end;
-      stages = λ on. record {
-        count = put_count e.stage f.stage e.memory f.memory k.memory;
-        made = new_length own thread e.stage e.memory;
-        each = each_append (λ o p. Match o p) (set own thread e.stage) (set other thread f.stage) (set_count e.stage f.stage) (set_each e.stage f.stage k.stage) (new_stages own e.memory) (new_stages other f.memory) (new_same e.memory f.memory k.memory);
-      };
+    pub put_owns : (e : Effect P) (f : Effect Q) → EffectsMatch C D R e f → OwnsMatch C D R e.memory (set own thread e.stage ++ new_stages own e.memory) (set other thread f.stage ++ new_stages other f.memory)
+    put_owns e f k = record {
+      count = put_count e.stage f.stage e.memory f.memory k.memory;
+      made = new_length own thread e.stage e.memory;
+      each = each_append (λ o p. Match o p) (set own thread e.stage) (set other thread f.stage) (set_count e.stage f.stage) (set_each e.stage f.stage k.stage) (new_stages own e.memory) (new_stages other f.memory) (new_same e.memory f.memory k.memory);
     }
+
+    pub put_match : (e : Effect P) (f : Effect Q) → EffectsMatch C D R e f → StatesMatch C D R (put (record { memory = m; own = own; end = None }) thread e) (put (record { memory = m; own = other; end = None }) thread f)
+    put_match e f k = record { memory = k.memory; end = ap (λ o. end_or o None) k.end; stages = λ on. put_owns e f k }
 
     -- in the first alone, where no other was made
     pub put_first : (g : Option (Stage P)) → OthersMatch C D R thread m (set own thread g) other
@@ -82,6 +81,14 @@ module _ {P Q : Type 0} (C : Flow P) (D : Flow Q) (R : P → Q → Type 0) where
       made = omega (arith, match.made, length-set_own own thread g);
       each = λ n ne. subst (λ o. Match o (own_at other n)) (sym (own_at-set_other own thread n g ne)) (match.each n ne);
     }
+
+  -- the thread's stages match, and all others
+  pub owns_match : (thread : ℕ) (m : Memory) (own : List (Option (Stage P))) (other : List (Option (Stage Q))) → OthersMatch C D R thread m own other → Match (own_at own thread) (own_at other thread) → OwnsMatch C D R m own other
+  owns_match thread m own other k z = record {
+    count = k.count;
+    made = k.made;
+    each = λ n. elim (cases_eq n thread) [ inl e ↦ subst (λ j. Match (own_at own j) (own_at other j)) (sym e) z | inr ne ↦ k.each n ne ];
+  }
 
   -- all others match
   pub others_match : (thread : ℕ) (m : Memory) (own : List (Option (Stage P))) (other : List (Option (Stage Q))) → OwnsMatch C D R m own other → OthersMatch C D R thread m own other
