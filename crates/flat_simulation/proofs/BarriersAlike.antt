@@ -11,6 +11,7 @@ use Rattle.defrag_move.specs.Moves.{after_plan}
 use Rattle.struct_ir.specs.Nodes.{Act, set, call, step, look, safepoint, begin_object, end_object}
 use Rattle.struct_ir.specs.Flow.{Here, does, tests, passes, round, returns, Flow, IsCall}
 use Rattle.struct_ir.specs.Machine.{Point}
+use Rattle.struct_ir.specs.Marks.{IsUnseen}
 use Rattle.struct_ir.specs.Threads.{Thread}
 use Rattle.struct_ir.specs.Alike.{SameCallers, LevelThreads, SameThreads}
 use Rattle.flat_meaning.specs.declared.endings.End.{End}
@@ -209,3 +210,138 @@ module _ {P Q : Type 0} (Y : Layout) (C : Flow P) (D : Flow Q) (code : ℕ → P
 
   all_stand : (own : List (Option (Stage P))) (other : List (Option (Stage Q))) → ((n : ℕ) → StagesStand (own_at own n) (own_at other n)) → AllStand D other → AllStand C own
   all_stand own other h all n g at = stage_stands g (own_at other n) (subst (λ o. StagesStand o (own_at other n)) at (h n)) (λ p e. all n p e)
+
+  -- ---- the first comes to where the second stands
+
+  data Stood (o : Option (Stage P)) (p : Option (Stage Q)) : Type 0 where
+    does_stand : StagesStand o p → Stood o p
+    falls_behind : (t : Thread P Words) (u : Thread Q Words) → o ≡ Some (going t) → p ≡ Some (going u) → LevelThreads C D R t u → (IsCall (D.here u.top.at) → ⊥) → IsUnseen (C.here t.top.at) → Stood o p
+
+  near_stood : (t : Thread P Words) (u : Thread Q Words) → Near C D R t u → Stood (Some (going t)) (Some (going u))
+  near_stood t u (same z) = does_stand z
+  near_stood t u (level l n) = by_lag (lag Y C D code code' R one t u l)
+    where
+      by_lag : Lag Y C D code code' R one t u → Stood (Some (going t)) (Some (going u))
+      by_lag (there z) = does_stand z
+      by_lag (lags e) = falls_behind t u refl refl l n e
+
+  stood : (o : Option (Stage P)) (p : Option (Stage Q)) → StagesMatch C D R o p → Stood o p
+  stood (Some (going t)) (Some (going u)) z = near_stood t u z
+  stood None None z = does_stand tt
+  stood (Some (starts f a)) (Some (starts g b)) z = does_stand tt
+  stood (Some (waiting t)) (Some (waiting u)) z = does_stand z
+  stood (Some (landed list t)) (Some (landed other u)) z = does_stand z
+  stood None (Some (starts g b)) k = absurd k
+  stood None (Some (going u)) k = absurd k
+  stood None (Some (waiting u)) k = absurd k
+  stood None (Some (landed other u)) k = absurd k
+  stood (Some (starts f a)) None k = absurd k
+  stood (Some (going t)) None k = absurd k
+  stood (Some (waiting t)) None k = absurd k
+  stood (Some (landed list t)) None k = absurd k
+  stood (Some (starts f a)) (Some (going u)) k = absurd k
+  stood (Some (starts f a)) (Some (waiting u)) k = absurd k
+  stood (Some (starts f a)) (Some (landed other u)) k = absurd k
+  stood (Some (going t)) (Some (starts g b)) k = absurd k
+  stood (Some (going t)) (Some (waiting u)) k = absurd k
+  stood (Some (going t)) (Some (landed other u)) k = absurd k
+  stood (Some (waiting t)) (Some (starts g b)) k = absurd k
+  stood (Some (waiting t)) (Some (going u)) k = absurd k
+  stood (Some (waiting t)) (Some (landed other u)) k = absurd k
+  stood (Some (landed list t)) (Some (starts g b)) k = absurd k
+  stood (Some (landed list t)) (Some (going u)) k = absurd k
+  stood (Some (landed list t)) (Some (waiting u)) k = absurd k
+
+  -- at a list, and before no call, a thread is held
+  list_held : (u : Thread Q Words) (h : Here) → is_some (list_at h) ≡ true → (IsCall h → ⊥) → IsHeld Y C D code code' R one guarded u (before_here u.callers h)
+  list_held u (does place (set to calc)) e n = absurd cc
+  list_held u (does place (call c)) e n = absurd (n refl)
+  list_held u (does place (step s)) e n = tt
+  list_held u (does place (look slot base)) e n = absurd cc
+  list_held u (does place (safepoint slots)) e n = tt
+  list_held u (does place (begin_object i)) e n = absurd cc
+  list_held u (does place (end_object i)) e n = absurd cc
+  list_held u (tests place temp) e n = absurd cc
+  list_held u passes e n = absurd cc
+  list_held u round e n = absurd cc
+  list_held u (returns temp) e n = absurd cc
+
+  module _ (m : Memory) (other : List (Option (Stage Q))) (all : AllStand D other) where
+    abbrev in_first : List (Option (Stage P)) → State P
+    in_first own = record { memory = m; own = own; end = None }
+
+    -- so many threads have come there
+    record Caught (own : List (Option (Stage P))) (n : ℕ) : Type 0 where
+      stages : List (Option (Stage P))
+      leads : Leads x (in_first own) (in_first stages) [] []
+      owns : OwnsMatch C D R m stages other
+      each : (k : ℕ) → k < n → StagesStand (own_at stages k) (own_at other k)
+
+    module _ (n : ℕ) (own : List (Option (Stage P))) (k : OwnsMatch C D R m own other) (each : (j : ℕ) → j < n → StagesStand (own_at own j) (own_at other j)) where
+      one_more : (stages : List (Option (Stage P))) → ((j : ℕ) → (j ≡ n → ⊥) → own_at stages j ≡ own_at own j) → StagesStand (own_at stages n) (own_at other n) → (j : ℕ) → j < suc n → StagesStand (own_at stages j) (own_at other j)
+      one_more stages rest z j lt = elim (cases_eq j n) [
+        | inl e ↦ subst (λ i. StagesStand (own_at stages i) (own_at other i)) (sym e) z
+        | inr ne ↦ subst (λ o. StagesStand o (own_at other j)) (sym (rest j ne)) (each j (omega (arith, lt, ne)))
+      ]
+
+      catch_one : Stood (own_at own n) (own_at other n) → Caught own (suc n)
+      catch_one (does_stand z) = record { stages = own; leads = none_leads x (in_first own); owns = k; each = one_more own (λ j ne. refl) z }
+      catch_one (falls_behind t u at at' l not e) =
+          let held : IsHeld Y C D code code' R one guarded u (before y u) = list_held u (D.here u.top.at) (all n (going u) at') not in
+          let q = goes_there Y C D code code' R one guarded m n other own (others_match C D R n m own other k) (going t) at tt u l e held in
+          let stages = with_own own n (Some (going q.0)) in
+          let here : own_at stages n ≡ Some (going q.0) = own_at-set_same own n (Some (going q.0)) (own_within own n (going t) at) in
+          let meets : StagesStand (own_at stages n) (own_at other n) = subst (λ o. StagesStand o (own_at other n)) (sym here) (subst (λ p. StagesStand (Some (going q.0)) p) (sym at') q.2) in
+          let match : StagesMatch C D R (own_at stages n) (own_at other n) = subst (λ o. StagesMatch C D R o (own_at other n)) (sym here) (subst (λ p. StagesMatch C D R (Some (going q.0)) p) (sym at') (same q.2)) in
+          record {
+            stages = stages;
+            leads = q.1;
+            owns = owns_match C D R n m stages other (put_first C D R n m own other (others_match C D R n m own other k) (own_within own n (going t) at) (Some (going q.0))) match;
+            each = one_more stages (λ j ne. own_at-set_other own n j (Some (going q.0)) ne) meets;
+          }
+
+    catch_up : (own : List (Option (Stage P))) → OwnsMatch C D R m own other → (n : ℕ) → Caught own n
+    catch_up own k zero = record { stages = own; leads = none_leads x (in_first own); owns = k; each = λ j lt. absurd (omega (arith, lt)) }
+    catch_up own k (suc n) =
+        let c = catch_up own k n in
+        let d = catch_one n c.stages c.owns c.each (stood (own_at c.stages n) (own_at other n) (c.owns.each n)) in
+        record { stages = d.stages; leads = then_leads x (in_first own) (in_first c.stages) (in_first d.stages) [] [] c.leads d.leads; owns = d.owns; each = d.each }
+
+    -- all have
+    all_caught : (stages : List (Option (Stage P))) → length other ≡ length stages → ((j : ℕ) → j < length stages → StagesStand (own_at stages j) (own_at other j)) → (j : ℕ) → StagesStand (own_at stages j) (own_at other j)
+    all_caught stages count each j = elim (cases_lt j (length stages)) [
+      | inl lt ↦ each j lt
+      | inr ge ↦ subst (λ o. StagesStand o (own_at other j)) (sym (own_at-past stages j ge)) (subst (λ p. StagesStand None p) (sym (own_at-past other j (omega (arith, ge, count)))) tt)
+    ]
+
+    -- ---- the barrier
+
+    module _ (own : List (Option (Stage P))) (k : OwnsMatch C D R m own other) (moves : List Move) (served : List Serve) where
+      abbrev r : State Q
+      r = record { memory = m; own = other; end = None }
+
+      abbrev Barrier : Type 0
+      Barrier = HasEvents Y C D code code' R one guarded (in_first own) (after y r (barrier moves served)) (picks_of y r (barrier moves served)) []
+
+      same_pinned : (stages : List (Option (Stage P))) → flat_map (handles_if C) stages ≡ flat_map (handles_if D) other → pinned x (in_first stages) ≡ pinned y r
+      same_pinned stages e = λ i at. list_any (λ p. p == at) (places_named m.storage (e i))
+
+      barrier_at : (c : Caught own (length own)) → AreLegal (pinned y r) m.storage.heaps moves → MayServeAll y served (moved_state moves r) → Barrier
+      barrier_at c legal may =
+          let s = in_first c.stages in
+          let count : length c.stages ≡ length own = sym c.owns.count ∙ k.count in
+          let meet : (j : ℕ) → StagesStand (own_at c.stages j) (own_at other j) = all_caught c.stages c.owns.count (λ j lt. c.each j (omega (arith, lt, count))) in
+          let pins = same_pinned c.stages (all_handles c.stages other c.owns.count meet) in
+          let moved : AllMatch (moved_state moves s) (moved_state moves r) = record { memory = refl; end = refl; owns = record { count = c.owns.count; made = c.owns.made; each = c.owns.each } } in
+          let h = serves_follow served (moved_state moves s) (moved_state moves r) moved may in
+          let first : MayCome x s (barrier moves served) = (all_stand c.stages other meet all, subst (λ p. AreLegal p m.storage.heaps moves) (sym pins) legal, h.may) in
+          record {
+            later = after x s (barrier moves served);
+            leads = then_leads x (in_first own) s (after x s (barrier moves served)) (picks_of y r (barrier moves served)) [] c.leads
+                (subst (λ p. Leads x s (after x s (barrier moves served)) p []) h.picks (one_leads x s (barrier moves served) (refl, first)));
+            match = record { memory = h.match.memory; end = h.match.end; stages = λ on. h.match.owns };
+          }
+
+  pub barrier_follows : (m : Memory) (own : List (Option (Stage P))) (other : List (Option (Stage Q))) → OwnsMatch C D R m own other → (moves : List Move) (served : List Serve) → MayCome y (record { memory = m; own = other; end = None }) (barrier moves served)
+      → HasEvents Y C D code code' R one guarded (record { memory = m; own = own; end = None }) (after y (record { memory = m; own = other; end = None }) (barrier moves served)) (picks_of y (record { memory = m; own = other; end = None }) (barrier moves served)) []
+  barrier_follows m own other k moves served may = barrier_at m other may.0 own k moves served (catch_up m other may.0 own k (length own)) may.1 may.2
