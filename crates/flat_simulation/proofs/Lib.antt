@@ -36,3 +36,4 @@ pub mod EventKinds
 pub mod StatesAlike
 pub mod EventsAlike
 pub mod BarriersAlike
+pub mod OneProgram

@@ -6,6 +6,7 @@ use Rattle.flat_simulation.proofs.EventKinds as event_kinds
 use Rattle.flat_simulation.proofs.StatesAlike as states
 use Rattle.flat_simulation.proofs.EventsAlike as events_alike
 use Rattle.flat_simulation.proofs.BarriersAlike as barriers_alike
+use Rattle.flat_simulation.proofs.OneProgram as one_program
 use Rattle.flat_simulation.proofs.Numbering as lists
 use Rattle.flat_simulation.proofs.laws.scratch.Goals as goal
 
