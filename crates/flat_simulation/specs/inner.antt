@@ -4,8 +4,11 @@ pub mod Blocks
 pub mod Aged
 pub mod Values
 pub mod Calls
+pub mod Programs
 pub mod Turns
 pub mod Lags
 pub mod Frames
 pub mod Cells
 pub mod World
+pub mod Worlds
+pub mod Threads
