@@ -7,7 +7,7 @@ use Rattle.struct_ir.specs.Valid.{scope_of}
 use Rattle.struct_ir.specs.ValidCode.{is_here}
 use Rattle.flat_meaning.specs.Image.{Layout, Image, func_frame, objects_bytes, plain_size}
 use Rattle.flat_meaning.specs.Words.{Words}
-use Rattle.flat_simulation.specs.inner.Calls.{HasSize}
+use Rattle.flat_meaning.specs.Sized.{HasSize}
 
 -- the layout is that of the program; turns end; and on every path of a function what stands there is in range, differences of pointers
 -- are in elements that have a size, and each access goes through its base's slot
