@@ -29,3 +29,6 @@ pub mod Seen
 pub mod Frames
 pub mod Texts
 pub mod Facts
+pub mod Sized
+pub mod Programs
+pub mod Points
