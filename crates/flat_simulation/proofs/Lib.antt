@@ -32,3 +32,4 @@ pub mod Facts
 pub mod Sized
 pub mod Programs
 pub mod Points
+pub mod Within

@@ -50,10 +50,6 @@ slot_on names all blocks later s new K aged (value (values.Pointer (To k o))) wo
 slot_on names all blocks later s new K aged unset word v keeps stands agrees = tt
 slot_on names all blocks later s new K aged missing word v keeps stands agrees = tt
 
--- where nothing moved
-pub keeps_still : (all : List Name) (blocks later : Blocks) (s : Storage) (v : PinSlot) → KeepsSlot all blocks later s s v
-keeps_still all blocks later s v k o b below lives within is = refl
-
 -- ---- acts that are no Looks
 
 abbrev pub NoLook : Act → Type 0
@@ -84,6 +80,10 @@ module _ {P : Type 0} (x : Image P) (p : Ir) (thread : ℕ) where
   -- what is intact on a way where a call stands
   abbrev pub IsIntact : List P → Here → (slot base : ℕ) → Type 0
   IsIntact way h slot base = listing (lacks_if slot (list_at h)) (facts x.flow slot way) ≡ looked base false false
+
+  -- where nothing moved
+  pub call_still : (all : List Name) (blocks later : Blocks) (s : Storage) (q : Point P Words) → KeepsCall x.flow all blocks later s s q
+  call_still all blocks later s q slot listed k o b below lives within is = refl
 
   -- others change blocks and storage
   pub point_aged : (names all : List Name) (K J : ℕ → Type 0) (s new : Storage) (k : Point P Own) (q : Point P Words) (later : Blocks) → Aged names all k.own.blocks later → ((block : ℕ) → block < length k.own.blocks → K block → J block)
