@@ -33,3 +33,4 @@ pub mod Sized
 pub mod Programs
 pub mod Points
 pub mod Within
+pub mod Alone
