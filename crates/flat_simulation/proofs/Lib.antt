@@ -34,3 +34,4 @@ pub mod Programs
 pub mod Points
 pub mod Within
 pub mod Alone
+pub mod Later
