@@ -35,3 +35,4 @@ pub mod Points
 pub mod Within
 pub mod Alone
 pub mod Later
+pub mod Pinned
