@@ -37,3 +37,11 @@ pub mod StatesAlike
 pub mod EventsAlike
 pub mod BarriersAlike
 pub mod OneProgram
+pub mod Facts
+pub mod Sized
+pub mod Programs
+pub mod Points
+pub mod Within
+pub mod Alone
+pub mod Later
+pub mod Pinned

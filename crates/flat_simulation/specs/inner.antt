@@ -4,6 +4,7 @@ pub mod Blocks
 pub mod Aged
 pub mod Values
 pub mod Calls
+pub mod Programs
 pub mod Turns
 pub mod Lags
 pub mod Frames
@@ -11,3 +12,5 @@ pub mod Cells
 pub mod World
 pub mod Level
 pub mod EventRuns
+pub mod Worlds
+pub mod Threads
