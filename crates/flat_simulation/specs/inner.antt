@@ -14,3 +14,4 @@ pub mod Level
 pub mod EventRuns
 pub mod Worlds
 pub mod Threads
+pub mod Kept
