@@ -45,3 +45,4 @@ pub mod Within
 pub mod Alone
 pub mod Later
 pub mod Pinned
+pub mod Putting
