@@ -46,3 +46,4 @@ pub mod Alone
 pub mod Later
 pub mod Pinned
 pub mod Putting
+pub mod WrongKinds
