@@ -47,3 +47,4 @@ pub mod Later
 pub mod Pinned
 pub mod Putting
 pub mod WrongKinds
+pub mod WordsCome
