@@ -9,7 +9,7 @@ use Rattle.struct_ir.specs.Flow.{Here, does, tests, passes, round, returns, Path
 use Rattle.struct_ir.specs.Machine as machines
 use Rattle.struct_ir.specs.Machine.{Machine, run}
 use Rattle.struct_ir.specs.Structured.{Position, done, then_, nodes_of, structured}
-use Rattle.struct_ir.specs.Threads.{World, Thread, Outcome, went, ended, blocked, broke, unfit, AllCome, IfWent, KeepsWays, local_event, stop_event}
+use Rattle.struct_ir.specs.Threads.{World, Thread, Outcome, went, ended, blocked, broke, unfit, served, stop_at, AllCome, IfWent, KeepsWays}
 use Rattle.struct_ir.specs.Valid.{Scope, scope_of, is_step, has_counts, counts_of}
 use Rattle.struct_ir.specs.ValidCode.{is_here}
 use Rattle.struct_ir.proofs.Sizes.{structured_shrinks}
@@ -18,11 +18,13 @@ use Rattle.struct_ir.proofs.Threads.{events_keep_ways}
 use Rattle.ir_meaning.specs.Threads.{code_of}
 use Rattle.flat_meaning.specs.declared.endings.End.TheVariants as ends
 use Rattle.flat_meaning.specs.Image.{Limits, Image, structured_image}
-use Rattle.flat_meaning.specs.Words.{Words, word_at, target_of}
-use Rattle.flat_meaning.specs.Memory.{Made, Memory}
+use Rattle.handle_words.specs.Handle.{handle_of}
+use Rattle.flat_meaning.specs.Words.{Words, word_at, target_of, set_if}
+use Rattle.flat_meaning.specs.Memory.{Made, Memory, with_storage}
+use Rattle.flat_meaning.specs.Actions as actions
 use Rattle.flat_meaning.specs.Accesses.{Fault, Choice, plain, got}
 use Rattle.flat_meaning.specs.Accesses as choices
-use Rattle.flat_meaning.specs.Machine.{words_machine, words_world}
+use Rattle.flat_meaning.specs.Machine.{words_machine, words_world, served_by}
 use Rattle.flat_meaning.specs.Stages.{Stage, starts, going, waiting, landed, first_thread, thread_at, Before, safe, looks, steps, calls, turn_over, nothing, before, room_for, Gone, past_if, ran_to, turn_done, ending_if, gone_from, gone, can_go}
 use Rattle.flat_meaning.specs.Effects.{Effect, no_effect, ends_run, own_list_of, landing, acted, stop_of, step_effect, act_before, act_effect, look_before, look_effect, serve_effect, gone_effect}
 use Rattle.flat_meaning.specs.Events.{State, Serve, Event, local, look as look_event, act, barrier, stage_made, new_stages, put, put_if, after_serve, after_serves, moved_state, after, first_state}
@@ -212,3 +214,93 @@ module _ (p : Ir) (limits : Limits) where
   pub first_state_comes : StateComes (first_state x)
   first_state_comes zero = tt
   first_state_comes (suc n) = tt
+
+  -- ---- a malloc that is given an object
+
+  module _ (image : IsImage x p) where
+    -- there is no step where there is no function
+    none_path : (w : List Position) (k : Position) → Path structured (then_ no_nodes done) w k → (k ≡ then_ no_nodes done) ⊎ (k ≡ done)
+    none_path w k entry = inl refl
+    none_path _ _ (on w k c stays before) = elim (none_path w k before) [
+      | inl e ↦ inr (ap (λ z. structured.next z c) e)
+      | inr e ↦ inr (ap (λ z. structured.next z c) e)
+    ]
+
+    no_step : (k : Position) (place : ℕ) (s : Step) → (k ≡ then_ no_nodes done) ⊎ (k ≡ done) → structured.here k ≡ does place (step s) → ⊥
+    no_step k place s (inl e) h = let z : passes ≡ does place (step s) = sym (ap structured.here e) ∙ h in absurd cc
+    no_step k place s (inr e) h = let z : returns None ≡ does place (step s) = sym (ap structured.here e) ∙ h in absurd cc
+
+    -- what stands there is in range
+    here_valid : (function : ℕ) (w : List Position) (k : Position) → Path structured (code_of p function) w k → (place : ℕ) (s : Step) → structured.here k ≡ does place (step s)
+        → (o : Option Func) → slice_get p.funcs function ≡ o → (z : Scope) × (is_step z s ≡ true)
+    here_valid function w k path place s h None e =
+        absurd (no_step k place s (none_path w k (subst (λ o. Path structured (then_ (nodes_of o) done) w k) e path)) h)
+    here_valid function w k path place s h (Some f) e = (scope_of p f, sym (ap (is_here (scope_of p f)) h) ∙ image.valid function f w k e path)
+
+    step_valid : (thread : ℕ) (t : Thread Position Words) → Comes thread t → (place : ℕ) (s : Step) → structured.here t.top.at ≡ does place (step s) → (z : Scope) × (is_step z s ≡ true)
+    step_valid thread t c place s h =
+        here_valid c.top.function c.top.way t.top.at (ways_are_paths _ _ _ structured (words_machine x.layout thread) (code_of p c.top.function) c.top.way t.top c.top.comes) place s h (slice_get p.funcs c.top.function) refl
+
+    no_places : (z : Scope) (s : Step) → is_step z s ≡ true → s.action ≡ malloc → s.places ≡ []
+    no_places z s e is =
+        let counts = (and_parts _ _ (and_parts _ _ e).1).0 in
+        let few = (and_parts _ _ counts).0 in
+        none s.places (eqb-true (length s.places) (counts_of s.action).places few ∙ ap (λ a. (counts_of a).places) is)
+      where
+        none : (ps : List Place) → length ps ≡ 0 → ps ≡ []
+        none [] e = refl
+        none (a ∷ ps) e = absurd (omega (arith, e))
+
+    -- an id and a place are chosen for a malloc alone
+    chosen_for : (z : Storage) (l : Words) (id place : ℕ) (action : Action) (temps : List ℕ) → MayDo z l (got id place) action temps → (action ≡ malloc) × ((size : ℕ) × (temps ≡ size ∷ []))
+    chosen_for z l id place malloc (size ∷ []) may = (refl, (size, refl))
+    chosen_for z l id place malloc [] may = absurd cc
+    chosen_for z l id place malloc (a ∷ b ∷ temps) may = absurd cc
+    chosen_for z l id place (load how) temps may = absurd cc
+    chosen_for z l id place (store how) temps may = absurd cc
+    chosen_for z l id place (copy_bytes align same) temps may = absurd cc
+    chosen_for z l id place free temps may = absurd cc
+    chosen_for z l id place (print pieces) temps may = absurd cc
+    chosen_for z l id place lock temps may = absurd cc
+    chosen_for z l id place unlock temps may = absurd cc
+    chosen_for z l id place destroy temps may = absurd cc
+    chosen_for z l id place (start function) temps may = absurd cc
+    chosen_for z l id place join temps may = absurd cc
+
+    -- it takes the object
+    module _ (thread id place : ℕ) (t : Thread Position Words) (m : Memory) where
+      pub record Takes (h : Here) : Type 0 where
+        pub behind : Thread Position Words
+        pub memory : Memory
+        pub is : stop_at structured (words_machine x.layout thread) (words_world x.layout thread) (code_of p) (got id place) t m h ≡ went behind memory
+
+      malloc_takes : (at : ℕ) (s : Step) (size : ℕ) → s.action ≡ malloc → s.temps ≡ size ∷ [] → s.places ≡ [] → Takes (does at (step s))
+      malloc_takes at s size e f g =
+          let own = t.top.own in
+          let m2 = with_storage m (choices.with_object m.storage id place (word_at own size)) in
+          record {
+            behind = record { top = Rattle.struct_ir.specs.Threads.behind structured t.top (Rattle.flat_meaning.specs.Words.with_temps own (set_if own.temps s.to (handle_of id 0))); callers = t.callers };
+            memory = m2;
+            is = λ i. served structured t (served_by own s.to (actions.acted x.layout thread (got id place) (e i) (map (target_of own) (g i)) (map (word_at own) (f i)) m));
+          }
+
+      step_takes : (at : ℕ) (s : Step) → (z : Scope) × (is_step z s ≡ true) → MayDo m.storage t.top.own (got id place) s.action s.temps → Takes (does at (step s))
+      step_takes at s (z, e) may =
+          let c = chosen_for m.storage t.top.own id place s.action s.temps may in
+          malloc_takes at s c.1.0 c.0 c.1.1 (no_places z s e c.0)
+
+      at_takes : Comes thread t → (h : Here) → structured.here t.top.at ≡ h → MayAct m.storage t.top.own (got id place) h → Takes h
+      at_takes c (does at (step s)) e may = step_takes at s (step_valid thread t c at s e) may
+      at_takes c (does at (set to calc)) e may = absurd cc
+      at_takes c (does at (call d)) e may = absurd cc
+      at_takes c (does at (look slot base)) e may = absurd cc
+      at_takes c (does at (safepoint slots)) e may = absurd cc
+      at_takes c (does at (begin_object i)) e may = absurd cc
+      at_takes c (does at (end_object i)) e may = absurd cc
+      at_takes c (tests at temp) e may = absurd cc
+      at_takes c passes e may = absurd cc
+      at_takes c round e may = absurd cc
+      at_takes c (returns temp) e may = absurd cc
+
+      pub takes : Comes thread t → MayAct m.storage t.top.own (got id place) (structured.here t.top.at) → Takes (structured.here t.top.at)
+      takes c may = at_takes c (structured.here t.top.at) refl may
