@@ -48,3 +48,4 @@ pub mod Pinned
 pub mod Putting
 pub mod WrongKinds
 pub mod WordsCome
+pub mod TurnsStand

@@ -15,3 +15,4 @@ pub mod EventRuns
 pub mod Worlds
 pub mod Threads
 pub mod Kept
+pub mod Next
