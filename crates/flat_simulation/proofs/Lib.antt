@@ -49,3 +49,4 @@ pub mod Putting
 pub mod WrongKinds
 pub mod WordsCome
 pub mod TurnsStand
+pub mod StepKinds
