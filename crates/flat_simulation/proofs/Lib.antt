@@ -50,3 +50,5 @@ pub mod WrongKinds
 pub mod WordsCome
 pub mod TurnsStand
 pub mod StepKinds
+pub mod SourceRuns
+pub mod EventsStand

@@ -97,7 +97,7 @@ module _ (p : Ir) (limits : Limits) (image : IsImage (structured_image p limits)
           Alike o o' = TurnsAlike x p thread names given list u.world s.memory o o'
 
           -- both go on
-          both_went : (o : Outcome Position Own Fault World) (q : Thread Position Words) (m : Memory) → source_turn p thread answer k u.world ≡ o → Alike o (went q m) → Comes (went q m)
+          pub both_went : (o : Outcome Position Own Fault World) (q : Thread Position Words) (m : Memory) → source_turn p thread answer k u.world ≡ o → Alike o (went q m) → Comes (went q m)
           both_went (went k2 later) q m e h =
               subst (λ r. UpToABreak r (Next p limits names given (put s thread (record { memory = m; stage = Some (landing list q); end = None })))) (sym (one_turn (went k2 later) e)) (record {
                 all = h.0;
