@@ -96,7 +96,7 @@ module _ (p : Ir) (limits : Limits) (image : IsImage (structured_image p limits)
 
       -- ---- alone
 
-      local_stands : can_go x g ≡ true → After (picks_of x s (local thread)) [] (after x s (local thread))
+      pub local_stands : can_go x g ≡ true → After (picks_of x s (local thread)) [] (after x s (local thread))
       local_stands can = elim (gone_turns x thread g) [
         | inl none ↦
             let picks : picks_of x s (local thread) ≡ [] = picks_of-local x s thread g at' can ∙ ap (local_picks thread) none in
@@ -110,7 +110,7 @@ module _ (p : Ir) (limits : Limits) (image : IsImage (structured_image p limits)
 
       -- ---- a Look
 
-      look_stands : StandsBefore x (Some g) looks → After [] [] (after x s (look thread))
+      pub look_stands : StandsBefore x (Some g) looks → After [] [] (after x s (look thread))
       look_stands may =
           let b = stands_begun x g looks may in
           let z = keeps.looks_on may in
@@ -171,13 +171,13 @@ module _ (p : Ir) (limits : Limits) (image : IsImage (structured_image p limits)
               (subst (λ z. After (step_picks x s.memory thread choice t) (chosen_id choice) z) (sym (after_step x s thread g at' b choice is)) step_stands)
 
       -- the run ends for want of room
-      full_stands : (choice : Choice) → choice ≡ plain → (picks_of x s (act thread choice) ≡ []) → after x s (act thread choice) ≡ put s thread (ends_run s.memory g (ends.StackLimit thread)) → After (picks_of x s (act thread choice)) (chosen_id choice) (after x s (act thread choice))
+      pub full_stands : (choice : Choice) → choice ≡ plain → (picks_of x s (act thread choice) ≡ []) → after x s (act thread choice) ≡ put s thread (ends_run s.memory g (ends.StackLimit thread)) → After (picks_of x s (act thread choice)) (chosen_id choice) (after x s (act thread choice))
       full_stands choice plain_is picks is =
           let e = act thread choice in
           subst (λ l. After l (chosen_id choice) (after x s e)) (sym picks) (subst (λ l. Next p limits names l (after x s e) u) (sym (ap chosen_id plain_is)) (subst (λ z. Next p limits names [] z u) (sym is)
           (stays p limits image takes_answers names u s stand thread g g (Some (ends.StackLimit thread)) at' (there g stage))))
 
-      act_before : (choice : Choice) → HasBegun g → (c : Before) → before x (thread_at x g) ≡ c → MayStep x s.memory choice (thread_at x g) c → After (picks_of x s (act thread choice)) (chosen_id choice) (after x s (act thread choice))
+      pub act_before : (choice : Choice) → HasBegun g → (c : Before) → before x (thread_at x g) ≡ c → MayStep x s.memory choice (thread_at x g) c → After (picks_of x s (act thread choice)) (chosen_id choice) (after x s (act thread choice))
       act_before choice b safe is may = absurd may
       act_before choice b looks is may = absurd may
       act_before choice b steps is may = act_stands b is choice may

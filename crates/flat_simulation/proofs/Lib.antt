@@ -52,3 +52,4 @@ pub mod TurnsStand
 pub mod StepKinds
 pub mod SourceRuns
 pub mod EventsStand
+pub mod AllEvents
