@@ -53,3 +53,4 @@ pub mod StepKinds
 pub mod SourceRuns
 pub mod EventsStand
 pub mod AllEvents
+pub mod LoadedData

@@ -16,3 +16,4 @@ pub mod Worlds
 pub mod Threads
 pub mod Kept
 pub mod Next
+pub mod Data
