@@ -54,3 +54,4 @@ pub mod SourceRuns
 pub mod EventsStand
 pub mod AllEvents
 pub mod LoadedData
+pub mod FirstNames
