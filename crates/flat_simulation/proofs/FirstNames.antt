@@ -75,16 +75,16 @@ module _ (y : Layout) where
       let h = rooms_behind gs n rest in
       ap (λ k. rooms (take k (map (global_datum y) (g ∷ gs) ++ rest))) e ∙ omega (arith, a, b, h)
 
-  global_lies : (n : ℕ) → n < length y.globals → global_address y n ≡ first_address + rooms (take n (data_of y))
+  pub global_lies : (n : ℕ) → n < length y.globals → global_address y n ≡ first_address + rooms (take n (data_of y))
   global_lies n lt = let h = rooms_of_globals y.globals n (map literal_datum y.literals) (omega (arith, lt)) in omega (arith, h)
 
-  literal_lies : (n : ℕ) → literal_address y n ≡ first_address + rooms (take (length y.globals + n) (data_of y))
+  pub literal_lies : (n : ℕ) → literal_address y n ≡ first_address + rooms (take (length y.globals + n) (data_of y))
   literal_lies n =
       let h = rooms_behind y.globals n (map literal_datum y.literals) in
       let l = rooms_of_literals y.literals n in
       omega (arith, h, l)
 
-  length-data : length (data_of y) ≡ length y.globals + length y.literals
+  pub length-data : length (data_of y) ≡ length y.globals + length y.literals
   length-data =
       let a = length-append (map (global_datum y) y.globals) (map literal_datum y.literals) in
       let b = length-map {A = Global} {B = Datum} y.globals (global_datum y) in

@@ -55,3 +55,4 @@ pub mod EventsStand
 pub mod AllEvents
 pub mod LoadedData
 pub mod FirstNames
+pub mod FirstStands

@@ -24,7 +24,7 @@ use Rattle.flat_meaning.specs.Simulation.{IsLoadable}
 -- ---- plain data
 
 -- a global begins with 8 bytes at most
-few_first : (y : Layout) (i : Init) → length (first_bytes y i) ≤ 8
+pub few_first : (y : Layout) (i : Init) → length (first_bytes y i) ≤ 8
 few_first y inits.zero_bytes = omega arith
 few_first y (inits.number t z) =
     let width = width_bounds t.bits t.known_width in
@@ -55,7 +55,7 @@ length-loaded y size fits =
 
 -- ---- the first storage
 
-none_of : (n id : ℕ) → IsInUse (replicate n None) id → ⊥
+pub none_of : (n id : ℕ) → IsInUse (replicate n None) id → ⊥
 none_of n id used =
     let none : Option ℕ = None in
     elim (cases_lt id n) [
