@@ -20,7 +20,9 @@ use Rattle.flat_store.specs.Flat.{first_address, byte_at}
 use Rattle.defrag_move.specs.Arena.{Storage, start_behind}
 use Rattle.struct_ir.specs.Nodes.{Global, Func, Ir}
 use Rattle.struct_ir.specs.Structured.{Position}
+use Rattle.struct_ir.specs.Threads.{Thread}
 use Rattle.struct_ir.specs.Whole.{plain_bytes, is_init_in, takes_nothing}
+use Rattle.ir_meaning.specs.Blocks.{Own}
 use Rattle.ir_meaning.specs.Start.{first_blocks, start}
 use Rattle.ir_meaning.specs.Threads.{program_of}
 use Rattle.flat_meaning.specs.Image.{Limits, Layout, Image, structured_image, global_address, literal_address, stack_address, plain_size, first_storage}
@@ -257,3 +259,44 @@ module _ (p : Ir) (limits : Limits) (loadable : IsLoadable (structured_image p l
       let low = ends_low n b z in
       let is = its_address n a b z named in
       inl (omega (arith, low, is))
+
+  -- ---- the state
+
+  -- as the source has them
+  as_source : (A : Blocks → Type 0) → A blocks → A (first_blocks p.globals p.literals)
+  as_source A a = subst A (sym (first_blocks_are y)) a
+
+  abbrev P : runs.Program (Thread Position Own)
+  P = program_of p
+
+  world_stands : WorldStands y p names (start p) (first_state x).memory
+  world_stands = record {
+    blocks = as_source (λ bs. BlocksStand names bs s) blocks_stand;
+    data_stands = as_source (λ bs. DataStands y p names AnyBlock bs) data_there;
+    start = refl;
+    output = refl;
+    threads = (record { function = refl; argument = refl; result = refl }, tt);
+  }
+
+  free : (thread : ℕ) → IsFree x thread names (start p).blocks
+  free thread = as_source (λ bs. IsFree x thread names bs) (stack_free thread)
+
+  main_there : (o : Option Func) → slice_get p.funcs p.main ≡ o → takes_nothing o ≡ true → (f : Func) × (slice_get p.funcs p.main ≡ Some f)
+  main_there None e h = absurd cc
+  main_there (Some f) e h = (f, e)
+
+  first_stage : (thread : ℕ) → StageStands x p thread names (start p).blocks s (own_at (runs.first_state P (start p)).own thread) (own_at (first_state x).own thread)
+  first_stage zero =
+      let f = main_there (slice_get p.funcs p.main) refl main in
+      record { stack = threads; func = f.0; there = f.1; pointer = Null; begins = refl; argument_stands = refl; clear = free 0 }
+  first_stage (suc n) = tt
+
+  pub first_stands : StateStands x p names (runs.first_state P (start p)) (first_state x)
+  first_stands = record {
+    world = world_stands;
+    count = refl;
+    made = refl;
+    threads = first_stage;
+    stacks = λ thread past room. free thread;
+    main = λ on. refl;
+  }

@@ -56,3 +56,4 @@ pub mod AllEvents
 pub mod LoadedData
 pub mod FirstNames
 pub mod FirstStands
+pub mod FollowsTurns

@@ -17,3 +17,4 @@ pub mod Threads
 pub mod Kept
 pub mod Next
 pub mod Data
+pub mod Ends

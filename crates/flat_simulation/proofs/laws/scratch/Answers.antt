@@ -9,6 +9,7 @@ use Rattle.flat_simulation.proofs.AllEvents as all_events
 use Rattle.flat_simulation.proofs.LoadedData as loaded_data
 use Rattle.flat_simulation.proofs.FirstNames as first_names
 use Rattle.flat_simulation.proofs.FirstStands as first_stands
+use Rattle.flat_simulation.proofs.FollowsTurns as follows_turns
 use Rattle.flat_simulation.proofs.OneProgram as one_program
 use Rattle.flat_simulation.proofs.laws.scratch.Goals as goal
 
