@@ -36,3 +36,4 @@ pub mod Within
 pub mod Alone
 pub mod Later
 pub mod Pinned
+pub mod Entered
