@@ -37,3 +37,4 @@ pub mod Alone
 pub mod Later
 pub mod Pinned
 pub mod Entered
+pub mod Settled
