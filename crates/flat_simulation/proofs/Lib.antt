@@ -38,3 +38,4 @@ pub mod Later
 pub mod Pinned
 pub mod Entered
 pub mod Settled
+pub mod Ends
