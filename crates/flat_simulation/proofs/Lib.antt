@@ -39,3 +39,4 @@ pub mod Pinned
 pub mod Entered
 pub mod Settled
 pub mod Ends
+pub mod Returns
