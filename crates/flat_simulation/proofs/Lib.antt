@@ -40,3 +40,4 @@ pub mod Entered
 pub mod Settled
 pub mod Ends
 pub mod Returns
+pub mod Lands
