@@ -28,3 +28,4 @@ pub mod TurnEnds
 pub mod Seen
 pub mod Frames
 pub mod Texts
+pub mod Printed

@@ -35,7 +35,7 @@ low_word : (table : List (Option ℕ)) (w : ℕ) → w < 2 ^ 63 → translated t
 low_word table w low = let fails : leb (2 ^ 63) w ≡ false = grind (arith, nat_tests) in rw fails refl
 
 module _ {P : Type 0} (x : Image P) (p : Ir) (thread : ℕ) (names all : List Name) (blocks later : Blocks) (s new : Storage) (since : Aged names all blocks later)
-    (aside : IsAside all blocks later (stack_address x.layout thread) (stack_address x.layout thread + x.layout.limits.stack)) (keeps : KeepsAddresses all later s new) (first : List Name) (start : Blocks) (then_ : Aged all first later start) where
+    (aside : IsAside all blocks later (stack_address x.layout thread) (stack_address x.layout thread + x.layout.limits.stack)) (keeps : KeepsAddresses all blocks later s new) (first : List Name) (start : Blocks) (then_ : Aged all first later start) where
   abbrev K : ℕ → Type 0
   K = KnownIn (length blocks) (length start)
 
@@ -78,7 +78,7 @@ module _ {P : Type 0} (x : Image P) (p : Ir) (thread : ℕ) (names all : List Na
             let below : k < length later = omega (arith, lt, since.ages.more) in
             let c = lived k b below v in
             let within : o ≤ length c.0.cells = omega (arith, points.within b v, c.2) in
-            ap (λ m. translated new.table (word_for m o)) (its_name k below) ∙ keeps k o c.0 c.1 within ∙ ap (λ m. translated s.table (word_for m o)) (sym (its_name k below))
+            ap (λ m. translated new.table (word_for m o)) (its_name k below) ∙ keeps k o c.0 lt c.1 within ∙ ap (λ m. translated s.table (word_for m o)) (sym (its_name k below))
         by_known (inr ge) =
             let i = far.begun k b ge v in
             let object = call.objects i.0 k i.1 in
@@ -113,7 +113,7 @@ module _ {P : Type 0} (x : Image P) (p : Ir) (thread : ℕ) (names all : List Na
 
 -- no run is done again
 pub others_leave_turns : {P : Type 0} (x : Image P) (p : Ir) (thread : ℕ) (names all : List Name) (blocks later : Blocks) (s new : Storage) → Aged names all blocks later
-    → IsAside all blocks later (stack_address x.layout thread) (stack_address x.layout thread + x.layout.limits.stack) → KeepsAddresses all later s new
+    → IsAside all blocks later (stack_address x.layout thread) (stack_address x.layout thread + x.layout.limits.stack) → KeepsAddresses all blocks later s new
     → (k : Point P Own) (q : Point P Words) → LieLow x.layout p thread q.own → InTurn x p thread names blocks s k q → InTurn x p thread all later new k q
 others_leave_turns x p thread names all blocks later s new since aside keeps k q low turn first start then_ =
     reaches_later x p thread names all blocks later s new since aside keeps first start then_ k q low (turn first start (aged_then names all first blocks later start since then_))

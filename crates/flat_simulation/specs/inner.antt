@@ -9,3 +9,5 @@ pub mod Lags
 pub mod Frames
 pub mod Cells
 pub mod World
+pub mod Shared
+pub mod Outcomes

@@ -47,10 +47,11 @@ InTurn x p thread names blocks s k q = (all : List Name) (later : Blocks) → Ag
 abbrev pub IsAside : List Name → (blocks later : Blocks) → (from to : ℕ) → Type 0
 IsAside all blocks later from to = (block a : ℕ) (b : Block) → length blocks ≤ block → live later block ≡ Some b → name_of all block ≡ plain a → (a + taken (length b.cells) ≤ from) ⊎ (to ≤ a)
 
--- pointers to blocks that live lead where they led
-abbrev pub KeepsAddresses : List Name → Blocks → (old new : Storage) → Type 0
-KeepsAddresses all later old new =
-    (block offset : ℕ) (b : Block) → live later block ≡ Some b → offset ≤ length b.cells → translated new.table (word_for (name_of all block) offset) ≡ translated old.table (word_for (name_of all block) offset)
+-- pointers to blocks that were made before and live lead where they led
+abbrev pub KeepsAddresses : List Name → (blocks later : Blocks) → (old new : Storage) → Type 0
+KeepsAddresses all blocks later old new =
+    (block offset : ℕ) (b : Block) → block < length blocks → live later block ≡ Some b → offset ≤ length b.cells
+    → translated new.table (word_for (name_of all block) offset) ≡ translated old.table (word_for (name_of all block) offset)
 
 -- stack objects of a call lie below all handles
 abbrev pub LieLow : Layout → Ir → (thread : ℕ) → Words → Type 0
