@@ -120,7 +120,7 @@ module _ (names : List Name) (blocks : Blocks) (m : Memory) (stand : BlocksStand
     pub went : words.loaded how a m ≡ went (Some word) m
     pub stands : Stands names AnyBlock blocks (value v) word
 
-  size_some : (how : Access) → 0 < size_of how
+  pub size_some : (how : Access) → 0 < size_of how
   size_some (accesses.Number t) = omega (arith, (width_bounds t.bits t.known_width).0)
   size_some accesses.Pointer = omega arith
 
@@ -151,7 +151,7 @@ module _ (names : List Name) (blocks : Blocks) (m : Memory) (stand : BlocksStand
     pub went : words.stored (access_of v) a word m ≡ went None (written m a.address (low_bytes (size_of (access_of v)) word))
     pub after : IsWritten later a.address (low_bytes (size_of (access_of v)) word)
 
-  was_written : (new : List Cell) (r : Result Spot Rule) (later : Blocks) → written_at blocks new r ≡ Ok later → (at : Spot) × (r ≡ Ok at) × (with_cells_at blocks new at ≡ later)
+  pub was_written : (new : List Cell) (r : Result Spot Rule) (later : Blocks) → written_at blocks new r ≡ Ok later → (at : Spot) × (r ≡ Ok at) × (with_cells_at blocks new at ≡ later)
   was_written new (Ok at) later e = (at, refl, unless (is_literal at.block.kind) (with_cells_at blocks new at) e)
     where
       unless : (b : Bool) (x : Blocks) → (if b then Err C12 else Ok x) ≡ Ok later → x ≡ later

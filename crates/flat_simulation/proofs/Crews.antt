@@ -13,7 +13,8 @@ use Rattle.block_store.specs.declared.values.Ptr.TheVariants.{Null, To}
 use Rattle.block_store.specs.declared.values.Value.TheVariants as values
 use Rattle.block_store.specs.Actions.{stored_unless_null}
 use Rattle.block_store.specs.Blocks as source
-use Rattle.block_store.specs.Blocks.{Blocks}
+use Rattle.block_store.specs.Blocks.{Block, Blocks, live, spot_at}
+use Rattle.block_store.specs.Cells.{cells_of}
 use Rattle.flat_store.specs.Flat.{first_outside}
 use Rattle.flat_words.specs.Words.{word_of, number_word}
 use Rattle.flat_meaning.specs.declared.endings.TrapKind.TheVariants as kinds
@@ -28,7 +29,7 @@ use Rattle.flat_simulation.specs.inner.World.{BlocksStand, GoesTo}
 use Rattle.flat_simulation.proofs.Blocks.{aged_still}
 use Rattle.flat_simulation.proofs.Numbers.{word_small}
 use Rattle.flat_simulation.proofs.Cells.{word_bytes}
-use Rattle.flat_simulation.proofs.Accesses.{IsWritten, store_stands}
+use Rattle.flat_simulation.proofs.Accesses.{found, was_written, IsWritten, store_stands}
 
 -- the word of the next thread's number
 number_small : (n : ℕ) → n < 2 ^ 64 → number_word (num unsigned_long (pos n)) ≡ n
@@ -66,7 +67,7 @@ module _ (names : List Name) (blocks : Blocks) (m : Memory) (stand : BlocksStand
     pub output : to.output ≡ m.output
     pub threads : to.threads ≡ m.threads
 
-  pub join_stands : (z : ℤ) (later : Blocks) → (p ≡ Null → a.pointer ≡ 0) → ((name offset : ℕ) → p ≡ To name offset → (a.pointer == 0) ≡ false) → stored_unless_null blocks p z ≡ Ok later → IsJoined (word_of z) later
+  pub join_stands : (z : ℤ) (later : Blocks) → (p ≡ Null → a.pointer ≡ 0) → ((name offset : ℕ) (b : Block) → p ≡ To name offset → live blocks name ≡ Some b → (a.pointer == 0) ≡ false) → stored_unless_null blocks p z ≡ Ok later → IsJoined (word_of z) later
   join_stands z later null some e = by_pointer p refl e
     where
       by_pointer : (r : Ptr) → p ≡ r → stored_unless_null blocks r z ≡ Ok later → IsJoined (word_of z) later
@@ -82,9 +83,12 @@ module _ (names : List Name) (blocks : Blocks) (m : Memory) (stand : BlocksStand
           let n = num int z in
           let s = store_stands names blocks m stand (values.Num n) p a (number_word n) later goes refl (ap (λ r. source.stored blocks r (values.Num n)) is ∙ e) in
           let after = subst (λ bs. IsWritten names blocks m stand later a.address bs) (result_bytes z) s.after in
+          let at = was_written names blocks m stand (cells_of (values.Num n)) (spot_at blocks 4 p) later (ap (λ r. source.stored blocks r (values.Num n)) is ∙ e) in
+          let f = found blocks 4 4 p at.0 at.1 in
+          let word : (a.pointer == 0) ≡ false = some at.0.name at.0.offset at.0.block f.is f.lives in
           record {
             to = written m a.address (low_bytes 4 (word_of z));
-            went = λ i. if some name offset is i then went (Some 0) m else within kinds.Join (s.there i) (went (Some 0) (written m a.address (low_bytes 4 (word_of z))));
+            went = λ i. if word i then went (Some 0) m else within kinds.Join (s.there i) (went (Some 0) (written m a.address (low_bytes 4 (word_of z))));
             stands = after.stands;
             aged = after.ages;
             output = refl;

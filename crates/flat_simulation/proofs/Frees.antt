@@ -40,14 +40,14 @@ module _ (names : List Name) (blocks : Blocks) (s : Storage) (stand : BlocksStan
   pub gone_ages : Aged names names blocks later
   gone_ages = aged_ended names blocks gone stand.names_stand.each
 
-  was : (block : ℕ) (d : Block) → live later block ≡ Some d → (block ≢ gone) × (live blocks block ≡ Some d)
+  pub was : (block : ℕ) (d : Block) → live later block ≡ Some d → (block ≢ gone) × (live blocks block ≡ Some d)
   was block d e = ended_live blocks gone block d e
 
   lived : (block : ℕ) → Lives later block → Lives blocks block
   lived block e = let d = lives_there (live later block) e in ap is_some (was block d.0 d.1).1
 
   -- no other block has its id
-  other_id : (block key : ℕ) (d : Block) → live later block ≡ Some d → name_of names block ≡ heap key → key ≢ id
+  pub other_id : (block key : ℕ) (d : Block) → live later block ≡ Some d → name_of names block ≡ heap key → key ≢ id
   other_id block key d e n same = let w = was block d e in w.0 (stand.names_stand.one block gone key (ap is_some w.1) (ap is_some here) n (named ∙ ap heap (sym same)))
 
   gone_lies : (h : Bool) (n : Name) (size : ℕ) → ((key : ℕ) → n ≡ heap key → key ≢ id) → LiesAt s n h size → LiesAt now n h size

@@ -29,3 +29,5 @@ pub mod Seen
 pub mod Frames
 pub mod Texts
 pub mod Printed
+pub mod Made
+pub mod Kept
