@@ -19,8 +19,9 @@ use Rattle.flat_meaning.specs.Image.{Layout}
 use Rattle.flat_meaning.specs.Words as words
 use Rattle.flat_meaning.specs.Words.{Words, word_at}
 use Rattle.flat_meaning.specs.Names.{Name, SlotAgrees}
+use Rattle.flat_meaning.specs.Sized.{HasSize}
 use Rattle.flat_simulation.specs.inner.Values.{Sees, Stands}
-use Rattle.flat_simulation.specs.inner.Calls.{DataStands, CallStands, HasSize}
+use Rattle.flat_simulation.specs.inner.Calls.{DataStands, CallStands}
 use Rattle.flat_simulation.proofs.Numbers.{zero_word}
 use Rattle.flat_simulation.proofs.Compared.{tested_stands}
 use Rattle.flat_simulation.proofs.Names.{lives_there}

@@ -12,9 +12,7 @@ use Rattle.defrag_move.specs.Arena.{Storage}
 use Rattle.flat_meaning.specs.Names.{Name, heap, plain, name_of, word_for}
 use Rattle.flat_simulation.specs.inner.Values.{AnyBlock, IsPlaced, Sees}
 use Rattle.flat_simulation.specs.inner.Lags.{IsAside, KeepsAddresses}
-use Rattle.flat_simulation.specs.inner.Outcomes.{MakesHeapAlone}
 use Rattle.flat_simulation.specs.inner.World.{BlocksStand}
-use Rattle.flat_simulation.proofs.Blocks.{live_in}
 use Rattle.flat_simulation.proofs.Placed.{sees_all}
 use Rattle.flat_simulation.proofs.Heap as got
 use Rattle.flat_simulation.proofs.Frees as gone
@@ -69,13 +67,6 @@ keeps_freed names blocks s stand ended id d here named block offset b below e wi
 
 -- ---- what an action makes
 
--- a block of the heap lies in no stack
-pub heap_aside : (all : List Name) (blocks later : Blocks) → MakesHeapAlone all blocks later → (from to : ℕ) → IsAside all blocks later from to
-heap_aside all blocks later alone from to block a b new e named =
-    let id = alone block b new e in
-    let both : heap id.0 ≡ plain a = sym id.1 ∙ named in
-    absurd cc
-
--- nothing was made
-pub none_made : (names : List Name) (blocks later : Blocks) → length later ≡ length blocks → MakesHeapAlone names blocks later
-none_made names blocks later same block b new e = absurd (omega (arith, live_in later block b e, new, same))
+-- what is made on the heap lies in no stack
+pub heap_aside : (grown : List Name) (blocks later : Blocks) → ((block a : ℕ) (b : Block) → length blocks ≤ block → live later block ≡ Some b → name_of grown block ≡ plain a → ⊥) → (from to : ℕ) → IsAside grown blocks later from to
+heap_aside grown blocks later alone from to block a b new e named = absurd (alone block a b new e named)

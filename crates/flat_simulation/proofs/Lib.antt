@@ -28,6 +28,7 @@ pub mod TurnEnds
 pub mod Seen
 pub mod Frames
 pub mod Texts
+pub mod Facts
 pub mod Printed
 pub mod Made
 pub mod Kept

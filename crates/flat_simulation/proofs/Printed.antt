@@ -27,7 +27,7 @@ use Rattle.flat_meaning.specs.Printing.{Read, reads, too_long, behind, read_part
 use Rattle.flat_meaning.specs.Actions.{printed_parts}
 use Rattle.flat_meaning.specs.Names.{Name}
 use Rattle.flat_simulation.specs.inner.World.{BlocksStand, GoesTo}
-use Rattle.flat_simulation.specs.inner.Shared.{TargetsStand}
+use Rattle.flat_simulation.specs.inner.Operands.{TargetsStand}
 use Rattle.flat_simulation.proofs.Numbers.{word_apart}
 use Rattle.flat_simulation.proofs.Texts.{fitted, text_stands}
 

@@ -4,10 +4,12 @@ pub mod Blocks
 pub mod Aged
 pub mod Values
 pub mod Calls
+pub mod Programs
 pub mod Turns
 pub mod Lags
 pub mod Frames
 pub mod Cells
 pub mod World
-pub mod Shared
-pub mod Outcomes
+pub mod Worlds
+pub mod Threads
+pub mod Operands
