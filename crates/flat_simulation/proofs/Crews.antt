@@ -66,6 +66,8 @@ module _ (names : List Name) (blocks : Blocks) (m : Memory) (stand : BlocksStand
     pub aged : Aged names names blocks later
     pub output : to.output ≡ m.output
     pub threads : to.threads ≡ m.threads
+    pub start : to.storage.start ≡ m.storage.start
+    pub table : to.storage.table ≡ m.storage.table
 
   pub join_stands : (z : ℤ) (later : Blocks) → (p ≡ Null → a.pointer ≡ 0) → ((name offset : ℕ) (b : Block) → p ≡ To name offset → live blocks name ≡ Some b → (a.pointer == 0) ≡ false) → stored_unless_null blocks p z ≡ Ok later → IsJoined (word_of z) later
   join_stands z later null some e = by_pointer p refl e
@@ -78,6 +80,8 @@ module _ (names : List Name) (blocks : Blocks) (m : Memory) (stand : BlocksStand
         aged = (let same : blocks ≡ later = cc in subst (λ x. Aged names names blocks x) same (aged_still names blocks stand.names_stand.each));
         output = refl;
         threads = refl;
+        start = refl;
+        table = refl;
       }
       by_pointer (To name offset) is e =
           let n = num int z in
@@ -93,4 +97,6 @@ module _ (names : List Name) (blocks : Blocks) (m : Memory) (stand : BlocksStand
             aged = after.ages;
             output = refl;
             threads = refl;
+            start = refl;
+            table = refl;
           }

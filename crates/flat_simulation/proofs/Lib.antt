@@ -32,3 +32,4 @@ pub mod Facts
 pub mod Printed
 pub mod Made
 pub mod Kept
+pub mod Done
