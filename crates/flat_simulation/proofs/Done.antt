@@ -1,10 +1,11 @@
 -- What each action leaves: where it is done over named blocks, it is done over words, and what threads share still stands.
-use Rattle.std.proofs.Common.{◌≡◌, ◌≢◌, ℕ, ℤ, zero, suc, ◌+◌, ◌^◌, ◌<◌, ◌≤◌, pos, Bool, true, false, ◌==◌, List, [], ◌∷◌, ◌++◌, length, Option, Some, None, Result, Ok, Err, refl, sym, ap, subst, ◌∙◌, ◌⊎◌, inl, inr, arith, length-append}
+use Rattle.std.proofs.Common.{◌≡◌, ◌≢◌, ℕ, ℤ, ◌+◌, ◌*◌, ◌^◌, ◌<◌, ◌≤◌, pos, Bool, true, false, ◌==◌, List, [], ◌∷◌, ◌++◌, length, Option, Some, None, Result, Ok, Err, refl, sym, ap, subst, ◌∙◌, ◌⊎◌, inl, inr, arith, length-append}
 use Rattle.std.specs.Prelude.{if◌then◌else◌, nat_le, nat_lt, slice_get}
 use Rattle.std.specs.Prelude as std
 use Rattle.std.proofs.lemmas.Bool.{ne_eqb, ltb-true, lt-ltb}
 use Rattle.std.proofs.lemmas.Int.{ints}
 use Rattle.std.proofs.lemmas.List.{append-nil, length-set}
+use Rattle.std.proofs.Math.Nat.{mul-le-mul_right}
 use Rattle.ak_words.specs.declared.rule.Rule.{Rule}
 use Rattle.ak_words.specs.declared.rule.Rule.TheVariants.{C14}
 use Rattle.ak_words.specs.IntType.{int, unsigned_long}
@@ -13,6 +14,7 @@ use Rattle.ak_words.specs.Num.{num}
 use Rattle.ak_words.proofs.Wraps.{wrapped_value-in_type}
 use Rattle.block_store.specs.declared.values.Access.{Access}
 use Rattle.block_store.specs.declared.values.Answer.TheVariants as answers
+use Rattle.block_store.specs.declared.values.BlockKind.TheVariants as kinds
 use Rattle.block_store.specs.declared.values.Cell.TheVariants.{Unknown}
 use Rattle.block_store.specs.declared.values.Ptr.{Ptr}
 use Rattle.block_store.specs.declared.values.Ptr.TheVariants.{Null, To}
@@ -25,6 +27,9 @@ use Rattle.block_store.specs.Mutexes as mutexes
 use Rattle.block_store.specs.Actions as source
 use Rattle.block_store.specs.Actions.{World, Reached, Stage, running, returned, joined, with_blocks, with_reached, all_bytes, telling, reads_of, writes_of}
 use Rattle.flat_store.specs.Flat.{with_bytes}
+use Rattle.handle_words.specs.Handle.{handle_of}
+use Rattle.handle_table.specs.Table.{IsFree}
+use Rattle.sub_heaps.specs.SubHeaps.{rounded, FitsAt}
 use Rattle.defrag_move.specs.Arena.{Storage}
 use Rattle.struct_ir.specs.Nodes.{Func, Ir}
 use Rattle.ir_meaning.specs.Blocks.{value}
@@ -38,16 +43,18 @@ use Rattle.flat_meaning.specs.Accesses as words
 use Rattle.flat_meaning.specs.Accesses.{Done, went, waits, over, output_limit, prints, output_room}
 use Rattle.flat_meaning.specs.Actions as words_too
 use Rattle.flat_meaning.specs.Actions.{may_start}
-use Rattle.flat_meaning.specs.Names.{Name, plain, name_of, ids_in}
+use Rattle.flat_meaning.specs.Names.{Name, heap, plain, name_of, word_for, ids_in}
+use Rattle.flat_meaning.specs.Stands.{ResultStands}
 use Rattle.flat_simulation.specs.inner.Aged.{Aged}
-use Rattle.flat_simulation.specs.inner.Values.{AnyBlock, PointerStands, Stands}
+use Rattle.flat_simulation.specs.inner.Values.{AnyBlock, Points, PointerStands, Stands}
 use Rattle.flat_simulation.specs.inner.Calls.{LiesThere, DataStands}
 use Rattle.flat_simulation.specs.inner.World.{BlocksStand}
 use Rattle.flat_simulation.specs.inner.Worlds.{MadeStands, AllMadeStand, WorldStands, IsBorn, MayBear, Acted, GivenAlike, DoneAlike}
 use Rattle.flat_simulation.specs.inner.Lags.{KeepsAddresses}
 use Rattle.flat_simulation.specs.inner.Operands.{TargetStands}
 use Rattle.flat_simulation.proofs.Numbers.{word_small}
-use Rattle.flat_simulation.proofs.Blocks.{live_in, aged_still, aged_name, aged_more}
+use Rattle.flat_simulation.proofs.Blocks.{live_in, length-made, aged_still, aged_name}
+use Rattle.flat_simulation.proofs.Heap as got
 use Rattle.flat_simulation.proofs.Values.{pointer_later}
 use Rattle.flat_simulation.proofs.Accesses.{IsWritten, load_stands, store_stands}
 use Rattle.flat_simulation.proofs.Copies.{copy_stands}
@@ -56,8 +63,8 @@ use Rattle.flat_simulation.proofs.Frees.{free_stands}
 use Rattle.flat_simulation.proofs.Texts.{fitted}
 use Rattle.flat_simulation.proofs.Printed.{PartsStand, parts_read}
 use Rattle.flat_simulation.proofs.Crews.{start_stands, join_stands}
-use Rattle.flat_simulation.proofs.Made.{made_length, made_more, made_at, made_set, made_staged, made_later}
-use Rattle.flat_simulation.proofs.Kept.{keeps_table}
+use Rattle.flat_simulation.proofs.Made.{made_length, made_more, made_at, none_made, made_set, made_staged, made_later}
+use Rattle.flat_simulation.proofs.Kept.{keeps_table, keeps_got, keeps_freed}
 
 -- a small int's word is the number
 pub int_word : (n : ℕ) → n < 2 ^ 31 → number_word (num int (pos n)) ≡ n
@@ -68,6 +75,12 @@ if_false b x z e = ap (λ c. if c then x else z) e
 
 if_true : {A : Type 0} (b : Bool) (x z : A) → b ≡ true → (if b then x else z) ≡ x
 if_true b x z e = ap (λ c. if c then x else z) e
+
+-- a name of the heap has its id
+ids_heap : (names : List Name) (id : ℕ) → ids_in (names ++ heap id ∷ []) ≡ ids_in names ++ id ∷ []
+ids_heap [] id = refl
+ids_heap (heap key ∷ names) id = ap (λ ids. key ∷ ids) (ids_heap names id)
+ids_heap (plain a ∷ names) id = ids_heap names id
 
 -- loaded data lies where it lay
 pub data_later : (y : Layout) (p : Ir) (names all : List Name) (blocks later : Blocks) → Aged names all blocks later → DataStands y p names AnyBlock blocks → DataStands y p all AnyBlock later
@@ -278,3 +291,124 @@ module _ (y : Layout) (p : Ir) (names : List Name) (w : World) (m : Memory) (wor
       (names, same_names new s.to aged blocks_stand s.start (s.output ∙ world.output ∙ sym (staged_output v number (joined z) o))
           (subst (λ b. AllMadeStand names b new.threads s.to.threads) (sym same) made)
           (keeps_table names w.blocks new.blocks m.storage s.to.storage s.table) (inl (staged_many v number (joined z) o)), sym (int_word 0 (omega arith)))
+
+  pub join_done : (thread number : ℕ) (to : Ptr) (a : Target) → TargetStands names w.blocks m.storage to a
+      → DoneAlike y p names [] w m (source.acted w thread answers.Plain (source.join number to)) (words_too.joined_if a (slice_get m.threads number) m)
+  join_done thread number to a goes = by_self (thread == number)
+    where
+      by_stage : (t : source.Thread) (u : Made) (stage : Stage) → t.stage ≡ stage → slice_get w.threads number ≡ Some t → slice_get m.threads number ≡ Some u → MadeStands names w.blocks t u
+          → DoneAlike y p names [] w m (telling (reads_of w (source.join number to) ++ writes_of answers.Plain (source.join number to)) (source.joins_at w number to stage)) (words_too.joined_at a u.result m)
+      by_stage t u running at there is stands =
+          let none : u.result ≡ None = subst (λ s. ResultStands s u.result) at stands.result in
+          subst (λ r. DoneAlike y p names [] w m source.blocked (words_too.joined_at a r m)) (sym none) tt
+      by_stage t u (returned z) at there is stands =
+          let some : u.result ≡ Some (word_of z) = subst (λ s. ResultStands s u.result) at stands.result in
+          subst (λ r. DoneAlike y p names [] w m (telling (reads_of w (source.join number to) ++ writes_of answers.Plain (source.join number to)) (source.joins w number z (source.stored_unless_null w.blocks to z))) (words_too.joined_at a r m)) (sym some)
+          (join_returned thread number to a z t u there is stands some goes (source.stored_unless_null w.blocks to z) refl)
+      by_stage t u (joined z) at there is stands = tt
+
+      by_thread : (o : Option source.Thread) → slice_get w.threads number ≡ o
+          → DoneAlike y p names [] w m (telling (reads_of w (source.join number to) ++ writes_of answers.Plain (source.join number to)) (source.joins_if w number to o)) (words_too.joined_if a (slice_get m.threads number) m)
+      by_thread None e = tt
+      by_thread (Some t) e =
+          let u = made_at names w.blocks w.threads m.threads number t world.threads e in
+          subst (λ o. DoneAlike y p names [] w m (telling (reads_of w (source.join number to) ++ writes_of answers.Plain (source.join number to)) (source.joins_at w number to t.stage)) (words_too.joined_if a o m)) (sym u.1)
+          (by_stage t u.0 t.stage refl e u.1 u.2)
+
+      by_self : (b : Bool) → DoneAlike y p names [] w m (telling (reads_of w (source.join number to) ++ writes_of answers.Plain (source.join number to)) (if b then source.broke C14 else source.joins_if w number to (slice_get w.threads number))) (words_too.joined_if a (slice_get m.threads number) m)
+      by_self true = tt
+      by_self false = by_thread (slice_get w.threads number) refl
+
+  -- the return of a thread's first function
+  pub finish_done : (thread word : ℕ) (z : ℤ) (reached : List Reached) → word ≡ word_of z → Acted y p names names [] w (with_reached (source.staged w thread (returned z)) reached) m (thread_ended m thread word)
+  finish_done thread word z reached is = by_thread (slice_get w.threads thread) refl
+    where
+      by_thread : (o : Option source.Thread) → slice_get w.threads thread ≡ o → Acted y p names names [] w (with_reached (source.staged_if w thread (returned z) o) reached) m (thread_ended m thread word)
+      by_thread None e =
+          let none = none_made names w.blocks w.threads m.threads thread world.threads e in
+          same_names (with_reached w reached) (thread_ended m thread word) (aged_still names w.blocks each) world.blocks refl world.output
+          (subst (λ o. AllMadeStand names w.blocks w.threads (ended_if m.threads thread word o)) (sym none) world.threads) (keeps_table names w.blocks w.blocks m.storage m.storage refl) (inl refl)
+      by_thread (Some t) e =
+          let u = made_at names w.blocks w.threads m.threads thread t world.threads e in
+          let new : MadeStands names w.blocks (source.at_stage (returned z) t) (with_result word u.0) = record { function = u.2.function; argument = u.2.argument; result = ap Some is } in
+          same_names (with_reached (source.staged_if w thread (returned z) (Some t)) reached) (thread_ended m thread word) (aged_still names w.blocks each) world.blocks refl world.output
+          (subst (λ o. AllMadeStand names w.blocks (std.set w.threads thread (source.at_stage (returned z) t)) (ended_if m.threads thread word o)) (sym u.1)
+              (made_set names w.blocks w.threads m.threads thread (source.at_stage (returned z) t) (with_result word u.0) world.threads new))
+          (keeps_table names w.blocks w.blocks m.storage m.storage refl) (inl (length-set w.threads thread (source.at_stage (returned z) t)))
+
+  -- ---- the heap
+
+  pub free_done : (thread word : ℕ) (at : Ptr) → PointerStands names AnyBlock w.blocks at word → DoneAlike y p names [] w m (source.acted w thread answers.Plain (source.free at)) (words.freed word m)
+  free_done thread word at points = by_result (blocks.freed w.blocks at) refl
+    where
+      by_result : (r : Result Blocks Rule) → blocks.freed w.blocks at ≡ r → DoneAlike y p names [] w m (telling (reads_of w (source.free at) ++ writes_of answers.Plain (source.free at)) (source.changes w r)) (words.freed word m)
+      by_result (Ok later) e =
+          let s = free_stands names w.blocks m world.blocks at word later points e in
+          let new : World = with_reached (with_blocks w later) [] in
+          done_alike [] None new None (with_storage m s.storage) (words.freed word m) s.went
+          (names, same_names new (with_storage m s.storage) s.ages s.stands s.start world.output (made_later names names w.blocks later s.ages w.threads m.threads world.threads)
+              (keeps_freed names w.blocks m world.blocks word later s) (inl refl), tt)
+      by_result (Err rule) e = tt
+
+  pub malloc_null : (thread size : ℕ) → DoneAlike y p names [] w m (source.acted w thread answers.None (source.allocate size Unknown)) (words.allocated words.null size m)
+  malloc_null thread size = (names, still_acted _, refl)
+
+  module _ (id at size : ℕ) (free : IsFree m.storage.table id) (fits : FitsAt m.storage.heaps (rounded size) at) where
+    abbrev grown : List Name
+    grown = got.named names w.blocks m.storage world.blocks id at size free fits
+
+    abbrev later : Blocks
+    later = got.later names w.blocks m.storage world.blocks id at size free fits
+
+    abbrev now : Memory
+    now = with_storage m (got.now names w.blocks m.storage world.blocks id at size free fits)
+
+    ages : Aged names grown w.blocks later
+    ages = got.got_ages names w.blocks m.storage world.blocks id at size free fits
+
+    has_room : size < 2 ^ 32
+    has_room =
+        let h = m.storage.heaps in
+        let shape = world.blocks.consistent.heaps.shape in
+        let one : 1 * h.size ≤ h.count * h.size = mul-le-mul_right h.size shape.has_sub_heap in
+        omega (arith, one, shape.whole_bounded, fits.inside.1)
+
+    new_pointer : Points grown AnyBlock later (length w.blocks) 0 (handle_of id 0)
+    new_pointer = record {
+      known = tt;
+      made = omega (arith, length-made w.blocks size kinds.Heap Unknown);
+      within = λ b lives. omega arith;
+      agrees = λ b lives. ap (λ n. word_for n 0) (sym (got.new_name names w.blocks m.storage world.blocks id at size free fits));
+    }
+
+    alone : (block a : ℕ) (b : Block) → length w.blocks ≤ block → live later block ≡ Some b → name_of grown block ≡ plain a → ⊥
+    alone block a b new e named = elim (got.which names w.blocks m.storage world.blocks id at size free fits block b e) [
+      | inl is ↦
+          let both : heap id ≡ plain a = sym (ap (name_of grown) is.0 ∙ got.new_name names w.blocks m.storage world.blocks id at size free fits) ∙ named in
+          absurd cc
+      | inr old ↦ omega (arith, live_in w.blocks block b old, new)
+    ]
+
+    got_acted : (reached : List Reached) → Acted y p names grown (id ∷ []) w (with_reached (with_blocks w later) reached) m now
+    got_acted reached = record {
+      aged = ages;
+      world = record {
+        blocks = got.got_stands names w.blocks m.storage world.blocks id at size free fits;
+        data_stands = data_later y p names grown w.blocks later ages world.data_stands;
+        start = world.start;
+        output = world.output;
+        threads = made_later names grown w.blocks later ages w.threads m.threads world.threads;
+      };
+      keeps = keeps_got names w.blocks m.storage world.blocks id at size free fits;
+      ids = ids_heap names id;
+      heap = alone;
+      born = inl refl;
+    }
+
+    pub malloc_done : (thread : ℕ) → DoneAlike y p names (id ∷ []) w m (source.acted w thread answers.Got (source.allocate size Unknown)) (words.allocated (words.got id at) size m)
+    malloc_done thread =
+        let small : nat_lt size (2 ^ 32) ≡ true = lt-ltb size (2 ^ 32) has_room in
+        let pointer = values.Pointer (To (length w.blocks) 0) in
+        subst (λ d. DoneAlike y p names (id ∷ []) w m (telling [] d) (words.allocated (words.got id at) size m))
+        (sym (if_true (nat_lt size (2 ^ 32)) (source.went (Some pointer) (with_blocks w later)) source.unfit small))
+        (grown, got_acted [], new_pointer)

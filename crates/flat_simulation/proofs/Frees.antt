@@ -8,7 +8,7 @@ use Rattle.block_store.specs.declared.values.Ptr.TheVariants.{Null, To}
 use Rattle.block_store.specs.Blocks as source
 use Rattle.block_store.specs.Blocks.{Block, Blocks, live, ended, is_heap, is_freeable}
 use Rattle.handle_words.specs.Handle.{handle_of, id_of}
-use Rattle.handle_table.specs.Table.{IsInUse}
+use Rattle.handle_table.specs.Table.{IsInUse, address_of}
 use Rattle.flat_store.specs.Flat.{byte_at}
 use Rattle.defrag_move.specs.Arena.{Storage}
 use Rattle.defrag_move.specs.Changes.{without_id}
@@ -91,6 +91,9 @@ module _ (names : List Name) (blocks : Blocks) (m : Memory) (stand : BlocksStand
     pub went : words.freed word m ≡ went None (with_storage m storage)
     pub stands : BlocksStand names later storage
     pub ages : Aged names names blocks later
+    pub start : storage.start ≡ m.storage.start
+    -- the ids of the others lead where they led
+    pub others : (block key : ℕ) (b : Block) → live later block ≡ Some b → name_of names block ≡ heap key → address_of storage.table key ≡ address_of m.storage.table key
 
   null_freed : (word : ℕ) → word ≡ 0 → IsFreed word blocks
   null_freed word is = record {
@@ -98,6 +101,8 @@ module _ (names : List Name) (blocks : Blocks) (m : Memory) (stand : BlocksStand
     went = ap (λ b. if b then went None m else (if is_live_start m.storage word then went None (with_storage m (without_id m.storage (id_of word))) else words.over (words.trap word kinds.Free))) (eq-eqb word 0 is);
     stands = stand;
     ages = aged_still names blocks stand.names_stand.each;
+    start = refl;
+    others = λ block key b e n. refl;
   }
 
   heap_freed : (gone id word : ℕ) (b : Block) → live blocks gone ≡ Some b → name_of names gone ≡ heap id → word ≡ handle_of id 0 → IsInUse m.storage.table id → IsFreed word (ended blocks gone)
@@ -111,6 +116,8 @@ module _ (names : List Name) (blocks : Blocks) (m : Memory) (stand : BlocksStand
         went = λ i. if some i then went None m else (if start i then went None (with_storage m (without_id m.storage (key i))) else words.over (words.trap word kinds.Free));
         stands = gone_stands names blocks m.storage stand gone id b here named;
         ages = gone_ages names blocks m.storage stand gone id b here named;
+        start = refl;
+        others = λ block k d e n. get_or-set_other m.storage.table id k None None (other_id names blocks m.storage stand gone id b here named block k d e n);
       }
 
   both_true : (a b : Bool) → (a && b) ≡ true → (a ≡ true) × (b ≡ true)

@@ -9,13 +9,14 @@ use Rattle.handle_words.specs.Handle.{id_of, offset_of}
 use Rattle.handle_table.specs.Table.{IsFree, address_of, translated, reached}
 use Rattle.sub_heaps.specs.SubHeaps.{rounded, FitsAt}
 use Rattle.defrag_move.specs.Arena.{Storage}
+use Rattle.flat_meaning.specs.Memory.{Memory}
 use Rattle.flat_meaning.specs.Names.{Name, heap, plain, name_of, word_for}
 use Rattle.flat_simulation.specs.inner.Values.{AnyBlock, IsPlaced, Sees}
 use Rattle.flat_simulation.specs.inner.Lags.{IsAside, KeepsAddresses}
 use Rattle.flat_simulation.specs.inner.World.{BlocksStand}
 use Rattle.flat_simulation.proofs.Placed.{sees_all}
 use Rattle.flat_simulation.proofs.Heap as got
-use Rattle.flat_simulation.proofs.Frees as gone
+use Rattle.flat_simulation.proofs.Frees.{IsFreed}
 
 -- a word of an id that leads where it led does so, too
 pub translated_alike : (old new : List (Option ℕ)) (n : Name) (size offset : ℕ) → IsPlaced n size → offset ≤ size → ((key : ℕ) → n ≡ heap key → address_of new key ≡ address_of old key)
@@ -57,13 +58,10 @@ module _ (names : List Name) (blocks : Blocks) (s : Storage) (stand : BlocksStan
   keeps_got block offset b below e within = keeps_old block offset b below within (got.which names blocks s stand id at size free fits block b e)
 
 -- an object less
-pub keeps_freed : (names : List Name) (blocks : Blocks) (s : Storage) (stand : BlocksStand names blocks s) (ended id : ℕ) (d : Block) (here : live blocks ended ≡ Some d) (named : name_of names ended ≡ heap id)
-    → KeepsAddresses names blocks (gone.later names blocks s stand ended id d here named) s (gone.now names blocks s stand ended id d here named)
-keeps_freed names blocks s stand ended id d here named block offset b below e within =
-    let old = gone.was names blocks s stand ended id d here named block b e in
-    let sees = sees_all names blocks s stand.consistent stand.names_stand in
-    translated_alike s.table (gone.now names blocks s stand ended id d here named).table (name_of names block) (length b.cells) offset (sees.placed block b tt old.1) within
-    (λ key n. get_or-set_other s.table id key None None (gone.other_id names blocks s stand ended id d here named block key b e n))
+pub keeps_freed : (names : List Name) (blocks : Blocks) (m : Memory) (stand : BlocksStand names blocks m.storage) (word : ℕ) (later : Blocks) (freed : IsFreed names blocks m stand word later) → KeepsAddresses names blocks later m.storage freed.storage
+keeps_freed names blocks m stand word later freed block offset b below e within =
+    let sees = sees_all names later freed.storage freed.stands.consistent freed.stands.names_stand in
+    translated_alike m.storage.table freed.storage.table (name_of names block) (length b.cells) offset (sees.placed block b tt e) within (λ key n. freed.others block key b e n)
 
 -- ---- what an action makes
 
