@@ -232,10 +232,10 @@ module _ (y : Layout) (p : Ir) (names : List Name) (w : World) (m : Memory) (wor
       done_alike [] (source.int_value (pos 1)) (with_reached w _) (Some 1) m (words_too.started y.limits.threads function a argument m) (if_false (may_start y.limits.threads m) _ (went (Some 1) m) full)
       (names, still_acted _, sym (int_word 1 (omega arith)))
 
-  pub start_done : (thread function argument : ℕ) (at to : Ptr) (a : Target) (func : Func) → y.limits.threads ≤ 2 ^ 64 → slice_get p.funcs function ≡ Some func → may_start y.limits.threads m ≡ true
+  pub start_done : (thread function argument : ℕ) (at to : Ptr) (a : Target) (func : Func) → slice_get p.funcs function ≡ Some func → may_start y.limits.threads m ≡ true
       → TargetStands names w.blocks m.storage at a → PointerStands names AnyBlock w.blocks to argument
       → DoneAlike y p names [] w m (source.acted w thread answers.Got (source.start at function to)) (words_too.started y.limits.threads function a argument m)
-  start_done thread function argument at to a func few there may goes points = by_result (blocks.stored w.blocks at (source.next_number w)) refl
+  start_done thread function argument at to a func there may goes points = by_result (blocks.stored w.blocks at (source.next_number w)) refl
     where
       by_result : (r : Result Blocks Rule) → blocks.stored w.blocks at (source.next_number w) ≡ r
           → DoneAlike y p names [] w m (telling (reads_of w (source.start at function to) ++ writes_of answers.Got (source.start at function to)) (source.starts w function to r)) (words_too.started y.limits.threads function a argument m)
@@ -243,7 +243,7 @@ module _ (y : Layout) (p : Ir) (names : List Name) (w : World) (m : Memory) (wor
       by_result (Ok later) e =
           let below : length m.threads < y.limits.threads = ltb-true (length m.threads) y.limits.threads may in
           let number = ap (λ n. blocks.stored w.blocks at (values.Num (num unsigned_long (pos n)))) as_many in
-          let s = start_stands names w.blocks m world.blocks at a goes.goes y.limits.threads function argument later may (omega (arith, below, few)) (number ∙ e) in
+          let s = start_stands names w.blocks m world.blocks at a goes.goes y.limits.threads function argument later may (number ∙ e) in
           let new : World = record { blocks = later; output = w.output; threads = w.threads ++ source.beginning function to ∷ []; reached = writes_of answers.Got (source.start at function to) } in
           let now : Memory = with_thread (written m a.address (low_bytes 8 (length m.threads))) (beginning function argument) in
           let made : MayBear y p w new = inr (record { born = source.beginning function to; last = refl; func = func; there = there; stack = omega (arith, below, as_many) }) in

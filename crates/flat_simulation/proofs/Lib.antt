@@ -33,3 +33,4 @@ pub mod Printed
 pub mod Made
 pub mod Kept
 pub mod Done
+pub mod Operands
