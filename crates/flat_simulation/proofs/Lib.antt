@@ -34,3 +34,4 @@ pub mod Made
 pub mod Kept
 pub mod Done
 pub mod Operands
+pub mod Steps
