@@ -124,7 +124,7 @@ module _ (names : List Name) (blocks : Blocks) (m : Memory) (stand : BlocksStand
   size_some (accesses.Number t) = omega (arith, (width_bounds t.bits t.known_width).0)
   size_some accesses.Pointer = omega arith
 
-  was_read : (how : Access) (r : Result Spot Rule) (v : Value) → read_at how r ≡ Ok v → (at : Spot) × (r ≡ Ok at) × (read how (cells_at (size_of how) at) ≡ Ok v)
+  pub was_read : (how : Access) (r : Result Spot Rule) (v : Value) → read_at how r ≡ Ok v → (at : Spot) × (r ≡ Ok at) × (read how (cells_at (size_of how) at) ≡ Ok v)
   was_read how (Ok at) v e = (at, refl, e)
   was_read how (Err rule) v e = absurd cc
 

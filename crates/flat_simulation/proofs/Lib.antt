@@ -35,3 +35,4 @@ pub mod Kept
 pub mod Done
 pub mod Operands
 pub mod Steps
+pub mod Reached
