@@ -36,3 +36,5 @@ pub mod Done
 pub mod Operands
 pub mod Steps
 pub mod Reached
+pub mod Touching
+pub mod Stays

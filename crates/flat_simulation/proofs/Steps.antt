@@ -63,7 +63,7 @@ there_is p function n e = by_func (slice_get p.funcs function) refl (ap (λ o. h
 
 -- ---- operands of the kinds that an action takes
 
-counted : (n : Num) (action chosen : source.Action) → if_count n action ≡ Ok chosen → (same_type unsigned_long n.ty ≡ true) × (action ≡ chosen)
+pub counted : (n : Num) (action chosen : source.Action) → if_count n action ≡ Ok chosen → (same_type unsigned_long n.ty ≡ true) × (action ≡ chosen)
 counted n action chosen e = if_ok (same_type unsigned_long n.ty) action chosen wrong_kind e
 
 -- what may be chosen, by the words
@@ -250,21 +250,21 @@ module _ {P : Type 0} (x : Image P) (p : Ir) (thread : ℕ) (names : List Name) 
   -- ---- a step
 
   module _ (l : Own) (same : l.blocks ≡ w.blocks) (q : Words) (call : CallStands y p thread names AnyBlock l q) (frame : HasFrame y p q) where
-    abbrev scope : Scope
+    abbrev pub scope : Scope
     scope = scope_of p frame.func
 
-    abbrev Leads : Step → Type 0
+    abbrev pub Leads : Step → Type 0
     Leads s = (a : Place) → Among s.places a → (from : Ptr) → l.temps a.base ≡ value (values.Pointer from) → GoesTo names l.blocks m.storage from (base_address q a.base a.slot)
 
     -- the operands of a step that has an action
-    record StepTakes (place : ℕ) (s : Step) (action : source.Action) : Type 0 where
-      places : List Ptr
-      vs : List Value
-      is_action : action_with s.action places vs ≡ Ok action
-      targets : TargetsStand names w.blocks m.storage places (map (target_of q) s.places)
-      numbers : WordsStand names w.blocks vs (map (word_at q) s.temps)
+    pub record StepTakes (place : ℕ) (s : Step) (action : source.Action) : Type 0 where
+      pub places : List Ptr
+      pub vs : List Value
+      pub is_action : action_with s.action places vs ≡ Ok action
+      pub targets : TargetsStand names w.blocks m.storage places (map (target_of q) s.places)
+      pub numbers : WordsStand names w.blocks vs (map (word_at q) s.temps)
 
-    step_takes : (place : ℕ) (s : Step) (action : source.Action) → is_step scope s ≡ true → Leads s → action_of place l s ≡ Ok action → StepTakes place s action
+    pub step_takes : (place : ℕ) (s : Step) (action : source.Action) → is_step scope s ≡ true → Leads s → action_of place l s ≡ Ok action → StepTakes place s action
     step_takes place s action ok leads e =
         let sees : Sees names AnyBlock l.blocks = subst (λ b. Sees names AnyBlock b) (sym same) (sees_all names w.blocks m.storage world.blocks.consistent world.blocks.names_stand) in
         let front = both (list_all (is_place scope) s.places) _ (both (list_all (is_place scope) s.places && (are_below scope.temps s.temps && is_below_if scope.temps s.to)) _ ok).0 in
