@@ -38,3 +38,11 @@ pub mod Steps
 pub mod Reached
 pub mod Touching
 pub mod Stays
+pub mod Sized
+pub mod Programs
+pub mod Points
+pub mod Within
+pub mod Alone
+pub mod Later
+pub mod Pinned
+pub mod Entered

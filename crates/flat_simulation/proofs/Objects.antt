@@ -20,10 +20,10 @@ use Rattle.flat_simulation.proofs.Values.{stands_later}
 
 -- ---- functions with another value in one place
 
-set_same : {A : Type 0} (f : ℕ → A) (k : ℕ) (v : A) → set_at f k v k ≡ v
+pub set_same : {A : Type 0} (f : ℕ → A) (k : ℕ) (v : A) → set_at f k v k ≡ v
 set_same f k v = let e = eq-eqb k k refl in rw e refl
 
-set_other : {A : Type 0} (f : ℕ → A) (k : ℕ) (v : A) (x : ℕ) → x ≢ k → set_at f k v x ≡ f x
+pub set_other : {A : Type 0} (f : ℕ → A) (k : ℕ) (v : A) (x : ℕ) → x ≢ k → set_at f k v x ≡ f x
 set_other f k v x ne = let e = ne_eqb x k ne in rw e refl
 
 -- ---- names

@@ -17,7 +17,7 @@ pub record IsImage {P : Type 0} (x : Image P) (p : Ir) : Type 0 where
   pub literals : x.layout.literals ≡ p.literals
   pub shrinks : Shrinks x.flow
   pub valid : (function : ℕ) (f : Func) (way : List P) (k : P) → slice_get p.funcs function ≡ Some f → Path x.flow (x.start function) way k → is_here (scope_of p f) (x.flow.here k) ≡ true
-  pub sized : (function place to : ℕ) (way : List P) (k : P) → Path x.flow (x.start function) way k → (calc : Calc) → x.flow.here k ≡ does place (set to calc) → HasSize calc
+  pub sized : (function : ℕ) (f : Func) (way : List P) (k : P) → slice_get p.funcs function ≡ Some f → Path x.flow (x.start function) way k → (place to : ℕ) (calc : Calc) → x.flow.here k ≡ does place (set to calc) → HasSize calc
   pub safe : (function : ℕ) → PinSafe x.flow (x.start function)
   pub params : All (λ (f : Func). f.params ≤ f.temps) p.funcs
   pub small : plain_size x.layout ≤ 2 ^ 31
