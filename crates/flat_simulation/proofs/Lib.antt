@@ -46,3 +46,5 @@ pub mod Alone
 pub mod Later
 pub mod Pinned
 pub mod Entered
+pub mod Moved
+pub mod Tried
