@@ -28,6 +28,15 @@ pub mod TurnEnds
 pub mod Seen
 pub mod Frames
 pub mod Texts
+pub mod Numbering
+pub mod GoingAlike
+pub mod SteppingAlike
+pub mod EventRuns
+pub mod EventKinds
+pub mod StatesAlike
+pub mod EventsAlike
+pub mod BarriersAlike
+pub mod OneProgram
 pub mod Facts
 pub mod Printed
 pub mod Made
