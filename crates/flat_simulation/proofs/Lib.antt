@@ -57,3 +57,5 @@ pub mod Pinned
 pub mod Entered
 pub mod Moved
 pub mod Tried
+pub mod Settled
+pub mod Ends
