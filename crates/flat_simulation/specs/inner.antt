@@ -10,5 +10,9 @@ pub mod Lags
 pub mod Frames
 pub mod Cells
 pub mod World
+pub mod Level
+pub mod EventRuns
 pub mod Worlds
 pub mod Threads
+pub mod Operands
+pub mod Kept

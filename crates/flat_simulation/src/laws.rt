@@ -8,3 +8,8 @@ ghost use Rattle.flat_meaning.specs.Simulation.{BarriersKeepObjects};
 pub fn barriers_keep_objects<P>()
     ensures { BarriersKeepObjects P }
 {}
+
+/// Scratch.
+pub fn scratch()
+    ensures { Unit {0} }
+{}
