@@ -61,3 +61,5 @@ pub mod Settled
 pub mod Ends
 pub mod Returns
 pub mod Lands
+pub mod Putting
+pub mod WrongKinds
