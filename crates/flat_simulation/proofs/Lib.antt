@@ -61,5 +61,6 @@ pub mod Settled
 pub mod Ends
 pub mod Returns
 pub mod Lands
+pub mod Going
 pub mod Putting
 pub mod WrongKinds

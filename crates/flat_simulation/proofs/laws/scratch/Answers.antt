@@ -1,4 +1,4 @@
-use Rattle.flat_simulation.proofs.Lands.{step_lands}
+use Rattle.flat_simulation.proofs.Going.{stops_there}
 use Rattle.flat_simulation.proofs.laws.scratch.Goals as goal
 
 pub returns : goal.returns
