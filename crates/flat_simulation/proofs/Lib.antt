@@ -30,6 +30,7 @@ pub mod Frames
 pub mod Texts
 pub mod Numbering
 pub mod GoingAlike
+pub mod Public
 pub mod SteppingAlike
 pub mod EventRuns
 pub mod EventKinds
@@ -62,5 +63,6 @@ pub mod Ends
 pub mod Returns
 pub mod Lands
 pub mod Going
+pub mod Public
 pub mod Putting
 pub mod WrongKinds

@@ -1,4 +1,4 @@
-use Rattle.flat_simulation.proofs.Going.{stops_there}
+use Rattle.flat_simulation.proofs.Public.{state_stands}
 use Rattle.flat_simulation.proofs.laws.scratch.Goals as goal
 
 pub returns : goal.returns
