@@ -31,6 +31,7 @@ pub mod Texts
 pub mod Numbering
 pub mod GoingAlike
 pub mod Public
+pub mod FirstBytes
 pub mod SteppingAlike
 pub mod EventRuns
 pub mod EventKinds
@@ -64,5 +65,6 @@ pub mod Returns
 pub mod Lands
 pub mod Going
 pub mod Public
+pub mod FirstBytes
 pub mod Putting
 pub mod WrongKinds
