@@ -59,7 +59,7 @@ literals_size ls = sum_by (λ l. taken (length l)) ls
 
 module _ (y : Layout) where
   -- beside the globals nothing is written
-  globals_beside : (gs : List Global) (at : ℕ) (bytes : List ℕ) (a : ℕ) → first_address ≤ at → at + globals_size gs ≤ first_address + length bytes → first_address ≤ a → (a < at) ⊎ (at + globals_size gs ≤ a) → byte_at (globals_written y at gs bytes) a ≡ byte_at bytes a
+  pub globals_beside : (gs : List Global) (at : ℕ) (bytes : List ℕ) (a : ℕ) → first_address ≤ at → at + globals_size gs ≤ first_address + length bytes → first_address ≤ a → (a < at) ⊎ (at + globals_size gs ≤ a) → byte_at (globals_written y at gs bytes) a ≡ byte_at bytes a
   globals_beside [] at bytes a low fits above beside = refl
   globals_beside (g ∷ gs) at bytes a low fits above beside =
       let sum = sum_by-cons (λ (g : Global). taken g.size) g gs in
@@ -69,7 +69,7 @@ module _ (y : Layout) where
       ∙ byte_beside bytes (first_bytes y g.init) at a low (omega (arith, sum, few, fits)) above (elim beside [ inl lt ↦ inl lt | inr ge ↦ inr (omega (arith, sum, ge, few)) ])
 
 -- nor beside literals
-literals_beside : (ls : List (List ℕ)) (at : ℕ) (bytes : List ℕ) (a : ℕ) → first_address ≤ at → at + literals_size ls ≤ first_address + length bytes → first_address ≤ a → (a < at) ⊎ (at + literals_size ls ≤ a) → byte_at (literals_written at ls bytes) a ≡ byte_at bytes a
+pub literals_beside : (ls : List (List ℕ)) (at : ℕ) (bytes : List ℕ) (a : ℕ) → first_address ≤ at → at + literals_size ls ≤ first_address + length bytes → first_address ≤ a → (a < at) ⊎ (at + literals_size ls ≤ a) → byte_at (literals_written at ls bytes) a ≡ byte_at bytes a
 literals_beside [] at bytes a low fits above beside = refl
 literals_beside (l ∷ ls) at bytes a low fits above beside =
     let sum = sum_by-cons (λ (l : List ℕ). taken (length l)) l ls in
@@ -132,7 +132,7 @@ module _ (y : Layout) (names : List Name) (blocks : Blocks) (globals : ℕ) (lit
           (stored_stands names blocks (values.Pointer (To (globals + n) 0)) (literal_address y n) (pointers n (ltb-true n literals ok)))
 
   -- all globals: the one of a number begins behind those before it
-  globals_stand : (gs : List Global) (at : ℕ) (bytes : List ℕ) → first_address ≤ at → at + globals_size gs ≤ first_address + length bytes → AreZero bytes at (globals_size gs) → (n : ℕ) (g : Global) → slice_get gs n ≡ Some g → is_init_in literals g.init ≡ true
+  pub globals_stand : (gs : List Global) (at : ℕ) (bytes : List ℕ) → first_address ≤ at → at + globals_size gs ≤ first_address + length bytes → AreZero bytes at (globals_size gs) → (n : ℕ) (g : Global) → slice_get gs n ≡ Some g → is_init_in literals g.init ≡ true
       → CellsAt (first_cells g.size (first_value globals g.init)) (globals_written y at gs bytes) (at + globals_size (take n gs))
   globals_stand [] at bytes low fits zeros n g e ok = absurd cc
   globals_stand (h ∷ gs) at bytes low fits zeros zero g e ok =
@@ -142,12 +142,12 @@ module _ (y : Layout) (names : List Name) (blocks : Blocks) (globals : ℕ) (lit
       let one = length-with_bytes bytes (first_bytes y h.init) at low (omega (arith, sum, few, fits)) in
       subst (λ (k : Global). CellsAt (first_cells k.size (first_value globals k.init)) (globals_written y at (h ∷ gs) bytes) (at + 0)) same
       (λ i c f.
-        let all = first_stands h bytes at (subst (λ (k : Global). is_init_in literals k.init ≡ true) (sym same) ok) low (omega (arith, sum, fits)) (λ j below. zeros j (omega (arith, sum, below))) i c f in
-        let inside : i < length (first_cells h.size (first_value globals h.init)) = slice_get_within (first_cells h.size (first_value globals h.init)) i c f in
-        let below : i < taken h.size = omega (arith, inside, cells_fit h.size h.init) in
-        let nothing : at + 0 + i ≡ at + i = omega arith in
-        let still = globals_beside y gs (at + taken h.size) (with_bytes bytes at (first_bytes y h.init)) (at + i) (omega (arith, low)) (omega (arith, sum, one, fits)) (omega (arith, low)) (inl (omega (arith, below))) in
-        subst (λ b. CellStands names blocks c b) (sym (ap (byte_at (globals_written y at (h ∷ gs) bytes)) nothing ∙ still)) all)
+      let all = first_stands h bytes at (subst (λ (k : Global). is_init_in literals k.init ≡ true) (sym same) ok) low (omega (arith, sum, fits)) (λ j below. zeros j (omega (arith, sum, below))) i c f in
+      let inside : i < length (first_cells h.size (first_value globals h.init)) = slice_get_within (first_cells h.size (first_value globals h.init)) i c f in
+      let below : i < taken h.size = omega (arith, inside, cells_fit h.size h.init) in
+      let nothing : at + 0 + i ≡ at + i = omega arith in
+      let still = globals_beside y gs (at + taken h.size) (with_bytes bytes at (first_bytes y h.init)) (at + i) (omega (arith, low)) (omega (arith, sum, one, fits)) (omega (arith, low)) (inl (omega (arith, below))) in
+      subst (λ b. CellStands names blocks c b) (sym (ap (byte_at (globals_written y at (h ∷ gs) bytes)) nothing ∙ still)) all)
   globals_stand (h ∷ gs) at bytes low fits zeros (suc n) g e ok =
       let sum = sum_by-cons (λ (g : Global). taken g.size) h gs in
       let few = few_first y h.init in
@@ -156,10 +156,10 @@ module _ (y : Layout) (names : List Name) (blocks : Blocks) (globals : ℕ) (lit
       let same : at + taken h.size + globals_size (take n gs) ≡ at + globals_size (take (suc n) (h ∷ gs)) = omega (arith, before) in
       subst (CellsAt (first_cells g.size (first_value globals g.init)) (globals_written y at (h ∷ gs) bytes)) same
       (globals_stand gs (at + taken h.size) (with_bytes bytes at (first_bytes y h.init)) (omega (arith, low)) (omega (arith, sum, one, fits))
-          (λ i below. byte_beside bytes (first_bytes y h.init) at (at + taken h.size + i) low (omega (arith, sum, few, fits)) (omega (arith, low)) (inr (omega (arith, few))) ∙ ap (byte_at bytes) (omega arith) ∙ zeros (taken h.size + i) (omega (arith, sum, below))) n g e ok)
+      (λ i below. byte_beside bytes (first_bytes y h.init) at (at + taken h.size + i) low (omega (arith, sum, few, fits)) (omega (arith, low)) (inr (omega (arith, few))) ∙ ap (byte_at bytes) (omega arith) ∙ zeros (taken h.size + i) (omega (arith, sum, below))) n g e ok)
 
   -- all literals
-  literals_stand : (ls : List (List ℕ)) (at : ℕ) (bytes : List ℕ) → first_address ≤ at → at + literals_size ls ≤ first_address + length bytes → (n : ℕ) (l : List ℕ) → slice_get ls n ≡ Some l → CellsAt (map Byte l) (literals_written at ls bytes) (at + literals_size (take n ls))
+  pub literals_stand : (ls : List (List ℕ)) (at : ℕ) (bytes : List ℕ) → first_address ≤ at → at + literals_size ls ≤ first_address + length bytes → (n : ℕ) (l : List ℕ) → slice_get ls n ≡ Some l → CellsAt (map Byte l) (literals_written at ls bytes) (at + literals_size (take n ls))
   literals_stand [] at bytes low fits n l e = absurd cc
   literals_stand (h ∷ ls) at bytes low fits zero l e =
       let same : h ≡ l = cc in
@@ -167,12 +167,12 @@ module _ (y : Layout) (names : List Name) (blocks : Blocks) (globals : ℕ) (lit
       let one = length-with_bytes bytes h at low (omega (arith, sum, fits)) in
       subst (λ (k : List ℕ). CellsAt (map Byte k) (literals_written at (h ∷ ls) bytes) (at + 0)) same
       (λ i c f.
-        let all = row_written (map Byte h) h bytes at low (omega (arith, sum, fits)) (byte_row h) i c f in
-        let long = row_length names blocks (map Byte h) h (byte_row h) in
-        let below = slice_get_within (map Byte h) i c f in
-        let nothing : at + 0 + i ≡ at + i = omega arith in
-        let still = literals_beside ls (at + taken (length h)) (with_bytes bytes at h) (at + i) (omega (arith, low)) (omega (arith, sum, one, fits)) (omega (arith, low)) (inl (omega (arith, below, long))) in
-        subst (λ b. CellStands names blocks c b) (sym (ap (byte_at (literals_written at (h ∷ ls) bytes)) nothing ∙ still)) all)
+      let all = row_written (map Byte h) h bytes at low (omega (arith, sum, fits)) (byte_row h) i c f in
+      let long = row_length names blocks (map Byte h) h (byte_row h) in
+      let below = slice_get_within (map Byte h) i c f in
+      let nothing : at + 0 + i ≡ at + i = omega arith in
+      let still = literals_beside ls (at + taken (length h)) (with_bytes bytes at h) (at + i) (omega (arith, low)) (omega (arith, sum, one, fits)) (omega (arith, low)) (inl (omega (arith, below, long))) in
+      subst (λ b. CellStands names blocks c b) (sym (ap (byte_at (literals_written at (h ∷ ls) bytes)) nothing ∙ still)) all)
   literals_stand (h ∷ ls) at bytes low fits (suc n) l e =
       let sum = sum_by-cons (λ (l : List ℕ). taken (length l)) h ls in
       let one = length-with_bytes bytes h at low (omega (arith, sum, fits)) in

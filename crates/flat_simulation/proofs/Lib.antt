@@ -32,6 +32,7 @@ pub mod Numbering
 pub mod GoingAlike
 pub mod Public
 pub mod FirstBytes
+pub mod First
 pub mod SteppingAlike
 pub mod EventRuns
 pub mod EventKinds
@@ -66,5 +67,6 @@ pub mod Lands
 pub mod Going
 pub mod Public
 pub mod FirstBytes
+pub mod First
 pub mod Putting
 pub mod WrongKinds

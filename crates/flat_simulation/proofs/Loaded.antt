@@ -55,7 +55,7 @@ length-loaded y size fits =
 
 -- ---- the first storage
 
-none_of : (n id : ℕ) → IsInUse (replicate n None) id → ⊥
+pub none_of : (n id : ℕ) → IsInUse (replicate n None) id → ⊥
 none_of n id used =
     let none : Option ℕ = None in
     elim (cases_lt id n) [

@@ -108,7 +108,7 @@ module _ {P : Type 0} (x : Image P) (p : Ir) (thread : ℕ) where
             let at : StandsIn x p thread all (KnownIn (length blocks) (length later)) s (in_blocks later begins) (first_thread x function argument).top = record { here = refl; call = call; way = []; path = entry; slots = λ slot base i. absurd cc } in
             let nothing : all ≡ all ++ [] = append_nothing all in
             public.comes (in_blocks later begins) [] still (point_stands (all ++ []) (KnownIn (length blocks) (length later)) s (in_blocks later begins) (first_thread x function argument).top
-                (subst (λ z. StandsIn x p thread z (KnownIn (length blocks) (length later)) s (in_blocks later begins) (first_thread x function argument).top) nothing at))
+            (subst (λ z. StandsIn x p thread z (KnownIn (length blocks) (length later)) s (in_blocks later begins) (first_thread x function argument).top) nothing at))
             (λ r block offset below e. is_known all (KnownIn (length blocks) (length later)) later block offset ((first_own p function stand.pointer).temps r) (word_at (first_thread x function argument).top.own r) (call.temps r below) e)
 
     stage_stands : (names : List Name) (blocks : Blocks) (s : Storage) → length names ≡ length blocks → (k : Option (Thread P Own)) (g : Option (Stage P)) → StageStands x p thread names blocks s k g → public.StageStands x p thread names blocks s k g

@@ -1,4 +1,4 @@
-use Rattle.flat_simulation.proofs.FirstBytes.{globals_size}
+use Rattle.flat_simulation.proofs.First.{first_stands}
 use Rattle.flat_simulation.proofs.laws.scratch.Goals as goal
 
 pub returns : goal.returns
