@@ -70,3 +70,10 @@ pub mod FirstBytes
 pub mod First
 pub mod Putting
 pub mod WrongKinds
+pub mod WordsCome
+pub mod TurnsStand
+pub mod StepKinds
+pub mod SourceRuns
+pub mod EventsStand
+pub mod AllEvents
+pub mod LoadedData
