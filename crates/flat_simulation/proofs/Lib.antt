@@ -65,9 +65,6 @@ pub mod Ends
 pub mod Returns
 pub mod Lands
 pub mod Going
-pub mod Public
-pub mod FirstBytes
-pub mod First
 pub mod Putting
 pub mod WrongKinds
 pub mod WordsCome
