@@ -59,3 +59,4 @@ pub mod Moved
 pub mod Tried
 pub mod Settled
 pub mod Ends
+pub mod Leads
