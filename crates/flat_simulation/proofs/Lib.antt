@@ -60,3 +60,8 @@ pub mod Tried
 pub mod Settled
 pub mod Ends
 pub mod Leads
+pub mod Returns
+pub mod Lands
+pub mod Putting
+pub mod WrongKinds
+pub mod Stopping
