@@ -10,7 +10,7 @@ use Rattle.defrag_move.specs.Arena.{Storage}
 use Rattle.struct_ir.specs.Nodes.{Step, step, own_list, Ir}
 use Rattle.struct_ir.specs.Flow.{Here, does}
 use Rattle.struct_ir.specs.Machine.{Point}
-use Rattle.struct_ir.specs.Threads.{Thread, went, behind, served}
+use Rattle.struct_ir.specs.Threads.{Thread, Outcome, went, ended, blocked, broke, unfit, behind, served}
 use Rattle.struct_ir.specs.Pins.{looked, lacks, lacks_if, listing, passing, facts}
 use Rattle.ir_meaning.specs.Blocks as blocks
 use Rattle.ir_meaning.specs.Blocks.{Held, value, Own, set_at}
@@ -66,6 +66,28 @@ ended_then y p thread names n all given w later bs m now one two = record {
     nothing : (xs : List ℕ) → xs ++ [] ≡ xs
     nothing [] = refl
     nothing (z ∷ xs) = ap (λ y. z ∷ y) (nothing xs)
+
+-- so is what comes of it alike, told from the turn's start
+pub alike_then : {P : Type 0} (x : Image P) (p : Ir) (thread : ℕ) (names n : List Name) (given : List ℕ) (list : Option (List ℕ)) (w : World) (bs : Blocks) (m : Memory) → TurnEnded x.layout p thread names n [] w (with_blocks w bs) m m
+    → (o : Outcome P Own blocks.Fault World) (r : Outcome P Words flat.Fault Memory) → TurnsAlike x p thread n given list (with_blocks w bs) m o r → TurnsAlike x p thread names given list w m o r
+alike_then x p thread names n given list w bs m one (went k later) (went q now) a = (a.0, ended_then x.layout p thread names n a.0 given w later bs m now one a.1, a.2)
+alike_then x p thread names n given list w bs m one (went k later) (ended l now) a = absurd a
+alike_then x p thread names n given list w bs m one (went k later) blocked a = absurd a
+alike_then x p thread names n given list w bs m one (went k later) (broke flat.output_limit) a = tt
+alike_then x p thread names n given list w bs m one (went k later) (broke (flat.trap word kind)) a = absurd a
+alike_then x p thread names n given list w bs m one (went k later) unfit a = absurd a
+alike_then x p thread names n given list w bs m one (ended l later) (ended r now) a = (a.0, ended_then x.layout p thread names n a.0 given w later bs m now one a.1)
+alike_then x p thread names n given list w bs m one (ended l later) (went q now) a = absurd a
+alike_then x p thread names n given list w bs m one (ended l later) blocked a = absurd a
+alike_then x p thread names n given list w bs m one (ended l later) (broke f) a = absurd a
+alike_then x p thread names n given list w bs m one (ended l later) unfit a = absurd a
+alike_then x p thread names n given list w bs m one blocked blocked a = tt
+alike_then x p thread names n given list w bs m one blocked (went q now) a = absurd a
+alike_then x p thread names n given list w bs m one blocked (ended l now) a = absurd a
+alike_then x p thread names n given list w bs m one blocked (broke f) a = absurd a
+alike_then x p thread names n given list w bs m one blocked unfit a = absurd a
+alike_then x p thread names n given list w bs m one (broke f) r a = tt
+alike_then x p thread names n given list w bs m one unfit r a = absurd a
 
 -- ---- the registers behind a step
 
