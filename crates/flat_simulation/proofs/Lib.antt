@@ -65,3 +65,4 @@ pub mod Lands
 pub mod Putting
 pub mod WrongKinds
 pub mod Stopping
+pub mod Stepping
