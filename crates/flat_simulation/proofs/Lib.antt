@@ -66,3 +66,7 @@ pub mod Putting
 pub mod WrongKinds
 pub mod Stopping
 pub mod Stepping
+pub mod ActsAlike
+pub mod Follow
+pub mod StepReached
+pub mod Followed
