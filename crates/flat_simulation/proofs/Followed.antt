@@ -156,3 +156,42 @@ module _ (p : Ir) (limits : Limits) (image : IsImage (structured_image p limits)
 
     pub all_reach : All R (pick_if thread (answer_of y m choice t) (stop_of y thread choice t m) ++ tried_if thread choice h (stop_of y thread choice t m))
     all_reach = All-append R (pick_if thread (answer_of y m choice t) (stop_of y thread choice t m)) (tried_if thread choice h (stop_of y thread choice t m)) step_picks_all step_tried_all
+
+  -- ---- a thread that has begun
+
+  module _ (thread : ℕ) (choice : Choice) (t : Thread Position Own) (source_is : own_at u.own thread ≡ Some t) (g : Stage Position) (e : own_at s.own thread ≡ Some g) (q : Thread Position Words) (is : thread_at y g ≡ q) where
+    abbrev Reaching : Pick → Type 0
+    Reaching r = Unbroken (picked (program_of p) u r) → StepReaches y p names u m r t q
+
+    begun_reach : (b : Before) → b ≡ steps → StandsBefore y (Some g) steps → MayStep y m choice q b → All Reaching (act_picks y m thread choice q b ++ tried_before y m thread choice q b)
+    begun_reach b is_step at may =
+        let acts : MayAct m.storage q.top.own choice (structured.here q.top.at) = subst (λ z. MayStep y m choice q z) is_step may in
+        let there = thread_there p limits image names u s stand takes goes_on thread g e in
+        let both : Some there.0 ≡ Some t = sym there.1 ∙ source_is in
+        let same : there.0 ≡ t = cc in
+        subst (λ z. All Reaching (act_picks y m thread choice q z ++ tried_before y m thread choice q z)) (sym is_step)
+        (subst (λ z. All (λ r. Unbroken (picked (program_of p) u r) → StepReaches y p names u m r z q) (act_picks y m thread choice q steps ++ tried_before y m thread choice q steps)) same (of_thread q is acts at))
+      where
+        of_thread : (r : Thread Position Words) → thread_at y g ≡ r → MayAct m.storage r.top.own choice (structured.here r.top.at) → StandsBefore y (Some g) steps
+            → All (λ z. Unbroken (picked (program_of p) u z) → StepReaches y p names u m z (thread_there p limits image names u s stand takes goes_on thread g e).0 r) (act_picks y m thread choice r steps ++ tried_before y m thread choice r steps)
+        of_thread r same acts at =
+            subst (λ z. All (λ v. Unbroken (picked (program_of p) u v) → StepReaches y p names u m v (thread_there p limits image names u s stand takes goes_on thread g e).0 z) (act_picks y m thread choice z steps ++ tried_before y m thread choice z steps)) same
+            (all_reach thread choice g e at (subst (λ z. MayAct m.storage z.top.own choice (structured.here z.top.at)) (sym same) acts))
+
+  any_reach : (thread : ℕ) (choice : Choice) (t : Thread Position Own) → own_at u.own thread ≡ Some t → (g : Stage Position) → own_at s.own thread ≡ Some g → StandsBefore y (Some g) steps → MayStepAt y m choice (Some g)
+      → All (λ r. Unbroken (picked (program_of p) u r) → StepReaches y p names u m r t (thread_at y g)) (picks_of_act y m thread choice (Some g) ++ tried_at y m thread choice (Some g))
+  any_reach thread choice t i (starts function argument) e at may = absurd at
+  any_reach thread choice t i (going q) e at may = begun_reach thread choice t i (going q) e q refl (before y q) at at may
+  any_reach thread choice t i (waiting q) e at may = begun_reach thread choice t i (waiting q) e q refl (before y q) at at may
+  any_reach thread choice t i (landed list q) e at may = begun_reach thread choice t i (landed list q) e q refl (before y q) at at may
+
+pub steps_follow : (p : Ir) (limits : Limits) → IsImage (structured_image p limits) p → (names : List Name) (u : runs.State (Thread Position Own)) (s : State Position) → StateStands (structured_image p limits) p names u s → TakeAnswers p u
+    → StepsFollow (structured_image p limits) p names u s
+steps_follow p limits image names u s stand takes = record {
+  reaches = λ thread choice t stage i e may at.
+      subst (λ o. All (λ r. Unbroken (picked (program_of p) u r) → StepReaches (structured_image p limits) p names u s.memory r t (thread_at (structured_image p limits) stage))
+          (picks_of_act (structured_image p limits) s.memory thread choice o ++ tried_at (structured_image p limits) s.memory thread choice o)) (sym e)
+      (any_reach p limits image names u s stand takes may.0 thread choice t i stage e (subst (λ o. StandsBefore (structured_image p limits) o steps) e at) (subst (λ o. MayStepAt (structured_image p limits) s.memory choice o) e may.1));
+  waits = λ thread choice may end. act_waits p limits image names u s stand takes may.0 thread choice may end;
+  traps = λ thread choice may end. act_breaks p limits image names u s stand takes may.0 thread choice may end;
+}
