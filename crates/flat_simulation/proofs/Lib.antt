@@ -62,6 +62,7 @@ pub mod Moved
 pub mod Tried
 pub mod Settled
 pub mod Ends
+pub mod Leads
 pub mod Returns
 pub mod Lands
 pub mod Going
@@ -74,3 +75,9 @@ pub mod SourceRuns
 pub mod EventsStand
 pub mod AllEvents
 pub mod LoadedData
+pub mod Stopping
+pub mod Stepping
+pub mod ActsAlike
+pub mod Follow
+pub mod StepReached
+pub mod Followed
