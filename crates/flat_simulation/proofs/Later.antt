@@ -79,6 +79,32 @@ module _ {P : Type 0} (C : Flow P) (all : List Name) (blocks later : Blocks) (s 
     stage_kept (Some (waiting q)) = calls_kept (q.top ∷ q.callers)
     stage_kept (Some (landed list q)) = (λ slot listed. slot_kept (slot_at q.top.own.slots slot), calls_kept q.callers)
 
+-- ---- the calls that wait
+
+-- below so much of a stack
+pub aside_below : (all : List Name) (blocks later : Blocks) (low high less : ℕ) → less ≤ high → IsAside all blocks later low high → IsAside all blocks later low less
+aside_below all blocks later low high less le aside n a b ge v e = elim (aside n a b ge v e) [ inl r ↦ inl r | inr r ↦ inr (omega (arith, r, le)) ]
+
+module _ {P : Type 0} (x : Image P) (p : Ir) (thread : ℕ) (names all : List Name) (blocks later : Blocks) (s new : Storage) (aged : Aged names all blocks later) where
+  pub callers_later : (above : ℕ) (ks : List (Point P Own)) (qs : List (Point P Words)) → IsAside all blocks later (stack_address x.layout thread) (stack_address x.layout thread + above) → KeepCalls x.flow all blocks later s new qs
+      → CallersStand x p thread names blocks s above ks qs → CallersStand x p thread all later new above ks qs
+  callers_later above [] [] aside keeps stand = tt
+  callers_later above [] (q ∷ qs) aside keeps stand = absurd stand
+  callers_later above (k ∷ ks) [] aside keeps stand = absurd stand
+  callers_later above (k ∷ ks) (q ∷ qs) aside keeps stand =
+      let c = stand.0 in
+      let is = c.above_it in (
+        record {
+          point = point_later x p thread names all AnyBlock AnyBlock s new (in_blocks blocks k) q later aged (λ n lt kn. tt) keeps.0 c.point;
+          frame = c.frame;
+          call = c.call;
+          above_it = c.above_it;
+          clear = clear_on names all AnyBlock AnyBlock blocks later (stack_address x.layout thread + q.own.below.stack) (stack_address x.layout thread + above) (stack_address x.layout thread) (stack_address x.layout thread + above) k.own.objects aged (λ n lt kn. tt) aside
+              (omega arith) (omega arith) c.clear;
+        },
+        callers_later q.own.below.stack ks qs (aside_below all blocks later (stack_address x.layout thread) (stack_address x.layout thread + above) (stack_address x.layout thread + q.own.below.stack) (omega (arith, is)) aside) keeps.1 stand.1,
+      )
+
 -- ---- a thread, later
 
 module _ {P : Type 0} (x : Image P) (p : Ir) (image : IsImage x p) (thread : ℕ) (names all : List Name) (w : World) (m : Memory) (world : WorldStands x.layout p names w m) (later : Blocks) (new : Storage) (aged : Aged names all w.blocks later)
@@ -86,21 +112,12 @@ module _ {P : Type 0} (x : Image P) (p : Ir) (image : IsImage x p) (thread : ℕ
   abbrev s : Storage
   s = m.storage
 
-  -- the calls that wait
-  pub callers_later : (above : ℕ) (ks : List (Point P Own)) (qs : List (Point P Words)) → KeepCalls x.flow all w.blocks later s new qs → CallersStand x p thread names w.blocks s above ks qs → CallersStand x p thread all later new above ks qs
-  callers_later above [] [] keeps stand = tt
-  callers_later above [] (q ∷ qs) keeps stand = absurd stand
-  callers_later above (k ∷ ks) [] keeps stand = absurd stand
-  callers_later above (k ∷ ks) (q ∷ qs) keeps stand =
-      let c = stand.0 in
-      (record {
-        point = point_later x p thread names all AnyBlock AnyBlock s new (in_blocks w.blocks k) q later aged (λ n lt kn. tt) keeps.0 c.point;
-        frame = c.frame;
-        call = c.call;
-        above_it = c.above_it;
-        clear = (let room = c.frame.room in let is = c.above_it in clear_on names all AnyBlock AnyBlock w.blocks later (stack_address x.layout thread + q.own.below.stack) (stack_address x.layout thread + above) (stack_address x.layout thread)
-            (stack_address x.layout thread + x.layout.limits.stack) k.own.objects aged (λ n lt kn. tt) aside (omega arith) (omega (arith, room, is)) c.clear);
-      }, callers_later q.own.below.stack ks qs keeps.1 stand.1)
+  -- the calls of a call with a frame
+  callers_stay : (q : Words) → HasFrame x.layout p q → (ks : List (Point P Own)) (qs : List (Point P Words)) → KeepCalls x.flow all w.blocks later s new qs → CallersStand x p thread names w.blocks s q.below.stack ks qs → CallersStand x p thread all later new q.below.stack ks qs
+  callers_stay q frame ks qs =
+      let room = frame.room in
+      callers_later x p thread names all w.blocks later s new aged q.below.stack ks qs
+      (aside_below all w.blocks later (stack_address x.layout thread) (stack_address x.layout thread + x.layout.limits.stack) (stack_address x.layout thread + q.below.stack) (omega (arith, room)) aside)
 
   -- in the middle of a turn
   pub thread_later : (k : Thread P Own) (q : Thread P Words) → KeepCalls x.flow all w.blocks later s new (q.top ∷ q.callers) → ThreadStands x p thread names w.blocks s k q → ThreadStands x p thread all later new k q
@@ -108,7 +125,7 @@ module _ {P : Type 0} (x : Image P) (p : Ir) (image : IsImage x p) (thread : ℕ
     stack = stand.stack;
     frame = stand.frame;
     top = others_leave_turns x p thread names all w.blocks later s new aged aside k.top q.top (lies_low x p image q.top.own stand.frame thread s stand.stack world.blocks.consistent world.start) keeps.0 stand.top;
-    callers = callers_later q.top.own.below.stack k.callers q.callers keeps.1 stand.callers;
+    callers = callers_stay q.top.own stand.frame k.callers q.callers keeps.1 stand.callers;
   }
 
   -- at a turn's start
@@ -120,7 +137,7 @@ module _ {P : Type 0} (x : Image P) (p : Ir) (image : IsImage x p) (thread : ℕ
     top = point_aged x p thread names all AnyBlock AnyBlock s new (in_blocks w.blocks k.top) q.top later aged (λ n lt kn. tt) stand.top keeps;
     clear = clear_on names all AnyBlock AnyBlock w.blocks later (stack_address x.layout thread + q.top.own.below.stack) (stack_address x.layout thread + x.layout.limits.stack) (stack_address x.layout thread)
         (stack_address x.layout thread + x.layout.limits.stack) k.top.own.objects aged (λ n lt kn. tt) aside (omega arith) (omega arith) stand.clear;
-    callers = callers_later q.top.own.below.stack k.callers q.callers under stand.callers;
+    callers = callers_stay q.top.own stand.frame k.callers q.callers under stand.callers;
   }
 
   fresh_way : (k : Thread P Own) (q : Thread P Words) (stand : Fresh x p thread names w.blocks s k q) (keeps : (slot base : ℕ) → IsIntact x p thread stand.top.way (x.flow.here q.top.at) slot base → KeepsSlot all w.blocks later s new (slot_at q.top.own.slots slot))

@@ -31,7 +31,7 @@ few_first y (inits.number t z) =
     omega (arith, length-low_bytes (t.bits / 8) (bit_pattern t (num t z).value), width.1)
 few_first y (inits.literal_at n) = omega (arith, length-low_bytes 8 (literal_address y n))
 
-length-globals : (y : Layout) (gs : List Global) (at : ℕ) (bytes : List ℕ) → first_address ≤ at → at + sum_by (λ g. taken g.size) gs ≤ first_address + length bytes → length (globals_written y at gs bytes) ≡ length bytes
+pub length-globals : (y : Layout) (gs : List Global) (at : ℕ) (bytes : List ℕ) → first_address ≤ at → at + sum_by (λ g. taken g.size) gs ≤ first_address + length bytes → length (globals_written y at gs bytes) ≡ length bytes
 length-globals y [] at bytes low fits = refl
 length-globals y (g ∷ gs) at bytes low fits =
     let sum = sum_by-cons (λ (g : Global). taken g.size) g gs in
@@ -39,7 +39,7 @@ length-globals y (g ∷ gs) at bytes low fits =
     let one = length-with_bytes bytes (first_bytes y g.init) at low (omega (arith, sum, few)) in
     length-globals y gs (at + taken g.size) (with_bytes bytes at (first_bytes y g.init)) (omega arith) (omega (arith, sum, one)) ∙ one
 
-length-literals : (ls : List (List ℕ)) (at : ℕ) (bytes : List ℕ) → first_address ≤ at → at + sum_by (λ l. taken (length l)) ls ≤ first_address + length bytes → length (literals_written at ls bytes) ≡ length bytes
+pub length-literals : (ls : List (List ℕ)) (at : ℕ) (bytes : List ℕ) → first_address ≤ at → at + sum_by (λ l. taken (length l)) ls ≤ first_address + length bytes → length (literals_written at ls bytes) ≡ length bytes
 length-literals [] at bytes low fits = refl
 length-literals (l ∷ ls) at bytes low fits =
     let sum = sum_by-cons (λ (l : List ℕ). taken (length l)) l ls in

@@ -14,7 +14,6 @@ pub mod Level
 pub mod EventRuns
 pub mod Worlds
 pub mod Threads
+pub mod Operands
 pub mod Kept
 pub mod Next
-pub mod Data
-pub mod Ends
