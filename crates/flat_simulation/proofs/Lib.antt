@@ -81,3 +81,4 @@ pub mod Follow
 pub mod StepReached
 pub mod Followed
 pub mod Whole
+pub mod LinearEvents
