@@ -1,10 +1,10 @@
 -- Plain data as it is loaded: globals and literals alike, one behind another.
-use Rattle.std.specs.Prelude.{◌≡◌, ℕ, ◌+◌, ◌≤◌, List, [], ◌∷◌, ◌++◌, length, map, sum_by, Option, Some}
+use Rattle.std.specs.Prelude.{ℕ, ◌+◌, ◌≤◌, List, [], ◌∷◌, ◌++◌, length, map, sum_by, Some}
 use Rattle.block_store.specs.declared.values.BlockKind.TheVariants.{Global, Literal}
 use Rattle.block_store.specs.declared.values.Cell.TheVariants.{Byte}
 use Rattle.block_store.specs.Blocks.{Block, Blocks, first_cells}
 use Rattle.c_tree.specs.TypedForm.{taken}
-use Rattle.flat_store.specs.Flat.{first_address, with_bytes}
+use Rattle.flat_store.specs.Flat.{with_bytes}
 use Rattle.struct_ir.specs.Nodes as nodes
 use Rattle.ir_meaning.specs.Start.{first_value}
 use Rattle.flat_meaning.specs.Image.{Layout, first_bytes}
