@@ -74,7 +74,6 @@ pub mod StepKinds
 pub mod SourceRuns
 pub mod EventsStand
 pub mod AllEvents
-pub mod LoadedData
 pub mod Stopping
 pub mod Stepping
 pub mod ActsAlike
