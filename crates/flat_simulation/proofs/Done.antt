@@ -247,11 +247,14 @@ module _ (y : Layout) (p : Ir) (names : List Name) (w : World) (m : Memory) (wor
           let new : World = record { blocks = later; output = w.output; threads = w.threads ++ source.beginning function to ∷ []; reached = writes_of answers.Got (source.start at function to) } in
           let now : Memory = with_thread (written m a.address (low_bytes 8 (length m.threads))) (beginning function argument) in
           let made : MayBear y p w new = inr (record { born = source.beginning function to; last = refl; func = func; there = there; stack = omega (arith, below, as_many) }) in
-          done_alike [] (source.int_value (pos 0)) new (Some 0) now (words_too.started y.limits.threads function a argument m) s.went
-          (names, same_names new now s.after.ages s.after.stands refl world.output
-              (made_more names later w.threads m.threads (source.beginning function to) (beginning function argument) (made_later names names w.blocks later s.after.ages w.threads m.threads world.threads)
-                  (record { function = refl; argument = pointer_later names names w.blocks later s.after.ages AnyBlock AnyBlock (λ block lt known. tt) to argument points; result = refl }))
-              (keeps_table names w.blocks later m.storage now.storage refl) made, sym (int_word 0 (omega arith)))
+          done_alike [] (source.int_value (pos 0)) new (Some 0) now (words_too.started y.limits.threads function a argument m) s.went (
+            names,
+            same_names new now s.after.ages s.after.stands refl world.output
+                (made_more names later w.threads m.threads (source.beginning function to) (beginning function argument) (made_later names names w.blocks later s.after.ages w.threads m.threads world.threads)
+                (record { function = refl; argument = pointer_later names names w.blocks later s.after.ages AnyBlock AnyBlock (λ block lt known. tt) to argument points; result = refl }))
+                (keeps_table names w.blocks later m.storage now.storage refl) made,
+            sym (int_word 0 (omega arith)),
+          )
 
   -- a thread that has come to another stage
   pub staged_made : (later : Blocks) (now : List Made) (number : ℕ) (t : source.Thread) (u : Made) (stage : Stage) → Aged names names w.blocks later → now ≡ m.threads → slice_get w.threads number ≡ Some t → slice_get m.threads number ≡ Some u
@@ -287,10 +290,13 @@ module _ (y : Layout) (p : Ir) (names : List Name) (w : World) (m : Memory) (wor
       let aged : Aged names names w.blocks new.blocks = subst (λ b. Aged names names w.blocks b) (sym same) s.aged in
       let blocks_stand : BlocksStand names new.blocks s.to.storage = subst (λ b. BlocksStand names b s.to.storage) (sym same) s.stands in
       let made = staged_made later s.to.threads number t u (joined z) s.aged s.threads there is (record { function = stands.function; argument = pointer_later names names w.blocks later s.aged AnyBlock AnyBlock (λ block lt known. tt) t.argument u.argument stands.argument; result = result }) in
-      done_alike [] (source.int_value (pos 0)) new (Some 0) s.to (words_too.joined_with a (word_of z) m) s.went
-      (names, same_names new s.to aged blocks_stand s.start (s.output ∙ world.output ∙ sym (staged_output v number (joined z) o))
-          (subst (λ b. AllMadeStand names b new.threads s.to.threads) (sym same) made)
-          (keeps_table names w.blocks new.blocks m.storage s.to.storage s.table) (inl (staged_many v number (joined z) o)), sym (int_word 0 (omega arith)))
+      done_alike [] (source.int_value (pos 0)) new (Some 0) s.to (words_too.joined_with a (word_of z) m) s.went (
+        names,
+        same_names new s.to aged blocks_stand s.start (s.output ∙ world.output ∙ sym (staged_output v number (joined z) o))
+            (subst (λ b. AllMadeStand names b new.threads s.to.threads) (sym same) made)
+            (keeps_table names w.blocks new.blocks m.storage s.to.storage s.table) (inl (staged_many v number (joined z) o)),
+        sym (int_word 0 (omega arith)),
+      )
 
   pub join_done : (thread number : ℕ) (to : Ptr) (a : Target) → TargetStands names w.blocks m.storage to a
       → DoneAlike y p names [] w m (source.acted w thread answers.Plain (source.join number to)) (words_too.joined_if a (slice_get m.threads number) m)
@@ -333,7 +339,7 @@ module _ (y : Layout) (p : Ir) (names : List Name) (w : World) (m : Memory) (wor
           let new : MadeStands names w.blocks (source.at_stage (returned z) t) (with_result word u.0) = record { function = u.2.function; argument = u.2.argument; result = ap Some is } in
           same_names (with_reached (source.staged_if w thread (returned z) (Some t)) reached) (thread_ended m thread word) (aged_still names w.blocks each) world.blocks refl world.output
           (subst (λ o. AllMadeStand names w.blocks (std.set w.threads thread (source.at_stage (returned z) t)) (ended_if m.threads thread word o)) (sym u.1)
-              (made_set names w.blocks w.threads m.threads thread (source.at_stage (returned z) t) (with_result word u.0) world.threads new))
+          (made_set names w.blocks w.threads m.threads thread (source.at_stage (returned z) t) (with_result word u.0) world.threads new))
           (keeps_table names w.blocks w.blocks m.storage m.storage refl) (inl (length-set w.threads thread (source.at_stage (returned z) t)))
 
   -- ---- the heap
@@ -345,9 +351,12 @@ module _ (y : Layout) (p : Ir) (names : List Name) (w : World) (m : Memory) (wor
       by_result (Ok later) e =
           let s = free_stands names w.blocks m world.blocks at word later points e in
           let new : World = with_reached (with_blocks w later) [] in
-          done_alike [] None new None (with_storage m s.storage) (words.freed word m) s.went
-          (names, same_names new (with_storage m s.storage) s.ages s.stands s.start world.output (made_later names names w.blocks later s.ages w.threads m.threads world.threads)
-              (keeps_freed names w.blocks m world.blocks word later s) (inl refl), tt)
+          done_alike [] None new None (with_storage m s.storage) (words.freed word m) s.went (
+            names,
+            same_names new (with_storage m s.storage) s.ages s.stands s.start world.output (made_later names names w.blocks later s.ages w.threads m.threads world.threads)
+                (keeps_freed names w.blocks m world.blocks word later s) (inl refl),
+            tt,
+          )
       by_result (Err rule) e = tt
 
   pub malloc_null : (thread size : ℕ) → DoneAlike y p names [] w m (source.acted w thread answers.None (source.allocate size Unknown)) (words.allocated words.null size m)

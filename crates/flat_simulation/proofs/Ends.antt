@@ -84,37 +84,47 @@ module _ {P : Type 0} (x : Image P) (p : Ir) (image : IsImage x p) (thread : ℕ
       let func = has_function p c.function (length c.temps) (and_parts _ (is_list (scope_of p frame.func) c.slots) parts.1).0 in
       let its = entered_frame x p image thread n AnyBlock l q stands.call c.function c.temps args func.0 func.1 func.2 room in
       let fits = its.room in
-      let ends = frame_end in
-      (n, nothing, fresh_thread x p thread n l.blocks s _ _ world.blocks.names_stand.each (record {
-        stack = stack;
-        frame = its;
-        top = record {
-          here = refl;
-          call = entered_stands x p image thread n AnyBlock l q stands.call c.function c.temps args;
-          way = [];
-          path = entry;
-          slots = λ slot base i. absurd cc;
-        };
-        clear = λ block a b kn v at. elim (clear block a b kn v at) [
-          | inl r ↦ inl (omega (arith, r))
-          | inr z ↦ elim z [ inl r ↦ inr (inl r) | inr o ↦ let r = object_below block a o.0 b v o.1 at in inl (omega (arith, r, ends)) ]
-        ];
-        callers = (record {
-          point = stands;
-          frame = frame;
-          call = subst IsCall (sym e) refl;
-          above_it = ends;
-          clear = λ block a b kn v at. elim (clear block a b kn v at) [ inl r ↦ inl r | inr z ↦ elim z [ inl r ↦ inr (inl (omega (arith, r, fits))) | inr o ↦ inr (inr o) ] ];
-        }, under);
-      }))
+      let ends = frame_end in (
+        n,
+        nothing,
+        fresh_thread x p thread n l.blocks s _ _ world.blocks.names_stand.each (record {
+          stack = stack;
+          frame = its;
+          top = record {
+            here = refl;
+            call = entered_stands x p image thread n AnyBlock l q stands.call c.function c.temps args;
+            way = [];
+            path = entry;
+            slots = λ slot base i. absurd cc;
+          };
+          clear = λ block a b kn v at. elim (clear block a b kn v at) [
+            | inl r ↦ inl (omega (arith, r))
+            | inr z ↦ elim z [ inl r ↦ inr (inl r) | inr o ↦ let r = object_below block a o.0 b v o.1 at in inl (omega (arith, r, ends)) ]
+          ];
+          callers = (
+            record {
+              point = stands;
+              frame = frame;
+              call = subst IsCall (sym e) refl;
+              above_it = ends;
+              clear = λ block a b kn v at. elim (clear block a b kn v at) [ inl r ↦ inl r | inr z ↦ elim z [ inl r ↦ inr (inl (omega (arith, r, fits))) | inr o ↦ inr (inr o) ] ];
+            },
+            under,
+          );
+        }),
+      )
 
   -- ---- a round
 
   pub round_ends : x.flow.here k ≡ round → TurnsAlike x p thread n [] None w m (went (record { top = behind x.flow (record { at = k; own = l }) l; callers = ks }) w) (went (record { top = behind x.flow (record { at = k; own = q }) q; callers = qs }) m)
-  round_ends e = (n, nothing, fresh_thread x p thread n l.blocks s _ _ world.blocks.names_stand.each (record {
-    stack = stack;
-    frame = frame;
-    top = point_silent x p thread n AnyBlock s (record { at = k; own = l }) (record { at = k; own = q }) true (subst (IsSilent x p thread) (sym e) tt) stands;
-    clear = clear;
-    callers = under;
-  }))
+  round_ends e = (
+    n,
+    nothing,
+    fresh_thread x p thread n l.blocks s _ _ world.blocks.names_stand.each (record {
+      stack = stack;
+      frame = frame;
+      top = point_silent x p thread n AnyBlock s (record { at = k; own = l }) (record { at = k; own = q }) true (subst (IsSilent x p thread) (sym e) tt) stands;
+      clear = clear;
+      callers = under;
+    }),
+  )

@@ -51,7 +51,7 @@ module _ (names : List Name) (blocks : Blocks) (s : Storage) (stand : BlocksStan
       let sees = sees_all names blocks s stand.consistent stand.names_stand in
       ap (λ n. translated new.table (word_for n offset)) name
       ∙ translated_alike s.table new.table (name_of names block) (length b.cells) offset (sees.placed block b tt old) within
-          (λ key n. get_or-set_other s.table id key (Some (s.start + at)) None (got.not_named names blocks s stand id at size free fits block key b old n))
+      (λ key n. get_or-set_other s.table id key (Some (s.start + at)) None (got.not_named names blocks s stand id at size free fits block key b old n))
       ∙ ap (λ n. translated s.table (word_for n offset)) (sym name)
 
   pub keeps_got : KeepsAddresses all blocks (got.later names blocks s stand id at size free fits) s new

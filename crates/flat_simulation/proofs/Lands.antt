@@ -173,9 +173,11 @@ module _ {P : Type 0} (x : Image P) (p : Ir) (image : IsImage x p) (thread : ℕ
         top = top;
         clear = its_clear word all later a (aside (stack_address x.layout thread) (stack_address x.layout thread + x.layout.limits.stack));
         callers = its_callers word all later now a (aside (stack_address x.layout thread) (stack_address x.layout thread + q.below.stack)) keeps.1;
-      } in
-      (all, acted_ends x.layout p thread n all given w later m now a,
-       lands all later now (after_ l st.to v) after a.aged.each_later fresh (acts_way x p thread n all AnyBlock m.storage now.storage (record { at = k; own = l }) (record { at = k; own = q }) place (step st) here tt stands r after goes keeps.0) (own_list st) refl)
+      } in (
+        all,
+        acted_ends x.layout p thread n all given w later m now a,
+        lands all later now (after_ l st.to v) after a.aged.each_later fresh (acts_way x p thread n all AnyBlock m.storage now.storage (record { at = k; own = l }) (record { at = k; own = q }) place (step st) here tt stands r after goes keeps.0) (own_list st) refl,
+      )
     where
       its_room : (word : Option ℕ) → (word_after q st.to word).below.stack + objects_bytes frame.func.objects ≤ x.layout.limits.stack
       its_room None = frame.room

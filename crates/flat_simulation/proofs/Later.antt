@@ -93,15 +93,17 @@ module _ {P : Type 0} (x : Image P) (p : Ir) (thread : ℕ) (names all : List Na
   callers_later above (k ∷ ks) [] aside keeps stand = absurd stand
   callers_later above (k ∷ ks) (q ∷ qs) aside keeps stand =
       let c = stand.0 in
-      let is = c.above_it in
-      (record {
-        point = point_later x p thread names all AnyBlock AnyBlock s new (in_blocks blocks k) q later aged (λ n lt kn. tt) keeps.0 c.point;
-        frame = c.frame;
-        call = c.call;
-        above_it = c.above_it;
-        clear = clear_on names all AnyBlock AnyBlock blocks later (stack_address x.layout thread + q.own.below.stack) (stack_address x.layout thread + above) (stack_address x.layout thread) (stack_address x.layout thread + above) k.own.objects aged (λ n lt kn. tt) aside
-            (omega arith) (omega arith) c.clear;
-      }, callers_later q.own.below.stack ks qs (aside_below all blocks later (stack_address x.layout thread) (stack_address x.layout thread + above) (stack_address x.layout thread + q.own.below.stack) (omega (arith, is)) aside) keeps.1 stand.1)
+      let is = c.above_it in (
+        record {
+          point = point_later x p thread names all AnyBlock AnyBlock s new (in_blocks blocks k) q later aged (λ n lt kn. tt) keeps.0 c.point;
+          frame = c.frame;
+          call = c.call;
+          above_it = c.above_it;
+          clear = clear_on names all AnyBlock AnyBlock blocks later (stack_address x.layout thread + q.own.below.stack) (stack_address x.layout thread + above) (stack_address x.layout thread) (stack_address x.layout thread + above) k.own.objects aged (λ n lt kn. tt) aside
+              (omega arith) (omega arith) c.clear;
+        },
+        callers_later q.own.below.stack ks qs (aside_below all blocks later (stack_address x.layout thread) (stack_address x.layout thread + above) (stack_address x.layout thread + q.own.below.stack) (omega (arith, is)) aside) keeps.1 stand.1,
+      )
 
 -- ---- a thread, later
 

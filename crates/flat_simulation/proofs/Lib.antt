@@ -30,6 +30,9 @@ pub mod Frames
 pub mod Texts
 pub mod Numbering
 pub mod GoingAlike
+pub mod Public
+pub mod FirstBytes
+pub mod First
 pub mod SteppingAlike
 pub mod EventRuns
 pub mod EventKinds
@@ -62,6 +65,7 @@ pub mod Ends
 pub mod Leads
 pub mod Returns
 pub mod Lands
+pub mod Going
 pub mod Putting
 pub mod WrongKinds
 pub mod Stopping
@@ -70,3 +74,10 @@ pub mod ActsAlike
 pub mod Follow
 pub mod StepReached
 pub mod Followed
+pub mod WordsCome
+pub mod TurnsStand
+pub mod StepKinds
+pub mod SourceRuns
+pub mod EventsStand
+pub mod AllEvents
+pub mod LoadedData

@@ -171,18 +171,20 @@ module _ {P : Type 0} (x : Image P) (st : State P) (names : List Name) (blocks :
   callers_stay p thread above [] [] stand_ among = tt
   callers_stay p thread above [] (q ∷ qs) stand_ among = absurd stand_
   callers_stay p thread above (k ∷ ks) [] stand_ among = absurd stand_
-  callers_stay p thread above (k ∷ ks) (q ∷ qs) stand_ among =
-      (call_stays q (list_at (x.flow.here q.at)) refl (call_has_list (x.flow.here q.at) stand_.0.call) (λ w i. among w (in_left w (handles_here x.flow q) (flat_map (handles_here x.flow) qs) i)),
-       callers_stay p thread q.own.below.stack ks qs stand_.1 (λ w i. among w (in_right w (handles_here x.flow q) (flat_map (handles_here x.flow) qs) i)))
+  callers_stay p thread above (k ∷ ks) (q ∷ qs) stand_ among = (
+    call_stays q (list_at (x.flow.here q.at)) refl (call_has_list (x.flow.here q.at) stand_.0.call) (λ w i. among w (in_left w (handles_here x.flow q) (flat_map (handles_here x.flow) qs) i)),
+    callers_stay p thread q.own.below.stack ks qs stand_.1 (λ w i. among w (in_right w (handles_here x.flow q) (flat_map (handles_here x.flow) qs) i)),
+  )
 
   -- ---- threads
 
   -- a thread that stands at a list
   at_list : (p : Ir) (thread : ℕ) (k : Option (Thread P Own)) (q : Thread P Words) (above : ℕ) (ks : List (Point P Own)) → is_some (list_at (x.flow.here q.top.at)) ≡ true → CallersStand x p thread names blocks s above ks q.callers
       → ((w : ℕ) → In w (handles_here x.flow q.top ++ flat_map (handles_here x.flow) q.callers) → In w all_handles) → KeepCalls x.flow names blocks blocks s new (q.top ∷ q.callers)
-  at_list p thread k q above ks some under among =
-      (call_stays q.top (list_at (x.flow.here q.top.at)) refl some (λ w i. among w (in_left w (handles_here x.flow q.top) (flat_map (handles_here x.flow) q.callers) i)),
-       callers_stay p thread above ks q.callers under (λ w i. among w (in_right w (handles_here x.flow q.top) (flat_map (handles_here x.flow) q.callers) i)))
+  at_list p thread k q above ks some under among = (
+    call_stays q.top (list_at (x.flow.here q.top.at)) refl some (λ w i. among w (in_left w (handles_here x.flow q.top) (flat_map (handles_here x.flow) q.callers) i)),
+    callers_stay p thread above ks q.callers under (λ w i. among w (in_right w (handles_here x.flow q.top) (flat_map (handles_here x.flow) q.callers) i)),
+  )
 
   stage_stays : (p : Ir) (thread : ℕ) (k : Option (Thread P Own)) (g : Option (Stage P)) → StageStands x p thread names blocks s k g → ((stage : Stage P) → g ≡ Some stage → (stands x.flow stage ≡ true) × ((w : ℕ) → In w (handles_of x.flow stage) → In w all_handles))
       → KeepsStage x.flow names blocks blocks s new g
@@ -191,9 +193,10 @@ module _ {P : Type 0} (x : Image P) (st : State P) (names : List Name) (blocks :
   stage_stays p thread (Some k) (Some (going q)) stand_ may = let m = may (going q) refl in at_list p thread (Some k) q q.top.own.below.stack k.callers m.0 stand_.callers m.1
   stage_stays p thread (Some k) (Some (waiting q)) stand_ may = let m = may (waiting q) refl in at_list p thread (Some k) q q.top.own.below.stack k.callers m.0 stand_.callers m.1
   stage_stays p thread (Some k) (Some (landed list q)) stand_ may =
-      let m = may (landed list q) refl in
-      (list_stays q.top.own list (λ w i. m.1 w (in_left w (handles_in q.top.own (Some list)) (flat_map (handles_here x.flow) q.callers) i)),
-       callers_stay p thread q.top.own.below.stack k.callers q.callers stand_.fresh.callers (λ w i. m.1 w (in_right w (handles_in q.top.own (Some list)) (flat_map (handles_here x.flow) q.callers) i)))
+      let m = may (landed list q) refl in (
+        list_stays q.top.own list (λ w i. m.1 w (in_left w (handles_in q.top.own (Some list)) (flat_map (handles_here x.flow) q.callers) i)),
+        callers_stay p thread q.top.own.below.stack k.callers q.callers stand_.fresh.callers (λ w i. m.1 w (in_right w (handles_in q.top.own (Some list)) (flat_map (handles_here x.flow) q.callers) i)),
+      )
   stage_stays p thread None (Some (going q)) stand_ may = absurd stand_
   stage_stays p thread None (Some (waiting q)) stand_ may = absurd stand_
   stage_stays p thread None (Some (landed list q)) stand_ may = absurd stand_

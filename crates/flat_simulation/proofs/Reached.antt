@@ -161,8 +161,8 @@ module _ (names : List Name) (blocks : Blocks) (s : Storage) (stand : BlocksStan
       let j = are_joined (printed_bytes blocks p) (all_bytes blocks ps) all e in
       both_stay names s (part_reads s.bytes q room) _ (reading_part blocks p) _ (part_stays p q room j.before is.0 j.first_is)
       (subst (λ r. StaysInBlocks names s (reads_behind (flat.read_part s.bytes q room) room (print_reads s.bytes qs)) (reading_on r (reading_parts blocks ps))) (sym j.first_is)
-          (subst (λ r. StaysInBlocks names s (reads_behind r room (print_reads s.bytes qs)) (reading_parts blocks ps)) (sym (part_read names blocks s stand p q room j.before is.0 j.first_is))
-              (by_room (nat_le (length j.before) room) j.before (λ k. parts_stay ps qs j.rest is.1 j.after_is k))))
+      (subst (λ r. StaysInBlocks names s (reads_behind r room (print_reads s.bytes qs)) (reading_parts blocks ps)) (sym (part_read names blocks s stand p q room j.before is.0 j.first_is))
+      (by_room (nat_le (length j.before) room) j.before (λ k. parts_stay ps qs j.rest is.1 j.after_is k))))
     where
       by_room : (t : Bool) (first : List ℕ) → ((k : ℕ) → StaysInBlocks names s (print_reads s.bytes qs k) (reading_parts blocks ps)) → StaysInBlocks names s (reads_behind (if t then reads first else too_long) room (print_reads s.bytes qs)) (reading_parts blocks ps)
       by_room true first more = more (room - length first)

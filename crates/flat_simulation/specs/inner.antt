@@ -16,3 +16,5 @@ pub mod Worlds
 pub mod Threads
 pub mod Operands
 pub mod Kept
+pub mod Next
+pub mod Data

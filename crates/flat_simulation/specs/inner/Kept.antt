@@ -45,7 +45,7 @@ module _ (p : Ir) (limits : Limits) where
     -- a step, or the return of its first function, that isn't left waiting
     pub acts : (choice : Choice) → StandsBefore loaded (Some g) steps → MayAct m.storage (thread_at loaded g).top.own choice (structured.here (thread_at loaded g).top.at) → choice ≢ wait
         → TurnsAlike loaded p thread names (chosen_id choice) (own_list_of (structured.here (thread_at loaded g).top.at)) w m (source_turn p thread (answer_of loaded m choice (thread_at loaded g)) k w)
-            (stop_of loaded thread choice (thread_at loaded g) m)
+        (stop_of loaded thread choice (thread_at loaded g) m)
 
   pub record EventsKeep : Type 0 where
     pub thread : (thread : ℕ) (names : List Name) (w : World) (m : Memory) (k : Thread Position Own) (g : Stage Position) → WorldStands loaded.layout p names w m → StageStands loaded p thread names w.blocks m.storage (Some k) (Some g)
