@@ -98,7 +98,7 @@ module _ (p : Ir) (limits : Limits) where
   tried_here m thread choice t (does place (step st)) e moving halts =
       tried_told x thread choice st.action (map (target_of t.top.own) st.places) (map (word_at t.top.own) st.temps) m moving
       (action_tried t st.to (actions_of_words.acted x.layout thread choice st.action (map (target_of t.top.own) st.places) (map (word_at t.top.own) st.temps) m)
-          (subst (λ k. Halts (stop_at structured (words_machine x.layout thread) (words_world x.layout thread) x.start choice t m k)) e halts))
+      (subst (λ k. Halts (stop_at structured (words_machine x.layout thread) (words_world x.layout thread) x.start choice t m k)) e halts))
   tried_here m thread choice t (does place (look slot base)) e moving halts = refl
   tried_here m thread choice t (does place (safepoint slots)) e moving halts = refl
   tried_here m thread choice t (does place (begin_object i)) e moving halts = refl

@@ -84,7 +84,7 @@ module _ (p : Ir) (limits : Limits) where
   done_moves thread choice m t (does place (step st)) e may done waits =
       room_waits thread m t st (subst (λ c. MayDo m.storage t.top.own c st.action st.temps) waits may) (map (target_of t.top.own) st.places)
       (subst (λ c. Finishes (stop_at structured (words_machine x.layout thread) (words_world x.layout thread) x.start c t m (does place (step st)))) waits
-          (subst (λ k. Finishes (stop_at structured (words_machine x.layout thread) (words_world x.layout thread) x.start choice t m k)) e done))
+      (subst (λ k. Finishes (stop_at structured (words_machine x.layout thread) (words_world x.layout thread) x.start choice t m k)) e done))
   done_moves thread choice m t (does place (look slot base)) e may done waits = cc
   done_moves thread choice m t (does place (safepoint slots)) e may done waits = cc
   done_moves thread choice m t (does place (begin_object i)) e may done waits = cc
@@ -190,7 +190,7 @@ pub steps_follow : (p : Ir) (limits : Limits) → IsImage (structured_image p li
 steps_follow p limits image names u s stand takes = record {
   reaches = λ thread choice t stage i e may at.
       subst (λ o. All (λ r. Unbroken (picked (program_of p) u r) → StepReaches (structured_image p limits) p names u s.memory r t (thread_at (structured_image p limits) stage))
-          (picks_of_act (structured_image p limits) s.memory thread choice o ++ tried_at (structured_image p limits) s.memory thread choice o)) (sym e)
+      (picks_of_act (structured_image p limits) s.memory thread choice o ++ tried_at (structured_image p limits) s.memory thread choice o)) (sym e)
       (any_reach p limits image names u s stand takes may.0 thread choice t i stage e (subst (λ o. StandsBefore (structured_image p limits) o steps) e at) (subst (λ o. MayStepAt (structured_image p limits) s.memory choice o) e may.1));
   waits = λ thread choice may end. act_waits p limits image names u s stand takes may.0 thread choice may end;
   traps = λ thread choice may end. act_breaks p limits image names u s stand takes may.0 thread choice may end;

@@ -123,7 +123,7 @@ module _ (p : Ir) (limits : Limits) (image : IsImage (structured_image p limits)
           let stands_there = stopped_stands x p image thread names w m world k q stand stop t in
           let ok : is_step (scope_of p stand.frame.func) st ≡ true = subst (λ z. is_here (scope_of p stand.frame.func) z ≡ true) here (in_range x p image q.top.own stand.frame t.stands.way q.top.at t.stands.path) in
           let within = step_within x p thread n (left_ t) m world_there t.own refl q.top.own stands_there.call stand.frame place st choice ok
-              (leads_there x p image thread n m.storage (record { at = q.top.at; own = t.own }) q.top world_there.blocks stands_there place st here) action is in
+          (leads_there x p image thread n m.storage (record { at = q.top.at; own = t.own }) q.top world_there.blocks stands_there place st here) action is in
           let told : answer ≡ action_answer x m choice st.action = ap (answer_here x m choice) here in
           let e : source_turn p thread answer k w ≡ served structured (there x p image thread (code_of p) names w m world k q stand stop t) (source.served_by place t.own st.to (actions.acted (left_ t) thread answer action))
           = turn_is ∙ ap (λ r. served structured (there x p image thread (code_of p) names w m world k q stand stop t) (served_if place thread answer t.own st.to (left_ t) r)) is in

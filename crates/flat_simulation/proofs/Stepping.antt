@@ -87,14 +87,14 @@ module _ {P : Type 0} (x : Image P) (p : Ir) (image : IsImage x p) (thread : ℕ
 
     by_action : (t : Stop) (r : Result actions.Action Fault) → action_of place t.own st ≡ r
         → TurnsAlike x p thread t.made_names (chosen_id choice) (own_list st) (left_ t) m (served x.flow (there t) (served_if place thread (action_answer x m choice st.action) t.own st.to (left_ t) r))
-            (stop_at x.flow (words_machine x.layout thread) (words_world x.layout thread) x.start choice q m (does place (step st)))
+        (stop_at x.flow (words_machine x.layout thread) (words_world x.layout thread) x.start choice q m (does place (step st)))
     by_action t (Err f) e = tt
     by_action t (Ok action) e =
         let n = t.made_names in
         let world_there = stopped_world x p image thread names w m world k q stand stop t in
         let stands_there = stopped_stands x p image thread names w m world k q stand stop t in
         let alike = step_alike x p thread n (left_ t) m world_there t.own refl q.top.own stands_there.call stand.frame place st choice (step_in_range t)
-            (leads_there x p image thread n m.storage (record { at = q.top.at; own = t.own }) q.top world_there.blocks stands_there place st here) may not_waiting action e in
+        (leads_there x p image thread n m.storage (record { at = q.top.at; own = t.own }) q.top world_there.blocks stands_there place st here) may not_waiting action e in
         step_lands x p image thread stand.stack n w m t.own world_there q.top.at q.top.own k.callers q.callers stands_there stand.frame (stopped_clear x p image thread names w m world k q stand stop t) (stopped_callers x p image thread names w m world k q stand stop t) place st here
         (chosen_id choice) _ _ alike
 
@@ -151,7 +151,7 @@ module _ {P : Type 0} (x : Image P) (p : Ir) (image : IsImage x p) (thread : ℕ
       | inl t ↦
           let none = none_waits k.callers q.callers last stand.callers in
           let turn_is = turn_stops answers.Plain t ∙ ap (λ h. stop_at x.flow (blocks_machine p) (blocks_world p thread) code answers.Plain (there t) (left_ t) h) here
-              ∙ ap (λ cs. left_call x.flow (blocks_world p thread) answers.Plain t.own temp (left_ t) cs) none in
+          ∙ ap (λ cs. left_call x.flow (blocks_world p thread) answers.Plain t.own temp (left_ t) cs) none in
           let words_stop : stop_of x thread plain q m ≡ ended q.top.own (thread_ended m thread (given q.top.own temp)) =
           ap (λ h. stop_at x.flow (words_machine x.layout thread) (words_world x.layout thread) x.start plain q m h) here ∙ ap (λ cs. left_call x.flow (words_world x.layout thread) plain q.top.own temp m cs) last in
           subst (λ o. TurnsAlike x p thread names [] list w m o (stop_of x thread plain q m)) (sym turn_is)
