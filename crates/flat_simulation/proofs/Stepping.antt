@@ -1,8 +1,6 @@
 -- A turn that ends in a step, or in the return of its thread's first function: what comes of it is alike over named blocks and over words.
-use Rattle.std.proofs.Common.{◌≡◌, ℕ, ℤ, ◌+◌, ◌^◌, ◌<◌, pos, Bool, true, false, ◌&&◌, List, [], ◌∷◌, length, map, Option, Some, None, Result, Ok, Err, refl, sym, ap, subst, ◌∙◌, ◌⊎◌, inl, inr, arith}
-use Rattle.std.specs.Prelude.{if◌then◌else◌, slice_get}
+use Rattle.std.proofs.Common.{◌≡◌, ℕ, ℤ, ◌<◌, true, List, [], ◌∷◌, length, Option, Some, None, Result, Ok, Err, refl, sym, ap, subst, ◌∙◌, inl, inr, arith}
 use Rattle.std.proofs.lemmas.Bool.{ltb-true}
-use Rattle.ak_words.specs.declared.number.Num.{Num}
 use Rattle.ak_words.specs.IntType.{int}
 use Rattle.block_store.specs.declared.values.Answer.{Answer}
 use Rattle.block_store.specs.declared.values.Answer.TheVariants as answers
@@ -11,21 +9,18 @@ use Rattle.block_store.specs.declared.values.Value.TheVariants as values
 use Rattle.block_store.specs.Actions as actions
 use Rattle.block_store.specs.Actions.{World, with_blocks}
 use Rattle.struct_ir.specs.Nodes.{Step, step, own_list, Ir}
-use Rattle.struct_ir.specs.Flow.{Here, does, returns}
+use Rattle.struct_ir.specs.Flow.{does, returns}
 use Rattle.struct_ir.specs.Machine.{Point, run}
 use Rattle.struct_ir.specs.Threads.{Thread, Outcome, ended, broke, alone, and_then, served, finished, stop_at, stop_event, left_call, turn}
 use Rattle.struct_ir.specs.Valid.{scope_of, is_below_if, is_step}
 use Rattle.struct_ir.specs.ValidCode.{is_here}
-use Rattle.ir_meaning.specs.Blocks.{Held, value, Own, Fault, wrong_kind, same_type, known, blocks_machine}
-use Rattle.ir_meaning.specs.Threads as source
+use Rattle.ir_meaning.specs.Blocks.{value, Own, Fault, wrong_kind, same_type, blocks_machine}
 use Rattle.ir_meaning.specs.Threads.{action_of, served_if, result_of, int_in, finished_with, over, blocks_world}
-use Rattle.flat_words.specs.Words.{word_of, number_word}
-use Rattle.flat_meaning.specs.Image.{Layout, Image}
+use Rattle.flat_words.specs.Words.{word_of}
+use Rattle.flat_meaning.specs.Image.{Image}
 use Rattle.flat_meaning.specs.Words.{Words, word_at}
 use Rattle.flat_meaning.specs.Memory.{Memory, thread_ended}
-use Rattle.flat_meaning.specs.Accesses as flat
 use Rattle.flat_meaning.specs.Accesses.{Choice, plain, wait}
-use Rattle.flat_meaning.specs.Machine as machine
 use Rattle.flat_meaning.specs.Machine.{words_machine, words_world, given}
 use Rattle.flat_meaning.specs.Effects.{stop_of}
 use Rattle.flat_meaning.specs.Allowed.{MayDo}
@@ -33,10 +28,9 @@ use Rattle.flat_meaning.specs.Order.{action_answer}
 use Rattle.flat_meaning.specs.Start.{chosen_id}
 use Rattle.flat_meaning.specs.Names.{Name}
 use Rattle.flat_meaning.specs.Stands.{in_blocks}
-use Rattle.flat_simulation.specs.inner.Values.{AnyBlock, KnownIn, Stands}
-use Rattle.flat_simulation.specs.inner.Calls.{CallStands}
-use Rattle.flat_simulation.specs.inner.Programs.{IsImage, HasFrame}
-use Rattle.flat_simulation.specs.inner.Worlds.{WorldStands, TurnEnded}
+use Rattle.flat_simulation.specs.inner.Values.{KnownIn, Stands}
+use Rattle.flat_simulation.specs.inner.Programs.{IsImage}
+use Rattle.flat_simulation.specs.inner.Worlds.{WorldStands}
 use Rattle.flat_simulation.specs.inner.Threads.{CallersStand, ThreadStands, TurnsAlike}
 use Rattle.flat_simulation.proofs.Numbers.{word_small}
 use Rattle.flat_simulation.proofs.Registers.{was_value}
