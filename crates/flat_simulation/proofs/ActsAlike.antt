@@ -1,8 +1,7 @@
 -- What comes of a turn that ends in what a thread's step does is alike, whatever stage the thread is at.
-use Rattle.std.proofs.Common.{◌≡◌, ℕ, List, [], ◌∷◌, Option, Some, None, refl, sym, ap, subst, ◌∙◌}
-use Rattle.block_store.specs.declared.values.Answer.{Answer}
+use Rattle.std.proofs.Common.{◌≡◌, ℕ, List, [], ◌∷◌, Some, None, refl, sym, subst}
 use Rattle.block_store.specs.Actions.{World}
-use Rattle.struct_ir.specs.Nodes.{Act, set, call, step, look, safepoint, begin_object, end_object, Ir}
+use Rattle.struct_ir.specs.Nodes.{set, call, step, look, safepoint, begin_object, end_object, Ir}
 use Rattle.struct_ir.specs.Flow.{Here, does, tests, passes, round, returns}
 use Rattle.struct_ir.specs.Threads.{Thread, turn}
 use Rattle.ir_meaning.specs.Blocks.{Own, blocks_machine}
@@ -10,8 +9,8 @@ use Rattle.ir_meaning.specs.Threads.{blocks_world}
 use Rattle.flat_meaning.specs.Image.{Image}
 use Rattle.flat_meaning.specs.Words.{Words}
 use Rattle.flat_meaning.specs.Memory.{Memory}
-use Rattle.flat_meaning.specs.Accesses.{Choice, plain, wait}
-use Rattle.flat_meaning.specs.Stages.{Stage, starts, going, waiting, landed, thread_at, Before, steps, before_here, before_act, before_return, before}
+use Rattle.flat_meaning.specs.Accesses.{Choice, wait}
+use Rattle.flat_meaning.specs.Stages.{Stage, starts, going, waiting, landed, thread_at, steps, before_here, before_return, before}
 use Rattle.flat_meaning.specs.Effects.{own_list_of, stop_of}
 use Rattle.flat_meaning.specs.Allowed.{MayAct, StandsBefore}
 use Rattle.flat_meaning.specs.Order.{answer_here, answer_of}

@@ -1,5 +1,5 @@
 -- After all events the machine's state stands for the source's after the same turns, or one of those breaks a rule.
-use Rattle.std.proofs.Common.{◌≡◌, ◌≢◌, ℕ, zero, suc, ◌+◌, ◌<◌, List, [], ◌∷◌, ◌++◌, length, Bool, true, false, Option, Some, None, refl, sym, ap, subst, ◌∙◌, arith, append_assoc, append-nil}
+use Rattle.std.proofs.Common.{◌≡◌, ℕ, ◌+◌, List, [], ◌∷◌, ◌++◌, length, Option, Some, None, refl, sym, ap, subst, ◌∙◌, append_assoc, append-nil}
 use Rattle.std.proofs.lemmas.List.{length-append}
 use Rattle.ak_words.specs.Prefix.{IsPrefix}
 use Rattle.block_store.specs.Runs as runs
@@ -10,13 +10,10 @@ use Rattle.struct_ir.specs.Threads.{Thread}
 use Rattle.ir_meaning.specs.Blocks.{Own}
 use Rattle.ir_meaning.specs.Start.{start}
 use Rattle.ir_meaning.specs.Threads.{program_of}
-use Rattle.flat_meaning.specs.declared.endings.End.{End}
 use Rattle.flat_meaning.specs.Image.{Limits, Image, structured_image}
 use Rattle.flat_meaning.specs.Words.{Words}
-use Rattle.flat_meaning.specs.Memory.{Memory}
-use Rattle.flat_meaning.specs.Accesses.{Choice, wait}
-use Rattle.flat_meaning.specs.Ready.{is_malloc}
-use Rattle.flat_meaning.specs.Stages.{Stage, starts, going, waiting, landed, looks, before, can_go}
+use Rattle.flat_meaning.specs.Accesses.{Choice}
+use Rattle.flat_meaning.specs.Stages.{Stage, starts, going, waiting, landed, looks, before}
 use Rattle.flat_meaning.specs.Effects.{step_effect, serve_effect, own_list_of}
 use Rattle.flat_meaning.specs.Events.{State, Serve, Event, local, look, act, barrier, end_or, put, put_if, after_serve, after_serves, moved_state, after, after_all}
 use Rattle.flat_meaning.specs.Order.{step_picks, picks_of_serve, picks_of_serves, picks_of, order_of}
@@ -30,7 +27,7 @@ use Rattle.flat_simulation.specs.inner.Kept.{EventsKeep}
 use Rattle.flat_simulation.specs.inner.Next.{Next}
 use Rattle.flat_simulation.proofs.EventKinds.{after_fresh, picks_of-fresh}
 use Rattle.flat_simulation.proofs.EventsStand.{local_stands, look_stands, full_stands, act_before, step_stands}
-use Rattle.flat_simulation.proofs.SourceRuns.{and_run, run_from-append, reached_then, up_then, up_map}
+use Rattle.flat_simulation.proofs.SourceRuns.{run_from-append, reached_then, up_then, up_map}
 use Rattle.flat_simulation.proofs.StepKinds.{malloc_goes_on, malloc_before}
 use Rattle.flat_simulation.proofs.TurnsStand.{still_first}
 use Rattle.flat_simulation.proofs.WordsCome.{StateComes, after_comes, serve_comes}
@@ -115,9 +112,10 @@ module _ (p : Ir) (limits : Limits) (image : IsImage (structured_image p limits)
           let is : after_serve x s v ≡ put s v.thread e = ap (put_if s v.thread (serve_effect x v.thread v.choice)) at' in
           let picks : picks_of_serve x s.memory v (own_at s.own v.thread) ≡ step_picks x s.memory v.thread v.choice t = ap (picks_of_serve x s.memory v) at' in
           let stands = step_stands p limits image takes_answers keep names u s now.stand now.come open_ order now.reached (length order) v.thread k (waiting t) at at' tt (malloc_before t.callers (structured.here t.top.at) may.0) v.choice may.2 in
-          let goes : e.end ≡ None = malloc_goes_on x v.thread t s.memory v.choice (waiting t) (own_list_of (structured.here t.top.at)) (structured.here t.top.at) may.0 in
-          (subst (λ l. After l (chosen_id v.choice) (after_serve x s v)) (sym picks) (subst (λ z. After (step_picks x s.memory v.thread v.choice t) (chosen_id v.choice) z) (sym is) stands),
-           ap (λ (z : State Position). z.end) is ∙ ap (λ o. end_or o s.end) goes ∙ open_)
+          let goes : e.end ≡ None = malloc_goes_on x v.thread t s.memory v.choice (waiting t) (own_list_of (structured.here t.top.at)) (structured.here t.top.at) may.0 in (
+            subst (λ l. After l (chosen_id v.choice) (after_serve x s v)) (sym picks) (subst (λ z. After (step_picks x s.memory v.thread v.choice t) (chosen_id v.choice) z) (sym is) stands),
+            ap (λ (z : State Position). z.end) is ∙ ap (λ o. end_or o s.end) goes ∙ open_,
+          )
 
       serve_at : (o : Option (Thread Position Own)) (g : Option (Stage Position)) → own_at u.own v.thread ≡ o → own_at s.own v.thread ≡ g → StageStands x p v.thread names u.world.blocks s.memory.storage o g → MayServe x s.memory v.choice g → Served
       serve_at (Some k) (Some (waiting t)) at at' z may = waiting_served k t at at' may
@@ -140,15 +138,15 @@ module _ (p : Ir) (limits : Limits) (image : IsImage (structured_image p limits)
       let same : length (order ++ picks) ≡ n + length picks = length-append order picks in
       subst (λ r. UpToABreak r (Next p limits names (given ++ rest) later)) (sym (run_from-append P picks more n u))
       (up_then (run_from P picks n u) (λ v. run_from P more (n + length picks) v) (Next p limits names given mid) (Next p limits names (given ++ rest) later) first (λ v e z.
-          let to : Stood z.all (order ++ picks) v mid = record { stand = z.stands; come = come; reached = reached_then P (start p) order picks u v now.reached e } in
-          up_map (run_from P more (n + length picks) v) (Next p limits z.all rest later) (Next p limits names (given ++ rest) later)
-          (λ w y. record {
-            all = y.all;
-            stands = y.stands;
-            ids = y.ids ∙ ap (λ l. l ++ rest) z.ids ∙ append_assoc (ids_in names) given rest;
-            first = prefix_then names z.all y.all z.first y.first;
-          })
-          (subst (λ k. UpToABreak (run_from P more k v) (Next p limits z.all rest later)) same (then_ z.all v to))))
+      let to : Stood z.all (order ++ picks) v mid = record { stand = z.stands; come = come; reached = reached_then P (start p) order picks u v now.reached e } in
+      up_map (run_from P more (n + length picks) v) (Next p limits z.all rest later) (Next p limits names (given ++ rest) later)
+      (λ w y. record {
+        all = y.all;
+        stands = y.stands;
+        ids = y.ids ∙ ap (λ l. l ++ rest) z.ids ∙ append_assoc (ids_in names) given rest;
+        first = prefix_then names z.all y.all z.first y.first;
+      })
+      (subst (λ k. UpToABreak (run_from P more k v) (Next p limits z.all rest later)) same (then_ z.all v to))))
 
   nothing : (names : List Name) (order : List Pick) (u : Source) (s : State Position) → StateStands x p names u s → Comes names order u [] [] s
   nothing names order u s stand = record { all = names; stands = stand; ids = sym (append-nil (ids_in names)); first = still_first names }

@@ -1,5 +1,5 @@
 -- What each action leaves: where it is done over named blocks, it is done over words, and what threads share still stands.
-use Rattle.std.proofs.Common.{◌≡◌, ◌≢◌, ℕ, ℤ, ◌+◌, ◌*◌, ◌^◌, ◌<◌, ◌≤◌, pos, Bool, true, false, ◌==◌, List, [], ◌∷◌, ◌++◌, length, Option, Some, None, Result, Ok, Err, refl, sym, ap, subst, ◌∙◌, ◌⊎◌, inl, inr, arith, length-append}
+use Rattle.std.proofs.Common.{◌≡◌, ℕ, ℤ, ◌+◌, ◌*◌, ◌^◌, ◌<◌, ◌≤◌, pos, Bool, true, false, ◌==◌, List, [], ◌∷◌, ◌++◌, length, Option, Some, None, Result, Ok, Err, refl, sym, ap, subst, ◌∙◌, inl, inr, arith}
 use Rattle.std.specs.Prelude.{if◌then◌else◌, nat_le, nat_lt, slice_get}
 use Rattle.std.specs.Prelude as std
 use Rattle.std.proofs.lemmas.Bool.{ne_eqb, ltb-true, lt-ltb}
@@ -17,7 +17,7 @@ use Rattle.block_store.specs.declared.values.Answer.TheVariants as answers
 use Rattle.block_store.specs.declared.values.BlockKind.TheVariants as kinds
 use Rattle.block_store.specs.declared.values.Cell.TheVariants.{Unknown}
 use Rattle.block_store.specs.declared.values.Ptr.{Ptr}
-use Rattle.block_store.specs.declared.values.Ptr.TheVariants.{Null, To}
+use Rattle.block_store.specs.declared.values.Ptr.TheVariants.{To}
 use Rattle.block_store.specs.declared.values.Value.{Value}
 use Rattle.block_store.specs.declared.values.Value.TheVariants as values
 use Rattle.block_store.specs.Blocks as blocks
@@ -26,11 +26,9 @@ use Rattle.block_store.specs.Cells.{access_of}
 use Rattle.block_store.specs.Mutexes as mutexes
 use Rattle.block_store.specs.Actions as source
 use Rattle.block_store.specs.Actions.{World, Reached, Stage, running, returned, joined, with_blocks, with_reached, all_bytes, telling, reads_of, writes_of}
-use Rattle.flat_store.specs.Flat.{with_bytes}
 use Rattle.handle_words.specs.Handle.{handle_of}
 use Rattle.handle_table.specs.Table.{IsFree}
 use Rattle.sub_heaps.specs.SubHeaps.{rounded, FitsAt}
-use Rattle.defrag_move.specs.Arena.{Storage}
 use Rattle.struct_ir.specs.Nodes.{Func, Ir}
 use Rattle.ir_meaning.specs.Blocks.{value}
 use Rattle.flat_words.specs.Words.{word_of, number_word}
@@ -47,9 +45,9 @@ use Rattle.flat_meaning.specs.Names.{Name, heap, plain, name_of, word_for, ids_i
 use Rattle.flat_meaning.specs.Stands.{ResultStands}
 use Rattle.flat_simulation.specs.inner.Aged.{Aged}
 use Rattle.flat_simulation.specs.inner.Values.{AnyBlock, Points, PointerStands, Stands}
-use Rattle.flat_simulation.specs.inner.Calls.{LiesThere, DataStands}
+use Rattle.flat_simulation.specs.inner.Calls.{DataStands}
 use Rattle.flat_simulation.specs.inner.World.{BlocksStand}
-use Rattle.flat_simulation.specs.inner.Worlds.{MadeStands, AllMadeStand, WorldStands, IsBorn, MayBear, Acted, GivenAlike, DoneAlike}
+use Rattle.flat_simulation.specs.inner.Worlds.{MadeStands, AllMadeStand, WorldStands, MayBear, Acted, GivenAlike, DoneAlike}
 use Rattle.flat_simulation.specs.inner.Lags.{KeepsAddresses}
 use Rattle.flat_simulation.specs.inner.Operands.{TargetStands}
 use Rattle.flat_simulation.proofs.Numbers.{word_small}

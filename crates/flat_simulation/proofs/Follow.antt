@@ -1,22 +1,18 @@
 -- Whatever step may come next follows the source's turn: it touches what that reaches; it waits where that waits, and traps where that
 -- breaks a rule.
-use Rattle.std.proofs.Common.{◌≡◌, ◌≢◌, ℕ, zero, suc, ◌<◌, Bool, true, false, List, [], ◌∷◌, ◌++◌, length, map, Option, Some, None, Result, Ok, Err, is_some, refl, sym, ap, subst, ◌∙◌, ◌⊎◌, inl, inr, arith}
-use Rattle.std.specs.Prelude.{All, if◌then◌else◌, slice_index_or, IsSome}
-use Rattle.std.proofs.lemmas.List.Elements.{All-append}
+use Rattle.std.proofs.Common.{◌≡◌, ◌≢◌, ℕ, zero, suc, List, [], ◌∷◌, map, Option, Some, None, refl, sym, ap, subst, ◌∙◌, arith}
+use Rattle.std.specs.Prelude.{All, if◌then◌else◌, IsSome}
 use Rattle.block_store.specs.declared.values.Answer.{Answer}
-use Rattle.block_store.specs.declared.values.Answer.TheVariants as answers
-use Rattle.block_store.specs.Actions as actions
 use Rattle.block_store.specs.Actions.{World}
 use Rattle.block_store.specs.Runs as runs
 use Rattle.block_store.specs.Runs.{Pick, own_at, picked, turn_if}
-use Rattle.struct_ir.specs.Nodes.{Action, malloc, Act, set, call, step, look, safepoint, begin_object, end_object, Ir}
+use Rattle.struct_ir.specs.Nodes.{set, call, step, look, safepoint, begin_object, end_object, Ir}
 use Rattle.struct_ir.specs.Flow.{Here, does, tests, passes, round, returns}
 use Rattle.struct_ir.specs.Structured.{Position, structured}
 use Rattle.struct_ir.specs.Threads.{Thread, Outcome, went, ended, blocked, broke, unfit, served, stop_at}
 use Rattle.ir_meaning.specs.Blocks.{Own, Fault, broken, wrong_kind}
 use Rattle.ir_meaning.specs.Threads.{program_of, turned, code_of}
 use Rattle.flat_meaning.specs.declared.endings.TrapKind.{TrapKind}
-use Rattle.flat_meaning.specs.declared.endings.End.{End}
 use Rattle.flat_meaning.specs.declared.endings.End.TheVariants as ends
 use Rattle.flat_meaning.specs.Image.{Limits, Image, structured_image}
 use Rattle.flat_meaning.specs.Words.{Words, word_at, target_of}
@@ -25,7 +21,7 @@ use Rattle.flat_meaning.specs.Machine.{words_machine, words_world, served_by}
 use Rattle.flat_meaning.specs.Memory.{Memory}
 use Rattle.flat_meaning.specs.Accesses as flat
 use Rattle.flat_meaning.specs.Accesses.{Choice, plain, got, null, wait}
-use Rattle.flat_meaning.specs.Stages.{Stage, starts, going, waiting, landed, thread_at, Before, safe, looks, steps, calls, turn_over, nothing, before, room_for, can_go}
+use Rattle.flat_meaning.specs.Stages.{Stage, starts, going, waiting, landed, thread_at, Before, safe, looks, steps, calls, turn_over, nothing, before}
 use Rattle.flat_meaning.specs.Effects.{own_list_of, stop_of, no_effect, ends_run, acted, act_before, act_effect}
 use Rattle.flat_meaning.specs.Events.{State, act, put_if, after, end_or}
 use Rattle.flat_meaning.specs.Allowed.{MayAct, MayStep, MayStepAt, IsAllowed, StandsBefore}
@@ -98,7 +94,7 @@ module _ (p : Ir) (limits : Limits) where
   tried_here m thread choice t (does place (step st)) e moving halts =
       tried_told x thread choice st.action (map (target_of t.top.own) st.places) (map (word_at t.top.own) st.temps) m moving
       (action_tried t st.to (actions_of_words.acted x.layout thread choice st.action (map (target_of t.top.own) st.places) (map (word_at t.top.own) st.temps) m)
-          (subst (λ k. Halts (stop_at structured (words_machine x.layout thread) (words_world x.layout thread) x.start choice t m k)) e halts))
+      (subst (λ k. Halts (stop_at structured (words_machine x.layout thread) (words_world x.layout thread) x.start choice t m k)) e halts))
   tried_here m thread choice t (does place (look slot base)) e moving halts = refl
   tried_here m thread choice t (does place (safepoint slots)) e moving halts = refl
   tried_here m thread choice t (does place (begin_object i)) e moving halts = refl

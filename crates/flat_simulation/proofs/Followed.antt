@@ -1,15 +1,15 @@
 -- In a state that stands for the source's, whatever step may come next follows the source's turn.
-use Rattle.std.proofs.Common.{◌≡◌, ◌≢◌, ℕ, ◌<◌, List, [], ◌∷◌, ◌++◌, length, map, Option, Some, None, refl, sym, ap, subst, ◌∙◌}
+use Rattle.std.proofs.Common.{◌≡◌, ◌≢◌, ℕ, List, [], ◌∷◌, ◌++◌, map, Option, Some, None, refl, sym, subst, ◌∙◌}
 use Rattle.std.specs.Prelude.{All}
 use Rattle.std.proofs.lemmas.List.Elements.{All-append}
 use Rattle.block_store.specs.declared.values.Answer.{Answer}
 use Rattle.block_store.specs.Actions.{World}
 use Rattle.block_store.specs.Runs as runs
 use Rattle.block_store.specs.Runs.{Pick, own_at, picked}
-use Rattle.struct_ir.specs.Nodes.{Action, load, store, copy_bytes, malloc, free, print, lock, unlock, destroy, start, join, Act, set, call, Step, step, look, safepoint, begin_object, end_object, Ir}
+use Rattle.struct_ir.specs.Nodes.{Action, load, store, copy_bytes, malloc, free, print, lock, unlock, destroy, start, join, set, call, Step, step, look, safepoint, begin_object, end_object, Ir}
 use Rattle.struct_ir.specs.Flow.{Here, does, tests, passes, round, returns}
 use Rattle.struct_ir.specs.Structured.{Position, structured}
-use Rattle.struct_ir.specs.Threads.{Thread, Outcome, went, ended, blocked, broke, unfit, served, stop_at, left_call}
+use Rattle.struct_ir.specs.Threads.{Thread, Outcome, went, ended, blocked, broke, unfit, served, stop_at}
 use Rattle.ir_meaning.specs.Blocks.{Own, Fault}
 use Rattle.ir_meaning.specs.Threads.{program_of, code_of}
 use Rattle.flat_meaning.specs.Image.{Limits, Image, structured_image}
@@ -21,19 +21,18 @@ use Rattle.flat_meaning.specs.Actions as actions_of_words
 use Rattle.flat_meaning.specs.Machine.{words_machine, words_world, served_by}
 use Rattle.flat_meaning.specs.Stages.{Stage, starts, going, waiting, landed, thread_at, Before, steps, before_here, before}
 use Rattle.flat_meaning.specs.Effects.{stop_of}
-use Rattle.flat_meaning.specs.Events.{State, act}
-use Rattle.flat_meaning.specs.Allowed.{MayDo, MayAct, MayStep, MayStepAt, IsAllowed, StandsBefore}
-use Rattle.flat_meaning.specs.Order.{pick, pick_if, answer_of, tried_answer, tried_if, act_picks, tried_before, picks_of_act, tried_at}
+use Rattle.flat_meaning.specs.Events.{State}
+use Rattle.flat_meaning.specs.Allowed.{MayDo, MayAct, MayStep, MayStepAt, StandsBefore}
+use Rattle.flat_meaning.specs.Order.{pick, pick_if, answer_of, tried_if, act_picks, tried_before, picks_of_act, tried_at}
 use Rattle.flat_meaning.specs.Names.{Name}
 use Rattle.flat_meaning.specs.Reaching.{Unbroken, StepReaches}
-use Rattle.flat_meaning.specs.Simulation.{StepsFollow, turns_at}
+use Rattle.flat_meaning.specs.Simulation.{StepsFollow}
 use Rattle.flat_simulation.specs.inner.Programs.{IsImage}
 use Rattle.flat_simulation.specs.inner.Threads.{StateStands, TurnsAlike}
-use Rattle.flat_simulation.specs.inner.Kept.{source_turn}
 use Rattle.flat_simulation.proofs.ActsAlike.{begun_stands, at_step}
 use Rattle.flat_simulation.proofs.Stopping.{IsStop}
 use Rattle.flat_simulation.proofs.StepReached.{step_reaches}
-use Rattle.flat_simulation.proofs.Follow.{none_all, one_all, Halts, tried_all, tried_here, TakeAnswers, thread_there, its_alike, its_stage, its_right, its_pick, act_waits, act_breaks}
+use Rattle.flat_simulation.proofs.Follow.{none_all, one_all, tried_all, tried_here, TakeAnswers, thread_there, its_alike, its_stage, its_right, its_pick, act_waits, act_breaks}
 
 -- ---- what is done
 
@@ -84,7 +83,7 @@ module _ (p : Ir) (limits : Limits) where
   done_moves thread choice m t (does place (step st)) e may done waits =
       room_waits thread m t st (subst (λ c. MayDo m.storage t.top.own c st.action st.temps) waits may) (map (target_of t.top.own) st.places)
       (subst (λ c. Finishes (stop_at structured (words_machine x.layout thread) (words_world x.layout thread) x.start c t m (does place (step st)))) waits
-          (subst (λ k. Finishes (stop_at structured (words_machine x.layout thread) (words_world x.layout thread) x.start choice t m k)) e done))
+      (subst (λ k. Finishes (stop_at structured (words_machine x.layout thread) (words_world x.layout thread) x.start choice t m k)) e done))
   done_moves thread choice m t (does place (look slot base)) e may done waits = cc
   done_moves thread choice m t (does place (safepoint slots)) e may done waits = cc
   done_moves thread choice m t (does place (begin_object i)) e may done waits = cc
@@ -190,7 +189,7 @@ pub steps_follow : (p : Ir) (limits : Limits) → IsImage (structured_image p li
 steps_follow p limits image names u s stand takes = record {
   reaches = λ thread choice t stage i e may at.
       subst (λ o. All (λ r. Unbroken (picked (program_of p) u r) → StepReaches (structured_image p limits) p names u s.memory r t (thread_at (structured_image p limits) stage))
-          (picks_of_act (structured_image p limits) s.memory thread choice o ++ tried_at (structured_image p limits) s.memory thread choice o)) (sym e)
+      (picks_of_act (structured_image p limits) s.memory thread choice o ++ tried_at (structured_image p limits) s.memory thread choice o)) (sym e)
       (any_reach p limits image names u s stand takes may.0 thread choice t i stage e (subst (λ o. StandsBefore (structured_image p limits) o steps) e at) (subst (λ o. MayStepAt (structured_image p limits) s.memory choice o) e may.1));
   waits = λ thread choice may end. act_waits p limits image names u s stand takes may.0 thread choice may end;
   traps = λ thread choice may end. act_breaks p limits image names u s stand takes may.0 thread choice may end;

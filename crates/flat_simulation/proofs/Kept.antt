@@ -1,17 +1,15 @@
 -- Pointers to blocks that live lead where they led: behind writes, mallocs and frees; and what they make is no stack object.
-use Rattle.std.proofs.Common.{◌≡◌, ◌≢◌, ℕ, ◌+◌, ◌*◌, ◌^◌, ◌<◌, ◌≤◌, true, false, List, length, Option, Some, None, refl, sym, ap, subst, ◌∙◌, ◌⊎◌, inl, inr, arith, get_or-set_other}
+use Rattle.std.proofs.Common.{◌≡◌, ℕ, ◌+◌, ◌*◌, ◌^◌, ◌<◌, ◌≤◌, false, List, length, Option, Some, None, refl, sym, ap, ◌∙◌, inl, inr, arith, get_or-set_other}
 use Rattle.std.specs.Prelude.{if◌then◌else◌, nat_le}
-use Rattle.std.proofs.lemmas.Bool.{le-leb}
 use Rattle.std.proofs.lemmas.Bool.Decides.{nat_tests}
 use Rattle.block_store.specs.Blocks.{Block, Blocks, live}
-use Rattle.c_tree.specs.TypedForm.{taken}
 use Rattle.handle_words.specs.Handle.{id_of, offset_of}
 use Rattle.handle_table.specs.Table.{IsFree, address_of, translated, reached}
 use Rattle.sub_heaps.specs.SubHeaps.{rounded, FitsAt}
 use Rattle.defrag_move.specs.Arena.{Storage}
 use Rattle.flat_meaning.specs.Memory.{Memory}
 use Rattle.flat_meaning.specs.Names.{Name, heap, plain, name_of, word_for}
-use Rattle.flat_simulation.specs.inner.Values.{AnyBlock, IsPlaced, Sees}
+use Rattle.flat_simulation.specs.inner.Values.{IsPlaced}
 use Rattle.flat_simulation.specs.inner.Lags.{IsAside, KeepsAddresses}
 use Rattle.flat_simulation.specs.inner.World.{BlocksStand}
 use Rattle.flat_simulation.proofs.Placed.{sees_all}

@@ -1,5 +1,5 @@
 -- Each access of a step goes through a slot that has its base's address: so its address is where the pointer in its base points.
-use Rattle.std.proofs.Common.{◌≡◌, ℕ, ◌+◌, ◌%◌, ◌^◌, ◌<◌, ◌≤◌, false, List, length, Option, Some, None, is_some, refl, sym, ap, subst, ◌∙◌, ◌⊎◌, inl, inr, arith}
+use Rattle.std.proofs.Common.{◌≡◌, ℕ, ◌+◌, false, List, length, Some, is_some, sym, ap, subst, ◌∙◌, inl, inr}
 use Rattle.block_store.specs.declared.values.Ptr.{Ptr}
 use Rattle.block_store.specs.declared.values.Ptr.TheVariants.{Null, To}
 use Rattle.block_store.specs.declared.values.Value.TheVariants as values
@@ -8,16 +8,16 @@ use Rattle.handle_table.specs.declared.frame.PinSlot.{PinSlot}
 use Rattle.handle_table.specs.Table.{address_of, translated}
 use Rattle.handle_table.specs.Frame.{slot_at}
 use Rattle.defrag_move.specs.Arena.{Storage}
-use Rattle.struct_ir.specs.Nodes.{Place, Step, step, own_list, Ir}
-use Rattle.struct_ir.specs.Flow.{Here, does}
+use Rattle.struct_ir.specs.Nodes.{Place, Step, step, Ir}
+use Rattle.struct_ir.specs.Flow.{does}
 use Rattle.struct_ir.specs.Machine.{Point}
 use Rattle.struct_ir.specs.Pins.{looked, lacks_if, listing, facts, Among}
-use Rattle.ir_meaning.specs.Blocks.{Held, value, Own}
+use Rattle.ir_meaning.specs.Blocks.{value, Own}
 use Rattle.flat_meaning.specs.Image.{Image}
 use Rattle.flat_meaning.specs.Words.{Words, word_at, base_address}
 use Rattle.flat_meaning.specs.Allowed.{list_at}
-use Rattle.flat_meaning.specs.Names.{Name, heap, plain, name_of, word_for, SlotAgrees}
-use Rattle.flat_simulation.specs.inner.Values.{AnyBlock, Points, PointerStands, Stands, IsPlaced}
+use Rattle.flat_meaning.specs.Names.{Name, heap, plain, name_of, SlotAgrees}
+use Rattle.flat_simulation.specs.inner.Values.{AnyBlock, PointerStands, Stands, IsPlaced}
 use Rattle.flat_simulation.specs.inner.Lags.{StandsIn}
 use Rattle.flat_simulation.specs.inner.Programs.{IsImage}
 use Rattle.flat_simulation.specs.inner.World.{BlocksStand, GoesTo}

@@ -1,23 +1,20 @@
 -- Where objects move that no listed slot names, and each thread stands at a list, the state still stands for the other.
-use Rattle.std.proofs.Common.{◌≡◌, ℕ, ◌+◌, Bool, List, length, Some, refl, sym, ap, ◌∙◌, ◌⊎◌}
+use Rattle.std.proofs.Common.{ℕ, Bool, List, ◌∙◌}
 use Rattle.block_store.specs.Actions.{World}
 use Rattle.block_store.specs.Runs as runs
 use Rattle.block_store.specs.Runs.{own_at}
 use Rattle.move_plan.specs.declared.moves.Move.{Move}
 use Rattle.move_plan.specs.Moving.{AreLegal}
-use Rattle.defrag_move.specs.Arena.{IsConsistent, Storage}
-use Rattle.defrag_move.specs.Moves.{KeepsObjects, after_plan}
+use Rattle.defrag_move.specs.Moves.{after_plan}
 use Rattle.defrag_move.proofs.Kept.{IsConsistent-after_plan, keeps_all}
 use Rattle.struct_ir.specs.Nodes.{Ir}
 use Rattle.struct_ir.specs.Threads.{Thread}
 use Rattle.ir_meaning.specs.Blocks.{Own}
 use Rattle.flat_meaning.specs.Image.{Layout, Image}
 use Rattle.flat_meaning.specs.Memory.{Memory, with_storage}
-use Rattle.flat_meaning.specs.Stages.{Stage}
 use Rattle.flat_meaning.specs.Events.{State, moved_state}
-use Rattle.flat_meaning.specs.Allowed.{stands, AllStand, pinned}
+use Rattle.flat_meaning.specs.Allowed.{AllStand, pinned}
 use Rattle.flat_meaning.specs.Names.{Name}
-use Rattle.flat_simulation.specs.inner.World.{BlocksStand}
 use Rattle.flat_simulation.specs.inner.Programs.{IsImage}
 use Rattle.flat_simulation.specs.inner.Worlds.{WorldStands}
 use Rattle.flat_simulation.specs.inner.Threads.{StateStands}

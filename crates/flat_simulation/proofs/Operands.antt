@@ -1,5 +1,5 @@
 -- The operands of a step over named blocks stand for those over words.
-use Rattle.std.proofs.Common.{◌≡◌, ◌≢◌, ℕ, ℤ, ◌+◌, ◌*◌, ◌^◌, ◌<◌, pos, negsuc, ◌*ℤ◌, Bool, true, false, ◌&&◌, List, [], ◌∷◌, length, map, Option, Some, None, Result, Ok, Err, refl, sym, ap, subst, ◌∙◌, ◌⊎◌, inl, inr, arith}
+use Rattle.std.proofs.Common.{◌≡◌, ◌≢◌, ℕ, ℤ, ◌<◌, pos, negsuc, ◌*ℤ◌, Bool, true, false, ◌&&◌, List, [], ◌∷◌, length, map, Option, Some, None, Ok, refl, sym, ap, subst, ◌∙◌, inl, inr, arith}
 use Rattle.std.specs.Prelude.{nat_lt, unsigned_abs}
 use Rattle.std.specs.List.{list_all}
 use Rattle.std.proofs.lemmas.Bool.{ltb-true}
@@ -18,8 +18,8 @@ use Rattle.defrag_move.specs.Arena.{Storage}
 use Rattle.struct_ir.specs.Nodes.{Place, Ir}
 use Rattle.struct_ir.specs.Valid.{Scope, is_place, are_below}
 use Rattle.struct_ir.specs.Pins.{Among}
-use Rattle.ir_meaning.specs.Blocks.{Held, value, unset, missing, Fault, Own, known, same_type, on_number}
-use Rattle.ir_meaning.specs.Threads.{address_of, all_of, indexed_if, moved_if, further, fits, number_of, on_ok}
+use Rattle.ir_meaning.specs.Blocks.{Held, value, unset, missing, Own, known, same_type}
+use Rattle.ir_meaning.specs.Threads.{address_of, all_of, indexed_if, moved_if, fits, number_of}
 use Rattle.flat_words.specs.Words.{word_of, number_word}
 use Rattle.flat_meaning.specs.Image.{Layout}
 use Rattle.flat_meaning.specs.Words.{Words, word_at, base_address, target_of}

@@ -1,11 +1,9 @@
 -- The bytes that a step touches are bytes that the source's action reaches.
-use Rattle.std.proofs.Common.{◌≡◌, ℕ, zero, suc, ◌+◌, ◌-◌, ◌%◌, ◌^◌, ◌<◌, ◌≤◌, Bool, true, false, ◌==◌, List, [], ◌∷◌, ◌++◌, length, take, drop, Option, Some, None, Result, Ok, Err, refl, sym, ap, subst, ◌∙◌, ◌⊎◌, inl, inr, arith, length-append}
+use Rattle.std.proofs.Common.{◌≡◌, ℕ, zero, suc, ◌+◌, ◌-◌, ◌%◌, ◌^◌, ◌<◌, ◌≤◌, Bool, true, false, ◌==◌, List, [], ◌∷◌, ◌++◌, length, take, drop, Option, Some, None, Ok, refl, sym, ap, subst, ◌∙◌, ◌⊎◌, inl, inr, arith, length-append}
 use Rattle.std.specs.Prelude.{if◌then◌else◌, nat_le, Any, slice_index_or}
 use Rattle.std.proofs.Math.Nat.{mod-eq_of_lt}
-use Rattle.std.proofs.lemmas.Bool.{cases_lt, ne_eqb, le-leb}
-use Rattle.std.proofs.lemmas.Bool.Decides.{nat_tests}
+use Rattle.std.proofs.lemmas.Bool.{cases_lt, ne_eqb}
 use Rattle.std.proofs.lemmas.List.{length-drop, take_all, take-append-drop, get_or_append_left, get_or-append_right}
-use Rattle.ak_words.specs.declared.rule.Rule.{Rule}
 use Rattle.block_store.specs.declared.values.Cell.{Cell}
 use Rattle.block_store.specs.declared.values.Cell.TheVariants.{Unknown, Byte, Part}
 use Rattle.block_store.specs.declared.values.Ptr.{Ptr}
@@ -13,7 +11,7 @@ use Rattle.block_store.specs.declared.values.Ptr.TheVariants.{Null, To}
 use Rattle.block_store.specs.Blocks.{Block, Blocks, live}
 use Rattle.block_store.specs.Actions as source
 use Rattle.block_store.specs.Actions.{Reached, bytes_at, cells_from, printed_bytes, all_bytes, reading_text, reading_part, reading_on, reading_parts}
-use Rattle.block_store.specs.Texts.{behind_byte, text_of, text_in}
+use Rattle.block_store.specs.Texts.{text_of, text_in}
 use Rattle.flat_store.specs.Flat.{first_address, has_byte}
 use Rattle.defrag_move.specs.Arena.{Storage}
 use Rattle.flat_meaning.specs.Names.{Name, name_of, address_for}
@@ -26,8 +24,7 @@ use Rattle.flat_simulation.specs.inner.Cells.{RowStands}
 use Rattle.flat_simulation.specs.inner.World.{BlocksStand, GoesTo}
 use Rattle.flat_simulation.proofs.Placed.{in_bytes}
 use Rattle.flat_simulation.proofs.Memory.{row_read}
-use Rattle.flat_simulation.proofs.Accesses.{IsFound, reaches}
-use Rattle.flat_simulation.proofs.Texts.{fitted, behind_one, has_some}
+use Rattle.flat_simulation.proofs.Texts.{behind_one, has_some}
 use Rattle.flat_simulation.proofs.Printed.{PartStands, PartsStand, are_joined, part_read}
 
 -- ---- elements of lists

@@ -1,5 +1,5 @@
 -- A turn has come to a stop among the blocks as they are: what is shared stands for the blocks that it leaves, and so do the calls below.
-use Rattle.std.proofs.Common.{◌≡◌, ℕ, ◌+◌, ◌<◌, ◌≤◌, List, [], ◌∷◌, ◌++◌, length, Some, refl, sym, ap, subst, ◌∙◌, arith, ◌⊎◌, inl, inr}
+use Rattle.std.proofs.Common.{◌≡◌, ℕ, ◌+◌, ◌<◌, ◌≤◌, List, [], ◌∷◌, ◌++◌, length, Some, refl, sym, ap, ◌∙◌, arith, inl, inr}
 use Rattle.std.proofs.lemmas.Bool.{cases_lt}
 use Rattle.block_store.specs.Blocks.{Block, Blocks, live}
 use Rattle.block_store.specs.Actions as source
@@ -20,7 +20,7 @@ use Rattle.flat_simulation.specs.inner.Frames.{FrameLies}
 use Rattle.flat_simulation.specs.inner.Turns.{IsClear, Far}
 use Rattle.flat_simulation.specs.inner.Lags.{IsAside}
 use Rattle.flat_simulation.specs.inner.Programs.{IsImage, HasFrame}
-use Rattle.flat_simulation.specs.inner.Worlds.{MadeStands, AllMadeStand, WorldStands, TurnEnded}
+use Rattle.flat_simulation.specs.inner.Worlds.{AllMadeStand, WorldStands, TurnEnded}
 use Rattle.flat_simulation.specs.inner.Threads.{CallersStand}
 use Rattle.flat_simulation.proofs.Alone.{lies}
 use Rattle.flat_simulation.proofs.Blocks.{live_in, aged_still, aged_name, aged_more}

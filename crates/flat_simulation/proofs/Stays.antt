@@ -1,5 +1,5 @@
 -- What a step touches stays in what the source's reaches, where that is done or waits.
-use Rattle.std.proofs.Common.{◌≡◌, ℕ, Bool, true, false, ◌&&◌, List, [], ◌∷◌, map, None, Result, Ok, Err, refl, sym, subst, ◌∙◌}
+use Rattle.std.proofs.Common.{◌≡◌, ℕ, Bool, true, false, ◌&&◌, List, [], ◌∷◌, map, None, Ok, refl, sym, subst, ◌∙◌}
 use Rattle.std.specs.Prelude.{unsigned_abs}
 use Rattle.std.specs.List.{list_all}
 use Rattle.ak_words.specs.declared.number.Num.{Num}
@@ -7,7 +7,6 @@ use Rattle.ak_words.specs.IntType.{unsigned_long}
 use Rattle.c_tree.specs.Typed.{Piece}
 use Rattle.c_tree.specs.TypedPrinting.{parts}
 use Rattle.block_store.specs.declared.values.Access.{Access}
-use Rattle.block_store.specs.declared.values.Cell.TheVariants.{Unknown}
 use Rattle.block_store.specs.declared.values.Ptr.{Ptr}
 use Rattle.block_store.specs.declared.values.Value.{Value}
 use Rattle.block_store.specs.declared.values.Value.TheVariants as values

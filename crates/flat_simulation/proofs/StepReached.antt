@@ -1,40 +1,35 @@
 -- The step that may come next touches what the source's turn reaches, where that breaks no rule.
-use Rattle.std.proofs.Common.{◌≡◌, ◌≢◌, ℕ, ◌<◌, Bool, true, false, List, [], ◌∷◌, ◌++◌, length, map, Option, Some, None, Result, Ok, Err, refl, sym, ap, subst, ◌∙◌, ◌⊎◌, inl, inr}
+use Rattle.std.proofs.Common.{◌≡◌, ◌≢◌, ℕ, true, List, Some, Result, Ok, Err, refl, sym, ap, subst, ◌∙◌, inl, inr}
 use Rattle.block_store.specs.declared.values.Answer.{Answer}
 use Rattle.block_store.specs.Actions as actions
 use Rattle.block_store.specs.Actions.{World, Reached, with_blocks}
 use Rattle.block_store.specs.Runs as runs
 use Rattle.block_store.specs.Runs.{Pick, Turn, own_at, picked}
 use Rattle.defrag_move.specs.Arena.{Storage}
-use Rattle.struct_ir.specs.Nodes.{Act, set, call, Step, step, look, safepoint, begin_object, end_object, Ir}
+use Rattle.struct_ir.specs.Nodes.{set, call, Step, step, look, safepoint, begin_object, end_object, Ir}
 use Rattle.struct_ir.specs.Flow.{Here, does, tests, passes, round, returns}
 use Rattle.struct_ir.specs.Structured.{Position, structured}
 use Rattle.struct_ir.specs.Machine.{Point}
 use Rattle.struct_ir.specs.Valid.{scope_of, is_step}
 use Rattle.struct_ir.specs.ValidCode.{is_here}
-use Rattle.struct_ir.specs.Threads.{Thread, Outcome, went, ended, blocked, broke, unfit, served, stop_at}
+use Rattle.struct_ir.specs.Threads.{Thread, Outcome, broke, unfit, served, stop_at}
 use Rattle.ir_meaning.specs.Blocks.{Own, Fault, broken, wrong_kind, blocks_machine}
 use Rattle.ir_meaning.specs.Threads as source
 use Rattle.ir_meaning.specs.Threads.{program_of, turned, code_of, action_of, served_if, blocks_world}
 use Rattle.flat_meaning.specs.Image.{Limits, Image, structured_image}
-use Rattle.flat_meaning.specs.Words.{Words, word_at, target_of}
+use Rattle.flat_meaning.specs.Words.{Words, word_at}
 use Rattle.flat_meaning.specs.Memory.{Memory}
-use Rattle.flat_meaning.specs.Accesses as flat
 use Rattle.flat_meaning.specs.Accesses.{Choice, wait}
-use Rattle.flat_meaning.specs.Stages.{Before, steps, before_here, before}
-use Rattle.flat_meaning.specs.Effects.{own_list_of, stop_of}
-use Rattle.flat_meaning.specs.Events.{State}
+use Rattle.flat_meaning.specs.Stages.{steps, before_here, before}
 use Rattle.flat_meaning.specs.Order.{pick, action_answer, answer_here, answer_of}
-use Rattle.flat_meaning.specs.Start.{chosen_id}
 use Rattle.flat_meaning.specs.Names.{Name}
-use Rattle.flat_meaning.specs.Stands.{OwnStands, PointStands}
+use Rattle.flat_meaning.specs.Stands.{PointStands}
 use Rattle.flat_meaning.specs.Touched.{Touched, touched_at}
 use Rattle.flat_meaning.specs.Reaching.{action_reads, reached_in, StaysInBlocks, StepReaches, Unbroken}
-use Rattle.flat_simulation.specs.inner.Values.{AnyBlock}
 use Rattle.flat_simulation.specs.inner.Lags.{StandsIn}
 use Rattle.flat_simulation.specs.inner.Programs.{IsImage}
 use Rattle.flat_simulation.specs.inner.Worlds.{WorldStands}
-use Rattle.flat_simulation.specs.inner.Threads.{ThreadStands, TurnsAlike}
+use Rattle.flat_simulation.specs.inner.Threads.{ThreadStands}
 use Rattle.flat_simulation.specs.inner.Operands.{StaysIf}
 use Rattle.flat_simulation.specs.inner.Kept.{source_turn}
 use Rattle.flat_simulation.proofs.Values.{agrees}
@@ -123,7 +118,7 @@ module _ (p : Ir) (limits : Limits) (image : IsImage (structured_image p limits)
           let stands_there = stopped_stands x p image thread names w m world k q stand stop t in
           let ok : is_step (scope_of p stand.frame.func) st ≡ true = subst (λ z. is_here (scope_of p stand.frame.func) z ≡ true) here (in_range x p image q.top.own stand.frame t.stands.way q.top.at t.stands.path) in
           let within = step_within x p thread n (left_ t) m world_there t.own refl q.top.own stands_there.call stand.frame place st choice ok
-              (leads_there x p image thread n m.storage (record { at = q.top.at; own = t.own }) q.top world_there.blocks stands_there place st here) action is in
+          (leads_there x p image thread n m.storage (record { at = q.top.at; own = t.own }) q.top world_there.blocks stands_there place st here) action is in
           let told : answer ≡ action_answer x m choice st.action = ap (answer_here x m choice) here in
           let e : source_turn p thread answer k w ≡ served structured (there x p image thread (code_of p) names w m world k q stand stop t) (source.served_by place t.own st.to (actions.acted (left_ t) thread answer action))
           = turn_is ∙ ap (λ r. served structured (there x p image thread (code_of p) names w m world k q stand stop t) (served_if place thread answer t.own st.to (left_ t) r)) is in

@@ -1,8 +1,6 @@
 -- A turn that ends in a step, or in the return of its thread's first function: what comes of it is alike over named blocks and over words.
-use Rattle.std.proofs.Common.{◌≡◌, ℕ, ℤ, ◌+◌, ◌^◌, ◌<◌, pos, Bool, true, false, ◌&&◌, List, [], ◌∷◌, length, map, Option, Some, None, Result, Ok, Err, refl, sym, ap, subst, ◌∙◌, ◌⊎◌, inl, inr, arith}
-use Rattle.std.specs.Prelude.{if◌then◌else◌, slice_get}
+use Rattle.std.proofs.Common.{◌≡◌, ℕ, ℤ, ◌<◌, true, List, [], ◌∷◌, length, Option, Some, None, Result, Ok, Err, refl, sym, ap, subst, ◌∙◌, inl, inr, arith}
 use Rattle.std.proofs.lemmas.Bool.{ltb-true}
-use Rattle.ak_words.specs.declared.number.Num.{Num}
 use Rattle.ak_words.specs.IntType.{int}
 use Rattle.block_store.specs.declared.values.Answer.{Answer}
 use Rattle.block_store.specs.declared.values.Answer.TheVariants as answers
@@ -11,21 +9,18 @@ use Rattle.block_store.specs.declared.values.Value.TheVariants as values
 use Rattle.block_store.specs.Actions as actions
 use Rattle.block_store.specs.Actions.{World, with_blocks}
 use Rattle.struct_ir.specs.Nodes.{Step, step, own_list, Ir}
-use Rattle.struct_ir.specs.Flow.{Here, does, returns}
+use Rattle.struct_ir.specs.Flow.{does, returns}
 use Rattle.struct_ir.specs.Machine.{Point, run}
 use Rattle.struct_ir.specs.Threads.{Thread, Outcome, ended, broke, alone, and_then, served, finished, stop_at, stop_event, left_call, turn}
 use Rattle.struct_ir.specs.Valid.{scope_of, is_below_if, is_step}
 use Rattle.struct_ir.specs.ValidCode.{is_here}
-use Rattle.ir_meaning.specs.Blocks.{Held, value, Own, Fault, wrong_kind, same_type, known, blocks_machine}
-use Rattle.ir_meaning.specs.Threads as source
+use Rattle.ir_meaning.specs.Blocks.{value, Own, Fault, wrong_kind, same_type, blocks_machine}
 use Rattle.ir_meaning.specs.Threads.{action_of, served_if, result_of, int_in, finished_with, over, blocks_world}
-use Rattle.flat_words.specs.Words.{word_of, number_word}
-use Rattle.flat_meaning.specs.Image.{Layout, Image}
+use Rattle.flat_words.specs.Words.{word_of}
+use Rattle.flat_meaning.specs.Image.{Image}
 use Rattle.flat_meaning.specs.Words.{Words, word_at}
 use Rattle.flat_meaning.specs.Memory.{Memory, thread_ended}
-use Rattle.flat_meaning.specs.Accesses as flat
 use Rattle.flat_meaning.specs.Accesses.{Choice, plain, wait}
-use Rattle.flat_meaning.specs.Machine as machine
 use Rattle.flat_meaning.specs.Machine.{words_machine, words_world, given}
 use Rattle.flat_meaning.specs.Effects.{stop_of}
 use Rattle.flat_meaning.specs.Allowed.{MayDo}
@@ -33,10 +28,9 @@ use Rattle.flat_meaning.specs.Order.{action_answer}
 use Rattle.flat_meaning.specs.Start.{chosen_id}
 use Rattle.flat_meaning.specs.Names.{Name}
 use Rattle.flat_meaning.specs.Stands.{in_blocks}
-use Rattle.flat_simulation.specs.inner.Values.{AnyBlock, KnownIn, Stands}
-use Rattle.flat_simulation.specs.inner.Calls.{CallStands}
-use Rattle.flat_simulation.specs.inner.Programs.{IsImage, HasFrame}
-use Rattle.flat_simulation.specs.inner.Worlds.{WorldStands, TurnEnded}
+use Rattle.flat_simulation.specs.inner.Values.{KnownIn, Stands}
+use Rattle.flat_simulation.specs.inner.Programs.{IsImage}
+use Rattle.flat_simulation.specs.inner.Worlds.{WorldStands}
 use Rattle.flat_simulation.specs.inner.Threads.{CallersStand, ThreadStands, TurnsAlike}
 use Rattle.flat_simulation.proofs.Numbers.{word_small}
 use Rattle.flat_simulation.proofs.Registers.{was_value}
@@ -87,14 +81,14 @@ module _ {P : Type 0} (x : Image P) (p : Ir) (image : IsImage x p) (thread : ℕ
 
     by_action : (t : Stop) (r : Result actions.Action Fault) → action_of place t.own st ≡ r
         → TurnsAlike x p thread t.made_names (chosen_id choice) (own_list st) (left_ t) m (served x.flow (there t) (served_if place thread (action_answer x m choice st.action) t.own st.to (left_ t) r))
-            (stop_at x.flow (words_machine x.layout thread) (words_world x.layout thread) x.start choice q m (does place (step st)))
+        (stop_at x.flow (words_machine x.layout thread) (words_world x.layout thread) x.start choice q m (does place (step st)))
     by_action t (Err f) e = tt
     by_action t (Ok action) e =
         let n = t.made_names in
         let world_there = stopped_world x p image thread names w m world k q stand stop t in
         let stands_there = stopped_stands x p image thread names w m world k q stand stop t in
         let alike = step_alike x p thread n (left_ t) m world_there t.own refl q.top.own stands_there.call stand.frame place st choice (step_in_range t)
-            (leads_there x p image thread n m.storage (record { at = q.top.at; own = t.own }) q.top world_there.blocks stands_there place st here) may not_waiting action e in
+        (leads_there x p image thread n m.storage (record { at = q.top.at; own = t.own }) q.top world_there.blocks stands_there place st here) may not_waiting action e in
         step_lands x p image thread stand.stack n w m t.own world_there q.top.at q.top.own k.callers q.callers stands_there stand.frame (stopped_clear x p image thread names w m world k q stand stop t) (stopped_callers x p image thread names w m world k q stand stop t) place st here
         (chosen_id choice) _ _ alike
 
@@ -151,7 +145,7 @@ module _ {P : Type 0} (x : Image P) (p : Ir) (image : IsImage x p) (thread : ℕ
       | inl t ↦
           let none = none_waits k.callers q.callers last stand.callers in
           let turn_is = turn_stops answers.Plain t ∙ ap (λ h. stop_at x.flow (blocks_machine p) (blocks_world p thread) code answers.Plain (there t) (left_ t) h) here
-              ∙ ap (λ cs. left_call x.flow (blocks_world p thread) answers.Plain t.own temp (left_ t) cs) none in
+          ∙ ap (λ cs. left_call x.flow (blocks_world p thread) answers.Plain t.own temp (left_ t) cs) none in
           let words_stop : stop_of x thread plain q m ≡ ended q.top.own (thread_ended m thread (given q.top.own temp)) =
           ap (λ h. stop_at x.flow (words_machine x.layout thread) (words_world x.layout thread) x.start plain q m h) here ∙ ap (λ cs. left_call x.flow (words_world x.layout thread) plain q.top.own temp m cs) last in
           subst (λ o. TurnsAlike x p thread names [] list w m o (stop_of x thread plain q m)) (sym turn_is)

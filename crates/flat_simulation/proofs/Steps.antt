@@ -1,18 +1,16 @@
 -- A step over named blocks and over words, in the world that both share: both are done, both wait, or the first breaks a rule.
-use Rattle.std.proofs.Common.{◌≡◌, ℕ, ◌+◌, ◌<◌, Bool, true, false, ◌&&◌, ◌==◌, List, [], ◌∷◌, length, map, Option, Some, None, Result, Ok, Err, refl, sym, ap, subst, ◌∙◌}
-use Rattle.std.specs.Prelude.{if◌then◌else◌, slice_get, unsigned_abs}
+use Rattle.std.proofs.Common.{◌≡◌, ℕ, Bool, true, false, ◌&&◌, List, [], ◌∷◌, map, Option, Some, None, Ok, refl, sym, ap, subst, ◌∙◌}
+use Rattle.std.specs.Prelude.{slice_get, unsigned_abs}
 use Rattle.std.specs.List.{list_all}
 use Rattle.std.specs.Option.{option_map}
 use Rattle.std.proofs.lemmas.Option.{slice_get-map}
 use Rattle.ak_words.specs.declared.number.Num.{Num}
 use Rattle.ak_words.specs.IntType.{unsigned_long}
 use Rattle.block_store.specs.declared.values.Access.{Access}
-use Rattle.block_store.specs.declared.values.Answer.TheVariants as answers
 use Rattle.block_store.specs.declared.values.Cell.TheVariants.{Unknown}
 use Rattle.block_store.specs.declared.values.Ptr.{Ptr}
 use Rattle.block_store.specs.declared.values.Value.{Value}
 use Rattle.block_store.specs.declared.values.Value.TheVariants as values
-use Rattle.block_store.specs.Cells.{access_of}
 use Rattle.block_store.specs.Actions as source
 use Rattle.block_store.specs.Actions.{World}
 use Rattle.defrag_move.specs.Arena.{Storage}
@@ -23,23 +21,22 @@ use Rattle.c_tree.specs.TypedPrinting.{parts}
 use Rattle.c_tree.specs.Typed.{Piece}
 use Rattle.ir_meaning.specs.Blocks.{value, unset, Own, wrong_kind, same_type, known}
 use Rattle.ir_meaning.specs.Threads.{action_with, action_of, if_count, number_of, all_of, address_of, fits}
-use Rattle.flat_words.specs.Words.{number_word}
 use Rattle.flat_meaning.specs.Image.{Layout, Image}
 use Rattle.flat_meaning.specs.Words.{Words, Target, word_at, base_address, target_of}
 use Rattle.flat_meaning.specs.Memory.{Memory}
-use Rattle.flat_meaning.specs.Accesses.{Choice, plain, got, null, wait, Done}
+use Rattle.flat_meaning.specs.Accesses.{Choice, plain, got, null, wait}
 use Rattle.flat_meaning.specs.Actions as words
 use Rattle.flat_meaning.specs.Actions.{may_start}
 use Rattle.flat_meaning.specs.Allowed.{MayGet, MayDo}
 use Rattle.flat_meaning.specs.Order.{action_answer, made_answer}
 use Rattle.flat_meaning.specs.Start.{chosen_id}
 use Rattle.flat_meaning.specs.Names.{Name}
-use Rattle.flat_simulation.specs.inner.Values.{AnyBlock, Stands, Sees}
+use Rattle.flat_simulation.specs.inner.Values.{AnyBlock, Sees}
 use Rattle.flat_simulation.specs.inner.Calls.{CallStands}
 use Rattle.flat_simulation.specs.inner.Programs.{HasFrame}
 use Rattle.flat_simulation.specs.inner.World.{GoesTo}
 use Rattle.flat_simulation.specs.inner.Worlds.{WorldStands, DoneAlike}
-use Rattle.flat_simulation.specs.inner.Operands.{TargetStands, TargetsStand, WordsStand}
+use Rattle.flat_simulation.specs.inner.Operands.{TargetsStand, WordsStand}
 use Rattle.flat_simulation.proofs.Pointers.{if_ok}
 use Rattle.flat_simulation.proofs.Places.{ok_then}
 use Rattle.flat_simulation.proofs.Placed.{sees_all}

@@ -1,25 +1,22 @@
 -- Where a thread over words stands at the end of a turn, the other comes there from the turn's start, or breaks a rule before.
-use Rattle.std.proofs.Common.{◌≡◌, ℕ, ◌+◌, ◌<◌, List, [], length, Bool, true, false, Ok, Err, refl, sym, ap, subst, ◌∙◌, ◌⊎◌, inl, inr}
-use Rattle.block_store.specs.Blocks.{Blocks}
+use Rattle.std.proofs.Common.{◌≡◌, ℕ, ◌+◌, List, [], length, true, Ok, Err, refl, sym, ap, ◌∙◌, ◌⊎◌, inl, inr}
 use Rattle.block_store.specs.Actions.{World, with_blocks}
 use Rattle.defrag_move.specs.Arena.{Storage}
-use Rattle.struct_ir.specs.Nodes.{Act, Ir}
+use Rattle.struct_ir.specs.Nodes.{Ir}
 use Rattle.struct_ir.specs.Flow.{Here, does, tests, passes, round, returns}
-use Rattle.struct_ir.specs.Machine.{Machine, Point, Ahead, stops, stopped_or, acted, ahead_at, ahead, run, Steps, IsRun}
+use Rattle.struct_ir.specs.Machine.{Point, stops, stopped_or, acted, ahead_at, ahead, run, IsRun}
 use Rattle.struct_ir.specs.Threads.{Thread}
 use Rattle.struct_ir.proofs.Runs.{runs_are_steps}
 use Rattle.ir_meaning.specs.Blocks.{Own, Fault, ends_turn, blocks_machine}
-use Rattle.flat_meaning.specs.Image.{Layout, Image, stack_address}
+use Rattle.flat_meaning.specs.Image.{Image, stack_address}
 use Rattle.flat_meaning.specs.Words.{Words}
 use Rattle.flat_meaning.specs.Memory.{Memory}
 use Rattle.flat_meaning.specs.Names.{Name}
 use Rattle.flat_meaning.specs.Stands.{in_blocks}
-use Rattle.flat_simulation.specs.inner.Aged.{Aged}
 use Rattle.flat_simulation.specs.inner.Values.{AnyBlock, KnownIn}
-use Rattle.flat_simulation.specs.inner.Calls.{CallStands}
 use Rattle.flat_simulation.specs.inner.Turns.{Far, IsClear}
 use Rattle.flat_simulation.specs.inner.Lags.{StandsIn, Reaches, comes, breaks}
-use Rattle.flat_simulation.specs.inner.Programs.{IsImage, HasFrame}
+use Rattle.flat_simulation.specs.inner.Programs.{IsImage}
 use Rattle.flat_simulation.specs.inner.Worlds.{WorldStands, TurnEnded}
 use Rattle.flat_simulation.specs.inner.Threads.{CallersStand, ThreadStands}
 use Rattle.flat_simulation.proofs.Blocks.{aged_still}

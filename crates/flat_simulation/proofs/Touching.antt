@@ -1,19 +1,13 @@
 -- What each action touches stays in what the source's reaches, where that is done or waits.
-use Rattle.std.proofs.Common.{◌≡◌, ℕ, ℤ, zero, suc, ◌+◌, ◌<◌, ◌≤◌, Bool, true, false, ◌==◌, List, [], ◌∷◌, ◌++◌, length, map, Option, Some, None, Result, Ok, Err, refl, sym, ap, subst, ◌∙◌, ◌⊎◌, inl, inr, arith}
-use Rattle.std.specs.Prelude.{if◌then◌else◌, slice_get, unsigned_abs}
-use Rattle.std.specs.List.{list_all}
+use Rattle.std.proofs.Common.{◌≡◌, ℕ, ℤ, zero, suc, ◌+◌, ◌<◌, Bool, true, false, ◌==◌, List, [], ◌∷◌, ◌++◌, Option, Some, None, Result, Ok, Err, refl, sym, subst, ◌∙◌, inl, inr, arith}
+use Rattle.std.specs.Prelude.{if◌then◌else◌, slice_get}
 use Rattle.std.proofs.lemmas.Bool.{ne_eqb, eq-eqb}
-use Rattle.ak_words.specs.declared.number.Num.{Num}
 use Rattle.ak_words.specs.declared.rule.Rule.{Rule}
 use Rattle.ak_words.specs.declared.rule.Rule.TheVariants.{C14}
-use Rattle.ak_words.specs.IntType.{int, unsigned_long}
+use Rattle.ak_words.specs.IntType.{int}
 use Rattle.ak_words.specs.Num.{num}
-use Rattle.c_tree.specs.Typed.{Piece}
-use Rattle.c_tree.specs.TypedPrinting.{parts}
 use Rattle.block_store.specs.declared.values.Access.{Access}
-use Rattle.block_store.specs.declared.values.Answer.{Answer}
 use Rattle.block_store.specs.declared.values.Answer.TheVariants as answers
-use Rattle.block_store.specs.declared.values.Cell.TheVariants.{Unknown}
 use Rattle.block_store.specs.declared.values.Ptr.{Ptr}
 use Rattle.block_store.specs.declared.values.Ptr.TheVariants.{Null, To}
 use Rattle.block_store.specs.declared.values.Value.{Value}
@@ -25,18 +19,15 @@ use Rattle.block_store.specs.Mutexes as mutexes
 use Rattle.block_store.specs.Mutexes.{mutex_at}
 use Rattle.block_store.specs.Actions as source
 use Rattle.block_store.specs.Actions.{World, Reached, Stage, running, returned, joined, bytes_at, all_bytes, telling, reads_of, writes_of}
-use Rattle.struct_ir.specs.Nodes.{Action, load, store, copy_bytes, malloc, free, print, lock, unlock, destroy, start, join, Func, Ir}
-use Rattle.struct_ir.specs.Valid.{Scope, is_piece, is_action}
-use Rattle.ir_meaning.specs.Blocks.{unset, Own, wrong_kind, same_type}
-use Rattle.ir_meaning.specs.Threads.{action_with, number_of, all_of, fits}
+use Rattle.struct_ir.specs.Nodes.{load, store, copy_bytes, lock, unlock, start, join, Ir}
 use Rattle.flat_words.specs.Words.{word_of}
-use Rattle.flat_meaning.specs.Image.{Layout, Image}
+use Rattle.flat_meaning.specs.Image.{Layout}
 use Rattle.flat_meaning.specs.Words.{Target}
 use Rattle.flat_meaning.specs.Memory.{Made, Memory}
 use Rattle.flat_meaning.specs.Printing as printing
-use Rattle.flat_meaning.specs.Accesses.{Choice, output_room}
+use Rattle.flat_meaning.specs.Accesses.{output_room}
 use Rattle.flat_meaning.specs.Actions.{is_free, may_start}
-use Rattle.flat_meaning.specs.Order.{action_answer, made_answer}
+use Rattle.flat_meaning.specs.Order.{made_answer}
 use Rattle.flat_meaning.specs.Names.{Name}
 use Rattle.flat_meaning.specs.Stands.{ResultStands}
 use Rattle.flat_meaning.specs.Touched as touched
@@ -44,17 +35,13 @@ use Rattle.flat_meaning.specs.Touched.{Touched, print_reads, result_writes, join
 use Rattle.flat_meaning.specs.Reaching.{StaysInBlocks}
 use Rattle.flat_simulation.specs.inner.World.{GoesTo}
 use Rattle.flat_simulation.specs.inner.Worlds.{MadeStands, WorldStands}
-use Rattle.flat_simulation.specs.inner.Operands.{TargetStands, TargetsStand, WordsStand, StaysIf}
-use Rattle.flat_simulation.proofs.Pointers.{if_ok}
-use Rattle.flat_simulation.proofs.Places.{ok_then}
+use Rattle.flat_simulation.specs.inner.Operands.{TargetStands, StaysIf}
 use Rattle.flat_simulation.proofs.Accesses.{found, IsFound, reaches, size_some, was_read, was_written}
 use Rattle.flat_simulation.proofs.Copies.{were_found}
 use Rattle.flat_simulation.proofs.Mutexes.{sees_mutex, was_locked, was_unlocked, mutex_there}
 use Rattle.flat_simulation.proofs.Made.{made_at}
-use Rattle.flat_simulation.proofs.Printed.{PartsStand, parts_stand}
-use Rattle.flat_simulation.proofs.Operands.{count_word, fits_own, have_words}
+use Rattle.flat_simulation.proofs.Printed.{PartsStand}
 use Rattle.flat_simulation.proofs.Reached.{nothing_stays, both_stay, no_bytes_stay, bytes_stay, parts_stay}
-use Rattle.flat_simulation.proofs.Steps.{counted}
 
 module _ (y : Layout) (p : Ir) (names : List Name) (w : World) (m : Memory) (world : WorldStands y p names w m) where
   abbrev Stay : List Touched → List Reached → Type 0

@@ -3,10 +3,10 @@ use Rattle.std.proofs.Common.{◌≡◌, ℕ, Bool, true, false, List, [], ◌�
 use Rattle.std.specs.Prelude.{if◌then◌else◌}
 use Rattle.block_store.specs.declared.values.Answer.TheVariants as answers
 use Rattle.struct_ir.specs.Nodes.{Action, load, store, copy_bytes, malloc, free, print, lock, unlock, destroy, start, join}
-use Rattle.flat_meaning.specs.Image.{Layout, Image}
+use Rattle.flat_meaning.specs.Image.{Image}
 use Rattle.flat_meaning.specs.Words.{Target}
 use Rattle.flat_meaning.specs.Memory.{Memory}
-use Rattle.flat_meaning.specs.Accesses.{Choice, plain, got, null, wait, Done, went, waits, unfit, over, Fault, is_plain, within}
+use Rattle.flat_meaning.specs.Accesses.{Choice, plain, got, null, wait, Done, went, waits, unfit, over}
 use Rattle.flat_meaning.specs.Actions.{acted, started, settled, may_start}
 use Rattle.flat_meaning.specs.Order.{action_answer, made_answer, tried_action}
 
