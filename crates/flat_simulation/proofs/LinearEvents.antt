@@ -1,20 +1,19 @@
 -- Structured code and its linear code are one program, and linear code comes to a call over a safepoint alone.
-use Rattle.std.proofs.Common.{◌≡◌, ℕ, ◌+◌, ◌-◌, ◌<◌, List, [], ◌∷◌, Bool, true, false, Option, Some, None, refl, sym, ap, subst, ◌∙◌, arith, map}
+use Rattle.std.proofs.Common.{◌≡◌, ℕ, ◌+◌, ◌-◌, ◌<◌, List, [], ◌∷◌, Bool, true, false, Option, Some, None, refl, subst, arith, map}
 use Rattle.std.specs.Prelude.{slice_get, is_some}
-use Rattle.struct_ir.specs.Nodes.{Call, Act, set, call, step, look, safepoint, begin_object, end_object, Func, Ir}
-use Rattle.struct_ir.specs.Flow.{Here, does, tests, passes, round, returns, IsCall}
-use Rattle.struct_ir.specs.Structured.{structured}
+use Rattle.struct_ir.specs.Nodes.{set, call, step, look, safepoint, begin_object, end_object, Func, Ir}
+use Rattle.struct_ir.specs.Flow.{IsCall}
 use Rattle.struct_ir.specs.Instrs.{Instr, acts, unless, jump, round_to, leave, LinearFunc, LinearCode, instrs_if}
-use Rattle.struct_ir.specs.Linear.{Spot, linear, entry_of, instr_here, instr_next, here_in, next_in}
+use Rattle.struct_ir.specs.Linear.{instr_here, instr_next, here_in, next_in}
 use Rattle.struct_ir.specs.Lawful.{safe_list, list_at_index, is_guarded, IsLawful, AllLawful}
 use Rattle.struct_ir.specs.Valid.{is_the_list}
 use Rattle.struct_ir.proofs.Sizes.{structured_shrinks}
 use Rattle.struct_ir.proofs.Lawful.{lawful_at, lawful_code_shrinks}
 use Rattle.emit_code.specs.Stands.{StandsIn}
 use Rattle.emit_code.specs.Emitted.{SameFrames, IsEmitted}
-use Rattle.flat_meaning.specs.Image.{Frame, Limits, Layout, func_frame, linear_frame, structured_image, linear_image}
+use Rattle.flat_meaning.specs.Image.{Frame, Limits, func_frame, linear_frame, structured_image, linear_image}
 use Rattle.flat_meaning.specs.Emitted.{AreOne}
-use Rattle.flat_simulation.specs.OneProgram.{ActIsSafe, IsSafepoint, CallsAreGuarded}
+use Rattle.flat_simulation.specs.OneProgram.{IsSafepoint, CallsAreGuarded}
 use Rattle.flat_simulation.specs.LinearEvents.{EventsOfLinearCode}
 use Rattle.flat_simulation.proofs.OneProgram.{events_have_events_of_the_first}
 
