@@ -17,11 +17,10 @@ use Rattle.ir_meaning.specs.Threads.{program_of}
 use Rattle.flat_meaning.specs.Events.{after_all, first_state}
 use Rattle.flat_meaning.specs.Simulation.{Simulates, UpToABreak}
 use Rattle.flat_meaning.specs.Image.{Frame, Limits, limits_for, func_frame, linear_frame, structured_image, linear_image}
-use Rattle.flat_meaning.specs.Emitted.{AreOne}
-use Rattle.flat_simulation.specs.OneProgram.{IsSafepoint, CallsAreGuarded}
+use Rattle.flat_meaning.specs.Emitted.{AreOne, IsSafepoint, CallsAreGuarded}
 use Rattle.flat_simulation.specs.LinearEvents.{EventsOfLinearCode, LinearCodeFollowsTurns}
 use Rattle.flat_simulation.proofs.Whole.{events_follow_turns}
-use Rattle.flat_simulation.proofs.OneProgram.{events_have_events_of_the_first}
+use Rattle.flat_simulation.proofs.OneProgram.{events_are_those_of_the_first}
 
 -- ---- calls
 
@@ -123,7 +122,7 @@ are_one p code limits e lawful = record { layout = same_layout p code limits e; 
 
 pub events_of_linear_code : EventsOfLinearCode
 events_of_linear_code p code e lawful limits ds may =
-    events_have_events_of_the_first _ _ (structured_image p limits) (linear_image code limits) (StandsIn code.funcs) (are_one p code limits e lawful) (linear_calls_guarded code limits lawful) ds may
+    events_are_those_of_the_first _ _ (structured_image p limits) (linear_image code limits) (StandsIn code.funcs) (are_one p code limits e lawful) (linear_calls_guarded code limits lawful) ds may
 
 pub linear_code_follows_turns : LinearCodeFollowsTurns
 linear_code_follows_turns p checked code emitted lawful output heaps heap ids shape ds may =
