@@ -1,6 +1,6 @@
 -- Code in which each difference of pointers is in elements of at least one byte, as C's object types all have (C11 6.2.6.1 p2, 6.5.6 p9).
 -- In elements of 0 bytes it would be one number over named blocks and another over words.
-use Rattle.std.specs.Prelude.{ℕ, ◌<◌, All}
+use Rattle.std.specs.Prelude.{◌<◌, All}
 use Rattle.struct_ir.specs.Nodes.{Calc, pointer_diff, Act, set, Node, plain, if_, loop, break_, next_, ret, Nodes, no_nodes, more_nodes, Func, Ir}
 
 -- if a register is set to a difference of pointers, that is in elements that have a size

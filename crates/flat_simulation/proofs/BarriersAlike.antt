@@ -23,8 +23,7 @@ use Rattle.flat_meaning.specs.Effects.{step_effect, serve_effect}
 use Rattle.flat_meaning.specs.Events.{State, Serve, barrier, end_or, put, put_if, after_serve, after_serves, moved_state, after}
 use Rattle.flat_meaning.specs.Order.{picks_of_serve, picks_of_serves, picks_of}
 use Rattle.flat_meaning.specs.Allowed.{list_at, handles_in, handles_here, handles_of, handles_if, pinned, stands, AllStand, MayAct, MayServe, MayServeAll, MayCome}
-use Rattle.flat_meaning.specs.Emitted.{AreOne}
-use Rattle.flat_simulation.specs.OneProgram.{CallsAreGuarded}
+use Rattle.flat_meaning.specs.Emitted.{AreOne, CallsAreGuarded}
 use Rattle.flat_simulation.specs.inner.Level.{image, Near, same, level, StagesMatch, OwnsMatch, EffectsMatch}
 use Rattle.flat_simulation.specs.inner.EventRuns.{Leads}
 use Rattle.flat_simulation.proofs.Numbering.{own_at-past, own_within, own_at-set_same, own_at-set_other}

@@ -16,8 +16,7 @@ use Rattle.flat_meaning.specs.Effects.{no_effect, ends_run, end_of, own_list_of,
 use Rattle.flat_meaning.specs.Events.{State, local, look, act, put, after}
 use Rattle.flat_meaning.specs.Order.{local_picks, pick_if, tried_if, answer_of, picks_of, tried_by}
 use Rattle.flat_meaning.specs.Allowed.{MayGo, MayAct, StandsBefore, MayStep, MayStepAt, MayCome}
-use Rattle.flat_meaning.specs.Emitted.{AreOne}
-use Rattle.flat_simulation.specs.OneProgram.{CallsAreGuarded}
+use Rattle.flat_meaning.specs.Emitted.{AreOne, CallsAreGuarded}
 use Rattle.flat_simulation.specs.inner.Level.{image, Near, same, level, GonesMatch, StagesMatch, OthersMatch, OwnsMatch, StatesMatch, EffectsMatch}
 use Rattle.flat_simulation.specs.inner.EventRuns.{Leads}
 use Rattle.flat_simulation.proofs.Numbering.{own_within, own_at-set_same}

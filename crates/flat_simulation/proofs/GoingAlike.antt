@@ -18,8 +18,7 @@ use Rattle.flat_meaning.specs.Accesses.{Fault}
 use Rattle.flat_meaning.specs.Machine.{words_machine, left}
 use Rattle.flat_meaning.specs.Stages.{Before, safe, looks, steps, calls, turn_over, nothing, before_act, before_return, before_here, before, room_for, Gone, past_if, ran_to, turn_done, ending_if, gone_from, goes_alone}
 use Rattle.flat_meaning.proofs.Halves.{marks_are_idle, NoFault, no_fault}
-use Rattle.flat_meaning.specs.Emitted.{AreOne}
-use Rattle.flat_simulation.specs.OneProgram.{IsSafepoint, CallsAreGuarded}
+use Rattle.flat_meaning.specs.Emitted.{AreOne, IsSafepoint, CallsAreGuarded}
 use Rattle.flat_simulation.specs.inner.Level.{image, same, level, GonesMatch}
 
 -- ---- what a thread stands before

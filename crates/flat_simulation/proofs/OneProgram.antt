@@ -7,8 +7,7 @@ use Rattle.flat_meaning.specs.Stages.{Stage}
 use Rattle.flat_meaning.specs.Events.{State, Event, local, look, act, barrier, after, after_all, first_state}
 use Rattle.flat_meaning.specs.Order.{picks_of, order_of, tried_by, attempts_of}
 use Rattle.flat_meaning.specs.Allowed.{MayCome, AreAllowed}
-use Rattle.flat_meaning.specs.Emitted.{AreOne, ComeToTheSame}
-use Rattle.flat_simulation.specs.OneProgram.{CallsAreGuarded, EventsHaveEventsOfTheFirst}
+use Rattle.flat_meaning.specs.Emitted.{AreOne, ComeToTheSame, CallsAreGuarded, EventsAreThoseOfTheFirst}
 use Rattle.flat_simulation.specs.inner.Level.{image, OwnsMatch, StatesMatch}
 use Rattle.flat_simulation.specs.inner.EventRuns as event_runs
 use Rattle.flat_simulation.proofs.EventRuns.{after_all-append, order_of-append, attempts_of-append, allowed_append}
@@ -87,8 +86,8 @@ module _ {P Q : Type 0} (Y : Layout) (C : Flow P) (D : Flow Q) (code : ℕ → P
       let f = all_follow ds (first_state x) (first_state y) at_first may in
       (f.events, record { allowed = f.allowed; memory = f.memory; end = f.end; order = f.order; attempts = f.attempts 0 })
 
-pub events_have_events_of_the_first : (P Q : Type 0) → EventsHaveEventsOfTheFirst P Q
-events_have_events_of_the_first P Q x y R one guarded =
+pub events_are_those_of_the_first : (P Q : Type 0) → EventsAreThoseOfTheFirst P Q
+events_are_those_of_the_first P Q x y R one guarded =
     subst (λ (z : Image Q). AreOne x z R → CallsAreGuarded z → (ds : List Event) → AreAllowed z ds (first_state z) → (es : List Event) × ComeToTheSame x es z ds)
     (λ i. record { flow = y.flow; start = y.start; layout = sym one.layout i })
     (λ (o : AreOne x (image y.flow y.start x.layout) R) (g : CallsAreGuarded (image y.flow y.start x.layout)). have_events x.layout x.flow y.flow x.start y.start R o g) one guarded
