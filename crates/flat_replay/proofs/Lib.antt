@@ -1,0 +1,4 @@
+pub mod Stops
+pub mod Consistent
+pub mod Barriers
+pub mod Loadable

@@ -1,0 +1,14 @@
+//! Laws of journals, as contracts of functions that do nothing.
+
+ghost use Rattle.flat_replay.specs.Laws.{BarriersOfARunKeepObjects, SmallProgramsFit};
+
+/// At each barrier of a journal that replays, whatever rules of C were broken before: no object moves that a listed slot names, and the
+/// object of each id in use keeps its bytes, at the address that the table then has.
+pub fn barriers_of_a_run_keep_objects()
+    ensures { BarriersOfARunKeepObjects }
+{}
+
+/// A program with at most 1,048,576 bytes of plain data fits in memory, whatever the settings.
+pub fn small_programs_fit()
+    ensures { SmallProgramsFit }
+{}

@@ -1,0 +1,6 @@
+//! What a journal that replays says of the flat machine's events.
+//! Promises upward: at each barrier of a run no pinned object moves, and every handle keeps its bytes.
+//! Stands on flat_machine's calls, which are events, on world_rules for where contexts are, and on flat_simulation's law of barriers.
+#![tactic(auto)]
+
+pub mod laws;
