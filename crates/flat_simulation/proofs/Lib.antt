@@ -68,12 +68,6 @@ pub mod Lands
 pub mod Going
 pub mod Putting
 pub mod WrongKinds
-pub mod Stopping
-pub mod Stepping
-pub mod ActsAlike
-pub mod Follow
-pub mod StepReached
-pub mod Followed
 pub mod WordsCome
 pub mod TurnsStand
 pub mod StepKinds
@@ -81,3 +75,10 @@ pub mod SourceRuns
 pub mod EventsStand
 pub mod AllEvents
 pub mod LoadedData
+pub mod Stopping
+pub mod Stepping
+pub mod ActsAlike
+pub mod Follow
+pub mod StepReached
+pub mod Followed
+pub mod Whole

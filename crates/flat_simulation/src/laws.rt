@@ -1,6 +1,6 @@
 //! Laws of all events, as contracts of functions that do nothing.
 
-ghost use Rattle.flat_meaning.specs.Simulation.{BarriersKeepObjects};
+ghost use Rattle.flat_meaning.specs.Simulation.{BarriersKeepObjects, EventsFollowTurns};
 
 /// Of every program that fits in memory, after all allowed events and whatever rules of C were broken: objects and table agree, and the
 /// moves of any barrier that may come next keep each object's bytes, at the address that the table then has, and the place of each
@@ -9,7 +9,9 @@ pub fn barriers_keep_objects<P>()
     ensures { BarriersKeepObjects P }
 {}
 
-/// Scratch.
-pub fn scratch()
-    ensures { Unit {0} }
+/// Of every checked program, for any output, sub-heaps and ids that it is given, and all allowed events: unless one of the turns that they
+/// make breaks a rule of C, the machine's state stands for the state of the structured code over named blocks after those turns, by the
+/// names that the events made; and whatever step may come next reaches, waits and traps as the source's turn does.
+pub fn events_follow_turns()
+    ensures { EventsFollowTurns }
 {}
