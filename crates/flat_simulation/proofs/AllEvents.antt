@@ -1,5 +1,5 @@
 -- After all events the machine's state stands for the source's after the same turns, or one of those breaks a rule.
-use Rattle.std.proofs.Common.{◌≡◌, ◌≢◌, ℕ, zero, suc, ◌+◌, ◌<◌, List, [], ◌∷◌, ◌++◌, length, Bool, true, false, Option, Some, None, refl, sym, ap, subst, ◌∙◌, arith, append_assoc, append-nil}
+use Rattle.std.proofs.Common.{◌≡◌, ℕ, ◌+◌, List, [], ◌∷◌, ◌++◌, length, Option, Some, None, refl, sym, ap, subst, ◌∙◌, append_assoc, append-nil}
 use Rattle.std.proofs.lemmas.List.{length-append}
 use Rattle.ak_words.specs.Prefix.{IsPrefix}
 use Rattle.block_store.specs.Runs as runs
@@ -10,13 +10,10 @@ use Rattle.struct_ir.specs.Threads.{Thread}
 use Rattle.ir_meaning.specs.Blocks.{Own}
 use Rattle.ir_meaning.specs.Start.{start}
 use Rattle.ir_meaning.specs.Threads.{program_of}
-use Rattle.flat_meaning.specs.declared.endings.End.{End}
 use Rattle.flat_meaning.specs.Image.{Limits, Image, structured_image}
 use Rattle.flat_meaning.specs.Words.{Words}
-use Rattle.flat_meaning.specs.Memory.{Memory}
-use Rattle.flat_meaning.specs.Accesses.{Choice, wait}
-use Rattle.flat_meaning.specs.Ready.{is_malloc}
-use Rattle.flat_meaning.specs.Stages.{Stage, starts, going, waiting, landed, looks, before, can_go}
+use Rattle.flat_meaning.specs.Accesses.{Choice}
+use Rattle.flat_meaning.specs.Stages.{Stage, starts, going, waiting, landed, looks, before}
 use Rattle.flat_meaning.specs.Effects.{step_effect, serve_effect, own_list_of}
 use Rattle.flat_meaning.specs.Events.{State, Serve, Event, local, look, act, barrier, end_or, put, put_if, after_serve, after_serves, moved_state, after, after_all}
 use Rattle.flat_meaning.specs.Order.{step_picks, picks_of_serve, picks_of_serves, picks_of, order_of}
@@ -30,7 +27,7 @@ use Rattle.flat_simulation.specs.inner.Kept.{EventsKeep}
 use Rattle.flat_simulation.specs.inner.Next.{Next}
 use Rattle.flat_simulation.proofs.EventKinds.{after_fresh, picks_of-fresh}
 use Rattle.flat_simulation.proofs.EventsStand.{local_stands, look_stands, full_stands, act_before, step_stands}
-use Rattle.flat_simulation.proofs.SourceRuns.{and_run, run_from-append, reached_then, up_then, up_map}
+use Rattle.flat_simulation.proofs.SourceRuns.{run_from-append, reached_then, up_then, up_map}
 use Rattle.flat_simulation.proofs.StepKinds.{malloc_goes_on, malloc_before}
 use Rattle.flat_simulation.proofs.TurnsStand.{still_first}
 use Rattle.flat_simulation.proofs.WordsCome.{StateComes, after_comes, serve_comes}

@@ -1,12 +1,11 @@
 -- A thread goes on alone in the middle of a turn: over words, past Looks and safepoints; it stands there still for the thread that has the
 -- whole turn to do.
-use Rattle.std.proofs.Common.{◌≡◌, ℕ, ◌<◌, List, length, Bool, true, false, None, Result, Ok, Err, refl, sym, ap, subst, ◌∙◌, arith, length-set, inl}
-use Rattle.std.specs.Prelude.{slice_set, nat_lt, not, ◌==◌}
+use Rattle.std.proofs.Common.{◌≡◌, ℕ, ◌<◌, List, length, Bool, true, false, None, Ok, refl, sym, ap, subst, ◌∙◌, arith, length-set, inl}
+use Rattle.std.specs.Prelude.{nat_lt, not, ◌==◌}
 use Rattle.std.proofs.lemmas.Bool.{ltb-true, and_parts}
-use Rattle.handle_table.specs.Table.{translated}
 use Rattle.block_store.specs.Blocks.{Blocks}
 use Rattle.block_store.specs.Actions.{World}
-use Rattle.defrag_move.specs.Arena.{Storage, start_behind}
+use Rattle.defrag_move.specs.Arena.{Storage}
 use Rattle.struct_ir.specs.Nodes.{Act, set, call, step, look, safepoint, begin_object, end_object, Ir}
 use Rattle.struct_ir.specs.Flow.{Here, does, tests, passes, round, returns}
 use Rattle.struct_ir.specs.Machine as steps
@@ -17,7 +16,7 @@ use Rattle.struct_ir.specs.ValidCode.{is_here}
 use Rattle.struct_ir.proofs.Runs.{runs_are_steps}
 use Rattle.ir_meaning.specs.Blocks as source
 use Rattle.ir_meaning.specs.Blocks.{Fault, Own, ends_turn, blocks_machine}
-use Rattle.flat_meaning.specs.Image.{Image, plain_size}
+use Rattle.flat_meaning.specs.Image.{Image}
 use Rattle.flat_meaning.specs.Words.{Words, word_at}
 use Rattle.flat_meaning.specs.Words as words
 use Rattle.flat_meaning.specs.Memory.{Memory}
@@ -31,7 +30,7 @@ use Rattle.flat_simulation.specs.inner.Frames.{FrameLies}
 use Rattle.flat_simulation.specs.inner.Values.{KnownIn, AnyBlock, Sees}
 use Rattle.flat_simulation.specs.inner.Calls.{LiesThere, DataStands}
 use Rattle.flat_simulation.specs.inner.Turns.{Far}
-use Rattle.flat_simulation.specs.inner.Lags.{StandsIn, Reaches, comes, breaks, InTurn}
+use Rattle.flat_simulation.specs.inner.Lags.{Reaches, comes, breaks, InTurn}
 use Rattle.flat_simulation.specs.inner.Programs.{IsImage, HasFrame}
 use Rattle.flat_simulation.specs.inner.Worlds.{WorldStands}
 use Rattle.flat_simulation.specs.inner.Threads.{CallersStand, ThreadStands}
@@ -39,7 +38,7 @@ use Rattle.flat_simulation.proofs.Blocks.{aged_still, aged_then, aged_name, aged
 use Rattle.flat_simulation.proofs.Points.{At, Goes, call_still, point_acts, point_looks}
 use Rattle.flat_simulation.proofs.Programs.{lies_in_stack, in_range}
 use Rattle.flat_simulation.proofs.Seen.{sees_in_turn}
-use Rattle.flat_simulation.proofs.Within.{There, FollowsTo, far_words, step_to}
+use Rattle.flat_simulation.proofs.Within.{FollowsTo, far_words, step_to}
 
 -- ---- frames
 

@@ -1,14 +1,13 @@
 -- For a barrier of the second code there is one of the first, once each of its threads stands where the second's does.
-use Rattle.std.proofs.Common.{◌≡◌, ℕ, zero, suc, ◌<◌, ◌≤◌, List, [], ◌∷◌, ◌++◌, length, Bool, true, false, ◌==◌, Option, Some, None, refl, sym, ap, subst, ◌∙◌, arith, inl, inr}
+use Rattle.std.proofs.Common.{◌≡◌, ℕ, zero, suc, ◌<◌, List, [], ◌∷◌, ◌++◌, length, true, ◌==◌, Option, Some, None, refl, sym, ap, subst, ◌∙◌, arith, inl, inr}
 use Rattle.std.specs.Prelude.{set as with_own, is_some, flat_map}
 use Rattle.std.specs.List.{list_any}
 use Rattle.std.proofs.lemmas.Bool.{cases_lt, cases_eq}
-use Rattle.block_store.specs.Runs.{Pick, own_at}
+use Rattle.block_store.specs.Runs.{own_at}
 use Rattle.move_plan.specs.declared.moves.Move.{Move}
 use Rattle.move_plan.specs.Moving.{AreLegal}
 use Rattle.defrag_move.specs.Arena.{places_named}
-use Rattle.defrag_move.specs.Moves.{after_plan}
-use Rattle.struct_ir.specs.Nodes.{Act, set, call, step, look, safepoint, begin_object, end_object}
+use Rattle.struct_ir.specs.Nodes.{set, call, step, look, safepoint, begin_object, end_object}
 use Rattle.struct_ir.specs.Flow.{Here, does, tests, passes, round, returns, Flow, IsCall}
 use Rattle.struct_ir.specs.Machine.{Point}
 use Rattle.struct_ir.specs.Marks.{IsUnseen}
@@ -17,17 +16,16 @@ use Rattle.struct_ir.specs.Alike.{SameCallers, LevelThreads, SameThreads}
 use Rattle.flat_meaning.specs.declared.endings.End.{End}
 use Rattle.flat_meaning.specs.Image.{Layout, Image}
 use Rattle.flat_meaning.specs.Words.{Words}
-use Rattle.flat_meaning.specs.Memory.{Memory, with_storage}
-use Rattle.flat_meaning.specs.Accesses.{Choice, wait}
+use Rattle.flat_meaning.specs.Memory.{Memory}
 use Rattle.flat_meaning.specs.Ready.{is_malloc}
-use Rattle.flat_meaning.specs.Stages.{Stage, starts, going, waiting, landed, Before, before_here, before}
+use Rattle.flat_meaning.specs.Stages.{Stage, starts, going, waiting, landed, before_here, before}
 use Rattle.flat_meaning.specs.Effects.{step_effect, serve_effect}
-use Rattle.flat_meaning.specs.Events.{State, Serve, Event, barrier, end_or, put, put_if, after_serve, after_serves, moved_state, after}
-use Rattle.flat_meaning.specs.Order.{step_picks, picks_of_serve, picks_of_serves, picks_of}
+use Rattle.flat_meaning.specs.Events.{State, Serve, barrier, end_or, put, put_if, after_serve, after_serves, moved_state, after}
+use Rattle.flat_meaning.specs.Order.{picks_of_serve, picks_of_serves, picks_of}
 use Rattle.flat_meaning.specs.Allowed.{list_at, handles_in, handles_here, handles_of, handles_if, pinned, stands, AllStand, MayAct, MayServe, MayServeAll, MayCome}
 use Rattle.flat_meaning.specs.Emitted.{AreOne}
 use Rattle.flat_simulation.specs.OneProgram.{CallsAreGuarded}
-use Rattle.flat_simulation.specs.inner.Level.{image, Near, same, level, StagesMatch, OwnsMatch, StatesMatch, EffectsMatch}
+use Rattle.flat_simulation.specs.inner.Level.{image, Near, same, level, StagesMatch, OwnsMatch, EffectsMatch}
 use Rattle.flat_simulation.specs.inner.EventRuns.{Leads}
 use Rattle.flat_simulation.proofs.Numbering.{own_at-past, own_within, own_at-set_same, own_at-set_other}
 use Rattle.flat_simulation.proofs.EventRuns.{none_leads, one_leads, then_leads}

@@ -1,44 +1,36 @@
 -- A turn ends: at a call that is entered, at the end of a round, and where a call is left.
-use Rattle.std.proofs.Common.{◌≡◌, ◌≢◌, ℕ, zero, suc, ◌+◌, ◌<◌, ◌≤◌, List, [], ◌∷◌, length, Bool, true, false, Option, Some, None, refl, sym, ap, subst, ◌∙◌, arith, ◌⊎◌, inl, inr, length-set}
-use Rattle.std.specs.Prelude.{slice_get, slice_set, nat_lt, ◌&&◌}
-use Rattle.std.proofs.lemmas.Bool.{cases_lt, cases_eq, ltb-true, and_parts}
-use Rattle.block_store.specs.Blocks.{Block, Blocks, live}
+use Rattle.std.proofs.Common.{◌≡◌, ℕ, ◌+◌, ◌<◌, ◌≤◌, List, [], ◌∷◌, length, true, Some, None, refl, sym, ap, subst, ◌∙◌, arith, inl, inr}
+use Rattle.std.specs.Prelude.{◌&&◌}
+use Rattle.std.proofs.lemmas.Bool.{and_parts}
+use Rattle.block_store.specs.Blocks.{Block, live}
 use Rattle.block_store.specs.Actions.{World, with_blocks}
 use Rattle.c_tree.specs.TypedForm.{taken}
 use Rattle.defrag_move.specs.Arena.{Storage}
-use Rattle.struct_ir.specs.Nodes.{Act, Call, call, set, step, look, safepoint, begin_object, end_object, Ir}
-use Rattle.struct_ir.specs.Flow.{Here, does, tests, passes, round, returns, IsCall, entry}
+use Rattle.struct_ir.specs.Nodes.{Call, call, Ir}
+use Rattle.struct_ir.specs.Flow.{does, round, IsCall, entry}
 use Rattle.struct_ir.specs.Machine.{Point}
-use Rattle.struct_ir.specs.Threads.{Thread, went, behind, result_to}
-use Rattle.struct_ir.specs.Valid.{scope_of, is_below_if, are_below, has_params, is_list}
+use Rattle.struct_ir.specs.Threads.{went, behind}
+use Rattle.struct_ir.specs.Valid.{scope_of, is_below_if, are_below, is_list}
 use Rattle.struct_ir.specs.ValidCode.{is_here}
-use Rattle.ir_meaning.specs.Blocks as blocks
-use Rattle.ir_meaning.specs.Blocks.{Held, missing, Own, set_at, objects_of, object_ended, all_ended}
+use Rattle.ir_meaning.specs.Blocks.{Own}
 use Rattle.ir_meaning.specs.Threads as source
 use Rattle.ir_meaning.specs.Threads.{over, given, set_given}
-use Rattle.flat_meaning.specs.Image.{Layout, Image, Frame, stack_address, frame_of, objects_bytes}
-use Rattle.flat_meaning.specs.Words.{Words, word_at, used_with, has_room, object_address, set_if}
-use Rattle.flat_meaning.specs.Words as words
+use Rattle.flat_meaning.specs.Image.{Image, stack_address, objects_bytes}
+use Rattle.flat_meaning.specs.Words.{Words, used_with, has_room, object_address}
 use Rattle.flat_meaning.specs.Memory.{Memory}
 use Rattle.flat_meaning.specs.Machine as machine
-use Rattle.flat_meaning.specs.Stages.{going}
 use Rattle.flat_meaning.specs.Names.{Name, plain, name_of}
-use Rattle.flat_meaning.specs.Stands.{in_blocks}
-use Rattle.flat_simulation.specs.inner.Values.{AnyBlock, KnownIn, Stands}
-use Rattle.flat_simulation.specs.inner.Calls.{objects_in, object_size, CallStands}
-use Rattle.flat_simulation.specs.inner.Turns.{IsClear, Far}
+use Rattle.flat_simulation.specs.inner.Values.{AnyBlock}
+use Rattle.flat_simulation.specs.inner.Calls.{objects_in, object_size}
+use Rattle.flat_simulation.specs.inner.Turns.{IsClear}
 use Rattle.flat_simulation.specs.inner.Lags.{StandsIn}
 use Rattle.flat_simulation.specs.inner.Programs.{IsImage, HasFrame}
 use Rattle.flat_simulation.specs.inner.Worlds.{WorldStands, TurnEnded}
-use Rattle.flat_simulation.specs.inner.Threads.{CallerStands, CallersStand, ThreadStands, Fresh, TurnsAlike}
-use Rattle.flat_simulation.proofs.Acts.{taken_stands}
-use Rattle.flat_simulation.proofs.Blocks.{aged_still}
+use Rattle.flat_simulation.specs.inner.Threads.{CallersStand, TurnsAlike}
 use Rattle.flat_simulation.proofs.Entered.{has_function, entered_stands, entered_frame}
-use Rattle.flat_simulation.proofs.Facts.{IsOther}
 use Rattle.flat_simulation.proofs.Frames.{in_frame}
 use Rattle.flat_simulation.proofs.Later.{fresh_thread}
-use Rattle.flat_simulation.proofs.Objects.{set_same, set_other, object_ended_stands}
-use Rattle.flat_simulation.proofs.Points.{Goes, IsSilent, call_still, point_acts, point_silent}
+use Rattle.flat_simulation.proofs.Points.{IsSilent, point_silent}
 use Rattle.flat_simulation.proofs.Programs.{its_objects, frame_objects, in_range}
 use Rattle.flat_simulation.proofs.Settled.{nothing_ended}
 

@@ -1,21 +1,19 @@
 -- Calls that are entered, and first functions that begin.
-use Rattle.std.proofs.Common.{◌≡◌, ℕ, zero, suc, ◌+◌, ◌-◌, ◌<◌, ◌≤◌, ◌&&◌, List, [], ◌∷◌, ◌++◌, length, replicate, slice_index, Bool, true, false, Option, Some, None, refl, sym, ap, subst, ◌∙◌, arith, inl, inr, length-append}
+use Rattle.std.proofs.Common.{◌≡◌, ℕ, zero, suc, ◌+◌, ◌-◌, ◌<◌, ◌≤◌, ◌&&◌, List, [], ◌∷◌, ◌++◌, length, replicate, slice_index, true, Option, Some, None, refl, sym, ap, subst, ◌∙◌, arith, length-append}
 use Rattle.std.specs.Prelude.{map, slice_get, nat_le, nat_lt, option_map}
-use Rattle.std.specs.List.{list_all}
 use Rattle.std.proofs.lemmas.Bool.{ltb-true, leb-true, eqb-true, and_parts}
 use Rattle.std.proofs.lemmas.List.{length-replicate, length-map}
 use Rattle.std.proofs.lemmas.Option.{slice_get-map}
 use Rattle.block_store.specs.declared.values.Ptr.{Ptr}
-use Rattle.block_store.specs.declared.values.Value.TheVariants as values
 use Rattle.block_store.specs.Blocks.{Blocks}
 use Rattle.handle_table.specs.Frame.{blank_slot}
 use Rattle.struct_ir.specs.Nodes.{Func, Ir}
 use Rattle.struct_ir.specs.Valid.{are_below, has_params}
-use Rattle.ir_meaning.specs.Blocks.{Held, value, unset, Own, with_blocks}
+use Rattle.ir_meaning.specs.Blocks.{Held, Own, with_blocks}
 use Rattle.ir_meaning.specs.Threads as source
 use Rattle.ir_meaning.specs.Threads.{passed, first_temps, first_own, params_of}
-use Rattle.flat_meaning.specs.Image.{Layout, Image, Frame, Limits, func_frame, frame_of, frame_if, objects_bytes}
-use Rattle.flat_meaning.specs.Words.{Used, none_used, Words, word_at, with_frame, is_within, used_with, has_room, registers_for, call_of, first_arguments, first_call}
+use Rattle.flat_meaning.specs.Image.{Image, Frame, Limits, func_frame, frame_of, frame_if, objects_bytes}
+use Rattle.flat_meaning.specs.Words.{Used, none_used, Words, word_at, with_frame, is_within, used_with, has_room, call_of, first_arguments, first_call}
 use Rattle.flat_meaning.specs.Machine as machine
 use Rattle.flat_meaning.specs.Names.{Name}
 use Rattle.flat_simulation.specs.inner.Values.{PointerStands, Stands}

@@ -1,17 +1,17 @@
 -- What an event of a thread comes to, by what the thread stands before.
-use Rattle.std.proofs.Common.{◌≡◌, ℕ, List, [], ◌∷◌, ◌++◌, Bool, true, false, ◌==◌, Option, Some, None, refl, sym, ap, subst, ◌∙◌}
+use Rattle.std.proofs.Common.{◌≡◌, ℕ, [], ◌∷◌, Bool, true, false, Some, refl, sym, ap, subst, ◌∙◌}
 use Rattle.std.specs.Prelude.{if◌then◌else◌}
 use Rattle.block_store.specs.declared.values.Answer.TheVariants as answers
-use Rattle.block_store.specs.Runs.{Pick, own_at}
+use Rattle.block_store.specs.Runs.{own_at}
 use Rattle.struct_ir.specs.Threads.{Thread}
 use Rattle.flat_meaning.specs.declared.endings.End.TheVariants as ends
 use Rattle.flat_meaning.specs.Image.{Image}
 use Rattle.flat_meaning.specs.Words.{Words}
 use Rattle.flat_meaning.specs.Memory.{Memory}
 use Rattle.flat_meaning.specs.Accesses.{Choice, plain}
-use Rattle.flat_meaning.specs.Stages.{Stage, starts, going, waiting, landed, thread_at, Before, safe, looks, steps, calls, turn_over, nothing, before, room_for, past_if, gone_from, gone, goes_alone, can_go}
-use Rattle.flat_meaning.specs.Effects.{Effect, no_effect, ends_run, stop_of, step_effect, act_before, act_effect, look_before, look_effect, gone_effect}
-use Rattle.flat_meaning.specs.Events.{State, Event, local, look, act, put, put_if, after}
+use Rattle.flat_meaning.specs.Stages.{Stage, starts, going, waiting, landed, thread_at, Before, looks, steps, calls, before, room_for, past_if, gone_from, gone, goes_alone, can_go}
+use Rattle.flat_meaning.specs.Effects.{no_effect, ends_run, stop_of, step_effect, act_before, act_effect, look_before, look_effect, gone_effect}
+use Rattle.flat_meaning.specs.Events.{State, local, look, act, put, put_if, after}
 use Rattle.flat_meaning.specs.Order.{pick, step_picks, act_picks, local_picks, picks_of_local, picks_of_act, picks_of, tried_if, tried_before, tried_at, tried_by}
 use Rattle.flat_meaning.specs.Allowed.{MayAct, MayStep, MayStepAt, MayGo, StandsBefore, MayCome}
 

@@ -1,10 +1,10 @@
 -- Events one after the other: what they come to, their order and their attempts.
-use Rattle.std.proofs.Common.{◌≡◌, ℕ, ◌+◌, List, [], ◌∷◌, ◌++◌, length, map, Option, Some, None, refl, sym, ap, subst, ◌∙◌, arith, append_assoc, append-nil}
+use Rattle.std.proofs.Common.{◌≡◌, ℕ, ◌+◌, List, [], ◌∷◌, ◌++◌, length, refl, sym, ap, subst, ◌∙◌, arith, append_assoc, append-nil}
 use Rattle.std.proofs.lemmas.List.{length-append}
 use Rattle.block_store.specs.Runs.{Pick}
 use Rattle.flat_meaning.specs.Image.{Image}
 use Rattle.flat_meaning.specs.Events.{State, Event, after, after_all}
-use Rattle.flat_meaning.specs.Order.{Attempt, picks_of, order_of, tried_by, attempts_of}
+use Rattle.flat_meaning.specs.Order.{picks_of, order_of, tried_by, attempts_of}
 use Rattle.flat_meaning.specs.Allowed.{IsAllowed, AreAllowed}
 use Rattle.flat_simulation.specs.inner.EventRuns.{tried_at, Leads}
 

@@ -1,5 +1,5 @@
 -- For an event of the second code there are events of the first that come to the same.
-use Rattle.std.proofs.Common.{◌≡◌, ℕ, ◌<◌, List, [], ◌∷◌, ◌++◌, length, Bool, true, false, Option, Some, None, refl, sym, ap, subst, ◌∙◌, arith, append-nil}
+use Rattle.std.proofs.Common.{◌≡◌, ℕ, List, [], ◌++◌, true, false, Option, Some, None, refl, sym, ap, subst, ◌∙◌, append-nil}
 use Rattle.std.specs.Prelude.{set}
 use Rattle.block_store.specs.Runs.{Pick, own_at}
 use Rattle.struct_ir.specs.Flow.{Here, Flow}
@@ -12,9 +12,9 @@ use Rattle.flat_meaning.specs.Memory.{Memory}
 use Rattle.flat_meaning.specs.Accesses.{Fault, Choice, plain, got, null, wait}
 use Rattle.flat_meaning.specs.Stages.{Stage, starts, going, waiting, landed, first_thread, thread_at, Before, safe, looks, steps, calls, turn_over, nothing, before, room_for, past_if, gone_from, gone, goes_alone, can_go}
 use Rattle.flat_meaning.specs.declared.endings.End.TheVariants as ends
-use Rattle.flat_meaning.specs.Effects.{Effect, no_effect, ends_run, end_of, own_list_of, acted, stop_of, step_effect}
-use Rattle.flat_meaning.specs.Events.{State, Event, local, look, act, put, after, new_stages}
-use Rattle.flat_meaning.specs.Order.{local_picks, pick_if, tried_if, answer_of, picks_of, tried_by, step_picks}
+use Rattle.flat_meaning.specs.Effects.{no_effect, ends_run, end_of, own_list_of, acted, stop_of, step_effect}
+use Rattle.flat_meaning.specs.Events.{State, local, look, act, put, after}
+use Rattle.flat_meaning.specs.Order.{local_picks, pick_if, tried_if, answer_of, picks_of, tried_by}
 use Rattle.flat_meaning.specs.Allowed.{MayGo, MayAct, StandsBefore, MayStep, MayStepAt, MayCome}
 use Rattle.flat_meaning.specs.Emitted.{AreOne}
 use Rattle.flat_simulation.specs.OneProgram.{CallsAreGuarded}

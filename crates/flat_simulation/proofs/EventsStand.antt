@@ -1,11 +1,9 @@
 -- After each event the machine's state stands for the source's, or the event's turns break a rule.
-use Rattle.std.proofs.Common.{◌≡◌, ◌≢◌, ℕ, zero, suc, ◌+◌, ◌<◌, List, [], ◌∷◌, ◌++◌, length, Bool, true, false, Option, Some, None, refl, sym, ap, subst, ◌∙◌, arith, ◌⊎◌, inl, inr, append_assoc, append-nil}
+use Rattle.std.proofs.Common.{◌≡◌, ℕ, ◌<◌, List, [], ◌∷◌, length, Bool, true, false, Option, Some, None, refl, sym, ap, subst, ◌∙◌, arith, ◌⊎◌, inl, inr}
 use Rattle.std.specs.Prelude.{if◌then◌else◌}
-use Rattle.ak_words.specs.Prefix.{IsPrefix}
 use Rattle.block_store.specs.declared.values.Answer.TheVariants as answers
 use Rattle.block_store.specs.Runs as runs
 use Rattle.block_store.specs.Runs.{Pick, Run, reaches, own_at, run_from}
-use Rattle.move_plan.specs.declared.moves.Move.{Move}
 use Rattle.struct_ir.specs.Nodes.{Ir}
 use Rattle.struct_ir.specs.Structured.{Position, structured}
 use Rattle.struct_ir.specs.Threads.{Thread, Outcome, went}
@@ -17,25 +15,23 @@ use Rattle.flat_meaning.specs.Image.{Limits, Image, structured_image}
 use Rattle.flat_meaning.specs.Words.{Words}
 use Rattle.flat_meaning.specs.Memory.{Memory}
 use Rattle.flat_meaning.specs.Accesses.{Fault, Choice, plain, got, null, wait}
-use Rattle.flat_meaning.specs.Ready.{is_malloc}
-use Rattle.flat_meaning.specs.Stages.{Stage, starts, going, waiting, landed, thread_at, Before, safe, looks, steps, calls, turn_over, nothing, before, room_for, Gone, ran_to, turn_done, ending_if, past_if, first_thread, gone, can_go}
-use Rattle.flat_meaning.specs.Effects.{no_effect, ends_run, own_list_of, stop_of, step_effect, serve_effect}
-use Rattle.flat_meaning.specs.Events.{State, Serve, Event, local, look, act, barrier, put, put_if, after_serve, after_serves, moved_state, after, after_all}
-use Rattle.flat_meaning.specs.Order.{pick, pick_if, local_picks, answer_of, step_picks, picks_of_serve, picks_of_serves, picks_of, order_of}
-use Rattle.flat_meaning.specs.Allowed.{MayGo, MayAct, MayStep, MayStepAt, StandsBefore, MayServe, MayServeAll, MayCome, AreAllowed}
-use Rattle.flat_meaning.specs.Start.{chosen_id, served_ids, ids_of}
-use Rattle.flat_meaning.specs.Names.{Name, ids_in}
+use Rattle.flat_meaning.specs.Stages.{Stage, starts, going, waiting, landed, thread_at, Before, safe, looks, steps, calls, turn_over, nothing, before, room_for, Gone, turn_done, ending_if, gone, can_go}
+use Rattle.flat_meaning.specs.Effects.{no_effect, ends_run, own_list_of, stop_of, step_effect}
+use Rattle.flat_meaning.specs.Events.{State, local, look, act, put, after}
+use Rattle.flat_meaning.specs.Order.{pick, local_picks, answer_of, step_picks, picks_of}
+use Rattle.flat_meaning.specs.Allowed.{MayAct, MayStep, StandsBefore}
+use Rattle.flat_meaning.specs.Start.{chosen_id}
+use Rattle.flat_meaning.specs.Names.{Name}
 use Rattle.flat_meaning.specs.Simulation.{UpToABreak, EachTurnTakesAnAnswer}
 use Rattle.flat_simulation.specs.inner.Programs.{IsImage}
 use Rattle.flat_simulation.specs.inner.Threads.{StageStands, StateStands, TurnsAlike}
 use Rattle.flat_simulation.specs.inner.Kept.{source_turn, ThreadKeeps, EventsKeep}
 use Rattle.flat_simulation.specs.inner.Next.{Next}
 use Rattle.flat_simulation.proofs.Numbering.{own_within}
-use Rattle.flat_simulation.proofs.EventKinds.{HasBegun, stands_begun, after_local, picks_of-local, after_step, picks_of-step, after_full, picks_of-full, after_look, after_fresh, picks_of-fresh}
+use Rattle.flat_simulation.proofs.EventKinds.{HasBegun, stands_begun, after_local, picks_of-local, after_step, picks_of-step, after_full, picks_of-full, after_look}
 use Rattle.flat_simulation.proofs.Later.{fresh_thread}
 use Rattle.flat_simulation.proofs.Putting.{length-made}
-use Rattle.flat_simulation.proofs.SourceRuns.{and_run, run_from-append, reached_then, up_then, up_map}
-use Rattle.flat_simulation.proofs.StepKinds.{waits_on, exits, malloc_goes_on, malloc_before}
+use Rattle.flat_simulation.proofs.StepKinds.{waits_on, exits}
 use Rattle.flat_simulation.proofs.TurnsStand.{HasGone, stays, both_went, comes_out}
 use Rattle.flat_simulation.proofs.WordsCome.{StateComes, thread_comes, takes, after_comes, serve_comes}
 

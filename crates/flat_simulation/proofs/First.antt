@@ -1,5 +1,5 @@
 -- The state in which a run begins stands for the source's.
-use Rattle.std.proofs.Common.{◌≡◌, ◌≢◌, ℕ, zero, suc, ◌+◌, ◌-◌, ◌*◌, ◌^◌, ◌<◌, ◌≤◌, ◌⊎◌, inl, inr, List, [], ◌∷◌, ◌++◌, length, take, drop, map, replicate, Bool, true, false, Option, Some, None, is_some, refl, sym, ap, subst, ◌∙◌, arith, length-append}
+use Rattle.std.proofs.Common.{◌≡◌, ◌≢◌, ℕ, zero, suc, ◌+◌, ◌-◌, ◌*◌, ◌<◌, ◌≤◌, inl, inr, List, [], ◌∷◌, ◌++◌, length, take, map, replicate, Bool, true, false, Option, Some, None, refl, sym, ap, subst, ◌∙◌, arith, length-append}
 use Rattle.std.specs.Prelude.{slice_get, sum_by, option_map}
 use Rattle.std.specs.Option.{option_flatten}
 use Rattle.std.proofs.lemmas.Bool.{cases_lt}
@@ -22,18 +22,17 @@ use Rattle.struct_ir.specs.Structured.{Position}
 use Rattle.struct_ir.specs.Whole.{plain_bytes, takes_nothing, is_init_in}
 use Rattle.ir_meaning.specs.Start.{block_of, first_blocks, first_value, start}
 use Rattle.ir_meaning.specs.Threads.{program_of}
-use Rattle.flat_meaning.specs.Image.{Layout, Image, limits_for, structured_image, global_address, literal_address, stack_address, plain_size, globals_written, literals_written, first_storage}
+use Rattle.flat_meaning.specs.Image.{Layout, Image, limits_for, structured_image, global_address, literal_address, plain_size, globals_written, first_storage}
 use Rattle.flat_meaning.specs.Events.{first_memory, first_state}
 use Rattle.flat_meaning.specs.Names.{Name, heap, plain, name_of, word_for, address_for, ids_in, Apart, IsOutside, LiesAt}
 use Rattle.flat_meaning.specs.Simulation.{IsChecked}
 use Rattle.flat_meaning.specs.Start.{global_names, literal_names, first_names}
-use Rattle.flat_simulation.specs.inner.Calls.{DataStands}
 use Rattle.flat_simulation.specs.inner.Cells.{CellStands}
 use Rattle.flat_simulation.specs.inner.Values.{AnyBlock, PointerStands}
 use Rattle.flat_simulation.specs.inner.World.{BlocksStand}
 use Rattle.flat_simulation.specs.inner.Worlds.{WorldStands}
-use Rattle.flat_simulation.specs.inner.Threads.{StartStands, IsFree, StageStands, StateStands}
-use Rattle.flat_simulation.proofs.FirstBytes.{globals_size, literals_size, globals_beside, literals_beside, cells_fit, globals_stand, literals_stand}
+use Rattle.flat_simulation.specs.inner.Threads.{IsFree, StageStands, StateStands}
+use Rattle.flat_simulation.proofs.FirstBytes.{globals_size, literals_size, literals_beside, cells_fit, globals_stand, literals_stand}
 use Rattle.flat_simulation.proofs.Loaded.{none_of, length-globals, first_consistent}
 use Rattle.flat_simulation.proofs.Names.{lives_there}
 use Rattle.flat_simulation.proofs.Sized.{one_of}

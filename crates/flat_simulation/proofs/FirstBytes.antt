@@ -1,18 +1,14 @@
 -- The bytes of globals and literals as they are loaded: each stands for the cell that its block begins with.
-use Rattle.std.proofs.Common.{◌≡◌, ℕ, zero, suc, ◌+◌, ◌-◌, ◌<◌, ◌≤◌, ◌⊎◌, inl, inr, List, [], ◌∷◌, ◌++◌, length, get_or, take, drop, map, replicate, Bool, true, Option, Some, None, refl, sym, ap, subst, ◌∙◌, arith}
-use Rattle.std.specs.Prelude.{slice_get, sum_by, nat_lt}
+use Rattle.std.proofs.Common.{◌≡◌, ℕ, zero, suc, ◌+◌, ◌-◌, ◌<◌, ◌≤◌, ◌⊎◌, inl, inr, List, [], ◌∷◌, length, get_or, take, map, replicate, true, Some, refl, sym, ap, subst, ◌∙◌, arith}
+use Rattle.std.specs.Prelude.{slice_get, sum_by}
 use Rattle.std.proofs.lemmas.Bool.{ltb-true}
 use Rattle.std.proofs.lemmas.List.{length-replicate, get_or-replicate}
 use Rattle.std.proofs.lemmas.List.Sums.{sum_by-cons}
 use Rattle.std.proofs.lemmas.Option.{slice_get_within, get_or_from_slice_get}
-use Rattle.ak_words.specs.Bytes.{low_bytes}
 use Rattle.ak_words.specs.Num.{num}
-use Rattle.ak_words.specs.Wrapped.{bit_pattern}
-use Rattle.ak_words.proofs.Bytes.{length-low_bytes}
 use Rattle.block_store.specs.declared.values.Cell.{Cell}
-use Rattle.block_store.specs.declared.values.Cell.TheVariants.{Unknown, Byte, Part}
+use Rattle.block_store.specs.declared.values.Cell.TheVariants.{Unknown, Byte}
 use Rattle.block_store.specs.declared.values.Ptr.TheVariants.{To}
-use Rattle.block_store.specs.declared.values.Value.{Value}
 use Rattle.block_store.specs.declared.values.Value.TheVariants as values
 use Rattle.block_store.specs.Blocks.{Blocks, first_cells}
 use Rattle.block_store.specs.Cells.{cells_of}
@@ -23,14 +19,13 @@ use Rattle.flat_store.specs.Flat.{first_address, byte_at, with_bytes}
 use Rattle.defrag_move.proofs.Bytes.{length-with_bytes}
 use Rattle.struct_ir.specs.Nodes.{Global}
 use Rattle.struct_ir.specs.Whole.{is_init_in}
-use Rattle.ir_meaning.specs.Blocks.{value}
 use Rattle.ir_meaning.specs.Start.{first_value}
 use Rattle.flat_meaning.specs.Image.{Layout, literal_address, first_bytes, globals_written, literals_written}
 use Rattle.flat_meaning.specs.Names.{Name}
 use Rattle.flat_simulation.specs.inner.Cells.{CellStands, RowStands}
 use Rattle.flat_simulation.specs.inner.Values.{AnyBlock, PointerStands}
 use Rattle.flat_simulation.proofs.Cells.{stored_stands}
-use Rattle.flat_simulation.proofs.Loaded.{few_first, length-globals, length-literals}
+use Rattle.flat_simulation.proofs.Loaded.{few_first}
 use Rattle.flat_simulation.proofs.Rows.{over_inside, over_outside, row_length, row_each}
 
 -- ---- bytes that are written over

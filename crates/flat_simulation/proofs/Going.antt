@@ -1,25 +1,25 @@
 -- A thread that goes on alone: it stands where it comes to, and where it ends a turn, that ends over named blocks, too.
-use Rattle.std.proofs.Common.{◌≡◌, ℕ, ◌<◌, List, [], ◌∷◌, length, Bool, true, false, Option, Some, None, Result, Ok, Err, refl, sym, ap, subst, ◌∙◌, arith, inl, inr}
-use Rattle.std.specs.Prelude.{if◌then◌else◌, not, ◌==◌}
+use Rattle.std.proofs.Common.{◌≡◌, ℕ, List, [], ◌∷◌, length, Bool, true, false, Option, Some, None, Result, Ok, Err, refl, sym, ap, subst, ◌∙◌, arith, inl, inr}
+use Rattle.std.specs.Prelude.{if◌then◌else◌}
 use Rattle.block_store.specs.declared.values.Answer.TheVariants as answers
 use Rattle.block_store.specs.Actions.{World, with_blocks}
 use Rattle.defrag_move.specs.Arena.{Storage}
 use Rattle.struct_ir.specs.Nodes.{Act, Call, call, set, step, look, safepoint, begin_object, end_object, Ir}
 use Rattle.struct_ir.specs.Flow.{Here, does, tests, passes, round, returns, entry}
-use Rattle.struct_ir.specs.Machine.{Point, Ahead, goes, stops, breaks, acted, tested, stopped_or, ahead_at, ahead, run, Steps, IsRun}
-use Rattle.struct_ir.specs.Threads.{Thread, Outcome, went, ended, blocked, broke, unfit, alone, stop_event, stop_at, left_call, and_then, turn, behind}
-use Rattle.struct_ir.specs.Valid.{scope_of, is_below_if}
+use Rattle.struct_ir.specs.Machine.{Point, stops, breaks, acted, stopped_or, ahead_at, ahead, run, IsRun}
+use Rattle.struct_ir.specs.Threads.{Thread, Outcome, went, broke, alone, stop_event, stop_at, left_call, and_then, turn}
+use Rattle.struct_ir.specs.Valid.{scope_of}
 use Rattle.struct_ir.specs.ValidCode.{is_here}
 use Rattle.struct_ir.proofs.Runs.{runs_are_steps}
 use Rattle.ir_meaning.specs.Blocks.{Fault, Own, ends_turn, own_act, blocks_machine}
 use Rattle.ir_meaning.specs.Threads.{first_own, blocks_world}
 use Rattle.flat_meaning.specs.Image.{Image}
-use Rattle.flat_meaning.specs.Words.{Words, word_at, none_used, used_with, has_room}
+use Rattle.flat_meaning.specs.Words.{Words, none_used, used_with, has_room}
 use Rattle.flat_meaning.specs.Memory.{Memory}
 use Rattle.flat_meaning.specs.Accesses as flat
 use Rattle.flat_meaning.specs.Machine as machine
 use Rattle.flat_meaning.specs.Machine.{ends_event, words_machine, words_world}
-use Rattle.flat_meaning.specs.Stages.{Stage, starts, going, waiting, landed, first_thread, thread_at, Before, safe, looks, steps, calls, turn_over, nothing, before_act, before_return, before_here, before, room_for, Gone, past_if, ran_to, back, turn_done, ending_if, gone_from, gone, goes_alone, can_go}
+use Rattle.flat_meaning.specs.Stages.{Stage, starts, going, waiting, landed, first_thread, thread_at, Before, safe, looks, steps, calls, turn_over, nothing, before_act, before_return, before_here, before, room_for, Gone, past_if, ran_to, back, turn_done, ending_if, gone_from, gone, can_go}
 use Rattle.flat_meaning.specs.Effects as effects
 use Rattle.flat_meaning.specs.Effects.{Effect, no_effect, own_list_of, step_effect}
 use Rattle.flat_meaning.specs.Allowed.{StandsBefore}
@@ -28,7 +28,7 @@ use Rattle.flat_meaning.specs.Stands.{in_blocks}
 use Rattle.flat_simulation.specs.inner.Values.{AnyBlock, KnownIn}
 use Rattle.flat_simulation.specs.inner.Turns.{Far}
 use Rattle.flat_simulation.specs.inner.Lags.{StandsIn, Reaches, comes, breaks}
-use Rattle.flat_simulation.specs.inner.Programs.{IsImage, HasFrame}
+use Rattle.flat_simulation.specs.inner.Programs.{IsImage}
 use Rattle.flat_simulation.specs.inner.Worlds.{WorldStands}
 use Rattle.flat_simulation.specs.inner.Threads.{CallersStand, ThreadStands, Fresh, StartStands, StageStands, TurnsAlike}
 use Rattle.flat_simulation.proofs.Alone.{thread_goes, thread_looks, thread_safe}

@@ -2,10 +2,10 @@
 use Rattle.std.proofs.Common.{◌≡◌, ℕ, List, [], ◌∷◌, Bool, true, false, Option, Result, Ok, Err, refl, sym, ap, subst, ◌∙◌}
 use Rattle.std.specs.Prelude.{if◌then◌else◌}
 use Rattle.struct_ir.specs.Nodes.{Call, Act, set, call, step, look, safepoint, begin_object, end_object}
-use Rattle.struct_ir.specs.Flow.{Here, does, tests, passes, round, returns, Flow, Stays, IsCall, Shrinks}
-use Rattle.struct_ir.specs.Machine.{Machine, Point, stops, ahead_at, ahead, further, run}
+use Rattle.struct_ir.specs.Flow.{Here, does, tests, passes, round, returns, Flow, Stays, IsCall}
+use Rattle.struct_ir.specs.Machine.{Machine, Point, stops, ahead_at, further, run}
 use Rattle.struct_ir.specs.Mirrors.{Both, IsMirror, EndAlike}
-use Rattle.struct_ir.specs.Marks.{IsUnseen, FollowsAt, both_go, first_goes, Follows}
+use Rattle.struct_ir.specs.Marks.{IsUnseen, FollowsAt, both_go, first_goes}
 use Rattle.struct_ir.specs.Threads.{Thread, result_to}
 use Rattle.struct_ir.specs.Alike.{SameCallers, LevelThreads, SameThreads}
 use Rattle.struct_ir.proofs.Mirrors.{mirrors_runs}
@@ -16,11 +16,11 @@ use Rattle.flat_meaning.specs.Image.{Layout, Image}
 use Rattle.flat_meaning.specs.Words.{Words}
 use Rattle.flat_meaning.specs.Accesses.{Fault}
 use Rattle.flat_meaning.specs.Machine.{words_machine, left}
-use Rattle.flat_meaning.specs.Stages.{Stage, starts, going, waiting, landed, Before, safe, looks, steps, calls, turn_over, nothing, before_act, before_return, before_here, before, room_for, Gone, past_if, ran_to, turn_done, ending_if, gone_from, gone, goes_alone, can_go}
+use Rattle.flat_meaning.specs.Stages.{Before, safe, looks, steps, calls, turn_over, nothing, before_act, before_return, before_here, before, room_for, Gone, past_if, ran_to, turn_done, ending_if, gone_from, goes_alone}
 use Rattle.flat_meaning.proofs.Halves.{marks_are_idle, NoFault, no_fault}
 use Rattle.flat_meaning.specs.Emitted.{AreOne}
 use Rattle.flat_simulation.specs.OneProgram.{IsSafepoint, CallsAreGuarded}
-use Rattle.flat_simulation.specs.inner.Level.{image, Near, same, level, GonesMatch}
+use Rattle.flat_simulation.specs.inner.Level.{image, same, level, GonesMatch}
 
 -- ---- what a thread stands before
 

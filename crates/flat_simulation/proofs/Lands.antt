@@ -1,16 +1,15 @@
 -- A step is done: its thread stands behind it, at the start of its next turn.
-use Rattle.std.proofs.Common.{◌≡◌, ◌≢◌, ℕ, ◌+◌, ◌<◌, ◌≤◌, List, [], ◌∷◌, ◌++◌, length, Bool, true, false, Option, Some, None, refl, sym, ap, subst, ◌∙◌, arith, ◌⊎◌, inl, inr, length-set, append_assoc}
+use Rattle.std.proofs.Common.{◌≡◌, ℕ, ◌+◌, ◌<◌, ◌≤◌, List, [], ◌∷◌, ◌++◌, length, true, false, Option, Some, None, refl, sym, ap, subst, ◌∙◌, arith, inl, inr, length-set}
 use Rattle.std.proofs.lemmas.Bool.{cases_lt}
 use Rattle.block_store.specs.declared.values.Value.{Value}
-use Rattle.block_store.specs.Blocks.{Block, Blocks, live}
+use Rattle.block_store.specs.Blocks.{Blocks}
 use Rattle.block_store.specs.Actions as actions
 use Rattle.block_store.specs.Actions.{World, with_blocks}
 use Rattle.c_tree.specs.TypedForm.{taken}
-use Rattle.defrag_move.specs.Arena.{Storage}
 use Rattle.struct_ir.specs.Nodes.{Step, step, own_list, Ir}
-use Rattle.struct_ir.specs.Flow.{Here, does}
+use Rattle.struct_ir.specs.Flow.{does}
 use Rattle.struct_ir.specs.Machine.{Point}
-use Rattle.struct_ir.specs.Threads.{Thread, Outcome, went, ended, blocked, broke, unfit, behind, served}
+use Rattle.struct_ir.specs.Threads.{Outcome, went, ended, blocked, broke, unfit, served}
 use Rattle.struct_ir.specs.Pins.{looked, lacks, lacks_if, listing, passing, facts}
 use Rattle.ir_meaning.specs.Blocks as blocks
 use Rattle.ir_meaning.specs.Blocks.{Held, value, Own, set_at}
@@ -22,18 +21,18 @@ use Rattle.flat_meaning.specs.Memory.{Memory}
 use Rattle.flat_meaning.specs.Accesses as flat
 use Rattle.flat_meaning.specs.Machine as machine
 use Rattle.flat_meaning.specs.Effects.{landing}
-use Rattle.flat_meaning.specs.Names.{Name, plain, name_of, ids_in}
+use Rattle.flat_meaning.specs.Names.{Name, ids_in}
 use Rattle.flat_simulation.specs.inner.Aged.{Aged}
-use Rattle.flat_simulation.specs.inner.Values.{AnyBlock, Stands}
+use Rattle.flat_simulation.specs.inner.Values.{AnyBlock}
 use Rattle.flat_simulation.specs.inner.Calls.{CallStands}
 use Rattle.flat_simulation.specs.inner.Turns.{IsClear}
 use Rattle.flat_simulation.specs.inner.Lags.{StandsIn, IsAside, KeepCalls}
 use Rattle.flat_simulation.specs.inner.Programs.{IsImage, HasFrame}
 use Rattle.flat_simulation.specs.inner.Worlds.{WorldStands, Acted, TurnEnded, GivenAlike, DoneAlike}
-use Rattle.flat_simulation.specs.inner.Threads.{CallersStand, ThreadStands, Fresh, LandedStands, StageStands, TurnsAlike}
+use Rattle.flat_simulation.specs.inner.Threads.{CallersStand, Fresh, StageStands, TurnsAlike}
 use Rattle.flat_simulation.proofs.Acts.{taken_stands}
-use Rattle.flat_simulation.proofs.Blocks.{live_in, aged_then, aged_name, aged_more}
-use Rattle.flat_simulation.proofs.Facts.{IsOther, listed_fact, assigned_fact}
+use Rattle.flat_simulation.proofs.Blocks.{aged_then, aged_name}
+use Rattle.flat_simulation.proofs.Facts.{listed_fact, assigned_fact}
 use Rattle.flat_simulation.proofs.Later.{clear_on, calls_kept, callers_later, fresh_thread}
 use Rattle.flat_simulation.proofs.Objects.{set_other, call_later}
 use Rattle.flat_simulation.proofs.Points.{Goes, point_acts, acts_way}

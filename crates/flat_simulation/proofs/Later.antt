@@ -2,7 +2,7 @@
 use Rattle.std.proofs.Common.{◌≡◌, ◌≢◌, ℕ, ◌+◌, ◌*◌, ◌<◌, ◌≤◌, List, [], ◌∷◌, length, false, Option, Some, None, refl, sym, ap, subst, ◌∙◌, arith, ◌⊎◌, inl, inr}
 use Rattle.std.proofs.lemmas.Bool.{cases_lt}
 use Rattle.std.proofs.lemmas.Nat.{mul-le}
-use Rattle.block_store.specs.Blocks.{Block, Blocks, live}
+use Rattle.block_store.specs.Blocks.{Blocks}
 use Rattle.block_store.specs.Actions.{World}
 use Rattle.c_tree.specs.TypedForm.{taken}
 use Rattle.handle_table.specs.declared.frame.PinSlot.{PinSlot}
@@ -16,20 +16,20 @@ use Rattle.struct_ir.specs.Machine.{Point}
 use Rattle.struct_ir.specs.Threads.{Thread}
 use Rattle.struct_ir.specs.Pins.{looked, lacks, facts}
 use Rattle.ir_meaning.specs.Blocks.{Own}
-use Rattle.flat_meaning.specs.Image.{Image, stack_address, objects_bytes}
+use Rattle.flat_meaning.specs.Image.{Image, stack_address}
 use Rattle.flat_meaning.specs.Words.{Words}
 use Rattle.flat_meaning.specs.Memory.{Memory}
 use Rattle.flat_meaning.specs.Stages.{Stage, starts, going, waiting, landed}
-use Rattle.flat_meaning.specs.Names.{Name, name_of, plain}
+use Rattle.flat_meaning.specs.Names.{Name}
 use Rattle.flat_meaning.specs.Stands.{in_blocks}
 use Rattle.flat_simulation.specs.inner.Aged.{Aged}
 use Rattle.flat_simulation.specs.inner.Values.{AnyBlock, KnownIn}
 use Rattle.flat_simulation.specs.inner.Turns.{IsClear}
-use Rattle.flat_simulation.specs.inner.Lags.{Reaches, comes, IsAside, KeepsAddresses, KeepsSlot, KeepsCall, KeepCalls}
+use Rattle.flat_simulation.specs.inner.Lags.{comes, IsAside, KeepsAddresses, KeepsSlot, KeepCalls}
 use Rattle.flat_simulation.specs.inner.Programs.{IsImage, HasFrame}
 use Rattle.flat_simulation.specs.inner.Worlds.{WorldStands, TurnEnded}
-use Rattle.flat_simulation.specs.inner.Threads.{CallerStands, CallersStand, ThreadStands, Fresh, StartStands, IsFree, LandedStands, StageStands}
-use Rattle.flat_simulation.proofs.Blocks.{live_in, aged_still, aged_name, aged_more}
+use Rattle.flat_simulation.specs.inner.Threads.{CallersStand, ThreadStands, Fresh, StartStands, IsFree, LandedStands, StageStands}
+use Rattle.flat_simulation.proofs.Blocks.{live_in, aged_still, aged_name}
 use Rattle.flat_simulation.proofs.Facts.{listed_fact}
 use Rattle.flat_simulation.proofs.Others.{others_leave_turns}
 use Rattle.flat_simulation.proofs.Points.{IsIntact, call_still, point_aged, point_later, aged_way}

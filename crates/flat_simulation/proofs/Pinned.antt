@@ -1,19 +1,19 @@
 -- Where objects move that no listed slot names, each slot that a thread's list has leads where it led.
-use Rattle.std.proofs.Common.{◌≡◌, ℕ, zero, suc, ◌+◌, ◌^◌, ◌%◌, ◌<◌, ◌≤◌, ◌==◌, ◌||◌, eqb, leb, cond, List, [], ◌∷◌, ◌++◌, length, Bool, true, false, Option, Some, None, refl, sym, ap, subst, ◌∙◌, arith, ◌⊎◌, inl, inr}
-use Rattle.std.specs.Prelude.{nat_le, not, map, slice_get, is_some, flat_map, filter_map, option_map, if◌then◌else◌}
+use Rattle.std.proofs.Common.{◌≡◌, ℕ, zero, suc, ◌+◌, ◌^◌, ◌%◌, ◌≤◌, ◌==◌, ◌||◌, eqb, cond, List, [], ◌∷◌, ◌++◌, length, Bool, true, false, Option, Some, None, refl, sym, ap, subst, ◌∙◌, arith, ◌⊎◌, inl, inr}
+use Rattle.std.specs.Prelude.{nat_le, not, is_some, flat_map, option_map, if◌then◌else◌}
 use Rattle.std.specs.List.{list_any, filter, cons_option}
 use Rattle.std.proofs.lemmas.Bool.{le-leb, eqb-true, eq-eqb}
-use Rattle.block_store.specs.Blocks.{Block, Blocks, live, is_heap}
+use Rattle.block_store.specs.Blocks.{Blocks}
 use Rattle.block_store.specs.Runs.{own_at}
 use Rattle.handle_words.specs.Handle.{id_of}
 use Rattle.handle_table.specs.declared.frame.PinSlot.{PinSlot}
 use Rattle.handle_table.specs.Table.{address_of, translated}
-use Rattle.handle_table.specs.Frame.{slot_at, listed_words, listed_handles}
+use Rattle.handle_table.specs.Frame.{slot_at, listed_words}
 use Rattle.sub_heaps.specs.declared.objects.Object.{Object}
 use Rattle.move_plan.specs.declared.moves.Move.{Move}
 use Rattle.defrag_move.specs.Arena.{IsConsistent, Storage, object_of, place_named, places_named}
 use Rattle.defrag_move.specs.Moves.{KeepsObjects}
-use Rattle.struct_ir.specs.Nodes.{Act, set, call, step, look, safepoint, begin_object, end_object, Ir}
+use Rattle.struct_ir.specs.Nodes.{set, call, step, look, safepoint, begin_object, end_object, Ir}
 use Rattle.struct_ir.specs.Flow.{Here, does, tests, passes, round, returns, IsCall}
 use Rattle.struct_ir.specs.Machine.{Point}
 use Rattle.struct_ir.specs.Threads.{Thread}
@@ -24,9 +24,9 @@ use Rattle.flat_meaning.specs.Words.{Words}
 use Rattle.flat_meaning.specs.Stages.{Stage, starts, going, waiting, landed}
 use Rattle.flat_meaning.specs.Events.{State}
 use Rattle.flat_meaning.specs.Allowed.{list_at, handles_in, handles_here, handles_of, handles_if, pinned, stands}
-use Rattle.flat_meaning.specs.Names.{Name, heap, plain, name_of, word_for, address_if, address_for, IsOutside}
+use Rattle.flat_meaning.specs.Names.{Name, heap, plain, name_of, word_for, address_if, IsOutside}
 use Rattle.flat_simulation.specs.inner.Lags.{KeepsSlot, KeepsCall, KeepCalls}
-use Rattle.flat_simulation.specs.inner.Values.{IsPlaced, AnyBlock}
+use Rattle.flat_simulation.specs.inner.Values.{IsPlaced}
 use Rattle.flat_simulation.specs.inner.World.{BlocksStand}
 use Rattle.flat_simulation.specs.inner.Threads.{CallersStand, StageStands}
 use Rattle.flat_simulation.proofs.Later.{KeepsStage}

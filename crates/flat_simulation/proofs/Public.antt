@@ -1,36 +1,30 @@
 -- What proofs keep of threads and of the state is what the law says of them.
-use Rattle.std.proofs.Common.{◌≡◌, ℕ, ◌<◌, ◌≤◌, List, [], ◌∷◌, ◌++◌, length, false, Option, Some, None, refl, sym, ap, subst, ◌∙◌, arith, ◌⊎◌, inl, inr}
-use Rattle.ak_words.specs.Prefix.{IsPrefix}
+use Rattle.std.proofs.Common.{◌≡◌, ℕ, List, [], ◌∷◌, ◌++◌, length, Option, Some, None, refl, sym, ap, subst, inl}
 use Rattle.block_store.specs.declared.values.Ptr.TheVariants.{To}
 use Rattle.block_store.specs.declared.values.Value.TheVariants as values
 use Rattle.block_store.specs.Blocks.{Blocks}
-use Rattle.block_store.specs.Actions.{World}
 use Rattle.block_store.specs.Runs as runs
 use Rattle.block_store.specs.Runs.{own_at}
-use Rattle.handle_table.specs.Frame.{slot_at}
 use Rattle.defrag_move.specs.Arena.{Storage}
 use Rattle.struct_ir.specs.Nodes.{Ir}
 use Rattle.struct_ir.specs.Flow.{entry}
-use Rattle.struct_ir.specs.Machine.{Point, Steps, still}
+use Rattle.struct_ir.specs.Machine.{Point, still}
 use Rattle.struct_ir.specs.Threads.{Thread}
-use Rattle.struct_ir.specs.Pins.{looked, lacks, facts}
-use Rattle.ir_meaning.specs.Blocks.{Held, value, Own, blocks_machine}
+use Rattle.ir_meaning.specs.Blocks.{Held, value, Own}
 use Rattle.ir_meaning.specs.Threads.{first_own}
 use Rattle.flat_meaning.specs.Image.{Image}
 use Rattle.flat_meaning.specs.Words.{Words, word_at}
-use Rattle.flat_meaning.specs.Memory.{Memory}
 use Rattle.flat_meaning.specs.Stages.{Stage, starts, going, waiting, landed, first_thread}
 use Rattle.flat_meaning.specs.Events.{State}
 use Rattle.flat_meaning.specs.Names.{Name}
 use Rattle.flat_meaning.specs.Stands as public
 use Rattle.flat_meaning.specs.Stands.{in_blocks, Ages}
 use Rattle.flat_simulation.specs.inner.Aged.{Aged}
-use Rattle.flat_simulation.specs.inner.Values.{AnyBlock, KnownIn, PointerStands, Stands}
+use Rattle.flat_simulation.specs.inner.Values.{AnyBlock, KnownIn, Stands}
 use Rattle.flat_simulation.specs.inner.Calls.{CallStands}
 use Rattle.flat_simulation.specs.inner.Lags.{StandsIn, Reaches, comes, breaks, InTurn}
 use Rattle.flat_simulation.specs.inner.Programs.{IsImage}
-use Rattle.flat_simulation.specs.inner.Worlds.{WorldStands}
-use Rattle.flat_simulation.specs.inner.Threads.{CallersStand, ThreadStands, Fresh, StartStands, LandedStands, StageStands, StateStands}
+use Rattle.flat_simulation.specs.inner.Threads.{CallersStand, ThreadStands, StartStands, LandedStands, StageStands, StateStands}
 use Rattle.flat_simulation.proofs.Entered.{first_call_stands}
 use Rattle.flat_simulation.proofs.Made.{world_agrees}
 use Rattle.flat_simulation.proofs.Values.{agrees, pointer_later}

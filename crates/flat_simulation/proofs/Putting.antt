@@ -1,5 +1,5 @@
 -- A turn of one thread leaves the state standing: the thread where it now is, the others where they were, and those that it made.
-use Rattle.std.proofs.Common.{◌≡◌, ◌≢◌, ℕ, zero, suc, ◌+◌, ◌-◌, ◌<◌, ◌≤◌, List, [], ◌∷◌, ◌++◌, length, map, Option, Some, None, refl, sym, ap, subst, ◌∙◌, arith, ◌⊎◌, inl, inr, append-nil}
+use Rattle.std.proofs.Common.{◌≡◌, ◌≢◌, ℕ, zero, suc, ◌+◌, ◌<◌, ◌≤◌, List, [], ◌∷◌, ◌++◌, length, map, Option, Some, None, refl, sym, ap, subst, ◌∙◌, arith, inl, inr, append-nil}
 use Rattle.std.specs.Prelude.{set, drop, IsSome}
 use Rattle.std.proofs.lemmas.Bool.{cases_eq}
 use Rattle.std.proofs.lemmas.List.{length-append, length-drop, length-map, drop_all, drop_at}
@@ -15,15 +15,14 @@ use Rattle.ir_meaning.specs.Blocks.{Own}
 use Rattle.ir_meaning.specs.Threads.{program_of}
 use Rattle.flat_meaning.specs.declared.endings.End.{End}
 use Rattle.flat_meaning.specs.Image.{Limits, Image, structured_image}
-use Rattle.flat_meaning.specs.Words.{Words}
 use Rattle.flat_meaning.specs.Memory.{Made, Memory}
-use Rattle.flat_meaning.specs.Stages.{Stage, starts}
+use Rattle.flat_meaning.specs.Stages.{Stage}
 use Rattle.flat_meaning.specs.Events.{State, stage_made, new_stages, end_or, put}
 use Rattle.flat_meaning.specs.Names.{Name}
 use Rattle.flat_simulation.specs.inner.Programs.{IsImage}
 use Rattle.flat_simulation.specs.inner.Worlds.{MadeStands, AllMadeStand, IsBorn, TurnEnded}
-use Rattle.flat_simulation.specs.inner.Threads.{StartStands, StageStands, StateStands, IsFree}
-use Rattle.flat_simulation.proofs.Numbering.{own_within, own_at-set_same, own_at-set_other, own_at-front, length-set_own, each_behind}
+use Rattle.flat_simulation.specs.inner.Threads.{StartStands, StageStands, StateStands}
+use Rattle.flat_simulation.proofs.Numbering.{own_at-set_same, own_at-set_other, own_at-front, length-set_own, each_behind}
 use Rattle.flat_simulation.proofs.StatesAlike.{no_new_stages}
 use Rattle.flat_simulation.proofs.Later.{others_stay, stacks_stay}
 

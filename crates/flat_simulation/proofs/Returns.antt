@@ -1,17 +1,15 @@
 -- A turn ends where a call is left: its objects end, and the caller goes on behind its call.
-use Rattle.std.proofs.Common.{◌≡◌, ◌≢◌, ℕ, zero, suc, ◌+◌, ◌<◌, ◌≤◌, List, [], ◌∷◌, length, Bool, true, false, Option, Some, None, refl, sym, ap, subst, ◌∙◌, arith, ◌⊎◌, inl, inr, length-set}
-use Rattle.std.specs.Prelude.{slice_get, slice_set, nat_lt, ◌&&◌}
-use Rattle.std.proofs.lemmas.Bool.{cases_lt, cases_eq, ltb-true, and_parts}
-use Rattle.block_store.specs.Blocks.{Block, Blocks, live}
+use Rattle.std.proofs.Common.{◌≡◌, ◌≢◌, ℕ, zero, suc, ◌+◌, ◌<◌, List, [], ◌∷◌, length, true, Option, Some, None, refl, sym, ap, subst, ◌∙◌, arith, inl, inr, length-set}
+use Rattle.std.specs.Prelude.{slice_get}
+use Rattle.std.proofs.lemmas.Bool.{cases_lt, cases_eq, ltb-true}
+use Rattle.block_store.specs.Blocks.{Blocks}
 use Rattle.block_store.specs.Actions.{World, with_blocks}
-use Rattle.c_tree.specs.TypedForm.{taken}
 use Rattle.defrag_move.specs.Arena.{Storage}
 use Rattle.struct_ir.specs.Nodes.{Call, call, set, step, look, safepoint, begin_object, end_object, Ir}
 use Rattle.struct_ir.specs.Flow.{Here, does, tests, passes, round, returns, IsCall}
 use Rattle.struct_ir.specs.Machine.{Point}
-use Rattle.struct_ir.specs.Threads.{Thread, went, behind, result_to}
-use Rattle.struct_ir.specs.Valid.{scope_of, is_below_if}
-use Rattle.struct_ir.specs.ValidCode.{is_here}
+use Rattle.struct_ir.specs.Threads.{went, behind, result_to}
+use Rattle.struct_ir.specs.Valid.{is_below_if}
 use Rattle.ir_meaning.specs.Blocks as blocks
 use Rattle.ir_meaning.specs.Blocks.{Held, missing, Own, set_at, objects_of, object_ended, all_ended}
 use Rattle.ir_meaning.specs.Threads as source
@@ -21,23 +19,22 @@ use Rattle.flat_meaning.specs.Words.{Words, word_at, set_if}
 use Rattle.flat_meaning.specs.Words as words
 use Rattle.flat_meaning.specs.Memory.{Memory}
 use Rattle.flat_meaning.specs.Machine as machine
-use Rattle.flat_meaning.specs.Names.{Name, plain, name_of}
+use Rattle.flat_meaning.specs.Names.{Name}
 use Rattle.flat_meaning.specs.Stands.{in_blocks}
 use Rattle.flat_simulation.specs.inner.Values.{AnyBlock, KnownIn, Stands}
 use Rattle.flat_simulation.specs.inner.Calls.{objects_in, CallStands}
 use Rattle.flat_simulation.specs.inner.Turns.{IsClear, Far}
 use Rattle.flat_simulation.specs.inner.Lags.{StandsIn}
 use Rattle.flat_simulation.specs.inner.Programs.{IsImage, HasFrame}
-use Rattle.flat_simulation.specs.inner.Worlds.{WorldStands, TurnEnded}
-use Rattle.flat_simulation.specs.inner.Threads.{CallerStands, CallersStand, ThreadStands, Fresh, TurnsAlike}
+use Rattle.flat_simulation.specs.inner.Worlds.{WorldStands}
+use Rattle.flat_simulation.specs.inner.Threads.{CallerStands, CallersStand, Fresh, TurnsAlike}
 use Rattle.flat_simulation.proofs.Acts.{taken_stands}
 use Rattle.flat_simulation.proofs.Blocks.{aged_still}
 use Rattle.flat_simulation.proofs.Facts.{IsOther}
 use Rattle.flat_simulation.proofs.Later.{fresh_thread}
 use Rattle.flat_simulation.proofs.Objects.{set_same, set_other, object_ended_stands}
 use Rattle.flat_simulation.proofs.Points.{Goes, call_still, point_acts}
-use Rattle.flat_simulation.proofs.Programs.{its_objects, in_range}
-use Rattle.flat_simulation.proofs.Settled.{settled_world, settled, settled_call, settled_clear, settled_callers}
+use Rattle.flat_simulation.proofs.Settled.{settled, settled_call, settled_clear, settled_callers}
 
 -- ---- the objects of a call end
 

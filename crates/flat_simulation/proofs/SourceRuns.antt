@@ -1,5 +1,5 @@
 -- Runs of the source, one part of an order after another.
-use Rattle.std.proofs.Common.{◌≡◌, ℕ, zero, suc, ◌+◌, List, [], ◌∷◌, ◌++◌, length, Option, Some, None, refl, sym, ap, subst, ◌∙◌, arith}
+use Rattle.std.proofs.Common.{◌≡◌, ℕ, suc, ◌+◌, List, [], ◌∷◌, ◌++◌, length, Option, Some, None, refl, ap, ◌∙◌, arith}
 use Rattle.block_store.specs.Actions.{World}
 use Rattle.block_store.specs.Runs.{Turn, went, ended, blocked, unfit, broke, Program, State, Pick, Run, reaches, breaks, no_run, picked, goes_on, run_from, run, first_state, next_state}
 use Rattle.flat_meaning.specs.Simulation.{UpToABreak}

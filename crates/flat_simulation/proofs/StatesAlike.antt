@@ -1,5 +1,5 @@
 -- States of two codes, in which one thread goes on in both alike, or in one of them alone.
-use Rattle.std.proofs.Common.{◌≡◌, ◌≢◌, ℕ, zero, suc, ◌+◌, ◌<◌, ◌≤◌, List, [], ◌∷◌, ◌++◌, length, map, Option, Some, None, refl, sym, ap, subst, ◌∙◌, arith, inl, inr, append-nil}
+use Rattle.std.proofs.Common.{◌≡◌, ℕ, zero, suc, ◌<◌, ◌≤◌, List, [], ◌∷◌, ◌++◌, length, map, Option, Some, None, refl, sym, ap, subst, ◌∙◌, arith, inl, inr, append-nil}
 use Rattle.std.specs.Prelude.{set, drop}
 use Rattle.std.proofs.lemmas.Bool.{cases_eq}
 use Rattle.std.proofs.lemmas.List.{length-append, length-drop, length-map, drop_all}
@@ -8,7 +8,7 @@ use Rattle.struct_ir.specs.Flow.{Flow}
 use Rattle.flat_meaning.specs.Memory.{Made, Memory}
 use Rattle.flat_meaning.specs.Stages.{Stage}
 use Rattle.flat_meaning.specs.Effects.{Effect}
-use Rattle.flat_meaning.specs.Events.{State, stage_made, new_stages, end_or, put}
+use Rattle.flat_meaning.specs.Events.{stage_made, new_stages, end_or, put}
 use Rattle.flat_simulation.specs.inner.Level.{StagesMatch, OthersMatch, OwnsMatch, StatesMatch, EffectsMatch}
 use Rattle.flat_simulation.proofs.Numbering.{own_within, own_at-set_same, own_at-set_other, length-set_own, each_append}
 

@@ -1,13 +1,13 @@
 -- What may come of a step over words: of one that is left waiting, of a malloc, and of the return of main's first function.
-use Rattle.std.proofs.Common.{◌≡◌, ℕ, zero, suc, ◌<◌, List, [], ◌∷◌, length, map, Bool, true, false, Option, Some, None, refl, sym, ap, subst, ◌∙◌, arith, ◌⊎◌, inl, inr}
-use Rattle.std.specs.Prelude.{slice_get, IsSome, if◌then◌else◌}
-use Rattle.struct_ir.specs.Nodes.{Action, load, store, copy_bytes, malloc, free, print, lock, unlock, destroy, start, join, Step, Act, set, call, step, look, safepoint, begin_object, end_object}
+use Rattle.std.proofs.Common.{◌≡◌, ℕ, ◌<◌, List, [], ◌∷◌, length, map, Bool, true, false, Option, Some, None, refl, sym, subst, arith}
+use Rattle.std.specs.Prelude.{slice_get, IsSome}
+use Rattle.struct_ir.specs.Nodes.{Action, load, store, copy_bytes, malloc, free, print, lock, unlock, destroy, start, join, Step, set, call, step, look, safepoint, begin_object, end_object}
 use Rattle.struct_ir.specs.Flow.{Here, does, tests, passes, round, returns}
 use Rattle.struct_ir.specs.Machine.{Point}
 use Rattle.struct_ir.specs.Threads.{Served, serves, waits, refuses, fails, Thread, Outcome, went, ended, blocked, broke, unfit, served, finished, if_fits, left_call, stop_at}
 use Rattle.flat_meaning.specs.Image.{Image}
 use Rattle.flat_meaning.specs.Words.{Words, word_at, target_of, Target}
-use Rattle.flat_meaning.specs.Memory.{Made, Memory, ended_if, thread_ended}
+use Rattle.flat_meaning.specs.Memory.{Made, Memory, ended_if}
 use Rattle.flat_meaning.specs.Accesses.{Fault, Choice, plain, got, null, wait, Done, is_plain}
 use Rattle.flat_meaning.specs.Accesses as flat
 use Rattle.flat_meaning.specs.Actions as actions
@@ -15,7 +15,7 @@ use Rattle.flat_meaning.specs.Machine.{words_machine, words_world, served_by, se
 use Rattle.flat_meaning.specs.Machine as machine
 use Rattle.flat_meaning.specs.Ready.{takes_room, is_malloc}
 use Rattle.flat_meaning.specs.Stages.{Stage, steps, before_here}
-use Rattle.flat_meaning.specs.Effects.{Effect, exit_of, acted}
+use Rattle.flat_meaning.specs.Effects.{exit_of, acted}
 use Rattle.flat_meaning.specs.Allowed.{MayDo, MayAct}
 use Rattle.defrag_move.specs.Arena.{Storage}
 use Rattle.flat_simulation.proofs.TurnsStand.{HasGone, HasExit}

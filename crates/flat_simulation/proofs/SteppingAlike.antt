@@ -1,26 +1,24 @@
 -- Threads of two codes that stand before the same do the same there.
-use Rattle.std.proofs.Common.{◌≡◌, ℕ, List, [], ◌∷◌, Bool, true, false, ◌==◌, Option, Some, None, refl, sym, ap, subst, ◌∙◌}
+use Rattle.std.proofs.Common.{◌≡◌, ℕ, List, [], ◌∷◌, true, ◌==◌, Option, Some, None, refl, sym, ap, subst, ◌∙◌}
 use Rattle.std.specs.Prelude.{if◌then◌else◌, slice_get}
 use Rattle.block_store.specs.declared.values.Answer.{Answer}
-use Rattle.block_store.specs.Runs.{Pick}
-use Rattle.struct_ir.specs.Nodes.{Act, set, call, step, look, safepoint, begin_object, end_object}
-use Rattle.struct_ir.specs.Flow.{Here, does, tests, passes, round, returns, Flow, Stays, IsCall}
+use Rattle.struct_ir.specs.Nodes.{set, call, step, look, safepoint, begin_object, end_object}
+use Rattle.struct_ir.specs.Flow.{Here, does, tests, passes, round, returns, Flow, IsCall}
 use Rattle.struct_ir.specs.Machine.{Point}
-use Rattle.struct_ir.specs.Mirrors.{Both}
-use Rattle.struct_ir.specs.Threads.{Served, serves, waits, refuses, fails, Thread, Outcome, went, ended, blocked, broke, unfit, served, finished, if_fits, left_call, stop_at}
-use Rattle.struct_ir.specs.Alike.{SameCallers, LevelThreads, SameThreads, SameOutcomes}
+use Rattle.struct_ir.specs.Threads.{Served, serves, waits, refuses, fails, Thread, Outcome, went, ended, blocked, broke, unfit, served, finished, left_call, stop_at}
+use Rattle.struct_ir.specs.Alike.{LevelThreads, SameThreads, SameOutcomes}
 use Rattle.struct_ir.proofs.Level.{stop_same}
 use Rattle.flat_meaning.specs.Image.{Layout, Image}
 use Rattle.flat_meaning.specs.Words.{Words}
 use Rattle.flat_meaning.specs.Memory.{Memory}
-use Rattle.flat_meaning.specs.Accesses.{Fault, Choice, plain, got, null, wait, is_plain}
-use Rattle.flat_meaning.specs.Machine.{words_machine, words_world, served_plainly}
-use Rattle.flat_meaning.specs.Stages.{Stage, starts, going, waiting, landed, Before, safe, looks, steps, calls, turn_over, nothing, before_here, before}
+use Rattle.flat_meaning.specs.Accesses.{Fault, Choice, plain, got, null, wait}
+use Rattle.flat_meaning.specs.Machine.{words_machine, words_world}
+use Rattle.flat_meaning.specs.Stages.{Stage, Before, safe, looks, steps, calls, turn_over, nothing, before_here, before}
 use Rattle.flat_meaning.specs.Effects.{Effect, exit_of, own_list_of, landing, acted, stop_of, step_effect}
 use Rattle.flat_meaning.specs.Order.{pick_if, tried_if, answer_of, answer_here, step_picks}
 use Rattle.flat_meaning.specs.Emitted.{AreOne}
 use Rattle.flat_simulation.specs.OneProgram.{IsSafepoint, CallsAreGuarded}
-use Rattle.flat_simulation.specs.inner.Level.{image, Near, same, level, StagesMatch, EffectsMatch}
+use Rattle.flat_simulation.specs.inner.Level.{image, level, StagesMatch, EffectsMatch}
 use Rattle.flat_simulation.proofs.GoingAlike.{mirror}
 
 -- it is not done, and the thread doesn't wait: its stage stays

@@ -1,5 +1,5 @@
 -- Where a turn of the source and the event that ends it come out alike, the state after both stands, or the turn breaks a rule.
-use Rattle.std.proofs.Common.{◌≡◌, ◌≢◌, ℕ, zero, suc, ◌<◌, List, [], ◌∷◌, ◌++◌, length, Bool, true, false, ◌==◌, Option, Some, None, refl, sym, ap, subst, ◌∙◌, arith, append-nil}
+use Rattle.std.proofs.Common.{◌≡◌, ◌≢◌, ℕ, suc, List, [], ◌∷◌, ◌++◌, Bool, true, ◌==◌, Option, Some, None, refl, sym, ap, subst, ◌∙◌, append-nil}
 use Rattle.std.specs.Prelude.{slice_get, IsSome, if◌then◌else◌}
 use Rattle.std.proofs.lemmas.Bool.{eq-eqb}
 use Rattle.ak_words.specs.Prefix.{IsPrefix}
@@ -24,7 +24,6 @@ use Rattle.flat_meaning.specs.Order.{pick, pick_if}
 use Rattle.flat_meaning.specs.Names.{Name, ids_in}
 use Rattle.flat_meaning.specs.Simulation.{UpToABreak, EachTurnTakesAnAnswer}
 use Rattle.flat_simulation.specs.inner.Programs.{IsImage}
-use Rattle.flat_simulation.specs.inner.Worlds.{TurnEnded}
 use Rattle.flat_simulation.specs.inner.Threads.{StageStands, StateStands, TurnsAlike}
 use Rattle.flat_simulation.specs.inner.Kept.{source_turn}
 use Rattle.flat_simulation.specs.inner.Next.{Next}

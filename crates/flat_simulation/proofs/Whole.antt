@@ -1,19 +1,15 @@
 -- All events: the machine's state stands for the source's after the same turns, and what may come next follows the source's.
-use Rattle.std.proofs.Common.{◌≡◌, ℕ, List, [], ◌++◌, length, Option, Some, None, refl, sym, ap, subst, ◌∙◌}
+use Rattle.std.proofs.Common.{◌≡◌, ◌++◌, refl, ap, ◌∙◌}
 use Rattle.block_store.specs.Runs as runs
 use Rattle.block_store.specs.Runs.{Run, reaches, breaks, no_run}
-use Rattle.sub_heaps.specs.SubHeaps.{IsShape}
 use Rattle.struct_ir.specs.Nodes.{Ir}
 use Rattle.struct_ir.specs.Structured.{Position}
-use Rattle.struct_ir.specs.Threads.{Thread}
-use Rattle.ir_meaning.specs.Blocks.{Own}
 use Rattle.ir_meaning.specs.Start.{start}
 use Rattle.ir_meaning.specs.Threads.{program_of, code_of}
 use Rattle.flat_meaning.specs.Image.{Limits, Image, limits_for, structured_image}
-use Rattle.flat_meaning.specs.Events.{State, Event, after_all, first_state}
+use Rattle.flat_meaning.specs.Events.{after_all, first_state}
 use Rattle.flat_meaning.specs.Order.{order_of}
-use Rattle.flat_meaning.specs.Allowed.{AreAllowed}
-use Rattle.flat_meaning.specs.Simulation.{IsChecked, UpToABreak, Simulates, FollowsTurns, EventsFollowTurns}
+use Rattle.flat_meaning.specs.Simulation.{UpToABreak, Simulates, EventsFollowTurns}
 use Rattle.flat_meaning.specs.Start.{ids_of}
 use Rattle.flat_simulation.specs.inner.Kept.{EventsKeep}
 use Rattle.flat_simulation.specs.inner.Next.{Next}

@@ -1,11 +1,11 @@
 -- One step of a thread over words alone, within a turn: over named blocks its thread takes it too, or breaks a rule.
-use Rattle.std.proofs.Common.{◌≡◌, ℕ, ◌<◌, List, length, Bool, true, false, Option, Some, None, Result, Ok, Err, refl, sym, ap, subst, ◌∙◌, arith, length-set}
-use Rattle.std.specs.Prelude.{slice_set, nat_lt, not, ◌==◌}
+use Rattle.std.proofs.Common.{◌≡◌, ℕ, ◌<◌, List, length, Bool, true, false, Result, Ok, Err, refl, sym, ap, subst, length-set}
+use Rattle.std.specs.Prelude.{nat_lt, not, ◌==◌}
 use Rattle.std.proofs.lemmas.Bool.{ltb-true, and_parts}
-use Rattle.block_store.specs.Blocks.{Block, Blocks, live}
+use Rattle.block_store.specs.Blocks.{Blocks}
 use Rattle.defrag_move.specs.Arena.{Storage}
 use Rattle.struct_ir.specs.Nodes.{Calc, Act, set, call, step, look, safepoint, begin_object, end_object, assigned_by, Ir}
-use Rattle.struct_ir.specs.Flow.{Here, does, tests, passes, round, returns, Path}
+use Rattle.struct_ir.specs.Flow.{Here, does, tests, passes, round, returns}
 use Rattle.struct_ir.specs.Machine.{Point, Ahead, goes, stops, breaks, acted, tested, stopped_or, ahead_at, ahead}
 use Rattle.struct_ir.specs.Valid.{scope_of, is_calc}
 use Rattle.struct_ir.specs.ValidCode.{is_here}
@@ -20,15 +20,14 @@ use Rattle.flat_meaning.specs.Machine.{ends_event, words_machine}
 use Rattle.flat_meaning.specs.Names.{Name}
 use Rattle.flat_simulation.specs.inner.Aged.{Aged}
 use Rattle.flat_simulation.specs.inner.Values.{KnownIn, Sees}
-use Rattle.flat_simulation.specs.inner.Calls.{objects_in, CallStands, DataStands}
+use Rattle.flat_simulation.specs.inner.Calls.{objects_in, DataStands}
 use Rattle.flat_simulation.specs.inner.Turns.{Far}
 use Rattle.flat_simulation.specs.inner.Lags.{StandsIn}
 use Rattle.flat_simulation.specs.inner.Programs.{IsImage, HasFrame}
 use Rattle.flat_simulation.proofs.Acts.{was_assigned, set_stands, test_stands}
 use Rattle.flat_simulation.proofs.Blocks.{aged_still}
-use Rattle.flat_simulation.proofs.Facts.{IsOther}
 use Rattle.flat_simulation.proofs.Objects.{set_other, object_begun_stands, object_ended_stands}
-use Rattle.flat_simulation.proofs.Points.{NoLook, At, Goes, IsSilent, call_still, point_acts, point_silent}
+use Rattle.flat_simulation.proofs.Points.{NoLook, Goes, IsSilent, call_still, point_acts, point_silent}
 use Rattle.flat_simulation.proofs.Programs.{its_objects, in_range}
 
 -- where the thread over words goes on, the other does, and it is no Look

@@ -1,16 +1,16 @@
 -- Each call of the machine's threads has come by a path of its function, whatever the source does; so a malloc that is given an object takes it.
-use Rattle.std.proofs.Common.{◌≡◌, ℕ, zero, suc, ◌+◌, ◌<◌, List, [], ◌∷◌, ◌++◌, length, map, Bool, true, false, ◌&&◌, ◌==◌, Option, Some, None, refl, sym, ap, subst, ◌∙◌, arith, ◌⊎◌, inl, inr}
+use Rattle.std.proofs.Common.{◌≡◌, ℕ, zero, suc, ◌+◌, ◌<◌, List, [], ◌∷◌, length, map, Bool, true, false, Option, Some, None, refl, sym, ap, subst, ◌∙◌, arith, ◌⊎◌, inl, inr}
 use Rattle.std.specs.Prelude.{set as with_own, slice_get, drop, if◌then◌else◌}
 use Rattle.std.proofs.lemmas.Bool.{cases_eq, eqb-true, and_parts}
 use Rattle.block_store.specs.Runs.{own_at}
 use Rattle.defrag_move.specs.Arena.{Storage}
-use Rattle.struct_ir.specs.Nodes.{Action, load, store, copy_bytes, malloc, free, print, lock, unlock, destroy, start, join, Place, Step, Act, set, call, step, look, safepoint, begin_object, end_object, no_nodes, Func, Ir}
+use Rattle.struct_ir.specs.Nodes.{Action, load, store, copy_bytes, malloc, free, print, lock, unlock, destroy, start, join, Place, Step, set, call, step, look, safepoint, begin_object, end_object, no_nodes, Func, Ir}
 use Rattle.struct_ir.specs.Flow.{Here, does, tests, passes, round, returns, Path, entry, on}
 use Rattle.struct_ir.specs.Machine as machines
 use Rattle.struct_ir.specs.Machine.{Machine, run}
 use Rattle.struct_ir.specs.Structured.{Position, done, then_, nodes_of, structured}
 use Rattle.struct_ir.specs.Threads.{World, Thread, Outcome, went, ended, blocked, broke, unfit, served, stop_at, AllCome, IfWent, KeepsWays}
-use Rattle.struct_ir.specs.Valid.{Scope, scope_of, is_step, has_counts, counts_of}
+use Rattle.struct_ir.specs.Valid.{Scope, scope_of, is_step, counts_of}
 use Rattle.struct_ir.specs.ValidCode.{is_here}
 use Rattle.struct_ir.proofs.Sizes.{structured_shrinks}
 use Rattle.struct_ir.proofs.Runs.{ways_are_paths}

@@ -1,5 +1,5 @@
 -- That a turn meets a value of a wrong kind doesn't depend on its answer; so it meets none where it takes some answer.
-use Rattle.std.proofs.Common.{◌≡◌, ◌≢◌, ℕ, List, [], ◌∷◌, Bool, true, false, Option, Some, None, Result, Ok, Err, refl, sym, ap, subst, ◌∙◌}
+use Rattle.std.proofs.Common.{◌≡◌, ◌≢◌, ℕ, List, [], ◌∷◌, Bool, true, false, Option, None, Result, Ok, Err, ap}
 use Rattle.block_store.specs.declared.values.Answer.{Answer}
 use Rattle.block_store.specs.Actions as actions
 use Rattle.block_store.specs.Actions.{World, Done}
@@ -9,7 +9,7 @@ use Rattle.struct_ir.specs.Flow.{Here, does, tests, passes, round, returns}
 use Rattle.struct_ir.specs.Structured.{Position, structured}
 use Rattle.struct_ir.specs.Machine.{Point}
 use Rattle.struct_ir.specs.Threads.{Thread, Outcome, went, ended, blocked, broke, unfit, served, finished, if_fits, left_call, stop_at, stop_event, local_event, and_then}
-use Rattle.ir_meaning.specs.Blocks.{Own, Fault, broken, wrong_kind, blocks_machine}
+use Rattle.ir_meaning.specs.Blocks.{Own, Fault, wrong_kind, blocks_machine}
 use Rattle.ir_meaning.specs.Threads.{blocks_world, code_of, is_plain, served_by, served_if, action_of, result_of, finished_with, over, program_of, turned}
 use Rattle.flat_simulation.specs.inner.Kept.{source_turn}
 

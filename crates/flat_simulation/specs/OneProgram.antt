@@ -1,7 +1,7 @@
 -- Two images of one program: events of the second have events of the first that come to the same.
 use Rattle.std.specs.Prelude.{ℕ, List, Bool}
 use Rattle.struct_ir.specs.Nodes.{Act, set, call, step, look, safepoint, begin_object, end_object}
-use Rattle.struct_ir.specs.Flow.{Here, does, tests, passes, round, returns, Flow, IsCall}
+use Rattle.struct_ir.specs.Flow.{Here, does, tests, passes, round, returns, IsCall}
 use Rattle.flat_meaning.specs.Image.{Image}
 use Rattle.flat_meaning.specs.Events.{Event, first_state}
 use Rattle.flat_meaning.specs.Allowed.{AreAllowed}

@@ -17,4 +17,3 @@ pub mod Threads
 pub mod Operands
 pub mod Kept
 pub mod Next
-pub mod Data

@@ -1,6 +1,7 @@
 //! Laws of all events, as contracts of functions that do nothing.
 
 ghost use Rattle.flat_meaning.specs.Simulation.{BarriersKeepObjects, EventsFollowTurns};
+ghost use Rattle.flat_simulation.specs.LinearEvents.{EventsOfLinearCode};
 
 /// Of every program that fits in memory, after all allowed events and whatever rules of C were broken: objects and table agree, and the
 /// moves of any barrier that may come next keep each object's bytes, at the address that the table then has, and the place of each
@@ -14,4 +15,10 @@ pub fn barriers_keep_objects<P>()
 /// names that the events made; and whatever step may come next reaches, waits and traps as the source's turn does.
 pub fn events_follow_turns()
     ensures { EventsFollowTurns }
+{}
+
+/// Whatever the limits: for all allowed events of a program's linear code there are allowed events of its structured code that come to the
+/// same memory, end, order and attempts.
+pub fn events_of_linear_code()
+    ensures { EventsOfLinearCode }
 {}

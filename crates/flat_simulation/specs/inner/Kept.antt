@@ -1,5 +1,5 @@
 -- What each kind of event is to keep: of a state that stands for the source's, what is asked of its threads' events, one by one.
-use Rattle.std.specs.Prelude.{◌≡◌, ◌≢◌, ℕ, List, [], Option, Some, None, true}
+use Rattle.std.specs.Prelude.{◌≡◌, ◌≢◌, ℕ, List, [], Some, None, true}
 use Rattle.block_store.specs.declared.values.Answer.TheVariants as answers
 use Rattle.block_store.specs.declared.values.Answer.{Answer}
 use Rattle.block_store.specs.Actions.{World}
@@ -15,7 +15,7 @@ use Rattle.flat_meaning.specs.Image.{Limits, Image, structured_image}
 use Rattle.flat_meaning.specs.Memory.{Memory}
 use Rattle.flat_meaning.specs.Accesses.{Choice, wait}
 use Rattle.flat_meaning.specs.Accesses as choices
-use Rattle.flat_meaning.specs.Stages.{Stage, going, thread_at, steps, looks, before, gone, can_go}
+use Rattle.flat_meaning.specs.Stages.{Stage, going, thread_at, steps, looks, gone, can_go}
 use Rattle.flat_meaning.specs.Effects.{no_effect, own_list_of, stop_of, step_effect}
 use Rattle.flat_meaning.specs.Events.{State, moved_state}
 use Rattle.flat_meaning.specs.Order.{answer_of}
