@@ -1,21 +1,26 @@
 -- Structured code and its linear code are one program, and linear code comes to a call over a safepoint alone.
-use Rattle.std.proofs.Common.{◌≡◌, ℕ, ◌+◌, ◌-◌, ◌<◌, List, [], ◌∷◌, Bool, true, false, Option, Some, None, refl, sym, ap, subst, ◌∙◌, arith, map}
+use Rattle.std.proofs.Common.{◌≡◌, ℕ, ◌+◌, ◌-◌, ◌<◌, List, [], ◌∷◌, Bool, true, false, Option, Some, None, refl, subst, arith, map}
 use Rattle.std.specs.Prelude.{slice_get, is_some}
-use Rattle.struct_ir.specs.Nodes.{Call, Act, set, call, step, look, safepoint, begin_object, end_object, Func, Ir}
-use Rattle.struct_ir.specs.Flow.{Here, does, tests, passes, round, returns, IsCall}
-use Rattle.struct_ir.specs.Structured.{structured}
+use Rattle.struct_ir.specs.Nodes.{set, call, step, look, safepoint, begin_object, end_object, Func, Ir}
+use Rattle.struct_ir.specs.Flow.{IsCall}
 use Rattle.struct_ir.specs.Instrs.{Instr, acts, unless, jump, round_to, leave, LinearFunc, LinearCode, instrs_if}
-use Rattle.struct_ir.specs.Linear.{Spot, linear, entry_of, instr_here, instr_next, here_in, next_in}
+use Rattle.struct_ir.specs.Linear.{instr_here, instr_next, here_in, next_in}
 use Rattle.struct_ir.specs.Lawful.{safe_list, list_at_index, is_guarded, IsLawful, AllLawful}
 use Rattle.struct_ir.specs.Valid.{is_the_list}
 use Rattle.struct_ir.proofs.Sizes.{structured_shrinks}
 use Rattle.struct_ir.proofs.Lawful.{lawful_at, lawful_code_shrinks}
 use Rattle.emit_code.specs.Stands.{StandsIn}
 use Rattle.emit_code.specs.Emitted.{SameFrames, IsEmitted}
-use Rattle.flat_meaning.specs.Image.{Frame, Limits, Layout, func_frame, linear_frame, structured_image, linear_image}
+use Rattle.block_store.specs.Runs as runs
+use Rattle.ir_meaning.specs.Start.{start}
+use Rattle.ir_meaning.specs.Threads.{program_of}
+use Rattle.flat_meaning.specs.Events.{after_all, first_state}
+use Rattle.flat_meaning.specs.Simulation.{Simulates, UpToABreak}
+use Rattle.flat_meaning.specs.Image.{Frame, Limits, limits_for, func_frame, linear_frame, structured_image, linear_image}
 use Rattle.flat_meaning.specs.Emitted.{AreOne}
-use Rattle.flat_simulation.specs.OneProgram.{ActIsSafe, IsSafepoint, CallsAreGuarded}
-use Rattle.flat_simulation.specs.LinearEvents.{EventsOfLinearCode}
+use Rattle.flat_simulation.specs.OneProgram.{IsSafepoint, CallsAreGuarded}
+use Rattle.flat_simulation.specs.LinearEvents.{EventsOfLinearCode, LinearCodeFollowsTurns}
+use Rattle.flat_simulation.proofs.Whole.{events_follow_turns}
 use Rattle.flat_simulation.proofs.OneProgram.{events_have_events_of_the_first}
 
 -- ---- calls
@@ -119,3 +124,15 @@ are_one p code limits e lawful = record { layout = same_layout p code limits e; 
 pub events_of_linear_code : EventsOfLinearCode
 events_of_linear_code p code e lawful limits ds may =
     events_have_events_of_the_first _ _ (structured_image p limits) (linear_image code limits) (StandsIn code.funcs) (are_one p code limits e lawful) (linear_calls_guarded code limits lawful) ds may
+
+pub linear_code_follows_turns : LinearCodeFollowsTurns
+linear_code_follows_turns p checked code emitted lawful output heaps heap ids shape ds may =
+    let limits = limits_for output heaps heap ids in
+    let x = structured_image p limits in
+    let f = events_of_linear_code p code emitted lawful limits ds may in
+    record {
+      events = f.0;
+      same = f.1;
+      simulates = subst (λ order. UpToABreak (runs.run (program_of p) (start p) order) (λ u. Simulates x p f.0 u (after_all x f.0 (first_state x)))) f.1.order
+          (events_follow_turns p checked output heaps heap ids shape f.0 f.1.allowed);
+    }

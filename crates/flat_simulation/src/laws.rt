@@ -1,7 +1,7 @@
 //! Laws of all events, as contracts of functions that do nothing.
 
 ghost use Rattle.flat_meaning.specs.Simulation.{BarriersKeepObjects, EventsFollowTurns};
-ghost use Rattle.flat_simulation.specs.LinearEvents.{EventsOfLinearCode};
+ghost use Rattle.flat_simulation.specs.LinearEvents.{EventsOfLinearCode, LinearCodeFollowsTurns};
 
 /// Of every program that fits in memory, after all allowed events and whatever rules of C were broken: objects and table agree, and the
 /// moves of any barrier that may come next keep each object's bytes, at the address that the table then has, and the place of each
@@ -19,6 +19,9 @@ pub fn events_follow_turns()
 
 /// Whatever the limits: for all allowed events of a program's linear code there are allowed events of its structured code that come to the
 /// same memory, end, order and attempts.
+/// So what holds of checked structured code holds of its linear code: unless one of the turns of its events breaks a rule of C, its memory
+/// is that of a state that stands for the source's after those turns.
 pub fn events_of_linear_code()
-    ensures { EventsOfLinearCode }
+    ensures same { EventsOfLinearCode }
+    ensures follow { LinearCodeFollowsTurns }
 {}
