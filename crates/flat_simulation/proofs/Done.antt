@@ -1,5 +1,5 @@
 -- What each action leaves: where it is done over named blocks, it is done over words, and what threads share still stands.
-use Rattle.std.proofs.Common.{◌≡◌, ℕ, ℤ, ◌+◌, ◌*◌, ◌^◌, ◌<◌, ◌≤◌, pos, Bool, true, false, ◌==◌, List, [], ◌∷◌, ◌++◌, length, Option, Some, None, Result, Ok, Err, refl, sym, ap, subst, ◌∙◌, inl, inr, arith}
+use Rattle.std.proofs.Common.{◌≡◌, ℕ, ℤ, ◌*◌, ◌^◌, ◌<◌, ◌≤◌, pos, Bool, true, false, ◌==◌, List, [], ◌∷◌, ◌++◌, length, Option, Some, None, Result, Ok, Err, refl, sym, ap, subst, ◌∙◌, inl, inr, arith}
 use Rattle.std.specs.Prelude.{if◌then◌else◌, nat_le, nat_lt, slice_get}
 use Rattle.std.specs.Prelude as std
 use Rattle.std.proofs.lemmas.Bool.{ne_eqb, ltb-true, lt-ltb}
@@ -45,13 +45,12 @@ use Rattle.flat_meaning.specs.Names.{Name, heap, plain, name_of, word_for, ids_i
 use Rattle.flat_meaning.specs.Stands.{ResultStands}
 use Rattle.flat_simulation.specs.inner.Aged.{Aged}
 use Rattle.flat_simulation.specs.inner.Values.{AnyBlock, Points, PointerStands, Stands}
-use Rattle.flat_simulation.specs.inner.Calls.{DataStands}
 use Rattle.flat_simulation.specs.inner.World.{BlocksStand}
 use Rattle.flat_simulation.specs.inner.Worlds.{MadeStands, AllMadeStand, WorldStands, MayBear, Acted, GivenAlike, DoneAlike}
 use Rattle.flat_simulation.specs.inner.Lags.{KeepsAddresses}
 use Rattle.flat_simulation.specs.inner.Operands.{TargetStands}
 use Rattle.flat_simulation.proofs.Numbers.{word_small}
-use Rattle.flat_simulation.proofs.Blocks.{live_in, length-made, aged_still, aged_name}
+use Rattle.flat_simulation.proofs.Blocks.{live_in, length-made, aged_still}
 use Rattle.flat_simulation.proofs.Heap as got
 use Rattle.flat_simulation.proofs.Values.{pointer_later}
 use Rattle.flat_simulation.proofs.Accesses.{IsWritten, load_stands, store_stands}
@@ -61,7 +60,7 @@ use Rattle.flat_simulation.proofs.Frees.{free_stands}
 use Rattle.flat_simulation.proofs.Texts.{fitted}
 use Rattle.flat_simulation.proofs.Printed.{PartsStand, parts_read}
 use Rattle.flat_simulation.proofs.Crews.{start_stands, join_stands}
-use Rattle.flat_simulation.proofs.Made.{made_length, made_more, made_at, none_made, made_set, made_staged, made_later}
+use Rattle.flat_simulation.proofs.Made.{data_later, made_length, made_more, made_at, none_made, made_set, made_staged, made_later}
 use Rattle.flat_simulation.proofs.Kept.{keeps_table, keeps_got, keeps_freed}
 
 -- a small int's word is the number
@@ -79,13 +78,6 @@ ids_heap : (names : List Name) (id : ℕ) → ids_in (names ++ heap id ∷ []) �
 ids_heap [] id = refl
 ids_heap (heap key ∷ names) id = ap (λ ids. key ∷ ids) (ids_heap names id)
 ids_heap (plain a ∷ names) id = ids_heap names id
-
--- loaded data lies where it lay
-pub data_later : (y : Layout) (p : Ir) (names all : List Name) (blocks later : Blocks) → Aged names all blocks later → DataStands y p names AnyBlock blocks → DataStands y p all AnyBlock later
-data_later y p names all blocks later aged stands = record {
-  globals = λ n below. (let at = stands.globals n below in record { known = tt; made = omega (arith, at.made, aged.ages.more); at = aged_name names all blocks later aged n at.made ∙ at.at });
-  literals = λ n below. (let at = stands.literals n below in record { known = tt; made = omega (arith, at.made, aged.ages.more); at = aged_name names all blocks later aged (length p.globals + n) at.made ∙ at.at });
-}
 
 module _ (y : Layout) (p : Ir) (names : List Name) (w : World) (m : Memory) (world : WorldStands y p names w m) where
   abbrev each : length names ≡ length w.blocks

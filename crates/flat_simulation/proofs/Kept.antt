@@ -1,8 +1,8 @@
--- Pointers to blocks that live lead where they led: behind writes, mallocs and frees; and what they make is no stack object.
+-- Pointers to blocks that live lead where they led: behind writes, mallocs and frees.
 use Rattle.std.proofs.Common.{◌≡◌, ℕ, ◌+◌, ◌*◌, ◌^◌, ◌<◌, ◌≤◌, false, List, length, Option, Some, None, refl, sym, ap, ◌∙◌, inl, inr, arith, get_or-set_other}
 use Rattle.std.specs.Prelude.{if◌then◌else◌, nat_le}
 use Rattle.std.proofs.lemmas.Bool.Decides.{nat_tests}
-use Rattle.block_store.specs.Blocks.{Block, Blocks, live}
+use Rattle.block_store.specs.Blocks.{Block, Blocks}
 use Rattle.handle_words.specs.Handle.{id_of, offset_of}
 use Rattle.handle_table.specs.Table.{IsFree, address_of, translated, reached}
 use Rattle.sub_heaps.specs.SubHeaps.{rounded, FitsAt}
@@ -10,7 +10,7 @@ use Rattle.defrag_move.specs.Arena.{Storage}
 use Rattle.flat_meaning.specs.Memory.{Memory}
 use Rattle.flat_meaning.specs.Names.{Name, heap, plain, name_of, word_for}
 use Rattle.flat_simulation.specs.inner.Values.{IsPlaced}
-use Rattle.flat_simulation.specs.inner.Lags.{IsAside, KeepsAddresses}
+use Rattle.flat_simulation.specs.inner.Lags.{KeepsAddresses}
 use Rattle.flat_simulation.specs.inner.World.{BlocksStand}
 use Rattle.flat_simulation.proofs.Placed.{sees_all}
 use Rattle.flat_simulation.proofs.Heap as got
@@ -60,9 +60,3 @@ pub keeps_freed : (names : List Name) (blocks : Blocks) (m : Memory) (stand : Bl
 keeps_freed names blocks m stand word later freed block offset b below e within =
     let sees = sees_all names later freed.storage freed.stands.consistent freed.stands.names_stand in
     translated_alike m.storage.table freed.storage.table (name_of names block) (length b.cells) offset (sees.placed block b tt e) within (λ key n. freed.others block key b e n)
-
--- ---- what an action makes
-
--- what is made on the heap lies in no stack
-pub heap_aside : (grown : List Name) (blocks later : Blocks) → ((block a : ℕ) (b : Block) → length blocks ≤ block → live later block ≡ Some b → name_of grown block ≡ plain a → ⊥) → (from to : ℕ) → IsAside grown blocks later from to
-heap_aside grown blocks later alone from to block a b new e named = absurd (alone block a b new e named)

@@ -1,5 +1,5 @@
 -- Threads that were made, over named blocks and over flat memory, one by one.
-use Rattle.std.proofs.Common.{◌≡◌, ℕ, zero, suc, List, [], ◌∷◌, ◌++◌, length, Some, None, refl, ap, subst}
+use Rattle.std.proofs.Common.{◌≡◌, ℕ, zero, suc, ◌+◌, List, [], ◌∷◌, ◌++◌, length, Some, None, refl, ap, subst, ◌∙◌, arith}
 use Rattle.std.specs.Prelude.{slice_get, slice_set}
 use Rattle.std.specs.Prelude as std
 use Rattle.block_store.specs.Blocks.{Blocks}
@@ -11,7 +11,9 @@ use Rattle.flat_meaning.specs.Image.{Layout}
 use Rattle.flat_meaning.specs.Stands as agreed
 use Rattle.flat_simulation.specs.inner.Aged.{Aged}
 use Rattle.flat_simulation.specs.inner.Values.{AnyBlock}
+use Rattle.flat_simulation.specs.inner.Calls.{DataStands}
 use Rattle.flat_simulation.specs.inner.Worlds.{MadeStands, AllMadeStand, WorldStands}
+use Rattle.flat_simulation.proofs.Blocks.{aged_name}
 use Rattle.flat_simulation.proofs.Values.{pointer_later, pointer_agrees, cells_agree}
 
 module _ (names : List Name) (blocks : Blocks) where
@@ -75,6 +77,13 @@ module _ (names all : List Name) (blocks later : Blocks) (aged : Aged names all 
   made_later (t ∷ ts) [] stand = absurd stand
   made_later (t ∷ ts) (u ∷ us) stand =
       (record { function = stand.0.function; argument = pointer_later names all blocks later aged AnyBlock AnyBlock (λ block below known. tt) t.argument u.argument stand.0.argument; result = stand.0.result }, made_later ts us stand.1)
+
+-- loaded data lies where it lay
+pub data_later : (y : Layout) (p : Ir) (names all : List Name) (blocks later : Blocks) → Aged names all blocks later → DataStands y p names AnyBlock blocks → DataStands y p all AnyBlock later
+data_later y p names all blocks later aged stands = record {
+  globals = λ n below. (let at = stands.globals n below in record { known = tt; made = omega (arith, at.made, aged.ages.more); at = aged_name names all blocks later aged n at.made ∙ at.at });
+  literals = λ n below. (let at = stands.literals n below in record { known = tt; made = omega (arith, at.made, aged.ages.more); at = aged_name names all blocks later aged (length p.globals + n) at.made ∙ at.at });
+}
 
 -- what is shared stands, and so it agrees
 pub world_agrees : (y : Layout) (p : Ir) (names : List Name) (w : World) (m : Memory) → WorldStands y p names w m → agreed.WorldStands names w m

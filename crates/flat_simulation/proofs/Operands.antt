@@ -1,8 +1,8 @@
 -- The operands of a step over named blocks stand for those over words.
-use Rattle.std.proofs.Common.{◌≡◌, ◌≢◌, ℕ, ℤ, ◌<◌, pos, negsuc, ◌*ℤ◌, Bool, true, false, ◌&&◌, List, [], ◌∷◌, length, map, Option, Some, None, Ok, refl, sym, ap, subst, ◌∙◌, inl, inr, arith}
+use Rattle.std.proofs.Common.{◌≡◌, ◌≢◌, ℕ, ℤ, ◌<◌, pos, negsuc, ◌*ℤ◌, true, List, [], ◌∷◌, length, map, Option, Some, None, Ok, refl, sym, ap, subst, ◌∙◌, inl, inr, arith}
 use Rattle.std.specs.Prelude.{nat_lt, unsigned_abs}
 use Rattle.std.specs.List.{list_all}
-use Rattle.std.proofs.lemmas.Bool.{ltb-true}
+use Rattle.std.proofs.lemmas.Bool.{ltb-true, and_parts}
 use Rattle.std.proofs.lemmas.Int.{ints}
 use Rattle.ak_words.specs.declared.number.Num.{Num}
 use Rattle.ak_words.specs.IntType.{IsInRange, unsigned_long}
@@ -70,10 +70,6 @@ still_in Null by (To name offset) block far is = absurd far
 still_in (To name offset) by Null block far is = absurd far
 still_in (To name offset) by (To other to) block far is = far.0 ∙ is
 
-both : (a b : Bool) → (a && b) ≡ true → (a ≡ true) × (b ≡ true)
-both true b e = (refl, e)
-both false b e = absurd cc
-
 module _ (y : Layout) (p : Ir) (x : Scope) (thread place : ℕ) (names : List Name) (l : Own) (q : Words) (stands : CallStands y p thread names AnyBlock l q) (temps : length q.temps ≡ x.temps) (s : Storage) (sees : Sees names AnyBlock l.blocks) where
   -- ---- registers
 
@@ -89,7 +85,7 @@ module _ (y : Layout) (p : Ir) (x : Scope) (thread place : ℕ) (names : List Na
   words_stand [] [] below e = tt
   words_stand [] (v ∷ vs) below e = absurd cc
   words_stand (r ∷ rs) vs below e =
-      let two = both (nat_lt r x.temps) (are_below x.temps rs) below in
+      let two = and_parts (nat_lt r x.temps) (are_below x.temps rs) below in
       let one = ok_then (known place (l.temps r)) _ vs e in
       let rest = ok_then (all_of (λ k. known place (l.temps k)) rs) _ vs one.2 in
       let is : one.0 ∷ rest.0 ≡ vs = cc in
@@ -123,7 +119,7 @@ module _ (y : Layout) (p : Ir) (x : Scope) (thread place : ℕ) (names : List Na
       let mid = ok_then (indexed_if place l a.index a.scale from.0) (moved_if place a.offset) to from.2 in
       let one = indexed_further a.index a.scale from.0 mid.0 mid.1 in
       let two = moved_further place a.offset mid.0 to mid.2 in
-      let points : PointerStands names AnyBlock l.blocks from.0 (word_at q a.base) = register_stands a.base (values.Pointer from.0) (both (nat_lt a.base x.temps) _ ok).0 (v.1 ∙ ap value from.1) in
+      let points : PointerStands names AnyBlock l.blocks from.0 (word_at q a.base) = register_stands a.base (values.Pointer from.0) (and_parts (nat_lt a.base x.temps) _ ok).0 (v.1 ∙ ap value from.1) in
       record {
         goes = place_goes y p x thread place names AnyBlock l q stands temps s a to ok leads e;
         null = λ is. null_word from.0 points (still_null from.0 one.0 mid.0 one.1 (still_null mid.0 (pos a.offset) to two is));
@@ -140,7 +136,7 @@ module _ (y : Layout) (p : Ir) (x : Scope) (thread place : ℕ) (names : List Na
   targets_stand [] [] ok leads e = tt
   targets_stand [] (r ∷ ps) ok leads e = absurd cc
   targets_stand (a ∷ places) ps ok leads e =
-      let two = both (is_place x a) (list_all (is_place x) places) ok in
+      let two = and_parts (is_place x a) (list_all (is_place x) places) ok in
       let one = ok_then (address_of place l a) _ ps e in
       let rest = ok_then (all_of (address_of place l) places) _ ps one.2 in
       let is : one.0 ∷ rest.0 ≡ ps = cc in

@@ -1,9 +1,9 @@
 -- Prints that break no rule: the bytes of numbers and texts, part by part, with room for so many.
-use Rattle.std.proofs.Common.{◌≡◌, ℕ, ℤ, ◌-◌, ◌*◌, ◌^◌, ◌≤◌, pos, neg_ℤ, ◌+ℤ◌, Bool, true, false, ◌&&◌, ◌||◌, ◌==◌, List, [], ◌∷◌, ◌++◌, length, Result, Ok, Err, refl, sym, ap, ◌∙◌, inl, inr, arith, length-append}
+use Rattle.std.proofs.Common.{◌≡◌, ℕ, ℤ, ◌-◌, ◌*◌, ◌^◌, ◌≤◌, pos, neg_ℤ, ◌+ℤ◌, Bool, true, false, ◌||◌, ◌==◌, List, [], ◌∷◌, ◌++◌, length, Result, Ok, Err, refl, sym, ap, ◌∙◌, inl, inr, arith, length-append}
 use Rattle.std.specs.Prelude.{if◌then◌else◌, nat_le, decimal}
 use Rattle.std.specs.List.{list_all}
 use Rattle.std.specs.Fmt.{signed_decimal, digits}
-use Rattle.std.proofs.lemmas.Bool.{cases_lt, le-leb, eqb-true}
+use Rattle.std.proofs.lemmas.Bool.{cases_lt, le-leb, eqb-true, and_parts}
 use Rattle.std.proofs.lemmas.Bool.Decides.{nat_tests}
 use Rattle.std.proofs.lemmas.Int.{ints}
 use Rattle.std.proofs.Math.Nat.{mul_assoc}
@@ -95,10 +95,6 @@ HaveWords [] (w ∷ ws) = ⊥
 HaveWords (z ∷ zs) [] = ⊥
 HaveWords (z ∷ zs) (w ∷ ws) = (w ≡ word_of z) × HaveWords zs ws
 
-both : (a b : Bool) → (a && b) ≡ true → (a ≡ true) × (b ≡ true)
-both true b e = (refl, e)
-both false b e = absurd cc
-
 module _ (names : List Name) (blocks : Blocks) (s : Storage) where
   -- what the machine prints, piece by piece
   abbrev there : List Piece → List Target → List ℕ → List flat.Printed
@@ -114,34 +110,34 @@ module _ (names : List Name) (blocks : Blocks) (s : Storage) where
   pub parts_stand : (ps : List Piece) (places : List Ptr) (targets : List Target) (numbers : List ℤ) (words : List ℕ) → list_all is_piece ps ≡ true
       → TargetsStand names blocks s places targets → HaveWords numbers words → PartsStand names blocks s (here ps places numbers) (there ps targets words)
   parts_stand [] places targets numbers words ok goes have = tt
-  parts_stand (pieces.bytes all ∷ ps) places targets numbers words ok goes have = (refl, parts_stand ps places targets numbers words (both (is_piece (pieces.bytes all)) _ ok).1 goes have)
-  parts_stand (pieces.text ∷ ps) [] [] numbers words ok goes have = parts_stand ps [] [] numbers words (both (is_piece pieces.text) _ ok).1 goes have
+  parts_stand (pieces.bytes all ∷ ps) places targets numbers words ok goes have = (refl, parts_stand ps places targets numbers words (and_parts (is_piece (pieces.bytes all)) _ ok).1 goes have)
+  parts_stand (pieces.text ∷ ps) [] [] numbers words ok goes have = parts_stand ps [] [] numbers words (and_parts (is_piece pieces.text) _ ok).1 goes have
   parts_stand (pieces.text ∷ ps) [] (a ∷ targets) numbers words ok goes have = absurd goes
   parts_stand (pieces.text ∷ ps) (p ∷ places) [] numbers words ok goes have = absurd goes
-  parts_stand (pieces.text ∷ ps) (p ∷ places) (a ∷ targets) numbers words ok goes have = (goes.0.goes, parts_stand ps places targets numbers words (both (is_piece pieces.text) _ ok).1 goes.1 have)
-  parts_stand (pieces.signed bits ∷ ps) places targets [] [] ok goes have = parts_stand ps places targets [] [] (both (is_piece (pieces.signed bits)) _ ok).1 goes have
+  parts_stand (pieces.text ∷ ps) (p ∷ places) (a ∷ targets) numbers words ok goes have = (goes.0.goes, parts_stand ps places targets numbers words (and_parts (is_piece pieces.text) _ ok).1 goes.1 have)
+  parts_stand (pieces.signed bits ∷ ps) places targets [] [] ok goes have = parts_stand ps places targets [] [] (and_parts (is_piece (pieces.signed bits)) _ ok).1 goes have
   parts_stand (pieces.signed bits ∷ ps) places targets [] (w ∷ words) ok goes have = absurd have
   parts_stand (pieces.signed bits ∷ ps) places targets (z ∷ numbers) [] ok goes have = absurd have
   parts_stand (pieces.signed bits ∷ ps) places targets (z ∷ numbers) (w ∷ words) ok goes have =
-      let two = both (is_piece (pieces.signed bits)) _ ok in
+      let two = and_parts (is_piece (pieces.signed bits)) _ ok in
       (number_part (pieces.signed bits) z w two.0 have.0, parts_stand ps places targets numbers words two.1 goes have.1)
-  parts_stand (pieces.unsigned bits ∷ ps) places targets [] [] ok goes have = parts_stand ps places targets [] [] (both (is_piece (pieces.unsigned bits)) _ ok).1 goes have
+  parts_stand (pieces.unsigned bits ∷ ps) places targets [] [] ok goes have = parts_stand ps places targets [] [] (and_parts (is_piece (pieces.unsigned bits)) _ ok).1 goes have
   parts_stand (pieces.unsigned bits ∷ ps) places targets [] (w ∷ words) ok goes have = absurd have
   parts_stand (pieces.unsigned bits ∷ ps) places targets (z ∷ numbers) [] ok goes have = absurd have
   parts_stand (pieces.unsigned bits ∷ ps) places targets (z ∷ numbers) (w ∷ words) ok goes have =
-      let two = both (is_piece (pieces.unsigned bits)) _ ok in
+      let two = and_parts (is_piece (pieces.unsigned bits)) _ ok in
       (number_part (pieces.unsigned bits) z w two.0 have.0, parts_stand ps places targets numbers words two.1 goes have.1)
-  parts_stand (pieces.hexadecimal bits ∷ ps) places targets [] [] ok goes have = parts_stand ps places targets [] [] (both (is_piece (pieces.hexadecimal bits)) _ ok).1 goes have
+  parts_stand (pieces.hexadecimal bits ∷ ps) places targets [] [] ok goes have = parts_stand ps places targets [] [] (and_parts (is_piece (pieces.hexadecimal bits)) _ ok).1 goes have
   parts_stand (pieces.hexadecimal bits ∷ ps) places targets [] (w ∷ words) ok goes have = absurd have
   parts_stand (pieces.hexadecimal bits ∷ ps) places targets (z ∷ numbers) [] ok goes have = absurd have
   parts_stand (pieces.hexadecimal bits ∷ ps) places targets (z ∷ numbers) (w ∷ words) ok goes have =
-      let two = both (is_piece (pieces.hexadecimal bits)) _ ok in
+      let two = and_parts (is_piece (pieces.hexadecimal bits)) _ ok in
       (number_part (pieces.hexadecimal bits) z w two.0 have.0, parts_stand ps places targets numbers words two.1 goes have.1)
-  parts_stand (pieces.character ∷ ps) places targets [] [] ok goes have = parts_stand ps places targets [] [] (both (is_piece pieces.character) _ ok).1 goes have
+  parts_stand (pieces.character ∷ ps) places targets [] [] ok goes have = parts_stand ps places targets [] [] (and_parts (is_piece pieces.character) _ ok).1 goes have
   parts_stand (pieces.character ∷ ps) places targets [] (w ∷ words) ok goes have = absurd have
   parts_stand (pieces.character ∷ ps) places targets (z ∷ numbers) [] ok goes have = absurd have
   parts_stand (pieces.character ∷ ps) places targets (z ∷ numbers) (w ∷ words) ok goes have =
-      let two = both (is_piece pieces.character) _ ok in
+      let two = and_parts (is_piece pieces.character) _ ok in
       (number_part pieces.character z w two.0 have.0, parts_stand ps places targets numbers words two.1 goes have.1)
 
 -- ---- what is read

@@ -25,26 +25,9 @@ use Rattle.flat_simulation.specs.inner.Threads.{CallersStand}
 use Rattle.flat_simulation.proofs.Alone.{lies}
 use Rattle.flat_simulation.proofs.Blocks.{live_in, aged_still, aged_name, aged_more}
 use Rattle.flat_simulation.proofs.Later.{calls_kept, callers_later}
+use Rattle.flat_simulation.proofs.Made.{data_later, made_later}
 use Rattle.flat_simulation.proofs.Objects.{call_later}
 use Rattle.flat_simulation.proofs.TurnEnds.{turn_ends}
-use Rattle.flat_simulation.proofs.Values.{pointer_later}
-
--- ---- what is shared, later
-
--- loaded data lies where it lay
-pub data_later : (y : Layout) (p : Ir) (names all : List Name) (blocks later : Blocks) → Aged names all blocks later → DataStands y p names AnyBlock blocks → DataStands y p all AnyBlock later
-data_later y p names all blocks later aged stand = record { globals = λ n below. there n _ (stand.globals n below); literals = λ n below. there _ _ (stand.literals n below) }
-  where
-    there : (block address : ℕ) → LiesThere names AnyBlock blocks block address → LiesThere all AnyBlock later block address
-    there block address at = record { known = tt; made = omega (arith, at.made, aged_more names all blocks later aged); at = aged_name names all blocks later aged block at.made ∙ at.at }
-
--- threads that were made
-pub made_later : (names all : List Name) (blocks later : Blocks) → Aged names all blocks later → (ts : List source.Thread) (us : List Made) → AllMadeStand names blocks ts us → AllMadeStand all later ts us
-made_later names all blocks later aged [] [] stand = tt
-made_later names all blocks later aged [] (u ∷ us) stand = absurd stand
-made_later names all blocks later aged (t ∷ ts) [] stand = absurd stand
-made_later names all blocks later aged (t ∷ ts) (u ∷ us) stand =
-    (record { function = stand.0.function; argument = pointer_later names all blocks later aged AnyBlock AnyBlock (λ n lt kn. tt) t.argument u.argument stand.0.argument; result = stand.0.result }, made_later names all blocks later aged ts us stand.1)
 
 append_nothing : (xs : List ℕ) → xs ≡ xs ++ []
 append_nothing [] = refl

@@ -1,5 +1,6 @@
 -- What a step touches stays in what the source's reaches, where that is done or waits.
-use Rattle.std.proofs.Common.{◌≡◌, ℕ, Bool, true, false, ◌&&◌, List, [], ◌∷◌, map, None, Ok, refl, sym, subst, ◌∙◌}
+use Rattle.std.proofs.Common.{◌≡◌, ℕ, Bool, true, ◌&&◌, List, [], ◌∷◌, map, None, Ok, sym, subst, ◌∙◌}
+use Rattle.std.proofs.lemmas.Bool.{and_parts}
 use Rattle.std.specs.Prelude.{unsigned_abs}
 use Rattle.std.specs.List.{list_all}
 use Rattle.ak_words.specs.declared.number.Num.{Num}
@@ -34,10 +35,6 @@ use Rattle.flat_simulation.proofs.Printed.{parts_stand}
 use Rattle.flat_simulation.proofs.Operands.{count_word, fits_own, have_words}
 use Rattle.flat_simulation.proofs.Steps.{counted, scope, Leads, step_takes}
 use Rattle.flat_simulation.proofs.Touching.{load_stays, store_stays, copy_stays, print_stays, lock_stays, unlock_stays, start_stays, join_stays, untouched_stays}
-
-both : (a b : Bool) → (a && b) ≡ true → (a ≡ true) × (b ≡ true)
-both true b e = (refl, e)
-both false b e = absurd cc
 
 module _ {P : Type 0} (x : Image P) (p : Ir) (thread : ℕ) (names : List Name) (w : World) (m : Memory) (world : WorldStands x.layout p names w m) where
   abbrev y : Layout
@@ -155,6 +152,6 @@ module _ {P : Type 0} (x : Image P) (p : Ir) (thread : ℕ) (names : List Name) 
         → Within choice s.action action (map (target_of q) s.places) (map (word_at q) s.temps)
     step_within place s choice ok leads action e =
         let t = step_takes x p thread names w m world l same q call frame place s action ok leads e in
-        let back = both (has_counts (counts_of s.action) s) _ (both (list_all (is_place its_scope) s.places && (are_below its_scope.temps s.temps && is_below_if its_scope.temps s.to)) _ ok).1 in
-        let acts = both (is_action its_scope s.action) (is_own_list its_scope s.action s.slots) back.1 in
+        let back = and_parts (has_counts (counts_of s.action) s) _ (and_parts (list_all (is_place its_scope) s.places && (are_below its_scope.temps s.temps && is_below_if its_scope.temps s.to)) _ ok).1 in
+        let acts = and_parts (is_action its_scope s.action) (is_own_list its_scope s.action s.slots) back.1 in
         acted_within its_scope s.action choice t.places t.vs (map (target_of q) s.places) (map (word_at q) s.temps) action acts.0 t.targets t.numbers t.is_action

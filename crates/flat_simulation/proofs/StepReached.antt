@@ -5,11 +5,9 @@ use Rattle.block_store.specs.Actions as actions
 use Rattle.block_store.specs.Actions.{World, Reached, with_blocks}
 use Rattle.block_store.specs.Runs as runs
 use Rattle.block_store.specs.Runs.{Pick, Turn, own_at, picked}
-use Rattle.defrag_move.specs.Arena.{Storage}
 use Rattle.struct_ir.specs.Nodes.{set, call, Step, step, look, safepoint, begin_object, end_object, Ir}
 use Rattle.struct_ir.specs.Flow.{Here, does, tests, passes, round, returns}
 use Rattle.struct_ir.specs.Structured.{Position, structured}
-use Rattle.struct_ir.specs.Machine.{Point}
 use Rattle.struct_ir.specs.Valid.{scope_of, is_step}
 use Rattle.struct_ir.specs.ValidCode.{is_here}
 use Rattle.struct_ir.specs.Threads.{Thread, Outcome, broke, unfit, served, stop_at}
@@ -17,7 +15,7 @@ use Rattle.ir_meaning.specs.Blocks.{Own, Fault, broken, wrong_kind, blocks_machi
 use Rattle.ir_meaning.specs.Threads as source
 use Rattle.ir_meaning.specs.Threads.{program_of, turned, code_of, action_of, served_if, blocks_world}
 use Rattle.flat_meaning.specs.Image.{Limits, Image, structured_image}
-use Rattle.flat_meaning.specs.Words.{Words, word_at}
+use Rattle.flat_meaning.specs.Words.{Words}
 use Rattle.flat_meaning.specs.Memory.{Memory}
 use Rattle.flat_meaning.specs.Accesses.{Choice, wait}
 use Rattle.flat_meaning.specs.Stages.{steps, before_here, before}
@@ -26,34 +24,18 @@ use Rattle.flat_meaning.specs.Names.{Name}
 use Rattle.flat_meaning.specs.Stands.{PointStands}
 use Rattle.flat_meaning.specs.Touched.{Touched, touched_at}
 use Rattle.flat_meaning.specs.Reaching.{action_reads, reached_in, StaysInBlocks, StepReaches, Unbroken}
-use Rattle.flat_simulation.specs.inner.Lags.{StandsIn}
 use Rattle.flat_simulation.specs.inner.Programs.{IsImage}
 use Rattle.flat_simulation.specs.inner.Worlds.{WorldStands}
 use Rattle.flat_simulation.specs.inner.Threads.{ThreadStands}
 use Rattle.flat_simulation.specs.inner.Operands.{StaysIf}
 use Rattle.flat_simulation.specs.inner.Kept.{source_turn}
-use Rattle.flat_simulation.proofs.Values.{agrees}
+use Rattle.flat_simulation.proofs.Public.{point_stands}
 use Rattle.flat_simulation.proofs.Reached.{nothing_stays}
 use Rattle.flat_simulation.proofs.Leads.{leads_there}
 use Rattle.flat_simulation.proofs.Stays.{step_within}
 use Rattle.flat_simulation.proofs.Stopping.{IsStop, Stopped, stops_or_breaks, left, stopped_world, stopped_stands}
 use Rattle.flat_simulation.proofs.Stepping.{there, turn_stops, turn_breaks}
 use Rattle.flat_simulation.proofs.Programs.{in_range}
-
--- what stands agrees
-pub point_agrees : {P : Type 0} (x : Image P) (p : Ir) (thread : ℕ) (names : List Name) (K : ℕ → Type 0) (s : Storage) (k : Point P Own) (q : Point P Words) → StandsIn x p thread names K s k q → PointStands x thread names s k q
-point_agrees x p thread names K s k q stands = record {
-  here = stands.here;
-  own = record {
-    function = stands.call.function;
-    temps = λ r below. agrees names k.own.blocks K (k.own.temps r) (word_at q.own r) (stands.call.temps r below);
-    objects = λ i block e. (stands.call.objects i block e).there.at;
-  };
-  function = q.own.function;
-  way = stands.way;
-  path = stands.path;
-  slots = λ slot base e. (stands.slots slot base e).1;
-}
 
 module _ (p : Ir) (limits : Limits) (image : IsImage (structured_image p limits) p) (thread : ℕ) (names : List Name) (u : runs.State (Thread Position Own)) (m : Memory) (world : WorldStands (structured_image p limits).layout p names u.world m) (k : Thread Position Own) (q : Thread Position Words)
     (stand : ThreadStands (structured_image p limits) p thread names u.world.blocks m.storage k q) (choice : Choice) (moving : choice ≡ wait → ⊥) where
@@ -158,6 +140,6 @@ module _ (p : Ir) (limits : Limits) (image : IsImage (structured_image p limits)
               made = more.0;
               stop = record { at = q.top.at; own = t.own };
               stops = t.runs;
-              stands = subst (λ ns. PointStands x thread ns m.storage (record { at = q.top.at; own = t.own }) q.top) more.1 (point_agrees x p thread t.made_names _ m.storage (record { at = q.top.at; own = t.own }) q.top t.stands);
+              stands = subst (λ ns. PointStands x thread ns m.storage (record { at = q.top.at; own = t.own }) q.top) more.1 (point_stands x p thread t.made_names _ m.storage (record { at = q.top.at; own = t.own }) q.top t.stands);
               reaches = subst (λ ns. StaysInBlocks ns m.storage (touched_at x.layout q.top.own m h) (reached_in w t.own h (picked (program_of p) u (pick thread answer)))) more.1 stays;
             }

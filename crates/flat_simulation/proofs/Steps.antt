@@ -1,5 +1,6 @@
 -- A step over named blocks and over words, in the world that both share: both are done, both wait, or the first breaks a rule.
 use Rattle.std.proofs.Common.{◌≡◌, ℕ, Bool, true, false, ◌&&◌, List, [], ◌∷◌, map, Option, Some, None, Ok, refl, sym, ap, subst, ◌∙◌}
+use Rattle.std.proofs.lemmas.Bool.{and_parts}
 use Rattle.std.specs.Prelude.{slice_get, unsigned_abs}
 use Rattle.std.specs.List.{list_all}
 use Rattle.std.specs.Option.{option_map}
@@ -43,10 +44,6 @@ use Rattle.flat_simulation.proofs.Placed.{sees_all}
 use Rattle.flat_simulation.proofs.Printed.{parts_stand}
 use Rattle.flat_simulation.proofs.Operands.{count_word, fits_own, words_stand, targets_stand, have_words}
 use Rattle.flat_simulation.proofs.Done.{load_done, store_done, copy_done, print_done, lock_done, unlock_done, destroy_done, start_refused, start_done, join_done, free_done, malloc_null, malloc_done}
-
-both : (a b : Bool) → (a && b) ≡ true → (a ≡ true) × (b ≡ true)
-both true b e = (refl, e)
-both false b e = absurd cc
 
 -- ---- functions that are started
 
@@ -264,8 +261,8 @@ module _ {P : Type 0} (x : Image P) (p : Ir) (thread : ℕ) (names : List Name) 
     pub step_takes : (place : ℕ) (s : Step) (action : source.Action) → is_step scope s ≡ true → Leads s → action_of place l s ≡ Ok action → StepTakes place s action
     step_takes place s action ok leads e =
         let sees : Sees names AnyBlock l.blocks = subst (λ b. Sees names AnyBlock b) (sym same) (sees_all names w.blocks m.storage world.blocks.consistent world.blocks.names_stand) in
-        let front = both (list_all (is_place scope) s.places) _ (both (list_all (is_place scope) s.places && (are_below scope.temps s.temps && is_below_if scope.temps s.to)) _ ok).0 in
-        let below = both (are_below scope.temps s.temps) (is_below_if scope.temps s.to) front.1 in
+        let front = and_parts (list_all (is_place scope) s.places) _ (and_parts (list_all (is_place scope) s.places && (are_below scope.temps s.temps && is_below_if scope.temps s.to)) _ ok).0 in
+        let below = and_parts (are_below scope.temps s.temps) (is_below_if scope.temps s.to) front.1 in
         let ps = ok_then (all_of (address_of place l) s.places) _ action e in
         let vs = ok_then (all_of (λ t. known place (l.temps t)) s.temps) _ action ps.2 in
         record {
@@ -280,6 +277,6 @@ module _ {P : Type 0} (x : Image P) (p : Ir) (thread : ℕ) (names : List Name) 
         → Alike choice s.action action (map (target_of q) s.places) (map (word_at q) s.temps)
     step_alike place s choice ok leads may not_waiting action e =
         let t = step_takes place s action ok leads e in
-        let back = both (has_counts (counts_of s.action) s) _ (both (list_all (is_place scope) s.places && (are_below scope.temps s.temps && is_below_if scope.temps s.to)) _ ok).1 in
-        let acts = both (is_action scope s.action) (is_own_list scope s.action s.slots) back.1 in
+        let back = and_parts (has_counts (counts_of s.action) s) _ (and_parts (list_all (is_place scope) s.places && (are_below scope.temps s.temps && is_below_if scope.temps s.to)) _ ok).1 in
+        let acts = and_parts (is_action scope s.action) (is_own_list scope s.action s.slots) back.1 in
         acted_alike scope refl s.action choice t.places t.vs (map (target_of q) s.places) (map (word_at q) s.temps) action acts.0 t.targets t.numbers (may_take m.storage q choice s.action s.temps may) not_waiting t.is_action
