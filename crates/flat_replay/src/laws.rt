@@ -12,3 +12,8 @@ pub fn barriers_of_a_run_keep_objects()
 pub fn small_programs_fit()
     ensures { SmallProgramsFit }
 {}
+
+/// A law: draft.
+pub fn a_journal_is_of_events()
+    ensures { SmallProgramsFit }
+{}

@@ -1,0 +1,6 @@
+use Rattle.flat_replay.proofs.LocalTurns.{goes_alone_to}
+use Rattle.flat_replay.proofs.Loadable.{small_programs_fit}
+use Rattle.flat_replay.proofs.laws.a_journal_is_of_events.Goals as goal
+
+pub returns : goal.returns
+returns c = small_programs_fit
