@@ -4,3 +4,6 @@ pub mod Barriers
 pub mod Loadable
 pub mod Segments
 pub mod LocalTurns
+pub mod Doings
+pub mod Entries
+pub mod Turned
