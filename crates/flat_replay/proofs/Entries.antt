@@ -10,12 +10,16 @@ use Rattle.ak_trace.specs.declared.order.Answer.TheVariants as journal_answers
 use Rattle.ak_trace.specs.Order.{order, step_answers, turns_of}
 use Rattle.block_store.specs.declared.values.Answer.TheVariants as answers
 use Rattle.block_store.specs.Runs.{Pick}
+use Rattle.flat_meaning.specs.Accesses as chosen
+use Rattle.flat_meaning.specs.Accesses.{Choice, plain, null, wait}
+use Rattle.flat_meaning.specs.Events.{Serve}
 use Rattle.flat_meaning.specs.Journals.{journal_picks, told}
-use Rattle.flat_meaning.specs.Order.{pick}
-use Rattle.flat_rules.specs.Entries.{how_of, turn_entry}
+use Rattle.flat_meaning.specs.Order.{choice_answer, pick}
+use Rattle.flat_rules.specs.Entries.{how_of, served_entry, served_with, turn_entry}
 use Rattle.flat_rules.specs.Machine.{Turned, looked, stepped, got, got_null, made_thread, refused_thread, found_busy, wants_room, rested, ended, trapped, passed_limit, lacked_stack}
 use Rattle.flat_rules.specs.Replays.{same_entry}
 use Rattle.flat_rules.specs.inner.Cases.{same_number}
+use Rattle.flat_machine.specs.Sweeping.{object_got, served_of}
 use Rattle.flat_replay.specs.Attempts.{attempts_at, attempts_from}
 
 -- entries with the same fields
@@ -125,3 +129,27 @@ turn_attempts w t local (ended value) turns = refl
 turn_attempts w t local (trapped word kind) turns = refl
 turn_attempts w t local passed_limit turns = refl
 turn_attempts w t local lacked_stack turns = refl
+
+-- ---- a barrier
+
+serve_entry_picks : (w thread : ℕ) (c : Choice) (es : List Entry) → journal_picks (served_with w thread (object_got c) ∷ es) ≡ pick thread (choice_answer c) ∷ journal_picks es
+serve_entry_picks w thread plain es = refl
+serve_entry_picks w thread (chosen.got id place) es = refl
+serve_entry_picks w thread null es = refl
+serve_entry_picks w thread wait es = refl
+
+pub serves_picks : (w : ℕ) (vs : List Serve) → journal_picks (map (served_entry w) (map served_of vs)) ≡ map (λ (v : Serve). pick v.thread (choice_answer v.choice)) vs
+serves_picks w [] = refl
+serves_picks w (v ∷ vs) = serve_entry_picks w v.thread v.choice (map (served_entry w) (map served_of vs)) ∙ ap (λ (ps : List Pick). pick v.thread (choice_answer v.choice) ∷ ps) (serves_picks w vs)
+
+none_served : (w thread : ℕ) (c : Choice) (turns : ℕ) → attempts_at turns (served_with w thread (object_got c)) ≡ []
+none_served w thread plain turns = refl
+none_served w thread (chosen.got id place) turns = refl
+none_served w thread null turns = refl
+none_served w thread wait turns = refl
+
+pub serves_attempts : (w : ℕ) (vs : List Serve) (turns : ℕ) → attempts_from turns (map (served_entry w) (map served_of vs)) ≡ []
+serves_attempts w [] turns = refl
+serves_attempts w (v ∷ vs) turns =
+    ap (λ (as' : List (ℕ × ℕ)). as' ++ attempts_from (turns + length (turns_of (served_entry w (served_of v)))) (map (served_entry w) (map served_of vs))) (none_served w v.thread v.choice turns)
+    ∙ serves_attempts w vs (turns + length (turns_of (served_entry w (served_of v))))

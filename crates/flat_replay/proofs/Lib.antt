@@ -7,3 +7,5 @@ pub mod LocalTurns
 pub mod Doings
 pub mod Entries
 pub mod Turned
+pub mod Serving
+pub mod Stages

@@ -3,6 +3,7 @@ use Rattle.std.proofs.Common.{◌≡◌, ℕ, zero, suc, ◌+◌, ◌<◌, ◌�
 use Rattle.std.specs.Prelude.{slice_get, slice_set, is_none, ◌&&◌, ◌||◌}
 use Rattle.std.specs.List.{list_all}
 use Rattle.std.proofs.lemmas.Bool.{and_parts, eqb-true}
+use Rattle.std.proofs.lemmas.Bool.Decides.{nat_tests}
 use Rattle.std.proofs.lemmas.List.{append-nil, length-append, length-map, length-set}
 use Rattle.block_store.specs.Runs.{Pick, own_at}
 use Rattle.block_store.specs.declared.values.Answer.TheVariants as answers
@@ -14,7 +15,7 @@ use Rattle.struct_ir.specs.Threads.{Thread, Outcome, went, ended, blocked, broke
 use Rattle.struct_ir.specs.Valid.{Scope, are_below, counts_of, has_counts, is_action, is_below_if, is_own_list, is_place, is_step}
 use Rattle.struct_ir.specs.ValidCode.{code_scope_of, is_here}
 use Rattle.flat_meaning.specs.declared.endings.End.{End}
-use Rattle.flat_meaning.specs.declared.endings.End.TheVariants as ends
+use Rattle.flat_meaning.specs.declared.endings.End.TheVariants as endings
 use Rattle.flat_meaning.specs.declared.endings.Stop.{Stop}
 use Rattle.flat_meaning.specs.declared.endings.Stop.TheVariants.{AtStep, Spent, NoRoom}
 use Rattle.flat_meaning.specs.Accesses as actions
@@ -89,6 +90,24 @@ ended_threads ts n word = record { more = omega (arith, ended_long ts n word (sl
 kept_by : (a : Action) (limit : ℕ) (ts new : List Made) → AreThreads a limit ts new → KeptThreads ts new
 kept_by a limit ts _ same = same_threads ts
 kept_by a limit ts _ (one_more function argument is few) = more_threads ts (beginning function argument)
+
+-- main's value, where thread 0 has ended
+exit_or : (n : ℕ) (ts : List Made) (word : ℕ) → n < length ts
+    → cond (n == 0) (exit_of (slice_get (ended_if ts n word (slice_get ts n)) 0)) None ≡ cond (n == 0) (Some (endings.Done (value_of (slice_get (ended_if ts n word (slice_get ts n)) n)))) None
+exit_or n [] word below = absurd (omega (arith, below))
+exit_or zero (t ∷ ts) word below = refl
+exit_or (suc n) (t ∷ ts) word below =
+    let other : (suc n == 0) ≡ false = grind (arith, nat_tests) in
+    ap (λ (b : Bool). cond b (exit_of (slice_get (ended_if (t ∷ ts) (suc n) word (slice_get (t ∷ ts) (suc n))) 0)) None) other
+    ∙ sym (ap (λ (b : Bool). cond b (Some (endings.Done (value_of (slice_get (ended_if (t ∷ ts) (suc n) word (slice_get (t ∷ ts) (suc n))) (suc n))))) None) other)
+
+no_room : (b : Bool) → no_room_if b ≡ Some NoRoom → b ≡ false
+no_room true e = absurd cc
+no_room false e = refl
+
+no_spent : (b : Bool) → spent_if b ≡ Some NoRoom → ⊥
+no_spent true e = cc
+no_spent false e = cc
 
 -- ---- what is said of it
 
@@ -305,3 +324,88 @@ module _ (code : LinearCode) (program : IsProgram code) (sh : Shared) (os : List
           from_parts c (does place (step node)) _ _ here_is refl refl (step_effect_is x n m place node stage inside here_is) (step_turned_is x n m place node stage inside here_is)
           (by_done x n m stage t place node c (done_at x n m place node t.top.own) sound
             (λ word after e. kept_by node.action _ m.threads after.threads (threads_are x.layout n m c node.action (map (target_of t.top.own) node.places) (map (word_at t.top.own) node.temps) word after e)))
+
+      -- ---- the return of its first function
+
+      return_says : (temp : Option ℕ) → (linear code.funcs).here t.top.at ≡ returns temp → t.callers ≡ [] → n < length m.threads → Says AtStep
+      return_says temp here_is none below =
+          let word : ℕ = given t.top.own temp in
+          let outcome : ended t.top.own (thread_ended m n word) ≡ outcome_here plain (returns temp) = sym (ap (λ callers. left_call x.flow (words_world x.layout n) plain t.top.own temp m callers) none) in
+          from_parts plain (returns temp) _ _ here_is (ap before_return none) refl (leave_effect_is x n m temp stage inside here_is none) (leave_turned_is x n m temp stage inside here_is none)
+          (subst (λ (o : Outcome Spot Words Fault Memory). Parts x n m plain (returns temp) o (effects.acted n stage t None m (ended t.top.own (thread_ended m n word))) (turns.ended (value_of (slice_get (thread_ended m n word).threads n)))) outcome
+          (record {
+            end_ = exit_or n m.threads word below;
+            gone = λ e f. refl;
+            heaps = record { count = refl; size = refl; most = refl };
+            threads = ended_threads m.threads n word;
+            picks = refl;
+            tries = λ position. refl;
+          }))
+
+      pending_says : (most ends : ℕ) → n < length m.threads → Pending (own_image code) most ends t ((linear code.funcs).here t.top.at) → Says AtStep
+      pending_says most ends below (looks_so place slot base is) = look_says place slot base is
+      pending_says most ends below (does_so place node is) = step_says place node is
+      pending_says most ends below (returns_so temp is stops) = return_says temp is (last_call (own_image code) most ends t t.callers stops) below
+
+    -- ---- a call without room
+
+    lacks_room : (b : Before) → before x t ≡ b → (most ends : ℕ) → stop_before (own_image code) most ends t b ≡ Some NoRoom → Says NoRoom
+    lacks_room safe before_is most ends e = absurd (no_spent _ e)
+    lacks_room looks before_is most ends e = absurd cc
+    lacks_room steps before_is most ends e = absurd cc
+    lacks_room (calls function) before_is most ends e =
+        let full : room_for x t function ≡ false = no_room (room_for x t function) e in
+        let c : Choice = choice_for x m stage in
+        let effect : act_effect x n c stage m ≡ effects.ends_run m stage (endings.StackLimit n) =
+        effect_in x n m c stage inside ∙ ap (act_before x n c stage t m) before_is ∙ ap (λ (b : Bool). cond b (no_effect m stage) (effects.ends_run m stage (endings.StackLimit n))) full in
+        subst (λ (e : Effect Spot). TurnSays x s n (act n plain ∷ []) e turns.lacked_stack) (sym effect)
+        (record {
+          end_ = refl;
+          gone = λ e f. absurd cc;
+          heaps = same_heaps m;
+          threads = same_threads m.threads;
+          order = act_order plain (calls function) before_is;
+          attempts = λ position. act_tries plain (calls function) before_is position ∙ ap (λ (b : Bool). tries_at position (cond b [] (pick n answers.Plain ∷ []))) full;
+        })
+    lacks_room turn_over before_is most ends e = absurd cc
+    lacks_room nothing before_is most ends e = absurd cc
+
+module _ (code : LinearCode) (program : IsProgram code) (sh : Shared) (os : List (Option (Stage Spot))) (n : ℕ) (function argument : ℕ) (own : own_at os n ≡ Some (starts function argument)) where
+  -- its first function has no room
+  lacks_start : (most ends : ℕ) → stop_at_stage (own_image code) most ends (starts function argument) ≡ Some NoRoom → Says code program sh os n (starts function argument) own NoRoom
+  lacks_start most ends e =
+      let x : Image Spot = image_of code sh in
+      let m : Memory = sh.memory in
+      let stage : Stage Spot = starts function argument in
+      let full : can_go x stage ≡ false = no_room (can_go x stage) e in
+      let effect : cond (can_go x stage) (no_effect m stage) (effects.ends_run m stage (endings.StackLimit n)) ≡ effects.ends_run m stage (endings.StackLimit n) = ap (λ (b : Bool). cond b (no_effect m stage) (effects.ends_run m stage (endings.StackLimit n))) full in
+      subst (λ (e : Effect Spot). TurnSays x (record { memory = m; own = os; end = None }) n (act n plain ∷ []) e turns.lacked_stack) (sym effect)
+      (record {
+        end_ = refl;
+        gone = λ e f. absurd cc;
+        heaps = same_heaps m;
+        threads = same_threads m.threads;
+        order = append-nil (picks_of_act x m n plain (own_at os n)) ∙ ap (picks_of_act x m n plain) own;
+        attempts = λ position.
+            ap (map placed) (append-nil (map (λ (p : Pick). record { turn = p; position = position }) (tried_at x m n plain (own_at os n))))
+            ∙ ap (λ o. tries_at position (tried_at x m n plain o)) own ∙ ap (λ (b : Bool). tries_at position (cond b [] (pick n answers.Plain ∷ []))) full;
+      })
+
+-- ---- whatever the thread stands before
+
+no_at_step : (b : Bool) → no_room_if b ≡ Some AtStep → ⊥
+no_at_step true e = cc
+no_at_step false e = cc
+
+pub turn_says : (code : LinearCode) (program : IsProgram code) (sh : Shared) (os : List (Option (Stage Spot))) (n : ℕ) (stage : Stage Spot) (own : own_at os n ≡ Some stage) → IsStageOf code stage → n < length sh.memory.threads
+    → (stop : Stop) (most ends : ℕ) → stop_at_stage (own_image code) most ends stage ≡ Some stop
+    → TurnSays (image_of code sh) (record { memory = sh.memory; own = os; end = None }) n (events_of (image_of code sh) n sh.memory stage stop) (effect_if (image_of code sh) n sh.memory (Some stage) (Some stop)) (turned_of (image_of code sh) n sh.memory (Some stage) (Some stop))
+turn_says code program sh os n stage own is below Spent most ends e = spent_says code program sh os n stage own
+turn_says code program sh os n (starts function argument) own is below AtStep most ends e = absurd (no_at_step _ e)
+turn_says code program sh os n (going t) own is below AtStep most ends e = pending_says code program sh os n (going t) own tt is most ends below (pending (own_image code) most ends t ((linear code.funcs).here t.top.at) e)
+turn_says code program sh os n (waiting t) own is below AtStep most ends e = pending_says code program sh os n (waiting t) own tt is most ends below (pending (own_image code) most ends t ((linear code.funcs).here t.top.at) e)
+turn_says code program sh os n (landed list t) own is below AtStep most ends e = pending_says code program sh os n (landed list t) own tt is.0 most ends below (pending (own_image code) most ends t ((linear code.funcs).here t.top.at) e)
+turn_says code program sh os n (starts function argument) own is below NoRoom most ends e = lacks_start code program sh os n function argument own most ends e
+turn_says code program sh os n (going t) own is below NoRoom most ends e = lacks_room code program sh os n (going t) own tt (before (own_image code) t) refl most ends e
+turn_says code program sh os n (waiting t) own is below NoRoom most ends e = lacks_room code program sh os n (waiting t) own tt (before (own_image code) t) refl most ends e
+turn_says code program sh os n (landed list t) own is below NoRoom most ends e = lacks_room code program sh os n (landed list t) own tt (before (own_image code) t) refl most ends e
