@@ -9,3 +9,4 @@ pub mod Entries
 pub mod Turned
 pub mod Serving
 pub mod Stages
+pub mod Told
