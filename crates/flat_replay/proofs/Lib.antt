@@ -1,4 +1,4 @@
-pub mod Stops
+pub mod Settings
 pub mod Consistent
 pub mod Barriers
 pub mod Loadable
@@ -10,3 +10,4 @@ pub mod Turned
 pub mod Serving
 pub mod Stages
 pub mod Told
+pub mod Journal

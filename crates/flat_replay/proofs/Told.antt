@@ -53,7 +53,7 @@ use Rattle.flat_replay.proofs.LocalTurns.{GoesAlone, set_twice}
 use Rattle.flat_replay.proofs.Segments.{Comes, joins}
 use Rattle.flat_replay.proofs.Serving.{all_say, from_first, stages_of_run}
 use Rattle.flat_replay.proofs.Stages.{IsBlank, all_after, all_home, context_at, map-set, stages_more, stages_same, stages_set}
-use Rattle.flat_replay.proofs.Stops.{same_stop}
+use Rattle.flat_replay.proofs.Settings.{same_stop}
 use Rattle.flat_replay.proofs.Turned.{TurnSays, turn_says}
 
 -- ---- what a journal has told so far
@@ -68,17 +68,7 @@ pub record StandsIn (st : events.State Spot) (x : State Shared Context) : Type 0
 abbrev pub standing_in : State Shared Context → events.State Spot
 standing_in x = record { memory = x.shared.memory; own = stages_in x; end = None }
 
-module _ (code : LinearCode) (limits : Limits) where
-  abbrev pub loaded : Image Spot
-  loaded = linear_image code limits
-
-  -- the events from the start on
-  pub record Told (log : List Entry) (x : State Shared Context) : Type 0 where
-    pub state : events.State Spot
-    pub comes : Comes loaded (first_state loaded) state (journal_picks log) (λ turns. attempts_from turns log)
-    pub stands : StandsIn state x
-    pub same : limits_of x.shared ≡ limits
-
+module _ (code : LinearCode) where
   -- these entries are of events from one state of the replay to another
   pub record Goes_on (x y : State Shared Context) (es : List Entry) : Type 0 where
     pub state : events.State Spot
@@ -90,10 +80,21 @@ module _ (code : LinearCode) (limits : Limits) where
     pub stands : StandsIn state y
     pub same : limits_of y.shared ≡ limits_of x.shared
 
+module _ (code : LinearCode) (limits : Limits) where
+  abbrev pub loaded : Image Spot
+  loaded = linear_image code limits
+
+  -- the events from the start on
+  pub record Told (log : List Entry) (x : State Shared Context) : Type 0 where
+    pub state : events.State Spot
+    pub comes : Comes loaded (first_state loaded) state (journal_picks log) (λ turns. attempts_from turns log)
+    pub stands : StandsIn state x
+    pub same : limits_of x.shared ≡ limits
+
   recast : (s t : events.State Spot) (p p2 : List Pick) (q q2 : ℕ → List (ℕ × ℕ)) → p ≡ p2 → ((turns : ℕ) → q turns ≡ q2 turns) → Comes loaded s t p q → Comes loaded s t p2 q2
   recast s t p p2 q q2 e f c = record { events = c.events; allowed = c.allowed; after = c.after; order = c.order ∙ e; attempts = λ turns. c.attempts turns ∙ f turns }
 
-  pub told_more : (log es : List Entry) (x y : State Shared Context) → x.ending ≡ None → Told log x → Goes_on x y es → Told (log ++ es) y
+  pub told_more : (log es : List Entry) (x y : State Shared Context) → x.ending ≡ None → Told log x → Goes_on code x y es → Told (log ++ es) y
   told_more log es x y going told g =
       let here_is : standing_in x ≡ told.state = λ i. record { memory = sym told.stands.memory i; own = sym (told.stands.stages going) i; end = sym (told.stands.ending ∙ going) i } in
       let one : Comes loaded (standing_in x) g.state g.picks g.tries = subst (λ (limits : Limits). Comes (linear_image code limits) (standing_in x) g.state g.picks g.tries) told.same g.comes in
@@ -109,7 +110,7 @@ module _ (code : LinearCode) (limits : Limits) where
         same = g.same ∙ told.same;
       }
 
-same_limits : (output : ℕ) (m after : Memory) → SameHeaps m after
+pub same_limits : (output : ℕ) (m after : Memory) → SameHeaps m after
     → limits_for output after.storage.heaps.count after.storage.heaps.size after.storage.heaps.most ≡ limits_for output m.storage.heaps.count m.storage.heaps.size m.storage.heaps.most
 same_limits output m after h = λ i. limits_for output (h.count i) (h.size i) (h.most i)
 
@@ -126,7 +127,7 @@ module _ (code : LinearCode) (program : IsProgram code) (rules : Rules) (x : Sta
   abbrev cs : List (Option Context)
   cs = map context_in x.places
 
-  long : length (stages_in x) ≡ length x.shared.memory.threads
+  pub long : length (stages_in x) ≡ length x.shared.memory.threads
   long = length-stages_home x.shared.memory.threads (map context_in x.places)
 
   -- a number that no thread has yet has a blank context
@@ -190,7 +191,7 @@ module _ (code : LinearCode) (program : IsProgram code) (rules : Rules) (x : Sta
       the_event =
           let h = x.shared.memory.storage.heaps in
           act_is_its_event image moved n stopped.most stopped.turns stage stop refl (length-set (stages_in x) n (Some stage) ∙ long) own_there
-          (same_stop code x.shared.output_limit h.count h.size h.most stopped.most stopped.turns stage ∙ stops)
+          (same_stop code x.shared.output_limit h.count h.size h.most n stopped.most stopped.turns stage ∙ stops)
 
       step_comes : Comes image moved behind (turned_picks n turned) (turned_tries n turned)
       step_comes = record { events = events_of image n x.shared.memory stage stop; allowed = the_event.allowed; after = the_event.after; order = says.order; attempts = says.attempts }
@@ -240,7 +241,7 @@ module _ (code : LinearCode) (program : IsProgram code) (rules : Rules) (x : Sta
       limits_by k back = same_limits x.shared.output_limit x.shared.memory e.memory says.heaps
       limits_by k away = same_limits x.shared.output_limit x.shared.memory e.memory says.heaps
 
-      pub turn_told : (most : ℕ) → GoesAlone image n most (standing_in x) 0 (record { stage = stage; turns = turns; stop = stop }) → Goes_on code (limits_of x.shared) x (turn_event (machine_of code) rules x w n count mood (acted_by code x.shared d)).after (turn_entry w n turns turned ∷ [])
+      pub turn_told : (most : ℕ) → GoesAlone image n most (standing_in x) 0 (record { stage = stage; turns = turns; stop = stop }) → Goes_on code x (turn_event (machine_of code) rules x w n count mood (acted_by code x.shared d)).after (turn_entry w n turns turned ∷ [])
       turn_told most alone =
           let ends : turns ≡ alone.did = omega (arith, alone.is) in
           record {

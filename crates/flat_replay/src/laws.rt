@@ -1,6 +1,6 @@
 //! Laws of journals, as contracts of functions that do nothing.
 
-ghost use Rattle.flat_replay.specs.Laws.{BarriersOfARunKeepObjects, SmallProgramsFit};
+ghost use Rattle.flat_replay.specs.Laws.{AJournalIsOfEvents, BarriersOfARunKeepObjects, SmallProgramsFit};
 
 /// At each barrier of a journal that replays, whatever rules of C were broken before: no object moves that a listed slot names, and the
 /// object of each id in use keeps its bytes, at the address that the table then has.
@@ -13,7 +13,8 @@ pub fn small_programs_fit()
     ensures { SmallProgramsFit }
 {}
 
-/// A law: draft.
+/// A journal that replays is of events of the machine that may come, one after the other: they lead to what threads share, to the end of
+/// the run and to each thread's stage, and the turns that they make, and those that they try, are those of the journal.
 pub fn a_journal_is_of_events()
-    ensures { SmallProgramsFit }
+    ensures { AJournalIsOfEvents }
 {}
