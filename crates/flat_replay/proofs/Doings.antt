@@ -1,11 +1,10 @@
 -- What an action of valid code does: it fits, the sub-heaps keep their shape, and only what isn't left waiting ends the run.
-use Rattle.std.proofs.Common.{◌≡◌, ℕ, ◌+◌, ◌==◌, Bool, true, false, cond, List, [], ◌∷◌, length, map, Option, Some, None, refl, ap, sym, ◌∙◌, subst, arith}
+use Rattle.std.proofs.Common.{◌≡◌, ℕ, ◌+◌, ◌==◌, Bool, true, false, cond, List, [], ◌∷◌, length, map, Option, Some, None, refl, ◌∙◌, arith}
 use Rattle.std.specs.Prelude.{nat_lt, slice_get}
 use Rattle.std.proofs.lemmas.List.{length-map}
 use Rattle.ak_words.specs.Bytes.{low_bytes}
 use Rattle.block_store.specs.declared.values.Access.{Access}
 use Rattle.block_store.specs.Cells.{size_of}
-use Rattle.handle_words.specs.Handle.{id_of}
 use Rattle.flat_store.specs.Flat.{bytes_from, first_outside, first_outside_of_both}
 use Rattle.defrag_move.specs.Arena.{Storage}
 use Rattle.sub_heaps.specs.SubHeaps.{rounded}
@@ -13,12 +12,12 @@ use Rattle.struct_ir.specs.Nodes.{Action, load, store, copy_bytes, malloc, free,
 use Rattle.struct_ir.specs.Valid.{counts_of}
 use Rattle.flat_meaning.specs.declared.endings.TrapKind.{TrapKind}
 use Rattle.flat_meaning.specs.declared.endings.TrapKind.TheVariants as kinds
-use Rattle.flat_meaning.specs.Accesses.{Choice, plain, got, null, wait, Done, went, waits, unfit, over, within, allocated, copied, freed, is_live_start, loaded, printed, prints, stored, output_room}
-use Rattle.flat_meaning.specs.Actions.{acted, is_free, joined_at, joined_if, joined_with, locked, may_start, printed_parts, started, unlocked}
+use Rattle.flat_meaning.specs.Accesses.{Choice, plain, got, null, wait, Done, went, waits, unfit, over, within, allocated, is_live_start, prints, output_room}
+use Rattle.flat_meaning.specs.Actions.{acted, is_free, joined_at, joined_if, joined_with, may_start, printed_parts}
 use Rattle.flat_meaning.specs.Image.{Layout}
 use Rattle.flat_meaning.specs.Memory.{Made, Memory, beginning, with_thread, written}
 use Rattle.flat_meaning.specs.Printing.{Read, read_parts, reads, outside, too_long}
-use Rattle.flat_meaning.specs.Words.{Target, Words, target_of, word_at}
+use Rattle.flat_meaning.specs.Words.{Target, Words, word_at}
 use Rattle.flat_machine.specs.Choices.{action_choice, got_or, least_free, lowest_fit, malloc_choice, room_or, served_choice}
 
 -- the sub-heaps have the same shape

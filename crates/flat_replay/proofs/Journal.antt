@@ -1,23 +1,20 @@
 -- A journal that replays is of events: each entry by its kind.
-use Rattle.std.proofs.Common.{◌≡◌, ℕ, ◌+◌, ◌<◌, ◌≤◌, ◌==◌, Bool, true, false, cond, List, [], ◌∷◌, ◌++◌, length, map, set, get_or, Option, Some, None, refl, sym, ap, ◌∙◌, subst, arith, append_assoc, inl, inr}
+use Rattle.std.proofs.Common.{◌≡◌, ℕ, ◌+◌, ◌<◌, ◌==◌, Bool, true, false, cond, List, [], ◌∷◌, ◌++◌, length, map, set, Option, Some, None, refl, sym, ap, ◌∙◌, subst, arith, append_assoc, inl, inr}
 use Rattle.std.specs.Prelude.{◌⊎◌, count_by, slice_get}
 use Rattle.std.proofs.lemmas.List.{append-nil, length-map}
 use Rattle.std.proofs.lemmas.Option.{option_and_then_some}
 use Rattle.ak_trace.specs.declared.entry.Entry.{Entry}
-use Rattle.block_store.specs.Runs.{own_at}
 use Rattle.struct_ir.specs.Instrs.{LinearCode}
 use Rattle.struct_ir.specs.Linear.{Spot}
 use Rattle.flat_meaning.specs.declared.endings.End.{End}
 use Rattle.flat_meaning.specs.Events as events
 use Rattle.flat_meaning.specs.Events.{Serve, after_serves, first_state, moved_state}
-use Rattle.flat_meaning.specs.Image.{Image, Limits, linear_image}
+use Rattle.flat_meaning.specs.Image.{Limits, linear_image}
 use Rattle.flat_meaning.specs.Journals.{journal_picks}
-use Rattle.flat_meaning.specs.Local.{Came, goes_for, local}
+use Rattle.flat_meaning.specs.Local.{Came, goes_for}
 use Rattle.flat_meaning.specs.Memory.{Made}
 use Rattle.flat_meaning.specs.Order.{picks_of_serves}
-use Rattle.flat_meaning.specs.Simulation.{IsLoadable}
 use Rattle.flat_meaning.specs.Stages.{Stage}
-use Rattle.flat_rules.specs.declared.settings.Settings.{Settings}
 use Rattle.flat_rules.specs.Entries.{home_entry, out_entry}
 use Rattle.flat_rules.specs.Events.{Event, barrier_event, most_local, turn_event}
 use Rattle.flat_rules.specs.Lawful.{Sweeps}
@@ -28,7 +25,7 @@ use Rattle.flat_rules.specs.States.{Place, unbegun, home, out, State, Mood, free
 use Rattle.flat_rules.specs.inner.Cases.{Cases, Holds, event_holds, same_number}
 use Rattle.flat_rules.specs.inner.Steps.{run_keeps, step_cases}
 use Rattle.flat_threads.specs.Belonging.{IsContextOf}
-use Rattle.flat_threads.specs.Contexts.{Context, IsProgram, own_image}
+use Rattle.flat_threads.specs.Contexts.{Context, IsProgram}
 use Rattle.flat_threads.specs.Going.{came_from, gone_on, stopped_at}
 use Rattle.world_rules.proofs.Invariant.{moved, none_ends}
 use Rattle.world_rules.proofs.MoveKeeps.{may_sweep, of_run}
@@ -37,8 +34,7 @@ use Rattle.flat_machine.specs.Acting.{acted_by}
 use Rattle.flat_machine.specs.Laws.{IsTheBarrier, barrier_of}
 use Rattle.flat_machine.specs.Machine.{machine_of}
 use Rattle.flat_machine.specs.Readiness.{begun, stage_of_made}
-use Rattle.flat_machine.specs.Replays.{replay}
-use Rattle.flat_machine.specs.Shares.{Shared, IsSharedOf, image_of, limits_of}
+use Rattle.flat_machine.specs.Shares.{Shared, IsSharedOf, image_of}
 use Rattle.flat_machine.specs.Start.{first_shared, settings_limits}
 use Rattle.flat_machine.specs.Sweeping.{at_home, stage_home, stage_or, stages_home, sweep_moves, sweep_serves, swept_by}
 use Rattle.flat_machine.specs.lemmas.Homes.{own_at_home}
@@ -47,7 +43,7 @@ use Rattle.flat_machine.specs.lemmas.MachineIsFlat.{machine_is_flat}
 use Rattle.flat_machine.proofs.Slid.{plan_keeps}
 use Rattle.flat_simulation.proofs.Loaded.{first_consistent}
 use Rattle.flat_replay.specs.Attempts.{attempts_from}
-use Rattle.flat_replay.specs.Journals.{IsOfEvents, context_in, stages_in}
+use Rattle.flat_replay.specs.Journals.{IsOfEvents, context_in}
 use Rattle.flat_replay.specs.Laws.{AJournalIsOfEvents}
 use Rattle.flat_replay.proofs.Barriers.{opened}
 use Rattle.flat_replay.proofs.Consistent.{Good, all_good, barrier_here, good_keeps}
@@ -82,9 +78,13 @@ module _ (code : LinearCode) (rules : Rules) where
       comes = none_come (image_of code x.shared) (standing_in x);
       order = picks;
       attempts = tries;
-      stands = record { memory = refl; ending = sym going; stages = λ none. sym (
-        ap (stages_home x.shared.memory.threads) (map-set context_in x.places t q)
-        ∙ stages_same x.shared.memory.threads (map context_in x.places) t (context_in q) (λ t2 is. same_stage t2 is ∙ ap (stage_home t2) (sym (context_at x.places t)))) };
+      stands = record {
+        memory = refl;
+        ending = sym going;
+        stages = λ none. sym (
+            ap (stages_home x.shared.memory.threads) (map-set context_in x.places t q)
+            ∙ stages_same x.shared.memory.threads (map context_in x.places) t (context_in q) (λ t2 is. same_stage t2 is ∙ ap (stage_home t2) (sym (context_at x.places t))));
+      };
       same = refl;
     }
 
@@ -93,8 +93,8 @@ module _ (code : LinearCode) (rules : Rules) where
         let h : SitsAt m (IsContextOf code) x.shared None t (unbegun c) = subst (SitsAt m (IsContextOf code) x.shared None t) at (sits t) in
         let blank : c.stage ≡ None = blank_stage code c.stage c.stop h.0.progress in
         still t _ last draw (out_entry w t ∷ []) refl (λ turns. refl) (λ t2 is.
-          ap (λ (o : Option Made). stage_or t2 (stage_of_made o)) (ap (slice_get x.shared.memory.threads) h.0.thread ∙ is)
-          ∙ sym (ap (stage_home t2) (ap context_in at) ∙ ap (stage_or t2) blank))
+        ap (λ (o : Option Made). stage_or t2 (stage_of_made o)) (ap (slice_get x.shared.memory.threads) h.0.thread ∙ is)
+        ∙ sym (ap (stage_home t2) (ap context_in at) ∙ ap (stage_or t2) blank))
 
     leaves : (t : ℕ) (c : Context) → place_at x.places t ≡ home c → (last draw : ℕ) → Goes_on code x (record x { places = set x.places t (out w c 0 free); last = last; x = draw }) (out_entry w t ∷ [])
     leaves t c at last draw = still t _ last draw (out_entry w t ∷ []) refl (λ turns. refl) (λ t2 is. sym (ap (stage_home t2) (ap context_in at)))
@@ -216,18 +216,18 @@ module _ (code : LinearCode) (rules : Rules) where
       good = good_keeps code rules log x e y h.good st;
       told = step_cases m rules x e y {R = Told code limits ((log ++ e ∷ []) ++ y.due) y}
           (λ n.
-            let same : log ++ x.due ≡ (log ++ e ∷ []) ++ n.ds = ap (λ (due : List Entry). log ++ due) n.due ∙ ap (λ (d : Entry). log ++ d ∷ n.ds) (sym (same_is e n.d n.same)) ∙ sym (append_assoc log (e ∷ []) n.ds) in
-            subst (λ (z : State Shared Context). Told code limits ((log ++ e ∷ []) ++ z.due) z) (sym n.is)
-            (due_told ((log ++ e ∷ []) ++ n.ds) x n.ds x.spare (subst (λ (es : List Entry). Told code limits es x) same h.told)))
+          let same : log ++ x.due ≡ (log ++ e ∷ []) ++ n.ds = ap (λ (due : List Entry). log ++ due) n.due ∙ ap (λ (d : Entry). log ++ d ∷ n.ds) (sym (same_is e n.d n.same)) ∙ sym (append_assoc log (e ∷ []) n.ds) in
+          subst (λ (z : State Shared Context). Told code limits ((log ++ e ∷ []) ++ z.due) z) (sym n.is)
+          (due_told ((log ++ e ∷ []) ++ n.ds) x n.ds x.spare (subst (λ (es : List Entry). Told code limits es x) same h.told)))
           (λ f.
-            let going = none_ends x.ending _ f.live in
-            let one : Goes_on code x f.v.after f.v.entries = subst (Holds m rules x e.worker (GoesOn program x h.good going e.worker)) f.event (event_holds m rules x e.worker (GoesOn program x h.good going e.worker) (cases program x h.good going e.worker) e.kind e.thread) in
-            let all = told_more code limits (log ++ x.due) f.v.entries x f.v.after going h.told one in
-            let same : (log ++ x.due) ++ f.v.entries ≡ (log ++ e ∷ []) ++ f.ds =
-            ap (λ (due : List Entry). (log ++ due) ++ f.v.entries) f.settled ∙ ap (λ (es : List Entry). es ++ f.v.entries) (append-nil log) ∙ ap (λ (es : List Entry). log ++ es) f.entries
-            ∙ ap (λ (d : Entry). log ++ d ∷ f.ds) (sym (same_is e f.d f.same)) ∙ sym (append_assoc log (e ∷ []) f.ds) in
-            subst (λ (z : State Shared Context). Told code limits ((log ++ e ∷ []) ++ z.due) z) (sym f.is)
-            (due_told ((log ++ e ∷ []) ++ f.ds) f.v.after f.ds _ (subst (λ (es : List Entry). Told code limits es f.v.after) same all)))
+          let going = none_ends x.ending _ f.live in
+          let one : Goes_on code x f.v.after f.v.entries = subst (Holds m rules x e.worker (GoesOn program x h.good going e.worker)) f.event (event_holds m rules x e.worker (GoesOn program x h.good going e.worker) (cases program x h.good going e.worker) e.kind e.thread) in
+          let all = told_more code limits (log ++ x.due) f.v.entries x f.v.after going h.told one in
+          let same : (log ++ x.due) ++ f.v.entries ≡ (log ++ e ∷ []) ++ f.ds =
+          ap (λ (due : List Entry). (log ++ due) ++ f.v.entries) f.settled ∙ ap (λ (es : List Entry). es ++ f.v.entries) (append-nil log) ∙ ap (λ (es : List Entry). log ++ es) f.entries
+          ∙ ap (λ (d : Entry). log ++ d ∷ f.ds) (sym (same_is e f.d f.same)) ∙ sym (append_assoc log (e ∷ []) f.ds) in
+          subst (λ (z : State Shared Context). Told code limits ((log ++ e ∷ []) ++ z.due) z) (sym f.is)
+          (due_told ((log ++ e ∷ []) ++ f.ds) f.v.after f.ds _ (subst (λ (es : List Entry). Told code limits es f.v.after) same all)))
           st;
     }
 
@@ -246,9 +246,9 @@ is_settled code rules x y is = by (length x.due == 0) refl is where
 pub a_journal_is_of_events : AJournalIsOfEvents
 a_journal_is_of_events code s program loadable log x replays =
     option_and_then_some (settled (machine_of code) (rules_of s)) (run (machine_of code) (rules_of s) log first) x replays (λ z ran is.
-      let end_ = is_settled code (rules_of s) z x is in
-      let h : Holding code (rules_of s) program (settings_limits s) log z = run_keeps (machine_of code) (rules_of s) (Holding code (rules_of s) program (settings_limits s)) (keeps code (rules_of s) program (settings_limits s)) [] log first z at_start ran in
-      of_events x end_.1 (subst (Holding code (rules_of s) program (settings_limits s) log) end_.0 h))
+    let end_ = is_settled code (rules_of s) z x is in
+    let h : Holding code (rules_of s) program (settings_limits s) log z = run_keeps (machine_of code) (rules_of s) (Holding code (rules_of s) program (settings_limits s)) (keeps code (rules_of s) program (settings_limits s)) [] log first z at_start ran in
+    of_events x end_.1 (subst (Holding code (rules_of s) program (settings_limits s) log) end_.0 h))
   where
     first : State Shared Context
     first = start (machine_of code) (rules_of s) (first_shared code (settings_limits s))

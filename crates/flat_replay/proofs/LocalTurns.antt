@@ -10,13 +10,13 @@ use Rattle.struct_ir.specs.Linear.{Spot}
 use Rattle.struct_ir.specs.Threads.{Thread}
 use Rattle.flat_meaning.specs.declared.endings.Stop.{Stop}
 use Rattle.flat_meaning.specs.Allowed.{MayGo}
-use Rattle.flat_meaning.specs.Effects.{Effect, gone_effect, no_effect}
+use Rattle.flat_meaning.specs.Effects.{gone_effect, no_effect}
 use Rattle.flat_meaning.specs.Events as events
 use Rattle.flat_meaning.specs.Events.{State, Event, after, new_stages, put, put_if, stage_made}
 use Rattle.flat_meaning.specs.Image.{Image}
-use Rattle.flat_meaning.specs.Local.{Came, local_within, no_room_if, spent_if, stop_at, stop_before, stopped_or}
+use Rattle.flat_meaning.specs.Local.{Came, local_within, no_room_if, stop_at, stop_before, stopped_or}
 use Rattle.flat_meaning.specs.Order.{local_picks, pick, picks_of_local}
-use Rattle.flat_meaning.specs.Stages.{Before, Gone, Stage, before, calls, can_go, ending_if, going, gone, goes_alone, landed, looks, nothing, past_if, ran_to, room_for, safe, starts, steps, turn_over, waiting}
+use Rattle.flat_meaning.specs.Stages.{Before, Gone, Stage, calls, can_go, ending_if, going, gone, goes_alone, landed, looks, nothing, room_for, safe, starts, steps, turn_over, waiting}
 use Rattle.flat_meaning.specs.Words.{Words}
 use Rattle.flat_machine.specs.lemmas.Homes.{own_at_set}
 use Rattle.flat_replay.proofs.Segments.{Comes, joins, none_come}
@@ -136,11 +136,11 @@ module _ (x : Image Spot) (thread most : ℕ) where
     did = (gone x thread stage).turns + rest.did;
     is = omega (arith, rest.is);
     comes =
-      let mid = moved_to s on_ each (going (gone x thread stage).thread) in
-      let both = joins x s mid _ _ _ _ _ (one_go s on_ each stage own can) rest.comes in
-      let same : record { memory = s.memory; own = set (set s.own thread (Some (going (gone x thread stage).thread))) thread (Some came.stage); end = None } ≡ record { memory = s.memory; own = set s.own thread (Some came.stage); end = None } = λ i. record { memory = s.memory; own = set_twice s.own thread (Some (going (gone x thread stage).thread)) (Some came.stage) i; end = None } in
-      subst (λ (ps : List Pick). Comes x s (record { memory = s.memory; own = set s.own thread (Some came.stage); end = None }) ps (λ turns. [])) (replicate-plus (gone x thread stage).turns rest.did)
-      (subst (λ (z : State Spot). Comes x s z (turns_alone (gone x thread stage).turns ++ turns_alone rest.did) (λ turns. [])) same both);
+        let mid = moved_to s on_ each (going (gone x thread stage).thread) in
+        let both = joins x s mid _ _ _ _ _ (one_go s on_ each stage own can) rest.comes in
+        let same : record { memory = s.memory; own = set (set s.own thread (Some (going (gone x thread stage).thread))) thread (Some came.stage); end = None } ≡ record { memory = s.memory; own = set s.own thread (Some came.stage); end = None } = λ i. record { memory = s.memory; own = set_twice s.own thread (Some (going (gone x thread stage).thread)) (Some came.stage) i; end = None } in
+        subst (λ (ps : List Pick). Comes x s (record { memory = s.memory; own = set s.own thread (Some came.stage); end = None }) ps (λ turns. [])) (replicate-plus (gone x thread stage).turns rest.did)
+        (subst (λ (z : State Spot). Comes x s z (turns_alone (gone x thread stage).turns ++ turns_alone rest.did) (λ turns. [])) same both);
   }
 
   by_stop : {R : Type 0} (turns : ℕ) (stage : Stage Spot) (came : Came Spot) (o : Option Stop) → stop_at x most turns stage ≡ o → (further : Option (Came Spot)) → stopped_or stage turns o further ≡ Some came
@@ -155,5 +155,5 @@ module _ (x : Image Spot) (thread most : ℕ) where
   goes_alone_to (suc n) turns s on_ each below stage own came e = by_stop {R = GoesAlone s turns came} turns stage came _ refl _ e
       (λ stop same. subst (GoesAlone s turns) same (here_stops s on_ each stage own turns stop))
       (λ f g. further_on s on_ each stage own (goes_if turns stage f) turns came
-        (goes_alone_to n (turns + (gone x thread stage).turns) (moved_to s on_ each (going (gone x thread stage).thread)) refl (length-set s.own thread (Some (going (gone x thread stage).thread)) ∙ each)
-        (omega (arith, below, length-set s.own thread (Some (going (gone x thread stage).thread)))) (going (gone x thread stage).thread) (own_at_set s.own thread (Some (going (gone x thread stage).thread)) below) came g))
+      (goes_alone_to n (turns + (gone x thread stage).turns) (moved_to s on_ each (going (gone x thread stage).thread)) refl (length-set s.own thread (Some (going (gone x thread stage).thread)) ∙ each)
+      (omega (arith, below, length-set s.own thread (Some (going (gone x thread stage).thread)))) (going (gone x thread stage).thread) (own_at_set s.own thread (Some (going (gone x thread stage).thread)) below) came g))

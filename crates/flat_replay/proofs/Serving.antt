@@ -1,25 +1,25 @@
 -- The mallocs that a barrier serves, as turns, and how their entries tell of them.
-use Rattle.std.proofs.Common.{◌≡◌, ℕ, zero, suc, ◌+◌, ◌<◌, ◌≤◌, Bool, true, false, cond, List, [], ◌∷◌, ◌++◌, length, map, set, Option, Some, None, refl, sym, ap, ◌∙◌, subst, arith, append_assoc}
+use Rattle.std.proofs.Common.{◌≡◌, ℕ, zero, suc, ◌+◌, ◌<◌, ◌≤◌, Bool, true, false, List, [], ◌∷◌, ◌++◌, length, map, set, Option, Some, None, refl, sym, ap, ◌∙◌, subst, arith, append_assoc}
 use Rattle.std.specs.Prelude.{All}
 use Rattle.std.specs.List.{range_with_len}
 use Rattle.std.proofs.lemmas.List.{append-nil, length-append, length-set, map-append}
 use Rattle.block_store.specs.Runs.{Pick, own_at}
 use Rattle.struct_ir.specs.Flow.{Here, does, tests, passes, round, returns}
 use Rattle.struct_ir.specs.Instrs.{LinearCode}
-use Rattle.struct_ir.specs.Linear.{Spot, linear}
+use Rattle.struct_ir.specs.Linear.{Spot}
 use Rattle.struct_ir.specs.Nodes.{Action, load, store, copy_bytes, malloc, free, print, lock, unlock, destroy, start, join, Step, set as sets, call, step, look, safepoint, begin_object, end_object}
-use Rattle.struct_ir.specs.Threads.{Thread, Outcome, served, stop_at}
+use Rattle.struct_ir.specs.Threads.{Thread, Outcome, stop_at}
 use Rattle.struct_ir.specs.Valid.{Scope, is_step}
 use Rattle.struct_ir.specs.ValidCode.{code_scope_of, is_here}
-use Rattle.flat_meaning.specs.Accesses.{Choice, Fault, plain, got, null, wait, allocated}
+use Rattle.flat_meaning.specs.Accesses.{Choice, Fault, null}
 use Rattle.flat_meaning.specs.Effects as effects
 use Rattle.flat_meaning.specs.Effects.{Effect, own_list_of, serve_effect}
 use Rattle.flat_meaning.specs.Events.{State, Serve, after_serve, after_serves, new_stages, put, put_if}
 use Rattle.flat_meaning.specs.Image.{Image}
-use Rattle.flat_meaning.specs.Machine.{served_by, words_machine, words_world}
+use Rattle.flat_meaning.specs.Machine.{words_machine, words_world}
 use Rattle.flat_meaning.specs.Memory.{Made, Memory}
 use Rattle.flat_meaning.specs.Order.{answer_here, choice_answer, pick, pick_if, picks_of_serve, picks_of_serves}
-use Rattle.flat_meaning.specs.Ready.{is_malloc, takes_room, wants_room}
+use Rattle.flat_meaning.specs.Ready.{is_malloc, takes_room}
 use Rattle.flat_meaning.specs.Stages.{Stage, going, landed, starts, waiting}
 use Rattle.flat_meaning.specs.Words.{Words, word_at}
 use Rattle.flat_rules.specs.Lawful.{IsOfRun}
@@ -168,9 +168,10 @@ module _ (code : LinearCode) (program : IsProgram code) (sh : Shared) where
         let vs : List Serve = serves_if x st n (own_at st.own n) in
         let next : State Spot = after_serves x vs st in
         let ws : List Serve = serves_from x (range_with_len (n + 1) more) next in
-        let rest = all_say more (n + 1) next (omega (arith, e)) here.left in
-        (picks-append vs ws st ∙ ap (λ (ps : List Pick). ps ++ picks_of_serves x ws next) here.picks ∙ ap (λ (ps : List Pick). map serve_pick vs ++ ps) rest.0 ∙ sym (map-append serve_pick vs ws),
-         subst (λ (z : State Spot). SameHeaps st.memory z.memory) (sym (after_serves-append x vs ws st)) (more_heaps st.memory next.memory (after_serves x ws next).memory here.heaps rest.1))
+        let rest = all_say more (n + 1) next (omega (arith, e)) here.left in (
+          picks-append vs ws st ∙ ap (λ (ps : List Pick). ps ++ picks_of_serves x ws next) here.picks ∙ ap (λ (ps : List Pick). map serve_pick vs ++ ps) rest.0 ∙ sym (map-append serve_pick vs ws),
+          subst (λ (z : State Spot). SameHeaps st.memory z.memory) (sym (after_serves-append x vs ws st)) (more_heaps st.memory next.memory (after_serves x ws next).memory here.heaps rest.1),
+        )
 
     pub from_first : (st : State Spot) → st.own ≡ first → count ≡ length first → AreLeft 0 st
     from_first st own long = record { long = omega (arith, long, ap length own); later = λ k le lt. ap (λ (os : List (Option (Stage Spot))). own_at os k) own }

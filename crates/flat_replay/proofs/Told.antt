@@ -1,14 +1,10 @@
 -- A journal is of events: each of its events goes on where the events so far lead to.
-use Rattle.std.proofs.Common.{◌≡◌, ◌≢◌, ℕ, zero, suc, ◌+◌, ◌<◌, ◌≤◌, ◌==◌, Bool, true, false, cond, List, [], ◌∷◌, ◌++◌, length, map, replicate, set, get_or, Option, Some, None, refl, sym, ap, ◌∙◌, subst, arith, append_assoc, inl, inr}
-use Rattle.std.specs.Prelude.{◌⊎◌, IsSome, count_by, drop, slice_get, nat_lt}
-use Rattle.std.specs.List.{range_with_len}
-use Rattle.std.proofs.lemmas.Bool.Decides.{nat_tests}
-use Rattle.std.proofs.lemmas.List.{append-nil, get_or-set_other, length-map, length-replicate, length-set}
+use Rattle.std.proofs.Common.{◌≡◌, ◌≢◌, ℕ, zero, suc, ◌+◌, ◌<◌, ◌≤◌, true, false, List, [], ◌∷◌, ◌++◌, length, map, replicate, set, get_or, Option, Some, None, refl, sym, ap, ◌∙◌, subst, arith}
+use Rattle.std.specs.Prelude.{IsSome, drop, slice_get}
+use Rattle.std.proofs.lemmas.List.{get_or-set_other, length-map, length-replicate, length-set}
 use Rattle.ak_trace.specs.declared.entry.Entry.{Entry}
-use Rattle.ak_trace.specs.Order.{order as order_told}
 use Rattle.block_store.specs.Runs.{Pick, own_at}
 use Rattle.block_store.specs.declared.values.Answer.TheVariants as answers
-use Rattle.defrag_move.specs.Arena.{IsConsistent}
 use Rattle.struct_ir.specs.Instrs.{LinearCode}
 use Rattle.struct_ir.specs.Linear.{Spot}
 use Rattle.flat_meaning.specs.declared.endings.End.{End}
@@ -18,41 +14,39 @@ use Rattle.flat_meaning.specs.Events as events
 use Rattle.flat_meaning.specs.Events.{after_serves, end_or, first_state, moved_state, new_stages, put, stage_made}
 use Rattle.flat_meaning.specs.Image.{Image, Limits, limits_for, linear_image}
 use Rattle.flat_meaning.specs.Journals.{journal_picks}
-use Rattle.flat_meaning.specs.Local.{Came, local, goes_for, stop_at}
+use Rattle.flat_meaning.specs.Local.{stop_at}
 use Rattle.flat_meaning.specs.Memory.{Made, Memory}
 use Rattle.flat_meaning.specs.Order.{pick}
 use Rattle.flat_meaning.specs.Ready.{has_ended}
 use Rattle.flat_meaning.specs.Stages.{Stage}
-use Rattle.flat_rules.specs.Entries.{barrier_entry, home_entry, out_entry, served_entry, turn_entry}
-use Rattle.flat_rules.specs.Events.{Event, Goes, on, back, away, ends_with, goes, most_local, turn_event, turned_by}
+use Rattle.flat_rules.specs.Entries.{turn_entry}
+use Rattle.flat_rules.specs.Events.{Goes, on, back, away, ends_with, goes, turn_event, turned_by}
 use Rattle.flat_rules.specs.Lawful.{Lives}
-use Rattle.flat_rules.specs.Machine.{Machine, Turned, steps}
+use Rattle.flat_rules.specs.Machine.{Turned}
 use Rattle.flat_rules.specs.Rules.{Rules}
-use Rattle.flat_rules.specs.States.{Place, unbegun, home, out, gone, State, Mood, free, asked, homes_of, is_out, most_threads, place_at}
+use Rattle.flat_rules.specs.States.{Place, unbegun, home, out, gone, State, Mood, place_at}
 use Rattle.flat_threads.specs.Belonging.{HasStopped, IsContextOf}
-use Rattle.flat_threads.specs.Contexts.{Context, IsProgram, IsStageIf, IsStageOf, own_image}
+use Rattle.flat_threads.specs.Contexts.{Context, IsProgram, own_image}
 use Rattle.flat_threads.specs.Waits.{waits_at}
 use Rattle.flat_threads.specs.declared.wait.Wait.{Wait}
-use Rattle.world_rules.proofs.Sits.{SitsAt, Has}
-use Rattle.flat_machine.specs.Acting.{acted_by, choice_for, effect_if, effect_of}
-use Rattle.flat_machine.specs.Laws.{IsTheBarrier, IsTheEvent, barrier_of, events_of}
-use Rattle.flat_machine.specs.Machine.{machine_of, progress_of}
+use Rattle.world_rules.proofs.Sits.{SitsAt}
+use Rattle.flat_machine.specs.Acting.{acted_by, effect_if}
+use Rattle.flat_machine.specs.Laws.{IsTheEvent, events_of}
+use Rattle.flat_machine.specs.Machine.{machine_of}
 use Rattle.flat_machine.specs.Shares.{Shared, IsSharedOf, image_of, limits_of}
-use Rattle.flat_machine.specs.Sweeping.{at_home, served_of, stage_home, stages_home, sweep_moves, sweep_serves, swept_by}
+use Rattle.flat_machine.specs.Sweeping.{stage_home, stages_home}
 use Rattle.flat_machine.specs.Turns.{turned_of}
 use Rattle.flat_machine.specs.lemmas.Homes.{length-stages_home, own_at_set}
 use Rattle.flat_machine.specs.lemmas.Lawful.{blank_stage, works_stage}
 use Rattle.flat_machine.specs.lemmas.MachineIsFlat.{machine_is_flat}
 use Rattle.flat_machine.proofs.ActEvents.{act_is_its_event}
-use Rattle.flat_machine.proofs.Slid.{plan_keeps}
 use Rattle.flat_replay.specs.Attempts.{attempts_from}
 use Rattle.flat_replay.specs.Journals.{context_in, stages_in}
-use Rattle.flat_replay.proofs.Doings.{SameHeaps, more_heaps}
-use Rattle.flat_replay.proofs.Entries.{attempts-append, length-picks, picks-append, serves_attempts, serves_picks, turn_attempts, turn_picks, turned_picks, turned_tries}
+use Rattle.flat_replay.proofs.Doings.{SameHeaps}
+use Rattle.flat_replay.proofs.Entries.{attempts-append, length-picks, picks-append, turn_attempts, turn_picks, turned_picks, turned_tries}
 use Rattle.flat_replay.proofs.LocalTurns.{GoesAlone, set_twice}
 use Rattle.flat_replay.proofs.Segments.{Comes, joins}
-use Rattle.flat_replay.proofs.Serving.{all_say, from_first, stages_of_run}
-use Rattle.flat_replay.proofs.Stages.{IsBlank, all_after, all_home, context_at, map-set, stages_more, stages_same, stages_set}
+use Rattle.flat_replay.proofs.Stages.{IsBlank, context_at, map-set, stages_more, stages_set}
 use Rattle.flat_replay.proofs.Settings.{same_stop}
 use Rattle.flat_replay.proofs.Turned.{TurnSays, turn_says}
 

@@ -1,6 +1,6 @@
 -- A thread's pending step as an event: what it leaves, and how its entry tells of it.
-use Rattle.std.proofs.Common.{◌≡◌, ℕ, zero, suc, ◌+◌, ◌<◌, ◌≤◌, ◌==◌, Bool, true, false, cond, List, [], ◌∷◌, ◌++◌, length, map, get_or, Option, Some, None, refl, sym, ap, ◌∙◌, subst, arith}
-use Rattle.std.specs.Prelude.{slice_get, slice_set, is_none, ◌&&◌, ◌||◌}
+use Rattle.std.proofs.Common.{◌≡◌, ℕ, zero, suc, ◌<◌, ◌≤◌, ◌==◌, Bool, true, false, cond, List, [], ◌∷◌, ◌++◌, length, map, get_or, Option, Some, None, refl, sym, ap, ◌∙◌, subst, arith}
+use Rattle.std.specs.Prelude.{slice_get, is_none, ◌&&◌, ◌||◌}
 use Rattle.std.specs.List.{list_all}
 use Rattle.std.proofs.lemmas.Bool.{and_parts, eqb-true}
 use Rattle.std.proofs.lemmas.Bool.Decides.{nat_tests}
@@ -8,13 +8,12 @@ use Rattle.std.proofs.lemmas.List.{append-nil, length-append, length-map, length
 use Rattle.block_store.specs.Runs.{Pick, own_at}
 use Rattle.block_store.specs.declared.values.Answer.TheVariants as answers
 use Rattle.struct_ir.specs.Flow.{Here, does, returns}
-use Rattle.struct_ir.specs.Instrs.{LinearCode, LinearFunc}
+use Rattle.struct_ir.specs.Instrs.{LinearCode}
 use Rattle.struct_ir.specs.Linear.{Spot, linear}
 use Rattle.struct_ir.specs.Nodes.{Action, load, store, copy_bytes, malloc, free, print, lock, unlock, destroy, start, join, Step, step, look, own_list}
-use Rattle.struct_ir.specs.Threads.{Thread, Outcome, went, ended, blocked, broke, unfit, left_call, stop_at}
+use Rattle.struct_ir.specs.Threads.{Thread, Outcome, went, ended, blocked, broke, left_call, stop_at}
 use Rattle.struct_ir.specs.Valid.{Scope, are_below, counts_of, has_counts, is_action, is_below_if, is_own_list, is_place, is_step}
 use Rattle.struct_ir.specs.ValidCode.{code_scope_of, is_here}
-use Rattle.flat_meaning.specs.declared.endings.End.{End}
 use Rattle.flat_meaning.specs.declared.endings.End.TheVariants as endings
 use Rattle.flat_meaning.specs.declared.endings.Stop.{Stop}
 use Rattle.flat_meaning.specs.declared.endings.Stop.TheVariants.{AtStep, Spent, NoRoom}
@@ -30,7 +29,7 @@ use Rattle.flat_meaning.specs.Local.{no_room_if, spent_if, stop_before}
 use Rattle.flat_meaning.specs.Local.{stop_at as stop_at_stage}
 use Rattle.flat_meaning.specs.Machine.{given, words_machine, words_world}
 use Rattle.flat_meaning.specs.Memory.{Made, Memory, beginning, ended_if, thread_ended, with_result}
-use Rattle.flat_meaning.specs.Order.{Attempt, action_answer, act_picks, answer_here, attempts_of, made_answer, order_of, pick, pick_if, picks_of_act, tried_answer, tried_at, tried_before, tried_by, tried_if}
+use Rattle.flat_meaning.specs.Order.{Attempt, action_answer, act_picks, answer_here, attempts_of, made_answer, order_of, pick, pick_if, picks_of_act, tried_answer, tried_at, tried_before, tried_if}
 use Rattle.flat_meaning.specs.Stages.{Before, Stage, before, before_here, before_return, calls, can_go, going, landed, looks, nothing, room_for, safe, starts, steps, thread_at, turn_over, waiting}
 use Rattle.flat_meaning.specs.Words.{Words, target_of, word_at}
 use Rattle.flat_rules.specs.Events.{away, ends_with, goes}
@@ -41,7 +40,7 @@ use Rattle.flat_machine.specs.Acting.{choice_for, effect_if}
 use Rattle.flat_machine.specs.Choices.{choice_here, malloc_choice}
 use Rattle.flat_machine.specs.Laws.{event_before, events_of}
 use Rattle.flat_machine.specs.Shares.{Shared, image_of}
-use Rattle.flat_machine.specs.Turns.{blocked_turned, done_turned, fault_turned, malloc_turned, outcome_turned, start_turned, turned_of, value_of}
+use Rattle.flat_machine.specs.Turns.{blocked_turned, done_turned, malloc_turned, outcome_turned, start_turned, turned_of, value_of}
 use Rattle.flat_machine.specs.lemmas.Goes.{Pending, looks_so, does_so, returns_so, pending}
 use Rattle.flat_machine.specs.lemmas.Outcomes.{AreThreads, same, one_more, threads_are}
 use Rattle.flat_machine.specs.lemmas.Steps.{choice_at, done_at, last_call, leave_effect_is, leave_turned_is, look_effect_is, look_turned_is, outcome_at, step_effect_is, step_turned_is}
@@ -323,7 +322,7 @@ module _ (code : LinearCode) (program : IsProgram code) (sh : Shared) (os : List
           let sound : Sound c m (done_at x n m place node t.top.own) = action_sound m x.layout n (malloc_choice m.storage) (malloc_goes m.storage) t.top.own node.action (map (target_of t.top.own) node.places) node.temps places temps in
           from_parts c (does place (step node)) _ _ here_is refl refl (step_effect_is x n m place node stage inside here_is) (step_turned_is x n m place node stage inside here_is)
           (by_done x n m stage t place node c (done_at x n m place node t.top.own) sound
-            (λ word after e. kept_by node.action _ m.threads after.threads (threads_are x.layout n m c node.action (map (target_of t.top.own) node.places) (map (word_at t.top.own) node.temps) word after e)))
+          (λ word after e. kept_by node.action _ m.threads after.threads (threads_are x.layout n m c node.action (map (target_of t.top.own) node.places) (map (word_at t.top.own) node.temps) word after e)))
 
       -- ---- the return of its first function
 
