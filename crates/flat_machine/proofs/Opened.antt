@@ -1,5 +1,5 @@
 -- What threads share when a run is opened.
-use Rattle.std.proofs.Common.{◌≡◌, ℕ, zero, suc, ◌+◌, ◌<◌, ◌≤◌, true, List, [], ◌∷◌, ◌-◌, ◌*◌, length, get_or, map, replicate, Option, Some, None, refl, sym, ap, ◌∙◌, subst, arith}
+use Rattle.std.proofs.Common.{◌≡◌, ℕ, zero, suc, ◌+◌, ◌<◌, true, List, [], ◌∷◌, ◌-◌, ◌*◌, length, get_or, map, replicate, None, refl, ap, ◌∙◌, arith}
 use Rattle.std.specs.Prelude.{slice_get}
 use Rattle.std.proofs.lemmas.List.{length-map}
 use Rattle.ak_trace.specs.declared.entry.Entry.{Entry}
@@ -14,7 +14,7 @@ use Rattle.struct_ir.specs.Valid.{has_params}
 use Rattle.flat_meaning.specs.Image.{Limits, Layout, first_bytes, first_storage, global_address, globals_written, linear_image, literal_address, literals_written, plain_size}
 use Rattle.flat_meaning.specs.Memory.{Made, beginning}
 use Rattle.flat_threads.specs.Contexts.{IsProgram, layout_of}
-use Rattle.flat_machine.specs.Shares.{Shared, IsSharedOf, no_barriers}
+use Rattle.flat_machine.specs.Shares.{IsSharedOf, no_barriers}
 use Rattle.flat_machine.specs.Start.{first_shared}
 
 -- plain data doesn't depend on limits

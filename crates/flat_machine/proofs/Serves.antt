@@ -1,5 +1,5 @@
 -- Mallocs that are served one after the other: so many threads, counted from 0, have had their turn.
-use Rattle.std.proofs.Common.{◌≡◌, ◌≢◌, ℕ, zero, suc, ◌+◌, ◌<◌, ◌≤◌, true, false, List, [], ◌∷◌, ◌++◌, length, get_or, set, drop, map, add-one, Option, Some, None, refl, sym, ap, ◌∙◌, subst, append_assoc, arith}
+use Rattle.std.proofs.Common.{◌≡◌, ◌≢◌, ℕ, zero, suc, ◌+◌, ◌<◌, ◌≤◌, true, false, List, [], ◌∷◌, ◌++◌, length, get_or, set, map, add-one, Option, Some, None, refl, sym, ap, ◌∙◌, subst, append_assoc, arith}
 use Rattle.std.specs.Prelude.{All}
 use Rattle.std.specs.List.{range_with_len}
 use Rattle.std.proofs.lemmas.List.{append-nil, drop_all, get_or-set_other, length-append, length-set, map-append, set-get_or}
@@ -8,21 +8,19 @@ use Rattle.block_store.specs.Runs.{own_at}
 use Rattle.struct_ir.specs.Instrs.{LinearCode}
 use Rattle.struct_ir.specs.Linear.{Spot}
 use Rattle.flat_meaning.specs.Effects.{Effect, serve_effect}
-use Rattle.flat_meaning.specs.Events.{State, Serve, after_serve, after_serves, new_stages, put, put_if, stage_made}
-use Rattle.flat_meaning.specs.Image.{Image, Limits, linear_image}
+use Rattle.flat_meaning.specs.Events.{State, Serve, after_serves, new_stages, put, put_if, stage_made}
+use Rattle.flat_meaning.specs.Image.{Image, linear_image}
 use Rattle.flat_meaning.specs.Memory.{Memory}
-use Rattle.flat_meaning.specs.Ready as stages
 use Rattle.flat_meaning.specs.Stages.{Stage}
 use Rattle.flat_rules.specs.Entries.{served_entry}
 use Rattle.flat_rules.specs.Lawful.{AreHome, IsHomeAt, IsOfRun}
 use Rattle.flat_threads.specs.Belonging.{IsContextOf}
-use Rattle.flat_threads.specs.Contexts.{Context, own_image, standing}
-use Rattle.flat_threads.specs.Waits.{waits_at}
+use Rattle.flat_threads.specs.Contexts.{Context}
 use Rattle.flat_machine.specs.Machine.{machine_of}
 use Rattle.flat_machine.specs.Shares.{Shared, image_of, limits_of}
 use Rattle.flat_machine.specs.Sweeping.{at_home, context_at, home_at, if_wants, place_at, serve_of, served_of, serves_from, serves_if, stage_home, stage_or, waits_at_home}
-use Rattle.flat_machine.specs.inner.Swept.{IsServed, IsServedAt, IsServedIf, serve_now, serves_below, state_below}
-use Rattle.flat_machine.specs.lemmas.Homes.{after_serves-append, each_here, own_at_set, own_at_set-later, length-stages_home, own_at_home, home_at_set, home_is, none_served, wants_same}
+use Rattle.flat_machine.specs.inner.Swept.{IsServed, IsServedIf, serve_now, serves_below, state_below}
+use Rattle.flat_machine.specs.lemmas.Homes.{after_serves-append, each_here, own_at_set-later, length-stages_home, own_at_home, home_at_set, home_is, none_served, wants_same}
 
 -- ---- one more behind the others
 

@@ -1,17 +1,15 @@
 -- The pins of a barrier, the moves that slide, and what they leave.
-use Rattle.std.proofs.Common.{◌≡◌, ℕ, zero, suc, ◌+◌, ◌*◌, ◌<◌, ◌≤◌, ◌⊎◌, ◌↔◌, Bool, true, false, eqb, ◌||◌, List, [], ◌∷◌, ◌++◌, length, get_or, take, map, Option, Some, None, Contains, refl, sym, ap, ◌∙◌, subst, inl, inr, arith}
+use Rattle.std.proofs.Common.{◌≡◌, ℕ, zero, suc, ◌+◌, ◌≤◌, ◌⊎◌, ◌↔◌, Bool, true, false, eqb, ◌||◌, List, [], ◌∷◌, ◌++◌, length, take, map, Option, Some, None, Contains, refl, sym, ap, ◌∙◌, inl, inr, arith}
 use Rattle.std.specs.Prelude.{flat_map, sum_by, count_by, nat_lt}
 use Rattle.ak_trace.specs.declared.entry.Entry.{Entry}
-use Rattle.std.specs.FinSet as set
 use Rattle.std.specs.List.{list_any, range_with_len}
-use Rattle.std.specs.Ordering.{nat_cmp}
 use Rattle.std.proofs.lemmas.Bool.{eq-eqb, eqb-true}
 use Rattle.sub_heaps.specs.declared.objects.Object.{Object}
 use Rattle.sub_heaps.specs.SubHeaps.{SubHeaps, IsSound, extent_of}
 use Rattle.move_plan.specs.Stretches.{room_of}
 use Rattle.move_plan.specs.declared.moves.Move.{Move}
 use Rattle.move_plan.specs.Holding.{PinSet, is_pinned}
-use Rattle.move_plan.specs.Moving.{AreLegal, after_move, after_moves}
+use Rattle.move_plan.specs.Moving.{after_moves}
 use Rattle.move_plan.specs.Sliding.{IsSlide, slid_place}
 use Rattle.move_plan.proofs.Slid as lower
 use Rattle.move_plan.proofs.Unique.{slide_moves_only}
@@ -20,7 +18,7 @@ use Rattle.defrag_move.specs.Arena.{Storage, places_named}
 use Rattle.defrag_move.specs.Moves.{after_plan, moved, moved_with}
 use Rattle.struct_ir.specs.Instrs.{LinearCode}
 use Rattle.struct_ir.specs.Linear.{Spot}
-use Rattle.flat_meaning.specs.Allowed.{handles_if, pinned}
+use Rattle.flat_meaning.specs.Allowed.{pinned}
 use Rattle.flat_meaning.specs.Events.{State, Serve, after_serves, moved_state}
 use Rattle.flat_meaning.specs.Image.{Image, limits_for, linear_image}
 use Rattle.flat_rules.specs.Entries.{barrier_entry, served_entry}

@@ -1,5 +1,5 @@
 -- The machine, as the rules of a run see it.
-use Rattle.std.specs.Prelude.{ℕ, Bool, true, length, slice_get, Option, Some, None}
+use Rattle.std.specs.Prelude.{Bool, true, length, slice_get, Option, Some, None}
 use Rattle.struct_ir.specs.Instrs.{LinearCode}
 use Rattle.struct_ir.specs.Linear.{Spot}
 use Rattle.flat_meaning.specs.declared.endings.Stop.{Stop}

@@ -1,6 +1,6 @@
 -- The report of a run.
 use Rattle.std.specs.Prelude.{ℕ, ◌*◌, length, sum_by}
-use Rattle.sub_heaps.specs.SubHeaps.{SubHeaps, extent_of}
+use Rattle.sub_heaps.specs.SubHeaps.{extent_of}
 use Rattle.run_report.specs.declared.report.Report.{Report}
 use Rattle.flat_machine.specs.Shares.{Shared}
 

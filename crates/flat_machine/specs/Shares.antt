@@ -1,5 +1,5 @@
 -- What clauses see of what threads share.
-use Rattle.std.specs.Prelude.{◌≡◌, ℕ, ◌≤◌, ◌<◌, List, [], All, length, Option, None}
+use Rattle.std.specs.Prelude.{ℕ, ◌≤◌, ◌<◌, List, All, length, Option, None}
 use Rattle.ak_trace.specs.declared.entry.Entry.{Entry}
 use Rattle.struct_ir.specs.Instrs.{LinearCode}
 use Rattle.struct_ir.specs.Linear.{Spot}

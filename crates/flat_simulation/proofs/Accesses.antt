@@ -120,11 +120,11 @@ module _ (names : List Name) (blocks : Blocks) (m : Memory) (stand : BlocksStand
     pub went : words.loaded how a m ≡ went (Some word) m
     pub stands : Stands names AnyBlock blocks (value v) word
 
-  size_some : (how : Access) → 0 < size_of how
+  pub size_some : (how : Access) → 0 < size_of how
   size_some (accesses.Number t) = omega (arith, (width_bounds t.bits t.known_width).0)
   size_some accesses.Pointer = omega arith
 
-  was_read : (how : Access) (r : Result Spot Rule) (v : Value) → read_at how r ≡ Ok v → (at : Spot) × (r ≡ Ok at) × (read how (cells_at (size_of how) at) ≡ Ok v)
+  pub was_read : (how : Access) (r : Result Spot Rule) (v : Value) → read_at how r ≡ Ok v → (at : Spot) × (r ≡ Ok at) × (read how (cells_at (size_of how) at) ≡ Ok v)
   was_read how (Ok at) v e = (at, refl, e)
   was_read how (Err rule) v e = absurd cc
 
@@ -151,7 +151,7 @@ module _ (names : List Name) (blocks : Blocks) (m : Memory) (stand : BlocksStand
     pub went : words.stored (access_of v) a word m ≡ went None (written m a.address (low_bytes (size_of (access_of v)) word))
     pub after : IsWritten later a.address (low_bytes (size_of (access_of v)) word)
 
-  was_written : (new : List Cell) (r : Result Spot Rule) (later : Blocks) → written_at blocks new r ≡ Ok later → (at : Spot) × (r ≡ Ok at) × (with_cells_at blocks new at ≡ later)
+  pub was_written : (new : List Cell) (r : Result Spot Rule) (later : Blocks) → written_at blocks new r ≡ Ok later → (at : Spot) × (r ≡ Ok at) × (with_cells_at blocks new at ≡ later)
   was_written new (Ok at) later e = (at, refl, unless (is_literal at.block.kind) (with_cells_at blocks new at) e)
     where
       unless : (b : Bool) (x : Blocks) → (if b then Err C12 else Ok x) ≡ Ok later → x ≡ later

@@ -19,8 +19,9 @@ use Rattle.flat_meaning.specs.Image.{Layout}
 use Rattle.flat_meaning.specs.Words as words
 use Rattle.flat_meaning.specs.Words.{Words, word_at}
 use Rattle.flat_meaning.specs.Names.{Name, SlotAgrees}
+use Rattle.flat_meaning.specs.Sized.{HasSize}
 use Rattle.flat_simulation.specs.inner.Values.{Sees, Stands}
-use Rattle.flat_simulation.specs.inner.Calls.{DataStands, CallStands, HasSize}
+use Rattle.flat_simulation.specs.inner.Calls.{DataStands, CallStands}
 use Rattle.flat_simulation.proofs.Numbers.{zero_word}
 use Rattle.flat_simulation.proofs.Compared.{tested_stands}
 use Rattle.flat_simulation.proofs.Names.{lives_there}
@@ -49,7 +50,7 @@ module _ (y : Layout) (p : Ir) (thread : ℕ) (names : List Name) (K : ℕ → T
 
   -- a register is set
   module _ (x : Scope) (place : ℕ) (sees : Sees names K l.blocks) (data_stands : DataStands y p names K l.blocks) (temps : length q.temps ≡ x.temps) (globals : length p.globals ≡ x.globals) (literals : length p.literals ≡ x.literals) where
-    was_assigned : (to : ℕ) (r : Result Held Fault) (later : Own) → assigned l to r ≡ Ok later → (h : Held) × (r ≡ Ok h) × (with_temps l (set_at l.temps to h) ≡ later)
+    pub was_assigned : (to : ℕ) (r : Result Held Fault) (later : Own) → assigned l to r ≡ Ok later → (h : Held) × (r ≡ Ok h) × (with_temps l (set_at l.temps to h) ≡ later)
     was_assigned to (Ok h) later e = (h, refl, cc)
     was_assigned to (Err f) later e = absurd cc
 

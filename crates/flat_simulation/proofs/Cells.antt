@@ -44,7 +44,7 @@ width_bytes : (n : ℕ) → IsTrue (is_width n) → 256 ^ (n / 8) ≡ 2 ^ n
 width_bytes n h = grind (arith, nat_tests)
 
 -- low bytes tell no more of a number than its remainder
-low_again : (k a : ℕ) → low_bytes k a ≡ low_bytes k (a % 256 ^ k)
+pub low_again : (k a : ℕ) → low_bytes k a ≡ low_bytes k (a % 256 ^ k)
 low_again k a = sym (low_bytes-number_of (low_bytes k a) (low_bytes-AreBytes k a)) ∙ (λ i. low_bytes (length-low_bytes k a i) (number_of-low_bytes k a i))
 
 -- the low bits of a number's word are those of the number

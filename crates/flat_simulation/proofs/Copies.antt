@@ -38,19 +38,19 @@ nothing_written : (m : Memory) (at : ℕ) → written m at [] ≡ m
 nothing_written m at = ap (λ bytes. with_storage m (record m.storage { bytes = bytes })) (nothing_over m.storage.bytes at)
 
 -- both ranges were found
-record WereFound (blocks : Blocks) (n : ℕ) (to from : Result Spot Rule) (later : Blocks) : Type 0 where
-  target : Spot
-  source : Spot
-  to_is : to ≡ Ok target
-  from_is : from ≡ Ok source
-  later_is : with_cells_at blocks (cells_at n source) target ≡ later
+pub record WereFound (blocks : Blocks) (n : ℕ) (to from : Result Spot Rule) (later : Blocks) : Type 0 where
+  pub target : Spot
+  pub source : Spot
+  pub to_is : to ≡ Ok target
+  pub from_is : from ≡ Ok source
+  pub later_is : with_cells_at blocks (cells_at n source) target ≡ later
 
 unless : (literal clashes : Bool) (x later : Blocks) → (if literal then Err C12 else (if clashes then Err C11 else Ok x)) ≡ Ok later → x ≡ later
 unless true clashes x later e = absurd cc
 unless false true x later e = absurd cc
 unless false false x later e = cc
 
-were_found : (blocks : Blocks) (n : ℕ) (same : Bool) (to from : Result Spot Rule) (later : Blocks) → copied_between blocks n same to from ≡ Ok later → WereFound blocks n to from later
+pub were_found : (blocks : Blocks) (n : ℕ) (same : Bool) (to from : Result Spot Rule) (later : Blocks) → copied_between blocks n same to from ≡ Ok later → WereFound blocks n to from later
 were_found blocks n same (Err rule) from later e = absurd cc
 were_found blocks n same (Ok to) (Err rule) later e = absurd cc
 were_found blocks n same (Ok to) (Ok from) later e = record { target = to; source = from; to_is = refl; from_is = refl; later_is = unless (is_literal to.block.kind) (clash n same to from) _ later e }

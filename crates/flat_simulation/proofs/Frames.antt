@@ -34,6 +34,13 @@ module _ (y : Layout) (p : Ir) (thread function : ℕ) (q : Words) (its_objects 
   ordered : (i j : ℕ) → i < j → j < length (objects_in p function) → object_address y thread q i + taken (object_size p function i) ≤ object_address y thread q j
   ordered i j lt below = omega (arith, its_address i, its_address j, part_room (objects_in p function) i j lt (omega (arith, below)))
 
+  -- each object ends within the call's own bytes
+  pub in_frame : (i : ℕ) → i < length (objects_in p function) → object_address y thread q i + taken (object_size p function i) ≤ stack_address y thread + q.below.stack + objects_bytes (objects_in p function)
+  in_frame i below =
+      let all = part_room (objects_in p function) i (length (objects_in p function)) below (omega arith) in
+      let whole = ap bytes_of (take-length (objects_in p function)) in
+      omega (arith, its_address i, all, whole)
+
   pub frame_lies : FrameLies y p thread (start_behind (plain_size y)) function q
   frame_lies = record {
     low = omega arith;

@@ -8,7 +8,7 @@ use Rattle.block_store.specs.declared.values.Ptr.TheVariants.{Null, To}
 use Rattle.block_store.specs.Blocks as source
 use Rattle.block_store.specs.Blocks.{Block, Blocks, live, ended, is_heap, is_freeable}
 use Rattle.handle_words.specs.Handle.{handle_of, id_of}
-use Rattle.handle_table.specs.Table.{IsInUse}
+use Rattle.handle_table.specs.Table.{IsInUse, address_of}
 use Rattle.flat_store.specs.Flat.{byte_at}
 use Rattle.defrag_move.specs.Arena.{Storage}
 use Rattle.defrag_move.specs.Changes.{without_id}
@@ -40,14 +40,14 @@ module _ (names : List Name) (blocks : Blocks) (s : Storage) (stand : BlocksStan
   pub gone_ages : Aged names names blocks later
   gone_ages = aged_ended names blocks gone stand.names_stand.each
 
-  was : (block : ℕ) (d : Block) → live later block ≡ Some d → (block ≢ gone) × (live blocks block ≡ Some d)
+  pub was : (block : ℕ) (d : Block) → live later block ≡ Some d → (block ≢ gone) × (live blocks block ≡ Some d)
   was block d e = ended_live blocks gone block d e
 
   lived : (block : ℕ) → Lives later block → Lives blocks block
   lived block e = let d = lives_there (live later block) e in ap is_some (was block d.0 d.1).1
 
   -- no other block has its id
-  other_id : (block key : ℕ) (d : Block) → live later block ≡ Some d → name_of names block ≡ heap key → key ≢ id
+  pub other_id : (block key : ℕ) (d : Block) → live later block ≡ Some d → name_of names block ≡ heap key → key ≢ id
   other_id block key d e n same = let w = was block d e in w.0 (stand.names_stand.one block gone key (ap is_some w.1) (ap is_some here) n (named ∙ ap heap (sym same)))
 
   gone_lies : (h : Bool) (n : Name) (size : ℕ) → ((key : ℕ) → n ≡ heap key → key ≢ id) → LiesAt s n h size → LiesAt now n h size
@@ -91,6 +91,9 @@ module _ (names : List Name) (blocks : Blocks) (m : Memory) (stand : BlocksStand
     pub went : words.freed word m ≡ went None (with_storage m storage)
     pub stands : BlocksStand names later storage
     pub ages : Aged names names blocks later
+    pub start : storage.start ≡ m.storage.start
+    -- the ids of the others lead where they led
+    pub others : (block key : ℕ) (b : Block) → live later block ≡ Some b → name_of names block ≡ heap key → address_of storage.table key ≡ address_of m.storage.table key
 
   null_freed : (word : ℕ) → word ≡ 0 → IsFreed word blocks
   null_freed word is = record {
@@ -98,6 +101,8 @@ module _ (names : List Name) (blocks : Blocks) (m : Memory) (stand : BlocksStand
     went = ap (λ b. if b then went None m else (if is_live_start m.storage word then went None (with_storage m (without_id m.storage (id_of word))) else words.over (words.trap word kinds.Free))) (eq-eqb word 0 is);
     stands = stand;
     ages = aged_still names blocks stand.names_stand.each;
+    start = refl;
+    others = λ block key b e n. refl;
   }
 
   heap_freed : (gone id word : ℕ) (b : Block) → live blocks gone ≡ Some b → name_of names gone ≡ heap id → word ≡ handle_of id 0 → IsInUse m.storage.table id → IsFreed word (ended blocks gone)
@@ -111,6 +116,8 @@ module _ (names : List Name) (blocks : Blocks) (m : Memory) (stand : BlocksStand
         went = λ i. if some i then went None m else (if start i then went None (with_storage m (without_id m.storage (key i))) else words.over (words.trap word kinds.Free));
         stands = gone_stands names blocks m.storage stand gone id b here named;
         ages = gone_ages names blocks m.storage stand gone id b here named;
+        start = refl;
+        others = λ block k d e n. get_or-set_other m.storage.table id k None None (other_id names blocks m.storage stand gone id b here named block k d e n);
       }
 
   both_true : (a b : Bool) → (a && b) ≡ true → (a ≡ true) × (b ≡ true)

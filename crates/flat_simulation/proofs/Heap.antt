@@ -87,7 +87,7 @@ module _ (names : List Name) (blocks : Blocks) (s : Storage) (stand : BlocksStan
   other_id key o e same = false≢true (sym free.1 ∙ ap is_some (ap (address_of s.table) (sym same) ∙ (owner_found s.start s.table s.heaps.objects (matches s stand.consistent) key o e).1))
 
   -- no block has the new id
-  not_named : (block key : ℕ) (b : Block) → live blocks block ≡ Some b → name_of names block ≡ heap key → key ≢ id
+  pub not_named : (block key : ℕ) (b : Block) → live blocks block ≡ Some b → name_of names block ≡ heap key → key ≢ id
   not_named block key b e n = elim (lies names blocks s stand.consistent stand.names_stand block b e) [
     | inl h ↦
         let both : heap key ≡ heap h.id = sym n ∙ h.named in
@@ -98,17 +98,17 @@ module _ (names : List Name) (blocks : Blocks) (s : Storage) (stand : BlocksStan
 
   -- ---- names
 
-  new_name : name_of named (length blocks) ≡ heap id
+  pub new_name : name_of named (length blocks) ≡ heap id
   new_name = ap (name_of named) (sym each) ∙ name_new names (heap id)
 
-  old_name : (block : ℕ) (b : Block) → live blocks block ≡ Some b → name_of named block ≡ name_of names block
+  pub old_name : (block : ℕ) (b : Block) → live blocks block ≡ Some b → name_of named block ≡ name_of names block
   old_name block b e = aged_name names named blocks later got_ages block (live_in blocks block b e)
 
   -- an old block, or the new one
-  abbrev Which : (block : ℕ) (b : Block) → Type 0
+  abbrev pub Which : (block : ℕ) (b : Block) → Type 0
   Which block b = ((block ≡ length blocks) × (b ≡ new_block size kinds.Heap Unknown)) ⊎ (live blocks block ≡ Some b)
 
-  which : (block : ℕ) (b : Block) → live later block ≡ Some b → Which block b
+  pub which : (block : ℕ) (b : Block) → live later block ≡ Some b → Which block b
   which block b e = made_live blocks size kinds.Heap Unknown block b e
 
   old_lies : (h : Bool) (n : Name) (many : ℕ) → LiesAt s n h many → LiesAt now n h many

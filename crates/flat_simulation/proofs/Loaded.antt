@@ -24,14 +24,14 @@ use Rattle.flat_meaning.specs.Simulation.{IsLoadable}
 -- ---- plain data
 
 -- a global begins with 8 bytes at most
-few_first : (y : Layout) (i : Init) → length (first_bytes y i) ≤ 8
+pub few_first : (y : Layout) (i : Init) → length (first_bytes y i) ≤ 8
 few_first y inits.zero_bytes = omega arith
 few_first y (inits.number t z) =
     let width = width_bounds t.bits t.known_width in
     omega (arith, length-low_bytes (t.bits / 8) (bit_pattern t (num t z).value), width.1)
 few_first y (inits.literal_at n) = omega (arith, length-low_bytes 8 (literal_address y n))
 
-length-globals : (y : Layout) (gs : List Global) (at : ℕ) (bytes : List ℕ) → first_address ≤ at → at + sum_by (λ g. taken g.size) gs ≤ first_address + length bytes → length (globals_written y at gs bytes) ≡ length bytes
+pub length-globals : (y : Layout) (gs : List Global) (at : ℕ) (bytes : List ℕ) → first_address ≤ at → at + sum_by (λ g. taken g.size) gs ≤ first_address + length bytes → length (globals_written y at gs bytes) ≡ length bytes
 length-globals y [] at bytes low fits = refl
 length-globals y (g ∷ gs) at bytes low fits =
     let sum = sum_by-cons (λ (g : Global). taken g.size) g gs in
@@ -39,7 +39,7 @@ length-globals y (g ∷ gs) at bytes low fits =
     let one = length-with_bytes bytes (first_bytes y g.init) at low (omega (arith, sum, few)) in
     length-globals y gs (at + taken g.size) (with_bytes bytes at (first_bytes y g.init)) (omega arith) (omega (arith, sum, one)) ∙ one
 
-length-literals : (ls : List (List ℕ)) (at : ℕ) (bytes : List ℕ) → first_address ≤ at → at + sum_by (λ l. taken (length l)) ls ≤ first_address + length bytes → length (literals_written at ls bytes) ≡ length bytes
+pub length-literals : (ls : List (List ℕ)) (at : ℕ) (bytes : List ℕ) → first_address ≤ at → at + sum_by (λ l. taken (length l)) ls ≤ first_address + length bytes → length (literals_written at ls bytes) ≡ length bytes
 length-literals [] at bytes low fits = refl
 length-literals (l ∷ ls) at bytes low fits =
     let sum = sum_by-cons (λ (l : List ℕ). taken (length l)) l ls in
@@ -55,7 +55,7 @@ length-loaded y size fits =
 
 -- ---- the first storage
 
-none_of : (n id : ℕ) → IsInUse (replicate n None) id → ⊥
+pub none_of : (n id : ℕ) → IsInUse (replicate n None) id → ⊥
 none_of n id used =
     let none : Option ℕ = None in
     elim (cases_lt id n) [

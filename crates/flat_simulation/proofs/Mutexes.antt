@@ -45,7 +45,7 @@ unless_literal true r x e = absurd cc
 unless_literal false r x e = e
 
 -- its spot, and its number
-mutex_there : (r : Result Spot Rule) (mu : Mutex) → mutex_in r ≡ Ok mu → (r ≡ Ok mu.spot) × (number_of (cells_at 8 mu.spot) ≡ Some mu.number)
+pub mutex_there : (r : Result Spot Rule) (mu : Mutex) → mutex_in r ≡ Ok mu → (r ≡ Ok mu.spot) × (number_of (cells_at 8 mu.spot) ≡ Some mu.number)
 mutex_there (Ok s) mu e =
     let n = numbered s (read_number (cells_at 8 s)) mu (unless_literal (is_literal s.block.kind) _ mu e) in
     (ap Ok n.0, ap (λ x. number_of (cells_at 8 x)) (sym n.0) ∙ was_number (has_unknown (cells_at 8 s)) (number_of (cells_at 8 s)) mu.number n.1)
@@ -53,12 +53,12 @@ mutex_there (Err rule) mu e = absurd cc
 
 module _ (names : List Name) (blocks : Blocks) (m : Memory) (stand : BlocksStand names blocks m.storage) (p : Ptr) (a : Target) (goes : GoesTo names blocks m.storage p a.address) where
   -- what both see of it
-  record SeesMutex (mu : Mutex) : Type 0 where
-    there : first_outside m.storage.bytes a.address 8 ≡ None
-    free : is_free m a.address ≡ (mu.number == 0)
-    renumbers : (n : ℕ) → IsWritten names blocks m stand (renumbered blocks mu n) a.address (low_bytes 8 n)
+  pub record SeesMutex (mu : Mutex) : Type 0 where
+    pub there : first_outside m.storage.bytes a.address 8 ≡ None
+    pub free : is_free m a.address ≡ (mu.number == 0)
+    pub renumbers : (n : ℕ) → IsWritten names blocks m stand (renumbered blocks mu n) a.address (low_bytes 8 n)
 
-  sees_mutex : (mu : Mutex) → mutex_at blocks p ≡ Ok mu → SeesMutex mu
+  pub sees_mutex : (mu : Mutex) → mutex_at blocks p ≡ Ok mu → SeesMutex mu
   sees_mutex mu e =
       let at = mutex_there (spot_at blocks 8 p) mu e in
       let f = found blocks 8 8 p mu.spot at.0 in
@@ -82,7 +82,7 @@ module _ (names : List Name) (blocks : Blocks) (m : Memory) (stand : BlocksStand
   taken_or_waits false true x o e = absurd cc
   taken_or_waits false false x o e = inr (refl, cc)
 
-  was_locked : (thread : ℕ) (r : Result Mutex Rule) (o : Option Blocks) → lock_by blocks thread r ≡ Ok o
+  pub was_locked : (thread : ℕ) (r : Result Mutex Rule) (o : Option Blocks) → lock_by blocks thread r ≡ Ok o
       → (mu : Mutex) × (r ≡ Ok mu) × ((((mu.number == 0) ≡ true) × (Some (renumbered blocks mu (thread + 1)) ≡ o)) ⊎ (((mu.number == 0) ≡ false) × (None ≡ o)))
   was_locked thread (Ok mu) o e = (mu, refl, taken_or_waits (mu.number == 0) (mu.number == thread + 1) (renumbered blocks mu (thread + 1)) o e)
   was_locked thread (Err rule) o e = absurd cc
@@ -122,7 +122,7 @@ module _ (names : List Name) (blocks : Blocks) (m : Memory) (stand : BlocksStand
     pub went : words.unlocked a m ≡ went None (written m a.address (low_bytes 8 0))
     pub after : IsWritten names blocks m stand later a.address (low_bytes 8 0)
 
-  was_unlocked : (thread : ℕ) (r : Result Mutex Rule) (later : Blocks) → unlock_by blocks thread r ≡ Ok later → (mu : Mutex) × (r ≡ Ok mu) × (renumbered blocks mu 0 ≡ later)
+  pub was_unlocked : (thread : ℕ) (r : Result Mutex Rule) (later : Blocks) → unlock_by blocks thread r ≡ Ok later → (mu : Mutex) × (r ≡ Ok mu) × (renumbered blocks mu 0 ≡ later)
   was_unlocked thread (Ok mu) later e = (mu, refl, (if_ok (mu.number == thread + 1) (renumbered blocks mu 0) later C13 e).1)
   was_unlocked thread (Err rule) later e = absurd cc
 

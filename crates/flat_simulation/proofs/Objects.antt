@@ -9,7 +9,7 @@ use Rattle.struct_ir.specs.Nodes.{Ir}
 use Rattle.ir_meaning.specs.Blocks.{Own, set_at, with_blocks, without, begun, object_ended}
 use Rattle.flat_meaning.specs.Image.{Layout}
 use Rattle.flat_meaning.specs.Words.{Words, word_at, object_address}
-use Rattle.flat_meaning.specs.Names.{Name, heap, plain, name_of}
+use Rattle.flat_meaning.specs.Names.{Name, heap, plain, name_of, ids_in}
 use Rattle.flat_simulation.specs.inner.Aged.{Aged}
 use Rattle.flat_simulation.specs.inner.Blocks.{new_block}
 use Rattle.flat_simulation.specs.inner.Values.{KnownIn, Stands}
@@ -20,11 +20,19 @@ use Rattle.flat_simulation.proofs.Values.{stands_later}
 
 -- ---- functions with another value in one place
 
-set_same : {A : Type 0} (f : ℕ → A) (k : ℕ) (v : A) → set_at f k v k ≡ v
+pub set_same : {A : Type 0} (f : ℕ → A) (k : ℕ) (v : A) → set_at f k v k ≡ v
 set_same f k v = let e = eq-eqb k k refl in rw e refl
 
-set_other : {A : Type 0} (f : ℕ → A) (k : ℕ) (v : A) (x : ℕ) → x ≢ k → set_at f k v x ≡ f x
+pub set_other : {A : Type 0} (f : ℕ → A) (k : ℕ) (v : A) (x : ℕ) → x ≢ k → set_at f k v x ≡ f x
 set_other f k v x ne = let e = ne_eqb x k ne in rw e refl
+
+-- ---- names
+
+-- a plain name has no id
+ids_plain : (names : List Name) (a : ℕ) → ids_in (names ++ plain a ∷ []) ≡ ids_in names
+ids_plain [] a = refl
+ids_plain (heap id ∷ names) a = ap (λ ids. id ∷ ids) (ids_plain names a)
+ids_plain (plain c ∷ names) a = ids_plain names a
 
 -- ---- a call, later
 
@@ -85,6 +93,7 @@ module _ (y : Layout) (p : Ir) (before : ℕ) (first : List Name) (blocks : Bloc
         call = no_object names l q l.blocks i stands;
         far = record {
           aged = far.aged;
+          ids = far.ids;
           kept = far.kept;
           unwritten = far.unwritten;
           heaps = far.heaps;
@@ -101,6 +110,7 @@ module _ (y : Layout) (p : Ir) (before : ℕ) (first : List Name) (blocks : Bloc
         call = no_object names l q later i (call_later names names l.blocks later aged K K (λ n lt k. k) y p thread l q refl stands);
         far = record {
           aged = aged_then first names names blocks l.blocks later far.aged aged;
+          ids = far.ids;
           kept = λ n b lt v. far.kept n b lt (ended_live l.blocks c n b v).1;
           unwritten = λ n b ge v. far.unwritten n b ge (ended_live l.blocks c n b v).1;
           heaps = λ n id b f v.
@@ -180,6 +190,7 @@ module _ (y : Layout) (p : Ir) (before : ℕ) (first : List Name) (blocks : Bloc
       };
       far = record {
         aged = aged_then first names (named names q i) blocks l.blocks later far.aged aged;
+        ids = ids_plain names (object_address y thread q i) ∙ far.ids;
         kept = λ n b lt v. elim (which n b v) [ inl e ↦ absurd (omega (arith, e.0, lt, grown)) | inr x ↦ far.kept n b lt x ];
         unwritten = λ n b ge v. elim (which n b v) [ inl e ↦ (size, e.1) | inr x ↦ far.unwritten n b ge x ];
         heaps = λ n id b f v. made_still l.blocks size block_kinds.Local Unknown n b (far.heaps n id b f v);

@@ -20,7 +20,8 @@ use Rattle.flat_simulation.specs.inner.Aged.{Aged}
 use Rattle.flat_simulation.specs.inner.Values.{KnownIn, Points, Stands}
 use Rattle.flat_simulation.specs.inner.Calls.{CallStands, objects_in, object_size}
 use Rattle.flat_simulation.specs.inner.Turns.{IsClear, Far}
-use Rattle.flat_simulation.specs.inner.Lags.{Reaches, comes, breaks, InTurn, IsAside, KeepsAddresses, LieLow}
+use Rattle.flat_simulation.specs.inner.Lags.{Reaches, comes, breaks, InTurn, IsAside, KeepsSlot, KeepsCall, LieLow}
+use Rattle.flat_simulation.proofs.Facts.{listed_fact}
 use Rattle.flat_simulation.proofs.Blocks.{aged_still, aged_then, aged_name}
 use Rattle.flat_simulation.proofs.Names.{lives_there}
 use Rattle.flat_simulation.proofs.Objects.{call_later}
@@ -35,7 +36,7 @@ low_word : (table : List (Option ℕ)) (w : ℕ) → w < 2 ^ 63 → translated t
 low_word table w low = let fails : leb (2 ^ 63) w ≡ false = grind (arith, nat_tests) in rw fails refl
 
 module _ {P : Type 0} (x : Image P) (p : Ir) (thread : ℕ) (names all : List Name) (blocks later : Blocks) (s new : Storage) (since : Aged names all blocks later)
-    (aside : IsAside all blocks later (stack_address x.layout thread) (stack_address x.layout thread + x.layout.limits.stack)) (keeps : KeepsAddresses all later s new) (first : List Name) (start : Blocks) (then_ : Aged all first later start) where
+    (aside : IsAside all blocks later (stack_address x.layout thread) (stack_address x.layout thread + x.layout.limits.stack)) (first : List Name) (start : Blocks) (then_ : Aged all first later start) where
   abbrev K : ℕ → Type 0
   K = KnownIn (length blocks) (length start)
 
@@ -67,53 +68,53 @@ module _ {P : Type 0} (x : Image P) (p : Ir) (thread : ℕ) (names all : List Na
     ]
 
     far_later : Far x.layout (length later) first start n thread l q
-    far_later = record { aged = far.aged; kept = far.kept; unwritten = far.unwritten; heaps = far.heaps; begun = far.begun; clear = clear }
+    far_later = record { aged = far.aged; ids = far.ids; kept = far.kept; unwritten = far.unwritten; heaps = far.heaps; begun = far.begun; clear = clear }
 
-    -- a pointer that is known leads where it led
-    same_translation : (k o word : ℕ) (b : Block) → Points n K l.blocks k o word → live l.blocks k ≡ Some b → translated new.table (word_for (name_of n k) o) ≡ translated s.table (word_for (name_of n k) o)
-    same_translation k o word b points v = by_known points.known
+    -- the word of a pointer that is known leads where it led
+    same_translation : (k o word : ℕ) (b : Block) (v : PinSlot) → KeepsSlot all blocks later s new v → Points n K l.blocks k o word → live l.blocks k ≡ Some b → v.word ≡ word_for (name_of n k) o → translated new.table v.word ≡ translated s.table v.word
+    same_translation k o word b v keeps points e is = by_known points.known
       where
-        by_known : K k → translated new.table (word_for (name_of n k) o) ≡ translated s.table (word_for (name_of n k) o)
+        by_known : K k → translated new.table v.word ≡ translated s.table v.word
         by_known (inl lt) =
             let below : k < length later = omega (arith, lt, since.ages.more) in
-            let c = lived k b below v in
-            let within : o ≤ length c.0.cells = omega (arith, points.within b v, c.2) in
-            ap (λ m. translated new.table (word_for m o)) (its_name k below) ∙ keeps k o c.0 c.1 within ∙ ap (λ m. translated s.table (word_for m o)) (sym (its_name k below))
+            let c = lived k b below e in
+            let within : o ≤ length c.0.cells = omega (arith, points.within b e, c.2) in
+            keeps k o c.0 lt c.1 within (is ∙ ap (λ m. word_for m o) (its_name k below))
         by_known (inr ge) =
-            let i = far.begun k b ge v in
+            let i = far.begun k b ge e in
             let object = call.objects i.0 k i.1 in
-            let size : length b.cells ≡ object_size p l.function i.0 = object.size b v in
+            let size : length b.cells ≡ object_size p l.function i.0 = object.size b e in
             let bound = low i.0 (subst (λ f. i.0 < length (objects_in p f)) (sym call.function) object.index) in
             let same : object_size p q.function i.0 ≡ object_size p l.function i.0 = ap (λ f. object_size p f i.0) call.function in
-            let is : word_for (name_of n k) o ≡ object_address x.layout thread q i.0 + o = ap (λ m. word_for m o) object.there.at in
-            let small : word_for (name_of n k) o < 2 ^ 63 = omega (arith, is, bound, same, size, points.within b v) in
-            low_word new.table (word_for (name_of n k) o) small ∙ sym (low_word s.table (word_for (name_of n k) o) small)
+            let there : word_for (name_of n k) o ≡ object_address x.layout thread q i.0 + o = ap (λ m. word_for m o) object.there.at in
+            let small : v.word < 2 ^ 63 = omega (arith, is, there, bound, same, size, points.within b e) in
+            low_word new.table v.word small ∙ sym (low_word s.table v.word small)
 
-    slot_later : (h : Held) (word : ℕ) (slot : PinSlot) → Stands n K l.blocks h word → SlotAgrees n l.blocks s h slot → SlotAgrees n l.blocks new h slot
-    slot_later (value (values.Num z)) word slot stands agrees = tt
-    slot_later (value (values.Pointer Null)) word slot stands agrees = tt
-    slot_later (value (values.Pointer (To k o))) word slot points agrees = λ lives.
+    slot_later : (h : Held) (word : ℕ) (v : PinSlot) → KeepsSlot all blocks later s new v → Stands n K l.blocks h word → SlotAgrees n l.blocks s h v → SlotAgrees n l.blocks new h v
+    slot_later (value (values.Num z)) word v keeps stands agrees = tt
+    slot_later (value (values.Pointer Null)) word v keeps stands agrees = tt
+    slot_later (value (values.Pointer (To k o))) word v keeps points agrees = λ lives.
         let b = lives_there (live l.blocks k) lives in
         let old = agrees lives in
-        (old.0, old.1 ∙ ap (translated s.table) old.0 ∙ sym (same_translation k o word b.0 points b.1) ∙ ap (translated new.table) (sym old.0))
-    slot_later unset word slot stands agrees = tt
-    slot_later missing word slot stands agrees = tt
+        (old.0, old.1 ∙ sym (same_translation k o word b.0 v keeps points b.1 old.0))
+    slot_later unset word v keeps stands agrees = tt
+    slot_later missing word v keeps stands agrees = tt
 
-  reaches_later : (k : Point P Own) (q : Point P Words) → LieLow x.layout p thread q.own → Reaches x p thread (length blocks) first start s k q → Reaches x p thread (length later) first start new k q
-  reaches_later k q low (breaks f e) = breaks f e
-  reaches_later k q low (comes y n steps far stands) =
+  reaches_later : (k : Point P Own) (q : Point P Words) → LieLow x.layout p thread q.own → KeepsCall x.flow all blocks later s new q → Reaches x p thread (length blocks) first start s k q → Reaches x p thread (length later) first start new k q
+  reaches_later k q low keeps (breaks f e) = breaks f e
+  reaches_later k q low keeps (comes y n steps far stands) =
       comes y n steps (far_later n y.own q.own stands.call far low) (record {
         here = stands.here;
         call = call_later n n y.own.blocks y.own.blocks (aged_still n y.own.blocks far.aged.each_later) K J (λ b lt known. known_more (length blocks) (length later) (length start) b since.ages.more known) x.layout p thread y.own q.own refl stands.call;
-        function = stands.function;
         way = stands.way;
         path = stands.path;
-        slots = λ slot base e. (let old = stands.slots slot base e in (old.0, slot_later n y.own q.own stands.call far low (y.own.temps base) (word_at q.own base) (slot_at q.own.slots slot) (stands.call.temps base old.0) old.1));
+        slots = λ slot base e. (let old = stands.slots slot base e in
+            (old.0, slot_later n y.own q.own stands.call far low (y.own.temps base) (word_at q.own base) (slot_at q.own.slots slot) (keeps slot (listed_fact _ _ base e).0) (stands.call.temps base old.0) old.1));
       })
 
 -- no run is done again
 pub others_leave_turns : {P : Type 0} (x : Image P) (p : Ir) (thread : ℕ) (names all : List Name) (blocks later : Blocks) (s new : Storage) → Aged names all blocks later
-    → IsAside all blocks later (stack_address x.layout thread) (stack_address x.layout thread + x.layout.limits.stack) → KeepsAddresses all later s new
-    → (k : Point P Own) (q : Point P Words) → LieLow x.layout p thread q.own → InTurn x p thread names blocks s k q → InTurn x p thread all later new k q
-others_leave_turns x p thread names all blocks later s new since aside keeps k q low turn first start then_ =
-    reaches_later x p thread names all blocks later s new since aside keeps first start then_ k q low (turn first start (aged_then names all first blocks later start since then_))
+    → IsAside all blocks later (stack_address x.layout thread) (stack_address x.layout thread + x.layout.limits.stack)
+    → (k : Point P Own) (q : Point P Words) → LieLow x.layout p thread q.own → KeepsCall x.flow all blocks later s new q → InTurn x p thread names blocks s k q → InTurn x p thread all later new k q
+others_leave_turns x p thread names all blocks later s new since aside k q low keeps turn first start then_ =
+    reaches_later x p thread names all blocks later s new since aside first start then_ k q low keeps (turn first start (aged_then names all first blocks later start since then_))

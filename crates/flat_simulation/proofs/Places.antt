@@ -68,7 +68,7 @@ unindexed at o off base e = omega (arith, e)
 -- ---- pointers that an access moves
 
 -- so many bytes further on in one block; null stays
-abbrev IsFurther : Ptr → ℤ → Ptr → Type 0
+abbrev pub IsFurther : Ptr → ℤ → Ptr → Type 0
 IsFurther Null by Null = Unit {0}
 IsFurther Null by (To name offset) = ⊥
 IsFurther (To block offset) by Null = ⊥
@@ -78,11 +78,11 @@ offset_further : (place block offset : ℕ) (by z : ℤ) (q : Ptr) → pos offse
 offset_further place block offset by (negsuc n) q sum e = absurd cc
 offset_further place block offset by (pos to) q sum e = let is : To block to ≡ q = cc in subst (IsFurther (To block offset) by) is (refl, sum)
 
-is_further : (place : ℕ) (by : ℤ) (p q : Ptr) → further place by p ≡ Ok q → IsFurther p by q
+pub is_further : (place : ℕ) (by : ℤ) (p q : Ptr) → further place by p ≡ Ok q → IsFurther p by q
 is_further place by Null q e = let is : Null ≡ q = cc in subst (IsFurther Null by) is tt
 is_further place by (To block offset) q e = offset_further place block offset by (pos offset +ℤ by) q refl e
 
-moved_further : (place off : ℕ) (p q : Ptr) → moved_if place off p ≡ Ok q → IsFurther p (pos off) q
+pub moved_further : (place off : ℕ) (p q : Ptr) → moved_if place off p ≡ Ok q → IsFurther p (pos off) q
 moved_further place off p q e = by_test (off == 0) refl e
   where
     stays : (r : Ptr) → off ≡ 0 → IsFurther r (pos off) r
@@ -93,7 +93,7 @@ moved_further place off p q e = by_test (off == 0) refl e
     by_test true z e = let is : p ≡ q = cc in subst (IsFurther p (pos off)) is (stays p (eqb-true off 0 z))
     by_test false z e = is_further place (pos off) p q e
 
-ok_then : {A B : Type 0} (r : Result A Fault) (go : A → Result B Fault) (y : B) → on_ok r go ≡ Ok y → (x : A) × (r ≡ Ok x) × (go x ≡ Ok y)
+pub ok_then : {A B : Type 0} (r : Result A Fault) (go : A → Result B Fault) (y : B) → on_ok r go ≡ Ok y → (x : A) × (r ≡ Ok x) × (go x ≡ Ok y)
 ok_then (Ok x) go y e = (x, refl, e)
 ok_then (Err f) go y e = absurd cc
 

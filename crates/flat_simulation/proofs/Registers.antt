@@ -26,8 +26,9 @@ use Rattle.flat_meaning.specs.Image.{Layout, global_address, literal_address}
 use Rattle.flat_meaning.specs.Words as words
 use Rattle.flat_meaning.specs.Words.{Words, word_at}
 use Rattle.flat_meaning.specs.Names.{Name, word_for}
+use Rattle.flat_meaning.specs.Sized.{HasSize}
 use Rattle.flat_simulation.specs.inner.Values.{Sees, PointerStands, Stands}
-use Rattle.flat_simulation.specs.inner.Calls.{LiesThere, DataStands, CallStands, HasSize}
+use Rattle.flat_simulation.specs.inner.Calls.{LiesThere, DataStands, CallStands}
 use Rattle.flat_simulation.proofs.Numbers.{word_apart, word_same, converted_word, applied_word}
 use Rattle.flat_simulation.proofs.Pointers.{moved_stands}
 use Rattle.flat_simulation.proofs.Compared.{tested_stands, compared_stands, difference_stands}

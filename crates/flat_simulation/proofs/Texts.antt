@@ -39,7 +39,7 @@ one_more b room all = elim (cases_lt room (length all)) [
       rw (here, there) refl
 ]
 
-behind_one : (b : ℕ) (r : Result (List ℕ) Rule) (all : List ℕ) → behind_byte b r ≡ Ok all → (rest : List ℕ) × (r ≡ Ok rest) × (b ∷ rest ≡ all)
+pub behind_one : (b : ℕ) (r : Result (List ℕ) Rule) (all : List ℕ) → behind_byte b r ≡ Ok all → (rest : List ℕ) × (r ≡ Ok rest) × (b ∷ rest ≡ all)
 behind_one b (Ok rest) all e = (rest, refl, cc)
 behind_one b (Err rule) all e = absurd cc
 
@@ -66,7 +66,7 @@ module _ (names : List Name) (blocks : Blocks) where
 
 -- ---- a text at a pointer
 
-has_some : (cells : List Cell) (all : List ℕ) → text_of cells ≡ Ok all → 0 < length cells
+pub has_some : (cells : List Cell) (all : List ℕ) → text_of cells ≡ Ok all → 0 < length cells
 has_some [] all e = absurd cc
 has_some (c ∷ cells) all e = omega arith
 

@@ -1,10 +1,27 @@
 //! Laws of all events, as contracts of functions that do nothing.
 
-ghost use Rattle.flat_meaning.specs.Simulation.{BarriersKeepObjects};
+ghost use Rattle.flat_meaning.specs.Simulation.{BarriersKeepObjects, EventsFollowTurns};
+ghost use Rattle.flat_simulation.specs.LinearEvents.{EventsOfLinearCode, LinearCodeFollowsTurns};
 
 /// Of every program that fits in memory, after all allowed events and whatever rules of C were broken: objects and table agree, and the
 /// moves of any barrier that may come next keep each object's bytes, at the address that the table then has, and the place of each
 /// object that is pinned.
 pub fn barriers_keep_objects<P>()
     ensures { BarriersKeepObjects P }
+{}
+
+/// Of every checked program, for any output, sub-heaps and ids that it is given, and all allowed events: unless one of the turns that they
+/// make breaks a rule of C, the machine's state stands for the state of the structured code over named blocks after those turns, by the
+/// names that the events made; and whatever step may come next reaches, waits and traps as the source's turn does.
+pub fn events_follow_turns()
+    ensures { EventsFollowTurns }
+{}
+
+/// Whatever the limits: for all allowed events of a program's linear code there are allowed events of its structured code that come to the
+/// same memory, end, order and attempts.
+/// So what holds of checked structured code holds of its linear code: unless one of the turns of its events breaks a rule of C, its memory
+/// is that of a state that stands for the source's after those turns.
+pub fn events_of_linear_code()
+    ensures same { EventsOfLinearCode }
+    ensures follow { LinearCodeFollowsTurns }
 {}

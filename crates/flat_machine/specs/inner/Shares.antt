@@ -1,6 +1,5 @@
 -- What threads share, as it is kept.
-use Rattle.std.specs.Prelude.{◌≡◌, ℕ, ◌<◌, ◌≤◌, [], List, length}
-use Rattle.std.specs.FinSet as set
+use Rattle.std.specs.Prelude.{◌≡◌, ℕ, ◌<◌, ◌≤◌, List, length}
 use Rattle.ak_trace.specs.declared.entry.Entry.{Entry}
 use Rattle.handle_table.specs.Words.{WordList}
 use Rattle.move_plan.specs.Holding.{MoveList, PinSet}

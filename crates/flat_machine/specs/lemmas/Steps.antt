@@ -1,16 +1,16 @@
 -- The step, the Look or the return before which a thread stands, from what stands there.
-use Rattle.std.proofs.Common.{◌≡◌, ℕ, zero, suc, ◌+◌, ◌<◌, ◌≤◌, Bool, true, false, cond, ◌&&◌, ◌||◌, ◌==◌, not, eqb, ◌≢◌, List, [], ◌∷◌, length, map, All, get_or, Option, Some, None, refl, ap, sym, ◌∙◌, subst, arith}
+use Rattle.std.proofs.Common.{◌≡◌, ℕ, ◌+◌, ◌<◌, Bool, true, false, cond, ◌&&◌, ◌||◌, ◌==◌, not, eqb, ◌≢◌, List, [], ◌∷◌, length, map, get_or, Option, Some, None, refl, ap, sym, ◌∙◌, subst, arith}
 use Rattle.std.specs.Prelude.{slice_get, slice_index_or, slice_set, is_none, nat_lt}
 use Rattle.std.proofs.lemmas.Bool.{and_parts, eqb-true, ltb-true}
 use Rattle.struct_ir.specs.declared.code.StepNode.{StepNode}
 use Rattle.struct_ir.specs.Valid.{Counts, Scope, counts_of, has_counts, are_below, is_action, is_below_if, is_distinct, is_list, is_own_list, is_place, is_step}
 use Rattle.struct_ir.specs.declared.code.Place.{Place as CodePlace}
 use Rattle.struct_ir.specs.Views.{action_view, place_view, step_view}
-use Rattle.std.proofs.lemmas.Option.{slice_get_within, slice_get-get_or, get_or_from_slice_get}
+use Rattle.std.proofs.lemmas.Option.{slice_get-get_or}
 use Rattle.std.proofs.lemmas.List.{get_or-map, get_or-set_same, length-map, length-set}
 use Rattle.handle_table.specs.Table.{translated}
 use Rattle.struct_ir.specs.Nodes.{Action, Place, load, store, copy_bytes, malloc, free, print, lock, unlock, destroy, start, join, Step, step, look, own_list, may_wait}
-use Rattle.struct_ir.specs.Flow.{Here, does, tests, passes, round, returns}
+use Rattle.struct_ir.specs.Flow.{Here, does, returns}
 use Rattle.std.specs.List.{list_all}
 use Rattle.struct_ir.proofs.ValidCode.{of_all}
 use Rattle.struct_ir.specs.Instrs.{Instr, LinearCode, instrs_if, instrs_of}

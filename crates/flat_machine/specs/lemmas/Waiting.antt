@@ -1,24 +1,23 @@
 -- A malloc that waits, and what serving it does.
-use Rattle.std.proofs.Common.{◌≡◌, ℕ, zero, suc, ◌+◌, ◌<◌, Bool, true, false, eqb, ltb, ◌&&◌, cond, List, [], ◌∷◌, ◌++◌, length, map, Option, Some, None, refl, sym, ap, ◌∙◌, subst, arith}
+use Rattle.std.proofs.Common.{◌≡◌, ℕ, ◌<◌, Bool, true, false, eqb, ltb, ◌&&◌, cond, List, [], ◌∷◌, ◌++◌, length, map, Option, Some, None, refl, sym, ap, ◌∙◌, subst, arith}
 use Rattle.std.specs.Prelude.{slice_get}
 use Rattle.std.specs.List.{list_all}
 use Rattle.std.specs.Option.{ForSome}
 use Rattle.std.proofs.lemmas.Bool.{eqb-true, ltb-true}
-use Rattle.struct_ir.specs.Nodes.{Action, load, store, copy_bytes, malloc, free, print, lock, unlock, destroy, start, join, set, call, step, look, safepoint, begin_object, end_object, may_wait, Step, Act}
+use Rattle.struct_ir.specs.Nodes.{Action, load, store, copy_bytes, malloc, free, print, lock, unlock, destroy, start, join, set, call, step, look, safepoint, begin_object, end_object, may_wait, Step}
 use Rattle.struct_ir.specs.Flow.{Here, does, tests, passes, round, returns}
-use Rattle.struct_ir.specs.Instrs.{Instr, acts, unless, jump, round_to, leave, LinearCode, LinearFunc, instrs_if, instrs_of}
+use Rattle.struct_ir.specs.Instrs.{Instr, acts, unless, jump, round_to, leave, LinearCode, instrs_if, instrs_of}
 use Rattle.struct_ir.specs.Linear.{Spot, instr_here, linear}
 use Rattle.struct_ir.specs.Machine.{Point}
 use Rattle.struct_ir.specs.Threads.{Thread}
 use Rattle.struct_ir.specs.Valid.{Scope, are_below, is_action, is_own_list, is_place, has_counts, counts_of, is_below_if, is_step}
 use Rattle.struct_ir.specs.ValidCode.{code_scope_of, is_instr, is_valid_code}
 use Rattle.struct_ir.proofs.ValidCode.{of_all}
-use Rattle.defrag_move.specs.Arena.{Storage}
 use Rattle.flat_rules.specs.Machine as turns
 use Rattle.flat_meaning.specs.Accesses as actions
 use Rattle.flat_meaning.specs.Accesses.{Choice, plain, got, null, wait, allocated}
-use Rattle.flat_meaning.specs.Effects.{Effect, serve_effect}
-use Rattle.flat_meaning.specs.Image.{Image, Layout, Limits, limits_for}
+use Rattle.flat_meaning.specs.Effects.{serve_effect}
+use Rattle.flat_meaning.specs.Image.{Layout, limits_for}
 use Rattle.flat_meaning.specs.Memory.{Memory}
 use Rattle.flat_meaning.specs.Machine.{served_by}
 use Rattle.flat_meaning.specs.Allowed.{list_at}
@@ -33,7 +32,7 @@ use Rattle.flat_threads.specs.Contexts.{AreCallsOf, Context, IsCallOf, IsListFor
 use Rattle.flat_threads.specs.Deeds.{landed_stage, stepped, top_at, top_of, with_word}
 use Rattle.flat_threads.proofs.Listed.{listed_for}
 use Rattle.flat_threads.specs.Waits.{action_waits, waits_at, waits_here}
-use Rattle.flat_threads.specs.declared.wait.Wait.TheVariants.{Room, Mutex}
+use Rattle.flat_threads.specs.declared.wait.Wait.TheVariants.{Room}
 use Rattle.flat_machine.specs.declared.turned.Turned.{Turned}
 use Rattle.flat_machine.specs.declared.turned.Turned.TheVariants as code
 use Rattle.flat_machine.specs.Choices.{choice_here, served_choice}

@@ -1,7 +1,7 @@
 -- What a call over named blocks and one over words have in common within a turn.
 use Rattle.std.specs.Prelude.{◌≡◌, ℕ, ◌+◌, ◌<◌, List, length, slice_get, Some, false}
 use Rattle.block_store.specs.Blocks.{Block, Blocks, live, is_heap}
-use Rattle.struct_ir.specs.Nodes.{Calc, pointer_diff, StackObject, Ir}
+use Rattle.struct_ir.specs.Nodes.{StackObject, Ir}
 use Rattle.ir_meaning.specs.Blocks.{Own, objects_of, size_of}
 use Rattle.flat_meaning.specs.Image.{Layout, global_address, literal_address}
 use Rattle.flat_meaning.specs.Words.{Words, word_at, object_address}
@@ -39,8 +39,3 @@ pub record CallStands (y : Layout) (p : Ir) (thread : ℕ) (names : List Name) (
   pub function : q.function ≡ l.function
   pub temps : (r : ℕ) → r < length q.temps → Stands names K l.blocks (l.temps r) (word_at q r)
   pub objects : (i block : ℕ) → l.objects i ≡ Some block → IsObject p names K l.blocks l.function i block (object_address y thread q i)
-
--- elements have a size
-abbrev pub HasSize : Calc → Type 0
-HasSize (pointer_diff p q scale) = 0 < scale
-HasSize calc = Unit {0}

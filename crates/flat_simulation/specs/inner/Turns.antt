@@ -7,7 +7,7 @@ use Rattle.c_tree.specs.TypedForm.{taken}
 use Rattle.ir_meaning.specs.Blocks.{Own}
 use Rattle.flat_meaning.specs.Image.{Layout, stack_address}
 use Rattle.flat_meaning.specs.Words.{Words}
-use Rattle.flat_meaning.specs.Names.{Name, heap, plain, name_of}
+use Rattle.flat_meaning.specs.Names.{Name, heap, plain, name_of, ids_in}
 use Rattle.flat_simulation.specs.inner.Aged.{Aged}
 use Rattle.flat_simulation.specs.inner.Values.{KnownIn}
 use Rattle.flat_simulation.specs.inner.Blocks.{new_block}
@@ -20,6 +20,8 @@ IsClear names K blocks from to objects =
 -- before: as many blocks were made when the thread stopped last; first: the names of the blocks among which the turn began
 pub record Far (y : Layout) (before : ℕ) (first : List Name) (blocks : Blocks) (names : List Name) (thread : ℕ) (l : Own) (q : Words) : Type 0 where
   pub aged : Aged first names blocks l.blocks
+  -- what it made has no id
+  pub ids : ids_in names ≡ ids_in first
   -- what lives of those blocks is as it was, and what began since was never written
   pub kept : (block : ℕ) (b : Block) → block < length blocks → live l.blocks block ≡ Some b → live blocks block ≡ Some b
   pub unwritten : (block : ℕ) (b : Block) → length blocks ≤ block → live l.blocks block ≡ Some b → (size : ℕ) × (b ≡ new_block size block_kinds.Local Unknown)

@@ -1,12 +1,11 @@
-use Rattle.std.proofs.Common.{◌≡◌, ℕ, Bool, true, false, List, [], ◌∷◌, Option, sym, ap, ◌∙◌, subst}
+use Rattle.std.proofs.Common.{◌≡◌, ℕ, [], ◌∷◌, sym, ap, ◌∙◌, subst}
 use Rattle.ak_trace.specs.declared.entry.Entry.{Entry}
 use Rattle.ak_trace.specs.Kinds as kind
 use Rattle.flat_rules.specs.Entries.{barrier_entry}
 use Rattle.flat_rules.specs.Lawful.{AreHome}
-use Rattle.flat_threads.specs.Contexts.{Context}
 use Rattle.flat_machine.specs.Machine.{machine_of}
 use Rattle.flat_machine.specs.Shares.{Shared}
-use Rattle.flat_machine.specs.inner.Swept.{AreServed, shared_slid}
+use Rattle.flat_machine.specs.inner.Swept.{AreServed}
 use Rattle.flat_machine.proofs.Slid.{barrier_home, barrier_shared, slid_and_told}
 use Rattle.flat_machine.proofs.barriers.barrier.Goals.{then-for_room, else-for_room}
 use Rattle.flat_machine.proofs.barriers.barrier.Goals as goal

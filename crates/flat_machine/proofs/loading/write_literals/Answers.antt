@@ -1,9 +1,9 @@
-use Rattle.std.proofs.Common.{◌≡◌, ℕ, ◌+◌, ◌-◌, ◌<◌, ◌≤◌, List, length, map, get_or, drop, sym, ap, ◌∙◌, arith}
+use Rattle.std.proofs.Common.{◌≡◌, ℕ, ◌+◌, ◌<◌, ◌≤◌, List, length, map, get_or, drop, sym, ap, ◌∙◌, arith}
 use Rattle.std.specs.Prelude.{sum_by}
 use Rattle.c_tree.specs.TypedForm.{taken}
 use Rattle.c_tree.specs.TypedViews.{literal_view}
 use Rattle.struct_ir.specs.Instrs.{LinearCode}
-use Rattle.flat_store.specs.Flat.{first_address, with_bytes}
+use Rattle.flat_store.specs.Flat.{with_bytes}
 use Rattle.defrag_move.specs.Arena.{Storage}
 use Rattle.flat_meaning.specs.Image.{literals_written}
 use Rattle.flat_machine.proofs.Written.{length-with_bytes, next_of, next_sum, viewed}

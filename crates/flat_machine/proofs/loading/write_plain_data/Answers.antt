@@ -1,18 +1,14 @@
-use Rattle.std.proofs.Common.{◌≡◌, ℕ, ◌+◌, ◌-◌, ◌/◌, ◌<◌, ◌≤◌, Bool, true, false, ◌&&◌, List, [], ◌∷◌, zero, suc, length, map, get_or, drop, take, refl, sym, ap, ◌∙◌, arith}
+use Rattle.std.proofs.Common.{◌≡◌, ℕ, ◌+◌, ◌<◌, ◌≤◌, List, length, map, get_or, drop, sym, ap, ◌∙◌, arith}
 use Rattle.std.specs.Prelude.{sum_by}
-use Rattle.std.specs.List.{list_all}
-use Rattle.ak_words.proofs.Bytes.{length-low_bytes}
-use Rattle.c_tree.specs.Typed.{Init}
-use Rattle.c_tree.specs.Typed as inits
 use Rattle.c_tree.specs.TypedForm.{taken}
 use Rattle.c_tree.specs.TypedViews.{init_view, literal_view}
 use Rattle.struct_ir.specs.Instrs.{LinearCode}
 use Rattle.struct_ir.specs.Nodes.{Global}
 use Rattle.struct_ir.specs.Views.{global_view}
 use Rattle.struct_ir.specs.Whole.{is_init_in}
-use Rattle.flat_store.specs.Flat.{first_address, with_bytes}
+use Rattle.flat_store.specs.Flat.{with_bytes}
 use Rattle.defrag_move.specs.Arena.{Storage}
-use Rattle.flat_meaning.specs.Image.{Layout, first_bytes, global_address, globals_written, literal_address}
+use Rattle.flat_meaning.specs.Image.{Layout, first_bytes, globals_written, literal_address}
 use Rattle.flat_threads.specs.Contexts.{layout_of}
 use Rattle.flat_machine.proofs.Written.{all_at, first_few, length-with_bytes, literals_behind, next_of, next_sum, viewed}
 use Rattle.flat_machine.proofs.loading.write_plain_data.Goals as goal

@@ -1,12 +1,5 @@
-use Rattle.std.proofs.Common.{◌≡◌, ◌∙◌, ◌<◌, ◌&&◌, ◌==◌, ◌||◌, ℕ, Bool, true, List, [], ◌∷◌, length, map, sym, ap, subst, refl, arith}
-use Rattle.std.specs.Prelude.{slice_index_or, is_none}
-use Rattle.std.proofs.lemmas.Bool.{and_parts, eqb-true}
-use Rattle.std.proofs.lemmas.List.{length-map}
-use Rattle.struct_ir.specs.Nodes.{Action, Step}
-use Rattle.struct_ir.specs.Valid.{Counts, counts_of, has_counts}
-use Rattle.struct_ir.specs.Views.{action_view, step_view}
-use Rattle.struct_ir.specs.Instrs.{LinearCode}
-use Rattle.flat_meaning.specs.Accesses as actions
+use Rattle.std.proofs.Common.{◌≡◌, ap, subst, refl, arith}
+use Rattle.struct_ir.specs.Views.{action_view}
 use Rattle.flat_machine.specs.inner.Dones.{Does}
 use Rattle.flat_machine.specs.lemmas.Steps.{counted, place_is, copies, locks, unlocks, begins}
 use Rattle.flat_machine.proofs.shared.Shared.done.Goals as goal

@@ -1,8 +1,8 @@
-use Rattle.std.proofs.Common.{◌≡◌, ℕ, ◌+◌, ◌-◌, List, [], ◌∷◌, ◌++◌, map, None, sym, ap, ◌∙◌, subst, arith}
+use Rattle.std.proofs.Common.{◌≡◌, ◌+◌, ◌-◌, List, [], ◌∷◌, ◌++◌, map, None, sym, ap, ◌∙◌, subst, arith}
 use Rattle.struct_ir.specs.Instrs.{LinearCode}
 use Rattle.flat_store.specs.Flat.{first_address}
 use Rattle.flat_meaning.specs.Image.{linear_image, plain_size}
-use Rattle.flat_meaning.specs.Memory.{Made, beginning}
+use Rattle.flat_meaning.specs.Memory.{beginning}
 use Rattle.flat_machine.specs.Shares.{IsSharedOf}
 use Rattle.flat_machine.specs.Start.{settings_limits}
 use Rattle.flat_machine.specs.declared.made.MadeThread.{MadeThread}

@@ -1,13 +1,8 @@
-use Rattle.std.proofs.Common.{◌≡◌, ◌∙◌, ◌<◌, ℕ, true, Option, Some, sym, ap, subst, refl}
+use Rattle.std.proofs.Common.{◌≡◌, true, subst}
 use Rattle.struct_ir.specs.declared.linear.InstrKind.{InstrKind}
-use Rattle.struct_ir.specs.declared.linear.InstrKind.TheVariants as kinds
 use Rattle.struct_ir.specs.InstrViews.{instr_kind_view}
-use Rattle.struct_ir.specs.Linear.{instr_here, instr_next}
-use Rattle.struct_ir.specs.Instrs.{Instr}
 use Rattle.struct_ir.specs.ValidCode.{is_instr}
-use Rattle.flat_meaning.specs.Stages.{before_here}
-use Rattle.flat_meaning.specs.Local.{stop_before}
-use Rattle.flat_machine.specs.lemmas.Steps.{stands, in_range, look_fits, given_fits, step_fits, stops_before, stops_at_these, last_call, step_is_done, leave_is_done}
+use Rattle.flat_machine.specs.lemmas.Steps.{stands, in_range, look_fits, given_fits, step_fits, stops_before, stops_at_these, step_is_done, leave_is_done}
 use Rattle.flat_threads.specs.Contexts.{own_image}
 use Rattle.flat_threads.specs.Deeds.{top_of}
 use Rattle.flat_machine.proofs.shared.Shared.step.Goals as goal

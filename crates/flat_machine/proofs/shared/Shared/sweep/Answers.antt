@@ -1,4 +1,4 @@
-use Rattle.std.proofs.Common.{◌≡◌, ℕ, ◌+◌, ◌*◌, ◌≤◌, Bool, true, false, List, [], ◌++◌, length, take, map, Some, refl, sym, ap, ◌∙◌, subst, arith}
+use Rattle.std.proofs.Common.{◌≡◌, ℕ, ◌+◌, ◌*◌, ◌≤◌, false, List, ◌++◌, length, take, map, sym, ap, ◌∙◌, subst, arith}
 use Rattle.std.specs.Prelude.{flat_map, sum_by}
 use Rattle.std.specs.FinSet as set
 use Rattle.std.specs.Ordering.{nat_cmp}
@@ -14,7 +14,7 @@ use Rattle.defrag_move.specs.Moves.{after_plan}
 use Rattle.defrag_move.proofs.Places.{len-places_named}
 use Rattle.flat_machine.specs.Shares.{Shared}
 use Rattle.flat_machine.specs.Sweeping.{counted}
-use Rattle.flat_machine.specs.inner.Shares.{IsKept, made_view}
+use Rattle.flat_machine.specs.inner.Shares.{made_view}
 use Rattle.flat_machine.specs.inner.Swept.{handles_home, shared_slid}
 use Rattle.flat_machine.specs.contracts.shared.Shared.{the_view}
 use Rattle.flat_machine.proofs.Slid.{few_taken, parts_are, pinned_is, plan_keeps, slid_by_is}

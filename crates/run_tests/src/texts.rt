@@ -1,0 +1,141 @@
+use ak_io::{MemShelf, MemSink};
+use ak_words::NoMemory;
+use c_lex::Kind;
+use flat_meaning::{End, TrapKind};
+use run_edges::{TextRead, read_text, write_ending};
+use run_notes::{Status, fault_line, push_report, status_of};
+use run_report::{LastBarrier, Report};
+use std::alloc::Global;
+use std::process::Abort;
+use std::test::Fail;
+
+// The report of a main that ends at once.
+const SHORT_RUN: Report = Report {
+    threads: 1,
+    entries: 2,
+    barriers: 0,
+    moved_objects: 0,
+    moved_bytes: 0,
+    live_objects: 0,
+    live_bytes: 0,
+    extent: 0,
+    heap: 1_048_576,
+    last: None,
+};
+
+#[test]
+fn a_short_run(rt: HostRuntime) -> Result<(), Fail> {
+    let mut text = Vec::with_capacity(rt.alloc(), 1_024)?;
+    push_report(&mut text, End::Done(0), &SHORT_RUN);
+    assert!(rt;
+        text.as_slice()
+            == b"ended: done 0\nthreads: 1\nentries: 2\nbarriers: 0\nmoved: 0 objects, 0 bytes\nlive: 0 objects, 0 bytes\nextent: 0 of 1048576\nlast barrier: none\n".as_slice()
+    );
+    Ok(())
+}
+
+#[test]
+fn the_greatest_numbers(rt: HostRuntime) -> Result<(), Fail> {
+    let mut text = Vec::with_capacity(rt.alloc(), 1_024)?;
+    let most = u64::MAX;
+    let report = Report {
+        threads: u32::MAX,
+        entries: u32::MAX,
+        barriers: most,
+        moved_objects: most,
+        moved_bytes: most,
+        live_objects: u32::MAX,
+        live_bytes: most,
+        extent: most,
+        heap: most,
+        last: Some(LastBarrier {
+            before: most,
+            after: most,
+            room: most,
+        }),
+    };
+    push_report(&mut text, End::Trap(most, TrapKind::Store), &report);
+    assert_eq!(rt; text.len(), 373);
+    Ok(())
+}
+
+// The line of a status for a.c, whose text this is.
+fn has_line<R: Abort>(
+    rt: &R,
+    alloc: Global,
+    text: &[u8],
+    status: Status,
+    line: &[u8],
+) -> Result<(), NoMemory> {
+    assert!(rt; fault_line(alloc, "a.c", text, status)?.as_slice() == line);
+    Ok(())
+}
+
+#[test]
+fn lines(rt: HostRuntime) -> Result<(), Fail> {
+    let alloc = rt.alloc();
+    has_line(
+        &rt,
+        alloc,
+        b"",
+        Status::Usage,
+        b"usage: alaska FILE [options]\n",
+    )?;
+    has_line(
+        &rt,
+        alloc,
+        b"",
+        Status::ReadFault,
+        b"alaska: can't read a.c\n",
+    )?;
+    has_line(
+        &rt,
+        alloc,
+        b"",
+        Status::NoMemory,
+        b"alaska: out of memory\n",
+    )?;
+    let refused = Status::Refused(22, Kind::OutsideSubset(2));
+    let line = b"a.c:1:23: refused: OutsideSubset 2\n";
+    has_line(&rt, alloc, b"int main(void){return 1.5;}", refused, line)?;
+    Ok(())
+}
+
+// The first byte of the file of this name, where it was read to its end.
+fn first_byte(alloc: Global, shelf: &mut MemShelf, name: &str) -> Result<Option<u8>, NoMemory> {
+    match read_text(alloc, shelf, name)? {
+        TextRead::Whole(text) => Ok(text.first().copied()),
+        TextRead::Front(_) | TextRead::Fault => Ok(None),
+    }
+}
+
+#[test]
+fn a_file_that_is_read(rt: HostRuntime) -> Result<(), Fail> {
+    let mut files = Vec::new(rt.alloc());
+    let name = String::from_str(rt.alloc(), "a.c")?;
+    files.push((name, b"int".to_vec(rt.alloc())?))?;
+    let mut shelf = MemShelf::new(rt.alloc(), files, Vec::new(rt.alloc()))?;
+    let told = first_byte(rt.alloc(), &mut shelf, "a.c")?;
+    assert_eq!(rt; told, Some(b'i'));
+    let untold = first_byte(rt.alloc(), &mut shelf, "b.c")?;
+    assert_eq!(rt; untold, None);
+    Ok(())
+}
+
+#[test]
+fn an_out_that_fails(rt: HostRuntime) -> Result<(), Fail> {
+    let mut failing = Vec::new(rt.alloc());
+    failing.push(1)?;
+    let mut out = MemSink::new(rt.alloc(), 10, failing)?;
+    let mut note = MemSink::new(rt.alloc(), 10, Vec::new(rt.alloc()))?;
+    let status = write_ending(
+        status_of(End::Done(6)),
+        b"42\n",
+        b"told\n",
+        &mut out,
+        &mut note,
+    );
+    assert_eq!(rt; status, Status::WriteFault);
+    assert_eq!(rt; status.number(), 5);
+    Ok(())
+}
