@@ -2,3 +2,4 @@ pub mod Barriers
 pub mod Laws
 pub mod Attempts
 pub mod Journals
+pub mod Rows
