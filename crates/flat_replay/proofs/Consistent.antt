@@ -35,7 +35,7 @@ use Rattle.flat_machine.specs.lemmas.MachineIsFlat.{machine_is_flat}
 use Rattle.flat_machine.proofs.ActEvents.{act_is_its_event}
 use Rattle.flat_machine.proofs.BarrierEvents.{barrier_is_its_event}
 use Rattle.flat_simulation.proofs.Barriers.{after_all_agrees}
-use Rattle.flat_replay.proofs.Stops.{same_stop}
+use Rattle.flat_replay.proofs.Settings.{same_stop}
 
 -- ---- a step
 
@@ -69,7 +69,7 @@ module _ (code : LinearCode) (s : Shared) where
       act_is_its_event (image_of code s) (alone number stage) number stopped.most stopped.turns stage stop refl
       (length-set (replicate (length s.memory.threads) None) number (Some stage) ∙ none_yet)
       (own_at_set (replicate (length s.memory.threads) None) number (Some stage) (omega (arith, below, none_yet)))
-      (same_stop code s.output_limit h.count h.size h.most stopped.most stopped.turns stage ∙ ap (stop_at (own_image code) stopped.most stopped.turns) same ∙ stopped.stops)
+      (same_stop code s.output_limit h.count h.size h.most number stopped.most stopped.turns stage ∙ ap (stop_at (own_image code) stopped.most stopped.turns) same ∙ stopped.stops)
 
   effect_agrees : IsConsistent s.memory.storage → (number : ℕ) (stage : Stage Spot) (stop : Stop) → number < length s.memory.threads → HasStopped (own_image code) (Some stage) stop → IsConsistent (effect_if (image_of code s) number s.memory (Some stage) (Some stop)).memory.storage
   effect_agrees agree number stage stop below stopped =
@@ -147,8 +147,8 @@ module _ (code : LinearCode) (rules : Rules) where
     pub held : Held x
     pub agrees : Agrees x
 
-  keeps : (log : List Entry) (x : State Shared Context) (e : Entry) (y : State Shared Context) → Good x → step m rules x e ≡ Some y → Good y
-  keeps log x e y good st = record {
+  pub good_keeps : (log : List Entry) (x : State Shared Context) (e : Entry) (y : State Shared Context) → Good x → step m rules x e ≡ Some y → Good y
+  good_keeps log x e y good st = record {
     held = invariant_keeps m (IsSharedOf code) (IsContextOf code) rules (machine_is_flat code) log x e y good.held st;
     agrees = step_cases m rules x e y {R = Agrees y}
         (λ n. subst Agrees (sym n.is) good.agrees)
@@ -158,4 +158,4 @@ module _ (code : LinearCode) (rules : Rules) where
 
   pub all_good : (first : Shared) → IsOpened m (IsSharedOf code) first → IsConsistent first.memory.storage → (log : List Entry) (x : State Shared Context) → run m rules log (start m rules first) ≡ Some x → Good x
   all_good first opened agree log x ran =
-      run_keeps m rules (λ _ z. Good z) keeps [] log (start m rules first) x (record { held = starts m (IsSharedOf code) (IsContextOf code) rules (machine_is_flat code) first opened; agrees = agree }) ran
+      run_keeps m rules (λ _ z. Good z) good_keeps [] log (start m rules first) x (record { held = starts m (IsSharedOf code) (IsContextOf code) rules (machine_is_flat code) first opened; agrees = agree }) ran

@@ -1,4 +1,13 @@
-pub mod Stops
+pub mod Settings
 pub mod Consistent
 pub mod Barriers
 pub mod Loadable
+pub mod Segments
+pub mod LocalTurns
+pub mod Doings
+pub mod Entries
+pub mod Turned
+pub mod Serving
+pub mod Stages
+pub mod Told
+pub mod Journal

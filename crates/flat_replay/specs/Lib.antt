@@ -1,2 +1,5 @@
 pub mod Barriers
 pub mod Laws
+pub mod Attempts
+pub mod Journals
+pub mod Rows
