@@ -1,5 +1,5 @@
 -- What out and note took at the end of a call, and its status then.
-use Rattle.std.specs.Prelude.{◌≡◌, ℕ, ◌⊎◌, List, []}
+use Rattle.std.specs.Prelude.{◌≡◌, ◌≢◌, ℕ, ◌⊎◌, List, []}
 use Rattle.run_notes.specs.declared.status.Status.{Status}
 use Rattle.run_notes.specs.declared.status.Status.TheVariants as statuses
 use Rattle.run_edges.specs.Sinks.{Channel, Gained, GainedFront, WriteFailed}
@@ -15,8 +15,9 @@ pub record WroteAll (judged status : Status) (output line : List ℕ) (out note 
   pub out_gained : Gained out output
   pub note_gained : Gained note line
 
--- out failed, and nothing was written to note
+-- out was to take something and failed, and nothing was written to note
 pub record OutFailed (judged status : Status) (output line : List ℕ) (out note : Channel) : Type 0 where
+  pub some : output ≢ []
   pub status_is : status ≡ statuses.WriteFault
   pub fault : WriteFailed out
   pub out_gained : GainedFront out output

@@ -1,4 +1,4 @@
-ghost use Rattle.std.specs.Prelude.{◌≡◌, OnOk, OnErr};
+ghost use Rattle.std.specs.Prelude.{◌≡◌, ◌≢◌, [], OnOk, OnErr};
 ghost use Rattle.run_edges.specs.Sinks.{channel, Gained, GainedFront, WriteFailed};
 ghost use Rattle.run_edges.specs.Writing.{Written, after_note_fault};
 
@@ -8,6 +8,7 @@ use run_notes::Status;
 /// Writes the bytes to a sink, unless there are none.
 fn put<S: Sink>(sink: &mut S, bytes: &[u8]) -> Result<(), WriteFault>
     ensures ok { OnOk result (Gained (channel S.contents S.faults sink.old sink.new) bytes.now) }
+    ensures some { OnErr result (bytes.now ≢ []) }
     ensures cause { OnErr result (WriteFailed (channel S.contents S.faults sink.old sink.new)) }
     ensures front { OnErr result (GainedFront (channel S.contents S.faults sink.old sink.new) bytes.now) }
 {
