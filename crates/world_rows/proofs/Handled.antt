@@ -1,11 +1,9 @@
 -- What a pass has in hand behind a call.
 use Rattle.std.proofs.Common.{◌≡◌, ℕ, ◌||◌, Bool, true, false, cond, ap, sym, subst, ◌∙◌, refl}
-use Rattle.flat_meaning.specs.declared.endings.End.{End}
 use Rattle.turn_lock.specs.declared.lock.Pass.{Pass}
 use Rattle.turn_lock.specs.Locks.{seen_of, worker_of}
 use Rattle.flat_rules.specs.Machine.{Machine}
 use Rattle.flat_rules.specs.States.{Mood, free, asked}
-use Rattle.flat_rules.specs.Events.{mood_after}
 use Rattle.flat_rules.specs.Lawful.{IsFlat}
 use Rattle.world_rules.specs.declared.calls.Found.{Found}
 use Rattle.world_rules.specs.declared.calls.Found.TheVariants as found
@@ -13,9 +11,9 @@ use Rattle.world_rules.specs.declared.calls.Acted.{Acted}
 use Rattle.world_rules.specs.declared.calls.Acted.TheVariants as acted
 use Rattle.world_rules.specs.declared.calls.Call.TheVariants as call
 use Rattle.world_rules.specs.Whole.{Whole}
-use Rattle.world_rules.specs.Allowed.{ActedSays, FoundSays, IsOut, IsOver, MayCall, MovedOn}
+use Rattle.world_rules.specs.Allowed.{ActedSays, FoundSays, IsOut, MayCall}
 use Rattle.world_rules.specs.Sound.{MayWork}
-use Rattle.ak_world.specs.Turns.{Acts, ActedWorks, Finds, FoundWorks}
+use Rattle.ak_world.specs.Turns.{Acts, Finds, FoundWorks}
 use Rattle.ak_crew.proofs.Going as going
 use Rattle.world_rows.specs.declared.driving.Hand.{Hand}
 use Rattle.world_rows.specs.declared.driving.Hand.TheVariants as hands
@@ -35,11 +33,6 @@ hand_acted asks (acted.Busy c) = hands.Due c
 hand_acted asks (acted.WaitRoom c) = hands.Due c
 hand_acted asks acted.Ended = hands.Free
 hand_acted asks (acted.Over end) = hands.Over
-
-mood_more : (a more : Bool) → mood_after (mood_of a) more ≡ mood_of (a || more)
-mood_more true more = refl
-mood_more false true = refl
-mood_more false false = refl
 
 most_as : (a : Bool) → most_of a ≡ cond a 0 1024
 most_as true = refl
@@ -80,8 +73,9 @@ module _ {S K C : Type 0} (machine : K → Machine S C) (shared_of : K → S →
           by : (x : Acted C) → answer ≡ x → Holds machine shared_of context_of first (seen_of after) (worker_of after) (hand_acted a x)
           by (acted.Went e more) is = (
             subst (λ (z : K × Mood). IsOut machine first (seen_of after) (worker_of after) ((machine z.0).thread_of e) e z.1) (λ i. (code i, sym (mood_as (a || more)) i))
-              (going.out_next machine shared_of context_of flat first k code before c d a out_as may_work moved_as after answer acts e more (a || more) is refl),
-            subst (λ (z : K). MayWork machine shared_of context_of z e) code (going.works_next machine shared_of context_of flat first k code before c d a out_as may_work moved_as after answer acts e more is))
+                (going.out_next machine shared_of context_of flat first k code before c d a out_as may_work moved_as after answer acts e more (a || more) is refl),
+            subst (λ (z : K). MayWork machine shared_of context_of z e) code (going.works_next machine shared_of context_of flat first k code before c d a out_as may_work moved_as after answer acts e more is),
+          )
           by (acted.Rested e) is = going.rested_home machine shared_of context_of flat first k code before c d a out_as may_work moved_as after answer acts e is
           by (acted.Busy e) is = going.busy_home machine shared_of context_of flat first k code before c d a out_as may_work moved_as after answer acts e is
           by (acted.WaitRoom e) is = going.room_home machine shared_of context_of flat first k code before c d a out_as may_work moved_as after answer acts e is

@@ -79,7 +79,10 @@ fn go_on<F: Flat<Code, Context> + Drop, Code: Drop, Context: Drop, R: Wait>(
     let mut ctx = ctx;
     work_alone::<F, Code, Context>(code, &mut ctx, asked);
     match world.act(rt, pass, ctx) {
-        Acted::Went { ctx: next, come_home } => Hand::Out(next, asked || come_home),
+        Acted::Went {
+            ctx: next,
+            come_home,
+        } => Hand::Out(next, asked || come_home),
         Acted::Rested(next) => Hand::Due(next),
         Acted::Busy(next) => Hand::Due(next),
         Acted::WaitRoom(next) => Hand::Due(next),

@@ -36,8 +36,11 @@ pub fn run<R: Wait>(
     code: Code,
 ) -> Result<Option<Finished<Shared>>, NoMemory> {
     let program = Arc::new(alloc, Program::load(alloc, code)?)?;
-    let (world, mut passes) =
-        SharedWorld::<Shared, Program, Context>::open(alloc, program.clone()?, &settings())?;
+    let (world, mut passes) = SharedWorld::<Shared, Program, Context>::open(
+        alloc,
+        program.clone()?,
+        &settings(),
+    )?;
     if drive(rt, &*program, &world, &mut passes) {
         Ok(Some(world.finish(passes)))
     } else {
