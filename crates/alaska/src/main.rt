@@ -1,12 +1,13 @@
 //! The program `alaska FILE`: reads a C file, runs it over real files and streams, and ends with the status number.
 //! Promises nothing upward: it is the edge, and all that is proved is in alaska_run.
-//! Stands on alaska_run, ak_io and ak_words.
+//! Stands on alaska_run, ak_crew for a gate that holds nobody, ak_io and ak_words.
 #![tactic(auto)]
 
 ghost use Rattle.std.specs.Prelude.{◌≡◌};
 ghost use Rattle.std.specs.Process.{exit_status};
-ghost use Rattle.alaska_run.specs.Numbers.{number_of};
+ghost use Rattle.run_notes.specs.Statuses.{number_of};
 
+use ak_crew::NoGate;
 use ak_io::{FileShelf, OutSink, Sink};
 use ak_words::NoMemory;
 use alaska_run::{Status, alaska};
@@ -45,7 +46,7 @@ fn main(rt: HostRuntime) -> ExitCode {
         Ok(words) => {
             let mut shelf = FileShelf::new(&rt);
             let mut out = OutSink::new(rt.stdout());
-            alaska(&rt, alloc, &words, &mut shelf, &mut out, &mut note).status
+            alaska(&rt, alloc, &words, &mut shelf, &mut out, &mut note, &NoGate).status
         }
         Err(NoMemory) => {
             let _ = note.write_all(b"alaska: out of memory\n");

@@ -1,36 +1,5 @@
-mod Accesses
-mod Advances
-mod Answered
-mod Apart
-mod Calculations
-mod Carried
-mod Endings
-mod Firsts
-mod Freeing
-mod Frees
-mod Handles
-mod Homing
-mod Items
-mod Lifting
-mod Lists
-mod Lives
-mod Loads
-mod Locals
-mod Mallocs
-mod Names
-mod Outcomes
-mod Overwritten
-mod Placed
-mod Places
-mod Placing
-mod Reasons
-mod Runs
-mod Serving
-mod Simulated
-mod Sizes
-mod Starts
-mod Stores
-mod Tables
-mod Values
-mod Verdicts
-mod WorkedRows
+pub mod Runs
+pub mod Words
+pub mod Prepared
+pub mod Headlines
+pub mod Told

@@ -1,53 +1,56 @@
 -- When each status comes: only where it has its cause, and just there where nothing failed and memory sufficed.
-use Rattle.std.specs.Prelude.{◌≡◌, ℕ, ◌<◌, ◌≤◌, ◌⊎◌, List, length, Some, None, ℤ, Result, Ok, Err}
+use Rattle.std.specs.Prelude.{◌≡◌, ℕ, ◌<◌, ◌≤◌, ◌⊎◌, List, length, IsSome, Some, None}
 use Rattle.c_lex.specs.declared.refusal.Refusal.{Refusal}
+use Rattle.c_lex.specs.declared.refusal.Kind.{Kind}
 use Rattle.c_lex.specs.declared.refusal.Kind.TheVariants.{TooLong}
-use Rattle.alaska_run.specs.declared.status.Status.{Status}
-use Rattle.alaska_run.specs.declared.status.Status.TheVariants as statuses
-use Rattle.alaska_run.specs.declared.status.Trap.{Trap}
-use Rattle.second_language.specs.Trees.{File}
-use Rattle.alaska_run.specs.Language.{IsProgram, Refuses}
-use Rattle.alaska_run.specs.Flat.{machine_run}
-use Rattle.alaska_run.specs.Meant.{meaning}
-use Rattle.alaska_run.specs.Headline.{Shelved, Channel, ReadFailed, WriteFailed, most_bytes, file_of}
+use Rattle.c_tree.specs.Typed.{Typed}
+use Rattle.c_reader.specs.Reading.{Refuses}
+use Rattle.c_compile.specs.Built.{IsTreeOf}
+use Rattle.run_words.specs.Wanted.{Wanted, settings_today}
+use Rattle.run_notes.specs.declared.status.Status.{Status}
+use Rattle.run_notes.specs.declared.status.Status.TheVariants as statuses
+use Rattle.run_edges.specs.Files.{Shelved, ReadFailed, most_bytes}
+use Rattle.run_edges.specs.Sinks.{Channel, WriteFailed}
+use Rattle.alaska_run.specs.Ending.{Ending, WantedMemory}
+use Rattle.alaska_run.specs.Faults.{file_in, IsRefused}
 
--- no read of FILE failed, and no write
+-- no read of the file failed, and no write
 pub record NothingFailed (file : Shelved) (out note : Channel) : Type 0 where
   pub read : ReadFailed file → ⊥
   pub out_kept : WriteFailed out → ⊥
   pub note_kept : WriteFailed note → ⊥
 
--- the status is this one, unless memory was wanting
-abbrev pub IsUnlessMemory : Status → Status → Type 0
-IsUnlessMemory status wanted = (status ≡ wanted) ⊎ (status ≡ statuses.NoMemory)
-
--- the status of a run: the value that main ended with, or the trap
-abbrev pub ended_as : Result ℤ Trap → Status
-ended_as (Ok exit) = statuses.Done exit
-ended_as (Err trap) = statuses.Trap trap.word trap.kind
-
 -- what a status says of the words, the shelf and the sinks
-pub record Causes (words : List (List ℕ)) (file : List ℕ → Shelved) (out note : Channel) (status : Status) : Type 0 where
-  -- usage comes only where the words name no file
-  pub usage : status ≡ statuses.Usage → file_of words ≡ None
-  -- a fault of reading comes only where the count of FILE rose
-  pub read_fault : status ≡ statuses.ReadFault → (name : List ℕ) × (file_of words ≡ Some name) × ReadFailed (file name)
-  -- a fault of writing comes only where the count of a sink rose
-  pub write_fault : status ≡ statuses.WriteFault → WriteFailed out ⊎ WriteFailed note
+pub record Causes (words : List (List ℕ)) (file : List ℕ → Shelved) (out note : Channel) (e : Ending) : Type 0 where
+  -- usage comes only where the words are no settings
+  pub usage : e.status ≡ statuses.Usage → settings_today words ≡ None
+  -- a refusal only where the text is none of the subset, or too long
+  pub refused : (place : ℕ) (kind : Kind) → e.status ≡ statuses.Refused place kind → (name : List ℕ) × (file_in e.settings ≡ Some name) × IsRefused (file name) e.text place kind
+  -- a fault of reading only where the count of FILE rose
+  pub read_fault : e.status ≡ statuses.ReadFault → (name : List ℕ) × (file_in e.settings ≡ Some name) × ReadFailed (file name)
+  -- a fault of writing only where the count of a sink rose
+  pub write_fault : e.status ≡ statuses.WriteFault → WriteFailed out ⊎ WriteFailed note
 
--- what the words and the file's bytes say of the status, where nothing failed and memory sufficed
-pub record Answers (words : List (List ℕ)) (file : List ℕ → Shelved) (out note : Channel) (status : Status) : Type 0 where
-  -- words that name no file are usage
-  pub usage : file_of words ≡ None → (WriteFailed out → ⊥) → (WriteFailed note → ⊥) → IsUnlessMemory status statuses.Usage
-  -- a program of the language is run until it ends, or comes to a trap
-  pub ran : (name bytes : List ℕ) (f : File) → file_of words ≡ Some name → (file name).told ≡ Some bytes → length bytes ≤ most_bytes → IsProgram bytes f → NothingFailed (file name) out note
-      → IsUnlessMemory status (ended_as (machine_run bytes f).outcome)
-  -- and one that breaks no rule of C ends with the value that it means
-  pub done : (name bytes : List ℕ) (f : File) (exit : ℤ) → file_of words ≡ Some name → (file name).told ≡ Some bytes → length bytes ≤ most_bytes → IsProgram bytes f
-      → (meaning bytes f).outcome ≡ Ok exit → NothingFailed (file name) out note → IsUnlessMemory status (statuses.Done exit)
+-- the status is this one, unless memory was wanting before anything ran
+abbrev pub IsUnlessMemory : Ending → Status → Type 0
+IsUnlessMemory e status = (e.status ≡ status) ⊎ WantedMemory e
+
+-- the words name this file, the shelf tells its bytes, and nothing failed
+pub record IsTold (words : List (List ℕ)) (file : List ℕ → Shelved) (out note : Channel) (bytes : List ℕ) : Type 0 where
+  pub wanted : Wanted
+  pub name : List ℕ
+  pub words_are : settings_today words ≡ Some wanted
+  pub names : wanted.file ≡ Some name
+  pub told : (file name).told ≡ Some bytes
+  pub kept : NothingFailed (file name) out note
+
+-- what the words and the file's bytes say of the ending
+pub record Answers (words : List (List ℕ)) (file : List ℕ → Shelved) (out note : Channel) (e : Ending) : Type 0 where
+  -- words that are no settings are usage
+  pub usage : settings_today words ≡ None → (WriteFailed out → ⊥) → (WriteFailed note → ⊥) → IsUnlessMemory e statuses.Usage
+  -- a text of the subset is run
+  pub complete : (bytes : List ℕ) (typed : Typed) → IsTold words file out note bytes → length bytes ≤ most_bytes → IsTreeOf bytes typed → IsSome e.journal ⊎ WantedMemory e
   -- another text is refused, for the one reason that it has
-  pub refused : (name bytes : List ℕ) (r : Refusal) → file_of words ≡ Some name → (file name).told ≡ Some bytes → length bytes ≤ most_bytes → Refuses bytes r → NothingFailed (file name) out note
-      → IsUnlessMemory status (statuses.Refused r.place r.kind)
+  pub refused : (bytes : List ℕ) (r : Refusal) → IsTold words file out note bytes → length bytes ≤ most_bytes → Refuses bytes r → IsUnlessMemory e (statuses.Refused r.place r.kind)
   -- and so is one that is too long
-  pub too_long : (name bytes : List ℕ) → file_of words ≡ Some name → (file name).told ≡ Some bytes → most_bytes < length bytes → NothingFailed (file name) out note
-      → IsUnlessMemory status (statuses.Refused most_bytes TooLong)
+  pub too_long : (bytes : List ℕ) → IsTold words file out note bytes → most_bytes < length bytes → IsUnlessMemory e (statuses.Refused most_bytes TooLong)

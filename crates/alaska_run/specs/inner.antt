@@ -1,5 +1,2 @@
--- What only bodies use: nothing here has to be believed.
-pub mod Homes
-pub mod Machine
-pub mod Reading
-pub mod Verdict
+-- What only the bodies of this crate stand on.
+pub mod Courses

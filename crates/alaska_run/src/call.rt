@@ -1,183 +1,127 @@
-ghost use Rattle.std.specs.Prelude.{◌≡◌, ◌⊎◌, [], map, string_bytes, unwrap_or, length, ◌≤◌, None, IfOk};
-ghost use Rattle.alaska_run.specs.Answers.{Causes, Answers, ended_as};
-ghost use Rattle.alaska_run.specs.Headline.{file_of, channel, shelved, Headline};
-ghost use Rattle.alaska_run.specs.Lines.{line_of};
-ghost use Rattle.alaska_run.specs.inner.Verdict.{IsVerdict, IsOutcome, Tells};
+//! The call.
 
-use crate::compile::compile;
-use crate::laws::judge_each_text_once;
-use crate::lines::note_line;
-use crate::machine::run;
-use crate::reading::{MOST_BYTES, TextRead, read_text};
-use crate::status::{Ending, Status, Trap};
-use crate::words::file_name;
-use crate::writing::write_ending;
+ghost use Rattle.std.specs.Prelude.{◌≡◌, [], map, string_bytes, codes, Some, None};
+ghost use Rattle.run_words.specs.Wanted.{settings_today};
+ghost use Rattle.alaska_run.specs.Answers.{Causes, Answers};
+ghost use Rattle.alaska_run.specs.Ending.{ending_view};
+ghost use Rattle.alaska_run.specs.Headline.{Headline};
+ghost use Rattle.run_edges.specs.Files.{shelved};
+ghost use Rattle.run_edges.specs.Sinks.{channel};
+ghost use Rattle.run_edges.specs.Writing.{Written};
+
+use crate::ending::Ending;
+use crate::preparing::{Course, Stopped, prepare};
+use crate::running::{Ran, run_opened};
+use ak_crew::Gate;
 use ak_io::{Shelf, Sink};
 use ak_words::NoMemory;
-use c_lex::{CompileFault, Kind};
+use run_edges::write_ending;
+use run_notes::Status;
 use std::alloc::Global;
+use std::marker::Sync;
+use std::sync::Wait;
+use std::thread::Threads;
 
-/// What came of a text: the status, and what the program printed.
-#[derive(Drop)]
-pub struct Outcome {
-    pub status: Status,
-    pub output: Vec<u8>,
-}
-
-/// How a call ends before anything is written: its status, the text that was read, what the program printed, and
-/// the line for note.
-#[derive(Drop)]
-pub struct Verdict {
-    pub status: Status,
-    pub text: Vec<u8>,
-    pub output: Vec<u8>,
-    pub line: Vec<u8>,
-}
-
-// The status of a run.
-fn status_of_run(ending: Result<i32, Trap>) -> Status
-    ensures { result ≡ ended_as ending }
+// Writes what a run printed, and its report.
+fn end_run<O: Sink, N: Sink>(ran: Ran, out: &mut O, note: &mut N) -> Ending
+    ensures written { Written ran.status result.status ran.output.items ran.line.items (channel O.contents O.faults out.old out.new) (channel N.contents N.faults note.old note.new) }
+    ensures words { (result.settings ≡ Some ran.settings) × (result.text ≡ ran.text) }
+    ensures code { (result.checked ≡ Some ran.checked) × (result.code ≡ Some ran.code) }
+    ensures journal { result.journal ≡ Some ran.journal }
 {
-    match ending {
-        Ok(exit) => Status::Done(exit),
-        Err(Trap { word, kind }) => Status::Trap(word, kind),
-    }
-}
-
-// Compiles and runs a text.
-fn outcome_of(alloc: Global, text: &[u8]) -> Result<Outcome, NoMemory>
-    requires { length text.now ≤ 1048576 }
-    ensures { IfOk result (IsOutcome text.now) }
-{
-    match compile(alloc, text) {
-        Ok(program) => {
-            let ran = run(alloc, text, &program)?;
-            Ok(Outcome {
-                status: status_of_run(ran.ending),
-                output: ran.output,
-            })
-        }
-        Err(CompileFault::Refused(refusal)) => Ok(Outcome {
-            status: Status::Refused(refusal.place, refusal.kind),
-            output: Vec::new(alloc),
-        }),
-        Err(CompileFault::NoMemory) => Err(NoMemory),
-    }
-}
-
-// The verdict of a text and what came of it, with the line of its status.
-fn verdict_of(
-    alloc: Global,
-    name: &str,
-    text: Vec<u8>,
-    outcome: Outcome,
-) -> Result<Verdict, NoMemory>
-    ensures { IfOk result (λ v. Tells name.now text.items outcome v) }
-{
-    let line = note_line(alloc, name, &text, outcome.status)?;
-    Ok(Verdict {
-        status: outcome.status,
+    let Ran {
+        status,
+        settings,
         text,
-        output: outcome.output,
+        checked,
+        code,
+        journal,
+        output,
         line,
-    })
-}
-
-// The verdict of a text of which nothing was run.
-fn verdict_without_output(
-    alloc: Global,
-    name: &str,
-    text: Vec<u8>,
-    status: Status,
-) -> Result<Verdict, NoMemory>
-    ensures { IfOk result (λ v. (v.output.items ≡ []) × (v.status ≡ status) × (v.text.items ≡ text.items)
-        × (v.line.items ≡ line_of name.now text.items status)) }
-{
-    let output = Vec::new(alloc);
-    verdict_of(alloc, name, text, Outcome { status, output })
-}
-
-// Reads the words and the file, compiles the text and runs it. Nothing is written.
-fn judge<F: Shelf>(alloc: Global, words: &[String], shelf: &mut F) -> Result<Verdict, NoMemory>
-    ensures verdict { IfOk result (IsVerdict (file_of (map string_bytes words.now)) (shelved F.contents F.faults shelf.old shelf.new)) }
-    ensures uncalled { file_of (map string_bytes words.now) ≡ None → shelf.new ≡ shelf.old }
-{
-    let Some(name) = file_name(words) else {
-        return verdict_without_output(alloc, "", Vec::new(alloc), Status::Usage);
-    };
-    match read_text(alloc, shelf, name)? {
-        TextRead::Whole(text) => {
-            let outcome = outcome_of(alloc, &text)?;
-            verdict_of(alloc, name, text, outcome)
-        }
-        TextRead::Front(text) => {
-            let status = Status::Refused(MOST_BYTES as u32, Kind::TooLong);
-            verdict_without_output(alloc, name, text, status)
-        }
-        TextRead::Fault => {
-            verdict_without_output(alloc, name, Vec::new(alloc), Status::ReadFault)
-        }
+    } = ran;
+    Ending {
+        status: write_ending(status, &output, &line, out, note),
+        settings: Some(settings),
+        text,
+        checked: Some(checked),
+        code: Some(code),
+        journal: Some(journal),
     }
 }
 
-// Judges, and then writes.
-fn carry_out<F: Shelf, O: Sink, N: Sink>(
-    alloc: Global,
-    words: &[String],
-    shelf: &mut F,
-    out: &mut O,
-    note: &mut N,
-) -> Ending
-    ensures headline { Headline (map string_bytes words.now) (shelved F.contents F.faults shelf.old shelf.new)
-        (channel O.contents O.faults out.old out.new) (channel N.contents N.faults note.old note.new)
-        result.status result.text.items }
-    ensures uncalled { file_of (map string_bytes words.now) ≡ None → shelf.new ≡ shelf.old }
+// Writes why nothing ran.
+fn end_stopped<O: Sink, N: Sink>(stopped: Stopped, out: &mut O, note: &mut N) -> Ending
+    ensures written { Written stopped.status result.status [] stopped.line.items (channel O.contents O.faults out.old out.new) (channel N.contents N.faults note.old note.new) }
+    ensures words { (result.settings ≡ stopped.settings) × (result.text ≡ stopped.text) }
+    ensures code { (result.checked ≡ None) × (result.code ≡ None) }
+    ensures journal { result.journal ≡ None }
 {
-    match judge(alloc, words, shelf) {
-        Ok(verdict) => {
-            let status = write_ending(verdict.status, &verdict.output, &verdict.line, out, note);
-            let text = verdict.text;
-            Ending { status, text }
-        }
-        Err(NoMemory) => {
-            let line = b"alaska: out of memory\n";
-            let status = write_ending(Status::NoMemory, &[], line, out, note);
-            let text = Vec::new(alloc);
-            Ending { status, text }
-        }
+    let Stopped {
+        status,
+        settings,
+        text,
+        line,
+    } = stopped;
+    Ending {
+        status: write_ending(status, &[], &line, out, note),
+        settings,
+        text,
+        checked: None,
+        code: None,
+        journal: None,
     }
 }
 
-/// Reads FILE from the shelf, compiles it and runs it; then `out` takes what the program printed, in one piece, and
-/// `note` one line on how it ended. The words are the program's own name and FILE.
+// Writes that memory was wanting.
+fn end_without_memory<O: Sink, N: Sink>(alloc: Global, out: &mut O, note: &mut N) -> Ending
+    ensures written { Written Status.NoMemory result.status [] (codes "alaska: out of memory\n") (channel O.contents O.faults out.old out.new) (channel N.contents N.faults note.old note.new) }
+    ensures words { (result.settings ≡ None) × (result.text.items ≡ []) }
+    ensures code { (result.checked ≡ None) × (result.code ≡ None) }
+    ensures journal { result.journal ≡ None }
+{
+    Ending {
+        status: write_ending(Status::NoMemory, &[], b"alaska: out of memory\n", out, note),
+        settings: None,
+        text: Vec::new(alloc),
+        checked: None,
+        code: None,
+        journal: None,
+    }
+}
+
+/// Reads the words and FILE, compiles the text, and runs it with as many workers as the words say; then `out` takes what the program
+/// printed, in one piece, and `note` the report, or one line that tells why nothing ran. A worker goes through `gate` before each of its
+/// calls.
 ///
-/// What is written and how it ends is what the text means, up to the first rule of C that it breaks; each other
-/// status has its cause ([`Status`]). Where `out` fails, `note` is not written. The runtime starts no thread yet, and
-/// nothing is asked of it.
-pub fn alaska<R, F: Shelf, O: Sink, N: Sink>(
-    _rt: &R,
+/// Where `out` fails, `note` is not written. Once the world was opened no memory is taken.
+pub fn alaska<R: Threads + Wait + Sync, F: Shelf, O: Sink, N: Sink, G: Gate>(
+    rt: &R,
     alloc: Global,
     words: &[String],
     shelf: &mut F,
     out: &mut O,
     note: &mut N,
+    gate: &G,
 ) -> Ending
     // What was written, and how the call ended.
     ensures headline { Headline (map string_bytes words.now) (shelved F.contents F.faults shelf.old shelf.new)
-        (channel O.contents O.faults out.old out.new) (channel N.contents N.faults note.old note.new)
-        result.status result.text.items }
+        (channel O.contents O.faults out.old out.new) (channel N.contents N.faults note.old note.new) (ending_view result) }
 
     // Each status comes only where it has its cause.
     ensures causes { Causes (map string_bytes words.now) (shelved F.contents F.faults shelf.old shelf.new)
-        (channel O.contents O.faults out.old out.new) (channel N.contents N.faults note.old note.new) result.status }
+        (channel O.contents O.faults out.old out.new) (channel N.contents N.faults note.old note.new) (ending_view result) }
 
     // And it comes just there, where nothing failed and memory sufficed.
     ensures answers { Answers (map string_bytes words.now) (shelved F.contents F.faults shelf.old shelf.new)
-        (channel O.contents O.faults out.old out.new) (channel N.contents N.faults note.old note.new) result.status }
+        (channel O.contents O.faults out.old out.new) (channel N.contents N.faults note.old note.new) (ending_view result) }
 
-    // With words that name no file the shelf isn't called.
-    ensures uncalled { file_of (map string_bytes words.now) ≡ None → shelf.new ≡ shelf.old }
+    // With words that are no settings the shelf isn't called.
+    ensures uncalled { settings_today (map string_bytes words.now) ≡ None → shelf.new ≡ shelf.old }
 {
-    judge_each_text_once();
-    carry_out(alloc, words, shelf, out, note)
+    c_reader::laws::read_each_text_once();
+    match prepare(alloc, words, shelf) {
+        Ok(Course::Opened(opened)) => end_run(run_opened(rt, opened, gate), out, note),
+        Ok(Course::Stopped(stopped)) => end_stopped(stopped, out, note),
+        Err(NoMemory) => end_without_memory(alloc, out, note),
+    }
 }

@@ -1,23 +1,14 @@
 //! The public call `alaska`: from the words of a command line to what a C program writes and how it ends.
-//! Promises upward: what is written and how it ends is what the C text means, and each other status has its cause.
-//! Stands on ak_words, ak_io, c_lex, second_language, block_store, flat_store, handle_words, handle_table and sub_heaps.
+//! Promises upward: what is written and how it ended is what the run's journal replays to, on the text's own code; each other status has its cause.
+//! Stands on run_words for the words, on run_edges for the text, the statuses and the sinks, on c_compile, and on ak_crew over ak_world and flat_machine.
 #![tactic(auto)]
 
 mod call;
-mod compile;
-mod heap;
-mod laws;
-mod lines;
-mod machine;
-mod memory;
-mod reading;
-mod status;
-mod words;
-mod writing;
+mod ending;
+mod preparing;
+mod running;
 
 pub use call::alaska;
-pub use laws::{
-    bytes_stand_for_blocks, judge_each_text_once, machine_follows_the_meaning,
-    small_programs_mean_what_they_should,
-};
-pub use status::{Ending, Status, Trap, TrapKind};
+pub use ending::Ending;
+pub use flat_machine::{Mode, Settings, TrapKind};
+pub use run_notes::Status;

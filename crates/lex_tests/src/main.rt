@@ -1,30 +1,25 @@
-//! Prints the tokens of texts, with what they stand for and the bytes that they span, and where texts are refused in the second language.
+//! Prints the tokens of texts, with what they stand for and the bytes that they span, and where texts are refused.
 //! Promises nothing upward: it is a program, whose output is held against what was worked out by hand.
-//! Stands on c_lex and second_language.
+//! Stands on c_lex.
 #![tactic(auto)]
 
-ghost use Rattle.std.specs.Prelude.{◌≤◌, length, IfOk, List};
-ghost use Rattle.c_lex.specs.declared.token.Token.{Token as LexToken};
+ghost use Rattle.std.specs.Prelude.{◌≤◌, length, IfOk};
 ghost use Rattle.c_lex.specs.Tokens.{AreTokens};
-ghost use Rattle.second_language.specs.Views.{view};
-ghost use Rattle.second_language.specs.Language.{Spell};
 
 use ak_words::Num;
 use c_lex::{CompileFault, Token, TokenKind, lex, literal};
-use second_language::{Program, parse};
 use std::alloc::{AllocError, Global};
 use std::{fs, io};
 
 // The most bytes that a text may have.
 const MOST_BYTES: usize = 1_048_576;
 
-// The program of the second language that a text is, as the layer above asks for it.
-fn program_of(alloc: Global, text: &[u8]) -> Result<Program, CompileFault>
+// The tokens of a text, as the layer above asks for them.
+fn tokens_of(alloc: Global, text: &[u8]) -> Result<Vec<Token>, CompileFault>
     requires { length text.now ≤ 1048576 }
-    ensures { IfOk result (λ p. (ts : List LexToken) × AreTokens text.now ts × Spell text.now ts (view p)) }
+    ensures { IfOk result (λ tokens. AreTokens text.now tokens.items) }
 {
-    let tokens = lex(alloc, text)?;
-    parse(alloc, text, &tokens)
+    lex(alloc, text)
 }
 
 // The bytes of a row: two hexadecimal digits behind a backtick are a byte.
@@ -91,34 +86,26 @@ fn print_fault(rt: &HostRuntime, fault: CompileFault) -> io::Result<()> {
 }
 
 // Prints a row, and what comes of its text.
-fn show(rt: &HostRuntime, row: &str, is_second: bool) -> io::Result<()> {
+fn show(rt: &HostRuntime, row: &str) -> io::Result<()> {
     let alloc = rt.alloc();
     println!(rt; "{row}")?;
     let text = bytes_of(alloc, row)?;
     if text.len() > MOST_BYTES {
         return Err(io::Error::from(io::ErrorKind::InvalidData));
     }
-    if is_second {
-        return match program_of(alloc, &text) {
-            Ok(_) => println!(rt; "  a program"),
-            Err(fault) => print_fault(rt, fault),
-        };
-    }
-    match lex(alloc, &text) {
+    match tokens_of(alloc, &text) {
         Ok(tokens) => print_tokens(rt, &text, &tokens),
         Err(fault) => print_fault(rt, fault),
     }
 }
 
 fn main(rt: HostRuntime) -> io::Result<()> {
-    for name in ["tokens.txt", "second_language.txt"] {
-        let table = fs::read_to_string(&rt, name)?;
-        for row in table.lines() {
-            if row.starts_with("== ") {
-                println!(rt; "{row}")?;
-            } else {
-                show(&rt, row, name == "second_language.txt")?;
-            }
+    let table = fs::read_to_string(&rt, "tokens.txt")?;
+    for row in table.lines() {
+        if row.starts_with("== ") {
+            println!(rt; "{row}")?;
+        } else {
+            show(&rt, row)?;
         }
     }
     Ok(())

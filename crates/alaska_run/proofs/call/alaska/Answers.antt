@@ -1,8 +1,50 @@
-use Rattle.alaska_run.proofs.Answered.{causes, answers}
+use Rattle.std.proofs.Common.{◌≡◌, [], map, string_bytes, Some, ap, subst, ◌∙◌}
+use Rattle.std.specs.Option.{option_map}
+use Rattle.std.specs.Arc.{arc_value}
+use Rattle.pin_checker.specs.CheckedViews.{code_of}
+use Rattle.run_edges.specs.Files.{shelved}
+use Rattle.run_edges.specs.Sinks.{channel}
+use Rattle.run_edges.specs.Writing.{Written}
+use Rattle.alaska_run.specs.declared.preparing.Opened.{Opened}
+use Rattle.alaska_run.specs.declared.preparing.Stopped.{Stopped}
+use Rattle.alaska_run.specs.Ending.{ending_view}
+use Rattle.alaska_run.specs.inner.Courses.{IsCourse, IsOpened, IsStopped, HasRun}
+use Rattle.alaska_run.proofs.Headlines.{of_run, of_stopped}
+use Rattle.alaska_run.proofs.Told.{causes, answers}
 use Rattle.alaska_run.proofs.call.alaska.Goals as goal
 
-pub returns-clause-causes : goal.returns-clause-causes
-returns-clause-causes g c = causes _ _ _ _ _ _ c.carry_out.ensures.headline
+pub returns-in-Ok-Opened-clause-headline : goal.returns-in-Ok-Opened-clause-headline
+returns-in-Ok-Opened-clause-headline g c =
+    let words = map string_bytes c.args.words.now in
+    let file = shelved g.F.Shelf.contents g.F.Shelf.faults c.args.shelf.now c.prepare.new.shelf in
+    let o : IsOpened words file c.in-Ok-Opened.opened = subst (IsCourse words file) c.in-Ok-Opened.field-0-is c.in-Ok-Opened.ensures.course in
+    let r : HasRun c.in-Ok-Opened.opened c.run_opened.result = subst (λ (z : Opened). HasRun z c.run_opened.result) c.in-Ok-Opened.opened-is c.run_opened.ensures in
+    of_run words file (channel g.O.Sink.contents g.O.Sink.faults c.args.out.now c.end_run.new.out) (channel g.N.Sink.contents g.N.Sink.faults c.args.note.now c.end_run.new.note)
+    c.in-Ok-Opened.opened c.run_opened.result (ending_view c.end_run.result) o r
+    (c.end_run.ensures.words.0 ∙ ap (λ s. Some s) r.settings)
+    (ap (λ t. t.items) (c.end_run.ensures.words.1 ∙ r.text))
+    (ap (option_map code_of) (c.end_run.ensures.code.0 ∙ ap (λ z. Some z) r.checked))
+    (ap (option_map arc_value) (c.end_run.ensures.code.1 ∙ ap (λ z. Some z) r.code))
+    (ap (option_map (λ k. k.entries)) c.end_run.ensures.journal)
+    c.end_run.ensures.written
 
-pub returns-clause-answers : goal.returns-clause-answers
-returns-clause-answers g c = answers c.judge_each_text_once.ensures.one_program c.judge_each_text_once.ensures.not_both c.judge_each_text_once.ensures.one_reason _ _ _ _ _ _ c.carry_out.ensures.headline
+pub returns-in-Ok-Opened-clause-answers : goal.returns-in-Ok-Opened-clause-answers
+returns-in-Ok-Opened-clause-answers g c = answers _ _ _ _ _ (returns-in-Ok-Opened-clause-headline g c) c.read_each_text_once.ensures.not_both c.read_each_text_once.ensures.one_reason
+
+pub returns-in-Ok-Stopped-clause-headline : goal.returns-in-Ok-Stopped-clause-headline
+returns-in-Ok-Stopped-clause-headline g c =
+    let words = map string_bytes c.args.words.now in
+    let file = shelved g.F.Shelf.contents g.F.Shelf.faults c.args.shelf.now c.prepare.new.shelf in
+    let out = channel g.O.Sink.contents g.O.Sink.faults c.args.out.now c.end_stopped.new.out in
+    let note = channel g.N.Sink.contents g.N.Sink.faults c.args.note.now c.end_stopped.new.note in
+    let s : IsStopped words file c.in-Ok-Stopped.stopped = subst (IsCourse words file) c.in-Ok-Stopped.field-0-is c.in-Ok-Stopped.ensures.course in
+    let P : Stopped → Type 0 = λ z. Written z.status c.end_stopped.result.status [] z.line.items out note × (c.end_stopped.result.settings ≡ z.settings) × (c.end_stopped.result.text ≡ z.text) in
+    let w : P c.in-Ok-Stopped.stopped = subst P c.in-Ok-Stopped.stopped-is (c.end_stopped.ensures.written, c.end_stopped.ensures.words.0, c.end_stopped.ensures.words.1) in
+    of_stopped words file out note (ending_view c.end_stopped.result) (ap (option_map code_of) c.end_stopped.ensures.code.0) (ap (option_map arc_value) c.end_stopped.ensures.code.1)
+    (ap (option_map (λ k. k.entries)) c.end_stopped.ensures.journal) c.in-Ok-Stopped.stopped s w.1 (ap (λ t. t.items) w.2) w.0
+
+pub returns-in-Ok-Stopped-clause-causes : goal.returns-in-Ok-Stopped-clause-causes
+returns-in-Ok-Stopped-clause-causes g c = causes _ _ _ _ _ (returns-in-Ok-Stopped-clause-headline g c)
+
+pub returns-in-Ok-Stopped-clause-answers : goal.returns-in-Ok-Stopped-clause-answers
+returns-in-Ok-Stopped-clause-answers g c = answers _ _ _ _ _ (returns-in-Ok-Stopped-clause-headline g c) c.read_each_text_once.ensures.not_both c.read_each_text_once.ensures.one_reason

@@ -1,0 +1,1 @@
+int main(void){char *p=malloc(0);char *q=malloc(0);printf("%d\n",p==q);free(p);free(q);return 0;}

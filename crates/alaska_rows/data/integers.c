@@ -1,0 +1,1 @@
+int main(void){unsigned char c=300;printf("%d %u %d %d %d\n",c,0u-1u,-7/2,-7%2,-8>>1);return 0;}

@@ -1,0 +1,1 @@
+mtx_t m;int main(void){mtx_lock(&m);mtx_lock(&m);return 0;}

@@ -1,0 +1,1 @@
+int spin(void *v){while(1);return 0;}int main(void){thrd_t t;thrd_create(&t,spin,NULL);printf("hi\n");return 0;}

@@ -1,0 +1,1 @@
+int main(void){printf("hi\n");printf("yo\n");return 0;}

@@ -1,0 +1,135 @@
+//! Takes the call `alaska` through worked programs under their words, and prints what each wrote and how it ended.
+//! Promises nothing upward: it is a program, whose output is held against what was worked out by hand.
+//! Stands on alaska_run, over real files and sinks in memory.
+#![tactic(auto)]
+
+use ak_crew::NoGate;
+use ak_io::{FileShelf, MemSink};
+use ak_words::NoMemory;
+use alaska_run::alaska;
+use std::alloc::{AllocError, Global};
+use std::fs::Files;
+use std::io;
+use std::marker::Sync;
+use std::sync::Wait;
+use std::thread::Threads;
+
+// The most bytes that a sink in memory takes.
+const ROOM: usize = 1_000_000;
+
+// The words of a call behind the program's own name, and which lines of note are shown, by how they begin: all, or those that no order of
+// the workers changes.
+struct Row(&'static str, &'static str);
+
+const ROWS: [Row; 34] = [
+    Row("alaska nothing.c", "all"),
+    Row("alaska answer.c", "all"),
+    Row("alaska heap.c", "ended live"),
+    Row("alaska empty_objects.c", "ended live"),
+    Row(
+        "alaska fragments.c --subheap 4096 --subheaps 1",
+        "ended barriers moved live extent last",
+    ),
+    Row("alaska moves.c --every 1", "ended live"),
+    Row("alaska unset_pointer.c", "ended"),
+    Row("alaska reused_id.c --ids 1 --every 1", "ended barriers"),
+    Row("alaska dead_copy.c", "ended"),
+    Row("alaska two_arrays.c", "ended"),
+    Row("alaska counter.c --workers 2 --every 8", "ended threads"),
+    Row(
+        "alaska counter.c --workers 2 --every 8 --schedule 1",
+        "ended threads",
+    ),
+    Row(
+        "alaska counter.c --workers 2 --every 8 --schedule 7",
+        "ended threads",
+    ),
+    Row("alaska deadlock.c", "ended threads"),
+    Row("alaska lock_twice.c", "ended"),
+    Row("alaska deep_127.c", "ended"),
+    Row("alaska deep_128.c", "all"),
+    Row("alaska open_literal.c", "all"),
+    Row("alaska floating.c", "all"),
+    Row(
+        "alaska table.c --workers 3 --every 500",
+        "ended threads live",
+    ),
+    Row("alaska spinning.c", "ended"),
+    Row("alaska forever.c --entries 1000", "ended entries"),
+    Row("alaska empty.c", "all"),
+    Row("alaska absent.c", "all"),
+    Row("alaska", "all"),
+    Row("alaska answer.c --workers 0", "all"),
+    Row("alaska answer.c --subheap 5000", "all"),
+    Row("alaska --mode churn --seed 1", "all"),
+    Row("alaska null_store.c", "ended"),
+    Row("alaska double_free.c --ids 1", "ended"),
+    Row("alaska two_prints.c --output 4", "ended"),
+    Row("alaska endless_calls.c", "ended"),
+    Row("alaska large_local.c", "ended entries"),
+    Row("alaska integers.c", "ended"),
+];
+
+// The words between blanks.
+fn words_of(alloc: Global, row: &str) -> Result<Vec<String>, AllocError> {
+    let mut words = Vec::new(alloc);
+    for word in row.split(' ') {
+        words.push(String::from_str(alloc, word)?)?;
+    }
+    Ok(words)
+}
+
+// Whether a line begins with one of these words.
+fn is_shown(line: &str, words: &str) -> bool {
+    words == "all" || words.split(' ').any(|word| line.starts_with(word))
+}
+
+// The lines of note that are shown.
+fn show_lines(rt: &HostRuntime, note: &[u8], words: &str) -> io::Result<()> {
+    let text = str::from_utf8(note).unwrap_or("?");
+    for line in text.lines() {
+        if is_shown(line, words) {
+            println!(rt; "{line}")?;
+        }
+    }
+    Ok(())
+}
+
+// What a call wrote, and its status.
+#[derive(Drop)]
+struct Shown {
+    out: MemSink,
+    note: MemSink,
+    status: u8,
+}
+
+fn call<R: Threads + Wait + Sync + Files>(
+    rt: &R,
+    alloc: Global,
+    row: &str,
+) -> Result<Shown, NoMemory> {
+    let words = words_of(alloc, row)?;
+    let mut shelf = FileShelf::new(rt);
+    let mut out = MemSink::new(alloc, ROOM, Vec::new(alloc))?;
+    let mut note = MemSink::new(alloc, ROOM, Vec::new(alloc))?;
+    let ending = alaska(rt, alloc, &words, &mut shelf, &mut out, &mut note, &NoGate);
+    let status = ending.status.number();
+    Ok(Shown { out, note, status })
+}
+
+fn show(rt: &HostRuntime, row: &Row, shown: &Shown) -> io::Result<()> {
+    println!(rt; "> {}", row.0)?;
+    print!(rt; "{}", str::from_utf8(shown.out.bytes()).unwrap_or("?"))?;
+    show_lines(rt, shown.note.bytes(), row.1)?;
+    println!(rt; "status {}", shown.status)
+}
+
+fn main(rt: HostRuntime) -> io::Result<()> {
+    for row in &ROWS {
+        match call(&rt, rt.alloc(), row.0) {
+            Ok(shown) => show(&rt, row, &shown)?,
+            Err(NoMemory) => println!(rt; "no memory")?,
+        }
+    }
+    Ok(())
+}

@@ -1,0 +1,258 @@
+-- What the headline says of each status.
+use Rattle.std.proofs.Common.{◌≡◌, ◌≢◌, ℕ, ◌<◌, ◌≤◌, List, length, Option, Some, None, refl, sym, ap, subst, ◌∙◌, ◌⊎◌, inl, inr, arith}
+use Rattle.std.specs.Option.{option_map}
+use Rattle.ak_trace.specs.declared.entry.Entry.{Entry}
+use Rattle.c_lex.specs.declared.refusal.Refusal.{Refusal}
+use Rattle.c_lex.specs.declared.refusal.Kind.{Kind}
+use Rattle.c_lex.specs.declared.refusal.Kind.TheVariants.{TooLong}
+use Rattle.c_tree.specs.Typed.{Typed}
+use Rattle.c_reader.specs.Reading.{Refuses, NotBoth, OneReason}
+use Rattle.c_compile.specs.Built.{IsTreeOf}
+use Rattle.flat_meaning.specs.declared.endings.End.{End}
+use Rattle.flat_meaning.specs.declared.endings.End.TheVariants as ends
+use Rattle.flat_rules.specs.declared.settings.Settings.{Settings}
+use Rattle.run_words.specs.Wanted.{Wanted, settings_today, wanted_of}
+use Rattle.run_notes.specs.declared.status.Status.{Status}
+use Rattle.run_notes.specs.declared.status.Status.TheVariants as statuses
+use Rattle.run_notes.specs.Statuses.{status_of}
+use Rattle.run_edges.specs.Files.{Shelved, ReadFailed, IsWhole, most_bytes}
+use Rattle.run_edges.specs.Sinks.{Channel, WriteFailed}
+use Rattle.run_edges.specs.Writing.{after_note_fault}
+use Rattle.alaska_run.specs.Ending.{Ending, WantedMemory}
+use Rattle.alaska_run.specs.Faults.{file_in, IsFault, IsRefused}
+use Rattle.alaska_run.specs.Headline.{Headline, IsWithoutARun}
+use Rattle.alaska_run.specs.Answers.{Causes, Answers, IsUnlessMemory, IsTold}
+use Rattle.alaska_run.proofs.Headlines.{none_there, some_there}
+
+there_or_not : {A : Type 0} (o : Option A) → (o ≡ None) ⊎ ((a : A) × (o ≡ Some a))
+there_or_not None = inl refl
+there_or_not (Some a) = inr (a, refl)
+
+-- no end of a run is one of these
+not_usage : (end : End) → status_of end ≢ statuses.Usage
+not_usage (ends.Done exit) e = cc e
+not_usage (ends.Trap word kind) e = cc e
+not_usage ends.AllBlocked e = cc e
+not_usage ends.TurnLimit e = cc e
+not_usage ends.OutputLimit e = cc e
+not_usage (ends.StackLimit thread) e = cc e
+
+not_refused : (end : End) (place : ℕ) (kind : Kind) → status_of end ≢ statuses.Refused place kind
+not_refused (ends.Done exit) place kind e = cc e
+not_refused (ends.Trap word k) place kind e = cc e
+not_refused ends.AllBlocked place kind e = cc e
+not_refused ends.TurnLimit place kind e = cc e
+not_refused ends.OutputLimit place kind e = cc e
+not_refused (ends.StackLimit thread) place kind e = cc e
+
+not_read_fault : (end : End) → status_of end ≢ statuses.ReadFault
+not_read_fault (ends.Done exit) e = cc e
+not_read_fault (ends.Trap word kind) e = cc e
+not_read_fault ends.AllBlocked e = cc e
+not_read_fault ends.TurnLimit e = cc e
+not_read_fault ends.OutputLimit e = cc e
+not_read_fault (ends.StackLimit thread) e = cc e
+
+not_write_fault : (end : End) → status_of end ≢ statuses.WriteFault
+not_write_fault (ends.Done exit) e = cc e
+not_write_fault (ends.Trap word kind) e = cc e
+not_write_fault ends.AllBlocked e = cc e
+not_write_fault ends.TurnLimit e = cc e
+not_write_fault ends.OutputLimit e = cc e
+not_write_fault (ends.StackLimit thread) e = cc e
+
+-- a status after note failed is want of memory or a fault of writing
+after_note : (s : Status) → (after_note_fault s ≡ statuses.NoMemory) ⊎ (after_note_fault s ≡ statuses.WriteFault)
+after_note (statuses.Done exit) = inr refl
+after_note statuses.Usage = inr refl
+after_note (statuses.Refused place kind) = inr refl
+after_note statuses.ReadFault = inr refl
+after_note statuses.WriteFault = inr refl
+after_note (statuses.Trap word kind) = inr refl
+after_note statuses.AllBlocked = inr refl
+after_note statuses.TurnLimit = inr refl
+after_note statuses.OutputLimit = inr refl
+after_note (statuses.StackLimit thread) = inr refl
+after_note statuses.NoMemory = inl refl
+
+-- the file that plain settings name
+file_of_plain : (o : Option Settings) (w : Wanted) → option_map wanted_of o ≡ Some w → file_in o ≡ w.file
+file_of_plain None w e = cc e
+file_of_plain (Some s) w e = let same : wanted_of s ≡ w = cc e in ap (λ (z : Wanted). z.file) same
+
+plain_some : (o : Option Settings) (s : Settings) → o ≡ Some s → option_map wanted_of o ≡ None → ⊥
+plain_some o s is none = let z : Some (wanted_of s) ≡ None = sym (ap (option_map wanted_of) is) ∙ none in cc z
+
+plain_of_file : (o : Option Settings) (name : List ℕ) → file_in o ≡ Some name → option_map wanted_of o ≡ None → ⊥
+plain_of_file None name n e = cc n
+plain_of_file (Some s) name n e = cc e
+
+module _ (words : List (List ℕ)) (file : List ℕ → Shelved) (out note : Channel) (e : Ending) (h : Headline words file out note e) where
+  -- ---- with a run
+  module _ (log : List Entry) (l : e.journal ≡ Some log) where
+    abbrev end : End
+    end = (h.the_same_order log l).0
+
+    run_status : (e.status ≡ status_of end) ⊎ (e.status ≡ statuses.WriteFault)
+    run_status = h.how_it_ended log end (h.the_same_order log l).1 l (h.the_same_order log l).2
+
+    never : (s : Status) → ((end : End) → status_of end ≢ s) → s ≢ statuses.WriteFault → e.status ≡ s → ⊥
+    never s other not is = elim run_status [ inl a ↦ other end (sym a ∙ is) | inr b ↦ not (sym is ∙ b) ]
+
+    run_fault : e.status ≡ statuses.WriteFault → WriteFailed out ⊎ WriteFailed note
+    run_fault is = elim (h.what_it_wrote log end (h.the_same_order log l).1 l (h.the_same_order log l).2) [
+      | inl w ↦ absurd (not_write_fault end (sym w.status_is ∙ is))
+      | inr x ↦ elim x [ inl w ↦ inl w.fault | inr w ↦ inr w.fault ]
+    ]
+
+  -- ---- without one
+  module _ (none : e.journal ≡ None) where
+    abbrev w : IsWithoutARun words file out note e
+    w = h.without_a_run none
+
+    -- the status is the judged one, or note failed
+    judged : (e.status ≡ w.judged) ⊎ ((e.status ≡ after_note_fault w.judged) × WriteFailed note)
+    judged = elim w.written [ inl a ↦ inl a.status_is | inr x ↦ elim x [ inl a ↦ absurd (a.some refl) | inr a ↦ inr (a.status_is, a.fault) ] ]
+
+    judged_as : (s : Status) → s ≢ statuses.NoMemory → s ≢ statuses.WriteFault → e.status ≡ s → w.judged ≡ s
+    judged_as s other not is = elim judged [
+      | inl a ↦ sym a ∙ is
+      | inr b ↦ elim (after_note w.judged) [ inl m ↦ absurd (other (sym is ∙ b.0 ∙ m)) | inr m ↦ absurd (not (sym is ∙ b.0 ∙ m)) ]
+    ]
+
+    fault_at : (s : Status) → w.judged ≡ s → IsFault words file e.settings e.text s
+    fault_at s is = subst (λ (z : Status). IsFault words file e.settings e.text z) is w.fault
+
+    no_run_fault : e.status ≡ statuses.WriteFault → WriteFailed out ⊎ WriteFailed note
+    no_run_fault is = elim judged [ inl a ↦ absurd (fault_at statuses.WriteFault (sym a ∙ is)) | inr b ↦ inr b.1 ]
+
+  pub causes : Causes words file out note e
+  causes = record {
+    usage = λ is. elim (there_or_not e.journal) [
+      | inl n ↦ fault_at n statuses.Usage (judged_as n statuses.Usage (λ z. cc z) (λ z. cc z) is)
+      | inr l ↦ absurd (never l.0 l.1 statuses.Usage not_usage (λ z. cc z) is)
+    ];
+    refused = λ place kind is. elim (there_or_not e.journal) [
+      | inl n ↦ fault_at n (statuses.Refused place kind) (judged_as n (statuses.Refused place kind) (λ z. cc z) (λ z. cc z) is)
+      | inr l ↦ absurd (never l.0 l.1 (statuses.Refused place kind) (λ end. not_refused end place kind) (λ z. cc z) is)
+    ];
+    read_fault = λ is. elim (there_or_not e.journal) [
+      | inl n ↦ fault_at n statuses.ReadFault (judged_as n statuses.ReadFault (λ z. cc z) (λ z. cc z) is)
+      | inr l ↦ absurd (never l.0 l.1 statuses.ReadFault not_read_fault (λ z. cc z) is)
+    ];
+    write_fault = λ is. elim (there_or_not e.journal) [ inl n ↦ no_run_fault n is | inr l ↦ run_fault l.0 l.1 is ];
+  }
+
+  -- ---- where nothing failed
+
+  -- what holds of each cause but want of memory holds, or memory was wanting
+  module _ (kept : WriteFailed note → ⊥) (G : Type 0) (usage : e.status ≡ statuses.Usage → settings_today words ≡ None → G) (read : (name : List ℕ) → file_in e.settings ≡ Some name → ReadFailed (file name) → G)
+      (refused : (place : ℕ) (kind : Kind) → e.status ≡ statuses.Refused place kind → (name : List ℕ) → file_in e.settings ≡ Some name → IsRefused (file name) e.text place kind → G) where
+    by_cause : (none : e.journal ≡ None) (s : Status) → e.status ≡ s → IsFault words file e.settings e.text s → G ⊎ WantedMemory e
+    by_cause none statuses.Usage is f = inl (usage is f)
+    by_cause none statuses.ReadFault is f = inl (read f.0 f.1 f.2)
+    by_cause none (statuses.Refused place kind) is f = inl (refused place kind is f.0 f.1 f.2)
+    by_cause none statuses.NoMemory is f = inr (record { status = is; journal = none })
+    by_cause none (statuses.Done exit) is f = absurd f
+    by_cause none statuses.WriteFault is f = absurd f
+    by_cause none (statuses.Trap word kind) is f = absurd f
+    by_cause none statuses.AllBlocked is f = absurd f
+    by_cause none statuses.TurnLimit is f = absurd f
+    by_cause none statuses.OutputLimit is f = absurd f
+    by_cause none (statuses.StackLimit thread) is f = absurd f
+
+    caused : e.journal ≡ None → G ⊎ WantedMemory e
+    caused none = elim (judged none) [ inl a ↦ by_cause none (w none).judged a (w none).fault | inr b ↦ absurd (kept b.1) ]
+
+  -- the file is the one that the words name
+  module _ (bytes : List ℕ) (t : IsTold words file out note bytes) where
+    same_name : (name : List ℕ) → file_in e.settings ≡ Some name → (t.name ≡ name) ⊎ WantedMemory e
+    same_name name n = elim h.the_text.settings [
+      | inl a ↦ inl (let f : file_in e.settings ≡ Some t.name = file_of_plain e.settings t.wanted (a ∙ t.words_are) ∙ t.names in cc (sym f ∙ n))
+      | inr m ↦ inr m
+    ]
+
+    no_usage : settings_today words ≡ None → ⊥
+    no_usage none = let z : Some t.wanted ≡ None = sym t.words_are ∙ none in cc z
+
+    no_read : (name : List ℕ) → file_in e.settings ≡ Some name → ReadFailed (file name) → WantedMemory e
+    no_read name n failed = elim (same_name name n) [ inl s ↦ absurd (t.kept.read (subst (λ (z : List ℕ). ReadFailed (file z)) (sym s) failed)) | inr m ↦ m ]
+
+    is_bytes : (name : List ℕ) → t.name ≡ name → IsWhole (file name) e.text → e.text ≡ bytes
+    is_bytes name s whole = whole.whole bytes (subst (λ (z : List ℕ). (file z).told ≡ Some bytes) s t.told)
+
+    -- a run is of a text that was read whole, and has a tree
+    ran_whole : (log : List Entry) → e.journal ≡ Some log → (typed : Typed) × (e.text ≡ bytes) × IsTreeOf e.text typed × (length e.text ≤ most_bytes)
+    ran_whole log l = elim (there_or_not e.code) [
+      | inl n ↦ absurd (none_there e.code n (h.the_code.journal (some_there e.journal log l)))
+      | inr k ↦
+          let code = h.the_code.ran k.0 k.1 in
+          elim (same_name code.3.name code.3.names) [
+            | inl s ↦ (code.3.typed, is_bytes code.3.name s code.3.whole, code.3.built.tree, code.3.whole.short)
+            | inr m ↦ absurd (let z : Some log ≡ None = sym l ∙ m.journal in cc z)
+          ]
+    ]
+
+    -- a refusal of a text that is not too long
+    module _ (short : length bytes ≤ most_bytes) where
+      refused_bytes : (place : ℕ) (kind : Kind) (name : List ℕ) → file_in e.settings ≡ Some name → IsRefused (file name) e.text place kind → Refuses bytes (record { place = place; kind = kind }) ⊎ WantedMemory e
+      refused_bytes place kind name n (inl r) = elim (same_name name n) [
+        | inl s ↦ inl (subst (λ (z : List ℕ). Refuses z (record { place = place; kind = kind })) (is_bytes name s r.0) r.1)
+        | inr m ↦ inr m
+      ]
+      refused_bytes place kind name n (inr r) = elim (same_name name n) [
+        | inl s ↦ absurd (let long = r.0.longer bytes (subst (λ (z : List ℕ). (file z).told ≡ Some bytes) s t.told) in omega (arith, long))
+        | inr m ↦ inr m
+      ]
+
+    module _ (long : most_bytes < length bytes) where
+      refused_long : (place : ℕ) (kind : Kind) (name : List ℕ) → file_in e.settings ≡ Some name → IsRefused (file name) e.text place kind → ((place ≡ most_bytes) × (kind ≡ TooLong)) ⊎ WantedMemory e
+      refused_long place kind name n (inl r) = elim (same_name name n) [
+        | inl s ↦ absurd (let b = is_bytes name s r.0 in let short = r.0.short in omega (arith, short, ap length b))
+        | inr m ↦ inr m
+      ]
+      refused_long place kind name n (inr r) = inl (r.1, r.2)
+
+  plainly : settings_today words ≡ None → (name : List ℕ) → file_in e.settings ≡ Some name → IsUnlessMemory e statuses.Usage
+  plainly none name f = elim h.the_text.settings [ inl a ↦ absurd (plain_of_file e.settings name f (a ∙ none)) | inr m ↦ inr m ]
+
+  flat : {G : Type 0} → (G ⊎ WantedMemory e) ⊎ WantedMemory e → G ⊎ WantedMemory e
+  flat (inl x) = x
+  flat (inr m) = inr m
+
+  module _ (not_both : NotBoth) (one_reason : OneReason) where
+    pub answers : Answers words file out note e
+    answers = record {
+      usage = λ none out_kept note_kept. elim (there_or_not e.journal) [
+        | inl n ↦ flat (caused note_kept (IsUnlessMemory e statuses.Usage)
+            (λ is z. inl is)
+            (λ name f failed. plainly none name f)
+            (λ place kind is name f r. plainly none name f) n)
+        | inr l ↦ inr (elim h.the_text.settings [
+          | inl a ↦ absurd (let run = (h.the_same_order l.0 l.1).2 in plain_some e.settings run.settings run.has_settings (a ∙ none))
+          | inr m ↦ m
+        ])
+      ];
+      complete = λ bytes typed t short tree. elim (there_or_not e.journal) [
+        | inl n ↦ (let c = caused t.kept.note_kept (⊥ ⊎ WantedMemory e) (λ is z. absurd (no_usage bytes t z)) (λ name f failed. inr (no_read bytes t name f failed))
+            (λ place kind is name f r. elim (refused_bytes bytes t short place kind name f r) [ inl q ↦ absurd (not_both bytes tree.tokens typed _ tree.read q) | inr m ↦ inr m ]) n in
+            elim c [ inl d ↦ elim d [ inl z ↦ absurd z | inr m ↦ inr m ] | inr m ↦ inr m ])
+        | inr l ↦ inl (some_there e.journal l.0 l.1)
+      ];
+      refused = λ bytes r t short refuses. elim (there_or_not e.journal) [
+        | inl n ↦ flat (caused t.kept.note_kept (IsUnlessMemory e (statuses.Refused r.place r.kind)) (λ is z. absurd (no_usage bytes t z)) (λ name f failed. inr (no_read bytes t name f failed))
+            (λ place kind is name f q. elim (refused_bytes bytes t short place kind name f q) [
+              | inl p ↦ inl (is ∙ ap (λ (z : Refusal). statuses.Refused z.place z.kind) (one_reason bytes _ r p refuses))
+              | inr m ↦ inr m
+            ]) n)
+        | inr l ↦ (let x = ran_whole bytes t l.0 l.1 in absurd (not_both e.text x.2.tokens x.0 r x.2.read (subst (λ (z : List ℕ). Refuses z r) (sym x.1) refuses)))
+      ];
+      too_long = λ bytes t long. elim (there_or_not e.journal) [
+        | inl n ↦ flat (caused t.kept.note_kept (IsUnlessMemory e (statuses.Refused most_bytes TooLong)) (λ is z. absurd (no_usage bytes t z)) (λ name f failed. inr (no_read bytes t name f failed))
+            (λ place kind is name f q. elim (refused_long bytes t long place kind name f q) [
+              | inl p ↦ inl (is ∙ ap (λ (z : ℕ). statuses.Refused z kind) p.0 ∙ ap (λ (z : Kind). statuses.Refused most_bytes z) p.1)
+              | inr m ↦ inr m
+            ]) n)
+        | inr l ↦ (let x = ran_whole bytes t l.0 l.1 in let same = ap length x.1 in let short = x.3 in absurd (omega (arith, same, short, long)))
+      ];
+    }

@@ -1,0 +1,112 @@
+-- What comes of words and text before anything is written, and what a run comes to.
+use Rattle.std.specs.Prelude.{◌≡◌, ℕ, ◌≤◌, List, [], Option, Some, None, vec_len, vec_capacity}
+use Rattle.std.specs.Option.{option_map}
+use Rattle.std.specs.Arc.{arc_value}
+use Rattle.c_lex.specs.declared.refusal.Refusal.{Refusal}
+use Rattle.c_tree.specs.Typed.{Typed}
+use Rattle.c_reader.specs.Reading.{Refuses}
+use Rattle.c_compile.specs.Built.{IsBuilt}
+use Rattle.struct_ir.specs.Instrs.{LinearCode}
+use Rattle.pin_checker.specs.CheckedViews.{code_of}
+use Rattle.turn_lock.specs.Locks.{AllPasses, first_of, passes_of}
+use Rattle.flat_meaning.specs.declared.endings.End.{End}
+use Rattle.flat_rules.specs.declared.settings.Settings.{Settings}
+use Rattle.flat_rules.specs.Rules.{rules_of}
+use Rattle.flat_machine.specs.Shares.{Shared}
+use Rattle.flat_machine.specs.Start.{first_shared, settings_limits}
+use Rattle.flat_machine.specs.Replays.{Final, final_of}
+use Rattle.flat_threads.specs.Contexts.{Context}
+use Rattle.world_rules.specs.Whole.{Whole}
+use Rattle.run_words.specs.Wanted.{settings_today, wanted_of}
+use Rattle.alaska_run.specs.declared.preparing.Course.{Course}
+use Rattle.alaska_run.specs.declared.preparing.Course.TheVariants as courses
+use Rattle.alaska_run.specs.declared.preparing.Opened.{Opened}
+use Rattle.alaska_run.specs.declared.preparing.Stopped.{Stopped}
+use Rattle.alaska_run.specs.declared.running.Ran.{Ran}
+use Rattle.run_notes.specs.declared.status.Status.{Status}
+use Rattle.run_notes.specs.declared.status.Status.TheVariants as statuses
+use Rattle.alaska_run.specs.Faults.{file_in, name_in, IsFault}
+use Rattle.alaska_run.specs.Headline.{IsTextOf}
+use Rattle.run_notes.specs.Lines.{fault_line}
+use Rattle.run_edges.specs.Files.{Shelved, IsWhole}
+use Rattle.run_notes.specs.Reports.{report_text}
+use Rattle.run_notes.specs.Statuses.{status_of}
+
+-- a call that comes to no run
+pub record IsStopped (words : List (List ℕ)) (file : List ℕ → Shelved) (x : Stopped) : Type 0 where
+  pub settings : option_map wanted_of x.settings ≡ settings_today words
+  pub text : (name : List ℕ) → file_in x.settings ≡ Some name → IsTextOf (file name) x.text.items
+  pub none : x.settings ≡ None → x.text.items ≡ []
+  pub fault : IsFault words file x.settings x.text.items x.status
+  pub line : x.line.items ≡ fault_line (name_in x.settings) x.text.items x.status
+
+-- a world in which nothing of this code has run, under these settings
+pub record IsWorldOf (settings : Settings) (code : LinearCode) (first : Whole Shared LinearCode Context) : Type 0 where
+  pub code_is : first.code ≡ code
+  pub rules : first.settings ≡ rules_of settings
+  pub shared : first.shared ≡ first_shared code (settings_limits settings)
+
+-- what a run stands on
+pub record IsReady (x : Opened) : Type 0 where
+  pub world : IsWorldOf x.settings (arc_value x.code) (first_of x.world.lock)
+  pub count : vec_len x.passes ≡ passes_of x.world.lock
+  pub passes : AllPasses x.world.lock x.passes.items
+  pub empty : x.line.items ≡ []
+  pub room : 1024 ≤ vec_capacity x.line
+
+-- the text of FILE is compiled, and the world opened
+pub record IsOpened (words : List (List ℕ)) (file : List ℕ → Shelved) (x : Opened) : Type 0 where
+  pub settings : settings_today words ≡ Some (wanted_of x.settings)
+  pub name : List ℕ
+  pub names : (wanted_of x.settings).file ≡ Some name
+  pub whole : IsWhole (file name) x.text.items
+  pub typed : Typed
+  pub built : IsBuilt x.text.items typed (code_of x.checked) (arc_value x.code)
+  pub ready : IsReady x
+
+-- a call that comes to no run, with this status, of these settings and this text
+pub record IsStoppedWith (status : Status) (settings : Option Settings) (text : List ℕ) (x : Stopped) : Type 0 where
+  pub status_is : x.status ≡ status
+  pub settings_are : x.settings ≡ settings
+  pub text_is : x.text.items ≡ text
+  pub line : x.line.items ≡ fault_line (name_in settings) text status
+
+abbrev pub IsStoppedAs : Status → Option Settings → List ℕ → Course → Type 0
+IsStoppedAs status settings text (courses.Stopped x) = IsStoppedWith status settings text x
+IsStoppedAs status settings text (courses.Opened x) = ⊥
+
+-- the text is compiled and the world is opened, or it is none of the subset
+pub record IsOpenedOf (settings : Settings) (text : List ℕ) (x : Opened) : Type 0 where
+  pub settings_are : x.settings ≡ settings
+  pub text_is : x.text.items ≡ text
+  pub typed : Typed
+  pub built : IsBuilt text typed (code_of x.checked) (arc_value x.code)
+  pub ready : IsReady x
+
+pub record IsRefusedOf (settings : Settings) (text : List ℕ) (x : Stopped) : Type 0 where
+  pub reason : Refusal
+  pub refuses : Refuses text reason
+  pub stopped : IsStoppedWith (statuses.Refused reason.place reason.kind) (Some settings) text x
+
+abbrev pub IsCourseOf : Settings → List ℕ → Course → Type 0
+IsCourseOf settings text (courses.Stopped x) = IsRefusedOf settings text x
+IsCourseOf settings text (courses.Opened x) = IsOpenedOf settings text x
+
+-- what words and file come to
+abbrev pub IsCourse : (words : List (List ℕ)) → (List ℕ → Shelved) → Course → Type 0
+IsCourse words file (courses.Stopped x) = IsStopped words file x
+IsCourse words file (courses.Opened x) = IsOpened words file x
+
+-- a run of what was opened is over
+pub record HasRun (x : Opened) (r : Ran) : Type 0 where
+  pub settings : r.settings ≡ x.settings
+  pub text : r.text ≡ x.text
+  pub checked : r.checked ≡ x.checked
+  pub code : r.code ≡ x.code
+  pub end : End
+  pub final : Final
+  pub replays : final_of (arc_value x.code) x.settings r.journal.entries ≡ Some final
+  pub ended : final.end ≡ Some end
+  pub status : r.status ≡ status_of end
+  pub output : r.output.items ≡ final.output
+  pub line : r.line.items ≡ report_text end final.report

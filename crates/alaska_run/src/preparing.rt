@@ -1,0 +1,178 @@
+//! What comes before a run: the words, the text, its code, and the world that the workers share.
+
+ghost use Rattle.std.specs.Prelude.{◌≡◌, ◌≤◌, [], map, string_bytes, length, unwrap_or, option_map, IfOk, Some, None};
+ghost use Rattle.std.specs.Arc.{arc_value};
+ghost use Rattle.c_reader.specs.Reading.{Refuses};
+ghost use Rattle.c_tree.specs.TypedViews.{typed_view};
+ghost use Rattle.struct_ir.specs.LinearViews.{code_view};
+ghost use Rattle.pin_checker.specs.CheckedViews.{code_of};
+ghost use Rattle.c_compile.specs.Built.{IsBuilt};
+ghost use Rattle.run_words.specs.Wanted.{settings_today, wanted_of};
+ghost use Rattle.alaska_run.specs.Faults.{IsFault, name_in};
+ghost use Rattle.alaska_run.specs.Headline.{IsTextOf};
+ghost use Rattle.run_edges.specs.Files.{shelved};
+ghost use Rattle.alaska_run.specs.inner.Courses.{IsCourse, IsCourseOf, IsReady, IsStoppedAs};
+
+use ak_io::Shelf;
+use ak_words::NoMemory;
+use ak_world::{SharedWorld, World};
+use c_compile::{Built, compile};
+use c_lex::{CompileFault, Kind};
+use flat_machine::{Context, Program, Settings, Shared};
+use pin_checker::Checked;
+use run_edges::{MOST_BYTES, TextRead, read_text};
+use run_notes::{Status, fault_line};
+use run_words::read_settings;
+use std::alloc::Global;
+use std::sync::Arc;
+use struct_ir::linear::Code;
+use turn_lock::Pass;
+
+// How many bytes a report has at most.
+const REPORT_BYTES: usize = 1024;
+
+/// A call that comes to no run: its status, what the words said, the text, and the line for note.
+#[derive(Drop)]
+pub(crate) struct Stopped {
+    pub(crate) status: Status,
+    pub(crate) settings: Option<Settings>,
+    pub(crate) text: Vec<u8>,
+    pub(crate) line: Vec<u8>,
+}
+
+/// A run in which nothing has run, with all the memory that it can come to use.
+#[derive(Drop)]
+pub(crate) struct Opened {
+    pub(crate) settings: Settings,
+    pub(crate) text: Vec<u8>,
+    pub(crate) checked: Checked,
+    pub(crate) code: Arc<Program, Global>,
+    pub(crate) world: SharedWorld<Shared, Program, Context>,
+    pub(crate) passes: Vec<Pass<World<Shared, Program, Context>>>,
+    pub(crate) line: Vec<u8>,
+}
+
+/// What words and text come to.
+#[derive(Drop)]
+pub(crate) enum Course {
+    Stopped(Stopped),
+    Opened(Opened),
+}
+
+// The name that the settings give, or none.
+fn file_name(settings: &Settings) -> &str
+    ensures { result.now ≡ name_in (Some settings.now) }
+{
+    match &settings.file {
+        Some(name) => name.as_str(),
+        None => "",
+    }
+}
+
+// Words that are no settings.
+fn stopped_by_words(alloc: Global) -> Result<Course, NoMemory>
+    ensures { IfOk result (IsStoppedAs Status.Usage None []) }
+{
+    let text = Vec::new(alloc);
+    let line = fault_line(alloc, "", &text, Status::Usage)?;
+    Ok(Course::Stopped(Stopped {
+        status: Status::Usage,
+        settings: None,
+        text,
+        line,
+    }))
+}
+
+// A text that was not read, or is none of the subset.
+fn stop_with(
+    alloc: Global,
+    settings: Settings,
+    text: Vec<u8>,
+    status: Status,
+) -> Result<Course, NoMemory>
+    ensures { IfOk result (IsStoppedAs status (Some settings) text.items) }
+{
+    let line = fault_line(alloc, file_name(&settings), &text, status)?;
+    Ok(Course::Stopped(Stopped {
+        status,
+        settings: Some(settings),
+        text,
+        line,
+    }))
+}
+
+// The world for the code of a text.
+fn open_world(
+    alloc: Global,
+    settings: Settings,
+    text: Vec<u8>,
+    checked: Checked,
+    code: Code,
+) -> Result<Opened, NoMemory>
+    ensures ready { IfOk result IsReady }
+    ensures kept { IfOk result (λ x. (x.settings ≡ settings) × (x.text ≡ text) × (x.checked ≡ checked) × (arc_value x.code ≡ code_view code)) }
+{
+    let code = Arc::new(alloc, Program::load(alloc, code)?)?;
+    let (world, passes) = SharedWorld::open(alloc, Arc::clone(&code)?, &settings)?;
+    let line = Vec::with_capacity(alloc, REPORT_BYTES)?;
+    Ok(Opened {
+        settings,
+        text,
+        checked,
+        code,
+        world,
+        passes,
+        line,
+    })
+}
+
+// A text that was read whole.
+fn compile_text(alloc: Global, settings: Settings, text: Vec<u8>) -> Result<Course, NoMemory>
+    requires { length text.items ≤ 1048576 }
+    ensures { IfOk result (IsCourseOf settings text.items) }
+{
+    match compile(alloc, &text) {
+        Ok(
+            Built {
+                typed: _,
+                checked,
+                code,
+            },
+        ) => { Ok(Course::Opened(open_world(alloc, settings, text, checked, code)?)) }
+        Err(CompileFault::Refused(refusal)) => {
+            stop_with(
+                alloc,
+                settings,
+                text,
+                Status::Refused(refusal.place, refusal.kind),
+            )
+        }
+        Err(CompileFault::NoMemory) => Err(NoMemory),
+    }
+}
+
+/// Reads the words and the file, compiles the text and opens the world.
+pub(crate) fn prepare<F: Shelf>(
+    alloc: Global,
+    words: &[String],
+    shelf: &mut F,
+) -> Result<Course, NoMemory>
+    ensures course { IfOk result (IsCourse (map string_bytes words.now) (shelved F.contents F.faults shelf.old shelf.new)) }
+    ensures uncalled { settings_today (map string_bytes words.now) ≡ None → shelf.new ≡ shelf.old }
+{
+    let Some(settings) = read_settings(alloc, words)? else {
+        return stopped_by_words(alloc);
+    };
+    match read_text(alloc, shelf, file_name(&settings))? {
+        TextRead::Whole(text) => compile_text(alloc, settings, text),
+        TextRead::Front(text) => {
+            stop_with(
+                alloc,
+                settings,
+                text,
+                Status::Refused(MOST_BYTES as u32, Kind::TooLong),
+            )
+        }
+        TextRead::Fault => stop_with(alloc, settings, Vec::new(alloc), Status::ReadFault),
+    }
+}
