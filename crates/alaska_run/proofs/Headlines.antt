@@ -11,6 +11,7 @@ use Rattle.flat_meaning.specs.declared.endings.End.{End}
 use Rattle.flat_meaning.specs.declared.endings.End.TheVariants as ends
 use Rattle.flat_rules.specs.declared.settings.Settings.{Settings}
 use Rattle.flat_machine.specs.Replays.{Final, final_of}
+use Rattle.flat_replay.specs.Barriers.{BarriersKeep}
 use Rattle.run_words.specs.Wanted.{wanted_of}
 use Rattle.run_notes.specs.declared.status.Status.{Status}
 use Rattle.run_notes.specs.declared.status.Status.TheVariants as statuses
@@ -115,6 +116,15 @@ module _ (words : List (List ℕ)) (file : List ℕ → Shelved) (out note : Cha
       let a : Written (status_of h.end) e.status f.output (report_text h.end f.report) out note = subst (λ (z : Final). Written (status_of h.end) e.status z.output (report_text h.end z.report) out note) (same_final log end f l run) wrote in
       subst (λ (z : End). Written (status_of z) e.status f.output (report_text z f.report) out note) (same_end log end f l run) a
 
+  -- and its barriers keep objects
+  keeps : (log : List Entry) (end : End) (f : Final) → e.journal ≡ Some log → (run : IsRun e log end f) → BarriersKeep run.code run.settings log
+  keeps log end f l run =
+      let s : x.settings ≡ run.settings = cc (sym es ∙ run.has_settings) in
+      let k : arc_value x.code ≡ run.code = code_is run.code run.has_code in
+      let a : BarriersKeep (arc_value x.code) x.settings log = subst (λ (z : List Entry). BarriersKeep (arc_value x.code) x.settings z) (log_is log l) h.keeps in
+      let b : BarriersKeep run.code x.settings log = subst (λ (z : LinearCode). BarriersKeep z x.settings log) k a in
+      subst (λ (z : Settings). BarriersKeep run.code z log) s b
+
   pub of_run : Headline words file out note e
   of_run = record {
     the_text = record { settings = inl (ap (option_map wanted_of) es ∙ sym o.settings); text = text_of; none = λ n. absurd (let z : Some x.settings ≡ None = sym es ∙ n in cc z) };
@@ -127,6 +137,7 @@ module _ (words : List (List ℕ)) (file : List ℕ → Shelved) (out note : Cha
     what_it_wrote = wrote_of;
     without_a_run = λ none. absurd (let z : Some r.journal.entries ≡ None = sym ej ∙ none in cc z);
     how_it_ended = λ log end f l run. status_then end e.status f.output (report_text end f.report) out note (wrote_of log end f l run);
+    no_pinned_object_every_handle = keeps;
   }
 
 -- ---- no run
@@ -154,6 +165,7 @@ module _ (words : List (List ℕ)) (file : List ℕ → Shelved) (out note : Cha
         let there : P e.settings e.text = subst (λ (t : List ℕ). P e.settings t) (sym et) (subst (λ (o : Option Settings). P o x.text.items) (sym es) here) in
         record { judged = x.status; fault = there.0; written = there.1 };
     how_it_ended = λ log end f l run. absurd (no_log log l);
+    no_pinned_object_every_handle = λ log end f l run. absurd (no_log log l);
   }
 
   pub of_no_memory : e.settings ≡ None → e.text ≡ [] → Written statuses.NoMemory e.status [] (codes "alaska: out of memory\n") out note → Headline words file out note e
@@ -168,4 +180,5 @@ module _ (words : List (List ℕ)) (file : List ℕ → Shelved) (out note : Cha
     what_it_wrote = λ log end f l run. absurd (no_log log l);
     without_a_run = λ none. record { judged = statuses.NoMemory; fault = tt; written = w };
     how_it_ended = λ log end f l run. absurd (no_log log l);
+    no_pinned_object_every_handle = λ log end f l run. absurd (no_log log l);
   }

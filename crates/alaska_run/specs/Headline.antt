@@ -10,6 +10,7 @@ use Rattle.struct_ir.specs.Instrs.{LinearCode}
 use Rattle.flat_meaning.specs.declared.endings.End.{End}
 use Rattle.flat_rules.specs.declared.settings.Settings.{Settings}
 use Rattle.flat_machine.specs.Replays.{Final, final_of}
+use Rattle.flat_replay.specs.Barriers.{BarriersKeep}
 use Rattle.run_words.specs.Wanted.{settings_today, wanted_of}
 use Rattle.run_notes.specs.declared.status.Status.{Status}
 use Rattle.run_notes.specs.declared.status.Status.TheVariants as statuses
@@ -74,6 +75,12 @@ WhatItWrote out note e = (log : List Entry) (end : End) (f : Final) → e.journa
 abbrev pub HowItEnded : Ending → Type 0
 HowItEnded e = (log : List Entry) (end : End) (f : Final) → e.journal ≡ Some log → IsRun e log end f → (e.status ≡ status_of end) ⊎ (e.status ≡ statuses.WriteFault)
 
+-- ---- objects
+
+-- at each barrier of a run no pinned object moves, and the object of every id in use keeps its bytes, at the address that the table then has
+abbrev pub NoPinnedObjectEveryHandle : Ending → Type 0
+NoPinnedObjectEveryHandle e = (log : List Entry) (end : End) (f : Final) → e.journal ≡ Some log → (run : IsRun e log end f) → BarriersKeep run.code run.settings log
+
 -- ---- without a run
 
 -- nothing was printed, and note gained the one line that tells why, as far as it took it
@@ -96,3 +103,4 @@ pub record Headline (words : List (List ℕ)) (file : List ℕ → Shelved) (out
   pub what_it_wrote : WhatItWrote out note e
   pub without_a_run : WithoutARun words file out note e
   pub how_it_ended : HowItEnded e
+  pub no_pinned_object_every_handle : NoPinnedObjectEveryHandle e

@@ -31,6 +31,8 @@ pub(crate) fn run_opened<R: Threads + Wait + Sync, G: Gate>(rt: &R, opened: Open
     requires { IsReady opened }
     ensures { HasRun opened result }
 {
+    flat_replay::laws::barriers_of_a_run_keep_objects();
+    flat_replay::laws::small_programs_fit();
     let Opened {
         settings,
         text,

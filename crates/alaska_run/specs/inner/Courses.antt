@@ -7,6 +7,7 @@ use Rattle.c_tree.specs.Typed.{Typed}
 use Rattle.c_reader.specs.Reading.{Refuses}
 use Rattle.c_compile.specs.Built.{IsBuilt}
 use Rattle.struct_ir.specs.Instrs.{LinearCode}
+use Rattle.struct_ir.specs.Whole.{plain_bytes}
 use Rattle.pin_checker.specs.CheckedViews.{code_of}
 use Rattle.turn_lock.specs.Locks.{AllPasses, first_of, passes_of}
 use Rattle.flat_meaning.specs.declared.endings.End.{End}
@@ -15,7 +16,8 @@ use Rattle.flat_rules.specs.Rules.{rules_of}
 use Rattle.flat_machine.specs.Shares.{Shared}
 use Rattle.flat_machine.specs.Start.{first_shared, settings_limits}
 use Rattle.flat_machine.specs.Replays.{Final, final_of}
-use Rattle.flat_threads.specs.Contexts.{Context}
+use Rattle.flat_replay.specs.Barriers.{BarriersKeep}
+use Rattle.flat_threads.specs.Contexts.{Context, IsProgram}
 use Rattle.world_rules.specs.Whole.{Whole}
 use Rattle.run_words.specs.Wanted.{settings_today, wanted_of}
 use Rattle.alaska_run.specs.declared.preparing.Course.{Course}
@@ -48,6 +50,8 @@ pub record IsWorldOf (settings : Settings) (code : LinearCode) (first : Whole Sh
 
 -- what a run stands on
 pub record IsReady (x : Opened) : Type 0 where
+  pub program : IsProgram (arc_value x.code)
+  pub fits : plain_bytes (arc_value x.code).globals (arc_value x.code).literals ≤ 1048576
   pub world : IsWorldOf x.settings (arc_value x.code) (first_of x.world.lock)
   pub count : vec_len x.passes ≡ passes_of x.world.lock
   pub passes : AllPasses x.world.lock x.passes.items
@@ -107,6 +111,7 @@ pub record HasRun (x : Opened) (r : Ran) : Type 0 where
   pub final : Final
   pub replays : final_of (arc_value x.code) x.settings r.journal.entries ≡ Some final
   pub ended : final.end ≡ Some end
+  pub keeps : BarriersKeep (arc_value x.code) x.settings r.journal.entries
   pub status : r.status ≡ status_of end
   pub output : r.output.items ≡ final.output
   pub line : r.line.items ≡ report_text end final.report
