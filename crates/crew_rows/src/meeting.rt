@@ -11,6 +11,7 @@ const MOST_LOOKS: u32 = 1_000_000;
 const ACTS_ALONE: u64 = 50;
 
 // What a worker did so far: how often it came to the gate, whether its last call was an act, and how many acts it has made.
+#[derive(Drop)]
 struct Seat {
     came: AtomicU64,
     acting: AtomicU64,
@@ -37,6 +38,7 @@ impl Seat {
 
 /// A gate for two workers. In its first pause each is held until the other has come to its own first pause; and once one has made 50 acts,
 /// its next is held until the other has made one.
+#[derive(Drop)]
 pub struct Meeting {
     first: Seat,
     second: Seat,
