@@ -1,18 +1,29 @@
 -- What a journal that replays says of the machine.
-use Rattle.std.specs.Prelude.{◌≡◌, ◌≤◌, List, Some}
+use Rattle.std.specs.Prelude.{◌≡◌, ◌≤◌, List, length, Some}
 use Rattle.ak_trace.specs.declared.entry.Entry.{Entry}
+use Rattle.c_tree.specs.Typed.{Typed}
+use Rattle.c_tree.specs.TypedForm.{IsWellFormed}
+use Rattle.c_meaning.specs.Meaning as source
+use Rattle.struct_ir.specs.Nodes.{Ir}
+use Rattle.struct_ir.specs.Erased.{ir_erased}
 use Rattle.struct_ir.specs.Instrs.{LinearCode}
+use Rattle.struct_ir.specs.Lawful.{AllLawful}
 use Rattle.struct_ir.specs.Whole.{plain_bytes}
+use Rattle.emit_code.specs.Emitted.{IsEmitted}
+use Rattle.ir_meaning.specs.Start.{start}
+use Rattle.ir_meaning.specs.Threads.{program_of}
+use Rattle.lower_forms.specs.Programs.{lowered}
 use Rattle.flat_meaning.specs.Image.{linear_image}
-use Rattle.flat_meaning.specs.Simulation.{IsLoadable}
+use Rattle.flat_meaning.specs.Simulation.{IsLoadable, IsChecked}
 use Rattle.flat_rules.specs.declared.settings.Settings.{Settings}
 use Rattle.flat_rules.specs.States.{State}
 use Rattle.flat_threads.specs.Contexts.{Context, IsProgram}
-use Rattle.flat_machine.specs.Replays.{replay}
+use Rattle.flat_machine.specs.Replays.{replay, final_at}
 use Rattle.flat_machine.specs.Shares.{Shared}
 use Rattle.flat_machine.specs.Start.{settings_limits}
 use Rattle.flat_replay.specs.Barriers.{BarriersKeep}
 use Rattle.flat_replay.specs.Journals.{IsOfEvents}
+use Rattle.flat_replay.specs.Meaning.{IsMeaning}
 
 -- whatever the program, the settings and the rules of C that it broke
 abbrev pub BarriersOfARunKeepObjects : Type 0
@@ -27,3 +38,17 @@ SmallProgramsFit = (code : LinearCode) (s : Settings) → plain_bytes code.globa
 abbrev pub AJournalIsOfEvents : Type 0
 AJournalIsOfEvents =
     (code : LinearCode) (s : Settings) → IsProgram code → IsLoadable (linear_image code (settings_limits s)).layout → (log : List Entry) (x : State Shared Context) → replay code s log ≡ Some x → IsOfEvents code s log x
+
+-- ---- what a journal means
+
+-- a journal of checked code has the code's own meaning over named blocks
+abbrev pub JournalsOfCheckedCodeAreMeant : Type 0
+JournalsOfCheckedCodeAreMeant =
+    (p : Ir) → IsChecked p → (code : LinearCode) → IsEmitted p code → AllLawful code.funcs → IsProgram code → (s : Settings) (log : List Entry) (x : State Shared Context) → replay code s log ≡ Some x
+    → IsMeaning (program_of p) (start p) (λ t. length t.callers) log s (final_at code s log x)
+
+-- and so that of the program of which it is the code
+abbrev pub JournalsMeanTheSource : Type 0
+JournalsMeanTheSource =
+    (t : Typed) → IsWellFormed t → (p : Ir) → ir_erased p ≡ lowered t → IsChecked p → (code : LinearCode) → IsEmitted p code → AllLawful code.funcs → IsProgram code
+    → (s : Settings) (log : List Entry) (x : State Shared Context) → replay code s log ≡ Some x → IsMeaning (source.program t) (source.start t) (λ c. length c.callers) log s (final_at code s log x)

@@ -1,5 +1,6 @@
 pub mod Barriers
 pub mod Laws
 pub mod Attempts
+pub mod Meaning
 pub mod Journals
 pub mod Rows

@@ -14,6 +14,7 @@ use Rattle.flat_meaning.specs.Order.{order_of}
 use Rattle.flat_meaning.specs.Allowed.{AreAllowed}
 use Rattle.flat_meaning.specs.Simulation.{Simulates, UpToABreak, IsChecked}
 use Rattle.flat_meaning.specs.Emitted.{ComeToTheSame}
+use Rattle.flat_simulation.specs.LinearSteps.{Follows}
 
 -- whatever the limits: for events of a program's linear code there are events of its structured code that come to the same memory, end,
 -- order and attempts: in that threads may go on alone once more, past where a stack object begins or ends
@@ -23,12 +24,14 @@ EventsOfLinearCode =
     → (es : List Event) × ComeToTheSame (structured_image p limits) es (linear_image code limits) ds
 
 -- events of the structured code that come to the same; and unless one of the turns of linear code's events breaks a rule, the state after
--- them stands for the source's after those turns
+-- them stands for the source's after those turns, and what may come next of the linear code follows the source's
 pub record IsFollowed (p : Ir) (code : LinearCode) (limits : Limits) (ds : List Event) : Type 0 where
   pub events : List Event
   pub same : ComeToTheSame (structured_image p limits) events (linear_image code limits) ds
   pub simulates : UpToABreak (runs.run (program_of p) (start p) (order_of (linear_image code limits) ds (first_state (linear_image code limits))))
       (λ u. Simulates (structured_image p limits) p events u (after_all (structured_image p limits) events (first_state (structured_image p limits))))
+  pub follows : UpToABreak (runs.run (program_of p) (start p) (order_of (linear_image code limits) ds (first_state (linear_image code limits))))
+      (λ u. Follows (linear_image code limits) p u (after_all (linear_image code limits) ds (first_state (linear_image code limits))))
 
 -- so what holds of checked structured code holds of its linear code
 abbrev pub LinearCodeFollowsTurns : Type 0
