@@ -4,14 +4,21 @@ use Rattle.std.specs.Prelude.{IsSome}
 use Rattle.std.specs.Option.{option_map}
 use Rattle.std.specs.Arc.{arc_value}
 use Rattle.ak_trace.specs.declared.entry.Entry.{Entry}
-use Rattle.c_compile.specs.Built.{IsBuilt}
+use Rattle.c_tree.specs.Typed.{Typed}
+use Rattle.c_meaning.specs.Meaning.{program, start}
+use Rattle.c_reader.specs.Reading.{IsRead, OneTree}
+use Rattle.c_compile.specs.Built.{IsBuilt, IsTreeOf}
+use Rattle.struct_ir.specs.Nodes.{Ir}
 use Rattle.struct_ir.specs.Instrs.{LinearCode}
 use Rattle.pin_checker.specs.CheckedViews.{code_of}
 use Rattle.flat_meaning.specs.declared.endings.End.{End}
 use Rattle.flat_meaning.specs.declared.endings.End.TheVariants as ends
 use Rattle.flat_rules.specs.declared.settings.Settings.{Settings}
-use Rattle.flat_machine.specs.Replays.{Final, final_of}
+use Rattle.flat_machine.specs.Replays.{Final, final_at, final_of}
+use Rattle.flat_replay.specs.Accesses.{AccessesStay}
 use Rattle.flat_replay.specs.Barriers.{BarriersKeep}
+use Rattle.flat_replay.specs.Laws.{AccessesOfJournalsStay, JournalsMeanTheSource}
+use Rattle.flat_replay.specs.Meaning.{IsMeaning}
 use Rattle.run_words.specs.Wanted.{wanted_of}
 use Rattle.run_notes.specs.declared.status.Status.{Status}
 use Rattle.run_notes.specs.declared.status.Status.TheVariants as statuses
@@ -26,7 +33,7 @@ use Rattle.alaska_run.specs.declared.preparing.Stopped.{Stopped}
 use Rattle.alaska_run.specs.declared.running.Ran.{Ran}
 use Rattle.alaska_run.specs.Ending.{Ending}
 use Rattle.alaska_run.specs.Faults.{file_in, name_in, IsFault}
-use Rattle.alaska_run.specs.Headline.{Headline, IsTextOf, IsCodeOf, IsRun}
+use Rattle.alaska_run.specs.Headline.{Headline, IsTextOf, IsCodeOf, IsRun, depth}
 use Rattle.alaska_run.specs.inner.Courses.{IsStopped, IsOpened, HasRun}
 
 pub none_there : {A : Type 0} (o : Option A) → o ≡ None → IsSome o → ⊥
@@ -63,7 +70,8 @@ memory_then status line out note (inr (inr w)) = w.status_is
 
 module _ (words : List (List ℕ)) (file : List ℕ → Shelved) (out note : Channel) (x : Opened) (r : Ran) (e : Ending) (o : IsOpened words file x) (h : HasRun x r)
     (es : e.settings ≡ Some x.settings) (et : e.text ≡ x.text.items) (ec : e.checked ≡ Some (code_of x.checked)) (ek : e.code ≡ Some (arc_value x.code)) (ej : e.journal ≡ Some r.journal.entries)
-    (w : Written r.status e.status r.output.items r.line.items out note) where
+    (w : Written r.status e.status r.output.items r.line.items out note)
+    (meant : JournalsMeanTheSource) (stay : AccessesOfJournalsStay) (once : OneTree) where
   whole : IsWhole (file o.name) e.text
   whole = subst (λ (t : List ℕ). IsWhole (file o.name) t) (sym et) o.whole
 
@@ -88,7 +96,7 @@ module _ (words : List (List ℕ)) (file : List ℕ → Shelved) (out note : Cha
     code = arc_value x.code;
     has_settings = es;
     has_code = ek;
-    replays = subst (λ (z : List Entry). final_of (arc_value x.code) x.settings z ≡ Some h.final) (log_is log l) h.replays;
+    replays = subst (λ (z : List Entry). final_of (arc_value x.code) x.settings z ≡ Some h.final) (log_is log l) (ap (option_map (final_at (arc_value x.code) x.settings r.journal.entries)) h.leads ∙ ap (λ f. Some f) h.final_is);
     ended = h.ended;
   }
 
@@ -125,6 +133,39 @@ module _ (words : List (List ℕ)) (file : List ℕ → Shelved) (out note : Cha
       let b : BarriersKeep run.code x.settings log = subst (λ (z : LinearCode). BarriersKeep z x.settings log) k a in
       subst (λ (z : Settings). BarriersKeep run.code z log) s b
 
+  -- ---- what the text means
+
+  -- the text's tree is the one that was compiled
+  tree_is : (typed : Typed) → IsTreeOf e.text typed → o.typed ≡ typed
+  tree_is typed tree = sym (once x.text.items o.built.tree.tokens tree.tokens o.typed typed o.built.tree.read (subst (λ (t : List ℕ). IsRead t tree.tokens typed) et tree.read)).1
+
+  -- the run's journal means what that tree means
+  its_meaning : IsMeaning (program o.typed) (start o.typed) depth r.journal.entries x.settings h.final
+  its_meaning =
+      subst (IsMeaning (program o.typed) (start o.typed) depth r.journal.entries x.settings) h.final_is
+      (meant o.typed o.built.tree.well_formed (code_of x.checked) o.built.prepared.erased o.built.sound (arc_value x.code) o.built.emitted o.built.lawful o.ready.program x.settings r.journal.entries h.last h.leads)
+
+  -- so does any that is told of it
+  meaning : (typed : Typed) → IsTreeOf e.text typed → (log : List Entry) (end : End) (f : Final) → e.journal ≡ Some log → (run : IsRun e log end f) → IsMeaning (program typed) (start typed) depth log run.settings f
+  meaning typed tree log end f l run =
+      let s : x.settings ≡ run.settings = cc (sym es ∙ run.has_settings) in
+      let a : IsMeaning (program o.typed) (start o.typed) depth log x.settings h.final = subst (λ (z : List Entry). IsMeaning (program o.typed) (start o.typed) depth z x.settings h.final) (log_is log l) its_meaning in
+      let b : IsMeaning (program o.typed) (start o.typed) depth log x.settings f = subst (IsMeaning (program o.typed) (start o.typed) depth log x.settings) (same_final log end f l run) a in
+      let c : IsMeaning (program o.typed) (start o.typed) depth log run.settings f = subst (λ (z : Settings). IsMeaning (program o.typed) (start o.typed) depth log z f) s b in
+      subst (λ (t : Typed). IsMeaning (program t) (start t) depth log run.settings f) (tree_is typed tree) c
+
+  -- and its accesses stay in their objects
+  accesses : (log : List Entry) (end : End) (f : Final) → e.journal ≡ Some log → (run : IsRun e log end f) → (checked : Ir) → e.checked ≡ Some checked → AccessesStay checked run.code run.settings log
+  accesses log end f l run checked is =
+      let s : x.settings ≡ run.settings = cc (sym es ∙ run.has_settings) in
+      let k : arc_value x.code ≡ run.code = code_is run.code run.has_code in
+      let p : code_of x.checked ≡ checked = cc (sym ec ∙ is) in
+      let a : AccessesStay (code_of x.checked) (arc_value x.code) x.settings r.journal.entries = stay (code_of x.checked) o.built.sound (arc_value x.code) o.built.emitted o.built.lawful o.ready.program x.settings r.journal.entries h.last h.leads in
+      let b : AccessesStay (code_of x.checked) (arc_value x.code) x.settings log = subst (AccessesStay (code_of x.checked) (arc_value x.code) x.settings) (log_is log l) a in
+      let c : AccessesStay (code_of x.checked) run.code x.settings log = subst (λ (z : LinearCode). AccessesStay (code_of x.checked) z x.settings log) k b in
+      let d : AccessesStay (code_of x.checked) run.code run.settings log = subst (λ (z : Settings). AccessesStay (code_of x.checked) run.code z log) s c in
+      subst (λ (z : Ir). AccessesStay z run.code run.settings log) p d
+
   pub of_run : Headline words file out note e
   of_run = record {
     the_text = record { settings = inl (ap (option_map wanted_of) es ∙ sym o.settings); text = text_of; none = λ n. absurd (let z : Some x.settings ≡ None = sym es ∙ n in cc z) };
@@ -133,10 +174,13 @@ module _ (words : List (List ℕ)) (file : List ℕ → Shelved) (out note : Cha
       checked = λ z. some_there e.code _ ek;
       journal = λ z. some_there e.code _ ek;
     };
-    the_same_order = λ log l. (h.end, h.final, is_run log l);
+    the_same_order = record { replays = λ log l. (h.end, h.final, is_run log l); a_run = λ typed tree log end f l run. (meaning typed tree log end f l run).a_run };
     what_it_wrote = wrote_of;
     without_a_run = λ none. absurd (let z : Some r.journal.entries ≡ None = sym ej ∙ none in cc z);
     how_it_ended = λ log end f l run. status_then end e.status f.output (report_text end f.report) out note (wrote_of log end f l run);
+    what_the_text_means = λ typed tree log end f l run. (meaning typed tree log end f l run).clean;
+    up_to_the_first_rule = λ typed tree log end f l run. (meaning typed tree log end f l run).broken;
+    no_access_leaves_its_object = accesses;
     no_pinned_object_every_handle = keeps;
   }
 
@@ -157,7 +201,7 @@ module _ (words : List (List ℕ)) (file : List ℕ → Shelved) (out note : Cha
       none = λ n. et ∙ s.none (sym es ∙ n);
     };
     the_code = record { ran = λ code k. absurd (no_code code k); checked = λ z. absurd (none_there e.checked ec z); journal = λ z. absurd (none_there e.journal ej z) };
-    the_same_order = λ log l. absurd (no_log log l);
+    the_same_order = record { replays = λ log l. absurd (no_log log l); a_run = λ typed tree log end f l run. absurd (no_log log l) };
     what_it_wrote = λ log end f l run. absurd (no_log log l);
     without_a_run = λ none.
         let P : Option Settings → List ℕ → Type 0 = λ o t. IsFault words file o t x.status × Written x.status e.status [] (fault_line (name_in o) t x.status) out note in
@@ -165,6 +209,9 @@ module _ (words : List (List ℕ)) (file : List ℕ → Shelved) (out note : Cha
         let there : P e.settings e.text = subst (λ (t : List ℕ). P e.settings t) (sym et) (subst (λ (o : Option Settings). P o x.text.items) (sym es) here) in
         record { judged = x.status; fault = there.0; written = there.1 };
     how_it_ended = λ log end f l run. absurd (no_log log l);
+    what_the_text_means = λ typed tree log end f l run. absurd (no_log log l);
+    up_to_the_first_rule = λ typed tree log end f l run. absurd (no_log log l);
+    no_access_leaves_its_object = λ log end f l run. absurd (no_log log l);
     no_pinned_object_every_handle = λ log end f l run. absurd (no_log log l);
   }
 
@@ -176,9 +223,12 @@ module _ (words : List (List ℕ)) (file : List ℕ → Shelved) (out note : Cha
       none = λ n. et;
     };
     the_code = record { ran = λ code k. absurd (no_code code k); checked = λ z. absurd (none_there e.checked ec z); journal = λ z. absurd (none_there e.journal ej z) };
-    the_same_order = λ log l. absurd (no_log log l);
+    the_same_order = record { replays = λ log l. absurd (no_log log l); a_run = λ typed tree log end f l run. absurd (no_log log l) };
     what_it_wrote = λ log end f l run. absurd (no_log log l);
     without_a_run = λ none. record { judged = statuses.NoMemory; fault = tt; written = w };
     how_it_ended = λ log end f l run. absurd (no_log log l);
+    what_the_text_means = λ typed tree log end f l run. absurd (no_log log l);
+    up_to_the_first_rule = λ typed tree log end f l run. absurd (no_log log l);
+    no_access_leaves_its_object = λ log end f l run. absurd (no_log log l);
     no_pinned_object_every_handle = λ log end f l run. absurd (no_log log l);
   }

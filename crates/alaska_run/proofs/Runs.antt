@@ -28,10 +28,6 @@ replay_of code s first log x w leads =
     let c : P code (rules_of s) (first_shared code (settings_limits s)) = subst (λ shared. P code (rules_of s) shared) w.shared b in
     ap (option_and_then (settled (machine_of code) (rules_of s))) c ∙ ap (λ (due : List Entry). if length due == 0 then Some x else None) leads.settled
 
-pub final_of_run : (code : LinearCode) (s : Settings) (first : Whole Shared LinearCode Context) (log : List Entry) (x : State Shared Context)
-    → IsWorldOf s code first → Leads machine_of first log x → final_of code s log ≡ Some (final_at code s log x)
-final_of_run code s first log x w leads = ap (option_map (final_at code s log)) (replay_of code s first log x w leads)
-
 -- and ends as its last state does
 pub end_of_run : (code : LinearCode) (s : Settings) (first : Whole Shared LinearCode Context) (x : State Shared Context) (end : End)
     → IsWorldOf s code first → end_of (machine_of first.code) first.settings x ≡ Some end → end_of (machine_of code) (rules_of s) x ≡ Some end

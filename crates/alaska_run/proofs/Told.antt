@@ -91,16 +91,16 @@ module _ (words : List (List ℕ)) (file : List ℕ → Shelved) (out note : Cha
   -- ---- with a run
   module _ (log : List Entry) (l : e.journal ≡ Some log) where
     abbrev end : End
-    end = (h.the_same_order log l).0
+    end = (h.the_same_order.replays log l).0
 
     run_status : (e.status ≡ status_of end) ⊎ (e.status ≡ statuses.WriteFault)
-    run_status = h.how_it_ended log end (h.the_same_order log l).1 l (h.the_same_order log l).2
+    run_status = h.how_it_ended log end (h.the_same_order.replays log l).1 l (h.the_same_order.replays log l).2
 
     never : (s : Status) → ((end : End) → status_of end ≢ s) → s ≢ statuses.WriteFault → e.status ≡ s → ⊥
     never s other not is = elim run_status [ inl a ↦ other end (sym a ∙ is) | inr b ↦ not (sym is ∙ b) ]
 
     run_fault : e.status ≡ statuses.WriteFault → WriteFailed out ⊎ WriteFailed note
-    run_fault is = elim (h.what_it_wrote log end (h.the_same_order log l).1 l (h.the_same_order log l).2) [
+    run_fault is = elim (h.what_it_wrote log end (h.the_same_order.replays log l).1 l (h.the_same_order.replays log l).2) [
       | inl w ↦ absurd (not_write_fault end (sym w.status_is ∙ is))
       | inr x ↦ elim x [ inl w ↦ inl w.fault | inr w ↦ inr w.fault ]
     ]
@@ -229,7 +229,7 @@ module _ (words : List (List ℕ)) (file : List ℕ → Shelved) (out note : Cha
             (λ name f failed. plainly none name f)
             (λ place kind is name f r. plainly none name f) n)
         | inr l ↦ inr (elim h.the_text.settings [
-          | inl a ↦ absurd (let run = (h.the_same_order l.0 l.1).2 in plain_some e.settings run.settings run.has_settings (a ∙ none))
+          | inl a ↦ absurd (let run = (h.the_same_order.replays l.0 l.1).2 in plain_some e.settings run.settings run.has_settings (a ∙ none))
           | inr m ↦ m
         ])
       ];

@@ -1,16 +1,21 @@
 -- What a call of `alaska` promises, part by part: what it wrote and how it ended is what its journal replays to, on the text's own code and
 -- under the settings of its words.
-use Rattle.std.specs.Prelude.{◌≡◌, ℕ, ◌⊎◌, List, [], IsSome, Some, None}
+use Rattle.std.specs.Prelude.{◌≡◌, ◌≢◌, ℕ, ◌⊎◌, List, [], length, IsSome, Some, None}
 use Rattle.std.specs.Option.{option_map}
 use Rattle.ak_trace.specs.declared.entry.Entry.{Entry}
+use Rattle.block_store.specs.Runs.{no_run}
 use Rattle.c_tree.specs.Typed.{Typed}
-use Rattle.c_compile.specs.Built.{IsBuilt}
+use Rattle.c_meaning.specs.Control.{Control}
+use Rattle.c_meaning.specs.Meaning.{program, start}
+use Rattle.c_compile.specs.Built.{IsBuilt, IsTreeOf}
 use Rattle.struct_ir.specs.Nodes.{Ir}
 use Rattle.struct_ir.specs.Instrs.{LinearCode}
 use Rattle.flat_meaning.specs.declared.endings.End.{End}
 use Rattle.flat_rules.specs.declared.settings.Settings.{Settings}
 use Rattle.flat_machine.specs.Replays.{Final, final_of}
+use Rattle.flat_replay.specs.Accesses.{AccessesStay}
 use Rattle.flat_replay.specs.Barriers.{BarriersKeep}
+use Rattle.flat_replay.specs.Meaning.{whole_run, IsClean, IsFirstBreak, IsAsMeant, IsUpToABreak}
 use Rattle.run_words.specs.Wanted.{settings_today, wanted_of}
 use Rattle.run_notes.specs.declared.status.Status.{Status}
 use Rattle.run_notes.specs.declared.status.Status.TheVariants as statuses
@@ -63,9 +68,18 @@ pub record IsRun (e : Ending) (log : List Entry) (end : End) (f : Final) : Type 
   pub replays : final_of code settings log ≡ Some f
   pub ended : f.end ≡ Some end
 
--- a journal that is there is
-abbrev pub TheSameOrder : Ending → Type 0
-TheSameOrder e = (log : List Entry) → e.journal ≡ Some log → (end : End) × (f : Final) × IsRun e log end f
+-- what is said of each typed tree of the text, of which there is one, and of a journal that is there, with the settings and its last state
+abbrev pub OfTheText : Ending → (Typed → List Entry → Settings → Final → Type 0) → Type 0
+OfTheText e Says = (typed : Typed) → IsTreeOf e.text typed → (log : List Entry) (end : End) (f : Final) → e.journal ≡ Some log → (run : IsRun e log end f) → Says typed log run.settings f
+
+-- how many calls of a thread of the source wait
+abbrev pub depth : Control → ℕ
+depth c = length c.callers
+
+-- a journal that is there is that of a run; and the text has a run of its order, told its answers
+pub record TheSameOrder (e : Ending) : Type 0 where
+  pub replays : (log : List Entry) → e.journal ≡ Some log → (end : End) × (f : Final) × IsRun e log end f
+  pub a_run : OfTheText e (λ typed log s f. (turns : ℕ) → whole_run (program typed) (start typed) depth log ≢ no_run turns)
 
 -- out gained just what the run printed, and note its report, as far as the sinks took them
 abbrev pub WhatItWrote : (out note : Channel) → Ending → Type 0
@@ -75,7 +89,21 @@ WhatItWrote out note e = (log : List Entry) (end : End) (f : Final) → e.journa
 abbrev pub HowItEnded : Ending → Type 0
 HowItEnded e = (log : List Entry) (end : End) (f : Final) → e.journal ≡ Some log → IsRun e log end f → (e.status ≡ status_of end) ⊎ (e.status ≡ statuses.WriteFault)
 
+-- ---- what the text means
+
+-- where a journal is clean, what was printed is the output of the text's run of its order, and the end is that of the table
+abbrev pub WhatTheTextMeans : Ending → Type 0
+WhatTheTextMeans e = OfTheText e (λ typed log s f. IsClean (program typed) (start typed) depth log f.end → IsAsMeant (program typed) (start typed) depth log s f)
+
+-- where a rule of C is broken first after so many turns, the output of the text's run of these is what was printed first
+abbrev pub UpToTheFirstRule : Ending → Type 0
+UpToTheFirstRule e = OfTheText e (λ typed log s f. (turns : ℕ) → IsFirstBreak (program typed) (start typed) depth log f.end turns → IsUpToABreak (program typed) (start typed) depth log turns f)
+
 -- ---- objects
+
+-- up to the first rule that is broken each byte that a step reads or writes is of a block, at an offset, that the source's turn reaches
+abbrev pub NoAccessLeavesItsObject : Ending → Type 0
+NoAccessLeavesItsObject e = (log : List Entry) (end : End) (f : Final) → e.journal ≡ Some log → (run : IsRun e log end f) → (checked : Ir) → e.checked ≡ Some checked → AccessesStay checked run.code run.settings log
 
 -- at each barrier of a run no pinned object moves, and the object of every id in use keeps its bytes, at the address that the table then has
 abbrev pub NoPinnedObjectEveryHandle : Ending → Type 0
@@ -103,4 +131,7 @@ pub record Headline (words : List (List ℕ)) (file : List ℕ → Shelved) (out
   pub what_it_wrote : WhatItWrote out note e
   pub without_a_run : WithoutARun words file out note e
   pub how_it_ended : HowItEnded e
+  pub what_the_text_means : WhatTheTextMeans e
+  pub up_to_the_first_rule : UpToTheFirstRule e
+  pub no_access_leaves_its_object : NoAccessLeavesItsObject e
   pub no_pinned_object_every_handle : NoPinnedObjectEveryHandle e

@@ -119,6 +119,8 @@ pub fn alaska<R: Threads + Wait + Sync, F: Shelf, O: Sink, N: Sink, G: Gate>(
     ensures uncalled { settings_today (map string_bytes words.now) ≡ None → shelf.new ≡ shelf.old }
 {
     c_reader::laws::read_each_text_once();
+    flat_replay::laws::journals_mean_the_source();
+    flat_replay::laws::accesses_of_journals_stay();
     match prepare(alloc, words, shelf) {
         Ok(Course::Opened(opened)) => end_run(run_opened(rt, opened, gate), out, note),
         Ok(Course::Stopped(stopped)) => end_stopped(stopped, out, note),

@@ -11,3 +11,4 @@ pub mod Serving
 pub mod Stages
 pub mod Told
 pub mod Journal
+pub mod Accesses

@@ -22,6 +22,7 @@ use Rattle.flat_machine.specs.Replays.{replay, final_at}
 use Rattle.flat_machine.specs.Shares.{Shared}
 use Rattle.flat_machine.specs.Start.{settings_limits}
 use Rattle.flat_replay.specs.Barriers.{BarriersKeep}
+use Rattle.flat_replay.specs.Accesses.{AccessesStay}
 use Rattle.flat_replay.specs.Journals.{IsOfEvents}
 use Rattle.flat_replay.specs.Meaning.{IsMeaning}
 
@@ -52,3 +53,10 @@ abbrev pub JournalsMeanTheSource : Type 0
 JournalsMeanTheSource =
     (t : Typed) → IsWellFormed t → (p : Ir) → ir_erased p ≡ lowered t → IsChecked p → (code : LinearCode) → IsEmitted p code → AllLawful code.funcs → IsProgram code
     → (s : Settings) (log : List Entry) (x : State Shared Context) → replay code s log ≡ Some x → IsMeaning (source.program t) (source.start t) (λ c. length c.callers) log s (final_at code s log x)
+
+-- ---- accesses
+
+-- of checked code: unless a rule was broken before, no step of a journal reads or writes a byte outside the blocks that its turn reaches
+abbrev pub AccessesOfJournalsStay : Type 0
+AccessesOfJournalsStay =
+    (p : Ir) → IsChecked p → (code : LinearCode) → IsEmitted p code → AllLawful code.funcs → IsProgram code → (s : Settings) (log : List Entry) (x : State Shared Context) → replay code s log ≡ Some x → AccessesStay p code s log

@@ -1,6 +1,6 @@
 -- What a run over named blocks says of a journal: which rule of C is broken first; and where none is, what was printed and how it ended.
 -- Of any program of threads: of the source, and of its code.
-use Rattle.std.specs.Prelude.{◌≡◌, ◌≢◌, ℕ, suc, ◌+◌, ◌<◌, ◌⊎◌, ℤ, List, [], ◌∷◌, ◌++◌, All, Any, length, take, slice_get, Option, Some, None}
+use Rattle.std.specs.Prelude.{◌≡◌, ◌≢◌, ℕ, suc, ◌+◌, ◌<◌, ◌⊎◌, ℤ, List, [], ◌∷◌, All, Any, length, take, slice_get, Option, Some, None}
 use Rattle.ak_words.specs.declared.rule.Rule.{Rule}
 use Rattle.ak_words.specs.IntType.{int}
 use Rattle.ak_words.specs.Num.{num}

@@ -3,7 +3,7 @@
 ghost use Rattle.std.specs.Prelude.{◌≡◌};
 ghost use Rattle.ak_trace.specs.Rows.{full_journal};
 ghost use Rattle.flat_replay.specs.Attempts.{attempts_from};
-ghost use Rattle.flat_replay.specs.Laws.{AJournalIsOfEvents, BarriersOfARunKeepObjects, SmallProgramsFit};
+ghost use Rattle.flat_replay.specs.Laws.{AJournalIsOfEvents, AccessesOfJournalsStay, BarriersOfARunKeepObjects, SmallProgramsFit};
 ghost use Rattle.flat_replay.specs.Rows.{full_attempts};
 
 /// At each barrier of a journal that replays, whatever rules of C were broken before: no object moves that a listed slot names, and the
@@ -22,6 +22,14 @@ pub fn small_programs_fit()
 pub fn a_journal_is_of_events()
     ensures { AJournalIsOfEvents }
 {}
+
+/// Of checked code: unless a turn before broke a rule of C, each byte that a step of a journal reads or writes is of a block, at an offset,
+/// that the source's turn reaches.
+pub fn accesses_of_journals_stay()
+    ensures { AccessesOfJournalsStay }
+{
+    flat_simulation::laws::events_of_linear_code();
+}
 
 /// The attempts of a journal with every kind and every how.
 pub fn attempts_of_every_how()

@@ -13,9 +13,10 @@ use Rattle.turn_lock.specs.Locks.{AllPasses, first_of, passes_of}
 use Rattle.flat_meaning.specs.declared.endings.End.{End}
 use Rattle.flat_rules.specs.declared.settings.Settings.{Settings}
 use Rattle.flat_rules.specs.Rules.{rules_of}
+use Rattle.flat_rules.specs.States.{State}
 use Rattle.flat_machine.specs.Shares.{Shared}
 use Rattle.flat_machine.specs.Start.{first_shared, settings_limits}
-use Rattle.flat_machine.specs.Replays.{Final, final_of}
+use Rattle.flat_machine.specs.Replays.{Final, final_at, replay}
 use Rattle.flat_replay.specs.Barriers.{BarriersKeep}
 use Rattle.flat_threads.specs.Contexts.{Context, IsProgram}
 use Rattle.world_rules.specs.Whole.{Whole}
@@ -109,7 +110,9 @@ pub record HasRun (x : Opened) (r : Ran) : Type 0 where
   pub code : r.code ≡ x.code
   pub end : End
   pub final : Final
-  pub replays : final_of (arc_value x.code) x.settings r.journal.entries ≡ Some final
+  pub last : State Shared Context
+  pub leads : replay (arc_value x.code) x.settings r.journal.entries ≡ Some last
+  pub final_is : final_at (arc_value x.code) x.settings r.journal.entries last ≡ final
   pub ended : final.end ≡ Some end
   pub keeps : BarriersKeep (arc_value x.code) x.settings r.journal.entries
   pub status : r.status ≡ status_of end

@@ -7,7 +7,7 @@ use Rattle.flat_machine.specs.Reports.{report_of}
 use Rattle.flat_machine.specs.Shares.{Shared}
 use Rattle.run_report.specs.declared.report.Report.{Report}
 use Rattle.run_notes.specs.Reports.{report_text}
-use Rattle.alaska_run.proofs.Runs.{final_of_run, end_of_run, replay_of, whole_written}
+use Rattle.alaska_run.proofs.Runs.{end_of_run, replay_of, whole_written}
 use Rattle.alaska_run.proofs.running.run_opened.Goals as goal
 
 pub run-requires-clause-all : goal.run-requires-clause-all
@@ -32,7 +32,9 @@ returns g c =
       code = refl;
       end = c.finish-end.result.end;
       final = final_at (arc_value c.args.opened.code) c.args.opened.settings c.finish-end.result.journal.entries ends.state;
-      replays = final_of_run _ _ _ _ _ world ends.leads;
+      last = ends.state;
+      leads = replay_of _ _ _ _ _ world ends.leads;
+      final_is = refl;
       ended = end_of_run _ _ _ ends.state _ world ends.ends;
       keeps = c.barriers_of_a_run_keep_objects.ensures (arc_value c.args.opened.code) c.args.opened.settings c.requires.program
           (c.small_programs_fit.ensures (arc_value c.args.opened.code) c.args.opened.settings c.requires.fits) c.finish-end.result.journal.entries ends.state (replay_of _ _ _ _ _ world ends.leads);
