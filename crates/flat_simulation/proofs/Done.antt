@@ -1,8 +1,8 @@
 -- What each action leaves: where it is done over named blocks, it is done over words, and what threads share still stands.
-use Rattle.std.proofs.Common.{◌≡◌, ℕ, ℤ, ◌*◌, ◌^◌, ◌<◌, ◌≤◌, pos, Bool, true, false, ◌==◌, List, [], ◌∷◌, ◌++◌, length, Option, Some, None, Result, Ok, Err, refl, sym, ap, subst, ◌∙◌, inl, inr, arith}
+use Rattle.std.proofs.Common.{◌≡◌, ℕ, ℤ, ◌*◌, ◌^◌, ◌<◌, ◌≤◌, pos, Bool, true, false, ◌==◌, List, [], ◌∷◌, ◌++◌, length, Option, Some, None, Result, Ok, Err, refl, sym, ap, subst, ◌∙◌, inl, inr, arith, length-append}
 use Rattle.std.specs.Prelude.{if◌then◌else◌, nat_le, nat_lt, slice_get}
 use Rattle.std.specs.Prelude as std
-use Rattle.std.proofs.lemmas.Bool.{ne_eqb, ltb-true, lt-ltb}
+use Rattle.std.proofs.lemmas.Bool.{ne_eqb, ltb-true, lt-ltb, leb-false}
 use Rattle.std.proofs.lemmas.Int.{ints}
 use Rattle.std.proofs.lemmas.List.{append-nil, length-set}
 use Rattle.std.proofs.Math.Nat.{mul-le-mul_right}
@@ -155,30 +155,31 @@ module _ (y : Layout) (p : Ir) (names : List Name) (w : World) (m : Memory) (wor
 
   -- ---- prints
 
-  pub print_done : (thread limit : ℕ) (ps : List source.Printed) (qs : List printing.Printed) → PartsStand names w.blocks m.storage ps qs
-      → DoneAlike y p names [] w m (source.acted w thread answers.Plain (source.print ps)) (words.printed limit qs m)
-  print_done thread limit ps qs stand = by_result (all_bytes w.blocks ps) refl
+  pub print_done : (thread : ℕ) (ps : List source.Printed) (qs : List printing.Printed) → PartsStand names w.blocks m.storage ps qs
+      → DoneAlike y p names [] w m (source.acted w thread answers.Plain (source.print ps)) (words.printed y.limits.output qs m)
+  print_done thread ps qs stand = by_result (all_bytes w.blocks ps) refl
     where
       by_result : (r : Result (List ℕ) Rule) → all_bytes w.blocks ps ≡ r
-          → DoneAlike y p names [] w m (telling (reads_of w (source.print ps) ++ writes_of answers.Plain (source.print ps)) (source.prints w r)) (words.printed limit qs m)
+          → DoneAlike y p names [] w m (telling (reads_of w (source.print ps) ++ writes_of answers.Plain (source.print ps)) (source.prints w r)) (words.printed y.limits.output qs m)
       by_result (Err rule) e = tt
-      by_result (Ok all) e = by_room (nat_le (length all) (output_room limit m)) refl
+      by_result (Ok all) e = by_room (nat_le (length all) (output_room y.limits.output m)) refl
         where
-          read : read_parts m.storage.bytes qs (output_room limit m) ≡ fitted (output_room limit m) all
-          read = parts_read names w.blocks m.storage world.blocks ps qs all stand e (output_room limit m)
+          read : read_parts m.storage.bytes qs (output_room y.limits.output m) ≡ fitted (output_room y.limits.output m) all
+          read = parts_read names w.blocks m.storage world.blocks ps qs all stand e (output_room y.limits.output m)
 
-          by_room : (b : Bool) → nat_le (length all) (output_room limit m) ≡ b
-              → DoneAlike y p names [] w m (telling (reads_of w (source.print ps) ++ writes_of answers.Plain (source.print ps)) (source.prints w (Ok all))) (words.printed limit qs m)
+          by_room : (b : Bool) → nat_le (length all) (output_room y.limits.output m) ≡ b
+              → DoneAlike y p names [] w m (telling (reads_of w (source.print ps) ++ writes_of answers.Plain (source.print ps)) (source.prints w (Ok all))) (words.printed y.limits.output qs m)
           by_room true fits =
               let now : Memory = record { storage = m.storage; output = m.output ++ all; threads = m.threads } in
               let to : World = record { blocks = w.blocks; output = w.output ++ all; threads = w.threads; reached = reads_of w (source.print ps) ++ [] } in
-              let is : words.printed limit qs m ≡ went (Some (number_word (num int (pos (length all))))) now =
+              let is : words.printed y.limits.output qs m ≡ went (Some (number_word (num int (pos (length all))))) now =
               ap (λ r. prints r m) (read ∙ ap (λ b. if b then reads all else too_long) fits) in
-              done_alike [] (source.int_value (pos (length all))) to (Some (number_word (num int (pos (length all))))) now (words.printed limit qs m) is
+              done_alike [] (source.int_value (pos (length all))) to (Some (number_word (num int (pos (length all))))) now (words.printed y.limits.output qs m) is
               (names, same_names to now (aged_still names w.blocks each) world.blocks refl (ap (λ o. o ++ all) world.output) world.threads (keeps_table names w.blocks w.blocks m.storage m.storage refl) (inl refl), refl)
           by_room false fits =
-              let is : words.printed limit qs m ≡ over output_limit = ap (λ r. prints r m) (read ∙ ap (λ b. if b then reads all else too_long) fits) in
-              subst (λ d. DoneAlike y p names [] w m (telling (reads_of w (source.print ps) ++ writes_of answers.Plain (source.print ps)) (source.prints w (Ok all))) d) (sym is) tt
+              let is : words.printed y.limits.output qs m ≡ over output_limit = ap (λ r. prints r m) (read ∙ ap (λ b. if b then reads all else too_long) fits) in
+              subst (λ d. DoneAlike y p names [] w m (telling (reads_of w (source.print ps) ++ writes_of answers.Plain (source.print ps)) (source.prints w (Ok all))) d) (sym is)
+              (omega (arith, leb-false (length all) (output_room y.limits.output m) fits, ap length world.output, length-append w.output all))
 
   -- ---- mutexes
 

@@ -72,7 +72,7 @@ pub alike_then : {P : Type 0} (x : Image P) (p : Ir) (thread : ℕ) (names n : L
 alike_then x p thread names n given list w bs m one (went k later) (went q now) a = (a.0, ended_then x.layout p thread names n a.0 given w later bs m now one a.1, a.2)
 alike_then x p thread names n given list w bs m one (went k later) (ended l now) a = absurd a
 alike_then x p thread names n given list w bs m one (went k later) blocked a = absurd a
-alike_then x p thread names n given list w bs m one (went k later) (broke flat.output_limit) a = tt
+alike_then x p thread names n given list w bs m one (went k later) (broke flat.output_limit) a = a
 alike_then x p thread names n given list w bs m one (went k later) (broke (flat.trap word kind)) a = absurd a
 alike_then x p thread names n given list w bs m one (went k later) unfit a = absurd a
 alike_then x p thread names n given list w bs m one (ended l later) (ended r now) a = (a.0, ended_then x.layout p thread names n a.0 given w later bs m now one a.1)
@@ -199,7 +199,7 @@ module _ {P : Type 0} (x : Image P) (p : Ir) (image : IsImage x p) (thread : ℕ
   step_lands given (actions.went v later) (flat.went (Some word) now) alike = went_on given v later (Some word) now alike.0 alike.1 alike.2
   step_lands given (actions.went v later) flat.waits alike = absurd alike
   step_lands given (actions.went v later) flat.unfit alike = absurd alike
-  step_lands given (actions.went v later) (flat.over flat.output_limit) alike = tt
+  step_lands given (actions.went v later) (flat.over flat.output_limit) alike = alike
   step_lands given (actions.went v later) (flat.over (flat.trap word kind)) alike = absurd alike
   step_lands given actions.blocked flat.waits alike = tt
   step_lands given actions.blocked (flat.went word now) alike = absurd alike

@@ -72,6 +72,8 @@ pub mod Stopping
 pub mod Stepping
 pub mod ActsAlike
 pub mod Follow
+pub mod PastLimit
+pub mod Full
 pub mod StepReached
 pub mod Followed
 pub mod WordsCome

@@ -132,7 +132,7 @@ module _ {P : Type 0} (x : Image P) (p : Ir) (thread : ℕ) (names : List Name) 
       let is : source.print (parts source.bytes source.text pieces zs.0 ps) ≡ action = cc in
       let l : Own = record { function = 0; temps = λ r. unset; objects = λ i. None; blocks = w.blocks } in
       subst (λ a. Alike plain (print pieces) a ts ws) is
-      (print_done y p names w m world thread y.limits.output (parts source.bytes source.text pieces zs.0 ps) _ (parts_stand names w.blocks m.storage pieces ps ts zs.0 ws ok goes (have_words names l vs ws zs.0 stand zs.1)))
+      (print_done y p names w m world thread (parts source.bytes source.text pieces zs.0 ps) _ (parts_stand names w.blocks m.storage pieces ps ts zs.0 ws ok goes (have_words names l vs ws zs.0 stand zs.1)))
 
   lock_alike : (at : Ptr) (ts : List Target) (ws : List ℕ) → Places (at ∷ []) ts → Numbers [] ws → Alike plain lock (source.lock at) ts ws
   lock_alike at [] ws goes stand = absurd goes

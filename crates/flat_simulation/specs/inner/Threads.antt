@@ -109,13 +109,14 @@ pub record StateStands {P : Type 0} (x : Image P) (p : Ir) (names : List Name) (
 -- ---- a turn
 
 -- what comes of a turn over named blocks, and of the event with which it ends over words: both go on, and the thread stands, landed where
--- a step with this list was done, or the machine's print would pass the output's limit; both end; both wait; or the turn breaks a rule
+-- a step with this list was done, or the machine's print would pass the output's limit, and the turn's has passed it; both end; both wait;
+-- or the turn breaks a rule
 abbrev pub TurnsAlike : {P : Type 0} → Image P → Ir → (thread : ℕ) → List Name → (given : List ℕ) → (list : Option (List ℕ)) → World → Memory → Outcome P Own Fault World → Outcome P Words words.Fault Memory → Type 0
 TurnsAlike x p thread names given list w m (went k later) (went q now) =
     (all : List Name) × TurnEnded x.layout p thread names all given w later m now × StageStands x p thread all later.blocks now.storage (Some k) (Some (landing list q))
 TurnsAlike x p thread names given list w m (went k later) (ended l now) = ⊥
 TurnsAlike x p thread names given list w m (went k later) blocked = ⊥
-TurnsAlike x p thread names given list w m (went k later) (broke words.output_limit) = Unit {0}
+TurnsAlike x p thread names given list w m (went k later) (broke words.output_limit) = x.layout.limits.output < length later.output
 TurnsAlike x p thread names given list w m (went k later) (broke (words.trap word kind)) = ⊥
 TurnsAlike x p thread names given list w m (went k later) unfit = ⊥
 TurnsAlike x p thread names given list w m (ended l later) (ended r now) = (all : List Name) × TurnEnded x.layout p thread names all given w later m now

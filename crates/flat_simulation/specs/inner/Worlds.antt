@@ -85,12 +85,13 @@ GivenAlike names blocks None (Some word) = ⊥
 GivenAlike names blocks (Some v) None = ⊥
 GivenAlike names blocks (Some v) (Some word) = Stands names AnyBlock blocks (value v) word
 
--- both are done, or a print would pass the output's limit; both wait; or the one over named blocks breaks a rule
+-- both are done, or a print over words would pass the output's limit, and the other has passed it; both wait; or the one over named blocks
+-- breaks a rule
 abbrev pub DoneAlike : Layout → Ir → List Name → (given : List ℕ) → World → Memory → source.Done → words.Done → Type 0
 DoneAlike y p names given w m (source.went v later) (words.went word now) = (all : List Name) × Acted y p names all given w later m now × GivenAlike all later.blocks v word
 DoneAlike y p names given w m (source.went v later) words.waits = ⊥
 DoneAlike y p names given w m (source.went v later) words.unfit = ⊥
-DoneAlike y p names given w m (source.went v later) (words.over words.output_limit) = Unit {0}
+DoneAlike y p names given w m (source.went v later) (words.over words.output_limit) = y.limits.output < length later.output
 DoneAlike y p names given w m (source.went v later) (words.over (words.trap word kind)) = ⊥
 DoneAlike y p names given w m source.blocked words.waits = Unit {0}
 DoneAlike y p names given w m source.blocked d = ⊥
