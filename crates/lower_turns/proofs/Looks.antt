@@ -133,7 +133,7 @@ module _ (p : Ir) where
     carry = tt;
   }
 
-  keeps : KeepsTurns Stands (program_of p) (program_of (ir_erased p))
+  pub keeps : KeepsTurns Stands (program_of p) (program_of (ir_erased p))
   keeps = record { begins = begins_alike; turn = turns_alike }
 
 -- ---- orders

@@ -1,7 +1,7 @@
 //! Laws of what lowering keeps, as contracts of functions that do nothing.
 
 ghost use Rattle.lower_turns.specs.Rows.{RowsStand, RulesStand, OrdersStand};
-ghost use Rattle.lower_turns.specs.Turns.{LowerKeepsEveryTurn, LowerKeepsEveryRun, ErasedCodeShowsTheSame, CodeWithLooksKeepsEveryTurn, CodeWithLooksKeepsEveryRun, CodeBeginsAlike, CodeKeepsEveryTurn, CodeGoesOn};
+ghost use Rattle.lower_turns.specs.Turns.{LowerKeepsEveryTurn, LowerKeepsEveryRun, ErasedCodeShowsTheSame, CodeWithLooksKeepsEveryTurn, CodeWithLooksKeepsEveryRun, CodeBeginsAlike, CodeKeepsEveryTurn, CodeGoesOn, CallsAreAsDeep};
 
 /// The code of every well formed program shows under every order of turns and answers what the program
 /// shows: how each turn went and the world after it, and which rule a turn breaks, and where. So each
@@ -26,6 +26,13 @@ pub fn code_keeps_every_turn()
     ensures begins { CodeBeginsAlike }
     ensures turns { CodeKeepsEveryTurn }
     ensures goes_on { CodeGoesOn }
+{}
+
+/// After each order a thread runs in a well formed program's code where it does in the program, and as
+/// many calls wait in it. So a turn enters a call of the code where it enters one of the program, and
+/// leaves one where it leaves one.
+pub fn calls_are_as_deep()
+    ensures calls { CallsAreAsDeep }
 {}
 
 /// The code of each of these programs shows under these orders what the source shows: how each turn

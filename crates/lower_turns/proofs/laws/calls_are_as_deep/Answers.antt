@@ -1,0 +1,5 @@
+use Rattle.lower_turns.proofs.Depths.{calls_are_as_deep}
+use Rattle.lower_turns.proofs.laws.calls_are_as_deep.Goals as goal
+
+pub returns : goal.returns
+returns c = record { calls = calls_are_as_deep }
