@@ -11,4 +11,8 @@ pub mod Serving
 pub mod Stages
 pub mod Told
 pub mod Journal
+pub mod Runs
+pub mod Outputs
+pub mod FirstTurns
+pub mod FirstBreak
 pub mod Accesses

@@ -32,7 +32,7 @@ pub fn code_keeps_every_turn()
 /// many calls wait in it. So a turn enters a call of the code where it enters one of the program, and
 /// leaves one where it leaves one.
 pub fn calls_are_as_deep()
-    ensures calls { CallsAreAsDeep }
+    ensures { CallsAreAsDeep }
 {}
 
 /// The code of each of these programs shows under these orders what the source shows: how each turn

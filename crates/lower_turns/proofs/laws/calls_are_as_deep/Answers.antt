@@ -2,4 +2,4 @@ use Rattle.lower_turns.proofs.Depths.{calls_are_as_deep}
 use Rattle.lower_turns.proofs.laws.calls_are_as_deep.Goals as goal
 
 pub returns : goal.returns
-returns c = record { calls = calls_are_as_deep }
+returns c = calls_are_as_deep
