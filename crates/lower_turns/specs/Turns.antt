@@ -1,6 +1,6 @@
 -- The code of every well formed program does what the program does: turn by turn, in each thread, under every order and answer, in the
 -- same world; and where a turn breaks a rule of C, so does the code's, the same rule at the same place.
-use Rattle.std.specs.Prelude.{◌≡◌, ℕ, List, [], ◌∷◌, ◌++◌, Some}
+use Rattle.std.specs.Prelude.{◌≡◌, ℕ, List, [], ◌∷◌, ◌++◌, length, Option, Some, None}
 use Rattle.block_store.specs.Runs.{Pick}
 use Rattle.block_store.specs.Actions.{World}
 use Rattle.block_store.specs.Runs as runs
@@ -13,6 +13,9 @@ use Rattle.c_meaning.specs.Sound.{End, FitsEnd, EndsAs}
 use Rattle.c_meaning.specs.Meaning.{start, run, shown}
 use Rattle.struct_ir.specs.Nodes.{Ir}
 use Rattle.struct_ir.specs.Erased.{ir_erased}
+use Rattle.struct_ir.specs.Structured.{Position}
+use Rattle.struct_ir.specs.Threads.{Thread}
+use Rattle.ir_meaning.specs.Blocks.{Own}
 use Rattle.ir_meaning.specs.Start.{start as code_start}
 use Rattle.ir_meaning.specs.Threads.{program_of}
 use Rattle.lower_forms.specs.Programs.{lowered}
@@ -63,3 +66,15 @@ CodeGoesOn = (t : Typed) → IsWellFormed t → (code : Ir) → KeepsEveryTurn t
     → (p : Pick) (main own : Control) → runs.own_at s.own 0 ≡ Some main → runs.own_at s.own p.thread ≡ Some own
     → (e : End) × EndsAs p.thread (λ answer. turn t p.thread answer own s.world) e
     × (FitsEnd e p.answer → (k : ℕ) → runs.run (program_of code) (code_start code) (order ++ p ∷ []) ≡ runs.no_run k → turn t p.thread p.answer own s.world ≡ runs.blocked)
+
+-- as many calls wait in a thread of the program as in that of its code; or neither has one
+abbrev pub AsDeep : Option Control → Option (Thread Position Own) → Type 0
+AsDeep None None = Unit {0}
+AsDeep None (Some k) = ⊥
+AsDeep (Some c) None = ⊥
+AsDeep (Some c) (Some k) = length k.callers ≡ length c.callers
+
+-- wherever an order leads the program and such code, each thread is as deep in calls in both
+abbrev pub CallsAreAsDeep : Type 0
+CallsAreAsDeep = (t : Typed) → IsWellFormed t → (ready : Ir) → ir_erased ready ≡ lowered t → (order : List Pick) (s : runs.State Control) (u : runs.State (Thread Position Own))
+    → run t order ≡ runs.reaches s → runs.run (program_of ready) (code_start ready) order ≡ runs.reaches u → (thread : ℕ) → AsDeep (runs.own_at s.own thread) (runs.own_at u.own thread)
