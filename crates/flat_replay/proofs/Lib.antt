@@ -11,3 +11,5 @@ pub mod Serving
 pub mod Stages
 pub mod Told
 pub mod Journal
+pub mod Transport
+pub mod Source

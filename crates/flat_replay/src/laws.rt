@@ -3,7 +3,7 @@
 ghost use Rattle.std.specs.Prelude.{◌≡◌};
 ghost use Rattle.ak_trace.specs.Rows.{full_journal};
 ghost use Rattle.flat_replay.specs.Attempts.{attempts_from};
-ghost use Rattle.flat_replay.specs.Laws.{AJournalIsOfEvents, BarriersOfARunKeepObjects, SmallProgramsFit};
+ghost use Rattle.flat_replay.specs.Laws.{AJournalIsOfEvents, BarriersOfARunKeepObjects, JournalsMeanTheSource, JournalsOfCheckedCodeAreMeant, SmallProgramsFit};
 ghost use Rattle.flat_replay.specs.Rows.{full_attempts};
 
 /// At each barrier of a journal that replays, whatever rules of C were broken before: no object moves that a listed slot names, and the
@@ -22,6 +22,24 @@ pub fn small_programs_fit()
 pub fn a_journal_is_of_events()
     ensures { AJournalIsOfEvents }
 {}
+
+/// A journal of checked code that replays has the code's own meaning over named blocks: where no rule of C is broken, what it printed is
+/// what the run of its order prints, and its end is that run's, as the table of ends says; and where one is, what the run prints before the
+/// first is what the journal printed first.
+pub fn journals_of_checked_code_are_meant()
+    ensures { JournalsOfCheckedCodeAreMeant }
+{
+    flat_simulation::laws::events_of_linear_code();
+}
+
+/// And so it has the meaning of the program of which that is the code.
+pub fn journals_mean_the_source()
+    ensures { JournalsMeanTheSource }
+{
+    lower_turns::laws::code_keeps_every_turn();
+    lower_turns::laws::calls_are_as_deep();
+    journals_of_checked_code_are_meant();
+}
 
 /// The attempts of a journal with every kind and every how.
 pub fn attempts_of_every_how()
