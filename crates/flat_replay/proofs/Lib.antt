@@ -13,3 +13,4 @@ pub mod Told
 pub mod Journal
 pub mod Transport
 pub mod Source
+pub mod MeaningRows

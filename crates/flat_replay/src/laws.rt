@@ -4,7 +4,7 @@ ghost use Rattle.std.specs.Prelude.{◌≡◌};
 ghost use Rattle.ak_trace.specs.Rows.{full_journal};
 ghost use Rattle.flat_replay.specs.Attempts.{attempts_from};
 ghost use Rattle.flat_replay.specs.Laws.{AJournalIsOfEvents, BarriersOfARunKeepObjects, JournalsMeanTheSource, JournalsOfCheckedCodeAreMeant, SmallProgramsFit};
-ghost use Rattle.flat_replay.specs.Rows.{full_attempts};
+ghost use Rattle.flat_replay.specs.Rows.{full_attempts, BreaksStand, LastsStand, MeaningsStand, TriesStand};
 
 /// At each barrier of a journal that replays, whatever rules of C were broken before: no object moves that a listed slot names, and the
 /// object of each id in use keeps its bytes, at the address that the table then has.
@@ -44,4 +44,13 @@ pub fn journals_mean_the_source()
 /// The attempts of a journal with every kind and every how.
 pub fn attempts_of_every_how()
     ensures { attempts_from 0 full_journal ≡ full_attempts }
+{}
+
+/// What the journals of small programs mean: where main returns, waits, has no room for a call or prints too much; and where a rule is
+/// broken by a turn, by one that trapped, or by one for which main waits.
+pub fn small_journals_have_their_meaning()
+    ensures lasts { LastsStand }
+    ensures tries { TriesStand }
+    ensures meanings { MeaningsStand }
+    ensures breaks { BreaksStand }
 {}
