@@ -19,9 +19,11 @@ use Rattle.flat_replay.specs.Rows.{Deed, calls, prints, waits, errs, returns, Sm
 
 -- ---- what the parts of a meaning are
 
+-- by computing
 pub lasts_stand : LastsStand
 lasts_stand = (refl, refl, refl)
 
+-- by computing
 pub tries_stand : TriesStand
 tries_stand = (refl, refl, refl, refl)
 
@@ -50,13 +52,16 @@ seven : wrapped_value int (pos 7) ≡ pos 7
 unfolding wrapped_value residue
 seven = refl
 
+-- main has not ended there
 main_runs : Runs printed 0
 main_runs = (beginning 0 Null, refl, refl)
 
+-- it waits, and no other thread runs
 main_waits : (thread : ℕ) → Runs printed thread → picked (small (prints 65 ∷ waits ∷ [])) (behind (waits ∷ [])) (pick thread answers.Plain) ≡ Some blocked
 main_waits zero h = refl
 main_waits (suc n) h = absurd (let none : None ≡ Some h.0 = h.1 in cc none)
 
+-- each by its state and its end
 pub meanings_stand : MeaningsStand
 meanings_stand = (
   means 1 (returns (pos 7) ∷ []) (row 0 0 0 0 ∷ row 2 0 9 0 ∷ []) (record { world = staged alone 0 (returned (pos 7)); own = None ∷ [] }) (ends.Done (pos 7)) refl
@@ -68,19 +73,23 @@ meanings_stand = (
 
 -- ---- breaks
 
+-- a journal without attempts has none here
 nothing_tried : (P : ℕ × ℕ → Type 0) → Any P [] → ⊥
 nothing_tried P a = omega (arith, a.2)
 
+-- no turn breaks a rule, none was tried, and main returned
 returns_clean : IsClean (small (returns (pos 7) ∷ [])) alone waiting_calls (row 0 0 0 0 ∷ row 2 0 9 0 ∷ []) (Some (ends.Done (pos 7)))
 returns_clean turns (by_turn rule at) = cc at
 returns_clean turns (by_attempt thread u tries at broken) = nothing_tried _ tries
 returns_clean turns (by_waiting thread u all behind at broken) = cc all
 
+-- the first turn breaks none
 none_before : (before : ℕ) → before < 1 → BreaksAt (small (prints 65 ∷ errs C5 ∷ [])) alone waiting_calls (row 0 0 0 0 ∷ row 2 0 1 0 ∷ row 2 0 1 0 ∷ []) None before → ⊥
 none_before before less (by_turn rule at) = let one : 1 ≡ before = cc at in omega (arith, one, less)
 none_before before less (by_attempt thread u tries at broken) = nothing_tried _ tries
 none_before before less (by_waiting thread u all behind at broken) = cc all
 
+-- each by its way
 pub breaks_stand : BreaksStand
 breaks_stand = (
   returns_clean,

@@ -13,12 +13,14 @@ use Rattle.flat_machine.specs.Replays.{final_at}
 use Rattle.flat_replay.specs.Laws.{JournalsMeanTheSource, JournalsOfCheckedCodeAreMeant}
 use Rattle.flat_replay.proofs.Transport.{DeepAlike, meaning_too}
 
+-- as many calls wait, in the words of Transport
 deep_alike : (c : Option Control) (k : Option (Thread Position Own)) → AsDeep c k → DeepAlike (λ t. length t.callers) (λ c. length c.callers) k c
 deep_alike None None h = tt
 deep_alike None (Some k) h = absurd h
 deep_alike (Some c) None h = absurd h
 deep_alike (Some c) (Some k) h = h
 
+-- from what lower_turns keeps, and from the meaning of checked code
 pub journals_mean_the_source : CodeKeepsEveryTurn → CodeBeginsAlike → CallsAreAsDeep → JournalsOfCheckedCodeAreMeant → JournalsMeanTheSource
 journals_mean_the_source keeps begins deep meant t well p erased checked code emitted lawful program s log x replays =
     meaning_too (program_of p) (start p) (λ k. length k.callers) (source.program t) (source.start t) (λ c. length c.callers)

@@ -43,6 +43,7 @@ data Shows {A : Type 0} : Shown → Option (Turn A) → Type 0 where
   shows_unfit : Shows it_was_unfit (Some unfit)
   shows_broke : (rule : Rule) (place : ℕ) → Shows (it_broke rule place) (Some (broke rule place))
 
+-- each pick shows what it does
 shows_it : {A : Type 0} (o : Option (Turn A)) → Shows (shows o) o
 shows_it None = shows_none
 shows_it (Some (went own w)) = shows_went own w
@@ -80,11 +81,13 @@ module _ {A : Type 0} (P : Program A) where
 
   -- ---- what a thread has after its turn
 
+  -- a thread that has a turn runs
   picked_own : (u : State A) (p : Pick) (m o : Option A) (t : Turn A) → turn_if P u p m o ≡ Some t → (a : A) × (o ≡ Some a)
   picked_own u p None o t e = absurd cc
   picked_own u p (Some m) None t e = absurd cc
   picked_own u p (Some m) (Some a) t e = (a, refl)
 
+  -- one that goes on has what its turn left it, also where it made a thread
   own_after : (u : State A) (p : Pick) (a : A) (w : World) → picked P u p ≡ Some (went a w) → own_at (next_state P u p.thread (Some a) w).own p.thread ≡ Some a
   own_after u p a w e =
       let it = picked_own u p (own_at u.own 0) (own_at u.own p.thread) (went a w) e in
@@ -123,7 +126,7 @@ module _ {A B : Type 0} (R : A → B → Type 0) where
   tried_alike _ g _ g' (two_turns _ _ both_unfit) got = got
   tried_alike _ g _ g' (two_turns _ _ (both_broke rule place)) got = two_turns (broke rule place) (broke rule place) (both_broke rule place)
 
-  -- the one breaks a rule, waits or goes where the other does
+  -- the one breaks a rule where the other does
   broken_alike : (o : Option (Turn A)) (o' : Option (Turn B)) → PicksAlike R o o' → Broken o → Broken o'
   broken_alike _ _ no_turns h = absurd h
   broken_alike _ _ (two_turns _ _ (both_went a b w r)) h = absurd h
@@ -132,6 +135,7 @@ module _ {A B : Type 0} (R : A → B → Type 0) where
   broken_alike _ _ (two_turns _ _ both_unfit) h = absurd h
   broken_alike _ _ (two_turns _ _ (both_broke rule place)) h = tt
 
+  -- the one waits where the other does
   blocked_alike : (o : Option (Turn A)) (o' : Option (Turn B)) → PicksAlike R o o' → o ≡ Some blocked → o' ≡ Some blocked
   blocked_alike _ _ no_turns h = absurd cc
   blocked_alike _ _ (two_turns _ _ (both_went a b w r)) h = absurd cc
@@ -140,6 +144,7 @@ module _ {A B : Type 0} (R : A → B → Type 0) where
   blocked_alike _ _ (two_turns _ _ both_unfit) h = absurd cc
   blocked_alike _ _ (two_turns _ _ (both_broke rule place)) h = absurd cc
 
+  -- the one goes where the other does, to what is related
   goes_alike : (G : A → World → Type 0) (G' : B → World → Type 0) → ((a : A) (b : B) (w : World) → R a b → G a w → G' b w) → (o : Option (Turn A)) (o' : Option (Turn B)) → PicksAlike R o o' → Goes G o → Goes G' o'
   goes_alike G G' f _ _ no_turns h = absurd h
   goes_alike G G' f _ _ (two_turns _ _ (both_went a b w r)) h = f a b w r h
@@ -151,16 +156,19 @@ module _ {A B : Type 0} (R : A → B → Type 0) where
 -- ---- runs that come to the same
 
 module _ {A : Type 0} where
+  -- a run that comes to this world
   reaches_there : (r : Run A) (w : World) → in_world w ≡ reached_by r → (s : State A) × (r ≡ reaches s) × (w ≡ s.world)
   reaches_there (reaches s) w e = (s, refl, cc)
   reaches_there (breaks rule k) w e = absurd cc
   reaches_there (no_run k) w e = absurd cc
 
+  -- a run that comes to this break
   breaks_there : (r : Run A) (rule : Rule) (k : ℕ) → at_break rule k ≡ reached_by r → r ≡ breaks rule k
   breaks_there (reaches s) rule k e = absurd cc
   breaks_there (breaks rule' k') rule k e = let one : rule ≡ rule' = cc in let two : k ≡ k' = cc in (λ i. breaks (sym one i) (sym two i))
   breaks_there (no_run k') rule k e = absurd cc
 
+  -- a run that is none here
   no_run_there : (r : Run A) (k : ℕ) → at_no_run k ≡ reached_by r → r ≡ no_run k
   no_run_there (reaches s) k e = absurd cc
   no_run_there (breaks rule k') k e = absurd cc
@@ -181,12 +189,14 @@ pub record SameRuns {A B : Type 0} (P : Program A) (w : World) (d : A → ℕ) (
   pub shown : (order : List Pick) → runs.shown P w order ≡ runs.shown Q v order
   pub deep : (order : List Pick) (u : State A) (s : State B) → run P w order ≡ reaches u → run Q v order ≡ reaches s → (thread : ℕ) → DeepAlike d e (own_at u.own thread) (own_at s.own thread)
 
+-- the other way round
 deep_turned : {A B : Type 0} (d : A → ℕ) (e : B → ℕ) (o : Option A) (o' : Option B) → DeepAlike d e o o' → DeepAlike e d o' o
 deep_turned d e None None h = tt
 deep_turned d e None (Some b) h = absurd h
 deep_turned d e (Some a) None h = absurd h
 deep_turned d e (Some a) (Some b) h = sym h
 
+-- two programs that are alike are so the other way round
 same_turned : {A B : Type 0} (P : Program A) (w : World) (d : A → ℕ) (Q : Program B) (v : World) (e : B → ℕ) → SameRuns P w d Q v e → SameRuns Q v e P w d
 same_turned P w d Q v e h = record {
   begins = sym h.begins;
@@ -195,48 +205,58 @@ same_turned P w d Q v e h = record {
 }
 
 module _ {A B : Type 0} (P : Program A) (w : World) (d : A → ℕ) (Q : Program B) (v : World) (e : B → ℕ) (same : SameRuns P w d Q v e) where
+  -- the run of each order comes to the same
   come_to_one : (order : List Pick) → reached_by (run P w order) ≡ reached_by (run Q v order)
   come_to_one order = reached_shown P w order ∙ (λ i. reached_in (same.begins i) 0 (same.shown order i)) ∙ sym (reached_shown Q v order)
 
+  -- a state in the same world
   reaches_too : (order : List Pick) (u : State A) → run P w order ≡ reaches u → (s : State B) × (run Q v order ≡ reaches s) × (u.world ≡ s.world)
   reaches_too order u at = reaches_there (run Q v order) u.world (ap reached_by (sym at) ∙ come_to_one order)
 
+  -- the same break
   breaks_too : (order : List Pick) (rule : Rule) (k : ℕ) → run P w order ≡ breaks rule k → run Q v order ≡ breaks rule k
   breaks_too order rule k at = breaks_there (run Q v order) rule k (ap reached_by (sym at) ∙ come_to_one order)
 
+  -- no run, after as many turns
   no_run_too : (order : List Pick) (k : ℕ) → run P w order ≡ no_run k → run Q v order ≡ no_run k
   no_run_too order k at = no_run_there (run Q v order) k (ap reached_by (sym at) ∙ come_to_one order)
 
   -- ---- in states that one order reaches
 
   module _ (order : List Pick) (u : State A) (s : State B) (at : run P w order ≡ reaches u) (at' : run Q v order ≡ reaches s) where
+    -- each pick shows the same
     shows_same : (p : Pick) → shows (picked P u p) ≡ shows (picked Q s p)
     shows_same p =
         let ends_same : shows (picked P u p) ∷ [] ≡ shows (picked Q s p) ∷ [] = append_cancel_left (runs.shown P w order) (shows (picked P u p) ∷ []) (shows (picked Q s p) ∷ [])
         (sym (shown_last P w order u p at) ∙ same.shown (order ++ p ∷ []) ∙ shown_last Q v order s p at' ∙ ap (λ z. z ++ shows (picked Q s p) ∷ []) (sym (same.shown order))) in
         cc
 
+    -- threads that went are as deep then
     went_as_deep : (p : Pick) (a : A) (b : B) (x : World) → picked P u p ≡ Some (went a x) → picked Q s p ≡ Some (went b x) → d a ≡ e b
     went_as_deep p a b x one two =
         let deep = same.deep (order ++ p ∷ []) _ _ (reached_after P w order u p a x at one) (reached_after Q v order s p b x at' two) p.thread in
         let here : DeepAlike d e (Some a) (own_at (next_state Q s p.thread (Some b) x).own p.thread) = subst (λ (o : Option A). DeepAlike d e o (own_at (next_state Q s p.thread (Some b) x).own p.thread)) (own_after P u p a x one) deep in
         subst (λ (o : Option B). DeepAlike d e (Some a) o) (own_after Q s p b x two) here
 
+    -- so each pick comes out alike
     picks_alike : (p : Pick) → PicksAlike (λ a b. d a ≡ e b) (picked P u p) (picked Q s p)
     picks_alike p = alike_by_shown (λ a b. d a ≡ e b) (picked P u p) (picked Q s p) (subst (λ z. Shows z (picked Q s p)) (sym (shows_same p)) (shows_it (picked Q s p))) (went_as_deep p)
 
+    -- a turn that is tried breaks a rule in both
     broken_too : (log : List Entry) (thread : ℕ) → Broken (tried_turn P w d log u thread) → Broken (tried_turn Q v e log s thread)
     broken_too log thread = broken_alike (λ a b. d a ≡ e b) _ _ (tried_alike (λ a b. d a ≡ e b) _ _ _ _ (picks_alike (pick thread answers.Plain)) (picks_alike (pick thread answers.Got)))
 
     -- ---- ends
 
     module _ (one_world : u.world ≡ s.world) (log : List Entry) where
+      -- the same threads run
       runs_there : (thread : ℕ) → Runs u.world thread → Runs s.world thread
       runs_there thread = subst (λ (x : World). Runs x thread) one_world
 
       runs_here : (thread : ℕ) → Runs s.world thread → Runs u.world thread
       runs_here thread = subst (λ (x : World). Runs x thread) (sym one_world)
 
+      -- a call is entered in both
       enters_too : (thread : ℕ) → EntersCall P w d log u thread → EntersCall Q v e log s thread
       enters_too thread h = by (own_at u.own thread) (own_at s.own thread) refl refl h.1 (same.deep order u s at at' thread) where
         by : (o : Option A) (o' : Option B) → own_at u.own thread ≡ o → own_at s.own thread ≡ o' → o ≡ Some h.0 → DeepAlike d e o o' → EntersCall Q v e log s thread
@@ -246,6 +266,7 @@ module _ {A B : Type 0} (P : Program A) (w : World) (d : A → ℕ) (Q : Program
             let here : a ≡ h.0 = cc in
             (b, is', goes_alike (λ x y. d x ≡ e y) (λ next x. d next ≡ suc (d h.0)) (λ next x. e next ≡ suc (e b)) (λ x y z r g. sym r ∙ g ∙ ap suc (sym (ap d here) ∙ deep)) _ _ (picks_alike (pick thread answers.Plain)) h.2)
 
+      -- the end is as in the table for both
       ends_too : (settings : Settings) (end : End) → EndsAs P w d log settings u end → EndsAs Q v e log settings s end
       ends_too settings (ends.Done value) h = subst (λ (x : World). MainReturned x value) one_world h
       ends_too settings (ends.Trap word kind) h = absurd h
@@ -260,6 +281,7 @@ module _ {A B : Type 0} (P : Program A) (w : World) (d : A → ℕ) (Q : Program
 
   -- ---- breaks
 
+  -- a rule is broken after as many turns
   break_too : (log : List Entry) (end : Option End) (turns : ℕ) → BreaksAt P w d log end turns → BreaksAt Q v e log end turns
   break_too log end turns (by_turn rule at) = by_turn rule (breaks_too (journal_picks log) rule turns at)
   break_too log end turns (by_attempt thread u tries at broken) =
@@ -271,6 +293,7 @@ module _ {A B : Type 0} (P : Program A) (w : World) (d : A → ℕ) (Q : Program
 
   -- ---- the meaning of a journal
 
+  -- a clean journal
   as_meant_too : (log : List Entry) (settings : Settings) (f : Final) → IsAsMeant P w d log settings f → IsAsMeant Q v e log settings f
   as_meant_too log settings f h =
       let there = reaches_too (journal_picks log) h.reached h.reaches_it in
@@ -281,6 +304,7 @@ module _ {A B : Type 0} (P : Program A) (w : World) (d : A → ℕ) (Q : Program
         ends_as = λ end is. ends_too (journal_picks log) h.reached there.0 h.reaches_it there.1 there.2 log settings end (h.ends_as end is);
       }
 
+  -- any other
   up_to_a_break_too : (log : List Entry) (turns : ℕ) (f : Final) → IsUpToABreak P w d log turns f → IsUpToABreak Q v e log turns f
   up_to_a_break_too log turns f h =
       let there = reaches_too (take turns (journal_picks log)) h.reached h.reaches_it in
