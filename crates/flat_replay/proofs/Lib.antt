@@ -16,3 +16,6 @@ pub mod Outputs
 pub mod FirstTurns
 pub mod FirstBreak
 pub mod Accesses
+pub mod Transport
+pub mod Source
+pub mod MeaningRows

@@ -3,8 +3,8 @@
 ghost use Rattle.std.specs.Prelude.{◌≡◌};
 ghost use Rattle.ak_trace.specs.Rows.{full_journal};
 ghost use Rattle.flat_replay.specs.Attempts.{attempts_from};
-ghost use Rattle.flat_replay.specs.Laws.{AJournalIsOfEvents, AccessesOfJournalsStay, BarriersOfARunKeepObjects, SmallProgramsFit};
-ghost use Rattle.flat_replay.specs.Rows.{full_attempts};
+ghost use Rattle.flat_replay.specs.Laws.{AJournalIsOfEvents, AccessesOfJournalsStay, BarriersOfARunKeepObjects, JournalsMeanTheSource, JournalsOfCheckedCodeAreMeant, SmallProgramsFit};
+ghost use Rattle.flat_replay.specs.Rows.{full_attempts, BreaksStand, LastsStand, MeaningsStand, TriesStand};
 
 /// At each barrier of a journal that replays, whatever rules of C were broken before: no object moves that a listed slot names, and the
 /// object of each id in use keeps its bytes, at the address that the table then has.
@@ -31,7 +31,34 @@ pub fn accesses_of_journals_stay()
     flat_simulation::laws::events_of_linear_code();
 }
 
+/// A journal of checked code that replays has the code's own meaning over named blocks: where no rule of C is broken, what it printed is
+/// what the run of its order prints, and its end is that run's, as the table of ends says; and where one is, what the run prints before the
+/// first is what the journal printed first.
+pub fn journals_of_checked_code_are_meant()
+    ensures { JournalsOfCheckedCodeAreMeant }
+{
+    flat_simulation::laws::events_of_linear_code();
+}
+
+/// And so it has the meaning of the program of which that is the code.
+pub fn journals_mean_the_source()
+    ensures { JournalsMeanTheSource }
+{
+    lower_turns::laws::code_keeps_every_turn();
+    lower_turns::laws::calls_are_as_deep();
+    journals_of_checked_code_are_meant();
+}
+
 /// The attempts of a journal with every kind and every how.
 pub fn attempts_of_every_how()
     ensures { attempts_from 0 full_journal ≡ full_attempts }
+{}
+
+/// What the journals of small programs mean: where main returns, waits, has no room for a call or prints too much; and where a rule is
+/// broken by a turn, by one that trapped, or by one for which main waits.
+pub fn small_journals_have_their_meaning()
+    ensures lasts { LastsStand }
+    ensures tries { TriesStand }
+    ensures meanings { MeaningsStand }
+    ensures breaks { BreaksStand }
 {}
