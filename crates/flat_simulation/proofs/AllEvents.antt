@@ -59,10 +59,10 @@ module _ (p : Ir) (limits : Limits) (image : IsImage (structured_image p limits)
   Source = runs.State (Thread Position Own)
 
   -- both stand, after an order
-  record Stood (names : List Name) (order : List Pick) (u : Source) (s : State Position) : Type 0 where
-    stand : StateStands x p names u s
-    come : StateComes p limits s
-    reached : runs.run P (start p) order ≡ reaches u
+  pub record Stood (names : List Name) (order : List Pick) (u : Source) (s : State Position) : Type 0 where
+    pub stand : StateStands x p names u s
+    pub come : StateComes p limits s
+    pub reached : runs.run P (start p) order ≡ reaches u
 
   -- what comes of some turns and an event
   abbrev Comes : List Name → List Pick → Source → List Pick → List ℕ → State Position → Type 0
@@ -171,7 +171,7 @@ module _ (p : Ir) (limits : Limits) (image : IsImage (structured_image p limits)
 
   -- ---- all events
 
-  all_stand : (es : List Event) (names : List Name) (order : List Pick) (u : Source) (s : State Position) → Stood names order u s → AreAllowed x es s → Comes names order u (order_of x es s) (ids_of es) (after_all x es s)
+  pub all_stand : (es : List Event) (names : List Name) (order : List Pick) (u : Source) (s : State Position) → Stood names order u s → AreAllowed x es s → Comes names order u (order_of x es s) (ids_of es) (after_all x es s)
   all_stand [] names order u s now may = nothing names order u s now.stand
   all_stand (e ∷ es) names order u s now may =
       let one = event_stands names order u s now may.0.0 e may.0.1 in

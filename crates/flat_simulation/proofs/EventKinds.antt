@@ -14,13 +14,7 @@ use Rattle.flat_meaning.specs.Effects.{no_effect, ends_run, stop_of, step_effect
 use Rattle.flat_meaning.specs.Events.{State, local, look, act, put, put_if, after}
 use Rattle.flat_meaning.specs.Order.{pick, step_picks, act_picks, local_picks, picks_of_local, picks_of_act, picks_of, tried_if, tried_before, tried_at, tried_by}
 use Rattle.flat_meaning.specs.Allowed.{MayAct, MayStep, MayStepAt, MayGo, StandsBefore, MayCome}
-
--- the thread's first function has begun
-abbrev pub HasBegun : {P : Type 0} → Stage P → Type 0
-HasBegun (starts function argument) = ⊥
-HasBegun (going t) = Unit {0}
-HasBegun (waiting t) = Unit {0}
-HasBegun (landed list t) = Unit {0}
+use Rattle.flat_simulation.specs.LinearSteps.{HasBegun}
 
 module _ {P : Type 0} (x : Image P) where
   pub gone_begun : (thread : ℕ) (g : Stage P) → HasBegun g → gone x thread g ≡ gone_from x thread (past_if x (thread_at x g) (before x (thread_at x g)))
@@ -40,6 +34,12 @@ module _ {P : Type 0} (x : Image P) where
   stands_begun (going t) b h = (tt, h)
   stands_begun (waiting t) b h = (tt, h)
   stands_begun (landed list t) b h = (tt, h)
+
+  pub stands_at : (g : Stage P) → HasBegun g → (b : Before) → before x (thread_at x g) ≡ b → StandsBefore x (Some g) b
+  stands_at (starts function argument) h b e = absurd h
+  stands_at (going t) h b e = e
+  stands_at (waiting t) h b e = e
+  stands_at (landed list t) h b e = e
 
 module _ {P : Type 0} (x : Image P) (s : State P) (thread : ℕ) (g : Stage P) (at : own_at s.own thread ≡ Some g) where
   -- ---- it goes on alone
@@ -95,12 +95,6 @@ module _ {P : Type 0} (x : Image P) (s : State P) (thread : ℕ) (g : Stage P) (
   may_step_at choice (waiting t) h m = refl
   may_step_at choice (landed list t) h m = refl
 
-  stands_at : (g : Stage P) → HasBegun g → (b : Before) → before x (thread_at x g) ≡ b → StandsBefore x (Some g) b
-  stands_at (starts function argument) h b e = absurd h
-  stands_at (going t) h b e = e
-  stands_at (waiting t) h b e = e
-  stands_at (landed list t) h b e = e
-
   module _ (begun : HasBegun g) where
     abbrev t : Thread P Words
     t = thread_at x g
@@ -142,7 +136,7 @@ module _ {P : Type 0} (x : Image P) (s : State P) (thread : ℕ) (g : Stage P) (
       after_look = ap (put_if s thread (look_effect x thread)) at ∙ ap (put s thread) (look_acts g begun e s.memory)
 
       pub may_look : MayCome x s (look thread)
-      may_look = subst (λ o. StandsBefore x o looks) (sym at) (stands_at g begun looks e)
+      may_look = subst (λ o. StandsBefore x o looks) (sym at) (stands_at x g begun looks e)
 
 -- the first function of a thread has no room
 module _ {P : Type 0} (x : Image P) (s : State P) (thread : ℕ) (choice : Choice) (function argument : ℕ) (at : own_at s.own thread ≡ Some (starts function argument)) (none : can_go x (starts function argument) ≡ false) where

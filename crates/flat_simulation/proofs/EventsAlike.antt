@@ -17,11 +17,12 @@ use Rattle.flat_meaning.specs.Events.{State, local, look, act, put, after}
 use Rattle.flat_meaning.specs.Order.{local_picks, pick_if, tried_if, answer_of, picks_of, tried_by}
 use Rattle.flat_meaning.specs.Allowed.{MayGo, MayAct, StandsBefore, MayStep, MayStepAt, MayCome}
 use Rattle.flat_meaning.specs.Emitted.{AreOne, CallsAreGuarded}
+use Rattle.flat_simulation.specs.LinearSteps.{HasBegun}
 use Rattle.flat_simulation.specs.inner.Level.{image, Near, same, level, GonesMatch, StagesMatch, OthersMatch, OwnsMatch, StatesMatch, EffectsMatch}
 use Rattle.flat_simulation.specs.inner.EventRuns.{Leads}
 use Rattle.flat_simulation.proofs.Numbering.{own_within, own_at-set_same}
 use Rattle.flat_simulation.proofs.EventRuns.{none_leads, one_leads, then_leads}
-use Rattle.flat_simulation.proofs.EventKinds.{HasBegun, gone_begun, can_begun, stands_begun, after_local, picks_of-local, may_local, after_step, picks_of-step, tried_by-step, may_step, after_full, picks_of-full, tried_by-full, may_full, after_look, may_look, after_fresh, picks_of-fresh, tried_by-fresh, may_fresh}
+use Rattle.flat_simulation.proofs.EventKinds.{gone_begun, can_begun, stands_begun, after_local, picks_of-local, may_local, after_step, picks_of-step, tried_by-step, may_step, after_full, picks_of-full, tried_by-full, may_full, after_look, may_look, after_fresh, picks_of-fresh, tried_by-fresh, may_fresh}
 use Rattle.flat_simulation.proofs.GoingAlike.{unseen_nothing, before_same, goes_same, Lag, there, lags, lag, gone_level, gone_same, IsHeld, comes_there}
 use Rattle.flat_simulation.proofs.SteppingAlike.{IsStuck, IsStep, same_outcome, step_match, step_picks_same, tried_same}
 use Rattle.flat_simulation.proofs.StatesAlike.{no_new_stages, put_match, put_first, others_match, put_still}
@@ -48,7 +49,7 @@ module _ {P Q : Type 0} (Y : Layout) (C : Flow P) (D : Flow Q) (code : ℕ → P
   -- ---- stages that match
 
   -- neither has begun; both stand before the same; or the first lags
-  data Kind (g : Stage P) (h : Stage Q) : Type 0 where
+  pub data Kind (g : Stage P) (h : Stage Q) : Type 0 where
     fresh : (function argument : ℕ) → g ≡ starts function argument → h ≡ starts function argument → Kind g h
     alike : HasBegun g → HasBegun h → Same (thread_at x g) (thread_at y h) → Kind g h
     behind : HasBegun g → HasBegun h → Level (thread_at x g) (thread_at y h) → IsUnseen (C.here (thread_at x g).top.at) → Kind g h
@@ -57,7 +58,7 @@ module _ {P Q : Type 0} (Y : Layout) (C : Flow P) (D : Flow Q) (code : ℕ → P
   by_lag g h a b l (there s) = alike a b s
   by_lag g h a b l (lags e) = behind a b l e
 
-  kind : (g : Stage P) (h : Stage Q) → StagesMatch C D R (Some g) (Some h) → Kind g h
+  pub kind : (g : Stage P) (h : Stage Q) → StagesMatch C D R (Some g) (Some h) → Kind g h
   kind (starts f a) (starts g b) k = fresh f a refl (λ i. starts (k.0 i) (k.1 i))
   kind (going t) (going u) k = by_near k
     where
@@ -80,7 +81,7 @@ module _ {P Q : Type 0} (Y : Layout) (C : Flow P) (D : Flow Q) (code : ℕ → P
   kind (landed list t) (waiting u) k = absurd k
 
   -- no stage stands for one that the first doesn't have
-  no_first : (h : Stage Q) → StagesMatch C D R None (Some h) → ⊥
+  pub no_first : (h : Stage Q) → StagesMatch C D R None (Some h) → ⊥
   no_first (starts f a) z = z
   no_first (going u) z = z
   no_first (waiting u) z = z
@@ -166,7 +167,7 @@ module _ {P Q : Type 0} (Y : Layout) (C : Flow P) (D : Flow Q) (code : ℕ → P
         all = others_match C D R thread m own other k
 
         -- where the second's thread is held, the first's comes there
-        comes : (g : Stage P) (h : Stage Q) → own_at own thread ≡ Some g → HasBegun h → IsHeld Y C D code code' R one guarded (thread_at y h) (before y (thread_at y h)) → Kind g h → IsThere own (thread_at y h)
+        pub comes : (g : Stage P) (h : Stage Q) → own_at own thread ≡ Some g → HasBegun h → IsHeld Y C D code code' R one guarded (thread_at y h) (before y (thread_at y h)) → Kind g h → IsThere own (thread_at y h)
         comes g h at b held (fresh f a e e') = absurd (subst HasBegun e' b)
         comes g h at b held (alike a a' z) = stays_there own all g at a (thread_at y h) z
         comes g h at b held (behind a a' l e) = catches_up own all g at a (thread_at y h) l e held
@@ -302,7 +303,7 @@ module _ {P Q : Type 0} (Y : Layout) (C : Flow P) (D : Flow Q) (code : ℕ → P
             is' : before x came ≡ steps
             is' = sym (before_same Y C D code code' R one came held w.same) ∙ is
 
-            may_first : MayAct m.storage held.top.own choice (D.here held.top.at) → MayCome x s1 (act thread choice)
+            pub may_first : MayAct m.storage held.top.own choice (D.here held.top.at) → MayCome x s1 (act thread choice)
             may_first may =
                 let z : MayAct m.storage came.top.own choice (C.here came.top.at) = subst (λ l. MayAct m.storage l choice (C.here came.top.at)) w.same.top.own (subst (λ d. MayAct m.storage held.top.own choice d) w.same.top.same.here may) in
                 subst (λ (T : Type 0). T) (sym (may_step x s1 thread w.stage w.at w.begun choice is')) z

@@ -23,12 +23,13 @@ use Rattle.flat_meaning.specs.Allowed.{MayAct, MayStep, StandsBefore}
 use Rattle.flat_meaning.specs.Start.{chosen_id}
 use Rattle.flat_meaning.specs.Names.{Name}
 use Rattle.flat_meaning.specs.Simulation.{UpToABreak, EachTurnTakesAnAnswer}
+use Rattle.flat_simulation.specs.LinearSteps.{HasBegun}
 use Rattle.flat_simulation.specs.inner.Programs.{IsImage}
 use Rattle.flat_simulation.specs.inner.Threads.{StageStands, StateStands, TurnsAlike}
 use Rattle.flat_simulation.specs.inner.Kept.{source_turn, ThreadKeeps, EventsKeep}
 use Rattle.flat_simulation.specs.inner.Next.{Next}
 use Rattle.flat_simulation.proofs.Numbering.{own_within}
-use Rattle.flat_simulation.proofs.EventKinds.{HasBegun, stands_begun, after_local, picks_of-local, after_step, picks_of-step, after_full, picks_of-full, after_look}
+use Rattle.flat_simulation.proofs.EventKinds.{stands_begun, after_local, picks_of-local, after_step, picks_of-step, after_full, picks_of-full, after_look}
 use Rattle.flat_simulation.proofs.Later.{fresh_thread}
 use Rattle.flat_simulation.proofs.Putting.{length-made}
 use Rattle.flat_simulation.proofs.StepKinds.{waits_on, exits}

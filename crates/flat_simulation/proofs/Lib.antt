@@ -83,4 +83,6 @@ pub mod SourceRuns
 pub mod EventsStand
 pub mod AllEvents
 pub mod Whole
+pub mod LinearActs
+pub mod LinearFollow
 pub mod LinearEvents

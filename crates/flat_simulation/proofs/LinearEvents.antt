@@ -19,6 +19,8 @@ use Rattle.flat_meaning.specs.Simulation.{Simulates, UpToABreak}
 use Rattle.flat_meaning.specs.Image.{Frame, Limits, limits_for, func_frame, linear_frame, structured_image, linear_image}
 use Rattle.flat_meaning.specs.Emitted.{AreOne, IsSafepoint, CallsAreGuarded}
 use Rattle.flat_simulation.specs.LinearEvents.{EventsOfLinearCode, LinearCodeFollowsTurns}
+use Rattle.flat_simulation.specs.LinearSteps.{Follows}
+use Rattle.flat_simulation.proofs.LinearFollow.{linear_found}
 use Rattle.flat_simulation.proofs.Whole.{events_follow_turns}
 use Rattle.flat_simulation.proofs.OneProgram.{events_are_those_of_the_first}
 
@@ -128,10 +130,12 @@ pub linear_code_follows_turns : LinearCodeFollowsTurns
 linear_code_follows_turns p checked code emitted lawful output heaps heap ids shape ds may =
     let limits = limits_for output heaps heap ids in
     let x = structured_image p limits in
-    let f = events_of_linear_code p code emitted lawful limits ds may in
+    let y = linear_image code limits in
+    let f = linear_found p checked output heaps heap ids shape y (StandsIn code.funcs) (are_one p code limits emitted lawful) (linear_calls_guarded code limits lawful) ds may in
     record {
       events = f.0;
       same = f.1;
       simulates = subst (λ order. UpToABreak (runs.run (program_of p) (start p) order) (λ u. Simulates x p f.0 u (after_all x f.0 (first_state x)))) f.1.order
           (events_follow_turns p checked output heaps heap ids shape f.0 f.1.allowed);
+      follows = subst (λ order. UpToABreak (runs.run (program_of p) (start p) order) (λ u. Follows y p u (after_all y ds (first_state y)))) f.1.order f.2;
     }

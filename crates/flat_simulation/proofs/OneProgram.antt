@@ -42,13 +42,12 @@ module _ {P Q : Type 0} (Y : Layout) (C : Flow P) (D : Flow Q) (code : ℕ → P
   record Followed (s : State P) (ds : List Event) (r : State Q) : Type 0 where
     events : List Event
     allowed : AreAllowed x events s
-    memory : (after_all x events s).memory ≡ (after_all y ds r).memory
-    end : (after_all x events s).end ≡ (after_all y ds r).end
+    match : StatesMatch C D R (after_all x events s) (after_all y ds r)
     order : order_of x events s ≡ order_of y ds r
     attempts : (n : ℕ) → attempts_of x events n s ≡ attempts_of y ds n r
 
   all_follow : (ds : List Event) (s : State P) (r : State Q) → StatesMatch C D R s r → AreAllowed y ds r → Followed s ds r
-  all_follow [] s r k may = record { events = []; allowed = tt; memory = sym k.memory; end = sym k.end; order = refl; attempts = λ n. refl }
+  all_follow [] s r k may = record { events = []; allowed = tt; match = k; order = refl; attempts = λ n. refl }
   all_follow (d ∷ ds) s r k may =
       let w = event_follows d s r k may.0.0 may.0.1 in
       let es = w.leads.events in
@@ -59,8 +58,7 @@ module _ {P Q : Type 0} (Y : Layout) (C : Flow P) (D : Flow Q) (code : ℕ → P
       record {
         events = es ++ fs;
         allowed = allowed_append x es fs s w.leads.allowed (subst (λ q. AreAllowed x fs q) (sym at) rest.allowed);
-        memory = ap (λ (q : State P). q.memory) ends ∙ rest.memory;
-        end = ap (λ (q : State P). q.end) ends ∙ rest.end;
+        match = subst (λ q. StatesMatch C D R q (after_all y ds (after y r d))) (sym ends) rest.match;
         order = order_of-append x es fs s ∙ (λ i. w.leads.order i ++ order_of x fs (at i)) ∙ ap (λ l. picks_of y r d ++ l) rest.order;
         attempts = λ n.
             attempts_of-append x es fs n s
@@ -81,10 +79,14 @@ module _ {P Q : Type 0} (Y : Layout) (C : Flow P) (D : Flow Q) (code : ℕ → P
       first_each zero = (refl, refl)
       first_each (suc n) = tt
 
-  pub have_events : (ds : List Event) → AreAllowed y ds (first_state y) → (es : List Event) × ComeToTheSame x es y ds
-  have_events ds may =
+  -- and the states after both match
+  pub have_matching : (ds : List Event) → AreAllowed y ds (first_state y) → (es : List Event) × ComeToTheSame x es y ds × StatesMatch C D R (after_all x es (first_state x)) (after_all y ds (first_state y))
+  have_matching ds may =
       let f = all_follow ds (first_state x) (first_state y) at_first may in
-      (f.events, record { allowed = f.allowed; memory = f.memory; end = f.end; order = f.order; attempts = f.attempts 0 })
+      (f.events, record { allowed = f.allowed; memory = sym f.match.memory; end = sym f.match.end; order = f.order; attempts = f.attempts 0 }, f.match)
+
+  have_events : (ds : List Event) → AreAllowed y ds (first_state y) → (es : List Event) × ComeToTheSame x es y ds
+  have_events ds may = let h = have_matching ds may in (h.0, h.1)
 
 pub events_are_those_of_the_first : (P Q : Type 0) → EventsAreThoseOfTheFirst P Q
 events_are_those_of_the_first P Q x y R one guarded =

@@ -25,7 +25,7 @@ use Rattle.flat_simulation.proofs.Public.{state_stands}
 use Rattle.flat_simulation.proofs.WordsCome.{first_state_comes}
 
 -- each kind of event keeps what it is to keep
-events_keep : (p : Ir) (limits : Limits) → IsImage (structured_image p limits) p → EventsKeep p limits
+pub events_keep : (p : Ir) (limits : Limits) → IsImage (structured_image p limits) p → EventsKeep p limits
 events_keep p limits image = record {
   thread = λ thread names w m k g world stand. record {
     goes = λ can none. goes_on (structured_image p limits) p image thread names w m world k g stand can none;
@@ -37,7 +37,7 @@ events_keep p limits image = record {
 }
 
 -- what holds of the state that a run reaches
-up_to : {A : Type 0} (w : Run A) (B D : runs.State A → Type 0) → ((v : runs.State A) → w ≡ reaches v → B v → D v) → UpToABreak w B → UpToABreak w D
+pub up_to : {A : Type 0} (w : Run A) (B D : runs.State A → Type 0) → ((v : runs.State A) → w ≡ reaches v → B v → D v) → UpToABreak w B → UpToABreak w D
 up_to (reaches v) B D f b = f v refl b
 up_to (breaks rule k) B D f b = tt
 up_to (no_run k) B D f b = absurd b

@@ -10,7 +10,6 @@ use Rattle.struct_ir.specs.Structured.{Position, structured}
 use Rattle.struct_ir.specs.Threads.{Thread}
 use Rattle.ir_meaning.specs.Blocks.{Own, blocks_machine}
 use Rattle.ir_meaning.specs.Threads.{program_of}
-use Rattle.flat_meaning.specs.declared.endings.End.{End}
 use Rattle.flat_meaning.specs.declared.endings.End.TheVariants as ends
 use Rattle.flat_meaning.specs.Image.{Image}
 use Rattle.flat_meaning.specs.Words.{Words}

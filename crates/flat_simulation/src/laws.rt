@@ -20,7 +20,9 @@ pub fn events_follow_turns()
 /// Whatever the limits: for all allowed events of a program's linear code there are allowed events of its structured code that come to the
 /// same memory, end, order and attempts.
 /// So what holds of checked structured code holds of its linear code: unless one of the turns of its events breaks a rule of C, its memory
-/// is that of a state that stands for the source's after those turns.
+/// is that of a state that stands for the source's after those turns; and whatever step of it may come next touches just bytes that the
+/// source's turn reaches; waits, prints past the output's limit, or lacks room for a call only where that turn waits, prints past that
+/// limit, or enters that call, or breaks a rule; and traps only where it breaks one.
 pub fn events_of_linear_code()
     ensures same { EventsOfLinearCode }
     ensures follow { LinearCodeFollowsTurns }

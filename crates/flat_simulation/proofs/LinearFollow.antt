@@ -1,0 +1,214 @@
+-- After events of linear code what threads share stands for the source's world, and whatever step may come next follows the source's turn.
+use Rattle.std.proofs.Common.{◌≡◌, ℕ, List, [], ◌∷◌, ◌++◌, length, Some, refl, sym, ap, subst, ◌∙◌, arith, append-nil}
+use Rattle.std.specs.Prelude.{All}
+use Rattle.std.proofs.lemmas.List.{length-append}
+use Rattle.std.proofs.lemmas.List.Elements.{All-weaker}
+use Rattle.ak_words.specs.Prefix.{IsPrefix}
+use Rattle.block_store.specs.Runs as runs
+use Rattle.block_store.specs.Runs.{Pick, own_at, picked, run_from}
+use Rattle.sub_heaps.specs.SubHeaps.{IsShape}
+use Rattle.struct_ir.specs.Nodes.{Ir}
+use Rattle.struct_ir.specs.Flow.{Flow}
+use Rattle.struct_ir.specs.Linear.{Spot}
+use Rattle.struct_ir.specs.Structured.{Position, structured}
+use Rattle.struct_ir.specs.Threads.{Thread}
+use Rattle.ir_meaning.specs.Blocks.{Own}
+use Rattle.ir_meaning.specs.Start.{start}
+use Rattle.ir_meaning.specs.Threads.{program_of, code_of}
+use Rattle.flat_meaning.specs.Image.{Limits, Image, limits_for, structured_image}
+use Rattle.flat_meaning.specs.Accesses.{Choice}
+use Rattle.flat_meaning.specs.Stages.{Stage, steps, thread_at, before}
+use Rattle.flat_meaning.specs.Events.{State, Event, act, after, after_all, first_state}
+use Rattle.flat_meaning.specs.Order.{picks_of, tried_by, order_of}
+use Rattle.flat_meaning.specs.Allowed.{StandsBefore, IsAllowed, AreAllowed}
+use Rattle.flat_meaning.specs.Emitted.{AreOne, ComeToTheSame, CallsAreGuarded}
+use Rattle.flat_meaning.specs.Names.{Name}
+use Rattle.flat_meaning.specs.Reaching.{Unbroken, Waits, Broken, StaysInBlocks, StepReaches, reached_in}
+use Rattle.flat_meaning.specs.Stands.{WorldStands}
+use Rattle.flat_meaning.specs.Simulation as structured_code
+use Rattle.flat_meaning.specs.Simulation.{AllComeOut, IsTrap, UpToABreak, IsChecked, EachTurnTakesAnAnswer}
+use Rattle.flat_meaning.specs.Start.{ids_of}
+use Rattle.flat_meaning.specs.Touched.{touched_at}
+use Rattle.flat_simulation.specs.LinearSteps.{PrintsPast, Enters, StepTouches, StepsFollow, Follows}
+use Rattle.flat_simulation.specs.inner.EventRuns.{Leads}
+use Rattle.flat_simulation.specs.inner.Kept.{EventsKeep}
+use Rattle.flat_simulation.specs.inner.Level.{image, StatesMatch}
+use Rattle.flat_simulation.specs.inner.Next.{Next}
+use Rattle.flat_simulation.specs.inner.Programs.{IsImage}
+use Rattle.flat_simulation.specs.inner.Threads.{StateStands}
+use Rattle.flat_simulation.proofs.AllEvents.{Stood, all_stand, events_stand}
+use Rattle.flat_simulation.proofs.EventKinds.{stands_begun, stands_at}
+use Rattle.flat_simulation.proofs.First.{names, first_stands}
+use Rattle.flat_simulation.proofs.Follow.{TakeAnswers}
+use Rattle.flat_simulation.proofs.Followed.{steps_follow}
+use Rattle.flat_simulation.proofs.Full.{act_enters}
+use Rattle.flat_simulation.proofs.GoingAlike.{before_same}
+use Rattle.flat_simulation.proofs.LinearActs.{MeetsStage, ActAlike, act_alike}
+use Rattle.flat_simulation.proofs.Made.{world_agrees}
+use Rattle.flat_simulation.proofs.OneProgram.{have_matching}
+use Rattle.flat_simulation.proofs.PastLimit.{act_prints}
+use Rattle.flat_simulation.proofs.Programs.{checked_image}
+use Rattle.flat_simulation.proofs.Whole.{events_keep, up_to}
+use Rattle.flat_simulation.proofs.WordsCome.{StateComes, after_comes, first_state_comes}
+
+-- ---- names
+
+empty : (rest : List Name) → length rest ≡ 0 → rest ≡ []
+empty [] e = refl
+empty (n ∷ rest) e = absurd (omega (arith, e))
+
+-- names are the first of as many
+same_names : (part all : List Name) → IsPrefix part all → length all ≡ length part → all ≡ part
+same_names part all first each =
+    let e : length all ≡ length (part ++ first.0) = ap (λ (l : List Name). length l) first.1 in
+    let f = length-append part first.0 in
+    let none : length first.0 ≡ 0 = omega (arith, each, e, f) in
+    first.1 ∙ ap (λ l. part ++ l) (empty first.0 none) ∙ append-nil part
+
+module _ (p : Ir) (limits : Limits) (its : IsImage (structured_image p limits) p) (takes_answers : EachTurnTakesAnAnswer p) (keep : EventsKeep p limits) where
+  abbrev x : Image Position
+  x = structured_image p limits
+
+  abbrev P : runs.Program (Thread Position Own)
+  P = program_of p
+
+  all_come : (es : List Event) (s : State Position) → StateComes p limits s → StateComes p limits (after_all x es s)
+  all_come [] s come = come
+  all_come (e ∷ es) s come = all_come es (after x s e) (after_comes p limits s e come)
+
+  module _ (names : List Name) (order : List Pick) (u : runs.State (Thread Position Own)) (s : State Position) (now : Stood p limits its takes_answers keep names order u s) where
+    -- events that make no turn leave the source where it is
+    no_turn : (later : State Position) (leads : Leads x s later [] []) → Next p limits names (ids_of leads.events) later u
+    no_turn later leads =
+        subst (λ (q : State Position). Next p limits names (ids_of leads.events) q u) leads.ends
+        (subst (λ picks. UpToABreak (run_from P picks (length order) u) (Next p limits names (ids_of leads.events) (after_all x leads.events s))) leads.order
+        (all_stand p limits its takes_answers keep leads.events names order u s now leads.allowed))
+
+    -- and the same names
+    still_stands : (later : State Position) → Leads x s later [] [] → StateStands x p names u later
+    still_stands later leads =
+        let n = no_turn later leads in
+        let each : length n.all ≡ length names = n.stands.world.blocks.names_stand.each ∙ sym now.stand.world.blocks.names_stand.each in
+        subst (λ l. StateStands x p l u later) (same_names names n.all n.first each) n.stands
+
+    -- ---- beside linear code
+
+    module _ (D : Flow Spot) (code' : ℕ → Spot) (R : Position → Spot → Type 0) (one : AreOne x (image D code' x.layout) R) (guarded : CallsAreGuarded (image D code' x.layout)) (r : State Spot) (match : StatesMatch structured D R s r) where
+      abbrev y : Image Spot
+      y = image D code' x.layout
+
+      takes : TakeAnswers p u
+      takes thread main own m o = takes_answers order u now.reached thread main own m o
+
+      abbrev Alike : (thread : ℕ) → Choice → Type 0
+      Alike thread choice = ActAlike x.layout structured D (code_of p) code' R one guarded s r thread choice
+
+      alike : (thread : ℕ) (choice : Choice) → IsAllowed y r (act thread choice) → Alike thread choice
+      alike thread choice may = act_alike x.layout structured D (code_of p) code' R one guarded s r match thread choice may
+
+      module _ (thread : ℕ) (choice : Choice) (a : Alike thread choice) where
+        stands : StateStands x p names u a.came
+        stands = still_stands a.came a.leads
+
+        follow : structured_code.StepsFollow x p names u a.came
+        follow = steps_follow p limits its names u a.came stands takes
+
+        -- ---- what it touches
+
+        module _ (t : Thread Position Own) (h : Stage Spot) (g : MeetsStage x.layout structured D (code_of p) code' R one guarded a.came thread h) where
+          -- what the first touches the second does
+          touches : (k : Pick) → StepReaches x p names u a.came.memory k t (thread_at x g.stage) → StepTouches y p names u r k t (thread_at y h)
+          touches k z = record {
+            made = z.made;
+            stop = z.stop;
+            stops = z.stops;
+            reaches = subst (λ (T : Type 0). T)
+                (λ i. StaysInBlocks (names ++ z.made) (sym a.memory i).storage (touched_at x.layout (sym g.same.top.own i) (sym a.memory i) (sym g.same.top.same.here i)) (reached_in u.world z.stop.own (structured.here z.stop.at) (picked P u k))) z.reaches;
+          }
+
+          abbrev Reaching : Pick → Type 0
+          Reaching k = Unbroken (picked P u k) → StepReaches x p names u a.came.memory k t (thread_at x g.stage)
+
+          abbrev Touching : Pick → Type 0
+          Touching k = Unbroken (picked P u k) → StepTouches y p names u r k t (thread_at y h)
+
+          all_touch : own_at u.own thread ≡ Some t → before y (thread_at y h) ≡ steps → All Touching (picks_of y r (act thread choice) ++ tried_by y r (act thread choice))
+          all_touch i is =
+              let is' : before x (thread_at x g.stage) ≡ steps = sym (before_same x.layout structured D (code_of p) code' R one (thread_at x g.stage) (thread_at y h) g.same) ∙ is in
+              let at : StandsBefore x (own_at a.came.own thread) steps = subst (λ o. StandsBefore x o steps) (sym g.at) (stands_at x g.stage g.begun steps is') in
+              let turns = picks_of x a.came (act thread choice) ++ tried_by x a.came (act thread choice) in
+              subst (λ l. All Touching l) (λ i. a.picks i ++ a.tried i)
+              (All-weaker Reaching Touching (λ k f unbroken. touches k (f unbroken)) turns (follow.reaches thread choice t g.stage i g.at a.allowed at))
+
+      -- ---- whatever step may come next
+
+      steps_touch : (thread : ℕ) (choice : Choice) (t : Thread Position Own) (h : Stage Spot) → own_at u.own thread ≡ Some t → own_at r.own thread ≡ Some h → IsAllowed y r (act thread choice) → StandsBefore y (own_at r.own thread) steps
+          → All (λ (k : Pick). Unbroken (picked P u k) → StepTouches y p names u r k t (thread_at y h)) (picks_of y r (act thread choice) ++ tried_by y r (act thread choice))
+      steps_touch thread choice t h i e may at =
+          let b = stands_begun y h steps (subst (λ o. StandsBefore y o steps) e at) in
+          let a = alike thread choice may in
+          all_touch thread choice a t h (a.meets h e b.0) i b.1
+
+      linear_steps_follow : StepsFollow y p names u r
+      linear_steps_follow = record {
+        reaches = steps_touch;
+        waits = λ thread choice may end.
+            let a = alike thread choice may in
+            subst (λ l. AllComeOut p u Waits l) a.tried ((follow thread choice a).waits thread choice a.allowed (a.end ∙ end));
+        traps = λ thread choice may trap.
+            let a = alike thread choice may in
+            subst (λ l. AllComeOut p u Broken l) a.tried ((follow thread choice a).traps thread choice a.allowed (subst IsTrap (sym a.end) trap));
+        prints = λ thread choice may end.
+            let a = alike thread choice may in
+            subst (λ l. AllComeOut p u (PrintsPast limits.output) l) a.tried (act_prints p limits its names u a.came (stands thread choice a) takes a.allowed.0 thread choice a.allowed (a.end ∙ end));
+        calls = λ thread number choice t h i e b may end.
+            let a = alike thread choice may in
+            let g = a.meets h e b in
+            subst (λ l. AllComeOut p u (Enters t) l) a.tried
+            (act_enters p limits its names u a.came (stands thread choice a) takes a.allowed.0 thread number choice t g.stage i g.at g.begun a.allowed (a.end ∙ end));
+      }
+
+      linear_follows : Follows y p u r
+      linear_follows = record {
+        names = names;
+        world = subst (λ m. WorldStands names u.world m) (sym match.memory) (world_agrees x.layout p names u.world s.memory now.stand.world);
+        steps = linear_steps_follow;
+      }
+
+-- ---- all events
+
+-- events of structured code that come to the same as linear code's, after which that follows the source
+abbrev pub Found : (p : Ir) → Image Position → Image Spot → List Event → Type 0
+Found p x y ds = (es : List Event) × ComeToTheSame x es y ds × UpToABreak (runs.run (program_of p) (start p) (order_of x es (first_state x))) (λ u. Follows y p u (after_all y ds (first_state y)))
+
+module _ (p : Ir) (c : IsChecked p) (output heaps heap ids : ℕ) (shape : IsShape heaps heap ids) where
+  abbrev its_limits : Limits
+  its_limits = limits_for output heaps heap ids
+
+  abbrev first : Image Position
+  first = structured_image p its_limits
+
+  found_at : (D : Flow Spot) (code' : ℕ → Spot) (R : Position → Spot → Type 0) → AreOne first (image D code' first.layout) R → CallsAreGuarded (image D code' first.layout)
+      → (ds : List Event) → AreAllowed (image D code' first.layout) ds (first_state (image D code' first.layout)) → Found p first (image D code' first.layout) ds
+  found_at D code' R one guarded ds may =
+      let y = image D code' first.layout in
+      let f = have_matching first.layout structured D (code_of p) code' R one guarded ds may in
+      let es = f.0 in
+      let its = checked_image p c output heaps heap ids in
+      let keep = events_keep p its_limits its in
+      let begin = names p c output heaps heap ids shape in
+      let order = order_of first es (first_state first) in
+      let s = after_all first es (first_state first) in
+      let r = after_all y ds (first_state y) in
+      let come = all_come p its_limits its c.answers keep es (first_state first) (first_state_comes p its_limits) in
+      let all = events_stand p its_limits its c.answers keep begin (first_state first) (first_stands p c output heaps heap ids shape) (first_state_comes p its_limits) es f.1.allowed in (
+        es,
+        f.1,
+        up_to (runs.run (program_of p) (start p) order) (Next p its_limits begin (ids_of es) s) (λ u. Follows y p u r) (λ u reached n.
+            linear_follows p its_limits its c.answers keep n.all order u s (record { stand = n.stands; come = come; reached = reached }) D code' R one guarded r f.2) all,
+      )
+
+  pub linear_found : (y : Image Spot) (R : Position → Spot → Type 0) → AreOne first y R → CallsAreGuarded y → (ds : List Event) → AreAllowed y ds (first_state y) → Found p first y ds
+  linear_found y R one guarded =
+      subst (λ (z : Image Spot). AreOne first z R → CallsAreGuarded z → (ds : List Event) → AreAllowed z ds (first_state z) → Found p first z ds) (λ i. record { flow = y.flow; start = y.start; layout = sym one.layout i })
+      (λ (o : AreOne first (image y.flow y.start first.layout) R) (g : CallsAreGuarded (image y.flow y.start first.layout)). found_at y.flow y.start R o g) one guarded
