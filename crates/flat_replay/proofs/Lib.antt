@@ -11,3 +11,7 @@ pub mod Serving
 pub mod Stages
 pub mod Told
 pub mod Journal
+pub mod GotBreaks
+pub mod Mallocs
+pub mod LastEvent
+pub mod Endings
