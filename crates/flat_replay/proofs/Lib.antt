@@ -15,3 +15,5 @@ pub mod GotBreaks
 pub mod Mallocs
 pub mod LastEvent
 pub mod Endings
+pub mod MainRuns
+pub mod LastEntry
