@@ -17,3 +17,9 @@ pub mod LastEvent
 pub mod Endings
 pub mod MainRuns
 pub mod LastEntry
+pub mod Owns
+pub mod Unstarted
+pub mod WaitsMade
+pub mod ActBlocks
+pub mod HomeWaits
+pub mod Standing
