@@ -23,3 +23,5 @@ pub mod WaitsMade
 pub mod ActBlocks
 pub mod HomeWaits
 pub mod Standing
+pub mod SourceActs
+pub mod SourceThreads
