@@ -25,3 +25,7 @@ pub mod HomeWaits
 pub mod Standing
 pub mod SourceActs
 pub mod SourceThreads
+pub mod Clean
+pub mod Meant
+pub mod CleanEnds
+pub mod CleanMeant
