@@ -81,7 +81,7 @@ enters_goes t (Some runs.blocked) h never = absurd h
 enters_goes t (Some runs.unfit) h never = absurd h
 enters_goes t (Some (runs.broke rule place)) h never = absurd (never tt)
 
--- what ends now ended before no event
+-- an end that was none before the event is the event's
 pub now_ends : (e b : Option End) (end : End) → b ≡ None → end_or e b ≡ Some end → e ≡ Some end
 now_ends None b end open_ e = let bad : None ≡ Some end = sym open_ ∙ e in absurd cc
 now_ends (Some f) b end open_ e = e

@@ -48,7 +48,7 @@ runs_on names w m stands n runs =
 pub runs_below : (names : List Name) (w : World) (m : Memory) → WorldStands names w m → (n : ℕ) → Runs w n → n < length m.threads
 runs_below names w m stands n runs = let a : MadeAt names w.blocks runs.0 m.threads n = made_at names w.blocks w.threads m.threads stands.threads n runs.0 runs.1 in there_is m.threads n a.made a.is
 
--- and one without a result runs
+-- of threads that stand for others, one without a result stands for one that runs
 back_at : (names : List Name) (blocks : Blocks) (ts : List actions.Thread) (us : List Made) → AllMadeStand names blocks ts us → (n : ℕ) → n < length us → has_ended (slice_get us n) ≡ false → (t : actions.Thread) × (slice_get ts n ≡ Some t) × (t.stage ≡ running)
 back_at names blocks [] [] stand n below none = absurd (omega (arith, below))
 back_at names blocks [] (u ∷ us) stand n below none = absurd stand
@@ -60,7 +60,7 @@ back_at names blocks (t ∷ ts) (u ∷ us) stand zero below none = (t, refl, by 
   by (joined z) h = absurd (let bad : true ≡ false = sym (ap is_some h) ∙ none in cc)
 back_at names blocks (t ∷ ts) (u ∷ us) stand (suc n) below none = back_at names blocks ts us stand.1 n (omega (arith, below)) none
 
--- so it does in the source's world
+-- where the machine's thread has no result, the source's runs
 pub made_back : (names : List Name) (w : World) (m : Memory) → WorldStands names w m → (n : ℕ) → n < length m.threads → has_ended (slice_get m.threads n) ≡ false → Runs w n
 made_back names w m stands n below none = back_at names w.blocks w.threads m.threads stands.threads n below none
 
