@@ -1,0 +1,5 @@
+use Rattle.flat_replay.proofs.Whole.{journals_of_checked_code_are_meant}
+use Rattle.flat_replay.proofs.laws.journals_of_checked_code_are_meant.Goals as goal
+
+pub returns : goal.returns
+returns c = journals_of_checked_code_are_meant c.events_of_linear_code.ensures.follow
