@@ -1,7 +1,6 @@
 -- A run's journal, and what it replays to.
 use Rattle.std.proofs.Common.{◌≡◌, ℕ, List, ◌++◌, length, take, ap, subst, ◌∙◌, Some}
 use Rattle.std.specs.Prelude.{◌==◌, if◌then◌else◌, None, option_and_then}
-use Rattle.std.specs.Option.{option_map}
 use Rattle.std.proofs.Math.Seq.{take-append_seam}
 use Rattle.ak_trace.specs.declared.entry.Entry.{Entry}
 use Rattle.struct_ir.specs.Instrs.{LinearCode}
@@ -12,7 +11,7 @@ use Rattle.flat_rules.specs.States.{State, start, end_of}
 use Rattle.flat_rules.specs.Replays.{run, settled}
 use Rattle.flat_threads.specs.Contexts.{Context}
 use Rattle.flat_machine.specs.Machine.{machine_of}
-use Rattle.flat_machine.specs.Replays.{final_at, final_of, replay}
+use Rattle.flat_machine.specs.Replays.{replay}
 use Rattle.flat_machine.specs.Shares.{Shared}
 use Rattle.flat_machine.specs.Start.{first_shared, settings_limits}
 use Rattle.world_rules.specs.Whole.{Whole, Leads}

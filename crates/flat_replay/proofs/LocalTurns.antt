@@ -12,7 +12,7 @@ use Rattle.flat_meaning.specs.declared.endings.Stop.{Stop}
 use Rattle.flat_meaning.specs.Allowed.{MayGo}
 use Rattle.flat_meaning.specs.Effects.{gone_effect, no_effect}
 use Rattle.flat_meaning.specs.Events as events
-use Rattle.flat_meaning.specs.Events.{State, Event, after, new_stages, put, put_if, stage_made}
+use Rattle.flat_meaning.specs.Events.{State, after, new_stages, put, put_if, stage_made}
 use Rattle.flat_meaning.specs.Image.{Image}
 use Rattle.flat_meaning.specs.Local.{Came, local_within, no_room_if, stop_at, stop_before, stopped_or}
 use Rattle.flat_meaning.specs.Order.{local_picks, pick, picks_of_local}

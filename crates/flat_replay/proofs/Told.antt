@@ -11,7 +11,7 @@ use Rattle.flat_meaning.specs.declared.endings.End.{End}
 use Rattle.flat_meaning.specs.declared.endings.Stop.{Stop}
 use Rattle.flat_meaning.specs.Effects.{Effect}
 use Rattle.flat_meaning.specs.Events as events
-use Rattle.flat_meaning.specs.Events.{after_serves, end_or, first_state, moved_state, new_stages, put, stage_made}
+use Rattle.flat_meaning.specs.Events.{end_or, first_state, new_stages, put, stage_made}
 use Rattle.flat_meaning.specs.Image.{Image, Limits, limits_for, linear_image}
 use Rattle.flat_meaning.specs.Journals.{journal_picks}
 use Rattle.flat_meaning.specs.Local.{stop_at}

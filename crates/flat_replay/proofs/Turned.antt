@@ -21,7 +21,7 @@ use Rattle.flat_meaning.specs.Accesses as actions
 use Rattle.flat_meaning.specs.Accesses.{Choice, Fault, plain, got, null, wait}
 use Rattle.flat_meaning.specs.Actions.{may_start}
 use Rattle.flat_meaning.specs.Effects as effects
-use Rattle.flat_meaning.specs.Effects.{Effect, act_before, act_effect, exit_of, no_effect, stop_of}
+use Rattle.flat_meaning.specs.Effects.{Effect, act_before, act_effect, exit_of, no_effect}
 use Rattle.flat_meaning.specs.Events as events
 use Rattle.flat_meaning.specs.Events.{State, Event, act, stage_made}
 use Rattle.flat_meaning.specs.Image.{Image}
