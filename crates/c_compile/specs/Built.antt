@@ -16,6 +16,7 @@ use Rattle.lower_forms.specs.Programs.{lowered}
 use Rattle.lower_turns.specs.Turns.{KeepsEveryTurn}
 use Rattle.emit_code.specs.Emitted.{IsEmitted}
 use Rattle.compile_passes.specs.Compiled.{IsPrepared}
+use Rattle.flat_meaning.specs.Simulation.{IsChecked}
 
 -- the text is in the subset, and the typed tree is its own
 pub record IsTreeOf (text : List ℕ) (typed : Typed) : Type 0 where
@@ -35,6 +36,9 @@ pub record IsBuilt (text : List ℕ) (typed : Typed) (checked : Ir) (code : Line
   -- and every answer it shows how each turn goes, the world after it, and which rule of C a turn breaks, and where
   pub turns : KeepsEveryTurn typed checked
   pub erased_turns : KeepsEveryTurn typed (ir_erased checked)
+  -- it has all that the machine asks of code: no difference of pointers is in elements of 0 bytes, each turn takes some answer, main takes
+  -- nothing, and its plain data is small
+  pub sound : IsChecked checked
   -- the machine's code does the same act by act, test by test, round by round, call by call, and has the same registers, slots and objects
   pub emitted : IsEmitted checked code
   -- each number in it is in range, its control is lawful, and it is safe for moves

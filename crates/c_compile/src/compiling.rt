@@ -43,7 +43,10 @@ pub fn compile(alloc: Global, text: &[u8]) -> Result<Built, CompileFault>
     ensures built { IfOk result (λ b. IsBuilt text.now (typed_view b.typed) (code_of b.checked) (code_view b.code)) }
     ensures refused { IfRefused result (λ r. Refuses text.now r) }
 {
+    c_meaning::laws::turns_go_on();
+    c_meaning::laws::runs_go_on();
     lower_forms::laws::lowered_code_is_sound();
+    lower_forms::laws::lowered_code_is_whole();
     lower_turns::laws::code_keeps_every_turn();
     let reading = read(alloc, text)?;
     match compiled(alloc, &reading.typed) {

@@ -3,6 +3,7 @@ use Rattle.c_tree.specs.TypedViews.{typed_view}
 use Rattle.struct_ir.specs.Erased.{ir_erased}
 use Rattle.struct_ir.specs.Valid.{is_valid}
 use Rattle.pin_checker.specs.CheckedViews.{code_of}
+use Rattle.c_compile.proofs.Checked.{is_checked}
 use Rattle.c_compile.proofs.compiling.compile.Goals as goal
 
 pub returns-in-Ok-clause-built : goal.returns-in-Ok-clause-built
@@ -11,12 +12,14 @@ returns-in-Ok-clause-built c =
     let formed = c.in_ok-reading.ensures.well_formed in
     let made = c.in-Ok.ensures in
     let ready = code_of c.in-Ok.field-0.checked in
+    let turns = c.code_keeps_every_turn.ensures.turns t formed ready made.prepared.erased in
     record {
       tree = record { tokens = c.in_ok-reading.reading.tokens.items; read = c.in_ok-reading.ensures.found; well_formed = formed };
       prepared = made.prepared;
       erased_valid = ap is_valid made.prepared.erased ∙ (c.lowered_code_is_sound.ensures t formed).valid;
-      turns = c.code_keeps_every_turn.ensures.turns t formed ready made.prepared.erased;
+      turns = turns;
       erased_turns = c.code_keeps_every_turn.ensures.turns t formed (ir_erased ready) (ap ir_erased made.prepared.erased ∙ (c.lowered_code_is_sound.ensures t formed).bare);
+      sound = is_checked t formed ready made.prepared (c.lowered_code_is_whole.ensures t formed) turns c.runs_go_on.ensures.types c.turns_go_on.ensures.ends;
       emitted = made.emitted;
       valid = c.keeps_valid.ensures;
       lawful = c.keeps_lawful.ensures;
