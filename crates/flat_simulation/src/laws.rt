@@ -29,8 +29,8 @@ pub fn events_of_linear_code()
     ensures follow { LinearCodeFollowsTurns }
 {}
 
-/// Small codes, structured and linear, whose pointers are dead or whose objects move: a Look before a loop of a word whose id is used again;
-/// dead pointers that are copied; and a barrier under three calls that wait.
+/// Small codes, structured and linear, with dead pointers and pinned objects: a Look before a loop of a word whose id is used again; dead
+/// pointers that are copied; and a barrier under three calls that wait.
 pub fn small_codes_keep_their_pins()
     ensures reuse { ReuseRowsHold }
     ensures copies { CopyRowsHold }
