@@ -86,3 +86,4 @@ pub mod Whole
 pub mod LinearActs
 pub mod LinearFollow
 pub mod LinearEvents
+pub mod PinRows

@@ -2,6 +2,7 @@
 
 ghost use Rattle.flat_meaning.specs.Simulation.{BarriersKeepObjects, EventsFollowTurns};
 ghost use Rattle.flat_simulation.specs.LinearEvents.{EventsOfLinearCode, LinearCodeFollowsTurns};
+ghost use Rattle.flat_simulation.specs.PinRows.{CopyRowsHold, NestedRowsHold, ReuseRowsHold};
 
 /// Of every program that fits in memory, after all allowed events and whatever rules of C were broken: objects and table agree, and the
 /// moves of any barrier that may come next keep each object's bytes, at the address that the table then has, and the place of each
@@ -26,4 +27,12 @@ pub fn events_follow_turns()
 pub fn events_of_linear_code()
     ensures same { EventsOfLinearCode }
     ensures follow { LinearCodeFollowsTurns }
+{}
+
+/// Small codes, structured and linear, with dead pointers and pinned objects: a Look before a loop of a word whose id is used again; dead
+/// pointers that are copied; and a barrier under three calls that wait.
+pub fn small_codes_keep_their_pins()
+    ensures reuse { ReuseRowsHold }
+    ensures copies { CopyRowsHold }
+    ensures nested { NestedRowsHold }
 {}
