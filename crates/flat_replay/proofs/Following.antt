@@ -28,6 +28,12 @@ rest_of [] i e h = absurd (cc h)
 rest_of (d ∷ ds) zero e h = let same : d ≡ e = cc h in (ds, ap (λ (z : Entry). z ∷ ds) (sym same))
 rest_of (d ∷ ds) (suc i) e h = let r = rest_of ds i e h in (r.0, ap (λ (l : List Entry). d ∷ l) r.1)
 
+-- within its length it has an entry
+pub there_is : (log : List Entry) (i : ℕ) → i < length log → slice_get log i ≡ None → ⊥
+there_is [] i within none = absurd (omega arith)
+there_is (d ∷ ds) zero within none = absurd (cc none)
+there_is (d ∷ ds) (suc i) within none = there_is ds i (omega arith) none
+
 -- one more thread that is not out
 pub none_next : {C : Type 0} (k n : ℕ) (so_far all : List (Option (Hand C))) → k < n → so_far ++ replicate (n - k) None ≡ all → (so_far ++ None ∷ []) ++ replicate (n - (k + 1)) None ≡ all
 none_next k n so_far all within is = append_assoc so_far (None ∷ []) (replicate (n - (k + 1)) None) ∙ (ap (λ (j : ℕ). so_far ++ replicate j None) (let z : suc (n - (k + 1)) ≡ n - k = omega arith in z) ∙ is)
