@@ -10,7 +10,7 @@ use Rattle.world_rules.specs.Calls.{after, acts}
 use Rattle.flat_replay.specs.declared.driver.Hand.{Hand}
 use Rattle.flat_replay.specs.declared.driver.Mood.{Mood}
 use Rattle.flat_replay.specs.declared.driver.Mood.TheVariants as mood
-use Rattle.flat_replay.specs.inner.Hands.{Called, hand_at, with_worker, hand_acted, acted_on, steps_as, stepped}
+use Rattle.flat_replay.specs.inner.Hands.{hand_at, with_worker, hand_acted, acted_on, steps_as, stepped}
 
 module _ {S K C : Type 0} (machine : K → Machine S C) (x : Whole S K C) (hands : List (Option (Hand C))) (w t : ℕ) (h : Hand C) (is : with_worker w (hand_at hands t) ≡ Some h) where
   stepped_is : stepped machine x hands w t (hand_at hands t) ≡ steps_as machine x hands w t h.mood h.ctx

@@ -1,9 +1,8 @@
 -- What the calls of the world and of the machine ask, of those that are out.
-use Rattle.std.proofs.Common.{◌≡◌, ℕ, ◌<◌, ◌==◌, Bool, true, false, cond, List, ◌++◌, length, map, set, ap, sym, subst, ◌∙◌, refl, arith, Option, Some, None}
+use Rattle.std.proofs.Common.{◌≡◌, ℕ, ◌<◌, ◌==◌, Bool, true, false, cond, List, ◌++◌, length, set, ap, sym, subst, ◌∙◌, refl, arith, Option, Some, None}
 use Rattle.std.specs.Prelude.{◌⊎◌}
 use mathlib.Core.Logic.{inl, inr}
 use Rattle.std.proofs.Math.ListN.{get_or-map, length-map}
-use Rattle.ak_trace.specs.declared.entry.Entry.{Entry}
 use Rattle.flat_rules.specs.Machine.{Machine}
 use Rattle.flat_rules.specs.States.{State, Place, unbegun, home, out, gone, Mood, free, asked, must, place_at, most_threads}
 use Rattle.flat_rules.specs.Events.{most_local}
@@ -24,7 +23,7 @@ use Rattle.world_rules.proofs.Sits.{SitsAt}
 use Rattle.world_rules.proofs.Soundness.{sound, may_step, may_work, may_come_home}
 use Rattle.flat_replay.specs.declared.driver.Hand.{Hand}
 use Rattle.flat_replay.specs.declared.driver.Mood.TheVariants as mood
-use Rattle.flat_replay.specs.inner.Hands.{hand, hands_found, hand_of, hands_of, hand_at, with_worker, mood_of}
+use Rattle.flat_replay.specs.inner.Hands.{hand, hands_found, hand_of, hand_at, with_worker, mood_of}
 use Rattle.flat_replay.specs.inner.Follows.{IsAt}
 
 module _ {C : Type 0} (w : ℕ) where

@@ -1,5 +1,5 @@
 -- The call of an entry, where all entries before it are the world's: it leads on, or the entry may not come.
-use Rattle.std.proofs.Common.{◌≡◌, ℕ, zero, suc, ◌-◌, ◌<◌, ◌==◌, ◌&&◌, Bool, true, false, cond, nat_lt, List, [], ◌∷◌, ◌++◌, length, ap, sym, subst, ◌∙◌, refl, arith, append_assoc, Option, Some, None, slice_get}
+use Rattle.std.proofs.Common.{◌≡◌, ℕ, zero, ◌-◌, ◌<◌, ◌&&◌, Bool, true, false, cond, nat_lt, List, [], ◌∷◌, ◌++◌, length, ap, sym, subst, ◌∙◌, refl, arith, append_assoc, Option, Some, None, slice_get}
 use Rattle.std.specs.Prelude.{is_none, option_and_then}
 use Rattle.std.proofs.lemmas.Option.{option_and_then_some}
 use Rattle.std.proofs.lemmas.Bool.Decides.{nat_tests}
@@ -7,9 +7,9 @@ use Rattle.ak_trace.specs.declared.entry.Entry.{Entry}
 use Rattle.flat_meaning.specs.declared.endings.End.{End}
 use Rattle.flat_meaning.specs.declared.endings.End.TheVariants.{TurnLimit, AllBlocked}
 use Rattle.flat_rules.specs.Machine.{Machine}
-use Rattle.flat_rules.specs.States.{State, or_else, is_blocked, end_of, start}
+use Rattle.flat_rules.specs.States.{State, or_else, end_of, start}
 use Rattle.flat_rules.specs.Lawful.{IsFlat}
-use Rattle.flat_rules.specs.Replays.{same_entry, step, run, event_at}
+use Rattle.flat_rules.specs.Replays.{same_entry, step, run}
 use Rattle.flat_rules.specs.inner.Cases.{same_number}
 use Rattle.flat_rules.specs.inner.Steps.{IsFirst, first_of, step_cases, run-append, event_run}
 use Rattle.flat_rules.specs.inner.Steps as steps

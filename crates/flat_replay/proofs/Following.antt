@@ -14,7 +14,7 @@ use Rattle.flat_rules.specs.inner.Steps.{same_entry_refl, run-append}
 use Rattle.world_rules.specs.Whole.{Whole, Leads, Reaches, whole_of}
 use Rattle.flat_replay.specs.declared.driver.Hand.{Hand}
 use Rattle.flat_replay.specs.inner.Hands.{hands_of, called}
-use Rattle.flat_replay.specs.inner.Follows.{IsAt, Follows, Takes, Comes, state_behind}
+use Rattle.flat_replay.specs.inner.Follows.{Follows, Takes, Comes, state_behind}
 use Rattle.flat_replay.proofs.Calling.{entry_is, behind, none_called, some_called}
 
 -- a journal up to an entry, and that entry
@@ -94,8 +94,8 @@ module _ {S K C : Type 0} (machine : K → Machine S C) (SharedOf : K → S → 
     takes_called front e x x' hands hands' f same is b p q =
         subst (λ (l : List Entry). Takes machine SharedOf first l e x' hands' b) (at_front front x hands f same)
         (some_called machine SharedOf ContextOf flat first x hands f.at e x' hands' is b
-            (λ h. subst (λ (n : ℕ). slice_get x'.log.entries n ≡ Some e) (sym same) (p h))
-            (λ h. q (subst (λ (n : ℕ). slice_get x'.log.entries n ≡ Some e) same h)))
+        (λ h. subst (λ (n : ℕ). slice_get x'.log.entries n ≡ Some e) (sym same) (p h))
+        (λ h. q (subst (λ (n : ℕ). slice_get x'.log.entries n ≡ Some e) same h)))
 
     -- where so many entries were followed, by whether the world has more of its own
     module _ (i : ℕ) (front : List Entry) (e : Entry) (x : Whole S K C) (hands : List (Option (Hand C))) (f : Follows machine SharedOf first front x hands) (at : i ≡ length front) where

@@ -1,5 +1,5 @@
 -- The call that an entry names is the one that the rules have there: its entries, and the threads that are out after it.
-use Rattle.std.proofs.Common.{◌≡◌, ℕ, ◌+◌, ◌<◌, ◌==◌, ◌||◌, Bool, true, false, cond, min, nat_lt, nat_le, List, [], ◌∷◌, ◌++◌, map, set, length, ap, sym, subst, ◌∙◌, refl, arith, Option, Some, None}
+use Rattle.std.proofs.Common.{◌≡◌, ℕ, ◌+◌, ◌<◌, ◌==◌, ◌||◌, Bool, true, false, cond, min, nat_lt, nat_le, List, [], ◌∷◌, set, ap, sym, subst, ◌∙◌, refl, arith, Option, Some, None}
 use Rattle.std.specs.Prelude.{count_by, ◌⊎◌}
 use mathlib.Core.Logic.{inl, inr}
 use Rattle.std.proofs.lemmas.List.{map-set}
@@ -17,8 +17,6 @@ use Rattle.flat_rules.specs.Events as events
 use Rattle.flat_rules.specs.Lawful.{IsFlat, Goes_on, is_for_room}
 use Rattle.flat_rules.specs.Replays.{event_at}
 use Rattle.flat_rules.specs.inner.Cases.{same_number}
-use Rattle.world_rules.specs.declared.calls.Acted.{Acted as ActReply}
-use Rattle.world_rules.specs.declared.calls.Acted.TheVariants as acted
 use Rattle.world_rules.specs.declared.calls.Call.{Call}
 use Rattle.world_rules.specs.declared.calls.Call.TheVariants as call
 use Rattle.world_rules.specs.declared.calls.Found.{Found}
@@ -176,9 +174,9 @@ module _ {S K C : Type 0} (machine : K → Machine S C) (first : Whole S K C) (S
     seeks_tell : AllTell (calls.seeks machine X w) (find_event m first.settings s w)
     seeks_tell = two_tell (is_wanted m first.settings s) _ _ _ _
         (λ want. two_tell (none_out m first.settings s) _ (found.Nothing, [], X) _ _
-            (λ none. one_tells (calls.sweeps machine X w (m.barrier s.shared (homes_of s.places))) (barrier_event m first.settings s w (m.barrier s.shared (homes_of s.places)))
-                (record { entries = refl; hands_are = sym (swept_hands s.places (m.barrier s.shared (homes_of s.places)).homes) }))
-            (λ _. none_tells (found.Nothing, [], X)))
+        (λ none. one_tells (calls.sweeps machine X w (m.barrier s.shared (homes_of s.places))) (barrier_event m first.settings s w (m.barrier s.shared (homes_of s.places)))
+        (record { entries = refl; hands_are = sym (swept_hands s.places (m.barrier s.shared (homes_of s.places)).homes) }))
+        (λ _. none_tells (found.Nothing, [], X)))
         (λ calm. picks_tell calm (pick m first.settings s) refl)
 
     finds_tell : AllTell (calls.finds machine X w) (find_event m first.settings s w)
@@ -227,7 +225,7 @@ module _ {S K C : Type 0} (machine : K → Machine S C) (first : Whole S K C) (S
       lies : Lies (goes a.turned) (hand_acted w (mood_of mood) (acted_by (ends_with (m.thread_of d) a.turned) a.turned a.context told))
       lies = by_goes (m.thread_of d) a.turned a.context told Lies w mood
           (λ q. ap (λ (b : Bool). set hs (m.thread_of d) (Some (hand w a.context (driver.mood_after (mood_of mood) b)))) (asks q)
-            ∙ (ap (λ (z : Told). set hs (m.thread_of d) (Some (hand w a.context z))) (mood_same mood _) ∙ sym (map-set hand_of s.places (m.thread_of d) _)))
+          ∙ (ap (λ (z : Told). set hs (m.thread_of d) (Some (hand w a.context z))) (mood_same mood _) ∙ sym (map-set hand_of s.places (m.thread_of d) _)))
           (sym (map-set hand_of s.places (m.thread_of d) (out w a.context (n + 1) must)))
           (sym (map-set hand_of s.places (m.thread_of d) gone))
 

@@ -1,9 +1,8 @@
 //! A journal is followed: at the first entry of each event its call is made, and each entry is compared with the call's.
-ghost use Rattle.std.specs.Prelude.{◌≡◌, ◌↔◌, ◌<◌, List, [], ◌∷◌, length, replicate, slice_set, slice_get, if◌then◌else◌, true, Some, None, IfSome, IfOk, All, vec_len};
+ghost use Rattle.std.specs.Prelude.{◌≡◌, ◌↔◌, ◌<◌, List, [], length, replicate, slice_set, slice_get, if◌then◌else◌, true, Some, None, IfSome, IfOk, vec_len};
 ghost use Rattle.std.specs.Arc.{arc_value};
 ghost use Rattle.std.specs.Option.{option_map};
 ghost use Rattle.ak_trace.specs.declared.entry.Entry.{Entry};
-ghost use Rattle.flat_rules.specs.Lawful.{IsOfRun};
 ghost use Rattle.flat_rules.specs.Rules.{rules_of};
 ghost use Rattle.flat_rules.specs.Replays.{replay};
 ghost use Rattle.flat_rules.specs.States.{end_of, most_threads};
@@ -56,7 +55,11 @@ fn mood_after(mood: Mood, come_home: bool) -> Mood
 }
 
 // A thread after its step, where it is still out.
-fn after_step<Context: Drop>(worker: u32, mood: Mood, acted: Acted<Context>) -> Option<Hand<Context>>
+fn after_step<Context: Drop>(
+    worker: u32,
+    mood: Mood,
+    acted: Acted<Context>,
+) -> Option<Hand<Context>>
     ensures { result ≡ hand_acted worker mood acted }
 {
     match acted {
@@ -126,7 +129,14 @@ impl<F: Flat<Code, Context> + Drop, Code: Drop, Context: Drop> Driver<F, Code, C
         requires few { worker < 64 }
         ensures { (if result then Some (self.new.world, self.new.hands.items) else None) ≡ stepped F.machine self.old.world self.old.hands.items worker thread (hand_at self.old.hands.items thread) }
     {
-        let Some(Hand { worker: _, mut ctx, mood }) = self.take(worker, thread) else {
+        let Some(
+            Hand {
+                worker: _,
+                mut ctx,
+                mood,
+            },
+        ) = self.take(worker, thread)
+        else {
             return false;
         };
         let most = match mood {

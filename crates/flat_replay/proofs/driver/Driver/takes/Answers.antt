@@ -1,5 +1,4 @@
-use Rattle.std.proofs.Common.{◌<◌, ◌≤◌, ◌≡◌, length, true, false, if◌then◌else◌, Some, None, ap, sym, subst, ◌∙◌}
-use Rattle.flat_replay.specs.inner.Hands.{called}
+use Rattle.std.proofs.Common.{◌<◌, ◌≤◌, length, if◌then◌else◌, Some, None, ap, sym, subst, ◌∙◌}
 use Rattle.flat_replay.proofs.Following.{index_due, index_none, index_called}
 use Rattle.flat_replay.proofs.driver.Driver.takes.Goals as goal
 
