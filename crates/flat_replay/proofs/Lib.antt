@@ -44,3 +44,4 @@ pub mod Following
 pub mod Asking
 pub mod Acting
 pub mod Ended
+pub mod Reported
