@@ -5,8 +5,10 @@
 
 use ak_crew::NoGate;
 use ak_io::{FileShelf, MemSink};
+use ak_trace::Journal;
 use ak_words::NoMemory;
-use alaska_run::alaska;
+use alaska_run::{Ending, alaska};
+use flat_replay::{Final, replay_run};
 use std::alloc::{AllocError, Global};
 use std::fs::Files;
 use std::io;
@@ -70,6 +72,9 @@ const ROWS: [Row; 34] = [
     Row("alaska integers.c", "ended"),
 ];
 
+// The call whose journal is replayed.
+const REPLAYED: &str = "alaska heap.c";
+
 // The words between blanks.
 fn words_of(alloc: Global, row: &str) -> Result<Vec<String>, AllocError> {
     let mut words = Vec::new(alloc);
@@ -95,12 +100,12 @@ fn show_lines(rt: &HostRuntime, note: &[u8], words: &str) -> io::Result<()> {
     Ok(())
 }
 
-// What a call wrote, and its status.
+// What a call wrote, and its ending.
 #[derive(Drop)]
 struct Shown {
     out: MemSink,
     note: MemSink,
-    status: u8,
+    ending: Ending,
 }
 
 fn call<R: Threads + Wait + Sync + Files>(
@@ -113,15 +118,66 @@ fn call<R: Threads + Wait + Sync + Files>(
     let mut out = MemSink::new(alloc, ROOM, Vec::new(alloc))?;
     let mut note = MemSink::new(alloc, ROOM, Vec::new(alloc))?;
     let ending = alaska(rt, alloc, &words, &mut shelf, &mut out, &mut note, &NoGate);
-    let status = ending.status.number();
-    Ok(Shown { out, note, status })
+    Ok(Shown { out, note, ending })
 }
 
 fn show(rt: &HostRuntime, row: &Row, shown: &Shown) -> io::Result<()> {
     println!(rt; "> {}", row.0)?;
     print!(rt; "{}", str::from_utf8(shown.out.bytes()).unwrap_or("?"))?;
     show_lines(rt, shown.note.bytes(), row.1)?;
-    println!(rt; "status {}", shown.status)
+    println!(rt; "status {}", shown.ending.status.number())
+}
+
+// A journal's entries from one on, up to another.
+fn part(alloc: Global, journal: &Journal, from: u32, to: u32) -> Result<Journal, NoMemory> {
+    let mut part = Journal::with_limit(alloc, journal.len())?;
+    for i in from..to {
+        match journal.get(i) {
+            Some(e) if part.spare() > 0 => part.push(e),
+            _ => {}
+        }
+    }
+    Ok(part)
+}
+
+// What a part of the ending's journal comes to: all but so many of the first entries, and of the last.
+fn replayed(
+    alloc: Global,
+    ending: &Ending,
+    first: u32,
+    last: u32,
+) -> Result<Option<Final>, NoMemory> {
+    let (Some(code), Some(settings), Some(kept)) = (&ending.code, &ending.settings, &ending.journal)
+    else {
+        return Ok(None);
+    };
+    let journal = kept.journal();
+    let part = part(alloc, journal, first, journal.len().saturating_sub(last))?;
+    replay_run(alloc, code, settings, &part)
+}
+
+fn show_replay(rt: &HostRuntime, told: &Result<Option<Final>, NoMemory>) -> io::Result<()> {
+    match told {
+        Ok(Some(done)) => {
+            print!(rt; "{}", str::from_utf8(&done.output).unwrap_or("?"))?;
+            match done.end {
+                Some(end) => println!(rt; "{end:?}"),
+                None => println!(rt; "no end"),
+            }
+        }
+        Ok(None) => println!(rt; "none"),
+        Err(NoMemory) => println!(rt; "no memory"),
+    }
+}
+
+// The journal of a run, then without its last entry, and without its first.
+fn show_replays(rt: &HostRuntime, shown: &Shown) -> io::Result<()> {
+    println!(rt; "> the journal of {REPLAYED}")?;
+    show_replay(rt, &replayed(rt.alloc(), &shown.ending, 0, 0))?;
+    println!(rt; "> without its last entry")?;
+    show_replay(rt, &replayed(rt.alloc(), &shown.ending, 0, 1))?;
+    println!(rt; "> without its first entry")?;
+    show_replay(rt, &replayed(rt.alloc(), &shown.ending, 1, 0))
 }
 
 fn main(rt: HostRuntime) -> io::Result<()> {
@@ -131,5 +187,8 @@ fn main(rt: HostRuntime) -> io::Result<()> {
             Err(NoMemory) => println!(rt; "no memory")?,
         }
     }
-    Ok(())
+    match call(&rt, rt.alloc(), REPLAYED) {
+        Ok(shown) => show_replays(&rt, &shown),
+        Err(NoMemory) => println!(rt; "no memory"),
+    }
 }

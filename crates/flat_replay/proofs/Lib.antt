@@ -38,3 +38,10 @@ pub mod Whole
 pub mod Transport
 pub mod Source
 pub mod MeaningRows
+pub mod Hands
+pub mod Calling
+pub mod Following
+pub mod Asking
+pub mod Acting
+pub mod Ended
+pub mod Reported

@@ -5,3 +5,5 @@ pub mod Meaning
 pub mod Journals
 pub mod Accesses
 pub mod Rows
+pub mod Finals
+pub mod inner

@@ -1,0 +1,3 @@
+-- What the bodies use: nothing here has to be believed.
+pub mod Hands
+pub mod Follows
