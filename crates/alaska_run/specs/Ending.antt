@@ -20,6 +20,7 @@ pub record Ending : Type 0 where
   pub code : Option LinearCode
   pub journal : Option (List Entry)
 
+-- the ending of the code, as contracts see it
 abbrev pub ending_view : code.Ending → Ending
 ending_view e = record {
   status = e.status;

@@ -41,6 +41,7 @@ event_before number choice NoRoom b = act number plain ∷ []
 event_before number choice AtStep looks = look number ∷ []
 event_before number choice AtStep b = act number choice ∷ []
 
+-- that of a thread which has stopped so, with what the machine chooses
 abbrev pub events_of : Image Spot → (number : ℕ) → Memory → Stage Spot → Stop → List Event
 events_of x number m stage stop = event_before number (choice_for x m stage) stop (before x (thread_at x stage))
 

@@ -121,6 +121,7 @@ abbrev pub object_got : Choice → Option (ℕ × ℕ)
 object_got (got id place) = Some (id, place)
 object_got choice = None
 
+-- a served malloc as its entry tells it
 abbrev pub served_of : Serve → Served
 served_of v = record { thread = v.thread; object = object_got v.choice }
 

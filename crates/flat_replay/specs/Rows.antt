@@ -36,6 +36,7 @@ pub data Deed : Type 0 where
 abbrev pub Small : Type 0
 Small = List Deed × ℕ
 
+-- how many of its calls wait
 abbrev pub waiting_calls : Small → ℕ
 waiting_calls t = t.1
 

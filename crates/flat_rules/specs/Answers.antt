@@ -13,9 +13,11 @@ step_on wants_room = WaitRoom
 step_on (ended value) = Ended
 step_on _ = Went
 
+-- the run is over, or the turn says how the thread goes on
 abbrev pub step_by_end : Option End → Turned → Step
 step_by_end (Some end) turned = Over end
 step_by_end None turned = step_on turned
 
+-- what act answers to a turn of a thread
 abbrev pub step_of : (thread : ℕ) → Turned → Step
 step_of t turned = step_by_end (ends_with t turned) turned

@@ -58,6 +58,7 @@ place_after (unbegun c) (Some d) = unbegun d
 place_after (home c) (Some d) = home d
 place_after p _ = p
 
+-- and of all threads
 abbrev pub places_after : {C : Type 0} → List (Place C) → List (Option C) → List (Place C)
 places_after (p ∷ ps) (h ∷ hs) = place_after p h ∷ places_after ps hs
 places_after ps _ = ps

@@ -44,6 +44,7 @@ pub data Progress : Type 0 where
   works : Progress
   steps : Progress
 
+-- what the rules of a run ask of a machine: its contexts, what its threads share, and what each call makes of them
 pub record Machine (S C : Type 0) : Type 0 where
   -- the context of a thread of this number, which has not begun
   pub blank : ℕ → C

@@ -55,6 +55,7 @@ schedule_journal =
     row 0 0 0 0 0 0 0 ∷ row 2 0 0 4 0 1 0 ∷ row 2 0 0 6 0 0 0 ∷ row 1 0 0 0 0 0 0 ∷ row 0 1 1 0 0 0 0
     ∷ row 2 1 1 9 0 0 0 ∷ row 0 1 0 0 0 0 0 ∷ row 2 1 0 1 0 0 0 ∷ row 2 1 0 9 0 0 0 ∷ []
 
+-- main makes a thread, waits for it and ends
 abbrev pub start_and_join : List Deed
 start_and_join = start ∷ join 1 ∷ stop (pos 0) ∷ []
 

@@ -41,6 +41,7 @@ pub record Common : Type 0 where
   pub objects : ℕ
   pub entries : List Entry
 
+-- the thread is one of these
 abbrev pub has : List ℕ → ℕ → Bool
 has [] t = false
 has (k ∷ ks) t = if k == t then true else has ks t
@@ -50,14 +51,17 @@ abbrev pub rounds : List Deed → ℕ
 rounds (safe ∷ ds) = suc (rounds ds)
 rounds _ = 0
 
+-- what is left behind them
 abbrev pub behind : List Deed → List Deed
 behind (safe ∷ ds) = behind ds
 behind ds = ds
 
+-- a thread goes on up to its next deed; one that spins rests after 1,024 rounds
 abbrev pub work : List Deed → Thread → Thread
 work (spin ∷ ds) t = record t { deeds = spin ∷ ds; did = t.did + 1024; rests = true; progress = steps }
 work ds t = record t { deeds = ds; progress = steps }
 
+-- a thread rests at a safepoint, if one is next
 abbrev pub rest_at : List Deed → Thread → Thread
 rest_at (safe ∷ ds) t = record t { deeds = ds; did = 1; rests = true; progress = steps }
 rest_at (spin ∷ ds) t = record t { deeds = spin ∷ ds; did = 1; rests = true; progress = steps }
@@ -68,9 +72,11 @@ abbrev pub local_by : ℕ → Thread → Thread
 local_by zero t = rest_at t.deeds t
 local_by (suc n) t = work (behind t.deeds) (record t { did = rounds t.deeds; rests = false })
 
+-- a turn that ends so, with its entry, what the threads share then, and what this one has still to do and waits for
 abbrev pub comes_to : Common → Thread → Turned → Common → Want → List Deed → Acted Common Thread
 comes_to s t turned after want ds = record { local = t.did; turned = turned; shared = record after { entries = turn_entry 0 t.number t.did turned ∷ [] }; context = record t { deeds = ds; want = want; did = 0; rests = false; progress = works } }
 
+-- what a deed comes to
 abbrev pub deed_by : Deed → List Deed → Common → Thread → Acted Common Thread
 deed_by lock ds s t = if s.held then comes_to s t found_busy s key (lock ∷ ds) else comes_to s t stepped (record s { held = true }) nothing ds
 deed_by unlock ds s t = comes_to s t stepped (record s { held = false }) nothing ds
@@ -80,17 +86,20 @@ deed_by alloc ds s t = if nat_le s.free 0 then comes_to s t wants_room s room ds
 deed_by (stop v) ds s t = comes_to s t (ended v) (record s { ends = t.number ∷ s.ends }) nothing ds
 deed_by _ ds s t = comes_to s t stepped s nothing ds
 
+-- a rest, the next deed, or the end of a thread that has no more to do
 abbrev pub act_by : Bool → List Deed → Common → Thread → Acted Common Thread
 act_by true ds s t = comes_to s t rested s nothing ds
 act_by false [] s t = deed_by (stop (pos 0)) [] s t
 act_by false (d ∷ ds) s t = deed_by d ds s t
 
+-- what is waited for has come
 abbrev pub ready_by : Want → Common → Bool
 ready_by nothing s = true
 ready_by key s = not s.held
 ready_by (other t) s = has s.ends t
 ready_by room s = false
 
+-- it is room that is waited for
 abbrev pub waits_by : Want → Bool
 waits_by room = true
 waits_by _ = false
@@ -99,9 +108,11 @@ waits_by _ = false
 abbrev pub object_of : Common → Option (ℕ × ℕ)
 object_of s = if nat_le s.free 0 then None else Some (s.objects, 16 * s.objects)
 
+-- with that object made
 abbrev pub taken : Common → Common
 taken s = if nat_le s.free 0 then s else record s { free = s.free - 1; objects = s.objects + 1 }
 
+-- the threads that wait for room are served in rising order
 abbrev pub serve : Common → List (Option Thread) → Swept Common Thread
 serve s [] = record { shared = s; homes = []; served = [] }
 serve s (None ∷ hs) = let r : Swept Common Thread = serve s hs in record r { homes = None ∷ r.homes }
@@ -111,6 +122,7 @@ serve s (Some t ∷ hs) = serve_by (waits_by t.want) s t (serve (if waits_by t.w
     serve_by true s t r = record r { homes = Some (record t { want = nothing }) ∷ r.homes; served = record { thread = t.number; object = object_of s } ∷ r.served }
     serve_by false s t r = record r { homes = Some t ∷ r.homes }
 
+-- the thread waits for room
 abbrev pub is_waiting : Option Thread → Bool
 is_waiting None = false
 is_waiting (Some t) = waits_by t.want

@@ -45,6 +45,7 @@ last_text (Some barrier) = barrier_text barrier
 abbrev pub line : List ℕ → List ℕ → List ℕ
 line of told = of ++ codes ": " ++ told ++ codes "\n"
 
+-- the eight lines
 unfoldable pub report_text : End → Report → List ℕ
 report_text end report = line (codes "ended") (end_text end)
     ++ line (codes "threads") (decimal report.threads)

@@ -23,6 +23,7 @@ option_names = codes "workers" ∷ codes "schedule" ∷ codes "every" ∷ codes 
 abbrev pub alone : App
 alone = with_rule (on_top (λ shape. record shape { disable_help_flag = true }) (new_app (codes "alaska"))) file_rule
 
+-- the command with all its options
 unfoldable pub alaska : App
 alaska = fold with_rule alone (map option_rule option_names)
 

@@ -91,6 +91,7 @@ abbrev pub fits_mode_of : Mode → Wanted → Bool
 fits_mode_of Run w = is_some w.file && (is_none w.seed && is_none w.size)
 fits_mode_of Churn w = is_none w.file && (is_some w.seed && is_some w.size)
 
+-- FILE, the seed and the size are there as the mode wants them
 abbrev pub fits_mode : Wanted → Bool
 fits_mode w = fits_mode_of w.mode w
 

@@ -21,9 +21,11 @@ use Rattle.world_rules.specs.declared.calls.Reply.{Reply}
 use Rattle.world_rules.specs.declared.calls.Reply.TheVariants as reply
 use Rattle.world_rules.specs.Whole.{Whole}
 
+-- the context at home of a thread; none where it is out, has ended or was never made
 abbrev pub home_at : {C : Type 0} → List (Option C) → ℕ → Option C
 home_at homes t = slice_index_or homes t None
 
+-- where a thread is
 abbrev pub seat_at : List Seat → ℕ → Seat
 seat_at seats t = slice_index_or seats t seat.Gone
 

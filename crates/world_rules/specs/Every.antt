@@ -9,9 +9,11 @@ use Rattle.flat_rules.specs.Lawful.{IsOpened, Lives}
 use Rattle.world_rules.specs.Whole.{Whole, Leads}
 use Rattle.world_rules.specs.Journals.{MayStand}
 
+-- an entry of a turn
 abbrev pub is_turn : Entry → Bool
 is_turn e = e.kind == kind.turn
 
+-- an entry of a barrier
 abbrev pub is_barrier : Entry → Bool
 is_barrier e = e.kind == kind.barrier
 
@@ -20,6 +22,7 @@ abbrev pub AllServed : List Entry → Type 0
 AllServed [] = Unit {0}
 AllServed (e ∷ es) = (e.kind ≡ kind.served) × AllServed es
 
+-- the entries of one barrier, its own first
 abbrev pub IsBarrier : List Entry → Type 0
 IsBarrier [] = ⊥
 IsBarrier (e ∷ es) = (e.kind ≡ kind.barrier) × AllServed es

@@ -76,6 +76,7 @@ pub record IsStoppedWith (status : Status) (settings : Option Settings) (text : 
   pub text_is : x.text.items ≡ text
   pub line : x.line.items ≡ fault_line (name_in settings) text status
 
+-- the course comes to no run, with this status
 abbrev pub IsStoppedAs : Status → Option Settings → List ℕ → Course → Type 0
 IsStoppedAs status settings text (courses.Stopped x) = IsStoppedWith status settings text x
 IsStoppedAs status settings text (courses.Opened x) = ⊥
@@ -88,11 +89,13 @@ pub record IsOpenedOf (settings : Settings) (text : List ℕ) (x : Opened) : Typ
   pub built : IsBuilt text typed (code_of x.checked) (arc_value x.code)
   pub ready : IsReady x
 
+-- the text is none of the subset, and this is its refusal
 pub record IsRefusedOf (settings : Settings) (text : List ℕ) (x : Stopped) : Type 0 where
   pub reason : Refusal
   pub refuses : Refuses text reason
   pub stopped : IsStoppedWith (statuses.Refused reason.place reason.kind) (Some settings) text x
 
+-- what a text that was read whole comes to: a run, or its refusal
 abbrev pub IsCourseOf : Settings → List ℕ → Course → Type 0
 IsCourseOf settings text (courses.Stopped x) = IsRefusedOf settings text x
 IsCourseOf settings text (courses.Opened x) = IsOpenedOf settings text x

@@ -76,6 +76,7 @@ settled_turned (dones.Waits for) = wait_turned for
 settled_turned (dones.Trap word kind) = turns.trapped word kind
 settled_turned dones.Full = turns.passed_limit
 
+-- the context is left as what its step came to says, and the turn ended so
 pub record IsSettled (s : Step) (done : Done) (c behind : Context) (turned : Turned) : Type 0 where
   pub context : behind ≡ standing c (settled_stage s c.stage done) (settled_wait c.wait done)
   pub turned_ : turned_view turned ≡ settled_turned done

@@ -3,6 +3,7 @@ use Rattle.flat_rules.specs.Machine as turns
 use Rattle.flat_machine.specs.declared.turned.Turned.{Turned}
 use Rattle.flat_machine.specs.declared.turned.Turned.TheVariants as code
 
+-- how a turn ended, as the rules of a run tell it
 abbrev pub turned_view : Turned → turns.Turned
 turned_view code.Looked = turns.looked
 turned_view code.Stepped = turns.stepped

@@ -88,6 +88,7 @@ here_waits l passes is = absurd cc
 here_waits l round is = absurd cc
 here_waits l (returns temp) is = absurd cc
 
+-- the stage is that of a thread which waits at a malloc
 pub record IsWaiting (p : LinearCode) (stage : Option (Stage Spot)) : Type 0 where
   pub thread : Thread Spot Words
   pub is : stage ≡ Some (waiting thread)

@@ -105,5 +105,6 @@ module _ {S K C : Type 0} (machine : K → Machine S C) (x : Whole S K C) (hands
   abbrev pub called_by : (kind thread : ℕ) → Called S K C
   called_by k t = if nat_lt w x.settings.workers then called_as k t else None
 
+-- the call that an entry tells of, where one of the run's workers may make it
 abbrev pub called : {S K C : Type 0} → (K → Machine S C) → Whole S K C → List (Option (Hand C)) → Entry → Called S K C
 called machine x hands e = called_by machine x hands e.worker e.kind e.thread
