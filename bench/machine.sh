@@ -2,7 +2,7 @@
 # How fast the machine runs C: one worker, programs compiled by `alaska` itself.
 # Use: bench/machine.sh      prints, for each program, how many rounds of its loop a second, and how many times the instructions that its
 #   loop has are done a second: sums and tests in registers, loads and stores through one translation before the loop, calls, mallocs with
-#   frees; and for barriers over 10^2 to 10^6 objects the time of one barrier and of each object that it moves.
+#   frees; and for barriers over 256 to 1,048,576 objects the time of one barrier and of each object that it moves, and the bytes moved a second.
 # It measures crates/alaska/out/alaska as `rt ci` left it in this checkout, or bin/alaska, which ./prove builds.
 set -eu
 here=$(cd "$(dirname "$0")/.." && pwd)
@@ -53,21 +53,38 @@ rate loads loads.c 2000000 11
 rate calls calls.c 10000000 8
 rate mallocs mallocs.c 1000000 12
 
-barrier() { # objects
-  # a list of so many objects, of which every second is freed: the malloc of all the room that is left waits, and the barrier moves the rest
-  local n=$1 heap=4096 with without
-  while [ "$heap" -lt $((n * 16)) ]; do heap=$((heap * 2)); done
-  for rest in "char *q=malloc($((heap - n * 8)));printf(\"%d\\n\",q!=NULL);" ""; do
+barrier() { # objects bytes-of-one rounds
+  # A full heap, as a queue. In each round two objects at its front are freed that don't lie side by side, so the malloc of both their rooms
+  # waits, and a barrier moves all others; then two objects are made at its end. Beside it the same with two that lie side by side: no barrier comes.
+  local n=$1 size=$2 rounds=$3 second with without
+  for second in "x=head->next;head->next=x->next;" "x=head;head=x->next;"; do
     cat >barrier.c <<C
 struct item{struct item *next;};
-struct item *all;
-int main(void){for(int i=0;i<$n;i++){struct item *x=malloc(16);x->next=all;all=x;}
-for(struct item *x=all;x!=NULL&&x->next!=NULL;x=x->next){struct item *y=x->next;x->next=y->next;free(y);}
-${rest}return 0;}
+int main(void){
+struct item *head=malloc($size);struct item *tail=head;
+for(int i=1;i<$n;i++){tail->next=malloc($size);tail=tail->next;}
+for(int r=0;r<$rounds;r++){
+struct item *x=head;head=x->next;free(x);
+${second}free(x);
+char *both=malloc($((2 * size)));free(both);
+tail->next=malloc($size);tail=tail->next;tail->next=malloc($size);tail=tail->next;}
+return 0;}
 C
-    without=$(seconds barrier.c --subheap "$heap" --subheaps 1 --ids 1048576 --entries 16000000)
-    [ -n "$rest" ] && with=$without && grep -q '^barriers: 1$' note
+    without=$(seconds barrier.c --subheap $((n * size)) --subheaps 1 --ids 1048576 --entries 16000000)
+    [ -z "${second##x=head->*}" ] && with=$without && cp note moved
   done
-  awk -v n="$n" -v a="$with" -v b="$without" 'BEGIN { d = a - b; if (d < 0) d = 0; printf "barrier over %7d objects: %9.3f ms, %8.1f ns each object that moves\n", n, d * 1e3, d * 1e9 / (n / 2) }'
+  awk -v n="$n" -v size="$size" -v rounds="$rounds" -v a="$with" -v b="$without" '
+    /^barriers: / { barriers = $2 }
+    /^moved: / { objects = $2; bytes = $4 }
+    END {
+      if (barriers != rounds) { print "not one barrier a round: " barriers; exit 1 }
+      d = a - b; if (d <= 0) d = 1e-9
+      printf "barrier over %7d objects of %4d bytes: %9.3f ms, %7.1f ns each object that moves, %8.1f MB/s\n", n, size, d * 1e3 / barriers, d * 1e9 / objects, bytes / d / 1e6
+    }' moved
 }
-for n in 100 1000 10000 100000 1000000; do barrier "$n"; done
+barrier 256 16 8192
+barrier 1024 16 2048
+barrier 8192 16 256
+barrier 65536 16 32
+barrier 1048576 16 2
+barrier 16384 1024 64
