@@ -22,7 +22,7 @@ is_free_entry None e = refl
 is_free_entry (Some a) e = absurd cc
 
 -- the least free id is free
-free_is : (table : List (Option ℕ)) (id : ℕ) → least_free table ≡ Some id → IsFree table id
+pub free_is : (table : List (Option ℕ)) (id : ℕ) → least_free table ≡ Some id → IsFree table id
 free_is table id e = by (nat_lt (position_or_len is_none table) (length table)) refl e where
   by : (b : Bool) → nat_lt (position_or_len is_none table) (length table) ≡ b → cond b (Some (position_or_len is_none table)) None ≡ Some id → IsFree table id
   by true is e =
@@ -40,7 +40,7 @@ found p a zero k e = absurd cc
 found p a (suc n) k e = found_by p a n k (p a) refl (found p (a + 1) n k) e
 
 -- at the lowest place that fits the bytes fit
-fits_is : (h : SubHeaps) (bytes at : ℕ) → lowest_fit h bytes ≡ Some at → FitsAt h bytes at
+pub fits_is : (h : SubHeaps) (bytes at : ℕ) → lowest_fit h bytes ≡ Some at → FitsAt h bytes at
 fits_is h bytes at e =
     let here = found (fits_at h bytes) 0 (h.count * h.size) at e in
     let within : at < h.count * h.size = omega (arith, here.0) in

@@ -35,6 +35,7 @@ use Rattle.flat_threads.specs.declared.wait.Wait.TheVariants as waits
 use Rattle.flat_machine.specs.Choices.{got_or, served_choice}
 use Rattle.flat_machine.specs.Laws.{BarrierIsItsEvent}
 use Rattle.flat_machine.specs.Machine.{machine_of, stands_of}
+use Rattle.flat_machine.specs.Nulls.{size_at}
 use Rattle.flat_machine.specs.Readiness.{wants_room}
 use Rattle.flat_machine.specs.Shares.{Shared, image_of}
 use Rattle.flat_machine.specs.Sweeping.{at_home, context_at, home_at, if_wants, place_at, serve_of, serves_from, serves_if, stage_home, stage_or, stages_home, sweep_moves, sweep_serves, swept_state, waits_at_home}
@@ -64,7 +65,7 @@ module _ {A : Type 0} where
   same_stages (o ∷ os) [] long each = absurd (omega (arith, long))
   same_stages (o ∷ os) (p ∷ ps) long each = ap (λ (q : Option A). q ∷ os) (each 0 (omega arith)) ∙ ap (λ (qs : List (Option A)). p ∷ qs) (same_stages os ps (omega (arith, long)) (λ k below. each (suc k) (omega (arith, below))))
 
-no_made : Made
+pub no_made : Made
 no_made = beginning 0 0
 
 own_home : (ts : List Made) (home : List (Option Context)) (k : ℕ) → k < length ts → k < length home → own_at (stages_home ts home) k ≡ stage_home (get_or ts k no_made) (get_or home k None)
@@ -91,7 +92,7 @@ may_serve_all x [] ws s first rest = rest
 may_serve_all x (v ∷ vs) ws s first rest = (first.0, may_serve_all x vs ws (after_serve x s v) first.1 rest)
 
 module _ (code : LinearCode) where
-  room_waits : (w : Option Wait) → wants_room w ≡ true → w ≡ Some Room
+  pub room_waits : (w : Option Wait) → wants_room w ≡ true → w ≡ Some Room
   room_waits None e = absurd cc
   room_waits (Some Room) e = refl
   room_waits (Some (Mutex address)) e = absurd cc
@@ -116,15 +117,23 @@ module _ (code : LinearCode) where
   gives (Some id) (Some place) size m = gives_got id place size m
 
   -- the turn of a context that waits for room
-  record Served (s : Shared) (st : State Spot) (n : ℕ) (c : Context) : Type 0 where
+  pub record Served (s : Shared) (st : State Spot) (n : ℕ) (c : Context) : Type 0 where
     pub thread : Thread Spot Words
     pub is : c.stage ≡ Some (waiting thread)
+    pub size : ℕ
+    pub asked : size_at (image_of code s) (waiting thread) ≡ Some size
+    pub chosen : (serve_of (image_of code s) st n (waiting thread)).choice ≡ served_choice st.memory.storage size
     pub wants : readiness.wants_room (own_image code) (waiting thread) ≡ true
     pub goes : (serve_of (image_of code s) st n (waiting thread)).choice ≡ actions.wait → ⊥
     pub after : Memory
+    pub word : Option ℕ
+    pub done : allocated (served_choice st.memory.storage size) size st.memory ≡ actions.went word after
     pub behind : Stage Spot
     pub effect : serve_effect (image_of code s) n (serve_of (image_of code s) st n (waiting thread)).choice (waiting thread) st.memory ≡ record { memory = after; stage = Some behind; end = None }
     pub threads : after.threads ≡ st.memory.threads
+
+  asked_is : (s : Shared) (t : Thread Spot Words) (n place size : ℕ) (to : Option ℕ) (slots : List ℕ) → slice_get (instrs_of code.funcs t.top.at.function) t.top.at.index ≡ Some (acts place (step (node_of code s t n place size to slots))) → size_at (image_of code s) (waiting t) ≡ Some (word_at t.top.own size)
+  asked_is s t n place size to slots at = rw at refl
 
   served_at : (s : Shared) (st : State Spot) (n : ℕ) (c : Context) (t : Thread Spot Words) → c.stage ≡ Some (waiting t) → (place size : ℕ) (to : Option ℕ) (slots : List ℕ)
       → slice_get (instrs_of code.funcs t.top.at.function) t.top.at.index ≡ Some (acts place (step (node_of code s t n place size to slots))) → Served s st n c
@@ -137,9 +146,14 @@ module _ (code : LinearCode) where
       record {
         thread = t;
         is = is;
+        size = word_at t.top.own size;
+        asked = asked_is s t n place size to slots at;
+        chosen = chosen;
         wants = wants_is code s t n place size to slots at;
         goes = λ e. served_goes m.storage (word_at t.top.own size) (sym chosen ∙ e);
         after = given.after;
+        word = given.word;
+        done = done;
         behind = stepped (node_of code s t n place size to slots) t given.word;
         effect = ap (λ v. serve_effect (image_of code s) n v (waiting t) m) chosen ∙ serve_is code s t n place size to slots m given.after choice given.word at done;
         threads = (keeps choice (word_at t.top.own size) m given.after given.word done).threads;
@@ -151,7 +165,7 @@ module _ (code : LinearCode) where
       let form : b.at.node ≡ node_of code s b.thread n b.at.place h.size b.at.node.to b.at.node.slots = node_is (length b.thread.top.own.temps) b.at.node h b.at.action in
       served_at s st n c b.thread b.is b.at.place h.size b.at.node.to b.at.node.slots (b.there ∙ ap Some b.at.is ∙ ap (λ node. Some (acts b.at.place (step node))) form)
 
-  served : (s : Shared) (st : State Spot) (n : ℕ) (c : Context) → IsContextOf code c → c.wait ≡ Some Room → Served s st n c
+  pub served : (s : Shared) (st : State Spot) (n : ℕ) (c : Context) → IsContextOf code c → c.wait ≡ Some Room → Served s st n c
   served s st n c of_ wait =
       let w = waiting_of code c.stage (sym of_.wait ∙ wait) in
       let there = instr_there (slice_get (instrs_of code.funcs w.thread.top.at.function) w.thread.top.at.index) w.here in
@@ -161,44 +175,44 @@ module _ (code : LinearCode) where
   -- ---- one thread after the other
 
   module _ (s : Shared) (home : List (Option Context)) (all : All (IsOfRun (machine_of code) (IsContextOf code)) home) (homes : AreHome (machine_of code) s home) where
-    abbrev x : Image Spot
+    abbrev pub x : Image Spot
     x = image_of code s
 
-    abbrev ts : List Made
+    abbrev pub ts : List Made
     ts = s.memory.threads
 
-    abbrev first : List (Option (Stage Spot))
+    abbrev pub first : List (Option (Stage Spot))
     first = stages_home s.memory.threads home
 
-    abbrev place : ℕ → Option Context
+    abbrev pub place : ℕ → Option Context
     place k = get_or home k None
 
-    abbrev made : ℕ → Made
+    abbrev pub made : ℕ → Made
     made k = get_or s.memory.threads k no_made
 
     -- the context there is told by the stage
-    abbrev Told : (k : ℕ) → Option (Stage Spot) → Type 0
+    abbrev pub Told : (k : ℕ) → Option (Stage Spot) → Type 0
     Told k stage = stage_home (made k) (place_at code (place k) stage) ≡ stage
 
     -- so many threads have had their turn
-    record IsTurned (n : ℕ) (st : State Spot) : Type 0 where
+    pub record IsTurned (n : ℕ) (st : State Spot) : Type 0 where
       pub long : length st.own ≡ length s.memory.threads
       pub threads : st.memory.threads ≡ s.memory.threads
       pub going : st.end ≡ None
       pub later : (k : ℕ) → n ≤ k → own_at st.own k ≡ own_at first k
       pub told : (k : ℕ) → k < n → Told k (own_at st.own k)
 
-    begin_turned : IsTurned 0 (moved_state (sweep_moves x (at_home s home)) (at_home s home))
+    pub begin_turned : IsTurned 0 (moved_state (sweep_moves x (at_home s home)) (at_home s home))
     begin_turned = record { long = length-stages_home s.memory.threads home; threads = refl; going = refl; later = λ k le. refl; told = λ k lt. absurd (omega (arith, lt)) }
 
     module _ (n : ℕ) (st : State Spot) (is : IsTurned n st) (below : n < length s.memory.threads) where
-      within : n < length home
+      pub within : n < length home
       within = omega (arith, homes.0, below)
 
-      own_stage : own_at st.own n ≡ stage_home (made n) (place n)
+      pub own_stage : own_at st.own n ≡ stage_home (made n) (place n)
       own_stage = is.later n (omega arith) ∙ own_home s.memory.threads home n below within
 
-      of_run : IsOfRun (machine_of code) (IsContextOf code) (place n)
+      pub of_run : IsOfRun (machine_of code) (IsContextOf code) (place n)
       of_run = all n None within
 
       more : (k : ℕ) → k < n + 1 → (k < n) ⊎ (k ≡ n)
@@ -207,11 +221,11 @@ module _ (code : LinearCode) where
         by (inl h) = inr (omega (arith, h.1, lt))
         by (inr h) = inl h.1
 
-      abbrev turn_serves : List Serve
+      abbrev pub turn_serves : List Serve
       turn_serves = serves_if x st n (own_at st.own n)
 
       -- its turn may be, and is had then
-      record HasTurn (vs : List Serve) : Type 0 where
+      pub record HasTurn (vs : List Serve) : Type 0 where
         pub may : MayServeAll x vs st
         pub next : IsTurned (n + 1) (after_serves x vs st)
 
@@ -230,25 +244,25 @@ module _ (code : LinearCode) where
 
       -- it waits, and is served
       module _ (c : Context) (at : place n ≡ Some c) (v : Served s st n c) where
-        abbrev serve : Serve
+        abbrev pub serve : Serve
         serve = serve_of x st n (waiting v.thread)
 
-        own_is : own_at st.own n ≡ Some (waiting v.thread)
+        pub own_is : own_at st.own n ≡ Some (waiting v.thread)
         own_is = own_stage ∙ ap (stage_home (made n)) at ∙ ap (stage_or (made n)) v.is
 
         wants_here : readiness.wants_room x (waiting v.thread) ≡ true
         wants_here = wants_same code s (waiting v.thread) ∙ v.wants
 
-        turn_is : turn_serves ≡ serve ∷ []
+        pub turn_is : turn_serves ≡ serve ∷ []
         turn_is = ap (serves_if x st n) own_is ∙ ap (λ b. if_wants b serve) wants_here
 
         may_serve : MayServe x st.memory serve.choice (Some (waiting v.thread))
         may_serve = (wants_here, v.goes, here_may st.memory.storage (served_choice st.memory.storage) (served_may st.memory.storage) v.thread.top.own (x.flow.here v.thread.top.at))
 
-        abbrev next : State Spot
+        abbrev pub next : State Spot
         next = put st n (record { memory = v.after; stage = Some v.behind; end = None })
 
-        next_is : after_serves x (serve ∷ []) st ≡ next
+        pub next_is : after_serves x (serve ∷ []) st ≡ next
         next_is = ap (put_if st n (serve_effect x n serve.choice)) own_is ∙ ap (put st n) v.effect
 
         none_new : new_stages st.own v.after ≡ []
@@ -281,7 +295,7 @@ module _ (code : LinearCode) where
         was_served : HasTurn turn_serves
         was_served = subst HasTurn (sym turn_is) (record { may = (subst (MayServe x st.memory serve.choice) (sym own_is) may_serve, tt); next = subst (IsTurned (n + 1)) (sym next_is) turned_next })
 
-      turn : HasTurn turn_serves
+      pub turn : HasTurn turn_serves
       turn = by (waits_at_home (place n)) refl where
         waits_here : (p : Option Context) → place n ≡ p → waits_at_home p ≡ true → HasTurn turn_serves
         waits_here None at w = absurd cc

@@ -16,3 +16,7 @@ pub mod Acts
 pub mod Allowed
 pub mod ActEvents
 pub mod BarrierEvents
+pub mod Rooms
+pub mod Nulls
+pub mod ServedNulls
+pub mod ToldNulls

@@ -24,7 +24,7 @@ use Rattle.flat_machine.specs.lemmas.Homes.{after_serves-append, each_here, own_
 
 -- ---- one more behind the others
 
-range_push : (a n j : ℕ) → a + n ≡ j → range_with_len a (suc n) ≡ range_with_len a n ++ j ∷ []
+pub range_push : (a n j : ℕ) → a + n ≡ j → range_with_len a (suc n) ≡ range_with_len a n ++ j ∷ []
 range_push a zero j e = let same : a ≡ j = omega arith in ap (λ k. k ∷ []) same
 range_push a (suc n) j e = ap (λ ks. a ∷ ks) (range_push (a + 1) n j (omega arith))
 

@@ -9,6 +9,7 @@ pub mod Sweeping
 pub mod Reports
 pub mod Machine
 pub mod Replays
+pub mod Nulls
 pub mod Laws
 pub mod inner
 pub mod lemmas

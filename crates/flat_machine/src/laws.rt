@@ -1,6 +1,7 @@
 //! Laws of the machine's calls, as contracts of functions that do nothing.
 
 ghost use Rattle.flat_machine.specs.Laws.{ActIsItsEvent, BarrierIsItsEvent, ChoicesAreLeast, MachineIsFlat};
+ghost use Rattle.flat_machine.specs.Nulls.{NullAtAct, NullAtBarrier};
 ghost use Rattle.flat_machine.specs.Readiness.{WaitsAreTold};
 
 /// What is chosen at a malloc is the least free id and the lowest place that fits.
@@ -22,4 +23,11 @@ pub fn calls_are_events()
 /// The machine is one that the rules of a run are of.
 pub fn machine_is_flat()
     ensures { MachineIsFlat }
+{}
+
+/// A malloc gets null just where it asks for more than a sub-heap has, or, at a barrier, where no sub-heap has room for it when its turn
+/// comes, or no id is free.
+pub fn nulls_have_their_cause()
+    ensures act { NullAtAct }
+    ensures barrier { NullAtBarrier }
 {}

@@ -24,7 +24,9 @@ pub use barriers::barrier;
 pub use flat_meaning::{End, Stop, TrapKind};
 pub use flat_rules::{Mode, Settings, Step};
 pub use flat_threads::{Context, Program, local};
-pub use laws::{calls_are_events, choices_are_least, machine_is_flat, waits_are_told};
+pub use laws::{
+    calls_are_events, choices_are_least, machine_is_flat, nulls_have_their_cause, waits_are_told,
+};
 pub use ready::{begin, is_ready};
 pub use run_report::{LastBarrier, Report};
 pub use shared::Shared;
