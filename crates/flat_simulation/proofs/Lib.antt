@@ -87,3 +87,4 @@ pub mod LinearActs
 pub mod LinearFollow
 pub mod LinearEvents
 pub mod PinRows
+pub mod StandingRows

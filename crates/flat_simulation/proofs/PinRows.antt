@@ -17,7 +17,7 @@ use Rattle.flat_meaning.specs.Events.{State}
 use Rattle.flat_simulation.specs.PinRows.{stands_after, main_of, reusing, one_id, first_round, ReuseRowsHold, CopyRowsHold, nested, room_for_four, nested_calls, NestedRowsHold}
 
 -- what holds of the one stage there is
-is_that : {P : Type 0} (C : Flow P) (s t : Stage P) → stands C s ≡ true → Some s ≡ Some t → stands C t ≡ true
+pub is_that : {P : Type 0} (C : Flow P) (s t : Stage P) → stands C s ≡ true → Some s ≡ Some t → stands C t ≡ true
 is_that C s t h e = cc
 
 -- ---- an id that is used again

@@ -3,6 +3,7 @@
 ghost use Rattle.flat_meaning.specs.Simulation.{BarriersKeepObjects, EventsFollowTurns};
 ghost use Rattle.flat_simulation.specs.LinearEvents.{EventsOfLinearCode, LinearCodeFollowsTurns};
 ghost use Rattle.flat_simulation.specs.PinRows.{CopyRowsHold, NestedRowsHold, ReuseRowsHold};
+ghost use Rattle.flat_simulation.specs.StandingRows.{OthersDont, StatesStand};
 
 /// Of every program that fits in memory, after all allowed events and whatever rules of C were broken: objects and table agree, and the
 /// moves of any barrier that may come next keep each object's bytes, at the address that the table then has, and the place of each
@@ -35,4 +36,12 @@ pub fn small_codes_keep_their_pins()
     ensures reuse { ReuseRowsHold }
     ensures copies { CopyRowsHold }
     ensures nested { NestedRowsHold }
+{}
+
+/// Moments of small codes: the machine's state stands for what its turns come to over named blocks, though an id was used again, bytes and
+/// registers hold what was never set, an object moved under a call that waits, and a thread has ended; and once one thing in it is changed
+/// it no longer does.
+pub fn small_states_stand()
+    ensures stand { StatesStand }
+    ensures others { OthersDont }
 {}
