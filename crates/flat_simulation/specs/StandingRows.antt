@@ -123,9 +123,9 @@ under_names = plain 4096 ∷ heap 0 ∷ heap 1 ∷ []
 
 -- ---- they stand
 
--- the events may come, and both stand, though in the first there are a dead pointer in a register, in a slot and in memory, whose id another block has; bytes that
--- were never written and aren't 0; a register that is unset and doesn't hold 0; and an object with more bytes than its block; and in the
--- second a call that waits, whose slot has the place where its object was, and a thread that has ended and was joined
+-- the events may come, and both stand, though in the first there are a dead pointer in a register, in a slot and in memory, whose id another
+-- block has; bytes that were never written and aren't 0; a register that is unset and doesn't hold 0; and an object with more bytes than its
+-- block; and in the second a call that waits, whose slot has the place where its object was, and a thread that has ended and was joined
 pub record StatesStand : Type 0 where
   pub again_may_come : AreAllowed (machine again) again_events (first_state (machine again))
   pub used_again : After again again_order (λ u. StandsFor (machine again) again again_names u (state_after again again_events))
