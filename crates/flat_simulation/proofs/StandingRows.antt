@@ -1,5 +1,5 @@
 -- These states stand for one another, and none of the changed ones does.
-use Rattle.std.proofs.Common.{◌≡◌, ℕ, zero, suc, ◌+◌, ◌<◌, eqb, pos, List, [], ◌∷◌, ◌++◌, length, take, true, false, Option, Some, None, refl, sym, ap, subst, ◌∙◌, arith, inl, inr}
+use Rattle.std.proofs.Common.{◌≡◌, ℕ, zero, suc, ◌+◌, ◌<◌, eqb, pos, List, [], ◌∷◌, ◌++◌, length, take, drop, true, false, Option, Some, None, refl, sym, ap, subst, ◌∙◌, arith, inl, inr}
 use Rattle.std.specs.Prelude.{slice_get, replicate, codes}
 use Rattle.std.specs.List.{All}
 use Rattle.std.specs.Fmt.{digits}
@@ -188,35 +188,20 @@ again_stand : NamesStand again_names again_blocks again_storage
 again_stand = record { each = refl; lies = again_lies; one = again_one; only = again_only; apart = λ block other a c b d n e f g h. absurd (none_plain block a b e g) }
 
 -- the first of the two pointers is dead
+of_the_dead : (part byte : ℕ) → ByteAgrees again_names again_blocks (Part 0 0 part) byte
+of_the_dead part byte = λ l. absurd cc
+
+-- and the second is not
+rest_agrees : RowAgrees again_names again_blocks again_storage.bytes 4216 (drop 8 two_pointers)
+rest_agrees = (λ l. refl, (λ l. refl, (λ l. refl, (λ l. refl, (λ l. refl, (λ l. refl, (λ l. refl, (λ l. refl, tt))))))))
+
 again_cells : CellsStand again_names again_blocks again_storage
 again_cells zero index b c e f = absurd cc
 again_cells (suc zero) index b c e f =
     let is : block_of_two ≡ b = cc in
-    each_agrees again_names again_blocks again_storage.bytes 4208 two_pointers (
-      λ l. absurd cc,
-      (
-        λ l. absurd cc,
-        (
-          λ l. absurd cc,
-          (
-            λ l. absurd cc,
-            (
-              λ l. absurd cc,
-              (
-                λ l. absurd cc,
-                (
-                  λ l. absurd cc,
-                  (
-                    λ l. absurd cc,
-                    (λ l. refl, (λ l. refl, (λ l. refl, (λ l. refl, (λ l. refl, (λ l. refl, (λ l. refl, (λ l. refl, tt)))))))),
-                  ),
-                ),
-              ),
-            ),
-          ),
-        ),
-      ),
-    ) index c (subst (λ (z : Block). slice_get z.cells index ≡ Some c) (sym is) f)
+    each_agrees again_names again_blocks again_storage.bytes 4208 two_pointers
+    (of_the_dead 0 _, (of_the_dead 1 _, (of_the_dead 2 _, (of_the_dead 3 _, (of_the_dead 4 _, (of_the_dead 5 _, (of_the_dead 6 _, (of_the_dead 7 _, rest_agrees)))))))) index c
+    (subst (λ (z : Block). slice_get z.cells index ≡ Some c) (sym is) f)
 again_cells (suc (suc zero)) index b c e f =
     let is : new_block ≡ b = cc in
     each_agrees again_names again_blocks again_storage.bytes 4184 four_unknown (tt, (tt, (tt, (tt, tt)))) index c (subst (λ (z : Block). slice_get z.cells index ≡ Some c) (sym is) f)
