@@ -19,6 +19,7 @@ use Rattle.emit_code.specs.Emitted.{row_count, nodes_count, SameFrames, IsEmitte
 use Rattle.emit_code.proofs.Holding.{has_all, has_front}
 use Rattle.emit_code.proofs.Lying.{row_lies}
 use Rattle.emit_code.proofs.Short.{code_short}
+use Rattle.emit_code.proofs.Looks.{looks_same}
 use Rattle.emit_code.proofs.Lawful.{last_leaves}
 use Rattle.emit_code.proofs.Keeps.{follows}
 
@@ -69,6 +70,7 @@ emitted p =
       starts = func_starts p.funcs;
       safe = λ all f. follows_safe structured structured_shrinks (linear funcs) (StandsIn funcs) (follows funcs) (start_of p.funcs f) (entry_of f) (func_starts p.funcs f) (each_start p.funcs all f);
       short = counts_short p.funcs;
+      looks = looks_same p.funcs;
     }
 
 pub linear_code_keeps_runs : (L F : Type 0) → LinearCodeKeepsRuns L F

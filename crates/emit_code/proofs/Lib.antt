@@ -2,6 +2,7 @@ pub mod Holding
 pub mod Lying
 pub mod Keeps
 pub mod Short
+pub mod Looks
 pub mod Safepoints
 pub mod Calls
 pub mod Guarded

@@ -12,6 +12,7 @@ use Rattle.struct_ir.specs.Lawful.{AllLawful}
 use Rattle.struct_ir.specs.Marks.{MarksAreIdle, Follows}
 use Rattle.struct_ir.specs.Alike.{SameEvents}
 use Rattle.pin_flow.specs.Funcs.{EveryFunc, IsPinSafe}
+use Rattle.emit_code.specs.Looks.{look_count, looks_of_nodes}
 use Rattle.emit_code.specs.Stands.{StandsIn}
 
 -- how many nodes there are, with those inside others
@@ -55,6 +56,8 @@ pub record IsEmitted (p : Ir) (code : LinearCode) : Type 0 where
   pub safe : EveryFunc IsPinSafe p → (f : ℕ) → PinSafe (linear code.funcs) (entry_of f)
   -- two instructions a node at most, and one a function
   pub short : instr_count code.funcs ≤ 2 * nodes_count p.funcs + length p.funcs
+  -- as many Looks and steps
+  pub looks : look_count code.funcs ≡ looks_of_nodes p.funcs
 
 -- on every machine for which the beginning and the end of a stack object are nothing, runs from positions that correspond end at such
 -- positions, before the same, with the same, or in the same fault

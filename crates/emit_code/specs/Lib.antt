@@ -1,4 +1,5 @@
 pub mod inner
 pub mod Stands
+pub mod Looks
 pub mod Emitted
 pub mod Rows
