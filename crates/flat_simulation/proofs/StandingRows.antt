@@ -554,43 +554,7 @@ last_fits = record { inside = (omega arith, omega arith); clear = beside_one (re
 
 again_comes : AreAllowed (machine again) again_events (first_state (machine again))
 unfolding digits residue wrapped_value exact_result rule_of replacement run_within run
-again_comes = (
-  (refl, refl),
-  (
-    (refl, ((omega arith, refl), first_fits)),
-    (
-      (refl, refl),
-      (
-        (refl, ((omega arith, refl), second_fits)),
-        (
-          (refl, refl),
-          (
-            (refl, refl),
-            (
-              (refl, refl),
-              (
-                (refl, refl),
-                (
-                  (refl, refl),
-                  (
-                    (refl, refl),
-                    (
-                      (refl, refl),
-                      (
-                        (refl, refl),
-                        ((refl, ((omega arith, refl), last_fits)), tt),
-                      ),
-                    ),
-                  ),
-                ),
-              ),
-            ),
-          ),
-        ),
-      ),
-    ),
-  ),
-)
+again_comes = ((refl, refl), ((refl, ((omega arith, refl), first_fits)), ((refl, refl), ((refl, ((omega arith, refl), second_fits)), ((refl, refl), ((refl, refl), ((refl, refl), ((refl, refl), ((refl, refl), ((refl, refl), ((refl, refl), ((refl, refl), ((refl, ((omega arith, refl), last_fits)), tt)))))))))))))
 
 main_fits : FitsAt (heap_of []) 16 0
 main_fits = record { inside = (omega arith, omega arith); clear = λ k d h. absurd (omega arith) }
@@ -618,55 +582,7 @@ may_move = record { object = refl; unpinned = refl; fits = moved_fits }
 
 under_comes : AreAllowed (machine under) under_events (first_state (machine under))
 unfolding digits residue wrapped_value exact_result rule_of replacement run_within run
-under_comes = (
-  (refl, refl),
-  (
-    (refl, ((omega arith, refl), main_fits)),
-    (
-      (refl, refl),
-      (
-        (refl, refl),
-        (
-          (refl, refl),
-          (
-            (refl, refl),
-            (
-              (refl, refl),
-              (
-                (refl, refl),
-                (
-                  (refl, refl),
-                  (
-                    (refl, refl),
-                    (
-                      (refl, refl),
-                      (
-                        (refl, refl),
-                        (
-                          (refl, refl),
-                          (
-                            (refl, refl),
-                            (
-                              (refl, refl),
-                              (
-                                (refl, refl),
-                                ((refl, ((omega arith, refl), called_fits)), ((refl, (under_all_stand, (may_move, λ k d h. absurd (omega arith), tt), tt)), tt)),
-                              ),
-                            ),
-                          ),
-                        ),
-                      ),
-                    ),
-                  ),
-                ),
-              ),
-            ),
-          ),
-        ),
-      ),
-    ),
-  ),
-)
+under_comes = ((refl, refl), ((refl, ((omega arith, refl), main_fits)), ((refl, refl), ((refl, refl), ((refl, refl), ((refl, refl), ((refl, refl), ((refl, refl), ((refl, refl), ((refl, refl), ((refl, refl), ((refl, refl), ((refl, refl), ((refl, refl), ((refl, refl), ((refl, refl), ((refl, ((omega arith, refl), called_fits)), ((refl, (under_all_stand, (may_move, λ k d h. absurd (omega arith), tt), tt)), tt))))))))))))))))))
 
 -- ---- the rows
 
