@@ -1,10 +1,16 @@
 -- What the barriers of a run keep.
-use Rattle.std.proofs.Common.{◌≡◌, ℕ, ◌==◌, zero, suc, true, false, List, [], ◌∷◌, length, Some, None, refl, sym, ap, ◌∙◌, subst}
+use Rattle.std.proofs.Common.{◌≡◌, ℕ, ◌==◌, zero, suc, Bool, true, false, List, [], ◌∷◌, length, Some, None, refl, sym, ap, ◌∙◌, subst}
 use Rattle.std.specs.Prelude.{slice_get, option_and_then, if◌then◌else◌}
 use Rattle.std.proofs.lemmas.Option.{option_and_then_some}
 use Rattle.ak_trace.specs.declared.entry.Entry.{Entry}
 use Rattle.ak_trace.specs.Kinds as kind
+use Rattle.sub_heaps.specs.SubHeaps.{SubHeaps}
+use Rattle.move_plan.specs.Sliding.{IsSlide}
+use Rattle.move_plan.proofs.Slid.{slide_moves}
+use Rattle.move_plan.proofs.Slides.{IsSlide-slide_moves}
+use Rattle.defrag_move.specs.Arena.{IsConsistent}
 use Rattle.defrag_move.proofs.Kept.{keeps_all}
+use Rattle.flat_meaning.specs.Allowed.{pinned}
 use Rattle.struct_ir.specs.Instrs.{LinearCode}
 use Rattle.flat_meaning.specs.Image.{linear_image}
 use Rattle.flat_meaning.specs.Ready.{has_ended}
@@ -24,11 +30,12 @@ use Rattle.world_rules.proofs.Invariant.{none_ends}
 use Rattle.world_rules.proofs.Walks.{at_entry, due_served}
 use Rattle.flat_machine.specs.Machine.{machine_of}
 use Rattle.flat_machine.specs.Replays.{replay}
-use Rattle.flat_machine.specs.Shares.{Shared, IsSharedOf}
+use Rattle.flat_machine.specs.Shares.{Shared, IsSharedOf, image_of}
 use Rattle.flat_machine.specs.Start.{first_shared, settings_limits}
 use Rattle.flat_machine.proofs.Opened.{opened_of}
 use Rattle.flat_simulation.proofs.Loaded.{first_consistent}
-use Rattle.flat_replay.specs.Barriers.{BarrierBehind, moves_next}
+use Rattle.flat_machine.proofs.Slid.{slide_is}
+use Rattle.flat_replay.specs.Barriers.{BarrierBehind, moves_next, threads_home}
 use Rattle.flat_replay.specs.Laws.{BarriersOfARunKeepObjects}
 use Rattle.flat_replay.proofs.Consistent.{Good, all_good, barrier_here}
 
@@ -75,6 +82,14 @@ module _ (code : LinearCode) (s : Settings) (program : IsProgram code) (loadable
   good : (log : List Entry) (x : State Shared Context) → run m (rules_of s) log first ≡ Some x → Good code (rules_of s) x
   good = all_good code (rules_of s) (first_shared code (settings_limits s)) opened (first_consistent (linear_image code (settings_limits s)).layout loadable)
 
+  -- its moves slide
+  slides_next : (x : State Shared Context) → IsConsistent x.shared.memory.storage → IsSlide (pinned (image_of code x.shared) (threads_home x)) x.shared.memory.storage.heaps (moves_next code x)
+  slides_next x agrees =
+      let p : ℕ → Bool = pinned (image_of code x.shared) (threads_home x) in
+      let h : SubHeaps = x.shared.memory.storage.heaps in
+      let low = IsSlide-slide_moves p h agrees.heaps in
+      subst (IsSlide p h) (slide_is p h (slide_moves p h.size 0 h.objects) agrees.heaps low) low
+
   -- in a state that a journal reaches
   module _ (before : List Entry) (e : Entry) (x y : State Shared Context) (ran : run m (rules_of s) before first ≡ Some x) (st : step m (rules_of s) x e ≡ Some y) (is : e.kind ≡ kind.barrier) where
     -- what is due are served mallocs
@@ -101,6 +116,7 @@ module _ (code : LinearCode) (s : Settings) (program : IsProgram code) (loadable
           comes = st;
           keeps = record {
             consistent = g.agrees;
+            slides = slides_next x g.agrees;
             objects = keeps_all _ (moves_next code x) x.shared.memory.storage g.agrees b.allowed.0.1.1;
             behind = ap (λ (z : State Shared Context). z.shared.memory) f.is ∙ ap (λ (v : Event Shared Context). v.after.shared.memory) sweep.is;
           };

@@ -3,6 +3,7 @@ use Rattle.std.specs.Prelude.{◌≡◌, true, List, ◌∷◌, ◌++◌, Some}
 use Rattle.ak_trace.specs.declared.entry.Entry.{Entry}
 use Rattle.ak_trace.specs.Kinds as kind
 use Rattle.move_plan.specs.declared.moves.Move.{Move}
+use Rattle.move_plan.specs.Sliding.{IsSlide}
 use Rattle.defrag_move.specs.Arena.{IsConsistent}
 use Rattle.defrag_move.specs.Moves.{KeepsObjects, after_plan}
 use Rattle.struct_ir.specs.Instrs.{LinearCode}
@@ -27,10 +28,12 @@ threads_home x = at_home x.shared (homes_of x.places)
 abbrev pub moves_next : LinearCode → State Shared Context → List Move
 moves_next code x = sweep_moves (image_of code x.shared) (threads_home x)
 
--- a barrier between two states: before it objects and table agree; no pinned object moves, and the object of every id in use has, at the
--- address that the table then gives, the bytes that it had; behind the moves just the mallocs that wait are served
+-- a barrier between two states: before it objects and table agree; no pinned object moves, and each other has then slid down to its lower
+-- neighbour's end or its sub-heap's start; the object of every id in use has, at the address that the table then gives, the bytes that it
+-- had; behind the moves just the mallocs that wait are served
 pub record BarrierKeeps (code : LinearCode) (x y : State Shared Context) : Type 0 where
   pub consistent : IsConsistent x.shared.memory.storage
+  pub slides : IsSlide (pinned (image_of code x.shared) (threads_home x)) x.shared.memory.storage.heaps (moves_next code x)
   pub objects : KeepsObjects (pinned (image_of code x.shared) (threads_home x)) (moves_next code x) x.shared.memory.storage (after_plan (moves_next code x) x.shared.memory.storage)
   pub behind : y.shared.memory ≡ (swept_state (image_of code x.shared) (threads_home x)).memory
 

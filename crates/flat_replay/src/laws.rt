@@ -6,8 +6,8 @@ ghost use Rattle.flat_replay.specs.Attempts.{attempts_from};
 ghost use Rattle.flat_replay.specs.Laws.{AJournalIsOfEvents, AccessesOfJournalsStay, BarriersOfARunKeepObjects, JournalsMeanTheSource, JournalsOfCheckedCodeAreMeant, SmallProgramsFit};
 ghost use Rattle.flat_replay.specs.Rows.{full_attempts, BreaksStand, LastsStand, MeaningsStand, TriesStand};
 
-/// At each barrier of a journal that replays, whatever rules of C were broken before: no object moves that a listed slot names, and the
-/// object of each id in use keeps its bytes, at the address that the table then has.
+/// At each barrier of a journal that replays, whatever rules of C were broken before: no object moves that a listed slot names, the others
+/// slide down, and the object of each id in use keeps its bytes, at the address that the table then has.
 pub fn barriers_of_a_run_keep_objects()
     ensures { BarriersOfARunKeepObjects }
 {}
