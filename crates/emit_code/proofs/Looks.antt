@@ -1,8 +1,8 @@
 -- Linear code has as many Looks and steps as the code that it is of.
-use Rattle.std.proofs.Common.{◌≡◌, ℕ, ◌+◌, List, [], ◌∷◌, ◌++◌, cond, None, Bool, true, false, refl, ap, map, arith}
+use Rattle.std.proofs.Common.{◌≡◌, ℕ, ◌+◌, List, [], ◌∷◌, ◌++◌, cond, None, Bool, false, refl, ap, map, arith}
 use Rattle.std.proofs.lemmas.List.Sums.{sum_by-cons, sum_by-append}
 use Rattle.struct_ir.specs.Nodes.{Act, set, call, step, look, safepoint, begin_object, end_object, Node, plain, if_, loop, break_, next_, ret, Nodes, no_nodes, more_nodes, Func}
-use Rattle.struct_ir.specs.Instrs.{Instr, acts, unless, jump, round_to, leave, LinearFunc}
+use Rattle.struct_ir.specs.Instrs.{Instr, unless, jump, round_to, leave, LinearFunc}
 use Rattle.emit_code.specs.Looks.{looks_or_steps, looks_in, look_count, node_looks, row_looks, looks_of_nodes}
 use Rattle.emit_code.specs.inner.Layout.{emit_node, emit, node_long, long, code_of, func_linear}
 
