@@ -1,6 +1,6 @@
 -- Where malloc gets null: what is chosen where, and how act tells it.
 use Rattle.std.proofs.Common.{◌≡◌, ℕ, zero, suc, ◌+◌, ◌*◌, ◌%◌, ◌<◌, ◌≤◌, ◌⊎◌, ◌↔◌, Bool, true, false, cond, ltb, List, length, Option, Some, None, refl, ap, subst, inl, inr, arith}
-use Rattle.std.specs.Prelude.{is_none, nat_lt}
+use Rattle.std.specs.Prelude.{IsSome, is_none, nat_lt}
 use Rattle.std.specs.List.{find, position_or_len, range_with_len}
 use Rattle.std.proofs.lemmas.Bool.{cases_eq, cases_lt, ltb-true, ltb-false, lt-ltb}
 use Rattle.std.proofs.lemmas.List.Sums.{fails_before_first}
@@ -42,14 +42,14 @@ fails_before p a (suc n) k e j low high = first_by p a n k (p a) refl (fails_bef
 
 -- ---- ids and places
 
-used : (o : Option ℕ) → is_none o ≡ false → Rattle.std.specs.Prelude.IsSome o
+used : (o : Option ℕ) → is_none o ≡ false → IsSome o
 used None e = absurd cc
 used (Some a) e = refl
 
 -- where no id is found, none is free
 full_is : (table : List (Option ℕ)) → least_free table ≡ None → IsFull table
 full_is table e id below = by (nat_lt (position_or_len is_none table) (length table)) refl e where
-  by : (b : Bool) → nat_lt (position_or_len is_none table) (length table) ≡ b → cond b (Some (position_or_len is_none table)) None ≡ None → Rattle.std.specs.Prelude.IsSome (address_of table id)
+  by : (b : Bool) → nat_lt (position_or_len is_none table) (length table) ≡ b → cond b (Some (position_or_len is_none table)) None ≡ None → IsSome (address_of table id)
   by true is e = absurd cc
   by false is e = used (address_of table id) (fails_before_first is_none table id None (omega (arith, below, ltb-false (position_or_len is_none table) (length table) is)))
 
