@@ -23,7 +23,7 @@ const ROOM: usize = 1_000_000;
 // the workers changes.
 struct Row(&'static str, &'static str);
 
-const ROWS: [Row; 34] = [
+const ROWS: [Row; 35] = [
     Row("alaska nothing.c", "all"),
     Row("alaska answer.c", "all"),
     Row("alaska heap.c", "ended live"),
@@ -56,6 +56,7 @@ const ROWS: [Row; 34] = [
         "alaska table.c --workers 3 --every 500",
         "ended threads live",
     ),
+    Row("alaska header.c", "ended"),
     Row("alaska spinning.c", "ended"),
     Row("alaska forever.c --entries 1000", "ended entries"),
     Row("alaska empty.c", "all"),

@@ -22,21 +22,21 @@ use Rattle.c_tree.specs.declared.typed.Expr.{Expr as CodeExpr}
 use Rattle.c_tree.specs.declared.typed.CType.{CType}
 use Rattle.c_tree.specs.Syntax as source
 use Rattle.c_tree.specs.SyntaxViews.{expr_view as seen, type_name_view, spec_view, member_view, declarator_view}
-use Rattle.c_tree.specs.Typed.{type_of, at, pointer, void, null, integer, num}
+use Rattle.c_tree.specs.Typed.{Ty, type_of, at, pointer, void, null, integer, num}
 use Rattle.c_tree.specs.TypedViews.{type_view, boxed_expr_view}
-use Rattle.c_typing.specs.Faults.{typed, Gives}
+use Rattle.c_typing.specs.Faults.{Judged, typed, Gives}
 use Rattle.c_typing.specs.Literals.{joined_bytes, place_of_parts}
 use Rattle.c_typing.specs.Types.{behind_pointers}
 use Rattle.c_typing.specs.Scope.{Context, meaning_of}
 use Rattle.c_typing.specs.Rules.{selected, pointed, element, cast, size_number}
 use Rattle.c_typing.specs.Statements.{judged_declarator}
-use Rattle.c_typing.specs.Judgement.{judged, valued, judged_type, judged_specs, judged_spec, judged_members, judged_member, judged_declarators, judged_dims, member_objects, names_in, names_of_member, named, spelled, prefixed, name_in, combined, braced, word}
+use Rattle.c_typing.specs.Judgement.{judged, valued, judged_type, judged_specs, judged_spec, judged_members, judged_member, judged_declarators, judged_dims, names_in, names_of_member, named, spelled, prefixed, name_in, combined, braced, word}
 use Rattle.type_context.specs.declared.context.Context.{Context as CodeContext}
 use Rattle.type_context.specs.ContextViews.{context_view}
 use Rattle.type_context.specs.inner.Outcomes.{joined}
 use Rattle.type_specifiers.specs.declared.specifiers.Part.{Part as CodePart}
 use Rattle.type_specifiers.specs.declared.declarators.Declared.{Declared}
-use Rattle.type_specifiers.specs.ListViews.{numbers_view, part_view, declared_view, all_declared_view}
+use Rattle.type_specifiers.specs.ListViews.{numbers_view, part_view, declared_view}
 use Rattle.type_context.specs.declared.context.MemberType.{MemberType}
 use Rattle.type_outcomes.specs.Telling.{Tells}
 use Rattle.type_outcomes.proofs.Walks.{lone_tells}
@@ -234,17 +234,18 @@ type_name_told t specs pointers c n a r is_specs is_pointers h f =
     (types.type_name_tells (source.specs_of (map spec_view specs)) pointers c n a r h f)
 
 pub member_told : (before : List Name) (d : CodeMember) (specs : List CodeSpec) (ds : List CodeDeclarator) (c : Context) (n m : CodeContext)
-    (a : Result CType CompileFault) (b : Result (Vec Declared Global) CompileFault) (r : Result (Vec MemberType Global) CompileFault)
+    (a : Result CType CompileFault) (b r : Result (Vec MemberType Global) CompileFault)
     → specs ≡ (out-Member d).specs.items → ds ≡ (out-Member d).declarators.items
-    → Tells type_view a n (judged_specs (source.specs_of (map spec_view specs)) c) → Tells all_declared_view b m (judged_declarators before (source.declarators_of (map declarator_view ds)) (context_view n))
-    → Finishes types_of_members (joined a b) (λ p. member_objects (context_view m) (type_view p.0) (all_declared_view p.1)) r
+    → Tells type_view a n (judged_specs (source.specs_of (map spec_view specs)) c)
+    → ((j : Judged Ty) → Gives type_view a j → Tells types_of_members b m (judged_declarators before j (source.declarators_of (map declarator_view ds)) (context_view n)))
+    → Finishes types_of_members (joined a b) (λ p. typed (types_of_members p.1)) r
     → Tells types_of_members r m (judged_member before (member_view d) c)
 member_told before d specs ds c n m a b r is_specs is_ds h k f =
     let is = views.member_seen d
     ∙ ap (λ (l : List CodeSpec). source.members_of (source.specs_of (map spec_view l)) (source.declarators_of (map declarator_view (out-Member d).declarators.items))) (sym is_specs)
     ∙ ap (λ (l : List CodeDeclarator). source.members_of (source.specs_of (map spec_view specs)) (source.declarators_of (map declarator_view l))) (sym is_ds) in
     subst (λ (s : source.Member). Tells types_of_members r m (judged_member before s c)) (sym is)
-    (types.member_tells before (source.specs_of (map spec_view specs)) (source.declarators_of (map declarator_view ds)) c n m a b r h k f)
+    (types.member_tells before (source.specs_of (map spec_view specs)) (source.declarators_of (map declarator_view ds)) c n m a b r h (k (judged_specs (source.specs_of (map spec_view specs)) c).0 h.gives) f)
 
 -- the names that a declaration of members declares
 pub member_names : (d : CodeMember) (ds : List CodeDeclarator) → ds ≡ (out-Member d).declarators.items → names_in (source.declarators_of (map declarator_view ds)) ≡ names_of_member (member_view d)
@@ -252,14 +253,14 @@ member_names d ds is = ap (λ (l : List CodeDeclarator). names_in (source.declar
 
 -- a declarator whose name isn't asked for
 pub declarator_told : (d : CodeDeclarator) (dims : List Tree) (c : Context) (n : CodeContext) (s : Result (Vec ℕ Global) CompileFault) (r : Result Declared CompileFault)
-    → dims ≡ d.dims.items → Tells numbers_view s n (judged_dims (source.exprs_of (map seen dims)) c) → Finishes declared_view (joined {A = Unit {0}} (Ok tt) s) (λ p. typed (sized (declarator_view d) (numbers_view p.1))) r
+    → dims ≡ d.dims.items → Tells numbers_view s n (judged_dims (source.exprs_of (map seen dims)) c) → Finishes declared_view s (λ v. typed (sized (declarator_view d) (numbers_view v))) r
     → Tells declared_view r n (judged_declarator (declarator_view d) c)
 declarator_told d dims c n s r is h f =
     let e = source.declarator d.pointers.items d.name (source.exprs_of (map seen dims)) in
     let is_e : declarator_view d ≡ e = views.declarator_seen d ∙ ap (λ (l : List Tree). source.declarator d.pointers.items d.name (source.exprs_of (map seen l))) (sym is) in
     subst (λ (x : source.Declarator). Tells declared_view r n (judged_declarator x c)) (sym is_e)
     (types.declared_tells e (judged_dims (source.exprs_of (map seen dims))) c n s r h
-    (subst (λ (x : source.Declarator). Finishes declared_view (joined {A = Unit {0}} (Ok tt) s) (λ p. typed (sized x (numbers_view p.1))) r) is_e f))
+    (subst (λ (x : source.Declarator). Finishes declared_view s (λ v. typed (sized x (numbers_view v))) r) is_e f))
 
 -- the names behind a declarator
 pub declarator_behind : (before : List Name) (d : CodeDeclarator) → before ++ d.name ∷ [] ≡ behind_declarator before (declarator_view d)

@@ -2,12 +2,14 @@
 ghost use Rattle.std.specs.Prelude.{◌≡◌, ◌++◌, [], false, map};
 ghost use Rattle.c_tree.specs.Syntax as trees;
 ghost use Rattle.c_tree.specs.SyntaxViews as source;
+ghost use Rattle.c_tree.specs.Typed.{Ty};
 ghost use Rattle.c_tree.specs.TypedViews.{type_view};
+ghost use Rattle.c_typing.specs.Faults.{Judged, Gives};
 ghost use Rattle.c_typing.specs.Judgement as rules;
 ghost use Rattle.c_typing.specs.Judgement.{ruled, valued, judged, judged_type, judged_specs, judged_parts, judged_spec, judged_members, judged_member, judged_declarators, judged_dims, dimension, braced, names_in};
 ghost use Rattle.c_typing.specs.Statements.{judged_declarator};
 ghost use Rattle.type_context.specs.ContextViews.{context_view};
-ghost use Rattle.type_specifiers.specs.ListViews.{numbers_view, part_view, parts_view, declared_view, all_declared_view};
+ghost use Rattle.type_specifiers.specs.ListViews.{numbers_view, part_view, parts_view, declared_view};
 ghost use Rattle.type_outcomes.specs.Telling.{Tells, lacks_memory};
 ghost use Rattle.type_nodes.specs.Nodes.{types_of_members};
 
@@ -18,10 +20,10 @@ use c_tree::syntax::Name;
 use c_tree::typed::CType;
 use type_context::context::{Context, MemberType};
 use type_nodes::structs::{
-    closed, declared, fresh_member, member_types, named_tag, opened, pointers_to,
-    size_of_dimension, type_of_parts,
+    closed, declared, fresh_member, member_object, member_type, member_types, named_tag, opened,
+    pointers_to, size_of_dimension, type_of_parts,
 };
-use type_outcomes::outcomes::{appended, pushed};
+use type_outcomes::outcomes::{again, appended, pushed};
 use type_specifiers::declarators::Declared;
 use type_specifiers::specifiers::Part;
 
@@ -112,25 +114,28 @@ fn member<'t>(
     ensures names { lacks_memory result ≡ false → before.new.items ≡ before.old.items ++ rules.names_of_member (source.member_view m.now) }
 {
     let base = specifiers(context, &m.specs);
-    let all = declarators(context, before, &m.declarators);
-    member_types(context, base, all)
+    let all = declarators(context, before, &base, &m.declarators);
+    member_types(base, all)
 }
 
-// Declarators of members, behind those of these names.
+// The members that declarators declare, behind those of these names.
 #[cycle(nodes)]
-fn declarators<'a>(
-    context: &mut Context<'_>,
+fn declarators<'t>(
+    context: &mut Context<'t>,
     before: &mut Vec<Name>,
-    declarators: &'a [tree::Declarator],
-) -> Result<Vec<Declared<'a>>, CompileFault>
-    ensures judged { Tells all_declared_view result context.new (judged_declarators before.old.items (trees.declarators_of (map source.declarator_view declarators.now)) (context_view context.old)) }
+    base: &Result<CType, CompileFault>,
+    declarators: &[tree::Declarator],
+) -> Result<Vec<MemberType<'t>>, CompileFault>
+    ensures judged { (j : Judged Ty) → Gives type_view base.now j → Tells types_of_members result context.new (judged_declarators before.old.items j (trees.declarators_of (map source.declarator_view declarators.now)) (context_view context.old)) }
     ensures names { lacks_memory result ≡ false → before.new.items ≡ before.old.items ++ names_in (trees.declarators_of (map source.declarator_view declarators.now)) }
 {
     let mut all = Ok(Vec::new(context.alloc));
     'declarators: for d in declarators {
         let fresh = fresh_member(context, before, d.name);
         let sizes = dimensions(context, &d.dims);
-        all = pushed(all, declared(d, fresh, sizes));
+        let base = again(context.alloc, base);
+        let ty = member_object(context, base, d, sizes);
+        all = pushed(all, member_type(context, d.name, fresh, ty));
         before.push(d.name)?;
     }
     all
@@ -166,5 +171,5 @@ pub fn declarator<'a>(
     ensures { Tells declared_view result context.new (judged_declarator (source.declarator_view d.now) (context_view context.old)) }
 {
     let sizes = dimensions(context, &d.dims);
-    declared(d, Ok(()), sizes)
+    declared(d, sizes)
 }

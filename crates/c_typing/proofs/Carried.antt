@@ -5,6 +5,7 @@ use Rattle.std.specs.Map.{lookup}
 use Rattle.std.specs.Str.{bytes_eq}
 use Rattle.ak_words.specs.IntType.{int, IsInRange}
 use Rattle.c_lex.specs.declared.refusal.Kind.{Kind}
+use Rattle.c_lex.specs.declared.refusal.Refusal.{Refusal}
 use Rattle.c_tree.specs.Typed.{Ty, pointer, array, Layout, Local}
 use Rattle.c_tree.specs.TypedLayout.{greatest_object, size_in, IsSized}
 use Rattle.c_tree.specs.TypedForm.{IsLayout, Signature, IsNth, IsResult}
@@ -48,6 +49,15 @@ on_mismatch P place (Some x) h = h
 pub on_weaker : {A : Type 0} (P Q : A → Type 0) (j : Judged A) → OnTyped P j → ((x : A) → P x → Q x) → OnTyped Q j
 on_weaker P Q (typed x) h f = f x h
 on_weaker P Q (faulty r rs) h f = tt
+
+-- the second of two parts, where the first is typed, and where it isn't
+pub given : {A B : Type 0} (P : B → Type 0) (Q : B → Type 0) (x : A) (k : Judged B) → OnTyped P k → ((y : B) → P y → Q y) → OnTyped Q (both (typed x) k >>= λ p. typed p.1)
+given P Q x (typed y) h f = f y h
+given P Q x (faulty r rs) h f = tt
+
+pub not_given : {A B C : Type 0} (P : C → Type 0) (r : Refusal) (rs : List Refusal) (k : Judged B) (f : A × B → Judged C) → OnTyped P (both {A = A} (faulty r rs) k >>= f)
+not_given P r rs (typed y) f = tt
+not_given P r rs (faulty s ss) f = tt
 
 -- ---- contexts
 

@@ -1,5 +1,5 @@
 -- Expressions, types and declarators, judged where they stand, are well formed.
-use Rattle.std.proofs.Common.{◌≡◌, ℕ, suc, ◌+◌, ◌<◌, ◌≤◌, ◌⊎◌, inl, inr, Bool, true, false, ◌&&◌, refl, sym, ap, ◌∙◌, subst, arith, List, [], ◌∷◌, ◌++◌, length, Option, Some, None, slice_get, if◌then◌else◌}
+use Rattle.std.proofs.Common.{◌≡◌, ℕ, suc, ◌+◌, ◌<◌, ◌≤◌, ◌⊎◌, inl, inr, Bool, true, false, ◌&&◌, refl, sym, ap, subst, arith, List, [], ◌∷◌, ◌++◌, length, Option, Some, None, slice_get, if◌then◌else◌}
 use Rattle.std.proofs.lemmas.List.{length-append}
 use Rattle.ak_words.specs.IntType.{int}
 use Rattle.c_lex.specs.declared.refusal.Kind.{Kind}
@@ -22,15 +22,16 @@ use Rattle.c_typing.specs.Scope.{Meaning, global_name, local_name, function_name
 use Rattle.c_typing.specs.Rules.{value_of, tested, is_lvalue, target, address, member_found, selected_by, selected, pointed, minus_by, plus_by, not_by, complement_by, element, chosen, cast, size_number}
 use Rattle.c_typing.specs.Formats.{pieces_of}
 use Rattle.c_typing.specs.Literals.{joined_bytes, place_of_parts}
-use Rattle.c_typing.specs.Judgement.{Judging, lone, in_turn, ruled, named, name_in, text_in, node_place, with_addressed, meaning_in, valued, combined, addressing, prefixed, called, format_by, format_or, place_past, none_past, printed, starting_by, starting_or, started, called_library, no_call, called_by, Part, word, specified, place_of_specs, specs_by, Declarator, dimension, fresh_member, names_in, names_of_member, member_objects}
+use Rattle.c_typing.specs.Judgement.{Judging, lone, in_turn, ruled, named, name_in, text_in, node_place, with_addressed, meaning_in, valued, combined, addressing, prefixed, called, format_by, format_or, place_past, none_past, printed, starting_by, starting_or, started, called_library, no_call, called_by, Part, word, specified, place_of_specs, specs_by, dimension, most_members, object_declared, fresh_member, object_by, member_by, names_in, names_of_member}
 use Rattle.c_typing.specs.Judgement.{judged, judged_all, judged_print, judged_start, judged_started, judged_type, judged_parts, judged_spec, judged_members, judged_member, judged_declarators, judged_dims, judged_specs}
 use Rattle.c_typing.proofs.Extending.{undeclared, Ready}
 use Rattle.c_typing.proofs.Elements.{nothing_at}
-use Rattle.c_typing.proofs.Carried.{OnTyped, OnSome, on_bind, on_both, on_weaker, Plain, World, IsNamed, Good, within_itself, Over, After, Keeps, keeps_here, keeps_lone, keeps_in_turn, keeps_ruled}
+use Rattle.c_typing.proofs.Carried.{OnTyped, given, not_given, OnSome, on_bind, on_both, on_weaker, Plain, World, IsNamed, IsObject, Good, within_itself, within_further, Over, After, Keeps, keeps_here, keeps_lone, keeps_in_turn, keeps_ruled}
 use Rattle.c_typing.proofs.RuledWell.{Fine, NoLocal, Made, plain_ready, value_fine, an_object, IsAggregate, both_hold, Tested, tested_well, target_made, minus_made, plus_made, not_made, complement_made, operated_made, element_made, chosen_made, cast_made}
 use Rattle.c_typing.proofs.CalledWell.{meaning_named, named_made, AreFine, called_made, library_made, printed_made, Starting, started_made}
-use Rattle.c_typing.proofs.TypesWell.{same_type_is, same_types_are, specified_plain, behind_plain, ArePositive, dimension_well, AreDeclarators, member_objects_well, fresh_few, size_made}
-use Rattle.c_typing.proofs.Shown.{spelled_after, addressed_after, is_addressed, tag_after}
+use Rattle.c_typing.proofs.TypesWell.{same_type_is, same_types_are, specified_plain, behind_plain, ArePositive, dimension_well, object_well, fresh_few, size_made}
+use Rattle.c_typing.proofs.Own.{own, over_own}
+use Rattle.c_typing.proofs.Shown.{spelled_after, addressed_after, is_addressed, tag_after, object_kept}
 use Rattle.c_typing.proofs.Braced.{AreObjects, AreMembers, braced_keeps}
 
 -- of an expression that is a name, in brackets or not, or none
@@ -266,38 +267,52 @@ started_well w o j rest kj kr c g = (keeps_in_turn w true (starting_or (meaning_
 specs_keeps : (w : World) (s : source.Specs) (parts : Judging (List Part)) → Keeps w true parts (λ e p. Unit {0}) → Keeps w true (specs_by s parts) (λ e t. Plain t)
 specs_keeps w s parts kp = keeps_ruled w true parts (λ c all. specified (place_of_specs s) all) (λ e p. Unit {0}) (λ e t. Plain t) kp (λ d e all g v h. specified_plain (place_of_specs s) all)
 
--- declarators behind so many names, as many as there are names
-abbrev AreNamed : (before count : ℕ) → form.Context → List Declarator → Type 0
-AreNamed before count e ds = AreDeclarators ds × (length ds ≡ count) × (before ≤ 256 → before + count ≤ 256)
-
+-- members behind so many names, as many as there are names
 abbrev AreMembersOf : (before count : ℕ) → form.Context → List (List ℕ × Ty) → Type 0
-AreMembersOf before count e all = AreObjects e.structs all × (length all ≡ count) × (before ≤ 256 → before + count ≤ 256)
+AreMembersOf before count e all = AreObjects e.structs all × (length all ≡ count) × (before ≤ most_members → before + count ≤ most_members)
 
-declared_keeps : (w : World) (before : List Name) (pointers : List Pointer) (n : Name) (count : ℕ) (dims : Judging (List ℕ)) (rest : Judging (List Declarator))
-    → Keeps w true dims (λ e ns. ArePositive ns) → Keeps w true rest (AreNamed (length (before ++ n ∷ [])) count) → (c : Context) → Good w c
-    → OnTyped (λ ds. After w true c (ruled (in_turn (lone (fresh_member c before n)) (in_turn dims rest)) (λ d p. typed (record { name = n; pointers = pointers; sizes = p.1.0 } ∷ p.1.1)) c).1 (λ e. AreNamed (length before) (suc count) e ds))
-    (ruled (in_turn (lone (fresh_member c before n)) (in_turn dims rest)) (λ d p. typed (record { name = n; pointers = pointers; sizes = p.1.0 } ∷ p.1.1)) c).0
-declared_keeps w before pointers n count dims rest kd kr c g =
-    (keeps_ruled w true (in_turn (lone (fresh_member c before n)) (in_turn dims rest)) (λ d p. typed (record { name = n; pointers = pointers; sizes = p.1.0 } ∷ p.1.1))
-    (λ e p. (length before < 256) × (ArePositive p.1.0 × AreNamed (length (before ++ n ∷ [])) count e p.1.1)) (AreNamed (length before) (suc count))
-    (keeps_in_turn w true (lone (fresh_member c before n)) (in_turn dims rest) (λ e u. length before < 256) (λ e p. ArePositive p.0 × AreNamed (length (before ++ n ∷ [])) count e p.1)
-    (keeps_lone w true (fresh_member c before n) (λ e u. length before < 256) (λ e. fresh_few c before n))
-    (keeps_in_turn w true dims rest (λ e ns. ArePositive ns) (AreNamed (length (before ++ n ∷ [])) count) kd kr))
-    (λ d e p g v h.
-    let few = h.0 in
-    let more = h.1.1.2 in
-    let one = length-append before (n ∷ []) in
-    ((h.1.0, h.1.1.0), ap suc h.1.1.1, λ k. fits (length before) (length (before ++ n ∷ [])) count few one more))).keeps c g
+-- a member behind so many names
+abbrev IsMemberBehind : ℕ → form.Context → List ℕ × Ty → Type 0
+IsMemberBehind before e m = (before < most_members) × IsObject e.structs m.1
+
+-- an object's type, by the type of its specifiers and sizes
+object_keeps : (w : World) (base : Judged Ty) → OnTyped Plain base → (pointers : List Pointer) (n : Name) (sizes : Judging (List ℕ)) → Keeps w true sizes (λ e ns. ArePositive ns)
+    → Keeps w true (object_by base pointers n sizes) (λ e t. IsObject e.structs t)
+object_keeps w base hb pointers n sizes kd =
+    keeps_ruled w true (in_turn (lone base) sizes) (λ d p. object_declared d p.0 (record { name = n; pointers = pointers; sizes = p.1 })) (λ e p. Plain p.0 × ArePositive p.1) (λ e t. IsObject e.structs t)
+    (keeps_in_turn w true (lone base) sizes (λ e t. Plain t) (λ e ns. ArePositive ns) (keeps_lone w true base (λ e t. Plain t) (λ e. hb)) kd)
+    (λ d e p g o h. on_weaker (IsObject d.structs) (IsObject e.structs) (object_declared d p.0 (record { name = n; pointers = pointers; sizes = p.1 })) (object_well w d g p.0 (record { name = n; pointers = pointers; sizes = p.1 }) h.0 h.1) (λ t k. object_kept d.structs e.structs o.structs t k))
+
+member_after : (w : World) (before : List Name) (base : Judged Ty) → OnTyped Plain base → (pointers : List Pointer) (n : Name) (sizes : Judging (List ℕ)) → Keeps w true sizes (λ e ns. ArePositive ns)
+    → (c : Context) → Good w c → OnTyped (λ m. After w true c (member_by before base pointers n sizes c).1 (λ e. IsMemberBehind (length before) e m)) (member_by before base pointers n sizes c).0
+member_after w before base hb pointers n sizes kd c g =
+    (keeps_ruled w true (in_turn (lone (fresh_member c before n)) (object_by base pointers n sizes)) (λ d p. typed (bytes_of d.text n, p.1)) (λ e p. (length before < most_members) × IsObject e.structs p.1) (IsMemberBehind (length before))
+    (keeps_in_turn w true (lone (fresh_member c before n)) (object_by base pointers n sizes) (λ e u. length before < most_members) (λ e t. IsObject e.structs t)
+    (keeps_lone w true (fresh_member c before n) (λ e u. length before < most_members) (λ e. fresh_few c before n)) (object_keeps w base hb pointers n sizes kd))
+    (λ d e p v o h. h)).keeps c g
+
+declared_keeps : (w : World) (before : List Name) (n : Name) (count : ℕ) (one : Judging (List ℕ × Ty)) (rest : Judging (List (List ℕ × Ty)))
+    → Keeps w true one (IsMemberBehind (length before)) → Keeps w true rest (AreMembersOf (length (before ++ n ∷ [])) count)
+    → Keeps w true (ruled (in_turn one rest) (λ d p. typed (p.0 ∷ p.1))) (AreMembersOf (length before) (suc count))
+declared_keeps w before n count one rest ko kr =
+    keeps_ruled w true (in_turn one rest) (λ d p. typed (p.0 ∷ p.1)) (λ e p. IsMemberBehind (length before) e p.0 × AreMembersOf (length (before ++ n ∷ [])) count e p.1) (AreMembersOf (length before) (suc count))
+    (keeps_in_turn w true one rest (IsMemberBehind (length before)) (AreMembersOf (length (before ++ n ∷ [])) count) ko kr)
+    (λ d e p g v h. ((h.0.1, h.1.0), ap suc h.1.1, λ k. fits (length before) (length (before ++ n ∷ [])) count h.0.0 (length-append before (n ∷ [])) h.1.2))
   where
     fits : (b m k : ℕ) → b < 256 → m ≡ b + 1 → (m ≤ 256 → m + k ≤ 256) → b + suc k ≤ 256
     fits b m k few one more = let h = more (omega (arith, few, one)) in omega (arith, h, one)
 
-member_well : (w : World) (before count : ℕ) (specs : Judging Ty) (ds : Judging (List Declarator)) → Keeps w true specs (λ e t. Plain t) → Keeps w true ds (AreNamed before count)
-    → Keeps w true (ruled (in_turn specs ds) (λ d p. member_objects d p.0 p.1)) (AreMembersOf before count)
-member_well w before count specs ds ks kd =
-    keeps_ruled w true (in_turn specs ds) (λ d p. member_objects d p.0 p.1) (λ e p. Plain p.0 × AreNamed before count e p.1) (AreMembersOf before count)
-    (keeps_in_turn w true specs ds (λ e t. Plain t) (AreNamed before count) ks kd)
-    (λ d e p g v h. on_weaker _ (AreMembersOf before count e) (member_objects d p.0 p.1) (member_objects_well w d e g v p.0 h.0 p.1 h.1.0) (λ all k. (k.0, k.1 ∙ h.1.1, h.1.2)))
+together_keeps : (w : World) (before count : ℕ) (specs : Judging Ty) (ds : Judged Ty → Judging (List (List ℕ × Ty))) → Keeps w true specs (λ e t. Plain t)
+    → ((base : Judged Ty) → OnTyped Plain base → Keeps w true (ds base) (AreMembersOf before count))
+    → (c : Context) → Good w c → OnTyped (λ all. After w true c (ds (specs c).0 (specs c).1).1 (λ e. AreMembersOf before count e all)) (both (specs c).0 (ds (specs c).0 (specs c).1).0 >>= λ p. typed p.1)
+together_keeps w before count specs ds ks kd c g = by (specs c).1 (specs c).0 (ks.keeps c g)
+  where
+    by : (b : Context) (j : Judged Ty) → OnTyped (λ t. After w true c b (λ e. Plain t)) j → OnTyped (λ all. After w true c (ds j b).1 (λ e. AreMembersOf before count e all)) (both j (ds j b).0 >>= λ p. typed p.1)
+    by b (typed t) a =
+        given (λ all. After w true b (ds (typed t) b).1 (λ e. AreMembersOf before count e all)) (λ all. After w true c (ds (typed t) b).1 (λ e. AreMembersOf before count e all)) t (ds (typed t) b).0
+        ((kd (typed t) (a.fine (own w b) (over_own w b a.good))).keeps b a.good)
+        (λ all k. record { good = k.good; within = within_further true c b (ds (typed t) b).1 a.within k.within; fine = k.fine })
+    by b (faulty q qs) a = not_given _ q qs (ds (faulty q qs) b).0 (λ p. typed p.1)
 
 append_objects : (s : List Layout) (a b : List (List ℕ × Ty)) → AreObjects s a → AreObjects s b → AreObjects s (a ++ b)
 append_objects s [] b h k = k
@@ -402,12 +417,13 @@ mutual
 
   pub member_keeps : (w : World) (before : List Name) (m : source.Member) → Keeps w true (judged_member before m) (AreMembersOf (length before) (length (names_of_member m)))
   member_keeps w before (source.members_of specs declarators) =
-      member_well w (length before) (length (names_in declarators)) (specs_by specs (judged_parts specs)) (judged_declarators before declarators) (specs_keeps w specs (judged_parts specs) (parts_keeps w specs)) (declarators_keeps w before declarators)
+      record { keeps = together_keeps w (length before) (length (names_in declarators)) (specs_by specs (judged_parts specs)) (λ base. judged_declarators before base declarators) (specs_keeps w specs (judged_parts specs) (parts_keeps w specs)) (λ base h. declarators_keeps w before base h declarators) }
 
-  pub declarators_keeps : (w : World) (before : List Name) (ds : source.Declarators) → Keeps w true (judged_declarators before ds) (AreNamed (length before) (length (names_in ds)))
-  declarators_keeps w before source.no_declarators = keeps_lone w true (typed []) (AreNamed (length before) 0) (λ e. (tt, refl, λ k. omega (arith, k)))
-  declarators_keeps w before (source.more_declarators (source.declarator pointers n dims) rest) =
-      record { keeps = declared_keeps w before pointers n (length (names_in rest)) (judged_dims dims) (judged_declarators (before ++ n ∷ []) rest) (dims_keeps w dims) (declarators_keeps w (before ++ n ∷ []) rest) }
+  pub declarators_keeps : (w : World) (before : List Name) (base : Judged Ty) → OnTyped Plain base → (ds : source.Declarators) → Keeps w true (judged_declarators before base ds) (AreMembersOf (length before) (length (names_in ds)))
+  declarators_keeps w before base h source.no_declarators = keeps_lone w true (typed []) (AreMembersOf (length before) 0) (λ e. (tt, refl, λ k. omega (arith, k)))
+  declarators_keeps w before base h (source.more_declarators (source.declarator pointers n dims) rest) =
+      declared_keeps w before n (length (names_in rest)) (member_by before base pointers n (judged_dims dims)) (judged_declarators (before ++ n ∷ []) base rest)
+      (record { keeps = member_after w before base h pointers n (judged_dims dims) (dims_keeps w dims) }) (declarators_keeps w (before ++ n ∷ []) base h rest)
 
   pub dims_keeps : (w : World) (es : source.Exprs) → Keeps w true (judged_dims es) (λ e ns. ArePositive ns)
   dims_keeps w source.no_exprs = keeps_lone w true (typed []) (λ e ns. ArePositive ns) (λ e. tt)

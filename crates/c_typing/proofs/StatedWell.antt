@@ -16,18 +16,18 @@ use Rattle.c_tree.specs.declared.syntax.StepOp.TheVariants as steps
 use Rattle.c_tree.specs.declared.syntax.AssignOp.{AssignOp}
 use Rattle.c_tree.specs.declared.syntax.AssignOp.TheVariants as assigns
 use Rattle.c_tree.specs.Syntax as source
-use Rattle.c_tree.specs.Typed.{Ty, void, integer, mutex, pointer, array, structure, Expr, at, ExprNode, num, literal, global, local, deref, member, type_of, node_of, Stmt, at_stmt, declare, assign, update, evaluate}
+use Rattle.c_tree.specs.Typed.{Ty, void, integer, mutex, pointer, array, structure, Expr, at, ExprNode, num, literal, global, local, deref, member, type_of, node_of, place_of, Stmt, at_stmt, declare, assign, update, evaluate}
 use Rattle.c_tree.specs.TypedForm.{IsScalar, Fits, is_comparison, CanUpdate, IsNth, IsLvalue, IsTyped, IfTyped, IsNoDeclaration, IsStep, IsFirst, IsReturned, Inside, IsWell, AreWell}
 use Rattle.c_tree.specs.TypedForm as form
 use Rattle.c_typing.specs.Faults.{Judged, typed, faulty, refuse, unless, both, ◌>>=◌}
-use Rattle.c_typing.specs.Types.{is_array, is_scalar, has_size}
+use Rattle.c_typing.specs.Types.{is_array, is_scalar, has_size, is_declared}
 use Rattle.c_typing.specs.Scope.{Meaning, local_name, Frame, Context, bytes_of, or_else, found, is_double, fresh, within}
 use Rattle.c_typing.specs.Rules.{value_of, fitted, or_mismatch, is_lvalue}
 use Rattle.c_typing.specs.Judgement.{lone, in_turn, valued, Declarator, object_declared, node_place, name_in, judged, judged_specs, judged_dims}
 use Rattle.c_typing.specs.Statements.{assignable, assigned, moves, updates, updated, step_op, stepped, assign_op, assigned_by, judged_simple, or_int, most_locals, with_local, initialised, judged_init, judged_declarator, name_of, judged_local, judged_locals, judged_declaration}
 use Rattle.c_typing.proofs.Extending.{extends_itself, Ready, sized_of, has_size_kept, below}
 use Rattle.c_typing.proofs.Elements.{get_before, get_last, get_either}
-use Rattle.c_typing.proofs.Carried.{OnTyped, on_bind, on_unless, on_mismatch, on_weaker, Plain, World, IsNamed, IsObject, visible, Good, Within, within_further, looser, Sound, Over, over_before, After, Keeps, keeps_lone, keeps_in_turn, keeps_ruled, keeps_weaker, keeps_looser}
+use Rattle.c_typing.proofs.Carried.{OnTyped, given, not_given, on_bind, on_unless, on_mismatch, on_weaker, Plain, World, IsNamed, IsObject, visible, Good, Within, within_further, looser, Sound, Over, over_before, After, Keeps, keeps_lone, keeps_in_turn, keeps_ruled, keeps_weaker, keeps_looser}
 use Rattle.c_typing.proofs.RuledWell.{Fine, value_fine, Fitting, fits}
 use Rattle.c_typing.proofs.TypesWell.{ArePositive, object_well}
 use Rattle.c_typing.proofs.Shown.{named_kept}
@@ -48,8 +48,11 @@ lvalue_is (deref x) h = tt
 lvalue_is (member x m) h = tt
 lvalue_is _ h = absurd cc
 
-assignable_is : (place : ℕ) (x : Expr) → OnTyped (λ u. IsLvalue (node_of x)) (assignable place x)
-assignable_is place x = on_weaker (λ u. (if is_array (type_of x) then false else is_lvalue (node_of x)) ≡ true) (λ u. IsLvalue (node_of x)) (assignable place x) (on_unless place NotAnLvalue (if is_array (type_of x) then false else is_lvalue (node_of x))) (λ u h. by (is_array (type_of x)) h)
+assignable_is : (c : Context) (place : ℕ) (x : Expr) → OnTyped (λ u. IsLvalue (node_of x)) (assignable c place x)
+assignable_is c place x =
+    on_bind (λ u. (if is_array (type_of x) then false else is_lvalue (node_of x)) ≡ true) (λ u. IsLvalue (node_of x)) (unless place NotAnLvalue (if is_array (type_of x) then false else is_lvalue (node_of x))) (λ u. unless (place_of x) NotAnLvalue (is_declared c.structs (type_of x)))
+    (on_unless place NotAnLvalue (if is_array (type_of x) then false else is_lvalue (node_of x)))
+    (λ u h. on_weaker (λ u. is_declared c.structs (type_of x) ≡ true) (λ u. IsLvalue (node_of x)) (unless (place_of x) NotAnLvalue (is_declared c.structs (type_of x))) (on_unless (place_of x) NotAnLvalue (is_declared c.structs (type_of x))) (λ u k. by (is_array (type_of x)) h))
   where
     by : (b : Bool) → (if b then false else is_lvalue (node_of x)) ≡ true → IsLvalue (node_of x)
     by true h = absurd cc
@@ -59,9 +62,9 @@ assignable_is place x = on_weaker (λ u. (if is_array (type_of x) then false els
 abbrev pub Stepping : World → Ty → Bool → form.Context → Stmt → Type 0
 Stepping w r l e s = IsWell (inside_of w r e) l s × IsStep s
 
-assigned_well : (w : World) (r : Ty) (l : Bool) (e : form.Context) → Sound e → (place : ℕ) (a b : Expr) → Fine e a → Fine e b → OnTyped (Stepping w r l e) (assigned place a b)
-assigned_well w r l e s place a b h k =
-    on_bind (λ u. IsLvalue (node_of a)) (Stepping w r l e) (assignable place a) (λ u. or_mismatch place (fitted (type_of a) (value_of b)) >>= λ x. typed (at_stmt place (assign a x))) (assignable_is place a)
+assigned_well : (w : World) (r : Ty) (l : Bool) (d : Context) (e : form.Context) → Sound e → (place : ℕ) (a b : Expr) → Fine e a → Fine e b → OnTyped (Stepping w r l e) (assigned d place a b)
+assigned_well w r l d e s place a b h k =
+    on_bind (λ u. IsLvalue (node_of a)) (Stepping w r l e) (assignable d place a) (λ u. or_mismatch place (fitted (type_of a) (value_of b)) >>= λ x. typed (at_stmt place (assign a x))) (assignable_is d place a)
     (λ u v. on_bind (Fitting e (type_of a)) (Stepping w r l e) (or_mismatch place (fitted (type_of a) (value_of b))) (λ x. typed (at_stmt place (assign a x)))
     (on_mismatch (Fitting e (type_of a)) place (fitted (type_of a) (value_of b)) (fits e (type_of a) (value_of b) (value_fine e s b k).0))
     (λ x f. ((h.0, f.0, v, f.1), tt)))
@@ -81,7 +84,7 @@ updates_well w d e v place op _ _ c r = tt
 
 updated_well : (w : World) (r : Ty) (l : Bool) (d : Context) (e : form.Context) → Over w d e → (place : ℕ) (op : Op) (a b : Expr) → is_comparison op ≡ false → Fine e a → Fine e b → OnTyped (Stepping w r l e) (updated d place op a b)
 updated_well w r l d e v place op a b c h k =
-    on_bind (λ u. IsLvalue (node_of a)) (Stepping w r l e) (assignable place a) (λ u. updates d place op (type_of a) (type_of b) >>= λ x. typed (at_stmt place (update a op b))) (assignable_is place a)
+    on_bind (λ u. IsLvalue (node_of a)) (Stepping w r l e) (assignable d place a) (λ u. updates d place op (type_of a) (type_of b) >>= λ x. typed (at_stmt place (update a op b))) (assignable_is d place a)
     (λ u i. on_bind (λ x. CanUpdate e.structs op (type_of a) (type_of b)) (Stepping w r l e) (updates d place op (type_of a) (type_of b)) (λ x. typed (at_stmt place (update a op b)))
     (updates_well w d e v place op (type_of a) (type_of b) c h.1) (λ x m. ((h.0, k.0, i, m), tt)))
 
@@ -96,7 +99,7 @@ stepped_well : (w : World) (r : Ty) (l : Bool) (d : Context) (e : form.Context) 
 stepped_well w r l d e v place op a h = updated_well w r l d e v place (step_op op) a (at place (integer int) (num int (pos 1))) (step_is op) h (one_fine e place)
 
 assigned_by_well : (w : World) (r : Ty) (l : Bool) (d : Context) (e : form.Context) → Over w d e → (place : ℕ) (op : AssignOp) (a b : Expr) → Fine e a → Fine e b → OnTyped (Stepping w r l e) (assigned_by d place (assign_op op) a b)
-assigned_by_well w r l d e v place assigns.Plain a b h k = assigned_well w r l e v.sound place a b h k
+assigned_by_well w r l d e v place assigns.Plain a b h k = assigned_well w r l d e v.sound place a b h k
 assigned_by_well w r l d e v place assigns.Add a b h k = updated_well w r l d e v place ops.Add a (value_of b) refl h (value_fine e v.sound b k)
 assigned_by_well w r l d e v place assigns.Sub a b h k = updated_well w r l d e v place ops.Sub a (value_of b) refl h (value_fine e v.sound b k)
 assigned_by_well w r l d e v place assigns.Mul a b h k = updated_well w r l d e v place ops.Mul a (value_of b) refl h (value_fine e v.sound b k)
@@ -322,14 +325,6 @@ locals_keeps w r l base h [] = keeps_lone w false (typed []) (AreStarting w r l)
 locals_keeps w r l base h (x ∷ xs) =
     keeps_ruled w false (in_turn (judged_local base x) (judged_locals base xs)) (λ d p. typed (p.0 ∷ p.1)) (λ e p. Starting w r l e p.0 × AreStarting w r l e p.1) (AreStarting w r l)
     (keeps_in_turn w false (judged_local base x) (judged_locals base xs) (Starting w r l) (AreStarting w r l) (local_keeps w r l base h x) (locals_keeps w r l base h xs)) (λ d e p g v k. k)
-
-given : {A B : Type 0} (P : B → Type 0) (Q : B → Type 0) (x : A) (k : Judged B) → OnTyped P k → ((y : B) → P y → Q y) → OnTyped Q (both (typed x) k >>= λ p. typed p.1)
-given P Q x (typed y) h f = f y h
-given P Q x (faulty r rs) h f = tt
-
-pub not_given : {A B C : Type 0} (P : C → Type 0) (r : Refusal) (rs : List Refusal) (k : Judged B) (f : A × B → Judged C) → OnTyped P (both {A = A} (faulty r rs) k >>= f)
-not_given P r rs (typed y) f = tt
-not_given P r rs (faulty s ss) f = tt
 
 pub declaration_keeps : (w : World) (r : Ty) (l : Bool) (d : source.Declaration) → Keeps w false (judged_declaration d) (AreStarting w r l)
 declaration_keeps w r l d = record { keeps = λ c g. by c (judged_specs (source.specs_of d.specs) c).1 (judged_specs (source.specs_of d.specs) c).0 ((judged_specs_keeps w (source.specs_of d.specs)).keeps c g) }

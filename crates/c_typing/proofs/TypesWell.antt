@@ -1,8 +1,7 @@
 -- Types that specifiers and declarators name.
 use Rattle.std.proofs.Common.{◌≡◌, ℕ, zero, suc, ◌*◌, ◌<◌, ◌≤◌, Bool, true, false, ◌&&◌, not, refl, ap, subst, arith, ℤ, pos, negsuc, List, [], ◌∷◌, length, Option, Some, None, slice_get, nat_lt, nat_eq, if◌then◌else◌, int_le, unsigned_abs}
-use Rattle.std.specs.List.{AllByRecursion, list_any}
+use Rattle.std.specs.List.{AllByRecursion}
 use Rattle.std.specs.Map.{lookup}
-use Rattle.std.specs.Str.{bytes_eq}
 use Rattle.std.proofs.lemmas.Bool.Decides.{nat_tests}
 use Rattle.std.proofs.lemmas.Int.{ints}
 use Rattle.ak_words.specs.declared.number.Num.{Num}
@@ -19,12 +18,12 @@ use Rattle.c_tree.specs.TypedLayout.{greatest_object, layout_size, size_in, IsSi
 use Rattle.c_tree.specs.TypedForm as form
 use Rattle.c_typing.specs.Faults.{typed, refuse, unless, both, ◌>>=◌}
 use Rattle.c_typing.specs.Types.{same_type, same_types, has_size, is_small, same_words, type_words, behind_pointers, arrays_of}
-use Rattle.c_typing.specs.Scope.{Context, bytes_of}
+use Rattle.c_typing.specs.Scope.{Context}
 use Rattle.c_typing.specs.Constants.{constant_value}
 use Rattle.c_typing.specs.Rules.{size_number}
-use Rattle.c_typing.specs.Judgement.{Part, type_by, specified, tags_of, words_of, Declarator, dimension_by, dimension, object_type, object_declared, fresh_member, member_objects, node_place}
+use Rattle.c_typing.specs.Judgement.{Part, type_by, specified, tags_of, words_of, Declarator, dimension_by, dimension, object_type, object_declared, most_members, is_again, fresh_member, node_place}
 use Rattle.c_typing.proofs.Extending.{Extends, Ready, AreSmall, sized_of, has_size_kept, struct_kept, below, at_most}
-use Rattle.c_typing.proofs.Carried.{OnTyped, OnSome, on_bind, on_both, on_unless, on_mismatch, on_weaker, Plain, World, Good, IsObject, Over}
+use Rattle.c_typing.proofs.Carried.{OnTyped, OnSome, on_bind, on_unless, on_mismatch, Plain, World, Good, IsObject, Over}
 use Rattle.c_typing.proofs.RuledWell.{Made, plain_ready, same_number, same_int_is, both_hold}
 use Rattle.c_typing.proofs.Shown.{object_kept}
 use Rattle.c_typing.proofs.Braced.{AreObjects}
@@ -132,33 +131,17 @@ pub object_well : (w : World) (c : Context) → Good w c → (t : Ty) (d : Decla
 object_well w c g t d h p =
     object_type_well w c g d.name.from (behind_pointers t d.pointers) d.sizes (plain_ready c.structs (behind_pointers t d.pointers) (behind_plain t d.pointers h)) p
 
-abbrev pub AreDeclarators : List Declarator → Type 0
-AreDeclarators ds = AllByRecursion (λ (d : Declarator). ArePositive d.sizes) ds
-
-abbrev AreAll : List Layout → ℕ → List (List ℕ × Ty) → Type 0
-AreAll s n all = AreObjects s all × (length all ≡ n)
-
-members_well : (w : World) (c : Context) → Good w c → (t : Ty) → Plain t → (ds : List Declarator) → AreDeclarators ds → OnTyped (AreAll c.structs (length ds)) (member_objects c t ds)
-members_well w c g t h [] p = (tt, refl)
-members_well w c g t h (d ∷ ds) p =
-    on_bind (λ (x : Ty × List (List ℕ × Ty)). IsObject c.structs x.0 × AreAll c.structs (length ds) x.1) (AreAll c.structs (length (d ∷ ds))) (both (object_declared c t d) (member_objects c t ds)) (λ x. typed ((bytes_of c.text d.name, x.0) ∷ x.1))
-    (on_both (IsObject c.structs) (AreAll c.structs (length ds)) (object_declared c t d) (member_objects c t ds) (object_well w c g t d h p.0) (members_well w c g t h ds p.1))
-    (λ x k. ((k.0, k.1.0), ap suc k.1.1))
-
 pub objects_kept : (old new : List Layout) → Extends old new → (all : List (List ℕ × Ty)) → AreObjects old all → AreObjects new all
 objects_kept old new f [] h = tt
 objects_kept old new f (m ∷ all) h = (object_kept old new f m.1 h.0, objects_kept old new f all h.1)
 
-pub member_objects_well : (w : World) (d : Context) (e : form.Context) → Good w d → Over w d e → (t : Ty) → Plain t → (ds : List Declarator) → AreDeclarators ds → OnTyped (AreAll e.structs (length ds)) (member_objects d t ds)
-member_objects_well w d e g o t h ds p = on_weaker (AreAll d.structs (length ds)) (AreAll e.structs (length ds)) (member_objects d t ds) (members_well w d g t h ds p) (λ all k. (objects_kept d.structs e.structs o.structs all k.0, k.1))
-
-pub fresh_few : (c : Context) (before : List Name) (n : Name) → OnTyped (λ u. length before < 256) (fresh_member c before n)
-fresh_few c before n = by (list_any (λ m. bytes_eq (bytes_of c.text n) (bytes_of c.text m)) before) (nat_lt (length before) 256) refl
+pub fresh_few : (c : Context) (before : List Name) (n : Name) → OnTyped (λ u. length before < most_members) (fresh_member c before n)
+fresh_few c before n = by (is_again c before n) (nat_lt (length before) most_members) refl
   where
-    by : (b f : Bool) → nat_lt (length before) 256 ≡ f → OnTyped (λ (u : Unit {0}). length before < 256) (both (unless n.from DoubleName (not b)) (unless n.from (TooMany 4) f) >>= λ u. typed tt)
+    by : (b f : Bool) → nat_lt (length before) most_members ≡ f → OnTyped (λ (u : Unit {0}). length before < most_members) (both (unless n.from DoubleName (not b)) (unless n.from (TooMany 4) f) >>= λ u. typed tt)
     by true true h = tt
     by true false h = tt
-    by false true h = below (length before) 256 h
+    by false true h = below (length before) most_members h
     by false false h = tt
 
 -- ---- sizeof

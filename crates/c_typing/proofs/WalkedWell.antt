@@ -13,7 +13,7 @@ use Rattle.c_typing.specs.Types.{is_void}
 use Rattle.c_typing.specs.Scope.{Meaning, Frame, Context, or_else, found, inside, back_to}
 use Rattle.c_typing.specs.Rules.{fitted, or_mismatch, tested}
 use Rattle.c_typing.specs.Judgement.{Judging, lone, in_turn, ruled, valued, judged}
-use Rattle.c_typing.specs.Statements.{judged_simple, judged_declaration, stmts_of, condition, scoped, only, one_of, returned_by, returned, headed, judged_first, judged_condition, judged_step, looped, judged_stmt, judged_stmts}
+use Rattle.c_typing.specs.Statements.{judged_simple, judged_declaration, stmts_of, condition, scoped, only, one_of, returned_by, returned, header_row, headed, judged_first, judged_condition, judged_step, looped, judged_stmt, judged_stmts}
 use Rattle.c_typing.specs.Laws.{IsAlone, IsWritten, AreWritten}
 use Rattle.c_typing.proofs.Carried.{on_bind, on_unless, on_mismatch, on_weaker, World, Good, Within, Over, After, Keeps, keeps_lone, keeps_in_turn, keeps_ruled, keeps_weaker}
 use Rattle.c_typing.proofs.RuledWell.{Fine, Fitting, fits, Tested, tested_well}
@@ -148,10 +148,15 @@ returned_keeps w r l place (Some s) = keeps_ruled w false (valued (judged s)) (�
 
 -- ---- for
 
+header_well : (w : World) (r : Ty) (l : Bool) (e : form.Context) (s : Stmt) (ss : List Stmt) (loop : Stmt → Stmt) → Starting w r l e s → AreStarting w r l e ss → ((s : Stmt) → Starting w r l e s → Single w r l e (loop s))
+    → AreWell (inside_of w r e) l (stmts_of (header_row s ss loop))
+header_well w r l e s [] loop h k f = ((f s h).0, tt)
+header_well w r l e s (t ∷ rest) loop h k f = (h.0, header_well w r l e t rest loop k.0 k.1 f)
+
 headed_well : (w : World) (r : Ty) (l : Bool) (e : form.Context) (place : ℕ) (ss : List Stmt) (loop : Stmt → Stmt) → AreStarting w r l e ss → ((s : Stmt) → Starting w r l e s → Single w r l e (loop s)) → Single w r l e (headed place ss loop)
 headed_well w r l e place [] loop h f = f (at_stmt place empty) (tt, tt)
 headed_well w r l e place (s ∷ []) loop h f = f s h.0
-headed_well w r l e place (s ∷ t ∷ rest) loop h f = ((h.0.0, ((headed_well w r l e place (t ∷ rest) loop h.1 f).0, tt)), tt)
+headed_well w r l e place (s ∷ t ∷ rest) loop h f = (header_well w r l e s (t ∷ rest) loop h.0 h.1 f, tt)
 
 first_keeps : (w : World) (r : Ty) (l : Bool) (place : ℕ) (first : source.ForFirst) → Keeps w false (judged_first place first) (AreStarting w r l)
 first_keeps w r l place (source.first_declare d) = declaration_keeps w r l d

@@ -332,16 +332,27 @@ names_in (source.more_declarators (source.declarator pointers n dims) rest) = n 
 abbrev pub names_of_member : source.Member → List Name
 names_of_member (source.members_of specs declarators) = names_in declarators
 
+-- the members of a struct, of which there are 256 at most
+abbrev pub most_members : ℕ
+most_members = 256
+
+-- a member of this name stands before; behind one too many no names are compared, since the fault that is named stands there or before
+abbrev pub is_again : Context → (before : List Name) → Name → Bool
+is_again c before n = nat_le (length before) most_members && list_any (λ m. bytes_eq (bytes_of c.text n) (bytes_of c.text m)) before
+
 -- a member's name is declared once in its struct, and there are 256 at most
 abbrev pub fresh_member : Context → (before : List Name) → Name → Judged (Unit {0})
-fresh_member c before n =
-    both (unless n.from DoubleName (not (list_any (λ m. bytes_eq (bytes_of c.text n) (bytes_of c.text m)) before))) (within n.from 4 256 (length before))
-    >>= λ u. typed tt
+fresh_member c before n = both (unless n.from DoubleName (not (is_again c before n))) (within n.from 4 most_members (length before)) >>= λ u. typed tt
 
--- the members that declarators declare: the bytes of each name, and its type
-abbrev pub member_objects : Context → Ty → List Declarator → Judged (List (List ℕ × Ty))
-member_objects c t [] = typed []
-member_objects c t (d ∷ ds) = both (object_declared c t d) (member_objects c t ds) >>= λ p. typed ((bytes_of c.text d.name, p.0) ∷ p.1)
+-- the type of the object that a declarator declares, by the type that its specifiers name and the sizes of its arrays
+abbrev pub object_by : (base : Judged Ty) → List Pointer → Name → Judging (List ℕ) → Judging Ty
+object_by base pointers n sizes =
+    ruled (in_turn (lone base) sizes) (λ d p. object_declared d p.0 (record { name = n; pointers = pointers; sizes = p.1 }))
+
+-- a member by its declarator: its name among those before it, and beside that its object's type
+abbrev pub member_by : (before : List Name) → (base : Judged Ty) → List Pointer → Name → Judging (List ℕ) → Judging (List ℕ × Ty)
+member_by before base pointers n sizes c =
+    ruled (in_turn (lone (fresh_member c before n)) (object_by base pointers n sizes)) (λ d p. typed (bytes_of d.text n, p.1)) c
 
 -- a struct's size is at most the greatest object's
 abbrev pub struct_fits : Context → (place : ℕ) → List (List ℕ × Ty) → Judged (List (List ℕ × Ty))
@@ -437,14 +448,15 @@ abbrev mutual
   -- members that are declared together, behind those of these names
   pub judged_member : (before : List Name) → source.Member → Judging (List (List ℕ × Ty))
   judged_member before (source.members_of specs declarators) c =
-      ruled (in_turn (specs_by specs (judged_parts specs)) (judged_declarators before declarators)) (λ d p. member_objects d p.0 p.1) c
+      let base = specs_by specs (judged_parts specs) c in
+      let all = judged_declarators before base.0 declarators base.1 in
+      (both base.0 all.0 >>= λ p. typed p.1, all.1)
 
-  -- the declarators of such members, each of a name that none before it has
-  pub judged_declarators : (before : List Name) → source.Declarators → Judging (List Declarator)
-  judged_declarators before source.no_declarators c = (typed [], c)
-  judged_declarators before (source.more_declarators (source.declarator pointers n dims) rest) c =
-      ruled (in_turn (lone (fresh_member c before n)) (in_turn (judged_dims dims) (judged_declarators (before ++ n ∷ []) rest)))
-      (λ d p. typed (record { name = n; pointers = pointers; sizes = p.1.0 } ∷ p.1.1)) c
+  -- the declarators of such members, each of a name that none before it has, and of an object
+  pub judged_declarators : (before : List Name) → (base : Judged Ty) → source.Declarators → Judging (List (List ℕ × Ty))
+  judged_declarators before base source.no_declarators c = (typed [], c)
+  judged_declarators before base (source.more_declarators (source.declarator pointers n dims) rest) c =
+      ruled (in_turn (member_by before base pointers n (judged_dims dims)) (judged_declarators (before ++ n ∷ []) base rest)) (λ d p. typed (p.0 ∷ p.1)) c
 
   -- the sizes of an array
   pub judged_dims : source.Exprs → Judging (List ℕ)

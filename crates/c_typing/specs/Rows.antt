@@ -14,7 +14,9 @@ use Rattle.c_tree.specs.declared.syntax.PrefixOp.TheVariants as prefixes
 use Rattle.c_tree.specs.declared.syntax.BinaryOp.TheVariants as binaries
 use Rattle.c_tree.specs.declared.syntax.AssignOp.TheVariants as assigns
 use Rattle.c_tree.specs.Syntax as source
+use Rattle.c_tree.specs.Typed.{Stmt, at_stmt, block, no_stmts, more_stmts}
 use Rattle.c_typing.specs.Faults.{first}
+use Rattle.c_typing.specs.Statements.{headed}
 use Rattle.c_typing.specs.Programs.{judged_file}
 
 -- where a name, or a literal, stands
@@ -153,6 +155,14 @@ mutex_kind_tree = record { externals = ((record { storage = []; specs = ((source
 abbrev elements_without_size_tree : source.File
 elements_without_size_tree = record { externals = ((record { storage = []; specs = ((source.word 0 words.Int) ∷ []); rest = (source.function [] (name 4 5) ((record { specs = ((source.struct 6 (name 13 14)) ∷ []); pointers = []; name = (Some (name 15 16)); dims = ((record { place = 16; size = None }) ∷ (record { place = 18; size = (Some (source.int 19 (num int (pos 2)))) }) ∷ []) }) ∷ []) (Some (record { place = 22; items = ((source.return 23 (Some (source.int 30 (num int (pos 0))))) ∷ []) }))) }) ∷ (record { storage = []; specs = ((source.word 33 words.Int) ∷ []); rest = (source.function [] (name 37 41) ((record { specs = ((source.word 42 words.Void) ∷ []); pointers = []; name = None; dims = [] }) ∷ []) (Some (record { place = 47; items = ((source.return 48 (Some (source.int 55 (num int (pos 0))))) ∷ []) }))) }) ∷ []) }
 
+-- struct s{int a;void b,a;};int main(void){return 0;}
+abbrev sizes_beside_names_tree : source.File
+sizes_beside_names_tree = record { externals = ((record { storage = []; specs = ((source.struct_body 0 (name 7 8) (source.more_members (source.members_of (source.more_specs (source.word 9 words.Int) source.no_specs) (source.more_declarators (source.declarator [] (name 13 14) source.no_exprs) source.no_declarators)) (source.more_members (source.members_of (source.more_specs (source.word 15 words.Void) source.no_specs) (source.more_declarators (source.declarator [] (name 20 21) source.no_exprs) (source.more_declarators (source.declarator [] (name 22 23) source.no_exprs) source.no_declarators))) source.no_members))) ∷ []); rest = source.nothing }) ∷ (record { storage = []; specs = ((source.word 26 words.Int) ∷ []); rest = (source.function [] (name 30 34) ((record { specs = ((source.word 35 words.Void) ∷ []); pointers = []; name = None; dims = [] }) ∷ []) (Some (record { place = 40; items = ((source.return 41 (Some (source.int 48 (num int (pos 0))))) ∷ []) }))) }) ∷ []) }
+
+-- struct u;int f(struct u *q,struct u *r){*q=*r;return 0;}int main(void){return 0;}
+abbrev unknown_struct_assigned_tree : source.File
+unknown_struct_assigned_tree = record { externals = ((record { storage = []; specs = ((source.struct 0 (name 7 8)) ∷ []); rest = source.nothing }) ∷ (record { storage = []; specs = ((source.word 9 words.Int) ∷ []); rest = (source.function [] (name 13 14) ((record { specs = ((source.struct 15 (name 22 23)) ∷ []); pointers = (pointers.Star ∷ []); name = (Some (name 25 26)); dims = [] }) ∷ (record { specs = ((source.struct 27 (name 34 35)) ∷ []); pointers = (pointers.Star ∷ []); name = (Some (name 37 38)); dims = [] }) ∷ []) (Some (record { place = 39; items = ((source.simple (source.assign 42 assigns.Plain (source.prefix 40 prefixes.Deref (source.name (name 41 42))) (source.prefix 43 prefixes.Deref (source.name (name 44 45))))) ∷ (source.return 46 (Some (source.int 53 (num int (pos 0))))) ∷ []) }))) }) ∷ (record { storage = []; specs = ((source.word 56 words.Int) ∷ []); rest = (source.function [] (name 60 64) ((record { specs = ((source.word 65 words.Void) ∷ []); pointers = []; name = None; dims = [] }) ∷ []) (Some (record { place = 70; items = ((source.return 71 (Some (source.int 78 (num int (pos 0))))) ∷ []) }))) }) ∷ []) }
+
 -- the rows: a text with its tree, and the fault that is named, at its place, or none where the program is accepted
 pub record Rows : Type 0 where
   pub unknown_name : refusal_of (codes "int main(void){return b;}") unknown_name_tree ≡ at 22 kinds.UnknownName
@@ -185,3 +195,7 @@ pub record Rows : Type 0 where
   pub declared_before : refusal_of (codes "int f(int x);int main(void){return f(1);}int f(int y){return y;}") declared_before_tree ≡ None
   pub mutex_kind : refusal_of (codes "mtx_t m;int main(void){mtx_init(&m,1);return 0;}") mutex_kind_tree ≡ at 35 (kinds.OutsideSubset 14)
   pub elements_without_size : refusal_of (codes "int f(struct s a[][2]){return 0;}int main(void){return 0;}") elements_without_size_tree ≡ at 15 kinds.BadSize
+  pub sizes_beside_names : refusal_of (codes "struct s{int a;void b,a;};int main(void){return 0;}") sizes_beside_names_tree ≡ at 20 kinds.BadSize
+  pub unknown_struct_assigned : refusal_of (codes "struct u;int f(struct u *q,struct u *r){*q=*r;return 0;}int main(void){return 0;}") unknown_struct_assigned_tree ≡ at 40 kinds.NotAnLvalue
+  -- the block of a header holds each local that it declares, and the loop with the last of them
+  pub one_block : (place : ℕ) (a b c : Stmt) (loop : Stmt → Stmt) → headed place (a ∷ b ∷ c ∷ []) loop ≡ at_stmt place (block (more_stmts a (more_stmts b (more_stmts (loop c) no_stmts))))

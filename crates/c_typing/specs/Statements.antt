@@ -10,23 +10,25 @@ use Rattle.c_tree.specs.declared.syntax.StepOp.TheVariants as steps
 use Rattle.c_tree.specs.declared.syntax.AssignOp.{AssignOp}
 use Rattle.c_tree.specs.declared.syntax.AssignOp.TheVariants as assigns
 use Rattle.c_tree.specs.Syntax as source
-use Rattle.c_tree.specs.Typed.{Ty, integer, pointer, Expr, at, num, type_of, node_of, Stmt, at_stmt, block, declare, if_, if_else, while_, for_, break_, continue_, return_, assign, update, evaluate, empty, Stmts, no_stmts, more_stmts}
+use Rattle.c_tree.specs.Typed.{Ty, integer, pointer, Expr, at, num, type_of, node_of, place_of, Stmt, at_stmt, block, declare, if_, if_else, while_, for_, break_, continue_, return_, assign, update, evaluate, empty, Stmts, no_stmts, more_stmts}
 use Rattle.c_typing.specs.Faults.{Judged, typed, faulty, refuse, unless, both, ◌>>=◌}
-use Rattle.c_typing.specs.Types.{is_void, is_array, is_scalar, has_size}
+use Rattle.c_typing.specs.Types.{is_void, is_array, is_scalar, has_size, is_declared}
 use Rattle.c_typing.specs.Scope.{Context, local_name, fresh, declared, inside, back_to, within}
 use Rattle.c_typing.specs.Rules.{value_of, fitted, or_mismatch, tested, is_lvalue}
 use Rattle.c_typing.specs.Judgement.{Judging, lone, in_turn, ruled, valued, Declarator, object_declared, node_place, judged, judged_specs, judged_dims}
 
 -- ---- assignments (6.5.16, 6.5.2.4, 6.5.3.1)
 
--- what may be assigned: an object that is no array
-abbrev pub assignable : (place : ℕ) → Expr → Judged (Unit {0})
-assignable place e = unless place NotAnLvalue (if is_array (type_of e) then false else is_lvalue (node_of e))
+-- what may be assigned: an object that is no array, and no struct that isn't complete where it stands, which is a fault of the left
+-- side (6.3.2.1 p1)
+abbrev pub assignable : Context → (place : ℕ) → Expr → Judged (Unit {0})
+assignable c place e =
+    unless place NotAnLvalue (if is_array (type_of e) then false else is_lvalue (node_of e)) >>= λ u. unless (place_of e) NotAnLvalue (is_declared c.structs (type_of e))
 
 -- left = right
-abbrev pub assigned : (place : ℕ) → Expr → Expr → Judged Stmt
-assigned place left right =
-    assignable place left >>= λ u. or_mismatch place (fitted (type_of left) (value_of right)) >>= λ x. typed (at_stmt place (assign left x))
+abbrev pub assigned : Context → (place : ℕ) → Expr → Expr → Judged Stmt
+assigned c place left right =
+    assignable c place left >>= λ u. or_mismatch place (fitted (type_of left) (value_of right)) >>= λ x. typed (at_stmt place (assign left x))
 
 -- + and - also move a pointer to elements that have a size
 abbrev pub moves : Op → Bool
@@ -43,7 +45,7 @@ updates c place op s t = refuse place TypeMismatch
 -- left op= right
 abbrev pub updated : Context → (place : ℕ) → Op → Expr → Expr → Judged Stmt
 updated c place op left right =
-    assignable place left >>= λ u. updates c place op (type_of left) (type_of right) >>= λ v. typed (at_stmt place (update left op right))
+    assignable c place left >>= λ u. updates c place op (type_of left) (type_of right) >>= λ v. typed (at_stmt place (update left op right))
 
 -- ++ and -- add and subtract 1
 abbrev pub step_op : StepOp → Op
@@ -70,7 +72,7 @@ assign_op assigns.Shr = Some ops.Shr
 
 -- left = right where there is no other operator, and else left op= right
 abbrev pub assigned_by : Context → (place : ℕ) → Option Op → Expr → Expr → Judged Stmt
-assigned_by c place None left right = assigned place left right
+assigned_by c place None left right = assigned c place left right
 assigned_by c place (Some op) left right = updated c place op left (value_of right)
 
 -- an expression statement, an assignment, ++ or --
@@ -169,11 +171,16 @@ abbrev pub returned : (place : ℕ) → (result : Ty) → Option source.Expr →
 returned place result None c = (unless place TypeMismatch (is_void result) >>= λ u. typed (at_stmt place (return_ None)), c)
 returned place result (Some e) c = ruled (valued (judged e)) (λ d x. returned_by place result x) c
 
--- a for with its header: where that declares several locals, all but the last stand in a block around
+-- locals that a for declares in its header, one behind the other; the last stands in the loop
+abbrev pub header_row : (first : Stmt) → List Stmt → (Stmt → Stmt) → List Stmt
+header_row s [] loop = loop s ∷ []
+header_row s (t ∷ rest) loop = s ∷ header_row t rest loop
+
+-- a for with its header: where that declares several locals, one block holds them all
 abbrev pub headed : (place : ℕ) → List Stmt → (Stmt → Stmt) → Stmt
 headed place [] loop = loop (at_stmt place empty)
 headed place (s ∷ []) loop = loop s
-headed place (s ∷ t ∷ rest) loop = at_stmt place (block (more_stmts s (more_stmts (headed place (t ∷ rest) loop) no_stmts)))
+headed place (s ∷ t ∷ rest) loop = at_stmt place (block (stmts_of (header_row s (t ∷ rest) loop)))
 
 -- what stands first in a for: a declaration, an assignment or other expression, or nothing (C11 6.8.5.3)
 abbrev pub judged_first : (place : ℕ) → source.ForFirst → Judging (List Stmt)

@@ -64,6 +64,11 @@ has_size structs (pointer t) = true
 has_size structs (array t n) = has_size structs t
 has_size structs (structure n) = nat_lt 0 (layout_size (slice_get structs n))
 
+-- a struct that is declared, or no struct
+abbrev pub is_declared : List Layout → Ty → Bool
+is_declared structs (structure n) = has_size structs (structure n)
+is_declared structs t = true
+
 -- at most the greatest object's size
 abbrev pub is_small : List Layout → Ty → Bool
 is_small structs t = nat_le (size_in structs t) greatest_object

@@ -1,7 +1,7 @@
 //! Types, compared and completed (C11 6.2.5, 6.2.7, 6.7.2).
 ghost use Rattle.std.specs.Prelude.{◌≡◌, map, IfOk};
 ghost use Rattle.c_tree.specs.TypedViews.{type_view, layout_view};
-ghost use Rattle.c_typing.specs.Types.{same_int, same_type, same_types, is_void, is_array, is_scalar, is_struct_or_mutex, has_size};
+ghost use Rattle.c_typing.specs.Types.{same_int, same_type, same_types, is_void, is_array, is_scalar, is_struct_or_mutex, has_size, is_declared};
 
 use ak_words::IntType;
 use c_tree::typed::{CType, Layout};
@@ -81,6 +81,16 @@ pub fn has_size(structs: &[Layout], t: &CType) -> bool
         CType::Struct(n) => structs
             .get(*n as usize)
             .is_some_and(|layout| layout.size > 0),
+    }
+}
+
+/// Whether it is a struct that is declared, or no struct.
+pub fn is_declared(structs: &[Layout], t: &CType) -> bool
+    ensures { result ≡ is_declared (map layout_view structs.now) (type_view t.now) }
+{
+    match t {
+        CType::Struct(_) => has_size(structs, t),
+        _ => true,
     }
 }
 

@@ -1,15 +1,16 @@
 -- Declared objects, and the header of a for.
-use Rattle.std.proofs.Common.{◌≡◌, ℕ, List, [], ◌∷◌, ◌++◌, Some, Result, map, refl, sym, ap, subst, ◌∙◌}
+use Rattle.std.proofs.Common.{◌≡◌, ℕ, ◌==◌, false, length, List, [], ◌∷◌, ◌++◌, Some, Result, map, refl, sym, ap, subst, ◌∙◌}
 use Rattle.std.proofs.lemmas.List.{map-append}
 use Rattle.ak_words.specs.IntType.{int}
 use Rattle.c_lex.specs.declared.refusal.Refusal.{Refusal}
 use Rattle.c_lex.specs.declared.refusal.CompileFault.{CompileFault}
 use Rattle.c_tree.specs.declared.typed.Stmt.{Stmt as CodeStmt}
-use Rattle.c_tree.specs.Typed.{Ty, integer, Stmt, at_stmt, block, more_stmts, no_stmts}
+use Rattle.c_tree.specs.Typed.{Ty, integer, Stmt, at_stmt, block, more_stmts}
 use Rattle.c_tree.specs.TypedViews.{stmt_view}
+use Rattle.c_tree.specs.TypedViews as views
 use Rattle.c_typing.specs.Faults.{Judged, typed, faulty, first, Gives, ◌>>=◌}
-use Rattle.c_typing.specs.Statements.{or_int, headed}
-use Rattle.type_declared.specs.inner.Objects.{wrapped}
+use Rattle.c_typing.specs.Statements.{or_int, stmts_of, header_row, headed}
+use Rattle.type_declared.specs.inner.Objects.{enclosed}
 
 -- the type of a declarator at fault
 pub refused_int : (j : Judged Ty) (r : Refusal) → first j ≡ Some r → integer int ≡ or_int j
@@ -25,26 +26,29 @@ gives_typed view r j f x h g = subst (λ i. Gives view r (i >>= f)) (sym h) g
 
 -- ---- headers
 
-pub wrapped_push : (place : ℕ) (xs : List Stmt) (x s : Stmt) → wrapped place (xs ++ x ∷ []) s ≡ wrapped place xs (at_stmt place (block (more_stmts x (more_stmts s no_stmts))))
-wrapped_push place [] x s = refl
-wrapped_push place (y ∷ xs) x s = ap (λ w. at_stmt place (block (more_stmts y (more_stmts w no_stmts)))) (wrapped_push place xs x s)
+row_push : (y : Stmt) (xs : List Stmt) (x : Stmt) (loop : Stmt → Stmt) → header_row y (xs ++ x ∷ []) loop ≡ y ∷ xs ++ loop x ∷ []
+row_push y [] x loop = refl
+row_push y (z ∷ xs) x loop = ap (λ l. y ∷ l) (row_push z xs x loop)
 
-pub headed_push : (place : ℕ) (xs : List Stmt) (x : Stmt) (loop : Stmt → Stmt) → headed place (xs ++ x ∷ []) loop ≡ wrapped place xs (loop x)
+headed_push : (place : ℕ) (xs : List Stmt) (x : Stmt) (loop : Stmt → Stmt) → headed place (xs ++ x ∷ []) loop ≡ enclosed place xs (loop x)
 headed_push place [] x loop = refl
 headed_push place (y ∷ []) x loop = refl
-headed_push place (y ∷ z ∷ xs) x loop = ap (λ w. at_stmt place (block (more_stmts y (more_stmts w no_stmts)))) (headed_push place (z ∷ xs) x loop)
+headed_push place (y ∷ z ∷ xs) x loop = ap (λ l. at_stmt place (block (stmts_of l))) (row_push y (z ∷ xs) x loop)
 
 -- the last of these is taken
-pub wrapped_pop : (place : ℕ) (all rest : List CodeStmt) (x w : CodeStmt) (s whole : Stmt) → all ≡ rest ++ x ∷ [] → stmt_view w ≡ at_stmt place (block (more_stmts (stmt_view x) (more_stmts s no_stmts)))
-    → wrapped place (map stmt_view all) s ≡ whole → wrapped place (map stmt_view rest) (stmt_view w) ≡ whole
-wrapped_pop place all rest x w s whole is made so_far =
-    ap (wrapped place (map stmt_view rest)) made
-    ∙ sym (wrapped_push place (map stmt_view rest) (stmt_view x) s)
-    ∙ ap (λ l. wrapped place l s) (sym (ap (map stmt_view) is ∙ map-append stmt_view rest (x ∷ [])))
-    ∙ so_far
-
 pub headed_pop : (place : ℕ) (all rest : List CodeStmt) (x whole inside : CodeStmt) (loop : Stmt → Stmt) → all ≡ rest ++ x ∷ [] → stmt_view inside ≡ loop (stmt_view x)
-    → stmt_view whole ≡ wrapped place (map stmt_view rest) (stmt_view inside) → stmt_view whole ≡ headed place (map stmt_view all) loop
+    → stmt_view whole ≡ enclosed place (map stmt_view rest) (stmt_view inside) → stmt_view whole ≡ headed place (map stmt_view all) loop
 headed_pop place all rest x whole inside loop is made h =
-    h ∙ ap (wrapped place (map stmt_view rest)) made ∙ sym (headed_push place (map stmt_view rest) (stmt_view x) loop)
+    h ∙ ap (enclosed place (map stmt_view rest)) made ∙ sym (headed_push place (map stmt_view rest) (stmt_view x) loop)
     ∙ ap (λ l. headed place l loop) (sym (ap (map stmt_view) is ∙ map-append stmt_view rest (x ∷ [])))
+
+-- a block of statements that are there
+rows_same : (ss : List Stmt) → views.stmts_of ss ≡ stmts_of ss
+rows_same [] = refl
+rows_same (s ∷ ss) = ap (more_stmts s) (rows_same ss)
+
+pub enclosed_is : (place : ℕ) (before : List CodeStmt) (last : CodeStmt) → (length before == 0) ≡ false
+    → at_stmt place (block (views.stmts_of (map stmt_view (before ++ last ∷ [])))) ≡ enclosed place (map stmt_view before) (stmt_view last)
+enclosed_is place [] last h = cc
+enclosed_is place (x ∷ xs) last h =
+    ap (λ l. at_stmt place (block l)) (rows_same (map stmt_view ((x ∷ xs) ++ last ∷ [])) ∙ ap stmts_of (map-append stmt_view (x ∷ xs) (last ∷ [])))

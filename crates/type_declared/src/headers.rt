@@ -1,10 +1,10 @@
 //! The header of a `for` (C11 6.8.5.3).
 ghost use Rattle.std.specs.Prelude.{◌≡◌, IfOk, map};
 ghost use Rattle.std.specs.Option.{option_map};
-ghost use Rattle.c_tree.specs.Typed.{at_stmt, for_, block, more_stmts, no_stmts, empty};
+ghost use Rattle.c_tree.specs.Typed.{at_stmt, for_, empty};
 ghost use Rattle.c_tree.specs.TypedViews.{optional_expr_view, boxed_expr_view, stmt_view, boxed_stmt_view};
 ghost use Rattle.c_typing.specs.Statements.{headed};
-ghost use Rattle.type_declared.specs.inner.Objects.{wrapped};
+ghost use Rattle.type_declared.specs.inner.Objects.{enclosed};
 
 use c_tree::typed::{Expr, Stmt, StmtNode};
 use std::alloc::{AllocError, Global};
@@ -29,37 +29,21 @@ pub fn unboxed(e: Option<Box<Expr>>) -> Option<Expr>
     }
 }
 
-// Two statements in a block.
-fn block_of(
+// Declarations, and a statement behind them, in one block, if there are any.
+fn enclosed(
     alloc: Global,
     place: u32,
-    first: Box<Stmt>,
-    second: Box<Stmt>,
+    mut before: Vec<Stmt>,
+    last: Box<Stmt>,
 ) -> Result<Box<Stmt>, AllocError>
-    ensures { IfOk result (λ s. boxed_stmt_view s ≡ at_stmt place (block (more_stmts (boxed_stmt_view first) (more_stmts (boxed_stmt_view second) no_stmts)))) }
+    ensures { IfOk result (λ s. boxed_stmt_view s ≡ enclosed place (map stmt_view before.items) (boxed_stmt_view last)) }
 {
-    let mut all = Vec::new(alloc);
-    all.push(Box::into_inner(first))?;
-    all.push(Box::into_inner(second))?;
-    let node = StmtNode::Block(all);
-    Ok(Box::new(alloc, Stmt { place, node })?)
-}
-
-// Each of these in a block around what is behind it.
-fn wrapped(
-    alloc: Global,
-    place: u32,
-    mut header: Vec<Stmt>,
-    inside: Box<Stmt>,
-) -> Result<Box<Stmt>, AllocError>
-    ensures { IfOk result (λ s. boxed_stmt_view s ≡ wrapped place (map stmt_view header.items) (boxed_stmt_view inside)) }
-{
-    let mut whole = inside;
-    'header: while let Some(s) = header.pop() {
-        let s = Box::new(alloc, s)?;
-        whole = block_of(alloc, place, s, whole)?;
+    if before.is_empty() {
+        return Ok(last);
     }
-    Ok(whole)
+    before.push(Box::into_inner(last))?;
+    let node = StmtNode::Block(before);
+    Ok(Box::new(alloc, Stmt { place, node })?)
 }
 
 // A `for` with its first clause.
@@ -77,8 +61,7 @@ fn loop_of(
     Ok(Box::new(alloc, Stmt { place, node })?)
 }
 
-/// A `for` with its header: where that declares several locals, all but the last stand in a block
-/// around it.
+/// A `for` with its header: where that declares several locals, one block holds them all.
 pub fn headed(
     alloc: Global,
     place: u32,
@@ -93,7 +76,7 @@ pub fn headed(
         Some(first) => {
             let first = Box::new(alloc, first)?;
             let inside = loop_of(alloc, place, first, condition, step, body)?;
-            wrapped(alloc, place, header, inside)
+            enclosed(alloc, place, header, inside)
         }
         None => {
             let first = Box::new(alloc, nothing(place))?;

@@ -33,16 +33,6 @@ pub fn or_int(alloc: Global, t: &Result<CType, CompileFault>) -> Result<CType, C
     }
 }
 
-/// An outcome once more.
-pub fn again(alloc: Global, t: &Result<CType, CompileFault>) -> Result<CType, CompileFault>
-    ensures { (j : Judged Ty) → Gives type_view t.now j → Gives type_view result j }
-{
-    match t {
-        Ok(t) => Ok(copy_type(alloc, t)?),
-        Err(fault) => Err(*fault),
-    }
-}
-
 // The bytes of an object of a type.
 fn size_of(context: &Context<'_>, t: &CType) -> Result<u32, CompileFault>
     ensures size { IfOk result (λ n. n ≡ size_in (context_view context.now).structs (type_view t.now)) }

@@ -9,8 +9,8 @@ use Rattle.c_lex.specs.declared.refusal.Kind.TheVariants.{BadSize}
 use Rattle.c_tree.specs.TypedLayout.{laid_out, greatest_object}
 use Rattle.c_tree.specs.Typed.{Ty}
 use Rattle.c_typing.specs.Faults.{Judged, typed, faulty, Fails, Gives, unless, both, ◌>>=◌}
-use Rattle.c_typing.specs.Scope.{Context, bytes_of, with_struct}
-use Rattle.c_typing.specs.Judgement.{Judging, lone, tag, Declarator, object_declared, member_objects, struct_fits, closed}
+use Rattle.c_typing.specs.Scope.{Context, with_struct}
+use Rattle.c_typing.specs.Judgement.{Judging, lone, tag, struct_fits, closed}
 use Rattle.type_context.specs.declared.context.Context.{Context as CodeContext}
 use Rattle.type_context.specs.declared.context.MemberType.{MemberType}
 use Rattle.type_context.specs.ContextViews.{context_view, members_view}
@@ -19,24 +19,8 @@ use Rattle.type_specifiers.specs.declared.specifiers.Part.{Part as CodePart}
 use Rattle.type_specifiers.specs.ListViews.{part_view}
 use Rattle.type_outcomes.specs.Telling.{Leaves, Tells}
 use Rattle.type_outcomes.proofs.Walks.{memory_tells, lone_tells, both_tell}
-use Rattle.type_nodes.specs.Nodes.{Finishes, types_of_members, object_named, fits_of, fitting, closing}
-use Rattle.type_nodes.specs.inner.Objects.{objects_row}
+use Rattle.type_nodes.specs.Nodes.{Finishes, types_of_members, fits_of, fitting, closing}
 use Rattle.type_nodes.proofs.Telling.{finishes}
-
--- ---- the members that declarators declare
-
-before_objects : (b : List ℕ) (j : Judged Ty) (q : Judged (List (List ℕ × Ty)))
-    → (both (j >>= λ s. typed (b, s)) q >>= λ p. typed (p.0 ∷ p.1)) ≡ (both j q >>= λ p. typed ((b, p.0) ∷ p.1))
-before_objects b (typed s) (typed ms) = refl
-before_objects b (typed s) (faulty r rs) = refl
-before_objects b (faulty r rs) (typed ms) = refl
-before_objects b (faulty r rs) (faulty s ss) = refl
-
-pub objects_are : (c : Context) (t : Ty) (ds : List Declarator) (k : Context) → (objects_row c t ds k).0 ≡ member_objects c t ds
-objects_are c t [] k = refl
-objects_are c t (d ∷ ds) k =
-    ap (λ (q : Judged (List (List ℕ × Ty))). both (object_named c t d) q >>= λ p. typed (p.0 ∷ p.1)) (objects_are c t ds k)
-    ∙ before_objects (bytes_of c.text d.name) (object_declared c t d) (member_objects c t ds)
 
 -- ---- whether they fit
 

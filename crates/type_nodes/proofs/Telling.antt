@@ -16,7 +16,7 @@ use Rattle.c_tree.specs.TypedViews.{expr_view, boxed_expr_view}
 use Rattle.c_typing.specs.Faults.{Judged, typed, faulty, Gives, both, ◌>>=◌}
 use Rattle.c_typing.specs.Rules.{address}
 use Rattle.c_typing.specs.Scope.{Context, with_tag, tag_number, is_begun, with_begun, Meaning, global_name, local_name, function_name, library_name, printf, malloc, free, memcpy, thrd_create, thrd_join, mtx_init, mtx_lock, mtx_unlock, mtx_destroy, constant}
-use Rattle.c_typing.specs.Judgement.{Judging, in_turn, ruled, judged, valued, judged_all, judged_dims, judged_parts, judged_spec, judged_members, judged_member, judged_declarators, dimension, fresh_member, Part, Declarator, called_by, starting_or, names_in, prefixed, addressing, with_addressed, meaning_in, opened, braced}
+use Rattle.c_typing.specs.Judgement.{Judging, in_turn, ruled, judged, valued, judged_all, judged_dims, judged_parts, judged_spec, judged_members, judged_member, judged_declarators, dimension, Part, called_by, starting_or, names_in, prefixed, addressing, with_addressed, meaning_in, opened, braced}
 use Rattle.type_context.specs.declared.context.Context.{Context as CodeContext}
 use Rattle.type_context.specs.ContextViews.{context_view}
 use Rattle.type_context.proofs.Judging.{fails_part}
@@ -28,7 +28,7 @@ use Rattle.type_outcomes.specs.Telling.{Tells, lacks_memory}
 use Rattle.type_outcomes.specs.Rows.{state_behind, IsAppended}
 use Rattle.type_outcomes.proofs.Walks.{memory_tells, leaves_any, both_tell, both_tell_if, joined_keeps, ok_tells, err_tells}
 use Rattle.type_outcomes.proofs.Rows.{row_last, appended_tells}
-use Rattle.type_nodes.specs.Nodes.{Finishes, types_of_members, args_row, dims_row, parts_row, members_row, behind_member, declarators_row, behind_declarator, closing, is_printf, is_thrd_create, called_of, begun_by, prefixed_by}
+use Rattle.type_nodes.specs.Nodes.{Finishes, types_of_members, args_row, dims_row, parts_row, members_row, behind_member, declarator_node, declarators_row, behind_declarator, closing, is_printf, is_thrd_create, called_of, begun_by, prefixed_by}
 
 -- ---- rules on parts
 
@@ -100,27 +100,11 @@ members_are before (m ∷ ms) c =
     let x = judged_member before m c in
     ap (λ (q : Judged (List (List ℕ × Ty)) × Context). (both x.0 q.0 >>= λ p. typed (p.0 ++ p.1), q.1)) (members_are (behind_member before m) ms x.1)
 
-regroup : (pointers : List Pointer) (n : Name) (i : Judged (Unit {0})) (j : Judged (List ℕ)) (k : Judged (List Declarator))
-    → (both (both i j >>= λ p. typed (record { name = n; pointers = pointers; sizes = p.1 })) k >>= λ p. typed (p.0 ∷ p.1))
-    ≡ (both i (both j k) >>= λ p. typed (record { name = n; pointers = pointers; sizes = p.1.0 } ∷ p.1.1))
-regroup pointers n (typed x) (typed y) (typed z) = refl
-regroup pointers n (typed x) (typed y) (faulty t ts) = refl
-regroup pointers n (typed x) (faulty s ss) (typed z) = refl
-regroup pointers n (typed x) (faulty s ss) (faulty t ts) = refl
-regroup pointers n (faulty r rs) (typed y) (typed z) = refl
-regroup pointers n (faulty r rs) (typed y) (faulty t ts) = refl
-regroup pointers n (faulty r rs) (faulty s ss) (typed z) = refl
-regroup pointers n (faulty r rs) (faulty s ss) (faulty t ts) = ap (faulty r) (append_assoc rs (s ∷ ss) (t ∷ ts))
-
-pub declarators_are : (before : List Name) (ds : List source.Declarator) (c : Context) → declarators_row before ds c ≡ judged_declarators before (source.declarators_of ds) c
-declarators_are before [] c = refl
-declarators_are before (source.declarator pointers n dims ∷ ds) c =
-    let z = judged_dims dims c in
-    let i = fresh_member c before n in
-    ap (λ (q : Judged (List Declarator) × Context). (both (both i z.0 >>= λ p. typed (record { name = n; pointers = pointers; sizes = p.1 })) q.0 >>= λ p. typed (p.0 ∷ p.1), q.1))
-    (declarators_are (before ++ n ∷ []) ds z.1)
-    ∙ ap (λ (j : Judged (List Declarator)). (j, (judged_declarators (before ++ n ∷ []) (source.declarators_of ds) z.1).1))
-    (regroup pointers n i z.0 (judged_declarators (before ++ n ∷ []) (source.declarators_of ds) z.1).0)
+pub declarators_are : (base : Judged Ty) (before : List Name) (ds : List source.Declarator) (c : Context) → declarators_row base before ds c ≡ judged_declarators before base (source.declarators_of ds) c
+declarators_are base before [] c = refl
+declarators_are base before (source.declarator pointers n dims ∷ ds) c =
+    let x = declarator_node base before (source.declarator pointers n dims) c in
+    ap (λ (q : Judged (List (List ℕ × Ty)) × Context). (both x.0 q.0 >>= λ p. typed (p.0 ∷ p.1), q.1)) (declarators_are base (before ++ n ∷ []) ds x.1)
 
 -- the names behind declarators
 pub names_behind : (before : List Name) (ds : List source.Declarator) → state_behind behind_declarator before ds ≡ before ++ names_in (source.declarators_of ds)

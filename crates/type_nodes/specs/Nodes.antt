@@ -6,6 +6,7 @@ use Rattle.c_lex.specs.declared.refusal.CompileFault.{CompileFault}
 use Rattle.c_lex.specs.declared.refusal.Kind.{Kind}
 use Rattle.c_lex.specs.declared.refusal.Kind.TheVariants.{TypeMismatch, UnknownName}
 use Rattle.c_tree.specs.declared.syntax.Name.{Name}
+use Rattle.c_tree.specs.declared.syntax.Pointer.{Pointer}
 use Rattle.c_tree.specs.declared.syntax.PrefixOp.{PrefixOp}
 use Rattle.c_tree.specs.declared.syntax.PrefixOp.TheVariants as prefixes
 use Rattle.c_tree.specs.declared.typed.Expr.{Expr as CodeExpr}
@@ -14,8 +15,8 @@ use Rattle.c_tree.specs.Typed.{Ty, void, integer, pointer, Expr, type_of}
 use Rattle.c_typing.specs.Faults.{Judged, Gives, typed, refuse, both, ◌>>=◌}
 use Rattle.c_typing.specs.Types.{same_type, same_types}
 use Rattle.c_typing.specs.Rules.{tested, chosen, minus_by, plus_by, not_by, complement_by, target, address}
-use Rattle.c_typing.specs.Scope.{Context, bytes_of, Meaning, function_name, library_name, Library, printf, thrd_create, constant}
-use Rattle.c_typing.specs.Judgement.{Judging, in_turn, ruled, valued, judged, judged_spec, judged_member, judged_dims, names_of_member, dimension, fresh_member, Part, tag, Declarator, object_declared, called, called_library, starting_by, struct_fits, closed}
+use Rattle.c_typing.specs.Scope.{Context, Meaning, function_name, library_name, Library, printf, thrd_create, constant}
+use Rattle.c_typing.specs.Judgement.{Judging, in_turn, ruled, valued, judged, judged_spec, judged_member, judged_dims, names_of_member, dimension, member_by, Part, tag, Declarator, called, called_library, starting_by, struct_fits, closed}
 use Rattle.type_outcomes.specs.Rows.{row}
 use Rattle.type_context.specs.declared.context.MemberType.{MemberType}
 use Rattle.type_context.specs.ContextViews.{members_view}
@@ -97,10 +98,6 @@ choice place e a b = tested place e >>= λ t. chosen place t a b
 
 -- ---- structs
 
--- a member, by its declarator
-abbrev pub object_named : Context → Ty → Declarator → Judged (List ℕ × Ty)
-object_named c t d = object_declared c t d >>= λ s. typed (bytes_of c.text d.name, s)
-
 -- whether members fit in a struct
 abbrev pub fits_of : Context → (place : ℕ) → List (List ℕ × Ty) → Judged (Unit {0})
 fits_of c place all = struct_fits c place all >>= λ ms. typed tt
@@ -147,15 +144,14 @@ behind_member before m = before ++ names_of_member m
 abbrev pub members_row : List Name → List source.Member → Judging (List (List ℕ × Ty))
 members_row = row judged_member behind_member (λ ms all. ms ++ all)
 
--- a declarator of a member: a name that no member before it has, and its sizes
-abbrev pub declarator_node : (before : List Name) → source.Declarator → Judging Declarator
-declarator_node before (source.declarator pointers n dims) =
-    ruled (in_turn (λ c. (fresh_member c before n, c)) (judged_dims dims)) (λ c p. typed (sized (source.declarator pointers n dims) p.1))
+-- a member by its declarator
+abbrev pub declarator_node : (base : Judged Ty) → (before : List Name) → source.Declarator → Judging (List ℕ × Ty)
+declarator_node base before (source.declarator pointers n dims) = member_by before base pointers n (judged_dims dims)
 
 -- the names of the members behind one more declarator
 abbrev pub behind_declarator : List Name → source.Declarator → List Name
 behind_declarator before d = before ++ name_of d ∷ []
 
--- the declarators of one declaration of members
-abbrev pub declarators_row : List Name → List source.Declarator → Judging (List Declarator)
-declarators_row = row declarator_node behind_declarator (λ d ds. d ∷ ds)
+-- the members that one declaration declares
+abbrev pub declarators_row : (base : Judged Ty) → List Name → List source.Declarator → Judging (List (List ℕ × Ty))
+declarators_row base = row (declarator_node base) behind_declarator (λ m ms. m ∷ ms)

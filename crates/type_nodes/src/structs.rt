@@ -1,7 +1,5 @@
 //! Tags, members and types, by what their parts came to (C11 6.7.2, 6.7.6).
 ghost use Rattle.std.specs.Prelude.{◌≡◌, ℕ, List, map, IfOk, IfErr, OnOk, if◌then◌else◌};
-ghost use Rattle.std.specs.List.{list_any};
-ghost use Rattle.std.specs.Str.{bytes_eq};
 ghost use Rattle.c_lex.specs.declared.refusal.CompileFault.TheVariants.{NoMemory};
 ghost use Rattle.c_tree.specs.Syntax as trees;
 ghost use Rattle.c_tree.specs.SyntaxViews as source;
@@ -12,12 +10,12 @@ ghost use Rattle.c_typing.specs.Faults.{Judged, Gives};
 ghost use Rattle.c_typing.specs.Types.{behind_pointers};
 ghost use Rattle.c_typing.specs.Scope as scopes;
 ghost use Rattle.c_typing.specs.Scope.{bytes_of, with_tag, tag_number};
-ghost use Rattle.c_typing.specs.Judgement.{Judging, struct_fits, closed, fresh_member, opened, member_objects, specified, place_of_specs, dimension, tag};
+ghost use Rattle.c_typing.specs.Judgement.{Judging, struct_fits, closed, is_again, fresh_member, object_declared, opened, specified, place_of_specs, dimension, tag};
 ghost use Rattle.type_context.specs.ContextViews.{context_view, member_type_view, members_view, types_view};
 ghost use Rattle.type_context.specs.inner.Outcomes.{joined};
-ghost use Rattle.type_specifiers.specs.ListViews.{numbers_view, part_view, parts_view, declared_view, all_declared_view};
+ghost use Rattle.type_specifiers.specs.ListViews.{numbers_view, part_view, parts_view, declared_view};
 ghost use Rattle.type_outcomes.specs.Telling.{Tells};
-ghost use Rattle.type_nodes.specs.Nodes.{Finishes, types_of_members, object_named, sized, fits_of, fitting, closing};
+ghost use Rattle.type_nodes.specs.Nodes.{Finishes, types_of_members, sized, fits_of, fitting, closing};
 
 use c_lex::{CompileFault, Kind};
 use c_tree::syntax as tree;
@@ -28,10 +26,13 @@ use type_context::context::{Context, MemberType, within};
 use type_context::faults::{both, unless};
 use type_context::kinds::copy_type;
 use type_context::layouts::{GREATEST_OBJECT, struct_size};
-use type_outcomes::outcomes::{both_fine, pushed};
+use type_outcomes::outcomes::both_fine;
 use type_specifiers::declarators::{Declared, dimension, object_declared};
 use type_specifiers::places::place_of_specs;
 use type_specifiers::specifiers::{Part, behind_pointers, specified};
+
+// The members of a struct, of which there are so many at most.
+const MOST_MEMBERS: usize = 256;
 
 /// A tag is named; its number.
 pub fn named_tag(context: &mut Context<'_>, tag: Name) -> Result<u32, CompileFault>
@@ -51,21 +52,21 @@ pub fn opened(context: &Context<'_>, tag: Name, number: u32) -> Result<(), Compi
     both_fine(once, within(tag.from, 3, 256, context.begun.len()))
 }
 
-// Whether a name is one of these.
-fn is_among(context: &Context<'_>, names: &[Name], name: Name) -> bool
-    ensures { result ≡ list_any (λ m. bytes_eq (bytes_of (context_view context.now).text name) (bytes_of (context_view context.now).text m)) names.now }
+// Whether a member before has this name; behind one too many none is compared.
+fn is_again(context: &Context<'_>, before: &[Name], name: Name) -> bool
+    ensures { result ≡ is_again (context_view context.now) before.now name }
 {
     let bytes = context.bytes(name);
-    names.iter().any(|other| bytes == context.bytes(*other))
+    before.len() <= MOST_MEMBERS && before.iter().any(|other| bytes == context.bytes(*other))
 }
 
 /// A member's name is declared once in its struct, and there are 256 at most.
 pub fn fresh_member(context: &Context<'_>, before: &[Name], name: Name) -> Result<(), CompileFault>
     ensures { Gives (λ _. tt) result (fresh_member (context_view context.now) before.now name) }
 {
-    let again = is_among(context, before, name);
+    let again = is_again(context, before, name);
     let once = unless(name.from, Kind::DoubleName, !again);
-    both_fine(once, within(name.from, 4, 256, before.len()))
+    both_fine(once, within(name.from, 4, MOST_MEMBERS, before.len()))
 }
 
 // The types of members.
@@ -146,58 +147,57 @@ pub fn closed<'t>(
     tag_of(number, opened, fits)
 }
 
-// A member, by its declarator.
-fn member_object<'t>(
-    context: &Context<'t>,
-    base: &CType,
-    d: &Declared<'_>,
-) -> Result<MemberType<'t>, CompileFault>
-    ensures { Gives member_type_view result (object_named (context_view context.now) (type_view base.now) (declared_view d.now)) }
-{
-    let base = copy_type(context.alloc, base)?;
-    let ty = object_declared(context, base, d)?;
-    Ok(MemberType {
-        name: context.bytes(d.name),
-        ty,
-    })
-}
-
-// The members that declarators declare.
-fn member_objects<'t>(
-    context: &Context<'t>,
-    base: &CType,
-    all: &[Declared<'_>],
-) -> Result<Vec<MemberType<'t>>, CompileFault>
-    ensures { Gives types_of_members result (member_objects (context_view context.now) (type_view base.now) (map declared_view all.now)) }
-{
-    let mut members = Ok(Vec::new(context.alloc));
-    'declarators: for d in all {
-        members = pushed(members, member_object(context, base, d));
-    }
-    members
-}
-
-/// The members that are declared together, by their specifiers and declarators.
-pub fn member_types<'t>(
-    context: &Context<'t>,
+/// The type of the object that a member's declarator declares, by its specifiers and sizes.
+pub fn member_object(
+    context: &Context<'_>,
     base: Result<CType, CompileFault>,
-    all: Result<Vec<Declared<'_>>, CompileFault>,
-) -> Result<Vec<MemberType<'t>>, CompileFault>
-    ensures { Finishes types_of_members (joined base all.entry) (λ p. member_objects (context_view context.now) (type_view p.0) (all_declared_view p.1)) result }
+    d: &tree::Declarator,
+    sizes: Result<Vec<u32>, CompileFault>,
+) -> Result<CType, CompileFault>
+    ensures { Finishes type_view (joined base sizes) (λ p. object_declared (context_view context.now) (type_view p.0) (record { name = d.now.name; pointers = d.now.pointers.items; sizes = numbers_view p.1 })) result }
 {
-    let (base, all) = both(base, all)?;
-    member_objects(context, &base, &all)
+    let (base, sizes) = both(base, sizes)?;
+    let declared = Declared {
+        name: d.name,
+        pointers: &d.pointers,
+        sizes,
+    };
+    object_declared(context, base, &declared)
+}
+
+/// A member, by what its name and its type came to.
+pub fn member_type<'t>(
+    context: &Context<'t>,
+    name: Name,
+    fresh: Result<(), CompileFault>,
+    ty: Result<CType, CompileFault>,
+) -> Result<MemberType<'t>, CompileFault>
+    ensures { Finishes member_type_view (joined fresh ty) (λ p. faults.typed (bytes_of (context_view context.now).text name, type_view p.1)) result }
+{
+    let (_, ty) = both(fresh, ty)?;
+    let name = context.bytes(name);
+    Ok(MemberType { name, ty })
+}
+
+/// The members that are declared together, where their specifiers are typed too.
+pub fn member_types<'t>(
+    base: Result<CType, CompileFault>,
+    all: Result<Vec<MemberType<'t>>, CompileFault>,
+) -> Result<Vec<MemberType<'t>>, CompileFault>
+    ensures { Finishes types_of_members (joined base all.entry) (λ p. faults.typed (types_of_members p.1)) result }
+{
+    let (_, all) = both(base, all)?;
+    Ok(all)
 }
 
 /// A declarator, by its name and its sizes.
 pub fn declared<'a>(
     d: &'a tree::Declarator,
-    fresh: Result<(), CompileFault>,
     sizes: Result<Vec<u32>, CompileFault>,
 ) -> Result<Declared<'a>, CompileFault>
-    ensures { Finishes declared_view (joined fresh sizes) (λ p. faults.typed (sized (source.declarator_view d.now) (numbers_view p.1))) result }
+    ensures { Finishes declared_view sizes (λ s. faults.typed (sized (source.declarator_view d.now) (numbers_view s))) result }
 {
-    let (_, sizes) = both(fresh, sizes)?;
+    let sizes = sizes?;
     Ok(Declared {
         name: d.name,
         pointers: &d.pointers,

@@ -1,11 +1,16 @@
 //! Outcomes of the parts of a node, in the order of the text.
+ghost use Rattle.c_tree.specs.Typed.{Ty};
+ghost use Rattle.c_tree.specs.TypedViews.{type_view};
 ghost use Rattle.c_typing.specs.Faults.{Judged, Gives};
 ghost use Rattle.type_context.specs.inner.Outcomes.{joined};
 ghost use Rattle.type_outcomes.specs.Telling.{both_fine};
 ghost use Rattle.type_outcomes.specs.Rows.{IsPushed, IsAppended};
 
 use c_lex::CompileFault;
+use c_tree::typed::CType;
+use std::alloc::Global;
 use type_context::faults::both;
+use type_context::kinds::copy_type;
 
 /// Whether two things are fine.
 pub fn both_fine(
@@ -16,6 +21,16 @@ pub fn both_fine(
 {
     both(a, b)?;
     Ok(())
+}
+
+/// A type's outcome once more.
+pub fn again(alloc: Global, t: &Result<CType, CompileFault>) -> Result<CType, CompileFault>
+    ensures { (j : Judged Ty) → Gives type_view t.now j → Gives type_view result j }
+{
+    match t {
+        Ok(t) => Ok(copy_type(alloc, t)?),
+        Err(fault) => Err(*fault),
+    }
 }
 
 /// One more behind others.

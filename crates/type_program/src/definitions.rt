@@ -29,8 +29,9 @@ use type_context::kinds::copy_type;
 use type_declared::functions::{
     Defined, add_body, declare_function, name_fine, result_type, type_fine,
 };
-use type_declared::objects::{again, or_int};
+use type_declared::objects::or_int;
 use type_locals::locals::{Param, func_of};
+use type_outcomes::outcomes::again;
 use type_specifiers::specifiers::behind_pointers;
 use type_statements::statements::stmts;
 

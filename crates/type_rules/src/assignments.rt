@@ -17,29 +17,32 @@ use c_tree::typed::{CType, Expr, ExprNode, Stmt, StmtNode};
 use std::alloc::Global;
 use type_context::context::Context;
 use type_context::faults::{refused, unless};
-use type_context::kinds::{has_size, is_array, is_scalar, is_void};
+use type_context::kinds::{has_size, is_array, is_declared, is_scalar, is_void};
 
-// Whether it may be assigned: it is an object, and no array.
-fn assignable(place: u32, e: &Expr) -> Result<(), CompileFault>
-    ensures { Gives (λ _. tt) result (assignable place (expr_view e.now)) }
+// Whether it may be assigned: it is an object, no array, and no struct that isn't complete there.
+#[tactic(auto, using(type_context::proofs::Judging::fails_part))]
+fn assignable(context: &Context<'_>, place: u32, e: &Expr) -> Result<(), CompileFault>
+    ensures { Gives (λ _. tt) result (assignable (context_view context.now) place (expr_view e.now)) }
 {
     let fine = if is_array(&e.ty) { false } else { is_lvalue(e) };
-    unless(place, Kind::NotAnLvalue, fine)
+    unless(place, Kind::NotAnLvalue, fine)?;
+    let declared = is_declared(&context.structs, &e.ty);
+    unless(e.place, Kind::NotAnLvalue, declared)
 }
 
 // `left = right` (C11 6.5.16.1).
 #[tactic(auto, using(type_context::proofs::Judging::fails_part))]
 fn assigned(
-    alloc: Global,
+    context: &Context<'_>,
     place: u32,
     left: Box<Expr>,
     right: Box<Expr>,
 ) -> Result<Stmt, CompileFault>
-    ensures { Gives stmt_view result (assigned place (boxed_expr_view left) (boxed_expr_view right)) }
+    ensures { Gives stmt_view result (assigned (context_view context.now) place (boxed_expr_view left) (boxed_expr_view right)) }
 {
-    assignable(place, &left)?;
-    let right = value_of(alloc, right)?;
-    let right = fitted(alloc, place, &left.ty, right)?;
+    assignable(context, place, &left)?;
+    let right = value_of(context.alloc, right)?;
+    let right = fitted(context.alloc, place, &left.ty, right)?;
     Ok(Stmt {
         place,
         node: StmtNode::Assign(Box::into_inner(left), Box::into_inner(right)),
@@ -85,7 +88,7 @@ fn updated(
 ) -> Result<Stmt, CompileFault>
     ensures { Gives stmt_view result (updated (context_view context.now) place op (boxed_expr_view left) (boxed_expr_view right)) }
 {
-    assignable(place, &left)?;
+    assignable(context, place, &left)?;
     updates(context, place, op, &left.ty, &right.ty)?;
     Ok(Stmt {
         place,
@@ -158,7 +161,7 @@ pub fn assigned_by(
     ensures { Gives stmt_view result (assigned_by (context_view context.now) place op (boxed_expr_view left) (boxed_expr_view right)) }
 {
     match op {
-        None => assigned(context.alloc, place, left, right),
+        None => assigned(context, place, left, right),
         Some(op) => {
             let right = value_of(context.alloc, right)?;
             updated(context, place, op, left, right)

@@ -27,4 +27,8 @@ rows_hold = record {
   dimension_of_1 = refl;
   dimension_of_12 = refl;
   an_addressed_parameter = refl;
+  a_promotion = refl;
+  a_shift = refl;
+  a_choice = refl;
+  pointer_less_number = refl;
 }

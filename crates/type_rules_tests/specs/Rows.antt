@@ -1,7 +1,7 @@
 -- Small pieces of C, worked out by hand, and what they are typed to. The trees are those of the texts.
 use Rattle.std.specs.Prelude.{◌≡◌, ℕ, pos, Bool, true, false, List, [], ◌∷◌, codes, Option, Some, None}
 use Rattle.ak_words.specs.declared.operation.Op.TheVariants as ops
-use Rattle.ak_words.specs.IntType.{char, int, unsigned_long}
+use Rattle.ak_words.specs.IntType.{char, int, long, unsigned_long}
 use Rattle.ak_words.specs.Num.{num}
 use Rattle.c_lex.specs.declared.refusal.Kind.TheVariants as kinds
 use Rattle.c_tree.specs.declared.syntax.Name.{Name}
@@ -17,7 +17,7 @@ use Rattle.c_typing.specs.Formats.{pieces_of}
 use Rattle.c_typing.specs.Judgement.{combined, dimension, judged, object_declared, specified, word}
 use Rattle.c_typing.specs.Literals.{joined_bytes}
 use Rattle.c_typing.specs.Numbering.{func_of}
-use Rattle.c_typing.specs.Scope.{at_start}
+use Rattle.c_typing.specs.Scope.{Context, at_start, local_name}
 
 -- where a name stands, from its first byte to behind its last
 abbrev pub name : ℕ → ℕ → Name
@@ -105,6 +105,42 @@ with_further_local = record {
   body = tree.more_stmts (tree.at_stmt 17 (tree.declare 2 (Some (tree.at 17 int_type (tree.local 1))))) (tree.more_stmts (tree.at_stmt 24 (tree.declare 3 None)) tree.no_stmts);
 }
 
+-- a text in a body with char c, long l and int *p
+abbrev pub in_body : List ℕ → Context
+in_body text = record (at_start text) { inner = (codes "c", local_name 0 (tree.integer char)) ∷ (codes "l", local_name 1 (tree.integer long)) ∷ (codes "p", local_name 2 (tree.pointer int_type)) ∷ [] }
+
+-- an expression of such a text
+abbrev pub judged_there : List ℕ → source.Expr → Judged tree.Expr
+judged_there text e = (judged e (in_body text)).0
+
+-- the three locals, typed, each at its place
+abbrev pub c_at : (place : ℕ) → tree.Expr
+c_at place = tree.at place (tree.integer char) (tree.local 0)
+
+-- a long
+abbrev pub l_at : (place : ℕ) → tree.Expr
+l_at place = tree.at place (tree.integer long) (tree.local 1)
+
+-- a pointer to an int
+abbrev pub p_at : (place : ℕ) → tree.Expr
+p_at place = tree.at place (tree.pointer int_type) (tree.local 2)
+
+-- c + 1
+abbrev pub a_promotion : source.Expr
+a_promotion = source.binary 2 (binaries.Value ops.Add) (source.name (name 0 1)) (source.int 4 (num int (pos 1)))
+
+-- c << l
+abbrev pub a_shift : source.Expr
+a_shift = source.binary 2 (binaries.Value ops.Shl) (source.name (name 0 1)) (source.name (name 5 6))
+
+-- c ? c : l
+abbrev pub a_choice : source.Expr
+a_choice = source.conditional 2 (source.name (name 0 1)) (source.name (name 4 5)) (source.name (name 8 9))
+
+-- p - c
+abbrev pub pointer_less_number : source.Expr
+pointer_less_number = source.binary 2 (binaries.Value ops.Sub) (source.name (name 0 1)) (source.name (name 4 5))
+
 -- what the pieces are typed to
 pub record RowsHold : Type 0 where
   -- the least place is named: of two names that aren't declared the left one
@@ -132,3 +168,14 @@ pub record RowsHold : Type 0 where
   pub dimension_of_12 : dimension_of 12 ≡ typed 12
   -- a parameter of which the address is taken has a further local in memory
   pub an_addressed_parameter : an_addressed_parameter ≡ with_further_local
+  -- a char is promoted to int (C11 6.3.1.1 p2)
+  pub a_promotion : judged_there (codes "c + 1") a_promotion
+      ≡ typed (tree.at 2 int_type (tree.binary ops.Add (tree.at 0 int_type (tree.convert (c_at 0))) (number_at 4 1)))
+  -- a shift has the type of its left operand, promoted, and each operand is promoted by itself (C11 6.5.7 p3)
+  pub a_shift : judged_there (codes "c << l") a_shift
+      ≡ typed (tree.at 2 int_type (tree.binary ops.Shl (tree.at 0 int_type (tree.convert (c_at 0))) (l_at 5)))
+  -- both numbers behind a condition have their common type (C11 6.5.15 p5)
+  pub a_choice : judged_there (codes "c ? c : l") a_choice
+      ≡ typed (tree.at 2 (tree.integer long) (tree.choose (c_at 0) (tree.at 4 (tree.integer long) (tree.convert (c_at 4))) (l_at 8)))
+  -- a pointer less a number is a node of its own, and the number stays as it is
+  pub pointer_less_number : judged_there (codes "p - c") pointer_less_number ≡ typed (tree.at 2 (tree.pointer int_type) (tree.pointer_sub (p_at 0) (c_at 4)))

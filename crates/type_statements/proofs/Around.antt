@@ -12,7 +12,7 @@ use Rattle.c_tree.specs.TypedLayout.{laid_out}
 use Rattle.c_typing.specs.Faults.{Judged, typed, faulty, ◌>>=◌}
 use Rattle.c_typing.specs.Scope.{printf, malloc, free, memcpy, thrd_create, thrd_join, mtx_init, mtx_lock, mtx_unlock, mtx_destroy, constant}
 use Rattle.c_typing.specs.Scope.{Meaning, global_name, local_name, function_name, library_name, Context, bytes_of, meaning_of, is_double, with_tag, tag_number, is_begun, with_begun, declared}
-use Rattle.c_typing.specs.Judgement.{Judging, in_turn, name_in, text_in, node_place, with_addressed, meaning_in, valued, prefixed, format_or, starting_or, called_by, struct_fits, closed, braced, specs_by}
+use Rattle.c_typing.specs.Judgement.{Judging, in_turn, member_by, name_in, text_in, node_place, with_addressed, meaning_in, valued, prefixed, format_or, starting_or, called_by, struct_fits, closed, braced, specs_by}
 use Rattle.c_typing.specs.Judgement.{judged, judged_all, judged_print, judged_start, judged_started, judged_type, judged_parts, judged_spec, judged_members, judged_member, judged_declarators, judged_dims, judged_specs}
 use Rattle.c_typing.specs.Statements.{judged_simple, judged_init, judged_declarator, judged_local, judged_locals, judged_declaration, one_of, returned, condition, judged_first, judged_condition, judged_step, judged_stmt, judged_stmts}
 
@@ -149,11 +149,12 @@ mutual
   members_still before (source.more_members m rest) c = still_both (judged_member before m) (judged_members _ rest) (member_still before m) (members_still _ rest) c
 
   member_still : (before : List Name) (m : source.Member) → Still (judged_member before m)
-  member_still before (source.members_of specs declarators) c = still_both (specs_by specs (judged_parts specs)) (judged_declarators before declarators) (parts_still specs) (declarators_still before declarators) c
+  member_still before (source.members_of specs declarators) c = declarators_still before (specs_by specs (judged_parts specs) c).0 declarators (specs_by specs (judged_parts specs) c).1 ∙ parts_still specs c
 
-  declarators_still : (before : List Name) (ds : source.Declarators) → Still (judged_declarators before ds)
-  declarators_still before source.no_declarators c = refl
-  declarators_still before (source.more_declarators (source.declarator pointers n dims) rest) c = still_both (judged_dims dims) (judged_declarators (before ++ n ∷ []) rest) (dims_still dims) (declarators_still (before ++ n ∷ []) rest) c
+  declarators_still : (before : List Name) (base : Judged Ty) (ds : source.Declarators) → Still (judged_declarators before base ds)
+  declarators_still before base source.no_declarators c = refl
+  declarators_still before base (source.more_declarators (source.declarator pointers n dims) rest) c =
+      still_both (member_by before base pointers n (judged_dims dims)) (judged_declarators (before ++ n ∷ []) base rest) (dims_still dims) (declarators_still (before ++ n ∷ []) base rest) c
 
   pub dims_still : (es : source.Exprs) → Still (judged_dims es)
   dims_still source.no_exprs c = refl

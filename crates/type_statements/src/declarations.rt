@@ -23,8 +23,8 @@ use std::alloc::Global;
 use type_context::context::{Context, count, within};
 use type_context::faults::both;
 use type_declared::headers::unboxed;
-use type_declared::objects::{again, declare_local, or_int};
-use type_outcomes::outcomes::pushed;
+use type_declared::objects::{declare_local, or_int};
+use type_outcomes::outcomes::{again, pushed};
 use type_rules::assignments::initialised;
 use type_specifiers::declarators::object_declared;
 

@@ -8,7 +8,7 @@ use Rattle.c_tree.specs.TypedViews.{expr_view}
 use Rattle.c_typing.specs.Judgement.{valued, judged, judged_all, judged_spec, judged_members, judged_member, dimension, ruled, name_in, meaning_in}
 use Rattle.type_context.specs.ContextViews.{context_view, member_type_view}
 use Rattle.type_rules.specs.ListViews.{exprs_view}
-use Rattle.type_specifiers.specs.ListViews.{part_view, parts_view, parts_seen, declared_view, all_declared_view}
+use Rattle.type_specifiers.specs.ListViews.{part_view, parts_view, parts_seen}
 use Rattle.type_outcomes.specs.Telling.{Tells}
 use Rattle.type_outcomes.proofs.Rows.{starts, pushed_next, state_next, ends}
 use Rattle.type_nodes.specs.Nodes.{types_of_members, behind_member, declarator_node, behind_declarator, begun_by}
@@ -264,16 +264,17 @@ declarators::members-returns t c =
 
 pub declarators::declarators-declarators-init : goal.declarators::declarators-declarators-init
 declarators::declarators-declarators-init t c =
-    record { told = starts declared_view c.new.result c.args.context.now c.new.ensures.items; names = refl }
+    record { told = λ j h. starts member_type_view c.new.result c.args.context.now c.new.ensures.items; names = refl }
 
 pub declarators::declarators-declarators-preserved : goal.declarators::declarators-declarators-preserved
 declarators::declarators-declarators-preserved t c =
     record {
-      told = pushed_next declared_view declarator_node behind_declarator c.args.before.now.items sources.declarator_view c.args.declarators.now c.declarators.d-index c.d-item.result (context_view c.args.context.now)
-          c.declarators.all c.declared.result c.pushed-all.result c.declarators.context c.dimensions-sizes.new.context c.declarators.invariant.told (omega arith) c.d-item.is
-          (λ fine. subst (λ (b : List Name). Tells declared_view c.declared.result c.dimensions-sizes.new.context (declarator_node b (sources.declarator_view c.d-item.result) (context_view c.declarators.context))) c.declarators.invariant.names
-          (types.declarator_tells c.declarators.before.items (sources.declarator_view c.d-item.result) c.d-item.result.name (source.exprs_of (map sources.expr_view c.d-item.result.dims.items)) c.d-item.result.pointers.items c.declarators.context _ _ _ _ (views.declarator_seen c.d-item.result)
-          (rw c.deref.ensures.value at c.fresh_member-fresh.ensures) (rw c.deref-in-declarators.ensures.value at c.dimensions-sizes.ensures) c.declared.ensures))
+      told = λ j h. pushed_next member_type_view (declarator_node j) behind_declarator c.args.before.now.items sources.declarator_view c.args.declarators.now c.declarators.d-index c.d-item.result (context_view c.args.context.now)
+          c.declarators.all c.member_type.result c.pushed-all.result c.declarators.context c.dimensions-sizes.new.context (c.declarators.invariant.told j h) (omega arith) c.d-item.is
+          (λ fine. subst (λ (b : List Name). Tells member_type_view c.member_type.result c.dimensions-sizes.new.context (declarator_node j b (sources.declarator_view c.d-item.result) (context_view c.declarators.context))) c.declarators.invariant.names
+          (types.declarator_tells j c.declarators.before.items (sources.declarator_view c.d-item.result) c.d-item.result.name (source.exprs_of (map sources.expr_view c.d-item.result.dims.items)) c.d-item.result.pointers.items c.declarators.context c.dimensions-sizes.new.context
+          c.fresh_member-fresh.result c.again-base.result c.dimensions-sizes.result c.member_object-ty.result c.member_type.result (views.declarator_seen c.d-item.result)
+          (rw c.deref.ensures.value at c.fresh_member-fresh.ensures) (c.again-base.ensures j h) (rw c.deref-in-declarators.ensures.value at c.dimensions-sizes.ensures) c.member_object-ty.ensures c.member_type.ensures))
           c.pushed-all.ensures;
       names = c.in_ok-push.ensures.items
           ∙ nodes.declarator_behind c.declarators.before.items c.d-item.result
@@ -282,8 +283,8 @@ declarators::declarators-declarators-preserved t c =
 
 pub declarators::declarators-returns-clause-judged : goal.declarators::declarators-returns-clause-judged
 declarators::declarators-returns-clause-judged t c =
-    subst (λ q. Tells all_declared_view c.declarators.all c.declarators.context q) (declarators_are c.args.before.now.items (map sources.declarator_view c.args.declarators.now) (context_view c.args.context.now))
-    (ends all_declared_view declarator_node behind_declarator (λ d ds. d ∷ ds) c.args.before.now.items sources.declarator_view c.args.declarators.now c.declarators.d-index (context_view c.args.context.now) _ _ c.declarators.invariant.told (omega arith))
+    λ j h. subst (λ q. Tells types_of_members c.declarators.all c.declarators.context q) (declarators_are j c.args.before.now.items (map sources.declarator_view c.args.declarators.now) (context_view c.args.context.now))
+    (ends types_of_members (declarator_node j) behind_declarator (λ m ms. m ∷ ms) c.args.before.now.items sources.declarator_view c.args.declarators.now c.declarators.d-index (context_view c.args.context.now) _ _ (c.declarators.invariant.told j h) (omega arith))
 
 pub declarators::declarators-returns-clause-names : goal.declarators::declarators-returns-clause-names
 declarators::declarators-returns-clause-names t c =

@@ -2,9 +2,12 @@ use Rattle.std.proofs.Common.{◌≡◌, ℕ, [], map, take, false}
 use Rattle.std.specs.Prelude.{Vec}
 use Rattle.std.specs.declared.alloc.Global.{Global}
 use Rattle.c_tree.specs.SyntaxViews.{expr_view, spec_view, member_view, declarator_view}
+use Rattle.c_tree.specs.Typed.{Ty}
+use Rattle.c_tree.specs.TypedViews.{type_view}
+use Rattle.c_typing.specs.Faults.{Judged, Gives}
 use Rattle.type_context.specs.ContextViews.{context_view}
 use Rattle.type_rules.specs.ListViews.{exprs_view}
-use Rattle.type_specifiers.specs.ListViews.{parts_view, all_declared_view}
+use Rattle.type_specifiers.specs.ListViews.{parts_view}
 use Rattle.type_outcomes.specs.Telling.{Tells, lacks_memory}
 use Rattle.type_outcomes.specs.Rows.{state_behind}
 use Rattle.type_nodes.specs.Nodes.{types_of_members, args_row, dims_row, parts_row, members_row, behind_member, declarators_row, behind_declarator}
@@ -27,6 +30,6 @@ invariant-declarators::members-members l = record {
 
 abbrev pub invariant-declarators::declarators-declarators : goal.invariant-declarators::declarators-declarators
 invariant-declarators::declarators-declarators l = record {
-  told : Tells all_declared_view l.all l.context (declarators_row l.fn.before.items (map declarator_view (take l.d-index l.declarators)) (context_view l.fn.context));
+  told : (j : Judged Ty) → Gives type_view l.base j → Tells types_of_members l.all l.context (declarators_row j l.fn.before.items (map declarator_view (take l.d-index l.declarators)) (context_view l.fn.context));
   names : l.before.items ≡ state_behind behind_declarator l.fn.before.items (map declarator_view (take l.d-index l.declarators));
 }

@@ -1,8 +1,9 @@
 -- Statements in blocks.
-use Rattle.std.specs.Prelude.{ℕ, List, [], ◌∷◌}
-use Rattle.c_tree.specs.Typed.{Stmt, at_stmt, block, no_stmts, more_stmts}
+use Rattle.std.specs.Prelude.{ℕ, List, [], ◌∷◌, ◌++◌}
+use Rattle.c_tree.specs.Typed.{Stmt, at_stmt, block}
+use Rattle.c_typing.specs.Statements.{stmts_of}
 
--- each of these in a block around what is behind it
-abbrev pub wrapped : (place : ℕ) → List Stmt → Stmt → Stmt
-wrapped place [] s = s
-wrapped place (x ∷ xs) s = at_stmt place (block (more_stmts x (more_stmts (wrapped place xs s) no_stmts)))
+-- statements and one behind them in a block, or that one alone
+abbrev pub enclosed : (place : ℕ) → List Stmt → Stmt → Stmt
+enclosed place [] s = s
+enclosed place (x ∷ xs) s = at_stmt place (block (stmts_of ((x ∷ xs) ++ s ∷ [])))

@@ -4,7 +4,7 @@ use Rattle.std.specs.Option.{option_map}
 use Rattle.c_tree.specs.Typed.{Stmt, at_stmt, for_}
 use Rattle.c_tree.specs.TypedViews.{boxed_expr_view, stmt_view, boxed_stmt_view}
 use Rattle.c_typing.specs.Statements.{headed}
-use Rattle.type_declared.specs.inner.Objects.{wrapped}
+use Rattle.type_declared.specs.inner.Objects.{enclosed}
 use Rattle.type_declared.proofs.DeclaredObjects.{headed_pop}
 use Rattle.type_declared.proofs.headers.headed.Goals as goal
 
@@ -14,6 +14,6 @@ returns-in_ok-inside-in-Some c =
     let first = c.in_ok-first-in-Some.first in
     let inside = c.in_ok-inside-in-Some.inside in
     let loop : Stmt → Stmt = λ s. at_stmt place (for_ s (option_map boxed_expr_view c.args.condition) (boxed_stmt_view c.args.step) (boxed_stmt_view c.args.body)) in
-    IfOk-weaker c.wrapped.result (λ s. boxed_stmt_view s ≡ wrapped place (map stmt_view c.pop.new.self.items) (boxed_stmt_view inside)) (λ s. boxed_stmt_view s ≡ headed place (map stmt_view c.args.header.items) loop)
+    IfOk-weaker c.enclosed.result (λ s. boxed_stmt_view s ≡ enclosed place (map stmt_view c.pop.new.self.items) (boxed_stmt_view inside)) (λ s. boxed_stmt_view s ≡ headed place (map stmt_view c.args.header.items) loop)
     (λ s p. headed_pop place c.args.header.items c.pop.new.self.items first.value s.value inside.value loop
-    (c.in-Some.ensures.items ∙ ap (λ x. c.pop.new.self.items ++ x ∷ []) (sym c.in_ok-first-in-Some.ensures.ok)) c.in_ok-inside-in-Some.ensures p) c.wrapped.ensures
+    (c.in-Some.ensures.items ∙ ap (λ x. c.pop.new.self.items ++ x ∷ []) (sym c.in_ok-first-in-Some.ensures.ok)) c.in_ok-inside-in-Some.ensures p) c.enclosed.ensures
