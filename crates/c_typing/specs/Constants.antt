@@ -47,7 +47,7 @@ is_constant c (source.prefix place op e) = is_constant_prefix op && is_constant 
 is_constant c (source.binary place op a b) = is_constant_binary op && is_constant c a && is_constant c b
 is_constant c e = false
 
--- the value of a typed expression that is made of numbers, conversions and operations, if it breaks no rule
+-- a number converted to an integer type
 abbrev pub at_type : Ty → Option Num → Option Num
 at_type (integer t) (Some n) = Some (number t n.value)
 at_type t n = None

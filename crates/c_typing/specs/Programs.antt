@@ -37,8 +37,7 @@ abbrev pub literal_of : ExprNode → Option ℕ
 literal_of (decay (trees.at place ty (literal n))) = Some n
 literal_of node = None
 
--- what a global of a type starts with: a number of an integer constant expression; of a pointer the constant 0, NULL, or for a
--- `char *` a string
+-- what an integer of this type starts with: the value of an integer constant expression, converted
 abbrev pub number_at : IntType → Option Num → Option Init
 number_at t None = None
 number_at t (Some n) = Some (trees.number t (number t n.value).value)
@@ -191,8 +190,7 @@ abbrev pub place_of_name : List ℕ → List (List ℕ) → ℕ
 place_of_name q [] = 0
 place_of_name q (name ∷ names) = if bytes_eq q name then 0 else 1 + place_of_name q names
 
--- a function's name is declared once, or again as a function of the same type (6.7 p3, p4); one that has no body anywhere is
--- unknown where it is first declared; there are 8,192 names at most
+-- a function's name meant nothing before at file scope, or a function (6.7 p3, p4)
 abbrev pub once : (place : ℕ) → Option Meaning → Judged (Unit {0})
 once place (Some (function_name n ps r)) = typed tt
 once place (Some m) = refuse place DoubleName
@@ -329,11 +327,11 @@ has_main c names =
     unless (length c.text) UnknownName (is_main (lookup (bytes_eq (codes "main")) c.inner) && list_any (bytes_eq (codes "main")) names)
     >>= λ u. typed (place_of_name (codes "main") names)
 
--- the typed tree of a file, or all its faults
+-- the typed tree of what a file's declarations made
 abbrev pub program_of : Context → Made → ℕ → Typed
 program_of c made main = record { structs = c.structs; globals = made.globals; literals = c.literals; funcs = made.funcs; main = main }
 
--- a file of this text, judged from its first declaration on, with main asked for at its end
+-- the typed tree of a file of this text, or all its faults: it is judged from its first declaration on, with main asked for at its end
 abbrev pub judged_file : List ℕ → source.File → Judged Typed
 judged_file text f =
     let names = defined_names text f.externals in

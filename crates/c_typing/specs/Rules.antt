@@ -35,8 +35,7 @@ abbrev pub is_zero : ExprNode → Bool
 is_zero (num t value) = int_eq value (pos 0)
 is_zero node = false
 
--- a value of type s where one of type t is wanted, as by assignment (6.5.16.1): a number, a pointer to the same type, any pointer
--- for or from a `void *`, the constant 0 for a pointer, and the same struct
+-- the expression, if it fits
 abbrev pub fitted_if : Expr → Bool → Option Expr
 fitted_if e fine = if fine then Some e else None
 
@@ -46,7 +45,8 @@ pointer_fitted s t e =
     if same_type s t then Some e
     else fitted_if (at (place_of e) (pointer t) (convert e)) (is_void s || is_void t)
 
--- an expression of type s where type t is wanted, converted, or none where it doesn't fit
+-- an expression of type s where type t is wanted, as by assignment (6.5.16.1), converted: a number for a number, a pointer to the same type,
+-- any pointer for or from a `void *`, the constant 0 for a pointer, and the same struct; or none where it doesn't fit
 abbrev pub fitted_by : (s t : Ty) → Expr → Option Expr
 fitted_by (integer s) (integer t) e = Some (converted s t e)
 fitted_by (integer s) (pointer t) e = fitted_if (at (place_of e) (pointer t) null) (is_zero (node_of e))
