@@ -1,5 +1,5 @@
 -- The braces of a struct: its members, whether they fit, and what is left behind them.
-use Rattle.std.proofs.Common.{◌≡◌, ℕ, nat_le, map, Bool, true, false, List, [], ◌∷◌, Result, Ok, Err, refl, ap, sym, subst, ◌∙◌, if◌then◌else◌}
+use Rattle.std.proofs.Common.{◌≡◌, ℕ, nat_le, map, Bool, true, false, List, Result, Ok, Err, refl, ap, sym, subst, ◌∙◌, if◌then◌else◌}
 use Rattle.std.specs.Prelude.{Vec, OnOk, IfErr}
 use Rattle.std.specs.declared.alloc.Global.{Global}
 use Rattle.c_lex.specs.declared.refusal.CompileFault.{CompileFault}

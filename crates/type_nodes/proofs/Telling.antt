@@ -6,14 +6,13 @@ use Rattle.std.specs.declared.alloc.Global.{Global}
 use Rattle.c_lex.specs.declared.refusal.CompileFault.{CompileFault}
 use Rattle.c_lex.specs.declared.refusal.CompileFault.TheVariants.{Refused, NoMemory}
 use Rattle.c_tree.specs.declared.syntax.Name.{Name}
-use Rattle.c_tree.specs.declared.syntax.Pointer.{Pointer}
 use Rattle.c_tree.specs.Syntax as source
 use Rattle.c_tree.specs.declared.syntax.PrefixOp.{PrefixOp}
 use Rattle.c_tree.specs.declared.syntax.PrefixOp.TheVariants as prefixes
 use Rattle.c_tree.specs.declared.typed.Expr.{Expr as CodeExpr}
 use Rattle.c_tree.specs.Typed.{Ty, Expr}
 use Rattle.c_tree.specs.TypedViews.{expr_view, boxed_expr_view}
-use Rattle.c_typing.specs.Faults.{Judged, typed, faulty, Gives, both, ◌>>=◌}
+use Rattle.c_typing.specs.Faults.{Judged, typed, Gives, both, ◌>>=◌}
 use Rattle.c_typing.specs.Rules.{address}
 use Rattle.c_typing.specs.Scope.{Context, with_tag, tag_number, is_begun, with_begun, Meaning, global_name, local_name, function_name, library_name, printf, malloc, free, memcpy, thrd_create, thrd_join, mtx_init, mtx_lock, mtx_unlock, mtx_destroy, constant}
 use Rattle.c_typing.specs.Judgement.{Judging, in_turn, ruled, judged, valued, judged_all, judged_dims, judged_parts, judged_spec, judged_members, judged_member, judged_declarators, dimension, Part, called_by, starting_or, names_in, prefixed, addressing, with_addressed, meaning_in, opened, braced}

@@ -6,7 +6,6 @@ use Rattle.c_lex.specs.declared.refusal.CompileFault.{CompileFault}
 use Rattle.c_lex.specs.declared.refusal.Kind.{Kind}
 use Rattle.c_lex.specs.declared.refusal.Kind.TheVariants.{TypeMismatch, UnknownName}
 use Rattle.c_tree.specs.declared.syntax.Name.{Name}
-use Rattle.c_tree.specs.declared.syntax.Pointer.{Pointer}
 use Rattle.c_tree.specs.declared.syntax.PrefixOp.{PrefixOp}
 use Rattle.c_tree.specs.declared.syntax.PrefixOp.TheVariants as prefixes
 use Rattle.c_tree.specs.declared.typed.Expr.{Expr as CodeExpr}
@@ -16,7 +15,7 @@ use Rattle.c_typing.specs.Faults.{Judged, Gives, typed, refuse, both, ◌>>=◌}
 use Rattle.c_typing.specs.Types.{same_type, same_types}
 use Rattle.c_typing.specs.Rules.{tested, chosen, minus_by, plus_by, not_by, complement_by, target, address}
 use Rattle.c_typing.specs.Scope.{Context, Meaning, function_name, library_name, Library, printf, thrd_create, constant}
-use Rattle.c_typing.specs.Judgement.{Judging, in_turn, ruled, valued, judged, judged_spec, judged_member, judged_dims, names_of_member, dimension, member_by, Part, tag, Declarator, called, called_library, starting_by, struct_fits, closed}
+use Rattle.c_typing.specs.Judgement.{Judging, ruled, valued, judged, judged_spec, judged_member, judged_dims, names_of_member, dimension, member_by, Part, tag, Declarator, called, called_library, starting_by, struct_fits, closed}
 use Rattle.type_outcomes.specs.Rows.{row}
 use Rattle.type_context.specs.declared.context.MemberType.{MemberType}
 use Rattle.type_context.specs.ContextViews.{members_view}

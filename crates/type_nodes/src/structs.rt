@@ -1,5 +1,7 @@
 //! Tags, members and types, by what their parts came to (C11 6.7.2, 6.7.6).
 ghost use Rattle.std.specs.Prelude.{◌≡◌, ℕ, List, map, IfOk, IfErr, OnOk, if◌then◌else◌};
+ghost use Rattle.std.specs.List.{list_any};
+ghost use Rattle.std.specs.Str.{bytes_eq};
 ghost use Rattle.c_lex.specs.declared.refusal.CompileFault.TheVariants.{NoMemory};
 ghost use Rattle.c_tree.specs.Syntax as trees;
 ghost use Rattle.c_tree.specs.SyntaxViews as source;
@@ -52,12 +54,19 @@ pub fn opened(context: &Context<'_>, tag: Name, number: u32) -> Result<(), Compi
     both_fine(once, within(tag.from, 3, 256, context.begun.len()))
 }
 
+// Whether a name is one of these.
+fn is_among(context: &Context<'_>, names: &[Name], name: Name) -> bool
+    ensures { result ≡ list_any (λ m. bytes_eq (bytes_of (context_view context.now).text name) (bytes_of (context_view context.now).text m)) names.now }
+{
+    let bytes = context.bytes(name);
+    names.iter().any(|other| bytes == context.bytes(*other))
+}
+
 // Whether a member before has this name; behind one too many none is compared.
 fn is_again(context: &Context<'_>, before: &[Name], name: Name) -> bool
     ensures { result ≡ is_again (context_view context.now) before.now name }
 {
-    let bytes = context.bytes(name);
-    before.len() <= MOST_MEMBERS && before.iter().any(|other| bytes == context.bytes(*other))
+    before.len() <= MOST_MEMBERS && is_among(context, before, name)
 }
 
 /// A member's name is declared once in its struct, and there are 256 at most.
