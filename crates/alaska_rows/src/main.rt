@@ -23,7 +23,7 @@ const ROOM: usize = 1_000_000;
 // the workers changes.
 struct Row(&'static str, &'static str);
 
-const ROWS: [Row; 34] = [
+const ROWS: [Row; 35] = [
     Row("alaska nothing.c", "all"),
     Row("alaska answer.c", "all"),
     Row("alaska heap.c", "ended live"),
@@ -64,6 +64,7 @@ const ROWS: [Row; 34] = [
     Row("alaska answer.c --workers 0", "all"),
     Row("alaska answer.c --subheap 5000", "all"),
     Row("alaska --mode churn --seed 1", "all"),
+    Row("alaska --mode churn --seed 1 --size 3", "ended live extent"),
     Row("alaska null_store.c", "ended"),
     Row("alaska double_free.c --ids 1", "ended"),
     Row("alaska two_prints.c --output 4", "ended"),
