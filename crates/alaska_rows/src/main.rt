@@ -65,6 +65,7 @@ const ROWS: [Row; 35] = [
     Row("alaska answer.c --workers 0", "all"),
     Row("alaska answer.c --subheap 5000", "all"),
     Row("alaska --mode churn --seed 1", "all"),
+    Row("alaska --mode churn --seed 1 --size 3", "ended live extent"),
     Row("alaska null_store.c", "ended"),
     Row("alaska double_free.c --ids 1", "ended"),
     Row("alaska two_prints.c --output 4", "ended"),

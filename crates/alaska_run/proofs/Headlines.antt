@@ -25,14 +25,15 @@ use Rattle.run_notes.specs.declared.status.Status.TheVariants as statuses
 use Rattle.run_notes.specs.Statuses.{status_of}
 use Rattle.run_notes.specs.Lines.{fault_line}
 use Rattle.run_notes.specs.Reports.{report_text}
-use Rattle.run_edges.specs.Files.{Shelved, IsWhole}
+use Rattle.run_edges.specs.Files.{Shelved}
 use Rattle.run_edges.specs.Sinks.{Channel}
 use Rattle.run_edges.specs.Writing.{Written, after_note_fault}
 use Rattle.alaska_run.specs.declared.preparing.Opened.{Opened}
 use Rattle.alaska_run.specs.declared.preparing.Stopped.{Stopped}
 use Rattle.alaska_run.specs.declared.running.Ran.{Ran}
 use Rattle.alaska_run.specs.Ending.{Ending}
-use Rattle.alaska_run.specs.Faults.{file_in, name_in, IsFault}
+use Rattle.alaska_run.specs.Sources.{Source, source_in, name_in, IsAll}
+use Rattle.alaska_run.specs.Faults.{IsFault}
 use Rattle.alaska_run.specs.Headline.{Headline, IsTextOf, IsCodeOf, IsRun, depth}
 use Rattle.alaska_run.specs.inner.Courses.{IsStopped, IsOpened, HasRun}
 
@@ -72,20 +73,20 @@ module _ (words : List (List ℕ)) (file : List ℕ → Shelved) (out note : Cha
     (es : e.settings ≡ Some x.settings) (et : e.text ≡ x.text.items) (ec : e.checked ≡ Some (code_of x.checked)) (ek : e.code ≡ Some (arc_value x.code)) (ej : e.journal ≡ Some r.journal.entries)
     (w : Written r.status e.status r.output.items r.line.items out note)
     (meant : JournalsMeanTheSource) (stay : AccessesOfJournalsStay) (once : OneTree) where
-  whole : IsWhole (file o.name) e.text
-  whole = subst (λ (t : List ℕ). IsWhole (file o.name) t) (sym et) o.whole
+  whole : IsAll o.source e.text
+  whole = subst (λ (t : List ℕ). IsAll o.source t) (sym et) o.whole
 
-  names : file_in e.settings ≡ Some o.name
-  names = ap file_in es ∙ o.names
+  from : source_in file e.settings ≡ Some o.source
+  from = ap (source_in file) es ∙ o.from
 
-  text_of : (name : List ℕ) → file_in e.settings ≡ Some name → IsTextOf (file name) e.text
-  text_of name n = let same : o.name ≡ name = cc (sym names ∙ n) in subst (λ (z : List ℕ). IsTextOf (file z) e.text) same (inl whole)
+  text_of : (source : Source) → source_in file e.settings ≡ Some source → IsTextOf source e.text
+  text_of source n = let same : o.source ≡ source = cc (sym from ∙ n) in subst (λ (z : Source). IsTextOf z e.text) same (inl whole)
 
   code_is : (code : LinearCode) → e.code ≡ Some code → arc_value x.code ≡ code
   code_is code k = cc (sym ek ∙ k)
 
   is_code : IsCodeOf file e (code_of x.checked) (arc_value x.code)
-  is_code = record { name = o.name; names = names; whole = whole; typed = o.typed; built = subst (λ (t : List ℕ). IsBuilt t o.typed (code_of x.checked) (arc_value x.code)) (sym et) o.built }
+  is_code = record { source = o.source; from = from; whole = whole; typed = o.typed; built = subst (λ (t : List ℕ). IsBuilt t o.typed (code_of x.checked) (arc_value x.code)) (sym et) o.built }
 
   log_is : (log : List Entry) → e.journal ≡ Some log → r.journal.entries ≡ log
   log_is log l = cc (sym ej ∙ l)
@@ -197,7 +198,7 @@ module _ (words : List (List ℕ)) (file : List ℕ → Shelved) (out note : Cha
   of_stopped x s es et w = record {
     the_text = record {
       settings = inl (ap (option_map wanted_of) es ∙ s.settings);
-      text = λ name n. subst (λ (t : List ℕ). IsTextOf (file name) t) (sym et) (s.text name (ap file_in (sym es) ∙ n));
+      text = λ source n. subst (λ (t : List ℕ). IsTextOf source t) (sym et) (s.text source (ap (source_in file) (sym es) ∙ n));
       none = λ n. et ∙ s.none (sym es ∙ n);
     };
     the_code = record { ran = λ code k. absurd (no_code code k); checked = λ z. absurd (none_there e.checked ec z); journal = λ z. absurd (none_there e.journal ej z) };
@@ -219,7 +220,7 @@ module _ (words : List (List ℕ)) (file : List ℕ → Shelved) (out note : Cha
   of_no_memory es et w = record {
     the_text = record {
       settings = inr (record { status = memory_then e.status _ out note w; journal = ej });
-      text = λ name n. absurd (let z : None ≡ Some name = ap file_in (sym es) ∙ n in cc z);
+      text = λ source n. absurd (let z : None ≡ Some source = ap (source_in file) (sym es) ∙ n in cc z);
       none = λ n. et;
     };
     the_code = record { ran = λ code k. absurd (no_code code k); checked = λ z. absurd (none_there e.checked ec z); journal = λ z. absurd (none_there e.journal ej z) };

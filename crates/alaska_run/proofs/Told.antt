@@ -11,15 +11,16 @@ use Rattle.c_compile.specs.Built.{IsTreeOf}
 use Rattle.flat_meaning.specs.declared.endings.End.{End}
 use Rattle.flat_meaning.specs.declared.endings.End.TheVariants as ends
 use Rattle.flat_rules.specs.declared.settings.Settings.{Settings}
-use Rattle.run_words.specs.Wanted.{Wanted, settings_today, wanted_of}
+use Rattle.run_words.specs.Wanted.{Wanted, settings_of, wanted_of}
 use Rattle.run_notes.specs.declared.status.Status.{Status}
 use Rattle.run_notes.specs.declared.status.Status.TheVariants as statuses
 use Rattle.run_notes.specs.Statuses.{status_of}
-use Rattle.run_edges.specs.Files.{Shelved, ReadFailed, IsWhole, most_bytes}
+use Rattle.run_edges.specs.Files.{Shelved, most_bytes}
 use Rattle.run_edges.specs.Sinks.{Channel, WriteFailed}
 use Rattle.run_edges.specs.Writing.{after_note_fault}
 use Rattle.alaska_run.specs.Ending.{Ending, WantedMemory}
-use Rattle.alaska_run.specs.Faults.{file_in, IsFault, IsRefused}
+use Rattle.alaska_run.specs.Sources.{Source, Read, Made, source_of, source_in, Tells, IsAll, IsFirst, Failed}
+use Rattle.alaska_run.specs.Faults.{IsFault, IsRefused}
 use Rattle.alaska_run.specs.Headline.{Headline, IsWithoutARun}
 use Rattle.alaska_run.specs.Answers.{Causes, Answers, IsUnlessMemory, IsTold}
 use Rattle.alaska_run.proofs.Headlines.{none_there, some_there}
@@ -75,17 +76,31 @@ after_note statuses.OutputLimit = inr refl
 after_note (statuses.StackLimit thread) = inr refl
 after_note statuses.NoMemory = inl refl
 
--- the file that plain settings name
-file_of_plain : (o : Option Settings) (w : Wanted) → option_map wanted_of o ≡ Some w → file_in o ≡ w.file
-file_of_plain None w e = cc e
-file_of_plain (Some s) w e = let same : wanted_of s ≡ w = cc e in ap (λ (z : Wanted). z.file) same
+-- what plain settings have the text come from
+source_of_plain : (file : List ℕ → Shelved) (o : Option Settings) (w : Wanted) → option_map wanted_of o ≡ Some w → source_in file o ≡ source_of file w
+source_of_plain file None w e = cc e
+source_of_plain file (Some s) w e = let same : wanted_of s ≡ w = cc e in ap (source_of file) same
 
 plain_some : (o : Option Settings) (s : Settings) → o ≡ Some s → option_map wanted_of o ≡ None → ⊥
 plain_some o s is none = let z : Some (wanted_of s) ≡ None = sym (ap (option_map wanted_of) is) ∙ none in cc z
 
-plain_of_file : (o : Option Settings) (name : List ℕ) → file_in o ≡ Some name → option_map wanted_of o ≡ None → ⊥
-plain_of_file None name n e = cc n
-plain_of_file (Some s) name n e = cc e
+plain_of_source : (file : List ℕ → Shelved) (o : Option Settings) (source : Source) → source_in file o ≡ Some source → option_map wanted_of o ≡ None → ⊥
+plain_of_source file None source n e = cc n
+plain_of_source file (Some s) source n e = cc e
+
+-- ---- the text of a source
+
+all_short : (source : Source) (text : List ℕ) → IsAll source text → length text ≤ most_bytes
+all_short (Read file) text all = all.short
+all_short (Made made) text all = all.0
+
+all_told : (source : Source) (text bytes : List ℕ) → IsAll source text → Tells source bytes → text ≡ bytes
+all_told (Read file) text bytes all told = all.whole bytes told
+all_told (Made made) text bytes all told = all.1 ∙ told
+
+first_longer : (source : Source) (text bytes : List ℕ) → IsFirst source text → Tells source bytes → most_bytes < length bytes
+first_longer (Read file) text bytes first told = first.longer bytes told
+first_longer (Made made) text bytes first told = absurd first
 
 module _ (words : List (List ℕ)) (file : List ℕ → Shelved) (out note : Channel) (e : Ending) (h : Headline words file out note e) where
   -- ---- with a run
@@ -146,8 +161,8 @@ module _ (words : List (List ℕ)) (file : List ℕ → Shelved) (out note : Cha
   -- ---- where nothing failed
 
   -- what holds of each cause but want of memory holds, or memory was wanting
-  module _ (kept : WriteFailed note → ⊥) (G : Type 0) (usage : e.status ≡ statuses.Usage → settings_today words ≡ None → G) (read : (name : List ℕ) → file_in e.settings ≡ Some name → ReadFailed (file name) → G)
-      (refused : (place : ℕ) (kind : Kind) → e.status ≡ statuses.Refused place kind → (name : List ℕ) → file_in e.settings ≡ Some name → IsRefused (file name) e.text place kind → G) where
+  module _ (kept : WriteFailed note → ⊥) (G : Type 0) (usage : e.status ≡ statuses.Usage → settings_of words ≡ None → G) (read : (source : Source) → source_in file e.settings ≡ Some source → Failed source → G)
+      (refused : (place : ℕ) (kind : Kind) → e.status ≡ statuses.Refused place kind → (source : Source) → source_in file e.settings ≡ Some source → IsRefused source e.text place kind → G) where
     by_cause : (none : e.journal ≡ None) (s : Status) → e.status ≡ s → IsFault words file e.settings e.text s → G ⊎ WantedMemory e
     by_cause none statuses.Usage is f = inl (usage is f)
     by_cause none statuses.ReadFault is f = inl (read f.0 f.1 f.2)
@@ -164,57 +179,60 @@ module _ (words : List (List ℕ)) (file : List ℕ → Shelved) (out note : Cha
     caused : e.journal ≡ None → G ⊎ WantedMemory e
     caused none = elim (judged none) [ inl a ↦ by_cause none (w none).judged a (w none).fault | inr b ↦ absurd (kept b.1) ]
 
-  -- the file is the one that the words name
+  -- the source is the one that the words have
   module _ (bytes : List ℕ) (t : IsTold words file out note bytes) where
-    same_name : (name : List ℕ) → file_in e.settings ≡ Some name → (t.name ≡ name) ⊎ WantedMemory e
-    same_name name n = elim h.the_text.settings [
-      | inl a ↦ inl (let f : file_in e.settings ≡ Some t.name = file_of_plain e.settings t.wanted (a ∙ t.words_are) ∙ t.names in cc (sym f ∙ n))
+    same_source : (source : Source) → source_in file e.settings ≡ Some source → (t.source ≡ source) ⊎ WantedMemory e
+    same_source source n = elim h.the_text.settings [
+      | inl a ↦ inl (let f : source_in file e.settings ≡ Some t.source = source_of_plain file e.settings t.wanted (a ∙ t.words_are) ∙ t.from in cc (sym f ∙ n))
       | inr m ↦ inr m
     ]
 
-    no_usage : settings_today words ≡ None → ⊥
+    no_usage : settings_of words ≡ None → ⊥
     no_usage none = let z : Some t.wanted ≡ None = sym t.words_are ∙ none in cc z
 
-    no_read : (name : List ℕ) → file_in e.settings ≡ Some name → ReadFailed (file name) → WantedMemory e
-    no_read name n failed = elim (same_name name n) [ inl s ↦ absurd (t.kept.read (subst (λ (z : List ℕ). ReadFailed (file z)) (sym s) failed)) | inr m ↦ m ]
+    no_read : (source : Source) → source_in file e.settings ≡ Some source → Failed source → WantedMemory e
+    no_read source n failed = elim (same_source source n) [ inl s ↦ absurd (t.kept.read (subst Failed (sym s) failed)) | inr m ↦ m ]
 
-    is_bytes : (name : List ℕ) → t.name ≡ name → IsWhole (file name) e.text → e.text ≡ bytes
-    is_bytes name s whole = whole.whole bytes (subst (λ (z : List ℕ). (file z).told ≡ Some bytes) s t.told)
+    told_as : (source : Source) → t.source ≡ source → Tells source bytes
+    told_as source s = subst (λ (z : Source). Tells z bytes) s t.told
 
-    -- a run is of a text that was read whole, and has a tree
+    is_bytes : (source : Source) → t.source ≡ source → IsAll source e.text → e.text ≡ bytes
+    is_bytes source s all = all_told source e.text bytes all (told_as source s)
+
+    -- a run is of a text that is all of its source, and has a tree
     ran_whole : (log : List Entry) → e.journal ≡ Some log → (typed : Typed) × (e.text ≡ bytes) × IsTreeOf e.text typed × (length e.text ≤ most_bytes)
     ran_whole log l = elim (there_or_not e.code) [
       | inl n ↦ absurd (none_there e.code n (h.the_code.journal (some_there e.journal log l)))
       | inr k ↦
           let code = h.the_code.ran k.0 k.1 in
-          elim (same_name code.3.name code.3.names) [
-            | inl s ↦ (code.3.typed, is_bytes code.3.name s code.3.whole, code.3.built.tree, code.3.whole.short)
+          elim (same_source code.3.source code.3.from) [
+            | inl s ↦ (code.3.typed, is_bytes code.3.source s code.3.whole, code.3.built.tree, all_short code.3.source e.text code.3.whole)
             | inr m ↦ absurd (let z : Some log ≡ None = sym l ∙ m.journal in cc z)
           ]
     ]
 
     -- a refusal of a text that is not too long
     module _ (short : length bytes ≤ most_bytes) where
-      refused_bytes : (place : ℕ) (kind : Kind) (name : List ℕ) → file_in e.settings ≡ Some name → IsRefused (file name) e.text place kind → Refuses bytes (record { place = place; kind = kind }) ⊎ WantedMemory e
-      refused_bytes place kind name n (inl r) = elim (same_name name n) [
-        | inl s ↦ inl (subst (λ (z : List ℕ). Refuses z (record { place = place; kind = kind })) (is_bytes name s r.0) r.1)
+      refused_bytes : (place : ℕ) (kind : Kind) (source : Source) → source_in file e.settings ≡ Some source → IsRefused source e.text place kind → Refuses bytes (record { place = place; kind = kind }) ⊎ WantedMemory e
+      refused_bytes place kind source n (inl r) = elim (same_source source n) [
+        | inl s ↦ inl (subst (λ (z : List ℕ). Refuses z (record { place = place; kind = kind })) (is_bytes source s r.0) r.1)
         | inr m ↦ inr m
       ]
-      refused_bytes place kind name n (inr r) = elim (same_name name n) [
-        | inl s ↦ absurd (let long = r.0.longer bytes (subst (λ (z : List ℕ). (file z).told ≡ Some bytes) s t.told) in omega (arith, long))
+      refused_bytes place kind source n (inr r) = elim (same_source source n) [
+        | inl s ↦ absurd (let long = first_longer source e.text bytes r.0 (told_as source s) in omega (arith, long))
         | inr m ↦ inr m
       ]
 
     module _ (long : most_bytes < length bytes) where
-      refused_long : (place : ℕ) (kind : Kind) (name : List ℕ) → file_in e.settings ≡ Some name → IsRefused (file name) e.text place kind → ((place ≡ most_bytes) × (kind ≡ TooLong)) ⊎ WantedMemory e
-      refused_long place kind name n (inl r) = elim (same_name name n) [
-        | inl s ↦ absurd (let b = is_bytes name s r.0 in let short = r.0.short in omega (arith, short, ap length b))
+      refused_long : (place : ℕ) (kind : Kind) (source : Source) → source_in file e.settings ≡ Some source → IsRefused source e.text place kind → ((place ≡ most_bytes) × (kind ≡ TooLong)) ⊎ WantedMemory e
+      refused_long place kind source n (inl r) = elim (same_source source n) [
+        | inl s ↦ absurd (let b = is_bytes source s r.0 in let short = all_short source e.text r.0 in omega (arith, short, ap length b))
         | inr m ↦ inr m
       ]
-      refused_long place kind name n (inr r) = inl (r.1, r.2)
+      refused_long place kind source n (inr r) = inl (r.1, r.2)
 
-  plainly : settings_today words ≡ None → (name : List ℕ) → file_in e.settings ≡ Some name → IsUnlessMemory e statuses.Usage
-  plainly none name f = elim h.the_text.settings [ inl a ↦ absurd (plain_of_file e.settings name f (a ∙ none)) | inr m ↦ inr m ]
+  plainly : settings_of words ≡ None → (source : Source) → source_in file e.settings ≡ Some source → IsUnlessMemory e statuses.Usage
+  plainly none source f = elim h.the_text.settings [ inl a ↦ absurd (plain_of_source file e.settings source f (a ∙ none)) | inr m ↦ inr m ]
 
   flat : {G : Type 0} → (G ⊎ WantedMemory e) ⊎ WantedMemory e → G ⊎ WantedMemory e
   flat (inl x) = x
@@ -226,30 +244,30 @@ module _ (words : List (List ℕ)) (file : List ℕ → Shelved) (out note : Cha
       usage = λ none out_kept note_kept. elim (there_or_not e.journal) [
         | inl n ↦ flat (caused note_kept (IsUnlessMemory e statuses.Usage)
             (λ is z. inl is)
-            (λ name f failed. plainly none name f)
-            (λ place kind is name f r. plainly none name f) n)
+            (λ source f failed. plainly none source f)
+            (λ place kind is source f r. plainly none source f) n)
         | inr l ↦ inr (elim h.the_text.settings [
           | inl a ↦ absurd (let run = (h.the_same_order.replays l.0 l.1).2 in plain_some e.settings run.settings run.has_settings (a ∙ none))
           | inr m ↦ m
         ])
       ];
       complete = λ bytes typed t short tree. elim (there_or_not e.journal) [
-        | inl n ↦ (let c = caused t.kept.note_kept (⊥ ⊎ WantedMemory e) (λ is z. absurd (no_usage bytes t z)) (λ name f failed. inr (no_read bytes t name f failed))
-            (λ place kind is name f r. elim (refused_bytes bytes t short place kind name f r) [ inl q ↦ absurd (not_both bytes tree.tokens typed _ tree.read q) | inr m ↦ inr m ]) n in
+        | inl n ↦ (let c = caused t.kept.note_kept (⊥ ⊎ WantedMemory e) (λ is z. absurd (no_usage bytes t z)) (λ source f failed. inr (no_read bytes t source f failed))
+            (λ place kind is source f r. elim (refused_bytes bytes t short place kind source f r) [ inl q ↦ absurd (not_both bytes tree.tokens typed _ tree.read q) | inr m ↦ inr m ]) n in
             elim c [ inl d ↦ elim d [ inl z ↦ absurd z | inr m ↦ inr m ] | inr m ↦ inr m ])
         | inr l ↦ inl (some_there e.journal l.0 l.1)
       ];
       refused = λ bytes r t short refuses. elim (there_or_not e.journal) [
-        | inl n ↦ flat (caused t.kept.note_kept (IsUnlessMemory e (statuses.Refused r.place r.kind)) (λ is z. absurd (no_usage bytes t z)) (λ name f failed. inr (no_read bytes t name f failed))
-            (λ place kind is name f q. elim (refused_bytes bytes t short place kind name f q) [
+        | inl n ↦ flat (caused t.kept.note_kept (IsUnlessMemory e (statuses.Refused r.place r.kind)) (λ is z. absurd (no_usage bytes t z)) (λ source f failed. inr (no_read bytes t source f failed))
+            (λ place kind is source f q. elim (refused_bytes bytes t short place kind source f q) [
               | inl p ↦ inl (is ∙ ap (λ (z : Refusal). statuses.Refused z.place z.kind) (one_reason bytes _ r p refuses))
               | inr m ↦ inr m
             ]) n)
         | inr l ↦ (let x = ran_whole bytes t l.0 l.1 in absurd (not_both e.text x.2.tokens x.0 r x.2.read (subst (λ (z : List ℕ). Refuses z r) (sym x.1) refuses)))
       ];
       too_long = λ bytes t long. elim (there_or_not e.journal) [
-        | inl n ↦ flat (caused t.kept.note_kept (IsUnlessMemory e (statuses.Refused most_bytes TooLong)) (λ is z. absurd (no_usage bytes t z)) (λ name f failed. inr (no_read bytes t name f failed))
-            (λ place kind is name f q. elim (refused_long bytes t long place kind name f q) [
+        | inl n ↦ flat (caused t.kept.note_kept (IsUnlessMemory e (statuses.Refused most_bytes TooLong)) (λ is z. absurd (no_usage bytes t z)) (λ source f failed. inr (no_read bytes t source f failed))
+            (λ place kind is source f q. elim (refused_long bytes t long place kind source f q) [
               | inl p ↦ inl (is ∙ ap (λ (z : ℕ). statuses.Refused z kind) p.0 ∙ ap (λ (z : Kind). statuses.Refused most_bytes z) p.1)
               | inr m ↦ inr m
             ]) n)

@@ -1,10 +1,14 @@
--- Words that are settings name a file.
-use Rattle.std.proofs.Common.{◌≡◌, ℕ, Bool, true, false, ◌&&◌, List, Option, Some, None, refl, ap, subst}
-use Rattle.std.specs.Prelude.{if◌then◌else◌, is_some}
+-- Where words that are settings have the text come from.
+use Rattle.std.proofs.Common.{◌≡◌, ℕ, Bool, true, false, ◌&&◌, List, [], Option, Some, None, refl, ap, subst, ◌∙◌}
+use Rattle.std.specs.Prelude.{if◌then◌else◌, is_none, is_some, unwrap_or}
+use Rattle.std.specs.Option.{option_map}
 use Rattle.flat_rules.specs.declared.settings.Mode.{Mode}
 use Rattle.flat_rules.specs.declared.settings.Mode.TheVariants.{Run, Churn}
 use Rattle.run_words.specs.Command.{are_taken, value_in}
-use Rattle.run_words.specs.Wanted.{Wanted, wanted_by, has_bounded_heap, fits_mode, fits_mode_of, only_if, settings_of, is_run, settings_today}
+use Rattle.run_words.specs.Wanted.{Wanted, wanted_by, has_bounded_heap, fits_mode, fits_mode_of, only_if, settings_of}
+use Rattle.run_churn.specs.Text as churn
+use Rattle.run_edges.specs.Files.{Shelved}
+use Rattle.alaska_run.specs.Sources.{Read, Made, churned, source_by, source_of}
 
 -- a test that lets something through holds of it
 if_some : (b : Bool) (v w : Wanted) → (if b then Some v else None) ≡ Some w → (v ≡ w) × (b ≡ true)
@@ -19,21 +23,35 @@ taken : (b : Bool) (o : Option Wanted) (w : Wanted) → (if b then o else None) 
 taken true o w e = e
 taken false o w e = absurd cc
 
-both : (a b : Bool) → (a && b) ≡ true → a ≡ true
-both true b e = refl
-both false b e = e
+both : (a b : Bool) → (a && b) ≡ true → (a ≡ true) × (b ≡ true)
+both true b e = (refl, e)
+both false b e = absurd cc
 
-there : (o : Option (List ℕ)) → is_some o ≡ true → (name : List ℕ) × (o ≡ Some name)
-there None e = absurd cc
-there (Some name) e = (name, refl)
+-- settings are those of their mode
+fits : (words : List (List ℕ)) (w : Wanted) → settings_of words ≡ Some w → fits_mode w ≡ true
+unfolding settings_of
+fits words w e = (passed fits_mode (only_if has_bounded_heap (wanted_by (value_in words))) w (taken (are_taken words) _ w e)).1
 
-in_run : (mode : Mode) (w : Wanted) → is_run mode ≡ true → fits_mode_of mode w ≡ true → is_some w.file ≡ true
-in_run Run w run fits = both (is_some w.file) _ fits
-in_run Churn w run fits = absurd cc
+fits_as : (words : List (List ℕ)) (w : Wanted) (mode : Mode) → settings_of words ≡ Some w → w.mode ≡ mode → fits_mode_of mode w ≡ true
+fits_as words w mode e m = subst (λ (z : Mode). fits_mode_of z w ≡ true) m (fits words w e)
 
-pub file_named : (words : List (List ℕ)) (w : Wanted) → settings_today words ≡ Some w → (name : List ℕ) × (w.file ≡ Some name)
-unfolding settings_today settings_of
-file_named words w e =
-    let today = passed (λ w. is_run w.mode) _ w e in
-    let fits = passed fits_mode (only_if has_bounded_heap (wanted_by (value_in words))) w (taken (are_taken words) _ w today.0) in
-    there w.file (in_run w.mode w today.1 fits.1)
+module _ (file : List ℕ → Shelved) where
+  a_file : (o : Option (List ℕ)) → is_some o ≡ true → option_map (λ name. Read (file name)) o ≡ Some (Read (file (unwrap_or o [])))
+  a_file None e = absurd cc
+  a_file (Some name) e = refl
+
+  -- those of mode run name a file
+  pub source_read : (words : List (List ℕ)) (w : Wanted) → settings_of words ≡ Some w → w.mode ≡ Run → source_of file w ≡ Some (Read (file (unwrap_or w.file [])))
+  source_read words w e m = ap (λ (z : Mode). source_by z file w) m ∙ a_file w.file (both (is_some w.file) _ (fits_as words w Run e m)).0
+
+  a_text : (seed size : Option ℕ) → is_some seed ≡ true → is_some size ≡ true → churned seed size ≡ Some (Made (churn.text (unwrap_or seed 0) (unwrap_or size 1)))
+  a_text None size d z = absurd cc
+  a_text (Some seed) None d z = absurd cc
+  a_text (Some seed) (Some size) d z = refl
+
+  -- and those of mode churn give a seed and a size
+  pub source_made : (words : List (List ℕ)) (w : Wanted) → settings_of words ≡ Some w → w.mode ≡ Churn → source_of file w ≡ Some (Made (churn.text (unwrap_or w.seed 0) (unwrap_or w.size 1)))
+  source_made words w e m =
+      let h = both (is_none w.file) _ (fits_as words w Churn e m) in
+      let g = both (is_some w.seed) (is_some w.size) h.1 in
+      ap (λ (z : Mode). source_by z file w) m ∙ a_text w.seed w.size g.0 g.1

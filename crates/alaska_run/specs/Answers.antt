@@ -6,28 +6,29 @@ use Rattle.c_lex.specs.declared.refusal.Kind.TheVariants.{TooLong}
 use Rattle.c_tree.specs.Typed.{Typed}
 use Rattle.c_reader.specs.Reading.{Refuses}
 use Rattle.c_compile.specs.Built.{IsTreeOf}
-use Rattle.run_words.specs.Wanted.{Wanted, settings_today}
+use Rattle.run_words.specs.Wanted.{Wanted, settings_of}
 use Rattle.run_notes.specs.declared.status.Status.{Status}
 use Rattle.run_notes.specs.declared.status.Status.TheVariants as statuses
-use Rattle.run_edges.specs.Files.{Shelved, ReadFailed, most_bytes}
+use Rattle.run_edges.specs.Files.{Shelved, most_bytes}
 use Rattle.run_edges.specs.Sinks.{Channel, WriteFailed}
 use Rattle.alaska_run.specs.Ending.{Ending, WantedMemory}
-use Rattle.alaska_run.specs.Faults.{file_in, IsRefused}
+use Rattle.alaska_run.specs.Sources.{Source, source_of, source_in, Tells, Failed}
+use Rattle.alaska_run.specs.Faults.{IsRefused}
 
--- no read of the file failed, and no write
-pub record NothingFailed (file : Shelved) (out note : Channel) : Type 0 where
-  pub read : ReadFailed file → ⊥
+-- no read of the source failed, and no write
+pub record NothingFailed (source : Source) (out note : Channel) : Type 0 where
+  pub read : Failed source → ⊥
   pub out_kept : WriteFailed out → ⊥
   pub note_kept : WriteFailed note → ⊥
 
 -- what a status says of the words, the shelf and the sinks
 pub record Causes (words : List (List ℕ)) (file : List ℕ → Shelved) (out note : Channel) (e : Ending) : Type 0 where
   -- usage comes only where the words are no settings
-  pub usage : e.status ≡ statuses.Usage → settings_today words ≡ None
+  pub usage : e.status ≡ statuses.Usage → settings_of words ≡ None
   -- a refusal only where the text is none of the subset, or too long
-  pub refused : (place : ℕ) (kind : Kind) → e.status ≡ statuses.Refused place kind → (name : List ℕ) × (file_in e.settings ≡ Some name) × IsRefused (file name) e.text place kind
+  pub refused : (place : ℕ) (kind : Kind) → e.status ≡ statuses.Refused place kind → (source : Source) × (source_in file e.settings ≡ Some source) × IsRefused source e.text place kind
   -- a fault of reading only where the count of FILE rose
-  pub read_fault : e.status ≡ statuses.ReadFault → (name : List ℕ) × (file_in e.settings ≡ Some name) × ReadFailed (file name)
+  pub read_fault : e.status ≡ statuses.ReadFault → (source : Source) × (source_in file e.settings ≡ Some source) × Failed source
   -- a fault of writing only where the count of a sink rose
   pub write_fault : e.status ≡ statuses.WriteFault → WriteFailed out ⊎ WriteFailed note
 
@@ -35,19 +36,19 @@ pub record Causes (words : List (List ℕ)) (file : List ℕ → Shelved) (out n
 abbrev pub IsUnlessMemory : Ending → Status → Type 0
 IsUnlessMemory e status = (e.status ≡ status) ⊎ WantedMemory e
 
--- the words name this file, the shelf tells its bytes, and nothing failed
+-- the words name a file of which the shelf tells these bytes, or want a text to be made that is these; and nothing failed
 pub record IsTold (words : List (List ℕ)) (file : List ℕ → Shelved) (out note : Channel) (bytes : List ℕ) : Type 0 where
   pub wanted : Wanted
-  pub name : List ℕ
-  pub words_are : settings_today words ≡ Some wanted
-  pub names : wanted.file ≡ Some name
-  pub told : (file name).told ≡ Some bytes
-  pub kept : NothingFailed (file name) out note
+  pub source : Source
+  pub words_are : settings_of words ≡ Some wanted
+  pub from : source_of file wanted ≡ Some source
+  pub told : Tells source bytes
+  pub kept : NothingFailed source out note
 
--- what the words and the file's bytes say of the ending
+-- what the words and the bytes of the source say of the ending
 pub record Answers (words : List (List ℕ)) (file : List ℕ → Shelved) (out note : Channel) (e : Ending) : Type 0 where
   -- words that are no settings are usage
-  pub usage : settings_today words ≡ None → (WriteFailed out → ⊥) → (WriteFailed note → ⊥) → IsUnlessMemory e statuses.Usage
+  pub usage : settings_of words ≡ None → (WriteFailed out → ⊥) → (WriteFailed note → ⊥) → IsUnlessMemory e statuses.Usage
   -- a text of the subset is run
   pub complete : (bytes : List ℕ) (typed : Typed) → IsTold words file out note bytes → length bytes ≤ most_bytes → IsTreeOf bytes typed → IsSome e.journal ⊎ WantedMemory e
   -- another text is refused, for the one reason that it has

@@ -16,28 +16,29 @@ use Rattle.flat_machine.specs.Replays.{Final, final_of}
 use Rattle.flat_replay.specs.Accesses.{AccessesStay}
 use Rattle.flat_replay.specs.Barriers.{BarriersKeep}
 use Rattle.flat_replay.specs.Meaning.{whole_run, IsClean, IsFirstBreak, IsAsMeant, IsUpToABreak}
-use Rattle.run_words.specs.Wanted.{settings_today, wanted_of}
+use Rattle.run_words.specs.Wanted.{settings_of, wanted_of}
 use Rattle.run_notes.specs.declared.status.Status.{Status}
 use Rattle.run_notes.specs.declared.status.Status.TheVariants as statuses
 use Rattle.run_notes.specs.Statuses.{status_of}
 use Rattle.run_notes.specs.Lines.{fault_line}
 use Rattle.run_notes.specs.Reports.{report_text}
-use Rattle.run_edges.specs.Files.{Shelved, ReadFailed, IsWhole, IsFront}
+use Rattle.run_edges.specs.Files.{Shelved}
 use Rattle.run_edges.specs.Sinks.{Channel}
 use Rattle.run_edges.specs.Writing.{Written}
 use Rattle.alaska_run.specs.Ending.{Ending, WantedMemory}
-use Rattle.alaska_run.specs.Faults.{file_in, name_in, IsFault}
+use Rattle.alaska_run.specs.Sources.{Source, source_in, name_in, IsAll, IsFirst, Failed}
+use Rattle.alaska_run.specs.Faults.{IsFault}
 
 -- ---- the text
 
--- the text is all of FILE; or its first bytes, where it has more than a text may have; or none, where FILE couldn't be read
-abbrev pub IsTextOf : Shelved → List ℕ → Type 0
-IsTextOf file text = IsWhole file text ⊎ IsFront file text ⊎ (ReadFailed file × (text ≡ []))
+-- the text is all of its source; or its first bytes, where it has more than a text may have; or none, where it couldn't be read
+abbrev pub IsTextOf : Source → List ℕ → Type 0
+IsTextOf source text = IsAll source text ⊎ IsFirst source text ⊎ (Failed source × (text ≡ []))
 
--- the settings are those of the words, and the text is that of the file that they name
+-- the settings are those of the words, and the text is that of the file that they name or, in mode churn, of their seed and their size
 pub record TheText (words : List (List ℕ)) (file : List ℕ → Shelved) (e : Ending) : Type 0 where
-  pub settings : (option_map wanted_of e.settings ≡ settings_today words) ⊎ WantedMemory e
-  pub text : (name : List ℕ) → file_in e.settings ≡ Some name → IsTextOf (file name) e.text
+  pub settings : (option_map wanted_of e.settings ≡ settings_of words) ⊎ WantedMemory e
+  pub text : (source : Source) → source_in file e.settings ≡ Some source → IsTextOf source e.text
   pub none : e.settings ≡ None → e.text ≡ []
 
 -- ---- the code
@@ -45,9 +46,9 @@ pub record TheText (words : List (List ℕ)) (file : List ℕ → Shelved) (e : 
 -- the code is that of the text: checked code that is safe for moves and that, with its Looks, safepoints and lists and without them, keeps
 -- every turn of the text's typed tree; and the machine's code, which does the same
 pub record IsCodeOf (file : List ℕ → Shelved) (e : Ending) (checked : Ir) (code : LinearCode) : Type 0 where
-  pub name : List ℕ
-  pub names : file_in e.settings ≡ Some name
-  pub whole : IsWhole (file name) e.text
+  pub source : Source
+  pub from : source_in file e.settings ≡ Some source
+  pub whole : IsAll source e.text
   pub typed : Typed
   pub built : IsBuilt e.text typed checked code
 

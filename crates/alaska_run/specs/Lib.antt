@@ -1,4 +1,5 @@
 pub mod Ending
+pub mod Sources
 pub mod Faults
 pub mod Headline
 pub mod Answers

@@ -1,7 +1,8 @@
 //! The call.
 
 ghost use Rattle.std.specs.Prelude.{◌≡◌, [], map, string_bytes, codes, Some, None};
-ghost use Rattle.run_words.specs.Wanted.{settings_today};
+ghost use Rattle.flat_rules.specs.declared.settings.Mode.TheVariants.{Churn};
+ghost use Rattle.run_words.specs.Wanted.{Wanted, settings_of};
 ghost use Rattle.alaska_run.specs.Answers.{Causes, Answers};
 ghost use Rattle.alaska_run.specs.Ending.{ending_view};
 ghost use Rattle.alaska_run.specs.Headline.{Headline};
@@ -89,9 +90,9 @@ fn end_without_memory<O: Sink, N: Sink>(alloc: Global, out: &mut O, note: &mut N
     }
 }
 
-/// Reads the words and FILE, compiles the text, and runs it with as many workers as the words say; then `out` takes what the program
-/// printed, in one piece, and `note` the report, or one line that tells why nothing ran. A worker goes through `gate` before each of its
-/// calls.
+/// Reads the words; reads FILE or, in mode churn, makes the text; compiles it, and runs it with as many workers as the words say. Then `out`
+/// takes what the program printed, in one piece, and `note` the report, or one line that tells why nothing ran. A worker goes through `gate`
+/// before each of its calls.
 ///
 /// Where `out` fails, `note` is not written. Once the world was opened no memory is taken.
 pub fn alaska<R: Threads + Wait + Sync, F: Shelf, O: Sink, N: Sink, G: Gate>(
@@ -116,7 +117,10 @@ pub fn alaska<R: Threads + Wait + Sync, F: Shelf, O: Sink, N: Sink, G: Gate>(
         (channel O.contents O.faults out.old out.new) (channel N.contents N.faults note.old note.new) (ending_view result) }
 
     // With words that are no settings the shelf isn't called.
-    ensures uncalled { settings_today (map string_bytes words.now) ≡ None → shelf.new ≡ shelf.old }
+    ensures uncalled { settings_of (map string_bytes words.now) ≡ None → shelf.new ≡ shelf.old }
+
+    // Nor is it in mode churn.
+    ensures unread { (wanted : Wanted) → settings_of (map string_bytes words.now) ≡ Some wanted → wanted.mode ≡ Churn → shelf.new ≡ shelf.old }
 {
     c_reader::laws::read_each_text_once();
     flat_replay::laws::journals_mean_the_source();

@@ -14,7 +14,7 @@ pub struct Ending {
     pub status: Status,
     /// What the words said.
     pub settings: Option<Settings>,
-    /// The text that was read.
+    /// The text that was read, or made in mode churn.
     pub text: Vec<u8>,
     /// Its code with translations, safepoints and pin lists, safe for moves.
     pub checked: Option<Checked>,

@@ -1,16 +1,17 @@
 //! What comes before a run: the words, the text, its code, and the world that the workers share.
 
-ghost use Rattle.std.specs.Prelude.{◌≡◌, ◌≤◌, [], map, string_bytes, length, unwrap_or, option_map, IfOk, Some, None};
+ghost use Rattle.std.specs.Prelude.{◌≡◌, ◌≤◌, ℕ, List, [], map, string_bytes, length, unwrap_or, option_map, IfOk, Some, None};
 ghost use Rattle.std.specs.Arc.{arc_value};
 ghost use Rattle.c_reader.specs.Reading.{Refuses};
 ghost use Rattle.c_tree.specs.TypedViews.{typed_view};
 ghost use Rattle.struct_ir.specs.LinearViews.{code_view};
 ghost use Rattle.pin_checker.specs.CheckedViews.{code_of};
 ghost use Rattle.c_compile.specs.Built.{IsBuilt};
-ghost use Rattle.run_words.specs.Wanted.{settings_today, wanted_of};
-ghost use Rattle.alaska_run.specs.Faults.{IsFault, name_in};
+ghost use Rattle.run_words.specs.Wanted.{Wanted, settings_of, wanted_of};
+ghost use Rattle.alaska_run.specs.Sources.{name_in};
+ghost use Rattle.alaska_run.specs.Faults.{IsFault};
 ghost use Rattle.alaska_run.specs.Headline.{IsTextOf};
-ghost use Rattle.run_edges.specs.Files.{shelved};
+ghost use Rattle.run_edges.specs.Files.{Shelved, shelved};
 ghost use Rattle.alaska_run.specs.inner.Courses.{IsCourse, IsCourseOf, IsReady, IsStoppedAs};
 
 use ak_io::Shelf;
@@ -18,8 +19,9 @@ use ak_words::NoMemory;
 use ak_world::{SharedWorld, World};
 use c_compile::{Built, compile};
 use c_lex::{CompileFault, Kind};
-use flat_machine::{Context, Program, Settings, Shared};
+use flat_machine::{Context, Mode, Program, Settings, Shared};
 use pin_checker::Checked;
+use run_churn::churn_text;
 use run_edges::{MOST_BYTES, TextRead, read_text};
 use run_notes::{Status, fault_line};
 use run_words::read_settings;
@@ -59,13 +61,23 @@ pub(crate) enum Course {
     Opened(Opened),
 }
 
-// The name that the settings give, or none.
+// The name of the file that the settings give, or none.
 fn file_name(settings: &Settings) -> &str
-    ensures { result.now ≡ name_in (Some settings.now) }
+    ensures { result.now ≡ unwrap_or (wanted_of settings.now).file [] }
 {
     match &settings.file {
         Some(name) => name.as_str(),
         None => "",
+    }
+}
+
+// The name of the text in the line of a fault.
+fn text_name(settings: &Settings) -> &str
+    ensures { result.now ≡ name_in (Some settings.now) }
+{
+    match settings.mode {
+        Mode::Run => file_name(settings),
+        Mode::Churn => "churn",
     }
 }
 
@@ -92,7 +104,7 @@ fn stop_with(
 ) -> Result<Course, NoMemory>
     ensures { IfOk result (IsStoppedAs status (Some settings) text.items) }
 {
-    let line = fault_line(alloc, file_name(&settings), &text, status)?;
+    let line = fault_line(alloc, text_name(&settings), &text, status)?;
     Ok(Course::Stopped(Stopped {
         status,
         settings: Some(settings),
@@ -126,7 +138,7 @@ fn open_world(
     })
 }
 
-// A text that was read whole.
+// A text that is all of its source.
 fn compile_text(alloc: Global, settings: Settings, text: Vec<u8>) -> Result<Course, NoMemory>
     requires { length text.items ≤ 1048576 }
     ensures { IfOk result (IsCourseOf settings text.items) }
@@ -151,18 +163,15 @@ fn compile_text(alloc: Global, settings: Settings, text: Vec<u8>) -> Result<Cour
     }
 }
 
-/// Reads the words and the file, compiles the text and opens the world.
-pub(crate) fn prepare<F: Shelf>(
+// The file that settings of mode run name, compiled, and the world opened.
+fn prepare_file<F: Shelf>(
     alloc: Global,
-    words: &[String],
+    settings: Settings,
     shelf: &mut F,
 ) -> Result<Course, NoMemory>
-    ensures course { IfOk result (IsCourse (map string_bytes words.now) (shelved F.contents F.faults shelf.old shelf.new)) }
-    ensures uncalled { settings_today (map string_bytes words.now) ≡ None → shelf.new ≡ shelf.old }
+    requires { settings.mode ≡ Mode.Run }
+    ensures { (words : List (List ℕ)) → settings_of words ≡ Some (wanted_of settings) → IfOk result (IsCourse words (shelved F.contents F.faults shelf.old shelf.new)) }
 {
-    let Some(settings) = read_settings(alloc, words)? else {
-        return stopped_by_words(alloc);
-    };
     match read_text(alloc, shelf, file_name(&settings))? {
         TextRead::Whole(text) => compile_text(alloc, settings, text),
         TextRead::Front(text) => {
@@ -174,5 +183,37 @@ pub(crate) fn prepare<F: Shelf>(
             )
         }
         TextRead::Fault => stop_with(alloc, settings, Vec::new(alloc), Status::ReadFault),
+    }
+}
+
+// The text of settings of mode churn, compiled, and the world opened.
+fn prepare_churn(alloc: Global, settings: Settings) -> Result<Course, NoMemory>
+    requires { settings.mode ≡ Mode.Churn }
+    ensures { (words : List (List ℕ)) (file : List ℕ → Shelved) → settings_of words ≡ Some (wanted_of settings) → IfOk result (IsCourse words file) }
+{
+    let text = churn_text(
+        alloc,
+        settings.seed.unwrap_or(0),
+        settings.size.unwrap_or(1),
+    )?;
+    compile_text(alloc, settings, text)
+}
+
+/// Reads the words, then reads the file or, in mode churn, makes the text; compiles it and opens the world.
+pub(crate) fn prepare<F: Shelf>(
+    alloc: Global,
+    words: &[String],
+    shelf: &mut F,
+) -> Result<Course, NoMemory>
+    ensures course { IfOk result (IsCourse (map string_bytes words.now) (shelved F.contents F.faults shelf.old shelf.new)) }
+    ensures uncalled { settings_of (map string_bytes words.now) ≡ None → shelf.new ≡ shelf.old }
+    ensures unread { (wanted : Wanted) → settings_of (map string_bytes words.now) ≡ Some wanted → wanted.mode ≡ Mode.Churn → shelf.new ≡ shelf.old }
+{
+    let Some(settings) = read_settings(alloc, words)? else {
+        return stopped_by_words(alloc);
+    };
+    match settings.mode {
+        Mode::Run => prepare_file(alloc, settings, shelf),
+        Mode::Churn => prepare_churn(alloc, settings),
     }
 }

@@ -63,9 +63,13 @@ fn wrong_words(rt: HostRuntime) -> Result<(), Fail> {
     Ok(())
 }
 
-// There is no call for this mode yet.
 #[test]
 fn mode_churn(rt: HostRuntime) -> Result<(), Fail> {
-    are_wrong(&rt, rt.alloc(), "--mode churn --seed 1 --size 3")?;
+    let settings = wanted(rt.alloc(), "--mode churn --seed 1 --size 3")?.ok_or("wrong words")?;
+    assert!(rt; settings.mode == Mode::Churn);
+    assert!(rt; settings.file.is_none());
+    assert_eq!(rt; settings.seed, Some(1));
+    assert_eq!(rt; settings.size, Some(3));
+    are_wrong(&rt, rt.alloc(), "a.c --mode churn --seed 1 --size 3")?;
     Ok(())
 }

@@ -4,7 +4,7 @@ use Rattle.clap.proofs.OnLiterals.{clap_on_literals}
 use Rattle.flat_rules.specs.declared.settings.Mode.TheVariants.{Run, Churn}
 use Rattle.run_words.specs.Numbers.{number_in}
 use Rattle.run_words.specs.Command.{alaska, are_taken, value_in}
-use Rattle.run_words.specs.Wanted.{Wanted, settings_of, settings_today, wanted_by}
+use Rattle.run_words.specs.Wanted.{Wanted, settings_of, wanted_by}
 
 -- the program's own name, and more words
 abbrev pub called : List (List ℕ) → List (List ℕ)
@@ -53,17 +53,10 @@ pub file_behind_dashes : settings_of (called (codes "--" ∷ codes "--help" ∷ 
 unfolding settings_of are_taken alaska value_in wanted_by number_in clap_on_literals
 file_behind_dashes = refl
 
--- words of mode churn, for which there is no call today
-abbrev pub churn_words : List (List ℕ)
-churn_words = called (codes "--mode" ∷ codes "churn" ∷ codes "--seed" ∷ codes "1" ∷ codes "--size" ∷ codes "3" ∷ [])
-
-pub churn : settings_of churn_words ≡ Some (record plain { file = None; mode = Churn; seed = Some 1; size = Some 3 })
+-- mode churn has no file
+pub churn : settings_of (called (codes "--mode" ∷ codes "churn" ∷ codes "--seed" ∷ codes "1" ∷ codes "--size" ∷ codes "3" ∷ [])) ≡ Some (record plain { file = None; mode = Churn; seed = Some 1; size = Some 3 })
 unfolding settings_of are_taken alaska value_in wanted_by number_in clap_on_literals
 churn = refl
-
-pub churn_today : settings_today churn_words ≡ None
-unfolding settings_today settings_of are_taken alaska value_in wanted_by number_in clap_on_literals
-churn_today = refl
 
 -- wrong words: no file, a number out of its range, no power of two, a mode without its options
 abbrev pub wrong_words : List (List (List ℕ))

@@ -1,5 +1,5 @@
 -- What the words of a command line want.
-use Rattle.std.specs.Prelude.{ℕ, ◌*◌, ◌&&◌, Bool, true, false, List, codes, nat_le, Option, Some, None, is_none, is_some, option_and_then, option_map, string_bytes, if◌then◌else◌}
+use Rattle.std.specs.Prelude.{ℕ, ◌*◌, ◌&&◌, Bool, List, codes, nat_le, Option, Some, None, is_none, is_some, option_and_then, option_map, string_bytes, if◌then◌else◌}
 use Rattle.std.specs.Str.{bytes_eq}
 use Rattle.flat_rules.specs.Ranges.{is_sub_heap_size}
 use Rattle.flat_rules.specs.declared.settings.Mode.{Mode}
@@ -103,11 +103,3 @@ only_if test (Some w) = if test w then Some w else None
 -- what the words of a command line want, of which the first is the program's own name; none where they are wrong
 unfoldable pub settings_of : List (List ℕ) → Option Wanted
 settings_of words = if are_taken words then only_if fits_mode (only_if has_bounded_heap (wanted_by (value_in words))) else None
-
-abbrev pub is_run : Mode → Bool
-is_run Run = true
-is_run Churn = false
-
--- the same, of the one mode whose call there is today
-unfoldable pub settings_today : List (List ℕ) → Option Wanted
-settings_today words = only_if (λ w. is_run w.mode) (settings_of words)

@@ -1,7 +1,7 @@
 ghost use Rattle.std.specs.Prelude.{◌≡◌, map, string_bytes, option_map, codes, IfOk};
 ghost use Rattle.clap.specs.Matches.{first_value, found_of};
 ghost use Rattle.flat_rules.specs.Ranges.{is_sub_heap_size};
-ghost use Rattle.run_words.specs.Wanted.{fits_mode, has_bounded_heap, is_run, mode_or_run, only_if, settings_of, settings_today, wanted_by, wanted_of};
+ghost use Rattle.run_words.specs.Wanted.{fits_mode, has_bounded_heap, mode_or_run, only_if, settings_of, wanted_by, wanted_of};
 
 use crate::command::parse;
 use crate::numbers::Bounds;
@@ -118,33 +118,12 @@ fn settings_by(alloc: Global, matches: &ArgMatches) -> Result<Option<Settings>, 
     }
 }
 
-// The settings that the words want, in any mode.
-fn settings_of(alloc: Global, words: &[String]) -> Result<Option<Settings>, NoMemory>
+/// The settings that the words of a command line want, of which the first is the program's own name; none exactly where the words are wrong.
+pub fn read_settings(alloc: Global, words: &[String]) -> Result<Option<Settings>, NoMemory>
     ensures { IfOk result (λ r. option_map wanted_of r ≡ settings_of (map string_bytes words.now)) }
 {
     match parse(alloc, words)? {
         Some(matches) => settings_by(alloc, &matches),
         None => Ok(None),
     }
-}
-
-// The settings, where they are of mode run.
-fn only_run(settings: Option<Settings>) -> Option<Settings>
-    ensures { option_map wanted_of result ≡ only_if (λ w. is_run w.mode) (option_map wanted_of settings) }
-{
-    let settings = settings?;
-    match settings.mode {
-        Mode::Run => Some(settings),
-        Mode::Churn => None,
-    }
-}
-
-/// The settings that the words of a command line want, of which the first is the program's own name; none exactly where the words are wrong or want the
-/// mode for which there is no call yet.
-#[tactic(auto, unfolding(crate::specs::Wanted::settings_today))]
-pub fn read_settings(alloc: Global, words: &[String]) -> Result<Option<Settings>, NoMemory>
-    ensures { IfOk result (λ r. option_map wanted_of r ≡ settings_today (map string_bytes words.now)) }
-{
-    let settings = settings_of(alloc, words)?;
-    Ok(only_run(settings))
 }

@@ -20,7 +20,7 @@ use Rattle.flat_machine.specs.Replays.{Final, final_at, replay}
 use Rattle.flat_replay.specs.Barriers.{BarriersKeep}
 use Rattle.flat_threads.specs.Contexts.{Context, IsProgram}
 use Rattle.world_rules.specs.Whole.{Whole}
-use Rattle.run_words.specs.Wanted.{settings_today, wanted_of}
+use Rattle.run_words.specs.Wanted.{settings_of, wanted_of}
 use Rattle.alaska_run.specs.declared.preparing.Course.{Course}
 use Rattle.alaska_run.specs.declared.preparing.Course.TheVariants as courses
 use Rattle.alaska_run.specs.declared.preparing.Opened.{Opened}
@@ -28,17 +28,18 @@ use Rattle.alaska_run.specs.declared.preparing.Stopped.{Stopped}
 use Rattle.alaska_run.specs.declared.running.Ran.{Ran}
 use Rattle.run_notes.specs.declared.status.Status.{Status}
 use Rattle.run_notes.specs.declared.status.Status.TheVariants as statuses
-use Rattle.alaska_run.specs.Faults.{file_in, name_in, IsFault}
+use Rattle.alaska_run.specs.Sources.{Source, source_of, source_in, name_in, IsAll}
+use Rattle.alaska_run.specs.Faults.{IsFault}
 use Rattle.alaska_run.specs.Headline.{IsTextOf}
 use Rattle.run_notes.specs.Lines.{fault_line}
-use Rattle.run_edges.specs.Files.{Shelved, IsWhole}
+use Rattle.run_edges.specs.Files.{Shelved}
 use Rattle.run_notes.specs.Reports.{report_text}
 use Rattle.run_notes.specs.Statuses.{status_of}
 
 -- a call that comes to no run
 pub record IsStopped (words : List (List ℕ)) (file : List ℕ → Shelved) (x : Stopped) : Type 0 where
-  pub settings : option_map wanted_of x.settings ≡ settings_today words
-  pub text : (name : List ℕ) → file_in x.settings ≡ Some name → IsTextOf (file name) x.text.items
+  pub settings : option_map wanted_of x.settings ≡ settings_of words
+  pub text : (source : Source) → source_in file x.settings ≡ Some source → IsTextOf source x.text.items
   pub none : x.settings ≡ None → x.text.items ≡ []
   pub fault : IsFault words file x.settings x.text.items x.status
   pub line : x.line.items ≡ fault_line (name_in x.settings) x.text.items x.status
@@ -59,12 +60,12 @@ pub record IsReady (x : Opened) : Type 0 where
   pub empty : x.line.items ≡ []
   pub room : 1024 ≤ vec_capacity x.line
 
--- the text of FILE is compiled, and the world opened
+-- the text of a source is compiled, and the world opened
 pub record IsOpened (words : List (List ℕ)) (file : List ℕ → Shelved) (x : Opened) : Type 0 where
-  pub settings : settings_today words ≡ Some (wanted_of x.settings)
-  pub name : List ℕ
-  pub names : (wanted_of x.settings).file ≡ Some name
-  pub whole : IsWhole (file name) x.text.items
+  pub settings : settings_of words ≡ Some (wanted_of x.settings)
+  pub source : Source
+  pub from : source_of file (wanted_of x.settings) ≡ Some source
+  pub whole : IsAll source x.text.items
   pub typed : Typed
   pub built : IsBuilt x.text.items typed (code_of x.checked) (arc_value x.code)
   pub ready : IsReady x

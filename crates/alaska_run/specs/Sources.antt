@@ -1,0 +1,61 @@
+-- Where the text of a call comes from: in mode run from the file that the words name, in mode churn from their seed and their size.
+use Rattle.std.specs.Prelude.{◌≡◌, ℕ, ◌≤◌, List, [], length, Option, Some, None, codes, unwrap_or, option_and_then}
+use Rattle.std.specs.Option.{option_map}
+use Rattle.flat_rules.specs.declared.settings.Mode.{Mode}
+use Rattle.flat_rules.specs.declared.settings.Mode.TheVariants.{Run, Churn}
+use Rattle.flat_rules.specs.declared.settings.Settings.{Settings}
+use Rattle.run_words.specs.Wanted.{Wanted, wanted_of}
+use Rattle.run_churn.specs.Text as churn
+use Rattle.run_edges.specs.Files.{Shelved, ReadFailed, IsWhole, IsFront, most_bytes}
+
+-- a file that is read, or a text that is made
+pub data Source : Type 0 where
+  Read : Shelved → Source
+  Made : List ℕ → Source
+
+-- the text of a seed and a size
+abbrev pub churned : Option ℕ → Option ℕ → Option Source
+churned (Some seed) (Some size) = Some (Made (churn.text seed size))
+churned _ _ = None
+
+-- what a mode has the text come from
+abbrev pub source_by : Mode → (List ℕ → Shelved) → Wanted → Option Source
+source_by Run file w = option_map (λ name. Read (file name)) w.file
+source_by Churn file w = churned w.seed w.size
+
+abbrev pub source_of : (List ℕ → Shelved) → Wanted → Option Source
+source_of file w = source_by w.mode file w
+
+-- what the settings have it come from
+abbrev pub source_in : (List ℕ → Shelved) → Option Settings → Option Source
+source_in file settings = option_and_then (λ s. source_of file (wanted_of s)) settings
+
+-- its name in the line of a fault: that of the file, or `churn`
+abbrev pub name_by : Mode → Wanted → List ℕ
+name_by Run w = unwrap_or w.file []
+name_by Churn w = codes "churn"
+
+-- and none without settings
+abbrev pub name_in : Option Settings → List ℕ
+name_in None = []
+name_in (Some s) = name_by s.mode (wanted_of s)
+
+-- these are the bytes of it: what the shelf tells of a file, or what was made
+abbrev pub Tells : Source → List ℕ → Type 0
+Tells (Read file) bytes = file.told ≡ Some bytes
+Tells (Made made) bytes = made ≡ bytes
+
+-- the text is all of it
+abbrev pub IsAll : Source → List ℕ → Type 0
+IsAll (Read file) text = IsWhole file text
+IsAll (Made made) text = (length text ≤ most_bytes) × (text ≡ made)
+
+-- it has more bytes than a text may have, of which the text is the first
+abbrev pub IsFirst : Source → List ℕ → Type 0
+IsFirst (Read file) text = IsFront file text
+IsFirst (Made made) text = ⊥
+
+-- a read of it failed
+abbrev pub Failed : Source → Type 0
+Failed (Read file) = ReadFailed file
+Failed (Made made) = ⊥
