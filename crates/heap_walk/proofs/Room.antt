@@ -117,6 +117,7 @@ module _ (instrs : List Instr) (shrinks : Shrinks (flow instrs)) (ns : Nodes) (f
           let many = d.entries in
           let enough : nat_lt z.spare 66 ≡ false = grind (arith, nat_tests, short, kept, many, few) in
           record {
+            short = omega (arith, short, few);
             ends_so = λ end q. ends_so z.ending (nat_lt z.spare 66) (is_blocked (machine_of code) (rules_of s) z) end h.ends enough (ap (λ (g : Final). g.end) same ∙ q);
             gets = gets (order log) h.got_first;
           }

@@ -1,5 +1,5 @@
 -- What the machine makes of the text's code under the default settings: its journals and its stack have room, and its malloc gets an object.
-use Rattle.std.specs.Prelude.{◌≡◌, List, Some, None, true}
+use Rattle.std.specs.Prelude.{◌≡◌, ◌≤◌, List, length, Some, None, true}
 use Rattle.ak_trace.specs.declared.entry.Entry.{Entry}
 use Rattle.struct_ir.specs.Nodes.{Ir}
 use Rattle.struct_ir.specs.Erased.{ir_erased}
@@ -50,6 +50,7 @@ NotFull (ends.StackLimit thread) = ⊥
 
 -- a journal that replays to this last state
 pub record HasRoom (log : List Entry) (f : Final) : Type 0 where
+  pub short : length log ≤ 12
   pub ends_so : (end : End) → f.end ≡ Some end → NotFull end
   pub gets : BeginsWithNull (journal_picks log) → ⊥
 
