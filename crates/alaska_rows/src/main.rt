@@ -21,6 +21,7 @@ const ROOM: usize = 1_000_000;
 
 // The words of a call behind the program's own name, and which lines of note are shown, by how they begin: all, or those that no order of
 // the workers changes.
+#[derive(Clone, Copy)]
 struct Row(&'static str, &'static str);
 
 const ROWS: [Row; 35] = [
@@ -73,6 +74,12 @@ const ROWS: [Row; 35] = [
     Row("alaska large_local.c", "ended entries"),
     Row("alaska integers.c", "ended"),
 ];
+
+// The call that is made twice: what it writes is the same at each.
+const TWICE: Row = Row(
+    "alaska --mode churn --seed 1 --size 4000 --workers 2 --every 1000",
+    "ended threads live",
+);
 
 // The call whose journal is replayed.
 const REPLAYED: &str = "alaska heap.c";
@@ -128,6 +135,14 @@ fn show(rt: &HostRuntime, row: &Row, shown: &Shown) -> io::Result<()> {
     print!(rt; "{}", str::from_utf8(shown.out.bytes()).unwrap_or("?"))?;
     show_lines(rt, shown.note.bytes(), row.1)?;
     println!(rt; "status {}", shown.ending.status.number())
+}
+
+// A call, and whether one more of the same words wrote the same.
+fn show_twice(rt: &HostRuntime, first: &Shown, second: &Shown) -> io::Result<()> {
+    show(rt, &TWICE, first)?;
+    let out = first.out.bytes() == second.out.bytes();
+    let note = first.note.bytes() == second.note.bytes();
+    println!(rt; "again: the same out {out}, the same note {note}")
 }
 
 // A journal's entries from one on, up to another.
@@ -188,6 +203,13 @@ fn main(rt: HostRuntime) -> io::Result<()> {
             Ok(shown) => show(&rt, row, &shown)?,
             Err(NoMemory) => println!(rt; "no memory")?,
         }
+    }
+    match (
+        call(&rt, rt.alloc(), TWICE.0),
+        call(&rt, rt.alloc(), TWICE.0),
+    ) {
+        (Ok(first), Ok(second)) => show_twice(&rt, &first, &second)?,
+        _ => println!(rt; "no memory")?,
     }
     match call(&rt, rt.alloc(), REPLAYED) {
         Ok(shown) => show_replays(&rt, &shown),
