@@ -3,12 +3,13 @@
 //! Stands on alaska_run, over real files and sinks in memory.
 #![tactic(auto)]
 
+mod replays;
+
+use crate::replays::{show_replays, show_thinned};
 use ak_crew::NoGate;
 use ak_io::{FileShelf, MemSink};
-use ak_trace::Journal;
 use ak_words::NoMemory;
 use alaska_run::{Ending, alaska};
-use flat_replay::{Final, replay_run};
 use std::alloc::{AllocError, Global};
 use std::fs::Files;
 use std::io;
@@ -24,7 +25,7 @@ const ROOM: usize = 1_000_000;
 #[derive(Clone, Copy)]
 struct Row(&'static str, &'static str);
 
-const ROWS: [Row; 35] = [
+const ROWS: [Row; 38] = [
     Row("alaska nothing.c", "all"),
     Row("alaska answer.c", "all"),
     Row("alaska heap.c", "ended live"),
@@ -73,6 +74,8 @@ const ROWS: [Row; 35] = [
     Row("alaska endless_calls.c", "ended"),
     Row("alaska large_local.c", "ended entries"),
     Row("alaska integers.c", "ended"),
+    Row("alaska fragmented.c", "all"),
+    Row("alaska fragmented.c --every 100", "all"),
 ];
 
 // The call that is made twice: what it writes is the same at each.
@@ -81,8 +84,10 @@ const TWICE: Row = Row(
     "ended threads live",
 );
 
-// The call whose journal is replayed.
+// The call whose journal is replayed whole, and that whose journal is replayed without one of its first entries.
 const REPLAYED: &str = "alaska heap.c";
+
+const THINNED: &str = "alaska counter.c --workers 2 --every 8";
 
 // The words between blanks.
 fn words_of(alloc: Global, row: &str) -> Result<Vec<String>, AllocError> {
@@ -145,58 +150,6 @@ fn show_twice(rt: &HostRuntime, first: &Shown, second: &Shown) -> io::Result<()>
     println!(rt; "again: the same out {out}, the same note {note}")
 }
 
-// A journal's entries from one on, up to another.
-fn part(alloc: Global, journal: &Journal, from: u32, to: u32) -> Result<Journal, NoMemory> {
-    let mut part = Journal::with_limit(alloc, journal.len())?;
-    for i in from..to {
-        match journal.get(i) {
-            Some(e) if part.spare() > 0 => part.push(e),
-            _ => {}
-        }
-    }
-    Ok(part)
-}
-
-// What a part of the ending's journal comes to: all but so many of the first entries, and of the last.
-fn replayed(
-    alloc: Global,
-    ending: &Ending,
-    first: u32,
-    last: u32,
-) -> Result<Option<Final>, NoMemory> {
-    let (Some(code), Some(settings), Some(kept)) = (&ending.code, &ending.settings, &ending.journal)
-    else {
-        return Ok(None);
-    };
-    let journal = kept.journal();
-    let part = part(alloc, journal, first, journal.len().saturating_sub(last))?;
-    replay_run(alloc, code, settings, &part)
-}
-
-fn show_replay(rt: &HostRuntime, told: &Result<Option<Final>, NoMemory>) -> io::Result<()> {
-    match told {
-        Ok(Some(done)) => {
-            print!(rt; "{}", str::from_utf8(&done.output).unwrap_or("?"))?;
-            match done.end {
-                Some(end) => println!(rt; "{end:?}"),
-                None => println!(rt; "no end"),
-            }
-        }
-        Ok(None) => println!(rt; "none"),
-        Err(NoMemory) => println!(rt; "no memory"),
-    }
-}
-
-// The journal of a run, then without its last entry, and without its first.
-fn show_replays(rt: &HostRuntime, shown: &Shown) -> io::Result<()> {
-    println!(rt; "> the journal of {REPLAYED}")?;
-    show_replay(rt, &replayed(rt.alloc(), &shown.ending, 0, 0))?;
-    println!(rt; "> without its last entry")?;
-    show_replay(rt, &replayed(rt.alloc(), &shown.ending, 0, 1))?;
-    println!(rt; "> without its first entry")?;
-    show_replay(rt, &replayed(rt.alloc(), &shown.ending, 1, 0))
-}
-
 fn main(rt: HostRuntime) -> io::Result<()> {
     for row in &ROWS {
         match call(&rt, rt.alloc(), row.0) {
@@ -212,7 +165,11 @@ fn main(rt: HostRuntime) -> io::Result<()> {
         _ => println!(rt; "no memory")?,
     }
     match call(&rt, rt.alloc(), REPLAYED) {
-        Ok(shown) => show_replays(&rt, &shown),
+        Ok(shown) => show_replays(&rt, REPLAYED, &shown.ending)?,
+        Err(NoMemory) => println!(rt; "no memory")?,
+    }
+    match call(&rt, rt.alloc(), THINNED) {
+        Ok(shown) => show_thinned(&rt, THINNED, &shown.ending),
         Err(NoMemory) => println!(rt; "no memory"),
     }
 }
