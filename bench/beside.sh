@@ -8,15 +8,8 @@
 # It measures bin/alaska, which ./prove builds, or crates/alaska/out/alaska as `rt ci` left it in this checkout.
 set -eu
 here=$(cd "$(dirname "$0")/.." && pwd)
-program=
-for it in "$here/bin/alaska" "$here/crates/alaska/out/alaska"; do
-  [ -x "$it" ] && program=$it && break
-done
-[ -n "$program" ] || { echo "bench/beside.sh: there is no proved program; ./prove builds it" >&2; exit 1; }
 command -v gcc >/dev/null || { echo "bench/beside.sh: gcc is not on the path" >&2; exit 1; }
-work=$(mktemp -d)
-trap 'rm -rf "$work"' EXIT
-cd "$work"
+. "$here/bench/program.sh"
 headers=(-include stdio.h -include stdlib.h -include string.h -include threads.h)
 
 seconds() { # out command..: the least seconds of three runs of a command that ends with 0

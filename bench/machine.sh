@@ -6,14 +6,7 @@
 # It measures crates/alaska/out/alaska as `rt ci` left it in this checkout, or bin/alaska, which ./prove builds.
 set -eu
 here=$(cd "$(dirname "$0")/.." && pwd)
-program=
-for it in "$here/bin/alaska" "$here/crates/alaska/out/alaska"; do
-  [ -x "$it" ] && program=$it && break
-done
-[ -n "$program" ] || { echo "bench/machine.sh: there is no proved program; ./prove builds it" >&2; exit 1; }
-work=$(mktemp -d)
-trap 'rm -rf "$work"' EXIT
-cd "$work"
+. "$here/bench/program.sh"
 
 seconds() { # words..: the seconds that a run takes
   local start end

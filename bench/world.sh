@@ -5,14 +5,7 @@
 # It measures bin/alaska, which ./prove builds, or crates/alaska/out/alaska as `rt ci` left it in this checkout.
 set -eu
 here=$(cd "$(dirname "$0")/.." && pwd)
-program=
-for it in "$here/bin/alaska" "$here/crates/alaska/out/alaska"; do
-  [ -x "$it" ] && program=$it && break
-done
-[ -n "$program" ] || { echo "bench/world.sh: there is no proved program; ./prove builds it" >&2; exit 1; }
-work=$(mktemp -d)
-trap 'rm -rf "$work"' EXIT
-cd "$work"
+. "$here/bench/program.sh"
 
 cat >alone.c <<'C'
 int go(void *v){int s=0;for(int i=0;i<5000000;i++)s=s^i;return s;}
