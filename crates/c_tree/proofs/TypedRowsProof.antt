@@ -1,13 +1,13 @@
 -- The worked rows, computed.
-use Rattle.std.proofs.Common.{◌≡◌, ℕ, ◌<◌, pos, Some, None, refl, ap, lit≤, lit<, arith}
+use Rattle.std.proofs.Common.{◌≡◌, ℕ, ◌<◌, pos, Some, None, refl, ap, subst, lit≤, lit<, arith, inl, inr, slice_get, [], ◌∷◌}
 use Rattle.std.proofs.lemmas.Int.{ints}
 use Rattle.ak_words.specs.declared.int_type.IntType.{IntType}
 use Rattle.ak_words.specs.IntType.{char, int, IsInRange}
 use Rattle.std.specs.Fmt.{digits}
 use Rattle.ak_words.specs.Wrapped.{residue}
-use Rattle.c_tree.specs.Typed.{Expr, at, integer, local}
-use Rattle.c_tree.specs.TypedForm.{IsTyped, context_of, IsWellFormed}
-use Rattle.c_tree.specs.TypedRows.{TypedRowsHold, func, program}
+use Rattle.c_tree.specs.Typed.{Expr, at, integer, array, structure, local, Layout}
+use Rattle.c_tree.specs.TypedForm.{IsTyped, context_of, IsTarget, LiesIn, as_part, deeper, IsWellFormed}
+use Rattle.c_tree.specs.TypedRows.{TypedRowsHold, func, program, named, in_a_circle}
 
 in_range : (n : ℕ) → n < 100 → IsInRange int (pos n)
 in_range n h = (omega (arith, ints), omega (arith, ints))
@@ -16,9 +16,23 @@ in_range n h = (omega (arith, ints), omega (arith, ints))
 abbrev of_e : (e : Expr) → IsWellFormed (program e) → IsTyped (context_of (program e) (func e)) e
 of_e e w = w.funcs.0.body.1.0.0.0
 
+nothing_apart : (n : ℕ) → LiesIn [] n n → ⊥
+nothing_apart n h = by n n h
+  where
+    none : (n : ℕ) (l : Layout) → slice_get [] n ≡ Some l → ⊥
+    none n l e = cc
+
+    by : (m n : ℕ) → LiesIn [] m n → ⊥
+    by m n (as_part p) = none n p.0 p.1
+    by m n (deeper {k} p r) = none k p.0 p.1
+
+in_circle : LiesIn in_a_circle 0 0
+in_circle = deeper {k = 1} (_, refl, (0, (structure 0, refl, refl))) (as_part (_, refl, (0, (array (structure 1) 1, refl, refl))))
+
 accepted : IsWellFormed (program (at 31 (integer int) (local 0)))
 accepted = record {
   structs = tt;
+  apart = nothing_apart;
   globals = tt;
   literals = tt;
   funcs = (
@@ -56,4 +70,17 @@ typed_rows_hold = record {
   no_such_local = λ w. let h = of_e _ w in let e : None ≡ Some h.0 = h.1 in absurd cc;
   no_such_global = λ w. let e : None ≡ Some (integer int) = of_e _ w in absurd cc;
   not_promoted = λ w. let e : int ≡ char = w.funcs.0.body.1.0.0.2.0 in let h : 32 ≡ 8 = ap (λ (t : IntType). t.bits) e in absurd (omega arith);
+  of_void = ((tt, refl, inr tt), tt, refl);
+  of_named = ((tt, refl, inr refl), tt, refl);
+  of_array = (tt, refl, inl ((lit< tt, lit< tt, lit≤ tt), lit< tt, lit≤ tt));
+  of_no_array = λ h. no_array h.2;
+  copy = ((tt, refl, inl (lit< tt, lit< tt, lit≤ tt)), (tt, refl, inl (lit< tt, lit< tt, lit≤ tt)), tt, refl, (lit< tt, lit< tt, lit≤ tt));
+  no_copy = λ h. absurd (omega (arith, h.4.1));
+  laid_in_itself = record { sized = ((lit< tt, lit< tt, lit≤ tt), tt); laid = refl; few = lit≤ tt; small = lit≤ tt };
+  not_in_itself = λ t e w. subst (λ s. (n : ℕ) → LiesIn s n n → ⊥) e w.apart 0 (as_part (_, refl, (0, (structure 0, refl, refl))));
+  not_in_a_circle = λ t e w. subst (λ s. (n : ℕ) → LiesIn s n n → ⊥) e w.apart 0 in_circle;
 }
+  where
+    no_array : IsTarget (named ∷ []) (array (structure 0) 2) → ⊥
+    no_array (inl h) = absurd (omega (arith, h.0.1))
+    no_array (inr h) = h

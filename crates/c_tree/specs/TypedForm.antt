@@ -12,7 +12,7 @@ use Rattle.c_tree.specs.Typed.{Expr, at, ExprNode, num, null, literal, global, l
 use Rattle.c_tree.specs.Typed.{pointer_add, pointer_sub, pointer_diff, pointer_compare, pointer_test, call, lib, Exprs, no_exprs, more_exprs, type_of, node_of}
 use Rattle.c_tree.specs.Typed.{Stmt, at_stmt, StmtNode, block, declare, if_, if_else, while_, for_, break_, continue_, return_, assign, update, evaluate, empty, Stmts, no_stmts, more_stmts}
 use Rattle.c_tree.specs.Typed.{Init, zero_bytes, number, literal_at, GlobalVar, Local, Func, Typed}
-use Rattle.c_tree.specs.TypedLayout.{greatest_object, size_in, IsSized, laid_out}
+use Rattle.c_tree.specs.TypedLayout.{greatest_object, layout_size, size_in, IsSized, laid_out}
 
 -- ---- types
 
@@ -49,6 +49,17 @@ abbrev pub MovesPointer : List Layout → (a b ty : Ty) → Type 0
 MovesPointer structs (pointer s) (integer t) ty = IsSized structs s × (ty ≡ pointer s)
 MovesPointer structs (integer t) (pointer s) ty = IsSized structs s × (ty ≡ pointer s)
 MovesPointer structs a b ty = ⊥
+
+-- a type without a size, to which a pointer may lead for all that: void, and a struct that isn't declared (6.2.5 p19, p22)
+abbrev pub IsIncomplete : List Layout → Ty → Type 0
+IsIncomplete structs void = Unit {0}
+IsIncomplete structs (structure n) = layout_size (slice_get structs n) ≡ 0
+IsIncomplete structs t = ⊥
+
+-- what `*` may designate: an object, whose type has a size, or what has no size and of which only the address may be taken
+-- (6.5.3.2 p3, p4)
+abbrev pub IsTarget : List Layout → Ty → Type 0
+IsTarget structs t = IsSized structs t ⊎ IsIncomplete structs t
 
 -- at least 32 bits
 abbrev pub IsPromoted : IntType → Type 0
@@ -188,7 +199,7 @@ abbrev mutual
   IsTypedNode c ty (literal n) = IsNth c.literals n (λ bs. ty ≡ array (integer char) (length bs))
   IsTypedNode c ty (global n) = slice_get c.globals n ≡ Some ty
   IsTypedNode c ty (local n) = IsNth c.locals n (λ l. l.ty ≡ ty)
-  IsTypedNode c ty (deref e) = IsTyped c e × (type_of e ≡ pointer ty)
+  IsTypedNode c ty (deref e) = IsTyped c e × (type_of e ≡ pointer ty) × IsTarget c.structs ty
   IsTypedNode c ty (member e m) = IsTyped c e × IsLvalue (node_of e) × IsMember c.structs (type_of e) m ty
   IsTypedNode c ty (address_of e) = IsTyped c e × IsInMemory c (node_of e) × (ty ≡ pointer (type_of e))
   IsTypedNode c ty (decay e) = IsTyped c e × IsInMemory c (node_of e) × ((t : Ty) × (n : ℕ) × (type_of e ≡ array t n) × (ty ≡ pointer t))
@@ -267,6 +278,7 @@ abbrev mutual
   IsWellNode f in_loop continue_ = in_loop ≡ true
   IsWellNode f in_loop (return_ value) = IsReturned f.context f.result value
   IsWellNode f in_loop (assign left right) = IsTyped f.context left × IsTyped f.context right × IsLvalue (node_of left) × Fits (type_of right) (type_of left)
+      × IsSized f.context.structs (type_of left)
   IsWellNode f in_loop (update left op right) = IsTyped f.context left × IsTyped f.context right × IsLvalue (node_of left)
       × CanUpdate f.context.structs op (type_of left) (type_of right)
   IsWellNode f in_loop (evaluate e) = IsTyped f.context e
@@ -317,6 +329,21 @@ pub record IsLayout (structs : List Layout) (l : Layout) : Type 0 where
   pub few : length l.types ≤ 256
   pub small : l.size ≤ greatest_object
 
+-- an object of this type is an object of that struct, or an array of such, however deep
+abbrev pub HoldsStruct : Ty → ℕ → Type 0
+HoldsStruct (structure n) m = n ≡ m
+HoldsStruct (array t size) m = HoldsStruct t m
+HoldsStruct t m = ⊥
+
+-- struct m is a member of struct n, or the element of a member that is an array
+abbrev pub IsPart : List Layout → (m n : ℕ) → Type 0
+IsPart structs m n = IsNth structs n (λ l. (k : ℕ) × IsNth l.types k (λ t. HoldsStruct t m))
+
+-- a struct lies in another, by their numbers: it is a part of it, or of one that lies in it
+pub data LiesIn (structs : List Layout) : ℕ → ℕ → Type 0 where
+  as_part : {m n : ℕ} → IsPart structs m n → LiesIn structs m n
+  deeper : {m k n : ℕ} → IsPart structs m k → LiesIn structs k n → LiesIn structs m n
+
 -- what a global of this type may hold at the start
 abbrev pub IsInit : List (List ℕ) → Ty → Init → Type 0
 IsInit literals t zero_bytes = Unit {0}
@@ -343,6 +370,8 @@ IsMain f = (f.params ≡ 0) × (f.result ≡ integer int)
 -- a program is well formed: each part of it is, main is there, and no count passes its limit (this project's profile)
 pub record IsWellFormed (t : Typed) : Type 0 where
   pub structs : AllByRecursion (IsLayout t.structs) t.structs
+  -- no struct lies in itself (C11 6.7.2.1 p3)
+  pub apart : (n : ℕ) → LiesIn t.structs n n → ⊥
   pub globals : AllByRecursion (IsGlobal t) t.globals
   -- a literal has a zero byte at its end, and so at least one
   pub literals : AllByRecursion (λ bs. 0 < length bs) t.literals

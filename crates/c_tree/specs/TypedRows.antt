@@ -2,9 +2,9 @@
 use Rattle.std.specs.Prelude.{◌≡◌, ℕ, pos, negsuc, false, List, [], ◌∷◌, ◌++◌, codes, Some}
 use Rattle.ak_words.specs.declared.operation.Op.TheVariants.{Add}
 use Rattle.ak_words.specs.IntType.{char, int, unsigned_long}
-use Rattle.c_tree.specs.Typed.{integer, pointer, array, structure, Layout, Piece, bytes, signed, unsigned, hexadecimal, character, text}
-use Rattle.c_tree.specs.Typed.{Expr, at, num, global, local, binary, at_stmt, declare, return_, no_stmts, more_stmts, Func, Typed}
-use Rattle.c_tree.specs.TypedForm.{IsWellFormed}
+use Rattle.c_tree.specs.Typed.{Ty, void, integer, pointer, array, structure, Layout, Piece, bytes, signed, unsigned, hexadecimal, character, text}
+use Rattle.c_tree.specs.Typed.{Expr, at, num, null, global, local, deref, address_of, binary, at_stmt, assign, declare, return_, no_stmts, more_stmts, Stmt, Func, Typed}
+use Rattle.c_tree.specs.TypedForm.{IsTyped, Inside, IsWell, IsLayout, IsWellFormed}
 use Rattle.c_tree.specs.TypedLayout.{size_in, align_in, laid_out}
 use Rattle.c_tree.specs.TypedPrinting.{parts}
 
@@ -39,6 +39,34 @@ func e = record {
 abbrev pub program : (e : Expr) → Typed
 program e = record { structs = []; globals = []; literals = []; funcs = func e ∷ []; main = 0 }
 
+-- in a function of a program that has these structs, and no global, function or local
+abbrev pub among : List Layout → Inside
+among structs = record { context = record { structs = structs; globals = []; literals = []; funcs = []; locals = [] }; params = 0; result = void }
+
+-- *p, where p is a null pointer to this type
+abbrev pub pointed : Ty → Expr
+pointed t = at 3 t (deref (at 4 (pointer t) null))
+
+-- *p = *q, where p and q are pointers to the first struct
+abbrev pub copied : Stmt
+copied = at_stmt 2 (assign (pointed (structure 0)) (pointed (structure 0)))
+
+-- a struct that was named and isn't declared
+abbrev pub named : Layout
+named = laid_out [] []
+
+-- a struct of one member, of this type, with the numbers that it would have if 8 bytes at an alignment of 8 were its member's
+abbrev pub of_eight : Ty → Layout
+of_eight t = record { offsets = 0 ∷ []; types = t ∷ []; size = 8; align = 8 }
+
+-- struct s { struct s inside; };
+abbrev pub inside_itself : List Layout
+inside_itself = of_eight (structure 0) ∷ []
+
+-- struct s { struct t inside[1]; }; struct t { struct s inside; };
+abbrev pub in_a_circle : List Layout
+in_a_circle = of_eight (array (structure 1) 1) ∷ of_eight (structure 0) ∷ []
+
 -- the rows: what each layout, each print and each small program comes to
 pub record TypedRowsHold : Type 0 where
   -- the padding between members, and behind the last one
@@ -55,3 +83,15 @@ pub record TypedRowsHold : Type 0 where
   pub no_such_local : IsWellFormed (program (at 31 (integer int) (local 1))) → ⊥
   pub no_such_global : IsWellFormed (program (at 31 (integer int) (global 0))) → ⊥
   pub not_promoted : IsWellFormed (program (at 31 (integer char) (num char (pos 7)))) → ⊥
+  -- *p of a pointer to void, or to a struct that isn't declared, has its address; of a pointer to an array, its elements have a size
+  pub of_void : IsTyped (among []).context (at 2 (pointer void) (address_of (pointed void)))
+  pub of_named : IsTyped (among (named ∷ [])).context (at 2 (pointer (structure 0)) (address_of (pointed (structure 0))))
+  pub of_array : IsTyped (among (node ∷ [])).context (pointed (array (structure 0) 2))
+  pub of_no_array : IsTyped (among (named ∷ [])).context (pointed (array (structure 0) 2)) → ⊥
+  -- a struct is copied once it is declared
+  pub copy : IsWell (among (node ∷ [])) false copied
+  pub no_copy : IsWell (among (named ∷ [])) false copied → ⊥
+  -- what is laid out with the size that it itself says it has, and is no struct of a program, since it lies in itself
+  pub laid_in_itself : IsLayout inside_itself (of_eight (structure 0))
+  pub not_in_itself : (t : Typed) → t.structs ≡ inside_itself → IsWellFormed t → ⊥
+  pub not_in_a_circle : (t : Typed) → t.structs ≡ in_a_circle → IsWellFormed t → ⊥

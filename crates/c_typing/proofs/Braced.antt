@@ -8,14 +8,15 @@ use Rattle.c_lex.specs.declared.refusal.Refusal.{Refusal}
 use Rattle.c_lex.specs.declared.refusal.Kind.TheVariants.{DoubleName, TooMany, BadSize}
 use Rattle.c_tree.specs.declared.syntax.Name.{Name}
 use Rattle.c_tree.specs.Typed.{Ty, Layout}
-use Rattle.c_tree.specs.TypedLayout.{greatest_object, laid_out}
-use Rattle.c_tree.specs.TypedForm.{IsLayout}
+use Rattle.c_tree.specs.TypedLayout.{greatest_object, layout_size, laid_out}
+use Rattle.c_tree.specs.TypedForm.{IsLayout, IsPart}
 use Rattle.c_tree.specs.TypedForm as form
 use Rattle.c_typing.specs.Faults.{Judged, typed, faulty, refuse, unless, both, ◌>>=◌}
 use Rattle.c_typing.specs.Scope.{Context, tag_number, with_tag, is_begun, with_begun, with_struct}
 use Rattle.c_typing.specs.Judgement.{Judging, Part, tag, struct_fits, closed, braced}
 use Rattle.c_typing.proofs.Extending.{undeclared, Extends, extends_further, Ready, ready_kept, laid_out_kept, layout_kept, below, at_most, AreSized, all_sized_kept}
 use Rattle.c_typing.proofs.Elements.{nothing_at, set_other, set_either, declared_set, taken_kept, any_left, none_left, any_last}
+use Rattle.c_typing.proofs.Apart.{different, equal, apart_still}
 use Rattle.c_typing.proofs.Carried.{OnTyped, World, IsObject, Good, Within, After, Keeps}
 use Rattle.c_typing.proofs.Own.{own, over_own}
 use Rattle.c_typing.proofs.Shown.{named_kept, object_kept, tag_after, tag_in_list}
@@ -51,12 +52,6 @@ record MayClose (w : World) (x : Context) (number : ℕ) (all : List (List ℕ �
 abbrev more : Context → ℕ → List (List ℕ × Ty) → List Layout
 more x number all = set x.structs number (laid_out x.structs (types_of all))
 
-different : (n k : ℕ) → (n == k) ≡ false → n ≢ k
-different n k h e = let f : (k == k) ≡ false = subst (λ m. (m == k) ≡ false) e h in absurd (grind (arith, nat_tests))
-
-equal : (n k : ℕ) → (n == k) ≡ true → n ≡ k
-equal n k h = grind (arith, nat_tests)
-
 closes : (w : World) (x : Context) (number : ℕ) (all : List (List ℕ × Ty)) → MayClose w x number all → Extends x.structs (more x number all)
 closes w x number all p n l h = by (n == number) refl
   where
@@ -88,6 +83,7 @@ close_good w x number all p = record {
   results = g.results;
   names = λ q m h. named_kept w x (with_struct x number all) (λ n t k. k) (λ n t k. k) m (g.names q m h);
   layouts = λ n l h. layouts n l (set_either x.structs number n new l h);
+  apart = apart_still x.structs (more x number all) number (ap layout_size p.empty) (λ n l h. sized n l (set_either x.structs number n new l h)) (λ m n d k. part m n d k) g.apart;
   members = λ n l h m t k. members n l m t (set_either x.structs number n new l h) k;
   unbegun = λ n l b h. unbegun n l b (set_either x.structs number n new l h);
   tags = g.tags ∙ sym (length-set x.structs number new);
@@ -114,6 +110,13 @@ close_good w x number all p = record {
     layouts n l (inl h) = subst (IsLayout (more x number all)) h.1 (new_layout w x number all p)
     layouts n l (inr h) = layout_kept x.structs (more x number all) (closes w x number all p) l (p.good.layouts n l h.1)
 
+    sized : (n : ℕ) (l : Layout) → ((n ≡ number) × (laid_out x.structs (types_of all) ≡ l)) ⊎ ((n ≢ number) × (slice_get x.structs n ≡ Some l)) → AreSized x.structs l.types
+    sized n l (inl h) = subst (λ (y : Layout). AreSized x.structs y.types) h.1 (objects_sized x.structs all p.objects)
+    sized n l (inr h) = (p.good.layouts n l h.1).sized
+
+    part : (m n : ℕ) → n ≢ number → IsPart (more x number all) m n → IsPart x.structs m n
+    part m n d k = (k.0, sym (set_other x.structs number n new d) ∙ k.1, k.2)
+
     members : (n : ℕ) (l : Layout) (m : ℕ) (t : Ty) → ((n ≡ number) × (laid_out x.structs (types_of all) ≡ l)) ⊎ ((n ≢ number) × (slice_get x.structs n ≡ Some l)) → slice_get l.types m ≡ Some t → Ready (more x number all) t
     members n l m t (inl h) k =
         let e : slice_get (types_of all) m ≡ Some t = subst (λ (y : Layout). slice_get y.types m ≡ Some t) (sym h.1) k in
@@ -131,6 +134,7 @@ begun_good w c g number few = record {
   results = g.results;
   names = λ q m h. named_kept w c (with_begun c number) (λ n t k. k) (λ n t k. k) m (g.names q m h);
   layouts = g.layouts;
+  apart = g.apart;
   members = g.members;
   unbegun = λ n l b h. g.unbegun n l (none_left (λ other. other == n) c.begun (number ∷ []) b) h;
   tags = g.tags;

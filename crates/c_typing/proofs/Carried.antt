@@ -8,7 +8,7 @@ use Rattle.c_lex.specs.declared.refusal.Kind.{Kind}
 use Rattle.c_lex.specs.declared.refusal.Refusal.{Refusal}
 use Rattle.c_tree.specs.Typed.{Ty, pointer, array, Layout, Local}
 use Rattle.c_tree.specs.TypedLayout.{greatest_object, size_in, IsSized}
-use Rattle.c_tree.specs.TypedForm.{IsLayout, Signature, IsNth, IsResult}
+use Rattle.c_tree.specs.TypedForm.{IsLayout, LiesIn, Signature, IsNth, IsResult}
 use Rattle.c_tree.specs.TypedForm as form
 use Rattle.c_typing.specs.Faults.{Judged, typed, faulty, unless, both, ◌>>=◌}
 use Rattle.c_typing.specs.Scope.{Library, constant, Meaning, global_name, local_name, function_name, library_name, Context, or_else, found, taken, most_plain, is_begun}
@@ -101,6 +101,7 @@ pub record Good (w : World) (c : Context) : Type 0 where
   pub results : (n : ℕ) (s : Signature) → slice_get w.funcs n ≡ Some s → IsResult s.result × Plain s.result
   pub names : (q : List ℕ) (m : Meaning) → visible c q ≡ Some m → IsNamed w c m
   pub layouts : (n : ℕ) (l : Layout) → slice_get c.structs n ≡ Some l → IsLayout c.structs l
+  pub apart : (n : ℕ) → LiesIn c.structs n n → ⊥
   pub members : (n : ℕ) (l : Layout) → slice_get c.structs n ≡ Some l → (m : ℕ) (t : Ty) → slice_get l.types m ≡ Some t → Ready c.structs t
   pub unbegun : (n : ℕ) (l : Layout) → is_begun c n ≡ false → slice_get c.structs n ≡ Some l → l ≡ undeclared
   pub tags : length c.tags ≡ length c.structs

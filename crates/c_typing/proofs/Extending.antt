@@ -1,11 +1,11 @@
 -- Structs, as more of them are declared: what has a size keeps it.
-use Rattle.std.proofs.Common.{◌≡◌, ℕ, ◌+◌, ◌*◌, ◌<◌, ◌≤◌, ◌⊎◌, inl, inr, true, refl, sym, ap, ◌∙◌, subst, arith, List, [], ◌∷◌, length, Option, Some, None, slice_get, nat_lt, nat_le}
+use Rattle.std.proofs.Common.{◌≡◌, ℕ, ◌+◌, ◌*◌, ◌<◌, ◌≤◌, ◌⊎◌, inl, inr, Bool, true, false, refl, sym, ap, ◌∙◌, subst, arith, List, [], ◌∷◌, length, Option, Some, None, slice_get, nat_lt, nat_le}
 use Rattle.std.specs.List.{AllByRecursion}
 use Rattle.std.proofs.lemmas.Option.{slice_get_within}
 use Rattle.std.proofs.lemmas.Bool.Decides.{nat_tests}
 use Rattle.c_tree.specs.Typed.{Ty, void, integer, mutex, pointer, array, structure, Layout}
 use Rattle.c_tree.specs.TypedLayout.{greatest_object, layout_size, layout_align, size_in, align_in, IsSized, rounded_up, offsets_from, end_from, greatest_align, laid_out}
-use Rattle.c_tree.specs.TypedForm.{IsLayout}
+use Rattle.c_tree.specs.TypedForm.{IsLayout, IsTarget}
 use Rattle.c_typing.specs.Types.{has_size}
 
 pub below : (a b : ℕ) → nat_lt a b ≡ true → a < b
@@ -130,6 +130,22 @@ has_size_kept old new f (array t n) h = has_size_kept old new f t h
 has_size_kept old new f (structure n) h =
     let p : 0 < layout_size (slice_get old n) = below 0 (layout_size (slice_get old n)) h in
     subst (λ o. nat_lt 0 (layout_size o) ≡ true) (sym (struct_kept old new n f p)) h
+
+-- what a pointer leads to: an object, or what has its address alone
+pub target_of : (s : List Layout) → AreSmall s → (t : Ty) → Ready s t → IsTarget s t
+target_of s f void r = inr tt
+target_of s f (integer t) r = inl tt
+target_of s f mutex r = inl tt
+target_of s f (pointer t) r = inl tt
+target_of s f (array t n) r = inl r.0
+target_of s f (structure n) r = by (nat_lt 0 (layout_size (slice_get s n))) refl
+  where
+    by : (b : Bool) → nat_lt 0 (layout_size (slice_get s n)) ≡ b → IsTarget s (structure n)
+    by true h = inl (sized_of s f (structure n) r h)
+    by false h = inr (none (layout_size (slice_get s n)) h)
+      where
+        none : (k : ℕ) → nat_lt 0 k ≡ false → k ≡ 0
+        none k h = grind (arith, nat_tests)
 
 -- ---- layouts
 

@@ -100,6 +100,7 @@ size_good w c g t o small = record {
   results = g.results;
   names = λ q m h. named_kept w c (with_size c t) (λ n u k. get_before c.globals (t ∷ []) n u k) (λ n u k. k) m (g.names q m h);
   layouts = g.layouts;
+  apart = g.apart;
   members = g.members;
   unbegun = g.unbegun;
   tags = g.tags;

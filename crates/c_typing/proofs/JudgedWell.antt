@@ -107,7 +107,7 @@ prefixed_keeps w place prefixes.Minus o j kj f = keeps_ruled w true (valued j) (
 prefixed_keeps w place prefixes.Plus o j kj f = keeps_ruled w true (valued j) (λ c x. plus_by place (type_of x) x) Fine Made (valued_keeps w o j kj) (λ d e x g v h. plus_made e place x h.0)
 prefixed_keeps w place prefixes.Not o j kj f = keeps_ruled w true (valued j) (λ c x. not_by place (type_of x) x) Fine Made (valued_keeps w o j kj) (λ d e x g v h. not_made e place x h.0)
 prefixed_keeps w place prefixes.Complement o j kj f = keeps_ruled w true (valued j) (λ c x. complement_by place (type_of x) x) Fine Made (valued_keeps w o j kj) (λ d e x g v h. complement_made e place x h.0)
-prefixed_keeps w place prefixes.Deref o j kj f = keeps_ruled w true (valued j) (λ c x. target place x) Fine Made (valued_keeps w o j kj) (λ d e x g v h. target_made e place x h)
+prefixed_keeps w place prefixes.Deref o j kj f = keeps_ruled w true (valued j) (λ c x. target place x) Fine Made (valued_keeps w o j kj) (λ d e x g v h. target_made e v.sound place x h)
 prefixed_keeps w place prefixes.AddressOf o j kj f = addressing_keeps w place o j kj f
 
 -- ---- members
@@ -153,7 +153,7 @@ selected_made : (w : World) (d : Context) (e : form.Context) → Over w d e → 
 selected_made w d e v place x h m = selected_well w d e v place (type_of x) x h refl m
 
 pointed_made : (w : World) (d : Context) (e : form.Context) → Over w d e → (place : ℕ) (x : Expr) → Fine e x → (m : Name) → OnTyped (Made e) (pointed d place x m)
-pointed_made w d e v place x h m = on_bind (Made e) (Made e) (target place x) (λ y. selected d place y m) (target_made e place x h) (λ y k. selected_made w d e v place y k.0 m)
+pointed_made w d e v place x h m = on_bind (Made e) (Made e) (target place x) (λ y. selected d place y m) (target_made e v.sound place x h) (λ y k. selected_made w d e v place y k.0 m)
 
 -- ---- two values
 

@@ -4,6 +4,7 @@ pub mod Extending
 pub mod Unmoved
 pub mod Carried
 pub mod Elements
+pub mod Apart
 pub mod RuledWell
 pub mod Own
 pub mod Shown

@@ -67,7 +67,7 @@ mutual
   node_too f e ls c ty (literal n) h = h
   node_too f e ls c ty (global n) h = h
   node_too f e ls c ty (local n) h = let m = c n h.0 h.1 in (m.0, m.1, m.2.0 ∙ h.2)
-  node_too f e ls c ty (deref (at p t x)) h = (node_too f e ls c t x h.0, h.1)
+  node_too f e ls c ty (deref (at p t x)) h = (node_too f e ls c t x h.0, h.1, h.2)
   node_too f e ls c ty (member (at p t x) m) h = (node_too f e ls c t x h.0, lvalue_too f x h.1, h.2)
   node_too f e ls c ty (address_of (at p t x)) h = (node_too f e ls c t x h.0, memory_too f e ls c x h.1, h.2)
   node_too f e ls c ty (decay (at p t x)) h = (node_too f e ls c t x h.0, memory_too f e ls c x h.1, h.2)
@@ -143,7 +143,7 @@ mutual
   stmt_too f e ls c k r u l break_ h = h
   stmt_too f e ls c k r u l continue_ h = h
   stmt_too f e ls c k r u l (return_ value) h = returned_too f e ls c r value h
-  stmt_too f e ls c k r u l (assign (at p t x) (at q v y)) h = (node_too f e ls c t x h.0, node_too f e ls c v y h.1, lvalue_too f x h.2, h.3)
+  stmt_too f e ls c k r u l (assign (at p t x) (at q v y)) h = (node_too f e ls c t x h.0, node_too f e ls c v y h.1, lvalue_too f x h.2, h.3, h.4)
   stmt_too f e ls c k r u l (update (at p t x) op (at q v y)) h = (node_too f e ls c t x h.0, node_too f e ls c v y h.1, lvalue_too f x h.2, h.3)
   stmt_too f e ls c k r u l (evaluate (at p t x)) h = node_too f e ls c t x h
   stmt_too f e ls c k r u l empty h = tt

@@ -22,7 +22,7 @@ use Rattle.c_typing.specs.Types.{same_int, same_type, is_void, has_size}
 use Rattle.c_typing.specs.Scope.{Context}
 use Rattle.c_typing.specs.Numbering.{is_block}
 use Rattle.c_typing.specs.Rules.{value_of, converted, is_zero, fitted_if, pointer_fitted, fitted_by, fitted, tested_by, tested, target_by, target, minus_by, plus_by, not_by, complement_by, arithmetic, sized, Operands, numbers, pointer_number, number_pointer, pointers, others, operands, moved_up, moved_down, sum, distance, difference, compared, null_for, equality, order, shift, on_numbers, operated_by, operated, element, chosen_by, chosen, cast_number_by, cast_by, cast}
-use Rattle.c_typing.proofs.Extending.{Ready, sized_of, has_size_kept}
+use Rattle.c_typing.proofs.Extending.{Ready, sized_of, target_of, has_size_kept}
 use Rattle.c_typing.proofs.Carried.{OnTyped, OnSome, on_bind, on_unless, Plain, World, Sound, Over}
 
 -- an expression of its type, whose arrays have a size
@@ -299,16 +299,16 @@ tested_well e place x h = tests e place (type_of x) x (h, refl)
 
 -- ---- what leads to objects
 
-targets : (e : form.Context) (place : ℕ) (s : Ty) (x : Expr) → Has e x s → Ready e.structs s → OnTyped (Made e) (target_by place s x)
-targets e place (pointer t) x h r = (((h.0, h.1), r), tt)
-targets e place void x h r = tt
-targets e place (integer t) x h r = tt
-targets e place mutex x h r = tt
-targets e place (array t n) x h r = tt
-targets e place (structure n) x h r = tt
+targets : (e : form.Context) → Sound e → (place : ℕ) (s : Ty) (x : Expr) → Has e x s → Ready e.structs s → OnTyped (Made e) (target_by place s x)
+targets e f place (pointer t) x h r = (((h.0, h.1, target_of e.structs f.small t r), r), tt)
+targets e f place void x h r = tt
+targets e f place (integer t) x h r = tt
+targets e f place mutex x h r = tt
+targets e f place (array t n) x h r = tt
+targets e f place (structure n) x h r = tt
 
-pub target_made : (e : form.Context) (place : ℕ) (x : Expr) → Fine e x → OnTyped (Made e) (target place x)
-target_made e place x h = targets e place (type_of x) x (h.0, refl) h.1
+pub target_made : (e : form.Context) → Sound e → (place : ℕ) (x : Expr) → Fine e x → OnTyped (Made e) (target place x)
+target_made e f place x h = targets e f place (type_of x) x (h.0, refl) h.1
 
 -- ---- unary operators
 
@@ -528,7 +528,7 @@ operated_made w d e o place op a b h l = operated_well w d e o place op (operand
 pub element_made : (w : World) (d : Context) (e : form.Context) → Over w d e → (place : ℕ) (a b : Expr) → Fine e a → Fine e b → OnTyped (Made e) (element d place a b)
 element_made w d e o place a b h l =
     on_bind (Made e) (Made e) (sum d place (operands (type_of a) (type_of b)) a b) (target place) (sum_made w d e o place (operands (type_of a) (type_of b)) a b h l (described (type_of a) (type_of b)))
-    (λ x k. target_made e place x k.0)
+    (λ x k. target_made e o.sound place x k.0)
 
 chosen_well : (e : form.Context) (place : ℕ) (what : Operands) (x a b : Expr) → Tested e x → Fine e a → Fine e b → Describes what (type_of a) (type_of b) → OnTyped (Made e) (chosen_by place what x a b)
 chosen_well e place (numbers s t) x a b p h l k =

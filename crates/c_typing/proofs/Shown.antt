@@ -1,5 +1,5 @@
 -- What the text shows keeps a context in order: literals, tags, structs, and the locals whose address is taken.
-use Rattle.std.proofs.Common.{◌≡◌, ℕ, ◌+◌, ◌<◌, ◌≤◌, ◌⊎◌, inl, inr, Bool, true, false, ◌||◌, refl, sym, ◌∙◌, subst, arith, List, [], ◌∷◌, ◌++◌, length, Option, Some, None, slice_get, nat_le, ◌==◌, if◌then◌else◌}
+use Rattle.std.proofs.Common.{◌≡◌, ℕ, ◌+◌, ◌<◌, ◌≤◌, ◌⊎◌, inl, inr, Bool, true, false, ◌||◌, refl, sym, ap, ◌∙◌, subst, arith, List, [], ◌∷◌, ◌++◌, length, Option, Some, None, slice_get, nat_le, ◌==◌, if◌then◌else◌}
 use Rattle.std.specs.List.{list_any}
 use Rattle.std.specs.Str.{bytes_eq}
 use Rattle.std.proofs.lemmas.List.{length-append}
@@ -9,16 +9,17 @@ use Rattle.c_lex.specs.declared.refusal.Kind.TheVariants.{TooMany}
 use Rattle.c_tree.specs.declared.syntax.Name.{Name}
 use Rattle.c_tree.specs.declared.syntax.Span.{Span}
 use Rattle.c_tree.specs.Typed.{Ty, integer, array, Layout, Expr, at, literal}
-use Rattle.c_tree.specs.TypedLayout.{greatest_object}
-use Rattle.c_tree.specs.TypedForm.{IsLayout, IsNth, IsLvalue, IsInMemory, IsTyped}
+use Rattle.c_tree.specs.TypedLayout.{greatest_object, layout_size}
+use Rattle.c_tree.specs.TypedForm.{IsLayout, HoldsStruct, IsPart, IsNth, IsLvalue, IsInMemory, IsTyped}
 use Rattle.c_tree.specs.TypedForm as form
 use Rattle.c_typing.specs.Faults.{typed, refuse, mapped}
 use Rattle.c_typing.specs.Scope.{Meaning, global_name, local_name, function_name, library_name, Context, bytes_of, taken, most_plain, tag_among, tag_number, with_tag, is_begun}
 use Rattle.c_typing.specs.Literals.{between_quotes, joined_bytes}
 use Rattle.c_typing.specs.Numbering.{is_in}
 use Rattle.c_typing.specs.Judgement.{with_literal, spelled, with_addressed}
-use Rattle.c_typing.proofs.Extending.{undeclared, Extends, extends_itself, Ready, ready_kept, sized_kept, layout_kept, at_most}
+use Rattle.c_typing.proofs.Extending.{undeclared, Extends, extends_itself, Ready, ready_kept, sized_kept, AreSized, layout_kept, at_most}
 use Rattle.c_typing.proofs.Elements.{nothing_at, get_before, get_last, get_either, declared_append, sum_last, taken_kept, any_left, any_last}
+use Rattle.c_typing.proofs.Apart.{apart_still}
 use Rattle.c_typing.proofs.Carried.{OnTyped, World, IsNamed, IsObject, Good, Within, within_itself, Over, After}
 use Rattle.c_typing.proofs.RuledWell.{Made}
 
@@ -46,6 +47,7 @@ literal_good w c g all some small = record {
   results = g.results;
   names = λ q m h. named_kept w c (with_literal c all) (λ n t k. k) (λ n t k. k) m (g.names q m h);
   layouts = g.layouts;
+  apart = g.apart;
   members = g.members;
   unbegun = g.unbegun;
   tags = g.tags;
@@ -114,6 +116,7 @@ addressed_good w c g k = record {
   results = g.results;
   names = λ q m h. named_kept w c (record c { addressed = c.addressed ++ k ∷ [] }) (λ n t p. p) (λ n t p. p) m (g.names q m h);
   layouts = g.layouts;
+  apart = g.apart;
   members = g.members;
   unbegun = g.unbegun;
   tags = g.tags;
@@ -158,11 +161,16 @@ one_more s n l h = inl (get_before s (undeclared ∷ []) n l h)
 no_layout : (s : List Layout) → IsLayout s undeclared
 no_layout s = record { sized = tt; laid = refl; few = omega arith; small = omega arith }
 
+none_at_end : (s : List Layout) → slice_get s (length s) ≡ None
+none_at_end [] = refl
+none_at_end (l ∷ s) = none_at_end s
+
 new_tag_good : (w : World) (c : Context) → Good w c → (n : Name) → Good w (with_new_tag c n)
 new_tag_good w c g k = record {
   results = g.results;
   names = λ q m h. named_kept w c (with_new_tag c k) (λ n t p. p) (λ n t p. p) m (g.names q m h);
   layouts = λ n l h. layouts l n (get_either c.structs undeclared n l h);
+  apart = apart_still c.structs more (length c.structs) (ap layout_size (none_at_end c.structs)) (λ n l h. sized n l (get_either c.structs undeclared n l h)) (λ m n d p. part m n p.0 (get_either c.structs undeclared n p.0 p.1) p.2) g.apart;
   members = λ n l h m t k. members n l m t (get_either c.structs undeclared n l h) k;
   unbegun = λ n l b h. unbegun n l b (get_either c.structs undeclared n l h);
   tags =
@@ -186,6 +194,14 @@ new_tag_good w c g k = record {
     layouts : (l : Layout) (n : ℕ) → (slice_get c.structs n ≡ Some l) ⊎ (undeclared ≡ l) → IsLayout (c.structs ++ undeclared ∷ []) l
     layouts l n (inl h) = layout_kept c.structs (c.structs ++ undeclared ∷ []) (one_more c.structs) l (g.layouts n l h)
     layouts l n (inr e) = subst (IsLayout (c.structs ++ undeclared ∷ [])) e (no_layout (c.structs ++ undeclared ∷ []))
+
+    sized : (n : ℕ) (l : Layout) → (slice_get c.structs n ≡ Some l) ⊎ (undeclared ≡ l) → AreSized c.structs l.types
+    sized n l (inl h) = (g.layouts n l h).sized
+    sized n l (inr e) = subst (λ (x : Layout). AreSized c.structs x.types) e tt
+
+    part : (m n : ℕ) (l : Layout) → (slice_get c.structs n ≡ Some l) ⊎ (undeclared ≡ l) → (k : ℕ) × IsNth l.types k (λ t. HoldsStruct t m) → IsPart c.structs m n
+    part m n l (inl h) p = (l, h, p)
+    part m n l (inr e) p = absurd (nothing_at p.0 p.1.0 (subst (λ (x : Layout). slice_get x.types p.0 ≡ Some p.1.0) (sym e) p.1.1))
 
     members : (n : ℕ) (l : Layout) (m : ℕ) (t : Ty) → (slice_get c.structs n ≡ Some l) ⊎ (undeclared ≡ l) → slice_get l.types m ≡ Some t → Ready (c.structs ++ undeclared ∷ []) t
     members n l m t (inl h) k = ready_kept c.structs (c.structs ++ undeclared ∷ []) (one_more c.structs) t (g.members n l h m t k)

@@ -16,7 +16,8 @@ use Rattle.c_tree.specs.declared.syntax.StepOp.TheVariants as steps
 use Rattle.c_tree.specs.declared.syntax.AssignOp.{AssignOp}
 use Rattle.c_tree.specs.declared.syntax.AssignOp.TheVariants as assigns
 use Rattle.c_tree.specs.Syntax as source
-use Rattle.c_tree.specs.Typed.{Ty, void, integer, mutex, pointer, array, structure, Expr, at, ExprNode, num, literal, global, local, deref, member, type_of, node_of, place_of, Stmt, at_stmt, declare, assign, update, evaluate}
+use Rattle.c_tree.specs.Typed.{Ty, void, integer, mutex, pointer, array, structure, Layout, Expr, at, ExprNode, num, literal, global, local, deref, member, type_of, node_of, place_of, Stmt, at_stmt, declare, assign, update, evaluate}
+use Rattle.c_tree.specs.TypedLayout.{IsSized}
 use Rattle.c_tree.specs.TypedForm.{IsScalar, Fits, is_comparison, CanUpdate, IsNth, IsLvalue, IsTyped, IfTyped, IsNoDeclaration, IsStep, IsFirst, IsReturned, Inside, IsWell, AreWell}
 use Rattle.c_tree.specs.TypedForm as form
 use Rattle.c_typing.specs.Faults.{Judged, typed, faulty, refuse, unless, both, ◌>>=◌}
@@ -25,9 +26,9 @@ use Rattle.c_typing.specs.Scope.{Meaning, local_name, Frame, Context, bytes_of, 
 use Rattle.c_typing.specs.Rules.{value_of, fitted, or_mismatch, is_lvalue}
 use Rattle.c_typing.specs.Judgement.{lone, in_turn, valued, Declarator, object_declared, node_place, name_in, judged, judged_specs, judged_dims}
 use Rattle.c_typing.specs.Statements.{assignable, assigned, moves, updates, updated, step_op, stepped, assign_op, assigned_by, judged_simple, or_int, most_locals, with_local, initialised, judged_init, judged_declarator, name_of, judged_local, judged_locals, judged_declaration}
-use Rattle.c_typing.proofs.Extending.{extends_itself, Ready, sized_of, has_size_kept, below}
+use Rattle.c_typing.proofs.Extending.{Extends, extends_itself, Ready, AreSmall, sized_of, has_size_kept, below}
 use Rattle.c_typing.proofs.Elements.{get_before, get_last, get_either}
-use Rattle.c_typing.proofs.Carried.{OnTyped, given, not_given, on_bind, on_unless, on_mismatch, on_weaker, Plain, World, IsNamed, IsObject, visible, Good, Within, within_further, looser, Sound, Over, over_before, After, Keeps, keeps_lone, keeps_in_turn, keeps_ruled, keeps_weaker, keeps_looser}
+use Rattle.c_typing.proofs.Carried.{OnTyped, given, not_given, on_bind, on_unless, on_mismatch, on_weaker, Plain, World, IsNamed, IsObject, visible, Good, Within, within_further, looser, Over, over_before, After, Keeps, keeps_lone, keeps_in_turn, keeps_ruled, keeps_weaker, keeps_looser}
 use Rattle.c_typing.proofs.RuledWell.{Fine, value_fine, Fitting, fits}
 use Rattle.c_typing.proofs.TypesWell.{ArePositive, object_well}
 use Rattle.c_typing.proofs.Shown.{named_kept}
@@ -48,11 +49,40 @@ lvalue_is (deref x) h = tt
 lvalue_is (member x m) h = tt
 lvalue_is _ h = absurd cc
 
-assignable_is : (c : Context) (place : ℕ) (x : Expr) → OnTyped (λ u. IsLvalue (node_of x)) (assignable c place x)
+no_void : (a : Ty) → Fits a void → ⊥
+no_void void h = h
+no_void (integer t) h = h
+no_void mutex h = h
+no_void (pointer t) h = h
+no_void (array t n) h = h
+no_void (structure n) h = h
+
+declared_kept : (old new : List Layout) → Extends old new → (t : Ty) → is_declared old t ≡ true → is_declared new t ≡ true
+declared_kept old new f (structure n) h = has_size_kept old new f (structure n) h
+declared_kept old new f void h = refl
+declared_kept old new f (integer t) h = refl
+declared_kept old new f mutex h = refl
+declared_kept old new f (pointer t) h = refl
+declared_kept old new f (array t n) h = refl
+
+-- what is assigned has a size
+copied_sized : (s : List Layout) → AreSmall s → (a b : Ty) → Ready s b → Fits a b → is_declared s b ≡ true → IsSized s b
+copied_sized s f a void r fit d = absurd (no_void a fit)
+copied_sized s f a (integer t) r fit d = tt
+copied_sized s f a mutex r fit d = tt
+copied_sized s f a (pointer t) r fit d = tt
+copied_sized s f a (array t n) r fit d = r.0
+copied_sized s f a (structure n) r fit d = sized_of s f (structure n) r d
+
+-- an object that may be assigned, and a struct only once it is declared
+abbrev Assignable : Context → Expr → Type 0
+Assignable c x = IsLvalue (node_of x) × (is_declared c.structs (type_of x) ≡ true)
+
+assignable_is : (c : Context) (place : ℕ) (x : Expr) → OnTyped (λ u. Assignable c x) (assignable c place x)
 assignable_is c place x =
-    on_bind (λ u. (if is_array (type_of x) then false else is_lvalue (node_of x)) ≡ true) (λ u. IsLvalue (node_of x)) (unless place NotAnLvalue (if is_array (type_of x) then false else is_lvalue (node_of x))) (λ u. unless (place_of x) NotAnLvalue (is_declared c.structs (type_of x)))
+    on_bind (λ u. (if is_array (type_of x) then false else is_lvalue (node_of x)) ≡ true) (λ u. Assignable c x) (unless place NotAnLvalue (if is_array (type_of x) then false else is_lvalue (node_of x))) (λ u. unless (place_of x) NotAnLvalue (is_declared c.structs (type_of x)))
     (on_unless place NotAnLvalue (if is_array (type_of x) then false else is_lvalue (node_of x)))
-    (λ u h. on_weaker (λ u. is_declared c.structs (type_of x) ≡ true) (λ u. IsLvalue (node_of x)) (unless (place_of x) NotAnLvalue (is_declared c.structs (type_of x))) (on_unless (place_of x) NotAnLvalue (is_declared c.structs (type_of x))) (λ u k. by (is_array (type_of x)) h))
+    (λ u h. on_weaker (λ u. is_declared c.structs (type_of x) ≡ true) (λ u. Assignable c x) (unless (place_of x) NotAnLvalue (is_declared c.structs (type_of x))) (on_unless (place_of x) NotAnLvalue (is_declared c.structs (type_of x))) (λ u k. (by (is_array (type_of x)) h, k)))
   where
     by : (b : Bool) → (if b then false else is_lvalue (node_of x)) ≡ true → IsLvalue (node_of x)
     by true h = absurd cc
@@ -62,12 +92,12 @@ assignable_is c place x =
 abbrev pub Stepping : World → Ty → Bool → form.Context → Stmt → Type 0
 Stepping w r l e s = IsWell (inside_of w r e) l s × IsStep s
 
-assigned_well : (w : World) (r : Ty) (l : Bool) (d : Context) (e : form.Context) → Sound e → (place : ℕ) (a b : Expr) → Fine e a → Fine e b → OnTyped (Stepping w r l e) (assigned d place a b)
-assigned_well w r l d e s place a b h k =
-    on_bind (λ u. IsLvalue (node_of a)) (Stepping w r l e) (assignable d place a) (λ u. or_mismatch place (fitted (type_of a) (value_of b)) >>= λ x. typed (at_stmt place (assign a x))) (assignable_is d place a)
+assigned_well : (w : World) (r : Ty) (l : Bool) (d : Context) (e : form.Context) → Over w d e → (place : ℕ) (a b : Expr) → Fine e a → Fine e b → OnTyped (Stepping w r l e) (assigned d place a b)
+assigned_well w r l d e o place a b h k =
+    on_bind (λ u. Assignable d a) (Stepping w r l e) (assignable d place a) (λ u. or_mismatch place (fitted (type_of a) (value_of b)) >>= λ x. typed (at_stmt place (assign a x))) (assignable_is d place a)
     (λ u v. on_bind (Fitting e (type_of a)) (Stepping w r l e) (or_mismatch place (fitted (type_of a) (value_of b))) (λ x. typed (at_stmt place (assign a x)))
-    (on_mismatch (Fitting e (type_of a)) place (fitted (type_of a) (value_of b)) (fits e (type_of a) (value_of b) (value_fine e s b k).0))
-    (λ x f. ((h.0, f.0, v, f.1), tt)))
+    (on_mismatch (Fitting e (type_of a)) place (fitted (type_of a) (value_of b)) (fits e (type_of a) (value_of b) (value_fine e o.sound b k).0))
+    (λ x f. ((h.0, f.0, v.0, f.1, copied_sized e.structs o.sound.small (type_of x) (type_of a) h.1 f.1 (declared_kept d.structs e.structs o.structs (type_of a) v.1)), tt)))
 
 moves_is : (op : Op) → moves op ≡ true → (op ≡ ops.Add) ⊎ (op ≡ ops.Sub)
 moves_is ops.Add h = inl refl
@@ -84,9 +114,9 @@ updates_well w d e v place op _ _ c r = tt
 
 updated_well : (w : World) (r : Ty) (l : Bool) (d : Context) (e : form.Context) → Over w d e → (place : ℕ) (op : Op) (a b : Expr) → is_comparison op ≡ false → Fine e a → Fine e b → OnTyped (Stepping w r l e) (updated d place op a b)
 updated_well w r l d e v place op a b c h k =
-    on_bind (λ u. IsLvalue (node_of a)) (Stepping w r l e) (assignable d place a) (λ u. updates d place op (type_of a) (type_of b) >>= λ x. typed (at_stmt place (update a op b))) (assignable_is d place a)
+    on_bind (λ u. Assignable d a) (Stepping w r l e) (assignable d place a) (λ u. updates d place op (type_of a) (type_of b) >>= λ x. typed (at_stmt place (update a op b))) (assignable_is d place a)
     (λ u i. on_bind (λ x. CanUpdate e.structs op (type_of a) (type_of b)) (Stepping w r l e) (updates d place op (type_of a) (type_of b)) (λ x. typed (at_stmt place (update a op b)))
-    (updates_well w d e v place op (type_of a) (type_of b) c h.1) (λ x m. ((h.0, k.0, i, m), tt)))
+    (updates_well w d e v place op (type_of a) (type_of b) c h.1) (λ x m. ((h.0, k.0, i.0, m), tt)))
 
 step_is : (op : StepOp) → is_comparison (step_op op) ≡ false
 step_is steps.Increment = refl
@@ -99,7 +129,7 @@ stepped_well : (w : World) (r : Ty) (l : Bool) (d : Context) (e : form.Context) 
 stepped_well w r l d e v place op a h = updated_well w r l d e v place (step_op op) a (at place (integer int) (num int (pos 1))) (step_is op) h (one_fine e place)
 
 assigned_by_well : (w : World) (r : Ty) (l : Bool) (d : Context) (e : form.Context) → Over w d e → (place : ℕ) (op : AssignOp) (a b : Expr) → Fine e a → Fine e b → OnTyped (Stepping w r l e) (assigned_by d place (assign_op op) a b)
-assigned_by_well w r l d e v place assigns.Plain a b h k = assigned_well w r l d e v.sound place a b h k
+assigned_by_well w r l d e v place assigns.Plain a b h k = assigned_well w r l d e v place a b h k
 assigned_by_well w r l d e v place assigns.Add a b h k = updated_well w r l d e v place ops.Add a (value_of b) refl h (value_fine e v.sound b k)
 assigned_by_well w r l d e v place assigns.Sub a b h k = updated_well w r l d e v place ops.Sub a (value_of b) refl h (value_fine e v.sound b k)
 assigned_by_well w r l d e v place assigns.Mul a b h k = updated_well w r l d e v place ops.Mul a (value_of b) refl h (value_fine e v.sound b k)
@@ -157,6 +187,7 @@ type_good w c g t o few = record {
   results = g.results;
   names = λ q m h. named_kept w c (with_type c t) (λ n u k. k) (λ n u k. get_before c.locals (t ∷ []) n u k) m (g.names q m h);
   layouts = g.layouts;
+  apart = g.apart;
   members = g.members;
   unbegun = g.unbegun;
   tags = g.tags;
@@ -179,6 +210,7 @@ name_good w c g n m i = record {
   results = g.results;
   names = λ q p h. by q p (seen_or_new c.inner (found c.outer q) (bytes_of c.text n) q m p h);
   layouts = g.layouts;
+  apart = g.apart;
   members = g.members;
   unbegun = g.unbegun;
   tags = g.tags;

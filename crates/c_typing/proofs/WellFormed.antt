@@ -10,7 +10,7 @@ use Rattle.ak_words.specs.IntType.{int}
 use Rattle.c_lex.specs.declared.refusal.Kind.TheVariants.{UnknownName}
 use Rattle.c_tree.specs.Typed.{Ty, void, integer, mutex, pointer, array, structure, Local, GlobalVar, Func, Typed}
 use Rattle.c_tree.specs.TypedLayout.{size_in}
-use Rattle.c_tree.specs.TypedForm.{IsNth, Signature, signature_of, IsLayout, IsInit, IsGlobal, IsFunc, IsMain, IsWellFormed}
+use Rattle.c_tree.specs.TypedForm.{LiesIn, as_part, deeper, IsNth, Signature, signature_of, IsLayout, IsInit, IsGlobal, IsFunc, IsMain, IsWellFormed}
 use Rattle.c_tree.specs.TypedForm as form
 use Rattle.c_typing.specs.Faults.{Judged, typed, unless, both}
 use Rattle.c_typing.specs.Scope.{Meaning, global_name, local_name, function_name, library_name, Context, at_start, taken}
@@ -35,12 +35,17 @@ all_at P (y ∷ xs) h (suc n) x g = all_at P xs h.1 n x g
 
 -- ---- before the first token
 
+nothing_apart : (m n : ℕ) → LiesIn [] m n → ⊥
+nothing_apart m n (as_part p) = nothing_at n p.0 p.1
+nothing_apart m n (deeper {k} p r) = nothing_at k p.0 p.1
+
 start_good : (fs : List Signature) (text : List ℕ) → ((n : ℕ) (s : Signature) → slice_get fs n ≡ Some s → form.IsResult s.result × Plain s.result) → FileGood fs (at_start text)
 start_good fs text r = record {
   good = record {
     results = r;
     names = λ q m h. absurd cc;
     layouts = λ n l h. absurd (nothing_at n l h);
+    apart = λ n h. nothing_apart n n h;
     members = λ n l h. absurd (nothing_at n l h);
     unbegun = λ n l b h. absurd (nothing_at n l h);
     tags = refl;
@@ -128,6 +133,7 @@ program_well text fs d m main e s k =
     let first = some_of signature_of (slice_get m.funcs main) k.0 (sym (slice_get-map signature_of m.funcs main) ∙ ap (λ (l : List Signature). slice_get l main) e ∙ k.1) in
     record {
       structs = all_from (IsLayout d.structs) d.structs g.layouts;
+      apart = g.apart;
       globals = globals_well (program_of d m main) m.globals s.held;
       literals = all_from (λ (bs : List ℕ). 0 < length bs) d.literals (λ n bs h. (g.literals n bs h).0);
       funcs = funcs;
