@@ -4,7 +4,7 @@ use Rattle.std.specs.Prelude.{◌⊎◌}
 use mathlib.Core.Logic.{inl, inr}
 use Rattle.turn_lock.specs.declared.lock.Pass.{Pass}
 use Rattle.turn_lock.specs.Locks.{seen_of, worker_of}
-use Rattle.flat_meaning.specs.declared.endings.End.{End}
+use Rattle.ak_trace.specs.declared.endings.End.{End}
 use Rattle.flat_rules.specs.Machine.{Machine}
 use Rattle.flat_rules.specs.States.{Mood, free, asked}
 use Rattle.flat_rules.specs.Events.{mood_after}

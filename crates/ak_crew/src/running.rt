@@ -1,6 +1,6 @@
 //! The workers together.
 ghost use Rattle.std.specs.Prelude.{◌≡◌, ℕ, length, slice_get, Some};
-ghost use Rattle.flat_meaning.specs.declared.endings.End.{End};
+ghost use Rattle.ak_trace.specs.declared.endings.End.{End};
 ghost use Rattle.turn_lock.specs.Locks.{IsPassOf, AllPasses, first_of, passes_of, seen_of, worker_of};
 ghost use Rattle.world_rules.specs.Allowed.{IsOver};
 ghost use Rattle.ak_world.specs.Turns.{SawOver};

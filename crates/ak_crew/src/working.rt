@@ -1,6 +1,6 @@
 //! What a worker does.
 ghost use Rattle.std.specs.Prelude.{◌≡◌};
-ghost use Rattle.flat_meaning.specs.declared.endings.End.{End};
+ghost use Rattle.ak_trace.specs.declared.endings.End.{End};
 ghost use Rattle.turn_lock.specs.Locks.{IsPassOf, first_of, seen_of, worker_of};
 ghost use Rattle.world_rules.specs.Allowed.{IsOver};
 

@@ -1,8 +1,9 @@
-//! The journal of a run: its entries, and the order of the C threads' turns that they tell.
+//! The journal of a run: its entries, and the order of the C threads' turns that they tell; and how a run ends.
 //! Promises upward: a journal is a list of entries up to a limit that was reserved, and its order follows from the entries alone.
 //! Stands on ak_words.
 #![tactic(auto)]
 
+mod endings;
 mod entry;
 pub mod how;
 mod journal;
@@ -10,6 +11,7 @@ pub mod kind;
 mod numbers;
 mod order;
 
+pub use endings::{End, TrapKind};
 pub use entry::Entry;
 pub use journal::Journal;
 pub use numbers::constants_are_the_numbers;

@@ -7,12 +7,12 @@ use Rattle.ak_words.specs.Num.{num}
 use Rattle.ak_words.specs.Wrapped.{residue, wrapped_value}
 use Rattle.ak_trace.specs.declared.entry.Entry.{Entry}
 use Rattle.block_store.specs.declared.values.Answer.TheVariants as answers
-use Rattle.block_store.specs.Actions.{Thread, Stage, running, returned, World}
+use Rattle.block_store.specs.Actions.{ThreadRecord, Stage, running, returned, World}
 use Rattle.block_store.specs.Runs.{Pick, Turn, went, ended, blocked, unfit, broke, Program, State, picked, Run, reaches, breaks, no_run}
 use Rattle.c_meaning.specs.Control.{Control}
 use Rattle.c_meaning.specs.Meaning.{program, start, run}
-use Rattle.flat_meaning.specs.declared.endings.End.{End}
-use Rattle.flat_meaning.specs.declared.endings.End.TheVariants as ends
+use Rattle.ak_trace.specs.declared.endings.End.{End}
+use Rattle.ak_trace.specs.declared.endings.End.TheVariants as ends
 use Rattle.flat_meaning.specs.Journals.{journal_picks}
 use Rattle.flat_meaning.specs.Order.{pick}
 use Rattle.flat_meaning.specs.Reaching.{Broken}
@@ -141,9 +141,9 @@ module _ (known : RunsAreKnown) (log : List Entry) (f : Final) (room : HasRoom l
       let r = stage_returned front.turns h.2.0 (sym is ∙ h.2.1) in
       (r.0, sym h.2.2 ∙ ap (λ z. (num int z).value) r.1)
     where
-      first_stage : (n : ℕ) (threads : List Thread) (t : Thread) → slice_get threads 0 ≡ Some t → map (λ (t : Thread). t.stage) threads ≡ stages n → t.stage ≡ cond (nat_le 8 n) (returned (pos 0)) running
+      first_stage : (n : ℕ) (threads : List ThreadRecord) (t : ThreadRecord) → slice_get threads 0 ≡ Some t → map (λ (t : ThreadRecord). t.stage) threads ≡ stages n → t.stage ≡ cond (nat_le 8 n) (returned (pos 0)) running
       first_stage n [] t e h = absurd (cc e)
-      first_stage n (s ∷ ss) t e h = let same : s ≡ t = cc e in ap (λ (t : Thread). t.stage) (sym same) ∙ (let heads : s.stage ∷ map (λ (t : Thread). t.stage) ss ≡ cond (nat_le 8 n) (returned (pos 0)) running ∷ [] = h in cc heads)
+      first_stage n (s ∷ ss) t e h = let same : s ≡ t = cc e in ap (λ (t : ThreadRecord). t.stage) (sym same) ∙ (let heads : s.stage ∷ map (λ (t : ThreadRecord). t.stage) ss ≡ cond (nat_le 8 n) (returned (pos 0)) running ∷ [] = h in cc heads)
 
   all_printed : (n : ℕ) → nat_le 8 n ≡ true → n ≤ 8 → printed n ≡ codes "42\n"
   all_printed n h few = let e : n ≡ 8 = grind (arith, nat_tests, h, few) in subst (λ n. printed n ≡ codes "42\n") (sym e) refl

@@ -7,12 +7,12 @@ use Rattle.clap.proofs.OnLiterals.{clap_on_literals}
 use Rattle.block_store.specs.Runs.{no_run}
 use Rattle.c_meaning.specs.Meaning.{program, start}
 use Rattle.c_lex.specs.declared.refusal.Kind.{Kind}
-use Rattle.c_reader.specs.Reading.{OneTree, NotBoth}
-use Rattle.c_compile.specs.Built.{IsTreeOf}
+use Rattle.alaska_run.specs.Reading.{OneTree, NotBoth}
+use Rattle.alaska_run.specs.Built.{IsTreeOf}
 use Rattle.lower_forms.specs.Programs.{lowered}
 use Rattle.struct_ir.specs.Nodes.{Ir}
-use Rattle.flat_meaning.specs.declared.endings.End.{End}
-use Rattle.flat_meaning.specs.declared.endings.End.TheVariants as ends
+use Rattle.ak_trace.specs.declared.endings.End.{End}
+use Rattle.ak_trace.specs.declared.endings.End.TheVariants as ends
 use Rattle.flat_rules.specs.declared.settings.Settings.{Settings}
 use Rattle.flat_rules.specs.declared.settings.Mode.TheVariants.{Run}
 use Rattle.flat_machine.specs.Replays.{Final}

@@ -32,7 +32,7 @@ pub fn call_heap_text<R: Threads + Wait + Sync, F: Shelf, O: Sink, N: Sink, G: G
     requires told { F.contents shelf.old heap_name ≡ Some text }
     ensures { CameTo (shelved F.contents F.faults shelf.old shelf.new heap_name) (channel O.contents O.faults out.old out.new) (channel N.contents N.faults note.old note.new) (ending_view result) }
 {
-    c_reader::laws::read_each_text_once();
+    alaska_run::laws::read_each_text_once();
     heap_text::laws::it_has_its_tree();
     heap_text::laws::its_runs_are_known();
     heap_walk::laws::journals_have_room();

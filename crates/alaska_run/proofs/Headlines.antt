@@ -6,13 +6,13 @@ use Rattle.std.specs.Arc.{arc_value}
 use Rattle.ak_trace.specs.declared.entry.Entry.{Entry}
 use Rattle.c_tree.specs.Typed.{Typed}
 use Rattle.c_meaning.specs.Meaning.{program, start}
-use Rattle.c_reader.specs.Reading.{IsRead, OneTree}
-use Rattle.c_compile.specs.Built.{IsBuilt, IsTreeOf}
+use Rattle.alaska_run.specs.Reading.{IsRead, OneTree}
+use Rattle.alaska_run.specs.Built.{IsBuilt, IsTreeOf}
 use Rattle.struct_ir.specs.Nodes.{Ir}
 use Rattle.struct_ir.specs.Instrs.{LinearCode}
-use Rattle.pin_checker.specs.CheckedViews.{code_of}
-use Rattle.flat_meaning.specs.declared.endings.End.{End}
-use Rattle.flat_meaning.specs.declared.endings.End.TheVariants as ends
+use Rattle.pin_checker.specs.CheckedViews.{program_in}
+use Rattle.ak_trace.specs.declared.endings.End.{End}
+use Rattle.ak_trace.specs.declared.endings.End.TheVariants as ends
 use Rattle.flat_rules.specs.declared.settings.Settings.{Settings}
 use Rattle.flat_machine.specs.Replays.{Final, final_at, final_of}
 use Rattle.flat_replay.specs.Accesses.{AccessesStay}
@@ -70,7 +70,7 @@ memory_then status line out note (inr (inr w)) = w.status_is
 -- ---- a run
 
 module _ (words : List (List ℕ)) (file : List ℕ → Shelved) (out note : Channel) (x : Opened) (r : Ran) (e : Ending) (o : IsOpened words file x) (h : HasRun x r)
-    (es : e.settings ≡ Some x.settings) (et : e.text ≡ x.text.items) (ec : e.checked ≡ Some (code_of x.checked)) (ek : e.code ≡ Some (arc_value x.code)) (ej : e.journal ≡ Some r.journal.entries)
+    (es : e.settings ≡ Some x.settings) (et : e.text ≡ x.text.items) (ec : e.checked ≡ Some (program_in x.checked)) (ek : e.code ≡ Some (arc_value x.code)) (ej : e.journal ≡ Some r.journal.entries)
     (w : Written r.status e.status r.output.items r.line.items out note)
     (meant : JournalsMeanTheSource) (stay : AccessesOfJournalsStay) (once : OneTree) where
   whole : IsAll o.source e.text
@@ -85,8 +85,8 @@ module _ (words : List (List ℕ)) (file : List ℕ → Shelved) (out note : Cha
   code_is : (code : LinearCode) → e.code ≡ Some code → arc_value x.code ≡ code
   code_is code k = cc (sym ek ∙ k)
 
-  is_code : IsCodeOf file e (code_of x.checked) (arc_value x.code)
-  is_code = record { source = o.source; from = from; whole = whole; typed = o.typed; built = subst (λ (t : List ℕ). IsBuilt t o.typed (code_of x.checked) (arc_value x.code)) (sym et) o.built }
+  is_code : IsCodeOf file e (program_in x.checked) (arc_value x.code)
+  is_code = record { source = o.source; from = from; whole = whole; typed = o.typed; built = subst (λ (t : List ℕ). IsBuilt t o.typed (program_in x.checked) (arc_value x.code)) (sym et) o.built }
 
   log_is : (log : List Entry) → e.journal ≡ Some log → r.journal.entries ≡ log
   log_is log l = cc (sym ej ∙ l)
@@ -144,7 +144,7 @@ module _ (words : List (List ℕ)) (file : List ℕ → Shelved) (out note : Cha
   its_meaning : IsMeaning (program o.typed) (start o.typed) depth r.journal.entries x.settings h.final
   its_meaning =
       subst (IsMeaning (program o.typed) (start o.typed) depth r.journal.entries x.settings) h.final_is
-      (meant o.typed o.built.tree.well_formed (code_of x.checked) o.built.prepared.erased o.built.sound (arc_value x.code) o.built.emitted o.built.lawful o.ready.program x.settings r.journal.entries h.last h.leads)
+      (meant o.typed o.built.tree.well_formed (program_in x.checked) o.built.prepared.erased o.built.sound (arc_value x.code) o.built.emitted o.built.lawful o.ready.program x.settings r.journal.entries h.last h.leads)
 
   -- so does any that is told of it
   meaning : (typed : Typed) → IsTreeOf e.text typed → (log : List Entry) (end : End) (f : Final) → e.journal ≡ Some log → (run : IsRun e log end f) → IsMeaning (program typed) (start typed) depth log run.settings f
@@ -160,18 +160,18 @@ module _ (words : List (List ℕ)) (file : List ℕ → Shelved) (out note : Cha
   accesses log end f l run checked is =
       let s : x.settings ≡ run.settings = cc (sym es ∙ run.has_settings) in
       let k : arc_value x.code ≡ run.code = code_is run.code run.has_code in
-      let p : code_of x.checked ≡ checked = cc (sym ec ∙ is) in
-      let a : AccessesStay (code_of x.checked) (arc_value x.code) x.settings r.journal.entries = stay (code_of x.checked) o.built.sound (arc_value x.code) o.built.emitted o.built.lawful o.ready.program x.settings r.journal.entries h.last h.leads in
-      let b : AccessesStay (code_of x.checked) (arc_value x.code) x.settings log = subst (AccessesStay (code_of x.checked) (arc_value x.code) x.settings) (log_is log l) a in
-      let c : AccessesStay (code_of x.checked) run.code x.settings log = subst (λ (z : LinearCode). AccessesStay (code_of x.checked) z x.settings log) k b in
-      let d : AccessesStay (code_of x.checked) run.code run.settings log = subst (λ (z : Settings). AccessesStay (code_of x.checked) run.code z log) s c in
+      let p : program_in x.checked ≡ checked = cc (sym ec ∙ is) in
+      let a : AccessesStay (program_in x.checked) (arc_value x.code) x.settings r.journal.entries = stay (program_in x.checked) o.built.sound (arc_value x.code) o.built.emitted o.built.lawful o.ready.program x.settings r.journal.entries h.last h.leads in
+      let b : AccessesStay (program_in x.checked) (arc_value x.code) x.settings log = subst (AccessesStay (program_in x.checked) (arc_value x.code) x.settings) (log_is log l) a in
+      let c : AccessesStay (program_in x.checked) run.code x.settings log = subst (λ (z : LinearCode). AccessesStay (program_in x.checked) z x.settings log) k b in
+      let d : AccessesStay (program_in x.checked) run.code run.settings log = subst (λ (z : Settings). AccessesStay (program_in x.checked) run.code z log) s c in
       subst (λ (z : Ir). AccessesStay z run.code run.settings log) p d
 
   pub of_run : Headline words file out note e
   of_run = record {
     the_text = record { settings = inl (ap (option_map wanted_of) es ∙ sym o.settings); text = text_of; none = λ n. absurd (let z : Some x.settings ≡ None = sym es ∙ n in cc z) };
     the_code = record {
-      ran = λ code k. (code_of x.checked, ec, some_there e.journal _ ej, subst (λ (z : LinearCode). IsCodeOf file e (code_of x.checked) z) (code_is code k) is_code);
+      ran = λ code k. (program_in x.checked, ec, some_there e.journal _ ej, subst (λ (z : LinearCode). IsCodeOf file e (program_in x.checked) z) (code_is code k) is_code);
       checked = λ z. some_there e.code _ ek;
       journal = λ z. some_there e.code _ ek;
     };

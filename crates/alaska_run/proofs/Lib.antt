@@ -3,3 +3,10 @@ pub mod Words
 pub mod Prepared
 pub mod Headlines
 pub mod Told
+mod Reasons
+pub mod SameTurns
+pub mod SomeAnswers
+pub mod SizedExprs
+pub mod SizedStmts
+pub mod SizedPrograms
+pub mod Checked

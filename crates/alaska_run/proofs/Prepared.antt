@@ -3,8 +3,8 @@ use Rattle.std.proofs.Common.{◌≡◌, ℕ, List, [], Option, Some, None, Resu
 use Rattle.std.specs.Prelude.{IfOk}
 use Rattle.std.specs.Option.{option_map}
 use Rattle.std.specs.Arc.{arc_value}
-use Rattle.c_compile.specs.Built.{IsBuilt}
-use Rattle.pin_checker.specs.CheckedViews.{code_of}
+use Rattle.alaska_run.specs.Built.{IsBuilt}
+use Rattle.pin_checker.specs.CheckedViews.{program_in}
 use Rattle.flat_rules.specs.declared.settings.Settings.{Settings}
 use Rattle.flat_rules.specs.declared.settings.Mode.TheVariants.{Run, Churn}
 use Rattle.run_words.specs.Wanted.{Wanted, settings_of, wanted_of}
@@ -47,7 +47,7 @@ module _ (words : List (List ℕ)) (file : List ℕ → Shelved) (s : Settings) 
   opened x whole o =
       let P : Settings → Type 0 = λ z. (settings_of words ≡ Some (wanted_of z)) × (source_of file (wanted_of z) ≡ Some source) in
       let a : P x.settings = subst P (sym o.settings_are) (said, from) in
-      let Q : List ℕ → Type 0 = λ t. IsAll source t × IsBuilt t o.typed (code_of x.checked) (arc_value x.code) in
+      let Q : List ℕ → Type 0 = λ t. IsAll source t × IsBuilt t o.typed (program_in x.checked) (arc_value x.code) in
       let b : Q x.text.items = subst Q (sym o.text_is) (whole, o.built) in
       record { settings = a.0; source = source; from = a.1; whole = b.0; typed = o.typed; built = b.1; ready = o.ready }
 

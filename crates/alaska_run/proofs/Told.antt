@@ -6,10 +6,10 @@ use Rattle.c_lex.specs.declared.refusal.Refusal.{Refusal}
 use Rattle.c_lex.specs.declared.refusal.Kind.{Kind}
 use Rattle.c_lex.specs.declared.refusal.Kind.TheVariants.{TooLong}
 use Rattle.c_tree.specs.Typed.{Typed}
-use Rattle.c_reader.specs.Reading.{Refuses, NotBoth, OneReason}
-use Rattle.c_compile.specs.Built.{IsTreeOf}
-use Rattle.flat_meaning.specs.declared.endings.End.{End}
-use Rattle.flat_meaning.specs.declared.endings.End.TheVariants as ends
+use Rattle.alaska_run.specs.Reading.{Refuses, NotBoth, OneReason}
+use Rattle.alaska_run.specs.Built.{IsTreeOf}
+use Rattle.ak_trace.specs.declared.endings.End.{End}
+use Rattle.ak_trace.specs.declared.endings.End.TheVariants as ends
 use Rattle.flat_rules.specs.declared.settings.Settings.{Settings}
 use Rattle.run_words.specs.Wanted.{Wanted, settings_of, wanted_of}
 use Rattle.run_notes.specs.declared.status.Status.{Status}

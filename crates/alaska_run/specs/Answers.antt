@@ -4,8 +4,8 @@ use Rattle.c_lex.specs.declared.refusal.Refusal.{Refusal}
 use Rattle.c_lex.specs.declared.refusal.Kind.{Kind}
 use Rattle.c_lex.specs.declared.refusal.Kind.TheVariants.{TooLong}
 use Rattle.c_tree.specs.Typed.{Typed}
-use Rattle.c_reader.specs.Reading.{Refuses}
-use Rattle.c_compile.specs.Built.{IsTreeOf}
+use Rattle.alaska_run.specs.Reading.{Refuses}
+use Rattle.alaska_run.specs.Built.{IsTreeOf}
 use Rattle.run_words.specs.Wanted.{Wanted, settings_of}
 use Rattle.run_notes.specs.declared.status.Status.{Status}
 use Rattle.run_notes.specs.declared.status.Status.TheVariants as statuses

@@ -5,7 +5,7 @@ use Rattle.std.specs.Arc.{arc_value}
 use Rattle.ak_trace.specs.declared.entry.Entry.{Entry}
 use Rattle.struct_ir.specs.Nodes.{Ir}
 use Rattle.struct_ir.specs.Instrs.{LinearCode}
-use Rattle.pin_checker.specs.CheckedViews.{code_of}
+use Rattle.pin_checker.specs.CheckedViews.{program_in}
 use Rattle.flat_rules.specs.declared.settings.Settings.{Settings}
 use Rattle.run_notes.specs.declared.status.Status.{Status}
 use Rattle.run_notes.specs.declared.status.Status.TheVariants.{NoMemory}
@@ -26,7 +26,7 @@ ending_view e = record {
   status = e.status;
   settings = e.settings;
   text = e.text.items;
-  checked = option_map code_of e.checked;
+  checked = option_map program_in e.checked;
   code = option_map arc_value e.code;
   journal = option_map (λ k. k.entries) e.journal;
 }

@@ -2,7 +2,7 @@
 use Rattle.std.specs.Prelude.{◌≡◌, ℕ, ◌⊎◌, List, Option, Some, None}
 use Rattle.c_lex.specs.declared.refusal.Kind.{Kind}
 use Rattle.c_lex.specs.declared.refusal.Kind.TheVariants.{TooLong}
-use Rattle.c_reader.specs.Reading.{Refuses}
+use Rattle.alaska_run.specs.Reading.{Refuses}
 use Rattle.flat_rules.specs.declared.settings.Settings.{Settings}
 use Rattle.run_words.specs.Wanted.{settings_of}
 use Rattle.run_notes.specs.declared.status.Status.{Status}

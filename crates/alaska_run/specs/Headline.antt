@@ -7,10 +7,10 @@ use Rattle.block_store.specs.Runs.{no_run}
 use Rattle.c_tree.specs.Typed.{Typed}
 use Rattle.c_meaning.specs.Control.{Control}
 use Rattle.c_meaning.specs.Meaning.{program, start}
-use Rattle.c_compile.specs.Built.{IsBuilt, IsTreeOf}
+use Rattle.alaska_run.specs.Built.{IsBuilt, IsTreeOf}
 use Rattle.struct_ir.specs.Nodes.{Ir}
 use Rattle.struct_ir.specs.Instrs.{LinearCode}
-use Rattle.flat_meaning.specs.declared.endings.End.{End}
+use Rattle.ak_trace.specs.declared.endings.End.{End}
 use Rattle.flat_rules.specs.declared.settings.Settings.{Settings}
 use Rattle.flat_machine.specs.Replays.{Final, final_of}
 use Rattle.flat_replay.specs.Accesses.{AccessesStay}

@@ -4,3 +4,5 @@ pub mod Faults
 pub mod Headline
 pub mod Answers
 pub mod inner
+pub mod Reading
+pub mod Built

@@ -23,6 +23,7 @@ abbrev pub source_by : Mode → (List ℕ → Shelved) → Wanted → Option Sou
 source_by Run file w = option_map (λ name. Read (file name)) w.file
 source_by Churn file w = churned w.seed w.size
 
+-- what the text comes from that is wanted
 abbrev pub source_of : (List ℕ → Shelved) → Wanted → Option Source
 source_of file w = source_by w.mode file w
 

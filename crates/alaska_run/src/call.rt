@@ -122,7 +122,7 @@ pub fn alaska<R: Threads + Wait + Sync, F: Shelf, O: Sink, N: Sink, G: Gate>(
     // Nor is it in mode churn.
     ensures unread { (wanted : Wanted) → settings_of (map string_bytes words.now) ≡ Some wanted → wanted.mode ≡ Churn → shelf.new ≡ shelf.old }
 {
-    c_reader::laws::read_each_text_once();
+    crate::laws::read_each_text_once();
     flat_replay::laws::journals_mean_the_source();
     flat_replay::laws::accesses_of_journals_stay();
     match prepare(alloc, words, shelf) {

@@ -1,14 +1,19 @@
-//! The public call `alaska`: from the words of a command line to what a C program writes and how it ends.
-//! Promises upward: what is written and how it ended is what the run's journal replays to, on the text's own code; each other status has its cause.
-//! Stands on run_words for the words, on run_edges for the text, the statuses and the sinks, on c_compile, and on ak_crew over ak_world and flat_machine.
+//! The public call `alaska`: from the words of a command line to what a C program writes and how it ends; and its first two steps, `read` from a text to its typed tree, and `compile` from there to the machine's code.
+//! Promises upward: what is written and how it ended is what the run's journal replays to, on the text's own code; each other status has its cause. A text has one typed tree, checked code that keeps every turn of it, and linear code, or one refusal.
+//! Stands on c_lex, c_parse and c_types for reading, on ir_lower, lower_turns and compile_passes for the code, on run_words for the words, on run_edges for the text, the statuses and the sinks, and on ak_crew over ak_world and flat_machine.
 #![tactic(auto)]
 
 mod call;
+pub mod compiling;
 mod ending;
+pub mod laws;
 mod preparing;
+mod reading;
 mod running;
 
 pub use call::alaska;
+pub use compiling::{Built, compile};
 pub use ending::Ending;
 pub use flat_machine::{Mode, Settings, TrapKind};
+pub use reading::{Reading, read};
 pub use run_notes::Status;

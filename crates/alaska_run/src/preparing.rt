@@ -2,11 +2,11 @@
 
 ghost use Rattle.std.specs.Prelude.{◌≡◌, ◌≤◌, ℕ, List, [], map, string_bytes, length, unwrap_or, option_map, IfOk, Some, None};
 ghost use Rattle.std.specs.Arc.{arc_value};
-ghost use Rattle.c_reader.specs.Reading.{Refuses};
+ghost use Rattle.alaska_run.specs.Reading.{Refuses};
 ghost use Rattle.c_tree.specs.TypedViews.{typed_view};
 ghost use Rattle.struct_ir.specs.LinearViews.{code_view};
-ghost use Rattle.pin_checker.specs.CheckedViews.{code_of};
-ghost use Rattle.c_compile.specs.Built.{IsBuilt};
+ghost use Rattle.pin_checker.specs.CheckedViews.{program_in};
+ghost use Rattle.alaska_run.specs.Built.{IsBuilt};
 ghost use Rattle.run_words.specs.Wanted.{Wanted, settings_of, wanted_of};
 ghost use Rattle.alaska_run.specs.Sources.{name_in};
 ghost use Rattle.alaska_run.specs.Faults.{IsFault};
@@ -14,10 +14,10 @@ ghost use Rattle.alaska_run.specs.Headline.{IsTextOf};
 ghost use Rattle.run_edges.specs.Files.{Shelved, shelved};
 ghost use Rattle.alaska_run.specs.inner.Courses.{IsCourse, IsCourseOf, IsReady, IsStoppedAs};
 
+use crate::{Built, compile};
 use ak_io::Shelf;
 use ak_words::NoMemory;
 use ak_world::{SharedWorld, World};
-use c_compile::{Built, compile};
 use c_lex::{CompileFault, Kind};
 use flat_machine::{Context, Mode, Program, Settings, Shared};
 use pin_checker::Checked;

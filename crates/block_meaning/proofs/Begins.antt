@@ -14,9 +14,9 @@ use Rattle.c_meaning.specs.Turns.{first_locals}
 use Rattle.source_tree.specs.declared.tree.SharedFunc.{SharedFunc}
 use Rattle.source_tree.specs.declared.tree.SharedProgram.{SharedProgram}
 use Rattle.source_tree.specs.SharedViews.{func_of, program_of, row_of}
-use Rattle.source_control.specs.declared.locals.Variable.{Variable}
-use Rattle.source_control.specs.declared.locals.Variable.TheVariants as variables
-use Rattle.source_control.specs.Variables.{variable_of}
+use Rattle.source_state.specs.declared.locals.Variable.{Variable}
+use Rattle.source_state.specs.declared.locals.Variable.TheVariants as variables
+use Rattle.source_state.specs.Variables.{variable_of}
 use Rattle.block_meaning.proofs.Lists.{drop_read}
 
 pub all_unset : (n : ℕ) → map variable_of (replicate n variables.Unset) ≡ replicate n control.unset

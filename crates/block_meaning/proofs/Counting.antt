@@ -11,15 +11,15 @@ use Rattle.block_store.specs.declared.values.Answer.TheVariants as answers
 use Rattle.block_store.specs.declared.values.Value.{Value}
 use Rattle.block_store.specs.declared.values.Value.TheVariants as values
 use Rattle.block_store.specs.Actions as actions
-use Rattle.block_store.specs.Actions.{World, Action, Done}
+use Rattle.block_store.specs.Actions.{World, SharedAction, Done}
 use Rattle.block_store.specs.Runs.{Turn, went, ended, blocked, unfit, broke}
 use Rattle.c_tree.specs.Typed as tree
 use Rattle.c_meaning.specs.Control as control
-use Rattle.c_meaning.specs.Control.{Control, Variable, Wait, Point, Caller, Callee, wanted, dropped}
+use Rattle.c_meaning.specs.Control.{Control, Variable, Wait, TurnStart, Caller, Callee, wanted, dropped}
 use Rattle.c_meaning.specs.Library.{action_of, value_of_call}
 use Rattle.c_meaning.specs.Values as reads
 use Rattle.c_meaning.specs.Values.{access_of_type, element_size, truth_of, int_of, Unary, Binary}
-use Rattle.c_meaning.specs.Turns.{Here, Now, Does, WayOfUse, Way, on_ok, plainly, stays, on_done, acts, after_call, variable_at, begins_in, enters, calls_library, calls, result_of_call, number_in, returns_to, leaves_call, without_blocks, pointer_in, read_way, only_way, second_way, first_way, second_test_way, is_same, first_test_way, choice_way, argument_way, reads_variable, finds_variable, literal_block, size_of_elements, run, run_node, run_place, run_place_node, run_arguments}
+use Rattle.c_meaning.specs.Turns.{TurnContext, Now, Does, WayOfUse, Way, on_ok, plainly, stays, on_done, acts, after_call, variable_at, begins_in, enters, calls_library, calls, result_of_call, number_in, returns_to, leaves_call, without_blocks, pointer_in, read_way, only_way, second_way, first_way, second_test_way, is_same, first_test_way, choice_way, argument_way, reads_variable, finds_variable, literal_block, size_of_elements, run, run_node, run_place, run_place_node, run_arguments}
 use Rattle.block_meaning.specs.Counts.{in_row, reached, reached_by, Fits, FitsUse, FitsWait, FitsPoint, FitsCallers, FitsControl, HasFewDeclarations}
 use Rattle.block_meaning.proofs.Small.{Small, small_acted, without_blocks_length}
 
@@ -72,7 +72,7 @@ pub record MakesWay (n : ℕ) (w : Way) : Type 0 where
   pub continues : Makes n (reached w.k) w.continues
 
 -- what stays the same in a turn
-pub record Few (n : ℕ) (h : Here) : Type 0 where
+pub record Few (n : ℕ) (h : TurnContext) : Type 0 where
   pub callers : FitsCallers n h.callers
   pub few : HasFewDeclarations n h.typed
 
@@ -94,7 +94,7 @@ on_done_within n b c place go actions.unfit small s = tt
 on_done_within n b c place go (actions.broke rule) small s = tt
 
 -- an action, and where the thread goes on
-pub acts_within : (n m : ℕ) (h : Here) (place : ℕ) (action : Action) (locals : List Variable) (point : Option Value → Point) → Few n h → ((v : Option Value) → FitsPoint n (point v)) → (x : Now)
+pub acts_within : (n m : ℕ) (h : TurnContext) (place : ℕ) (action : SharedAction) (locals : List Variable) (point : Option Value → TurnStart) → Few n h → ((v : Option Value) → FitsPoint n (point v)) → (x : Now)
     → Within n (length x.world.blocks + m) (acts h place action (λ u next. stays h locals (point u) next) x)
 acts_within n m h place action locals point f fits x =
     on_done_within n (length x.world.blocks) (length x.world.blocks + m) place (λ u next. stays h locals (point u) next) (actions.acted x.world h.thread h.answer action) (small_acted x.world h.thread h.answer action)
@@ -107,7 +107,7 @@ after_fits n (dropped k) v s = s
 
 -- ---- calls
 
-enters_within : (n : ℕ) (h : Here) (number : ℕ) (args : List Value) (k : Wait) (x : Now) (found : Option tree.Func) → Few n h → FitsWait n k → ((f : tree.Func) → found ≡ Some f → in_row f.body ≤ n)
+enters_within : (n : ℕ) (h : TurnContext) (number : ℕ) (args : List Value) (k : Wait) (x : Now) (found : Option tree.Func) → Few n h → FitsWait n k → ((f : tree.Func) → found ≡ Some f → in_row f.body ≤ n)
     → Within n (length x.world.blocks) (enters h number args k x found)
 enters_within n h number args k x None f fits few = tt
 enters_within n h number args k x (Some g) f fits few =
@@ -115,33 +115,33 @@ enters_within n h number args k x (Some g) f fits few =
     plainly_within n (length x.world.blocks) h.answer (went (begins_in number g args (record { function = h.function; locals = x.locals; wait = k } ∷ h.callers)) x.world)
     (omega arith, ((omega (arith, here), tt), (fits, f.callers)))
 
-calls_library_within : (n : ℕ) (h : Here) (place : ℕ) (which : tree.Lib) (args : List Value) (k : Wait) (action : Option Action) (x : Now) → Few n h → FitsWait n k
+calls_library_within : (n : ℕ) (h : TurnContext) (place : ℕ) (which : tree.Lib) (args : List Value) (k : Wait) (action : Option SharedAction) (x : Now) → Few n h → FitsWait n k
     → Within n (length x.world.blocks + 0) (calls_library h place which args k action x)
 calls_library_within n h place which args k None x f fits = tt
 calls_library_within n h place which args k (Some action) x f fits =
     acts_within n 0 h place action x.locals (λ v. after_call k (value_of_call which args v)) f (λ v. after_fits n k (value_of_call which args v) fits) x
 
-calls_within : (n : ℕ) (h : Here) (place : ℕ) (callee : Callee) (args : List Value) (k : Wait) (x : Now) → Few n h → FitsWait n k → Within n (length x.world.blocks + 0) (calls h place callee args k x)
+calls_within : (n : ℕ) (h : TurnContext) (place : ℕ) (callee : Callee) (args : List Value) (k : Wait) (x : Now) → Few n h → FitsWait n k → Within n (length x.world.blocks + 0) (calls h place callee args k x)
 calls_within n h place (control.function number) args k x f fits =
     within_more n (length x.world.blocks) (length x.world.blocks + 0) (calls h place (control.function number) args k x) (omega arith)
     (enters_within n h number args k x (slice_get h.typed.funcs number) f fits (f.few number))
 calls_within n h place (control.library which) args k x f fits = calls_library_within n h place which args k (action_of which args) x f fits
 
-returns_within : (n : ℕ) (h : Here) (v : Option Value) (w : World) (callers : List Caller) → FitsCallers n callers → Within n (length w.blocks) (returns_to h v w callers)
+returns_within : (n : ℕ) (h : TurnContext) (v : Option Value) (w : World) (callers : List Caller) → FitsCallers n callers → Within n (length w.blocks) (returns_to h v w callers)
 returns_within n h v w [] fits =
     on_done_within n (length w.blocks) (length w.blocks) 0 (λ u next. ended next) (actions.acted w h.thread h.answer (actions.finish (number_in v))) (small_acted w h.thread h.answer (actions.finish (number_in v))) (λ u next s. s)
 returns_within n h v w (c ∷ callers) fits =
     plainly_within n (length w.blocks) h.answer (went (record { function = c.function; locals = c.locals; point = after_call c.wait v; callers = callers }) w)
     (omega arith, (after_fits n c.wait v fits.0, fits.1))
 
-pub leaves_makes : (n m : ℕ) (h : Here) (v : Option Value) → Few n h → Makes n m (leaves_call h v)
+pub leaves_makes : (n m : ℕ) (h : TurnContext) (v : Option Value) → Few n h → Makes n m (leaves_call h v)
 leaves_makes n m h v f x =
     within_more n (length (without_blocks x.locals x.world).blocks) (length x.world.blocks + m) (leaves_call h v x) (omega (arith, without_blocks_length x.locals x.world))
     (returns_within n h (result_of_call h v) (without_blocks x.locals x.world) h.callers f.callers)
 
 -- ---- what uses a value in an expression
 
-pub read_makes : (n : ℕ) (h : Here) (place : ℕ) (how : Access) (w : WayOfUse) → Few n h → MakesUse n w → MakesUse n (read_way h place how w)
+pub read_makes : (n : ℕ) (h : TurnContext) (place : ℕ) (how : Access) (w : WayOfUse) → Few n h → MakesUse n w → MakesUse n (read_way h place how w)
 read_makes n h place how w f g = record {
   fits = g.fits;
   goes = λ v x. acts_within n (reached_by w.k) h place (actions.load (pointer_in v) how) x.locals (λ u. after_call (wanted place w.k) u) f (λ u. after_fits n (wanted place w.k) u g.fits) x;
@@ -192,7 +192,7 @@ choice_makes n place one other run_one run_other w s t g = record {
 pub argument_makes : (n place : ℕ) (callee : Callee) (before : List Value) (rest : tree.Exprs) (run_rest : List Value → Wait → Does) (k : Wait) → FitsWait n k → ((all : List Value) → Makes n 0 (run_rest all k)) → MakesUse n (argument_way place callee before rest run_rest k)
 argument_makes n place callee before rest run_rest k fits s = record { fits = fits; goes = λ v x. s (before ++ v ∷ []) x }
 
-reads_variable_makes : (n : ℕ) (h : Here) (place : ℕ) (ty : tree.Ty) (w : WayOfUse) (v : Variable) → Few n h → MakesUse n w → Makes n (reached_by w.k) (reads_variable h place ty w v)
+reads_variable_makes : (n : ℕ) (h : TurnContext) (place : ℕ) (ty : tree.Ty) (w : WayOfUse) (v : Variable) → Few n h → MakesUse n w → Makes n (reached_by w.k) (reads_variable h place ty w v)
 reads_variable_makes n h place ty w control.unset f g x = tt
 reads_variable_makes n h place ty w (control.holds v) f g x = g.goes v x
 reads_variable_makes n h place ty w (control.lies block) f g x = (read_makes n h place (access_of_type ty) w f g).goes (block_value block) x
@@ -205,10 +205,10 @@ finds_variable_makes n place w (control.lies block) g x = g.goes (block_value bl
 -- ---- expressions
 
 mutual
-  pub run_makes : (n : ℕ) (h : Here) → Few n h → (e : tree.Expr) → Runs n (run h e)
+  pub run_makes : (n : ℕ) (h : TurnContext) → Few n h → (e : tree.Expr) → Runs n (run h e)
   run_makes n h f (tree.at place ty node) w g x = run_node_makes n h f place ty node w g x
 
-  pub run_node_makes : (n : ℕ) (h : Here) → Few n h → (place : ℕ) (ty : tree.Ty) (node : tree.ExprNode) → Runs n (run_node h place ty node)
+  pub run_node_makes : (n : ℕ) (h : TurnContext) → Few n h → (place : ℕ) (ty : tree.Ty) (node : tree.ExprNode) → Runs n (run_node h place ty node)
   run_node_makes n h f place ty (tree.num t z) w g x = g.goes (number_value t z) x
   run_node_makes n h f place ty tree.null w g x = g.goes null_value x
   run_node_makes n h f place ty (tree.literal number) w g x = (read_makes n h place (access_of_type ty) w f g).goes (block_value (literal_block h number)) x
@@ -246,10 +246,10 @@ mutual
       within_more n (length x.world.blocks + 0) (length x.world.blocks + reached_by w.k) (run_arguments h place (control.library which) args [] (wanted place w.k) x) (omega arith)
       (run_arguments_makes n h f place (control.library which) args [] (wanted place w.k) g.fits x)
 
-  pub run_place_makes : (n : ℕ) (h : Here) → Few n h → (e : tree.Expr) → Runs n (run_place h e)
+  pub run_place_makes : (n : ℕ) (h : TurnContext) → Few n h → (e : tree.Expr) → Runs n (run_place h e)
   run_place_makes n h f (tree.at place ty node) w g x = run_place_node_makes n h f place node w g x
 
-  pub run_place_node_makes : (n : ℕ) (h : Here) → Few n h → (place : ℕ) (node : tree.ExprNode) → Runs n (run_place_node h place node)
+  pub run_place_node_makes : (n : ℕ) (h : TurnContext) → Few n h → (place : ℕ) (node : tree.ExprNode) → Runs n (run_place_node h place node)
   run_place_node_makes n h f place (tree.literal number) w g x = g.goes (block_value (literal_block h number)) x
   run_place_node_makes n h f place (tree.global number) w g x = g.goes (block_value number) x
   run_place_node_makes n h f place (tree.local number) w g x = finds_variable_makes n place w (variable_at x number) g x
@@ -275,7 +275,7 @@ mutual
   run_place_node_makes n h f place (tree.call number args) w g x = tt
   run_place_node_makes n h f place (tree.lib which args) w g x = tt
 
-  pub run_arguments_makes : (n : ℕ) (h : Here) → Few n h → (place : ℕ) (callee : Callee) (args : tree.Exprs) (before : List Value) (k : Wait) → FitsWait n k → Makes n 0 (run_arguments h place callee args before k)
+  pub run_arguments_makes : (n : ℕ) (h : TurnContext) → Few n h → (place : ℕ) (callee : Callee) (args : tree.Exprs) (before : List Value) (k : Wait) → FitsWait n k → Makes n 0 (run_arguments h place callee args before k)
   run_arguments_makes n h f place callee tree.no_exprs before k fits x = calls_within n h place callee before k x f fits
   run_arguments_makes n h f place callee (tree.more_exprs e rest) before k fits x =
       run_makes n h f e (argument_way place callee before rest (run_arguments h place callee rest) k)

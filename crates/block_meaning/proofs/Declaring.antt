@@ -11,10 +11,10 @@ use Rattle.block_store.specs.Actions.{World}
 use Rattle.c_tree.specs.Typed as tree
 use Rattle.c_tree.specs.TypedLayout.{size_in, align_in}
 use Rattle.c_meaning.specs.Control as control
-use Rattle.c_meaning.specs.Control.{Control, Variable, Todo, Use, Point, Loop, Update, wanted, dropped}
+use Rattle.c_meaning.specs.Control.{Control, Variable, Todo, Use, TurnStart, Loop, Update, wanted, dropped}
 use Rattle.c_meaning.specs.Values.{access_of_type, is_scalar, truth_of, updated}
-use Rattle.c_meaning.specs.Turns.{Here, Now, Does, Way, stays, after_call, local_at, is_block, size_of_local, variable_at, with_variable, ended_if, ended_local, ended_locals, made_local, declared_local, declared, declared_by, pointer_in, run, run_node, run_place, run_place_node, run_arguments, nowhere_way, drops_object, run_dropped, run_dropped_node, local_way, place_way, left_way, struct_right_way, struct_left_way, is_struct, assigns_object, assigns, update_read_way, update_right_way, update_left_way, updates_variable, update_local_way, updates, initialises, declares, caller_way, returns, if_way, nothing, leave_way, row_way, end_way, round_over, step_way, body_way, loop_test_way, rounds_if, rounds, loop_way, while_loop, for_loop, update_of, run_stmt, run_stmt_node, run_row, way_of, use_of, from_point, here, turn}
-use Rattle.source_walk.proofs.Names.{name_todo, name_use}
+use Rattle.c_meaning.specs.Turns.{TurnContext, Now, Does, Way, stays, after_call, local_at, is_block, size_of_local, variable_at, with_variable, ended_if, ended_local, ended_locals, made_local, declared_local, declared, declared_by, pointer_in, run, run_node, run_place, run_place_node, run_arguments, nowhere_way, drops_object, run_dropped, run_dropped_node, local_way, place_way, left_way, struct_right_way, struct_left_way, is_struct, assigns_object, assigns, update_read_way, update_right_way, update_left_way, updates_variable, update_local_way, updates, initialises, declares, caller_way, returns, if_way, nothing, leave_way, row_way, end_way, round_over, step_way, body_way, loop_test_way, rounds_if, rounds, loop_way, while_loop, for_loop, update_of, run_stmt, run_stmt_node, run_row, way_of, use_of, from_point, here, turn}
+use Rattle.source_statements.proofs.Names.{name_todo, name_use}
 use Rattle.block_meaning.specs.Counts.{in_stmt, in_node, in_row, in_loop, reached, reached_by, Fits, FitsUse, FitsPoint, FitsControl, HasFewDeclarations}
 use Rattle.block_meaning.proofs.Counting.{Within, within_more, within_if, Makes, makes_more, MakesUse, MakesWay, Few, on_ok_within, plainly_within, acts_within, after_fits, leaves_makes, block_value, read_makes, only_makes, second_makes, first_makes, second_test_makes, first_test_makes, choice_makes, argument_makes, run_makes, run_node_makes, run_place_makes, run_place_node_makes, run_arguments_makes}
 
@@ -37,7 +37,7 @@ ended_locals_length : (numbers : List ℕ) (x : Now) → length (ended_locals nu
 ended_locals_length [] x = refl
 ended_locals_length (number ∷ numbers) x = ended_locals_length numbers (ended_local number x) ∙ ended_if_length number (variable_at x number) x
 
-made_local_length : (h : Here) (number : ℕ) (x : Now) → length (made_local h number x).world.blocks ≡ length x.world.blocks + 1
+made_local_length : (h : TurnContext) (number : ℕ) (x : Now) → length (made_local h number x).world.blocks ≡ length x.world.blocks + 1
 made_local_length h number x =
     length_push (ended_local number x).world.blocks (Some (record { kind = kinds.Local; cells = replicate (size_of_local h (local_at h number)) Unknown })) ∙ ap (λ k. k + 1) (ended_if_length number (variable_at x number) x)
 
@@ -49,31 +49,31 @@ nowhere_makes n w g = record { fits = g.fits; goes = λ v x. g.ends x }
 local_makes : (n number : ℕ) (w : Way) → MakesWay n w → MakesUse n (local_way number w)
 local_makes n number w g = record { fits = g.fits; goes = λ v x. g.ends (with_variable number (control.holds v) x) }
 
-place_makes : (n : ℕ) (h : Here) (place : ℕ) (to : Value) (w : Way) → Few n h → MakesWay n w → MakesUse n (place_way h place to w)
+place_makes : (n : ℕ) (h : TurnContext) (place : ℕ) (to : Value) (w : Way) → Few n h → MakesWay n w → MakesUse n (place_way h place to w)
 place_makes n h place to w f g = record {
   fits = g.fits;
   goes = λ v x. acts_within n (reached w.k) h place (actions.store (pointer_in to) v) x.locals (λ u. control.begins w.k) f (λ u. g.fits) x;
 }
 
-left_makes : (n : ℕ) (h : Here) (place : ℕ) (right : tree.Expr) (w : Way) → Few n h → MakesWay n w → MakesUse n (left_way h place right w)
+left_makes : (n : ℕ) (h : TurnContext) (place : ℕ) (right : tree.Expr) (w : Way) → Few n h → MakesWay n w → MakesUse n (left_way h place right w)
 left_makes n h place right w f g = record { fits = g.fits; goes = λ v x. run_makes n h f right (place_way h place v w) (place_makes n h place v w f g) x }
 
-struct_right_makes : (n : ℕ) (h : Here) (place : ℕ) (ty : tree.Ty) (to : Value) (w : Way) → Few n h → MakesWay n w → MakesUse n (struct_right_way h place ty to w)
+struct_right_makes : (n : ℕ) (h : TurnContext) (place : ℕ) (ty : tree.Ty) (to : Value) (w : Way) → Few n h → MakesWay n w → MakesUse n (struct_right_way h place ty to w)
 struct_right_makes n h place ty to w f g = record {
   fits = g.fits;
   goes = λ v x. acts_within n (reached w.k) h place (actions.copy (pointer_in to) (pointer_in v) (size_in h.typed.structs ty) (align_in h.typed.structs ty) true) x.locals (λ u. control.begins w.k) f (λ u. g.fits) x;
 }
 
-struct_left_makes : (n : ℕ) (h : Here) (place : ℕ) (ty : tree.Ty) (right : tree.Expr) (w : Way) → Few n h → MakesWay n w → MakesUse n (struct_left_way h place ty right w)
+struct_left_makes : (n : ℕ) (h : TurnContext) (place : ℕ) (ty : tree.Ty) (right : tree.Expr) (w : Way) → Few n h → MakesWay n w → MakesUse n (struct_left_way h place ty right w)
 struct_left_makes n h place ty right w f g = record { fits = g.fits; goes = λ v x. run_place_makes n h f right (struct_right_way h place ty v w) (struct_right_makes n h place ty v w f g) x }
 
-assigns_object_makes : (n : ℕ) (h : Here) (left right : tree.Expr) (w : Way) → Few n h → MakesWay n w → Makes n (reached w.k) (assigns_object h left right w)
+assigns_object_makes : (n : ℕ) (h : TurnContext) (left right : tree.Expr) (w : Way) → Few n h → MakesWay n w → Makes n (reached w.k) (assigns_object h left right w)
 assigns_object_makes n h left right w f g =
     makes_if n (reached w.k) (is_struct (tree.type_of left)) (run_place h left (struct_left_way h (tree.place_of left) (tree.type_of left) right w)) (run_place h left (left_way h (tree.place_of left) right w))
     (run_place_makes n h f left (struct_left_way h (tree.place_of left) (tree.type_of left) right w) (struct_left_makes n h (tree.place_of left) (tree.type_of left) right w f g))
     (run_place_makes n h f left (left_way h (tree.place_of left) right w) (left_makes n h (tree.place_of left) right w f g))
 
-assigns_makes : (n : ℕ) (h : Here) (node : tree.ExprNode) (left right : tree.Expr) (w : Way) → Few n h → MakesWay n w → Makes n (reached w.k) (assigns h node left right w)
+assigns_makes : (n : ℕ) (h : TurnContext) (node : tree.ExprNode) (left right : tree.Expr) (w : Way) → Few n h → MakesWay n w → Makes n (reached w.k) (assigns h node left right w)
 assigns_makes n h (tree.local number) left right w f g =
     makes_if n (reached w.k) (is_block (local_at h number)) (assigns_object h left right w) (run h right (local_way number w))
     (assigns_object_makes n h left right w f g) (run_makes n h f right (local_way number w) (local_makes n number w g))
@@ -99,34 +99,34 @@ assigns_makes n h (tree.pointer_test p) left right w f g = assigns_object_makes 
 assigns_makes n h (tree.call number args) left right w f g = assigns_object_makes n h left right w f g
 assigns_makes n h (tree.lib which args) left right w f g = assigns_object_makes n h left right w f g
 
-update_read_makes : (n : ℕ) (h : Here) (u : Update) (at by : Value) (w : Way) → Few n h → MakesWay n w → MakesUse n (update_read_way h u at by w)
+update_read_makes : (n : ℕ) (h : TurnContext) (u : Update) (at by : Value) (w : Way) → Few n h → MakesWay n w → MakesUse n (update_read_way h u at by w)
 update_read_makes n h u at by w f g = record {
   fits = g.fits;
   goes = λ v x. on_ok_within n (length x.world.blocks + reached w.k) u.operator (λ r. (place_way h u.place at w).go r x) (updated h.typed.structs x.world.blocks u.ty u.op v by) (λ r. (place_makes n h u.place at w f g).goes r x);
 }
 
-update_right_makes : (n : ℕ) (h : Here) (u : Update) (at : Value) (w : Way) → Few n h → MakesWay n w → MakesUse n (update_right_way h u at w)
+update_right_makes : (n : ℕ) (h : TurnContext) (u : Update) (at : Value) (w : Way) → Few n h → MakesWay n w → MakesUse n (update_right_way h u at w)
 update_right_makes n h u at w f g = record {
   fits = g.fits;
   goes = λ v x. acts_within n (reached w.k) h u.place (actions.load (pointer_in at) (access_of_type u.ty)) x.locals (λ r. after_call (wanted u.place (control.update_read u at v w.k)) r) f (λ r. after_fits n (wanted u.place (control.update_read u at v w.k)) r g.fits) x;
 }
 
-update_left_makes : (n : ℕ) (h : Here) (u : Update) (right : tree.Expr) (w : Way) → Few n h → MakesWay n w → MakesUse n (update_left_way h u right w)
+update_left_makes : (n : ℕ) (h : TurnContext) (u : Update) (right : tree.Expr) (w : Way) → Few n h → MakesWay n w → MakesUse n (update_left_way h u right w)
 update_left_makes n h u right w f g = record { fits = g.fits; goes = λ v x. run_makes n h f right (update_right_way h u v w) (update_right_makes n h u v w f g) x }
 
-updates_variable_makes : (n : ℕ) (h : Here) (u : Update) (number : ℕ) (by : Value) (w : Way) (v : Variable) → MakesWay n w → Makes n (reached w.k) (updates_variable h u number by w v)
+updates_variable_makes : (n : ℕ) (h : TurnContext) (u : Update) (number : ℕ) (by : Value) (w : Way) (v : Variable) → MakesWay n w → Makes n (reached w.k) (updates_variable h u number by w v)
 updates_variable_makes n h u number by w control.unset g x = tt
 updates_variable_makes n h u number by w (control.holds v) g x =
     on_ok_within n (length x.world.blocks + reached w.k) u.operator (λ r. w.end (with_variable number (control.holds r) x)) (updated h.typed.structs x.world.blocks u.ty u.op v by) (λ r. g.ends (with_variable number (control.holds r) x))
 updates_variable_makes n h u number by w (control.lies block) g x = tt
 
-update_local_makes : (n : ℕ) (h : Here) (u : Update) (number : ℕ) (w : Way) → MakesWay n w → MakesUse n (update_local_way h u number w)
+update_local_makes : (n : ℕ) (h : TurnContext) (u : Update) (number : ℕ) (w : Way) → MakesWay n w → MakesUse n (update_local_way h u number w)
 update_local_makes n h u number w g = record { fits = g.fits; goes = λ v x. updates_variable_makes n h u number v w (variable_at x number) g x }
 
-updates_object_makes : (n : ℕ) (h : Here) (u : Update) (left right : tree.Expr) (w : Way) → Few n h → MakesWay n w → Makes n (reached w.k) (run_place h left (update_left_way h u right w))
+updates_object_makes : (n : ℕ) (h : TurnContext) (u : Update) (left right : tree.Expr) (w : Way) → Few n h → MakesWay n w → Makes n (reached w.k) (run_place h left (update_left_way h u right w))
 updates_object_makes n h u left right w f g = run_place_makes n h f left (update_left_way h u right w) (update_left_makes n h u right w f g)
 
-updates_makes : (n : ℕ) (h : Here) (u : Update) (node : tree.ExprNode) (left right : tree.Expr) (w : Way) → Few n h → MakesWay n w → Makes n (reached w.k) (updates h u node left right w)
+updates_makes : (n : ℕ) (h : TurnContext) (u : Update) (node : tree.ExprNode) (left right : tree.Expr) (w : Way) → Few n h → MakesWay n w → Makes n (reached w.k) (updates h u node left right w)
 updates_makes n h u (tree.local number) left right w f g =
     makes_if n (reached w.k) (is_block (local_at h number)) (run_place h left (update_left_way h u right w)) (run h right (update_local_way h u number w))
     (updates_object_makes n h u left right w f g) (run_makes n h f right (update_local_way h u number w) (update_local_makes n h u number w g))
@@ -152,7 +152,7 @@ updates_makes n h u (tree.pointer_test p) left right w f g = updates_object_make
 updates_makes n h u (tree.call number args) left right w f g = updates_object_makes n h u left right w f g
 updates_makes n h u (tree.lib which args) left right w f g = updates_object_makes n h u left right w f g
 
-initialises_makes : (n : ℕ) (h : Here) (place number : ℕ) (init : tree.Expr) (w : Way) → Few n h → MakesWay n w → Makes n (1 + reached w.k) (initialises h place number init w)
+initialises_makes : (n : ℕ) (h : TurnContext) (place number : ℕ) (init : tree.Expr) (w : Way) → Few n h → MakesWay n w → Makes n (1 + reached w.k) (initialises h place number init w)
 initialises_makes n h place number init w f g x =
     let to = block_value (length (ended_local number x).world.blocks) in
     within_if n (length x.world.blocks + (1 + reached w.k)) (is_block (local_at h number)) (run h init (place_way h place to w) (made_local h number x)) (run h init (local_way number w) (with_variable number control.unset x))
@@ -165,37 +165,37 @@ declared_if : (c : Bool) (x y : Now) (b : ℕ) → length x.world.blocks ≤ b �
 declared_if true x y b p q = p
 declared_if false x y b p q = q
 
-declares_makes : (n : ℕ) (h : Here) (place number : ℕ) (init : Option tree.Expr) (w : Way) → Few n h → MakesWay n w → Makes n (1 + reached w.k) (declares h place number init w)
+declares_makes : (n : ℕ) (h : TurnContext) (place number : ℕ) (init : Option tree.Expr) (w : Way) → Few n h → MakesWay n w → Makes n (1 + reached w.k) (declares h place number init w)
 declares_makes n h place number None w f g x =
     let at_most = declared_if (is_block (local_at h number)) (made_local h number x) (with_variable number control.unset x) (length x.world.blocks + 1) (omega (arith, made_local_length h number x)) (omega arith) in
     within_more n (length (declared_local h number x).world.blocks + reached w.k) (length x.world.blocks + (1 + reached w.k)) (w.end (declared_local h number x)) (omega (arith, at_most)) (g.ends (declared_local h number x))
 declares_makes n h place number (Some init) w f g x = initialises_makes n h place number init w f g x
 
-caller_makes : (n : ℕ) (h : Here) → Few n h → MakesUse n (caller_way h)
+caller_makes : (n : ℕ) (h : TurnContext) → Few n h → MakesUse n (caller_way h)
 caller_makes n h f = record { fits = tt; goes = λ v x. leaves_makes n 0 h (Some v) f x }
 
-returns_makes : (n m : ℕ) (h : Here) (value : Option tree.Expr) → Few n h → Makes n m (returns h value)
+returns_makes : (n m : ℕ) (h : TurnContext) (value : Option tree.Expr) → Few n h → Makes n m (returns h value)
 returns_makes n m h None f x = leaves_makes n m h None f x
 returns_makes n m h (Some e) f x =
     within_more n (length x.world.blocks + 0) (length x.world.blocks + m) (run h e (caller_way h) x) (omega arith) (run_makes n h f e (caller_way h) (caller_makes n h f) x)
 
-drops_object_makes : (n : ℕ) (h : Here) (place : ℕ) (ty : tree.Ty) (node : tree.ExprNode) (w : Way) → Few n h → MakesWay n w → Makes n (reached w.k) (drops_object h place ty node w)
+drops_object_makes : (n : ℕ) (h : TurnContext) (place : ℕ) (ty : tree.Ty) (node : tree.ExprNode) (w : Way) → Few n h → MakesWay n w → Makes n (reached w.k) (drops_object h place ty node w)
 drops_object_makes n h place ty node w f g =
     does_if n (reached w.k) (is_scalar ty) (run_node h place ty node (nowhere_way w)) (run_place_node h place node (nowhere_way w))
     (run_node_makes n h f place ty node (nowhere_way w) (nowhere_makes n w g)) (run_place_node_makes n h f place node (nowhere_way w) (nowhere_makes n w g))
 
-plain_dropped : (n : ℕ) (h : Here) (place : ℕ) (ty : tree.Ty) (node : tree.ExprNode) (w : Way) → Few n h → MakesWay n w → Makes n (reached w.k) (run_node h place ty node (nowhere_way w))
+plain_dropped : (n : ℕ) (h : TurnContext) (place : ℕ) (ty : tree.Ty) (node : tree.ExprNode) (w : Way) → Few n h → MakesWay n w → Makes n (reached w.k) (run_node h place ty node (nowhere_way w))
 plain_dropped n h place ty node w f g = run_node_makes n h f place ty node (nowhere_way w) (nowhere_makes n w g)
 
-call_dropped : (n : ℕ) (h : Here) (place : ℕ) (callee : control.Callee) (args : tree.Exprs) (w : Way) → Few n h → MakesWay n w → Makes n (reached w.k) (run_arguments h place callee args [] (dropped w.k))
+call_dropped : (n : ℕ) (h : TurnContext) (place : ℕ) (callee : control.Callee) (args : tree.Exprs) (w : Way) → Few n h → MakesWay n w → Makes n (reached w.k) (run_arguments h place callee args [] (dropped w.k))
 call_dropped n h place callee args w f g x =
     within_more n (length x.world.blocks + 0) (length x.world.blocks + reached w.k) (run_arguments h place callee args [] (dropped w.k) x) (omega arith) (run_arguments_makes n h f place callee args [] (dropped w.k) g.fits x)
 
 mutual
-  dropped_makes : (n : ℕ) (h : Here) → Few n h → (e : tree.Expr) (w : Way) → MakesWay n w → Makes n (reached w.k) (run_dropped h e w)
+  dropped_makes : (n : ℕ) (h : TurnContext) → Few n h → (e : tree.Expr) (w : Way) → MakesWay n w → Makes n (reached w.k) (run_dropped h e w)
   dropped_makes n h f (tree.at place ty node) w g x = dropped_node_makes n h f place ty node w g x
 
-  dropped_node_makes : (n : ℕ) (h : Here) → Few n h → (place : ℕ) (ty : tree.Ty) (node : tree.ExprNode) (w : Way) → MakesWay n w → Makes n (reached w.k) (run_dropped_node h place ty node w)
+  dropped_node_makes : (n : ℕ) (h : TurnContext) → Few n h → (place : ℕ) (ty : tree.Ty) (node : tree.ExprNode) (w : Way) → MakesWay n w → Makes n (reached w.k) (run_dropped_node h place ty node w)
   dropped_node_makes n h f place ty (tree.call number args) w g x = call_dropped n h place (control.function number) args w f g x
   dropped_node_makes n h f place ty (tree.lib which args) w g x = call_dropped n h place (control.library which) args w f g x
   dropped_node_makes n h f place tree.void (tree.convert e) w g x = dropped_makes n h f e w g x
@@ -261,11 +261,11 @@ if_makes n place one other run_one run_other w s t g fits = record {
 
 -- ---- loops
 
-over_makes : (n m : ℕ) (h : Here) (l : Loop) (k : Todo) → Few n h → in_loop l + reached k ≤ n → Fits n k → Makes n m (round_over h l k)
+over_makes : (n m : ℕ) (h : TurnContext) (l : Loop) (k : Todo) → Few n h → in_loop l + reached k ≤ n → Fits n k → Makes n m (round_over h l k)
 over_makes n m h l k f round fits x =
     plainly_within n (length x.world.blocks + m) h.answer (stays h x.locals (control.round l k) x.world) (omega arith, ((round, fits), f.callers))
 
-step_makes : (n : ℕ) (h : Here) (l : Loop) (w : Way) → Few n h → MakesWay n w → in_loop l + reached w.k ≤ n → MakesWay n (step_way h l w)
+step_makes : (n : ℕ) (h : TurnContext) (l : Loop) (w : Way) → Few n h → MakesWay n w → in_loop l + reached w.k ≤ n → MakesWay n (step_way h l w)
 step_makes n h l w f g round = record {
   fits = (round, g.fits);
   ends = over_makes n (reached w.k) h l w.k f round g.fits;
@@ -273,7 +273,7 @@ step_makes n h l w f g round = record {
   continues = over_makes n (reached w.k) h l w.k f round g.fits;
 }
 
-body_makes : (n : ℕ) (h : Here) (l : Loop) (run_step : Way → Does) (w : Way) → Few n h → Executes n (in_stmt l.step) run_step → MakesWay n w → in_loop l + reached w.k ≤ n → MakesWay n (body_way h l run_step w)
+body_makes : (n : ℕ) (h : TurnContext) (l : Loop) (run_step : Way → Does) (w : Way) → Few n h → Executes n (in_stmt l.step) run_step → MakesWay n w → in_loop l + reached w.k ≤ n → MakesWay n (body_way h l run_step w)
 body_makes n h l run_step w f s g round =
     let step : Makes n (in_stmt l.step + reached w.k) (run_step (step_way h l w)) = s (step_way h l w) (step_makes n h l w f g round) (omega (arith, round)) in
     record {
@@ -283,13 +283,13 @@ body_makes n h l run_step w f s g round =
       continues = step;
     }
 
-enter_makes : (n : ℕ) (h : Here) (l : Loop) (run_body run_step : Way → Does) (w : Way) → Few n h → Executes n (in_stmt l.body) run_body → Executes n (in_stmt l.step) run_step → MakesWay n w → in_loop l + reached w.k ≤ n
+enter_makes : (n : ℕ) (h : TurnContext) (l : Loop) (run_body run_step : Way → Does) (w : Way) → Few n h → Executes n (in_stmt l.body) run_body → Executes n (in_stmt l.step) run_step → MakesWay n w → in_loop l + reached w.k ≤ n
     → Makes n (in_loop l + reached w.k) (run_body (body_way h l run_step w))
 enter_makes n h l run_body run_step w f b s g round =
     makes_more n (in_stmt l.body + (in_stmt l.step + reached w.k)) (in_loop l + reached w.k) (run_body (body_way h l run_step w)) (omega arith)
     (b (body_way h l run_step w) (body_makes n h l run_step w f s g round) (omega (arith, round)))
 
-test_makes : (n : ℕ) (h : Here) (place : ℕ) (l : Loop) (run_body run_step : Way → Does) (w : Way) → Few n h → Executes n (in_stmt l.body) run_body → Executes n (in_stmt l.step) run_step → MakesWay n w → in_loop l + reached w.k ≤ n
+test_makes : (n : ℕ) (h : TurnContext) (place : ℕ) (l : Loop) (run_body run_step : Way → Does) (w : Way) → Few n h → Executes n (in_stmt l.body) run_body → Executes n (in_stmt l.step) run_step → MakesWay n w → in_loop l + reached w.k ≤ n
     → MakesUse n (loop_test_way h place l run_body run_step w)
 test_makes n h place l run_body run_step w f b s g round = record {
   fits = (round, g.fits);
@@ -299,17 +299,17 @@ test_makes n h place l run_body run_step w f b s g round = record {
       (within_more n (length x.world.blocks + reached w.k) (length x.world.blocks + (in_loop l + reached w.k)) (w.end x) (omega arith) (g.ends x)));
 }
 
-rounds_if_makes : (n : ℕ) (h : Here) (l : Loop) (run_body run_step : Way → Does) (w : Way) (condition : Option tree.Expr) → Few n h → Executes n (in_stmt l.body) run_body → Executes n (in_stmt l.step) run_step → MakesWay n w → in_loop l + reached w.k ≤ n
+rounds_if_makes : (n : ℕ) (h : TurnContext) (l : Loop) (run_body run_step : Way → Does) (w : Way) (condition : Option tree.Expr) → Few n h → Executes n (in_stmt l.body) run_body → Executes n (in_stmt l.step) run_step → MakesWay n w → in_loop l + reached w.k ≤ n
     → Makes n (in_loop l + reached w.k) (rounds_if h l run_body run_step w condition)
 rounds_if_makes n h l run_body run_step w None f b s g round x = enter_makes n h l run_body run_step w f b s g round x
 rounds_if_makes n h l run_body run_step w (Some e) f b s g round x =
     run_makes n h f e (loop_test_way h (tree.place_of e) l run_body run_step w) (test_makes n h (tree.place_of e) l run_body run_step w f b s g round) x
 
-rounds_makes : (n : ℕ) (h : Here) (l : Loop) (run_body run_step : Way → Does) (w : Way) → Few n h → Executes n (in_stmt l.body) run_body → Executes n (in_stmt l.step) run_step → MakesWay n w → in_loop l + reached w.k ≤ n
+rounds_makes : (n : ℕ) (h : TurnContext) (l : Loop) (run_body run_step : Way → Does) (w : Way) → Few n h → Executes n (in_stmt l.body) run_body → Executes n (in_stmt l.step) run_step → MakesWay n w → in_loop l + reached w.k ≤ n
     → Makes n (in_loop l + reached w.k) (rounds h l run_body run_step w)
 rounds_makes n h l run_body run_step w f b s g round x = rounds_if_makes n h l run_body run_step w l.condition f b s g round x
 
-loop_makes : (n : ℕ) (h : Here) (l : Loop) (run_body run_step : Way → Does) (w : Way) → Few n h → Executes n (in_stmt l.body) run_body → Executes n (in_stmt l.step) run_step → MakesWay n w → in_loop l + reached w.k ≤ n → MakesWay n (loop_way h l run_body run_step w)
+loop_makes : (n : ℕ) (h : TurnContext) (l : Loop) (run_body run_step : Way → Does) (w : Way) → Few n h → Executes n (in_stmt l.body) run_body → Executes n (in_stmt l.step) run_step → MakesWay n w → in_loop l + reached w.k ≤ n → MakesWay n (loop_way h l run_body run_step w)
 loop_makes n h l run_body run_step w f b s g round = record {
   fits = (round, g.fits);
   ends = rounds_makes n h l run_body run_step w f b s g round;
@@ -324,10 +324,10 @@ skips n w g fits = makes_more n (reached w.k) (0 + reached w.k) w.end (omega ari
 -- ---- statements
 
 mutual
-  stmt_makes : (n : ℕ) (h : Here) → Few n h → (s : tree.Stmt) → Executes n (in_stmt s) (run_stmt h s)
+  stmt_makes : (n : ℕ) (h : TurnContext) → Few n h → (s : tree.Stmt) → Executes n (in_stmt s) (run_stmt h s)
   stmt_makes n h f (tree.at_stmt place node) w g fits x = node_makes n h f place node w g fits x
 
-  node_makes : (n : ℕ) (h : Here) → Few n h → (place : ℕ) (node : tree.StmtNode) → Executes n (in_node node) (run_stmt_node h place node)
+  node_makes : (n : ℕ) (h : TurnContext) → Few n h → (place : ℕ) (node : tree.StmtNode) → Executes n (in_node node) (run_stmt_node h place node)
   node_makes n h f place (tree.block body) w g fits x = stmts_makes n h f body (end_way (declared body) w) (end_makes n (declared body) w g) fits x
   node_makes n h f place (tree.declare number init) w g fits x = declares_makes n h place number init w f g x
   node_makes n h f place (tree.if_ e one) w g fits x =
@@ -357,7 +357,7 @@ mutual
       within_more n (length x.world.blocks + reached w.k) (length x.world.blocks + (0 + reached w.k)) (run_dropped h e w x) (omega arith) (dropped_makes n h f e w g x)
   node_makes n h f place tree.empty w g fits x = skips n w g fits x
 
-  stmts_makes : (n : ℕ) (h : Here) → Few n h → (row : tree.Stmts) → Executes n (in_row row) (run_row h row)
+  stmts_makes : (n : ℕ) (h : TurnContext) → Few n h → (row : tree.Stmts) → Executes n (in_row row) (run_row h row)
   stmts_makes n h f tree.no_stmts w g fits x = skips n w g fits x
   stmts_makes n h f (tree.more_stmts s rest) w g fits x =
       within_more n (length x.world.blocks + (in_stmt s + (in_row rest + reached w.k))) (length x.world.blocks + (in_stmt s + in_row rest + reached w.k)) (run_stmt h s (row_way rest (run_row h rest) w) x) (omega arith)
@@ -365,14 +365,14 @@ mutual
 
 -- ---- what is left to do
 
-leave_makes : (n : ℕ) (h : Here) → Few n h → MakesWay n (leave_way h)
+leave_makes : (n : ℕ) (h : TurnContext) → Few n h → MakesWay n (leave_way h)
 leave_makes n h f = record { fits = tt; ends = leaves_makes n 0 h None f; breaks = leaves_makes n 0 h None f; continues = leaves_makes n 0 h None f }
 
 -- the same under the name that it has
-under_name : (n m : ℕ) (h : Here) (k : Todo) → m + reached k ≤ n → m + reached (way_of h k).k ≤ n
+under_name : (n m : ℕ) (h : TurnContext) (k : Todo) → m + reached k ≤ n → m + reached (way_of h k).k ≤ n
 under_name n m h k fits = rw (name_todo h k) fits
 
-way_makes : (n : ℕ) (h : Here) → Few n h → (k : Todo) → Fits n k → MakesWay n (way_of h k)
+way_makes : (n : ℕ) (h : TurnContext) → Few n h → (k : Todo) → Fits n k → MakesWay n (way_of h k)
 way_makes n h f control.leaves fits = leave_makes n h f
 way_makes n h f (control.then_row rest k) fits =
     let g = way_makes n h f k fits.1 in
@@ -385,7 +385,7 @@ way_makes n h f (control.in_body l k) fits =
     body_makes n h l (run_stmt h l.step) (way_of h k) f (stmt_makes n h f l.step) (way_makes n h f k fits.1) (under_name n (in_loop l) h k fits.0)
 way_makes n h f (control.in_step l k) fits = step_makes n h l (way_of h k) f (way_makes n h f k fits.1) (under_name n (in_loop l) h k fits.0)
 
-use_makes : (n : ℕ) (h : Here) → Few n h → (k : Use) → FitsUse n k → MakesUse n (use_of h k)
+use_makes : (n : ℕ) (h : TurnContext) → Few n h → (k : Use) → FitsUse n k → MakesUse n (use_of h k)
 use_makes n h f (control.first_of place op right k) fits = first_makes n place op right (run h right) (use_of h k) (run_makes n h f right) (use_makes n h f k fits)
 use_makes n h f (control.second_of place op left k) fits = second_makes n place op left (use_of h k) (use_makes n h f k fits)
 use_makes n h f (control.only_of place op k) fits = only_makes n place op (use_of h k) (use_makes n h f k fits)
@@ -445,7 +445,7 @@ use_reaches n (control.to_nowhere k) fits = todo_reaches n k fits
 
 -- ---- a turn
 
-from_point_makes : (n : ℕ) (h : Here) → Few n h → (p : Point) → FitsPoint n p → Makes n n (from_point h p)
+from_point_makes : (n : ℕ) (h : TurnContext) → Few n h → (p : TurnStart) → FitsPoint n p → Makes n n (from_point h p)
 from_point_makes n h f (control.gives v k) fits x =
     within_more n (length x.world.blocks + reached_by (use_of h k).k) (length x.world.blocks + n) ((use_of h k).go v x) (omega (arith, ap reached_by (name_use h k), use_reaches n k fits)) ((use_makes n h f k fits).goes v x)
 from_point_makes n h f (control.lacks place) fits x = tt

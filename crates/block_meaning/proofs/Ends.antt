@@ -14,24 +14,24 @@ use Rattle.block_store.specs.Runs.{Turn, went, ended}
 use Rattle.c_meaning.specs.Control as control
 use Rattle.c_meaning.specs.Turns.{first_locals, begins_in, enters, on_done, stays, result_of_call, number_in, returns_to, without_blocks}
 use Rattle.c_meaning.specs.Turns as turns
-use Rattle.shared_world.specs.declared.world.Action.{Action}
-use Rattle.shared_world.specs.declared.world.Done.{Done}
-use Rattle.shared_world.specs.declared.world.Done.TheVariants as dones
-use Rattle.shared_world.specs.declared.world.World.{World}
-use Rattle.shared_world.specs.Worlds as worlds
-use Rattle.shared_world.specs.Worlds.{world_of, done_of, action_of}
+use Rattle.source_state.specs.declared.world.SharedAction.{SharedAction}
+use Rattle.source_state.specs.declared.world.Done.{Done}
+use Rattle.source_state.specs.declared.world.Done.TheVariants as dones
+use Rattle.source_state.specs.declared.world.World.{World}
+use Rattle.source_state.specs.Worlds as worlds
+use Rattle.source_state.specs.Worlds.{world_of, done_of, action_of}
 use Rattle.source_tree.specs.declared.tree.SharedFunc.{SharedFunc}
 use Rattle.source_tree.specs.declared.tree.SharedProgram.{SharedProgram}
 use Rattle.source_tree.specs.SharedViews.{func_of, program_of, row_of}
-use Rattle.source_control.specs.declared.locals.Variable.{Variable}
-use Rattle.source_control.specs.Variables.{variable_of}
-use Rattle.source_control.specs.declared.control.Pending.{Pending}
-use Rattle.source_control.specs.declared.control.Pending.TheVariants as pendings
-use Rattle.source_control.specs.declared.control.Then.{Then}
-use Rattle.source_control.specs.declared.control.Values.{Values}
-use Rattle.source_control.specs.declared.control.Wait.{Wait}
-use Rattle.source_control.specs.Views.{values_of, wait_of}
-use Rattle.source_calls.specs.Ends.{here_at, point_of}
+use Rattle.source_state.specs.declared.locals.Variable.{Variable}
+use Rattle.source_state.specs.Variables.{variable_of}
+use Rattle.source_state.specs.declared.control.Pending.{Pending}
+use Rattle.source_state.specs.declared.control.Pending.TheVariants as pendings
+use Rattle.source_state.specs.declared.control.Then.{Then}
+use Rattle.source_state.specs.declared.control.Values.{Values}
+use Rattle.source_state.specs.declared.control.Wait.{Wait}
+use Rattle.source_state.specs.Views.{values_of, wait_of}
+use Rattle.source_expressions.specs.Ends.{here_at, point_of}
 use Rattle.block_meaning.specs.declared.thread.Own.{Own}
 use Rattle.block_meaning.specs.declared.thread.Outcome.{Outcome}
 use Rattle.block_meaning.specs.declared.thread.Outcome.TheVariants as outcomes
@@ -40,30 +40,30 @@ use Rattle.block_meaning.specs.Threads.{callers_of, rest_of, turn_of, ends_in, U
 -- ---- an action
 
 -- what ends the turn, as the code's pending action says
-comes_to : (p : SharedProgram) (thread : ℕ) (answer : Answer) (place : ℕ) (action : Action) (next : Then) (own : Own) (w new : World) (d e : Done)
+comes_to : (p : SharedProgram) (thread : ℕ) (answer : Answer) (place : ℕ) (action : SharedAction) (next : Then) (own : Own) (w new : World) (d e : Done)
     → done_of d (world_of new) ≡ actions.acted (world_of w) thread answer (action_of action) → d ≡ e
     → on_done place (λ u x. stays (here_at p own.function (rest_of thread answer own)) own.locals.now (point_of next u) x) (done_of e (world_of new)) ≡ ends_in p thread answer own w (pendings.Act place action next)
 comes_to p thread answer place action next own w new d e done is_e =
     ap (on_done place (λ u x. stays (here_at p own.function (rest_of thread answer own)) own.locals.now (point_of next u) x)) (sym (ap (λ (f : Done). done_of f (world_of new)) is_e) ∙ done)
 
-pub act_went : (p : SharedProgram) (thread : ℕ) (answer : Answer) (place : ℕ) (action : Action) (next : Then) (own : Own) (w new : World) (d : Done) (v : Option Value) (at : control.Point)
+pub act_went : (p : SharedProgram) (thread : ℕ) (answer : Answer) (place : ℕ) (action : SharedAction) (next : Then) (own : Own) (w new : World) (d : Done) (v : Option Value) (at : control.TurnStart)
     → done_of d (world_of new) ≡ actions.acted (world_of w) thread answer (action_of action) → d ≡ dones.Went v → at ≡ point_of next v
     → ◌≡◌ {A = Turn control.Control} (went (record { function = own.function; locals = own.locals.now; point = at; callers = callers_of own.callers }) (world_of new)) (ends_in p thread answer own w (pendings.Act place action next))
 act_went p thread answer place action next own w new d v at done is_went pt =
-    ap (λ (x : control.Point). went (record { function = own.function; locals = own.locals.now; point = x; callers = callers_of own.callers }) (world_of new)) pt
+    ap (λ (x : control.TurnStart). went (record { function = own.function; locals = own.locals.now; point = x; callers = callers_of own.callers }) (world_of new)) pt
     ∙ comes_to p thread answer place action next own w new d (dones.Went v) done is_went
 
-pub act_blocked : (p : SharedProgram) (thread : ℕ) (answer : Answer) (place : ℕ) (action : Action) (next : Then) (own own' : Own) (w new : World) (d : Done)
+pub act_blocked : (p : SharedProgram) (thread : ℕ) (answer : Answer) (place : ℕ) (action : SharedAction) (next : Then) (own own' : Own) (w new : World) (d : Done)
     → done_of d (world_of new) ≡ actions.acted (world_of w) thread answer (action_of action) → d ≡ dones.Blocked
     → turn_of outcomes.Blocked own' new ≡ ends_in p thread answer own w (pendings.Act place action next)
 act_blocked p thread answer place action next own own' w new d done e = comes_to p thread answer place action next own w new d dones.Blocked done e
 
-pub act_unfit : (p : SharedProgram) (thread : ℕ) (answer : Answer) (place : ℕ) (action : Action) (next : Then) (own own' : Own) (w new : World) (d : Done)
+pub act_unfit : (p : SharedProgram) (thread : ℕ) (answer : Answer) (place : ℕ) (action : SharedAction) (next : Then) (own own' : Own) (w new : World) (d : Done)
     → done_of d (world_of new) ≡ actions.acted (world_of w) thread answer (action_of action) → d ≡ dones.Unfit
     → turn_of outcomes.Unfit own' new ≡ ends_in p thread answer own w (pendings.Act place action next)
 act_unfit p thread answer place action next own own' w new d done e = comes_to p thread answer place action next own w new d dones.Unfit done e
 
-pub act_broke : (p : SharedProgram) (thread : ℕ) (answer : Answer) (place : ℕ) (action : Action) (next : Then) (own own' : Own) (w new : World) (d : Done) (rule : Rule)
+pub act_broke : (p : SharedProgram) (thread : ℕ) (answer : Answer) (place : ℕ) (action : SharedAction) (next : Then) (own own' : Own) (w new : World) (d : Done) (rule : Rule)
     → done_of d (world_of new) ≡ actions.acted (world_of w) thread answer (action_of action) → d ≡ dones.Broke rule
     → turn_of (outcomes.Broke rule place) own' new ≡ ends_in p thread answer own w (pendings.Act place action next)
 act_broke p thread answer place action next own own' w new d rule done e = comes_to p thread answer place action next own w new d (dones.Broke rule) done e
@@ -123,7 +123,7 @@ pub last_returned : (p : SharedProgram) (function thread : ℕ) (own own' : Own)
 last_returned p function thread own own' value number w new d none is_number done =
     rw none (ap ended (went_only d (world_of new) (actions.with_reached (actions.staged (world_of w) thread (actions.returned (actions.result_of (number_in value)))) []) None (done ∙ ap (λ n. actions.acted (world_of w) thread answers.Plain (actions.finish n)) is_number)))
 
-pub caller_returned : (p : SharedProgram) (function thread : ℕ) (own : Own) (value : Option Value) (w : World) (caller : control.Caller) (callers : List control.Caller) (at : control.Point)
+pub caller_returned : (p : SharedProgram) (function thread : ℕ) (own : Own) (value : Option Value) (w : World) (caller : control.Caller) (callers : List control.Caller) (at : control.TurnStart)
     → callers_of own.callers ≡ caller ∷ callers → at ≡ turns.after_call caller.wait value
     → ◌≡◌ {A = Turn control.Control} (went (record { function = caller.function; locals = caller.locals; point = at; callers = callers }) (world_of w)) (returns_to (here_at p function (rest_of thread answers.Plain own)) value (world_of w) (callers_of own.callers))
 caller_returned p function thread own value w caller callers at e pt = rw (e, pt) refl

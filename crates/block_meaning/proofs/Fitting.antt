@@ -43,7 +43,7 @@ begins_fits : (n function : ℕ) (argument : Ptr) (found : Option tree.Func) →
 begins_fits n function argument None few = (tt, tt)
 begins_fits n function argument (Some f) few = let here : in_row f.body ≤ n = few f refl in ((omega (arith, here), tt), tt)
 
-begun_fits : (n : ℕ) (typed : tree.Typed) (threads : List actions.Thread) → HasFewDeclarations n typed → FitsOwns n (map (λ (t : actions.Thread). Some ((program typed).begins t.function t.argument)) threads)
+begun_fits : (n : ℕ) (typed : tree.Typed) (threads : List actions.ThreadRecord) → HasFewDeclarations n typed → FitsOwns n (map (λ (t : actions.ThreadRecord). Some ((program typed).begins t.function t.argument)) threads)
 begun_fits n typed [] few = tt
 begun_fits n typed (t ∷ threads) few = (begins_fits n t.function t.argument (slice_get typed.funcs t.function) (few t.function), begun_fits n typed threads few)
 

@@ -10,9 +10,9 @@ use Rattle.c_tree.specs.Typed as tree
 use Rattle.c_meaning.specs.Control.{Control}
 use Rattle.c_meaning.specs.Meaning.{program}
 use Rattle.c_meaning.specs.Meaning.{begins_if}
-use Rattle.shared_world.specs.declared.world.Thread.{Thread}
-use Rattle.shared_world.specs.declared.world.World.{World}
-use Rattle.shared_world.specs.Worlds.{world_of, thread_of}
+use Rattle.source_state.specs.declared.world.ThreadRecord.{ThreadRecord}
+use Rattle.source_state.specs.declared.world.World.{World}
+use Rattle.source_state.specs.Worlds.{world_of, thread_of}
 use Rattle.block_meaning.specs.declared.thread.Own.{Own}
 use Rattle.block_meaning.specs.declared.thread.Outcome.{Outcome}
 use Rattle.block_meaning.specs.declared.thread.Outcome.TheVariants as outcomes
@@ -52,17 +52,17 @@ own_at-map f (x ∷ all) (suc i) = own_at-map f all i
 pub ruleset taken_steps = (own_at-map, map-set, set_past, slice_get-map, set-set, length-set)
 
 -- one more of the threads that were made has begun
-pub one_begun : {A : Type 0} (P : Program A) (own : List (Option A)) (w : actions.World) (t : actions.Thread) (rest : List actions.Thread) → drop (length own) w.threads ≡ t ∷ rest → rest ≡ drop (length own + 1) w.threads
+pub one_begun : {A : Type 0} (P : Program A) (own : List (Option A)) (w : actions.World) (t : actions.ThreadRecord) (rest : List actions.ThreadRecord) → drop (length own) w.threads ≡ t ∷ rest → rest ≡ drop (length own + 1) w.threads
     → (own ++ Some (P.begins t.function t.argument) ∷ []) ++ begun P (length (own ++ Some (P.begins t.function t.argument) ∷ [])) w ≡ own ++ begun P (length own) w
 one_begun P own w t rest e f =
-    rw (length_push own (Some (P.begins t.function t.argument)), e, ← f, append_assoc own (Some (P.begins t.function t.argument) ∷ []) (map (λ (u : actions.Thread). Some (P.begins u.function u.argument)) rest)) refl
+    rw (length_push own (Some (P.begins t.function t.argument)), e, ← f, append_assoc own (Some (P.begins t.function t.argument) ∷ []) (map (λ (u : actions.ThreadRecord). Some (P.begins u.function u.argument)) rest)) refl
 
 -- all have begun
 pub all_begun : {A : Type 0} (P : Program A) (own : List (Option A)) (w : actions.World) → length w.threads ≤ length own → own ++ begun P (length own) w ≡ own
 all_begun P own w h = rw drop_all (append-nil own)
 
 -- the same of what the code keeps of the threads
-pub more_begun : (typed : tree.Typed) (items new : List (Option Own)) (own : Own) (w : World) (next : Thread) → new ≡ items ++ Some own ∷ [] → control_of own ≡ begins_if next.function next.argument (slice_get typed.funcs next.function) → length items < length w.threads.items → next ≡ get_or w.threads.items (length items) next
+pub more_begun : (typed : tree.Typed) (items new : List (Option Own)) (own : Own) (w : World) (next : ThreadRecord) → new ≡ items ++ Some own ∷ [] → control_of own ≡ begins_if next.function next.argument (slice_get typed.funcs next.function) → length items < length w.threads.items → next ≡ get_or w.threads.items (length items) next
     → owns_of new ++ begun (program typed) (length new) (world_of w) ≡ owns_of items ++ begun (program typed) (length items) (world_of w)
 more_begun typed items new own w next n begins below is_next =
     let ts = map thread_of w.threads.items in

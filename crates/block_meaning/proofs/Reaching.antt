@@ -14,23 +14,23 @@ use Rattle.c_meaning.specs.Turns as turns
 use Rattle.source_tree.specs.declared.tree.SharedProgram.{SharedProgram}
 use Rattle.source_tree.specs.declared.tree.SharedStmt.{SharedStmt}
 use Rattle.source_tree.specs.SharedViews.{program_of, stmt_of}
-use Rattle.source_control.specs.Variables.{KeptLocals}
-use Rattle.source_control.specs.declared.control.LoopParts.{LoopParts}
-use Rattle.source_control.specs.declared.control.Pending.{Pending}
-use Rattle.source_control.specs.declared.control.Pending.TheVariants as pendings
-use Rattle.source_control.specs.declared.control.Todo.{Todo}
-use Rattle.source_control.specs.declared.control.Use.{Use}
-use Rattle.source_control.specs.Views.{todo_of, use_of, loop_of, stmt_or_nothing}
-use Rattle.source_calls.specs.Ends.{here_at, ends}
-use Rattle.source_flow.specs.Flow.{now_in}
-use Rattle.source_assign.specs.declared.exit.Exit.{Exit}
-use Rattle.source_assign.specs.declared.exit.Exit.TheVariants as exits
-use Rattle.source_assign.specs.Assigning.{exit, ExitsAs}
-use Rattle.source_walk.specs.Walks.{Finishes, GivesTo}
-use Rattle.source_walk.proofs.Names.{name_todo}
-use Rattle.kept_store.specs.Kept.{Kept}
-use Rattle.shared_world.specs.declared.world.World.{World}
-use Rattle.shared_world.specs.Worlds.{world_of, thread_of, reached_of}
+use Rattle.source_state.specs.Variables.{KeptLocals}
+use Rattle.source_state.specs.declared.control.LoopParts.{LoopParts}
+use Rattle.source_state.specs.declared.control.Pending.{Pending}
+use Rattle.source_state.specs.declared.control.Pending.TheVariants as pendings
+use Rattle.source_state.specs.declared.control.Todo.{Todo}
+use Rattle.source_state.specs.declared.control.Use.{Use}
+use Rattle.source_state.specs.Views.{todo_of, use_of, loop_of, stmt_or_nothing}
+use Rattle.source_expressions.specs.Ends.{here_at, ends}
+use Rattle.source_expressions.specs.Flow.{now_in}
+use Rattle.source_statements.specs.declared.exit.Exit.{Exit}
+use Rattle.source_statements.specs.declared.exit.Exit.TheVariants as exits
+use Rattle.source_statements.specs.Assigning.{exit, ExitsAs}
+use Rattle.source_statements.specs.Walks.{Finishes, GivesTo}
+use Rattle.source_statements.proofs.Names.{name_todo}
+use Rattle.source_state.specs.Kept.{Kept}
+use Rattle.source_state.specs.declared.world.World.{World}
+use Rattle.source_state.specs.Worlds.{world_of, thread_of, reached_of}
 use Rattle.block_meaning.specs.declared.thread.At.{At}
 use Rattle.block_meaning.specs.declared.thread.At.TheVariants as ats
 use Rattle.block_meaning.specs.declared.thread.Own.{Own}

@@ -15,8 +15,8 @@ use Rattle.block_store.specs.declared.values.Value.{Value}
 use Rattle.block_store.specs.declared.values.Value.TheVariants as values
 use Rattle.block_store.specs.declared.values.BlockKind.TheVariants as kinds
 use Rattle.block_store.specs.Actions as actions
-use Rattle.block_store.specs.Actions.{World, Done, Outcomes, Action, Stage, Thread, with_blocks}
-use Rattle.block_store.specs.Blocks.{Blocks, Spot, live, made, is_freeable, is_literal, spot_at, range_at, cells_at, with_cells, with_cells_at, written_at, stored, clash, copied_to, copied_between, copied, freed, ended, loaded}
+use Rattle.block_store.specs.Actions.{World, Done, Outcomes, SharedAction, Stage, ThreadRecord, with_blocks}
+use Rattle.block_store.specs.Blocks.{Blocks, Range, live, made, is_freeable, is_literal, spot_at, range_at, cells_at, with_cells, with_cells_at, written_at, stored, clash, copied_to, copied_between, copied, freed, ended, loaded}
 use Rattle.block_store.specs.Cells.{size_of, access_of, cells_of}
 use Rattle.block_store.specs.Mutexes.{Mutex, mutex_at, renumbered, lock_by, locked, unlock_by, unlocked, destroyed}
 use Rattle.c_meaning.specs.Control as control
@@ -33,22 +33,22 @@ keeps_if : (b : ℕ) (c : Bool) (x y : Result Blocks Rule) → Keeps b x → Kee
 keeps_if b true x y p q = p
 keeps_if b false x y p q = q
 
-cells_kept : (blocks : Blocks) (new : List Cell) (s : Spot) → length (with_cells_at blocks new s) ≡ length blocks
+cells_kept : (blocks : Blocks) (new : List Cell) (s : Range) → length (with_cells_at blocks new s) ≡ length blocks
 cells_kept blocks new s = length-set blocks s.name (Some (record { kind = s.block.kind; cells = with_cells s.block.cells s.offset new }))
 
-written_keeps : (blocks : Blocks) (new : List Cell) (s : Result Spot Rule) → Keeps (length blocks) (written_at blocks new s)
+written_keeps : (blocks : Blocks) (new : List Cell) (s : Result Range Rule) → Keeps (length blocks) (written_at blocks new s)
 written_keeps blocks new (Err rule) = tt
 written_keeps blocks new (Ok s) = keeps_if (length blocks) (is_literal s.block.kind) (Err C12) (Ok (with_cells_at blocks new s)) tt (cells_kept blocks new s)
 
 stored_keeps : (blocks : Blocks) (at : Ptr) (v : Value) → Keeps (length blocks) (stored blocks at v)
 stored_keeps blocks at v = written_keeps blocks (cells_of v) (spot_at blocks (size_of (access_of v)) at)
 
-copied_to_keeps : (blocks : Blocks) (n : ℕ) (same : Bool) (to from : Spot) → Keeps (length blocks) (copied_to blocks n same to from)
+copied_to_keeps : (blocks : Blocks) (n : ℕ) (same : Bool) (to from : Range) → Keeps (length blocks) (copied_to blocks n same to from)
 copied_to_keeps blocks n same to from =
     keeps_if (length blocks) (is_literal to.block.kind) (Err C12) (if clash n same to from then Err C11 else Ok (with_cells_at blocks (cells_at n from) to)) tt
     (keeps_if (length blocks) (clash n same to from) (Err C11) (Ok (with_cells_at blocks (cells_at n from) to)) tt (cells_kept blocks (cells_at n from) to))
 
-copied_between_keeps : (blocks : Blocks) (n : ℕ) (same : Bool) (to from : Result Spot Rule) → Keeps (length blocks) (copied_between blocks n same to from)
+copied_between_keeps : (blocks : Blocks) (n : ℕ) (same : Bool) (to from : Result Range Rule) → Keeps (length blocks) (copied_between blocks n same to from)
 copied_between_keeps blocks n same (Err rule) from = tt
 copied_between_keeps blocks n same (Ok to) (Err rule) = tt
 copied_between_keeps blocks n same (Ok to) (Ok from) = copied_to_keeps blocks n same to from
@@ -126,7 +126,7 @@ small_starts w function argument (Ok blocks) k = omega (arith, k)
 small_starts w function argument (Err rule) k = tt
 
 -- a stage changes no block
-pub staged_blocks : (w : World) (number : ℕ) (stage : Stage) (t : Option Thread) → (actions.staged_if w number stage t).blocks ≡ w.blocks
+pub staged_blocks : (w : World) (number : ℕ) (stage : Stage) (t : Option ThreadRecord) → (actions.staged_if w number stage t).blocks ≡ w.blocks
 staged_blocks w number stage None = refl
 staged_blocks w number stage (Some t) = refl
 
@@ -146,7 +146,7 @@ small_joins_at w thread to actions.running = tt
 small_joins_at w thread to (actions.returned z) = small_joins w thread z (actions.stored_unless_null w.blocks to z) (unless_null_keeps w.blocks to z)
 small_joins_at w thread to (actions.joined z) = tt
 
-small_joins_if : (w : World) (thread : ℕ) (to : Ptr) (t : Option Thread) → Small (length w.blocks) (actions.joins_if w thread to t)
+small_joins_if : (w : World) (thread : ℕ) (to : Ptr) (t : Option ThreadRecord) → Small (length w.blocks) (actions.joins_if w thread to t)
 small_joins_if w thread to None = tt
 small_joins_if w thread to (Some t) = small_joins_at w thread to t.stage
 
@@ -156,7 +156,7 @@ small_under b answers.Got o p q r = q
 small_under b answers.None o p q r = r
 
 -- what comes of any action
-small_outcome : (w : World) (thread : ℕ) (answer : Answer) (action : Action) → Small (length w.blocks) (actions.under answer (actions.outcomes w thread action))
+small_outcome : (w : World) (thread : ℕ) (answer : Answer) (action : SharedAction) → Small (length w.blocks) (actions.under answer (actions.outcomes w thread action))
 small_outcome w thread answer (actions.load at how) = small_under (length w.blocks) answer (actions.outcomes w thread (actions.load at how)) (small_gives w (loaded w.blocks at how)) tt tt
 small_outcome w thread answer (actions.store at v) = small_under (length w.blocks) answer (actions.outcomes w thread (actions.store at v)) (small_changes w (stored w.blocks at v) (stored_keeps w.blocks at v)) tt tt
 small_outcome w thread answer (actions.copy to from n align same) =
@@ -188,7 +188,7 @@ small_telling b reached actions.unfit small = tt
 small_telling b reached (actions.broke rule) small = tt
 
 -- any action
-pub small_acted : (w : World) (thread : ℕ) (answer : Answer) (action : Action) → Small (length w.blocks) (actions.acted w thread answer action)
+pub small_acted : (w : World) (thread : ℕ) (answer : Answer) (action : SharedAction) → Small (length w.blocks) (actions.acted w thread answer action)
 small_acted w thread answer action =
     small_telling (length w.blocks) (actions.reads_of w action ++ actions.writes_of answer action) (actions.under answer (actions.outcomes w thread action)) (small_outcome w thread answer action)
 

@@ -10,11 +10,11 @@ use Rattle.c_meaning.specs.Control.{Control}
 use Rattle.c_meaning.specs.Meaning.{program, start, begins_if, first_blocks}
 use Rattle.source_tree.specs.declared.tree.SharedProgram.{SharedProgram}
 use Rattle.source_tree.specs.SharedViews.{program_of}
-use Rattle.shared_world.specs.declared.world.Reached.{Reached}
-use Rattle.shared_world.specs.declared.world.Stage.TheVariants as stages
-use Rattle.shared_world.specs.declared.world.Thread.{Thread}
-use Rattle.shared_world.specs.declared.world.World.{World}
-use Rattle.shared_world.specs.Worlds.{thread_of, reached_of}
+use Rattle.source_state.specs.declared.world.Reached.{Reached}
+use Rattle.source_state.specs.declared.world.Stage.TheVariants as stages
+use Rattle.source_state.specs.declared.world.ThreadRecord.{ThreadRecord}
+use Rattle.source_state.specs.declared.world.World.{World}
+use Rattle.source_state.specs.Worlds.{thread_of, reached_of}
 use Rattle.block_meaning.specs.declared.running.Turned.{Turned}
 use Rattle.block_meaning.specs.declared.thread.Outcome.{Outcome}
 use Rattle.block_meaning.specs.declared.thread.Own.{Own}
@@ -22,11 +22,11 @@ use Rattle.block_meaning.specs.Threads.{control_of, owns_of, turn_of}
 use Rattle.block_meaning.specs.Running.{answered, owns_behind}
 use Rattle.block_meaning.proofs.Picks.{state_of}
 
-world_begins : (p : SharedProgram) (blocks : Blocks) (output : List ℕ) (threads : List Thread) (reached : List Reached) → blocks ≡ first_blocks (program_of p) → output ≡ [] → threads ≡ record { function = p.main; argument = Null; stage = stages.Running } ∷ [] → reached ≡ []
+world_begins : (p : SharedProgram) (blocks : Blocks) (output : List ℕ) (threads : List ThreadRecord) (reached : List Reached) → blocks ≡ first_blocks (program_of p) → output ≡ [] → threads ≡ record { function = p.main; argument = Null; stage = stages.Running } ∷ [] → reached ≡ []
     → ◌≡◌ {A = actions.World} (record { blocks = blocks; output = output; threads = map thread_of threads; reached = map reached_of reached }) (start (program_of p))
 world_begins p blocks output threads reached e f g h = rw (e, f, g, h) refl
 
-pub run_begins : (typed : tree.Typed) (p : SharedProgram) (own : Own) (owns : List (Option Own)) (blocks : Blocks) (output : List ℕ) (threads : List Thread) (reached : List Reached)
+pub run_begins : (typed : tree.Typed) (p : SharedProgram) (own : Own) (owns : List (Option Own)) (blocks : Blocks) (output : List ℕ) (threads : List ThreadRecord) (reached : List Reached)
     → program_of p ≡ typed → control_of own ≡ begins_if p.main Null (slice_get (program_of p).funcs p.main) → owns ≡ Some own ∷ []
     → blocks ≡ first_blocks (program_of p) → output ≡ [] → threads ≡ record { function = p.main; argument = Null; stage = stages.Running } ∷ [] → reached ≡ []
     → ◌≡◌ {A = State Control} (record { world = record { blocks = blocks; output = output; threads = map thread_of threads; reached = map reached_of reached }; own = owns_of owns }) (first_state (program typed) (start typed))

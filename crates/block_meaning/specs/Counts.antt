@@ -4,7 +4,7 @@ use Rattle.block_store.specs.Runs.{State}
 use Rattle.c_tree.specs.Typed as tree
 use Rattle.c_meaning.specs.Control.{Loop, Todo, leaves, then_row, then_end, then_loop, in_body, in_step}
 use Rattle.c_meaning.specs.Control.{Use, first_of, second_of, only_of, place_read, first_test, second_test, choice, argument, to_local, left_place, to_place, struct_left, struct_right, update_left, update_local, update_right, update_read, if_test, loop_test, to_caller, to_nowhere}
-use Rattle.c_meaning.specs.Control.{Wait, wanted, dropped, Caller, Point, gives, lacks, begins, round, Control}
+use Rattle.c_meaning.specs.Control.{Wait, wanted, dropped, Caller, TurnStart, gives, lacks, begins, round, Control}
 
 -- the declarations of a statement, with those of all statements in it
 abbrev mutual
@@ -106,7 +106,7 @@ abbrev mutual
   FitsWait n (dropped k) = Fits n k
 
 -- the same of where a turn begins
-abbrev pub FitsPoint : (n : ℕ) → Point → Type 0
+abbrev pub FitsPoint : (n : ℕ) → TurnStart → Type 0
 FitsPoint n (gives v k) = FitsUse n k
 FitsPoint n (lacks place) = Unit {0}
 FitsPoint n (begins k) = Fits n k

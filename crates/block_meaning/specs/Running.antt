@@ -10,8 +10,8 @@ use Rattle.c_tree.specs.TypedLayout.{size_in}
 use Rattle.c_meaning.specs.Control.{Control}
 use Rattle.c_meaning.specs.Meaning.{program, first_value}
 use Rattle.source_tree.specs.SharedViews.{program_of}
-use Rattle.shared_world.specs.declared.world.World.{World}
-use Rattle.shared_world.specs.Worlds.{world_of}
+use Rattle.source_state.specs.declared.world.World.{World}
+use Rattle.source_state.specs.Worlds.{world_of}
 use Rattle.block_meaning.specs.declared.thread.Own.{Own}
 use Rattle.block_meaning.specs.declared.thread.Outcome.{Outcome}
 use Rattle.block_meaning.specs.declared.thread.Outcome.TheVariants as outcomes
@@ -33,7 +33,7 @@ returned_at (actions.returned z) = Some (wrapped_value int z)
 returned_at (actions.joined z) = Some (wrapped_value int z)
 
 -- what this thread has returned, if it was made and has ended
-abbrev pub returned_by : Option actions.Thread → Option ℤ
+abbrev pub returned_by : Option actions.ThreadRecord → Option ℤ
 returned_by None = None
 returned_by (Some t) = returned_at t.stage
 

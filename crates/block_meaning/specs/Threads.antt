@@ -8,13 +8,13 @@ use Rattle.block_store.specs.Blocks.{Blocks}
 use Rattle.block_store.specs.Runs as runs
 use Rattle.c_meaning.specs.Control as control
 use Rattle.c_meaning.specs.Turns as turns
-use Rattle.shared_world.specs.declared.world.World.{World}
-use Rattle.shared_world.specs.Worlds.{world_of}
+use Rattle.source_state.specs.declared.world.World.{World}
+use Rattle.source_state.specs.Worlds.{world_of}
 use Rattle.source_tree.specs.declared.tree.SharedProgram.{SharedProgram}
-use Rattle.source_control.specs.declared.control.Pending.{Pending}
-use Rattle.source_control.specs.Views.{todo_of, use_of, loop_of, wait_of}
-use Rattle.source_calls.specs.Ends.{Rest, here_at, ends}
-use Rattle.source_flow.specs.Flow.{now_in}
+use Rattle.source_state.specs.declared.control.Pending.{Pending}
+use Rattle.source_state.specs.Views.{todo_of, use_of, loop_of, wait_of}
+use Rattle.source_expressions.specs.Ends.{Rest, here_at, ends}
+use Rattle.source_expressions.specs.Flow.{now_in}
 use Rattle.block_meaning.specs.declared.thread.At.{At}
 use Rattle.block_meaning.specs.declared.thread.At.TheVariants as ats
 use Rattle.block_meaning.specs.declared.thread.Caller.{Caller}
@@ -23,7 +23,7 @@ use Rattle.block_meaning.specs.declared.thread.Outcome.{Outcome}
 use Rattle.block_meaning.specs.declared.thread.Outcome.TheVariants as outcomes
 
 -- where a turn begins
-abbrev pub point_of_at : At → control.Point
+abbrev pub point_of_at : At → control.TurnStart
 point_of_at (ats.Gives v k) = control.gives v (use_of k.value)
 point_of_at (ats.Lacks place) = control.lacks place
 point_of_at (ats.Begins k) = control.begins (todo_of k.value)

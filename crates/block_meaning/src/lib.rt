@@ -14,4 +14,4 @@ mod turn;
 
 pub use block_store::Answer;
 pub use running::{SourceRun, Turned};
-pub use shared_world::Reached;
+pub use source_state::Reached;

@@ -8,11 +8,11 @@ ghost use Rattle.c_meaning.specs.Library as library;
 ghost use Rattle.c_meaning.specs.Turns as turns;
 ghost use Rattle.c_tree.specs.TypedViews.{lib_view};
 ghost use Rattle.source_tree.specs.SharedViews.{func_of};
-ghost use Rattle.source_control.specs.declared.control.Pending.TheVariants as pendings;
-ghost use Rattle.source_control.specs.Variables.{variable_of};
-ghost use Rattle.source_control.specs.Views.{callee_of, values_of, wait_of};
-ghost use Rattle.source_calls.specs.Ends.{Rest, here_at, after_library, point_of};
-ghost use Rattle.shared_world.specs.Worlds.{world_of};
+ghost use Rattle.source_state.specs.declared.control.Pending.TheVariants as pendings;
+ghost use Rattle.source_state.specs.Variables.{variable_of};
+ghost use Rattle.source_state.specs.Views.{callee_of, values_of, wait_of};
+ghost use Rattle.source_expressions.specs.Ends.{Rest, here_at, after_library, point_of};
+ghost use Rattle.source_state.specs.Worlds.{world_of};
 ghost use Rattle.block_meaning.specs.Threads.{turn_of, point_of_at, caller_of, callers_of, control_of, rest_of, ends_in, IsTurned, Untouched};
 
 use crate::begin::{first_locals, whole_body};
@@ -20,11 +20,9 @@ use crate::thread::{At, Caller, Outcome, Own};
 use ak_words::{NoMemory, Num};
 use block_store::{Answer, Value};
 use c_tree::typed::Lib;
-use kept_store::KeptStore;
-use shared_world::{Action, Done, World};
-use source_calls::list_of;
-use source_control::control::{LoopParts, Pending, Then, Todo, Values, Wait};
-use source_control::{Locals, Variable};
+use source_expressions::list_of;
+use source_state::control::{LoopParts, Pending, Then, Todo, Values, Wait};
+use source_state::{Done, KeptStore, Locals, SharedAction, Variable, World};
 use source_tree::tree::{Callee, SharedFunc, SharedProgram};
 use std::alloc::Global;
 use std::mem;
@@ -127,7 +125,7 @@ fn act(
     thread: u32,
     answer: Answer,
     place: u32,
-    action: Action,
+    action: SharedAction,
     then: Then,
 ) -> Result<Outcome, NoMemory>
     ensures turned { IfOk result (λ o. turn_of o own.new world.new ≡ ends_in program.now thread answer own.old world.old (pendings.Act place action then)) }
@@ -297,7 +295,7 @@ fn go_back(
     match last_caller(&mut own.callers) {
         None => {
             let value = number_in(value);
-            let _done = world.act(alloc, thread, Answer::Plain, Action::Finish(value))?;
+            let _done = world.act(alloc, thread, Answer::Plain, SharedAction::Finish(value))?;
             Ok(Outcome::Ended)
         }
         Some(

@@ -7,7 +7,7 @@ ghost use Rattle.block_store.specs.Runs.{first_state, picked};
 ghost use Rattle.block_store.specs.declared.values.Answer.{Answer};
 ghost use Rattle.c_tree.specs.TypedViews.{typed_view};
 ghost use Rattle.c_meaning.specs.Meaning.{program, start};
-ghost use Rattle.shared_world.specs.Worlds.{reached_of};
+ghost use Rattle.source_state.specs.Worlds.{reached_of};
 ghost use Rattle.block_meaning.specs.Counts.{HasFewDeclarations, MakesFew, ReachesFew};
 ghost use Rattle.block_meaning.specs.Running.{running_of, answered_if, left_by, ended_with};
 
@@ -18,8 +18,7 @@ use crate::thread::Own;
 use ak_words::{NoMemory, Rule};
 use block_store::{Answer, Ptr};
 use c_tree::typed::Typed;
-use kept_store::KeptStore;
-use shared_world::{Reached, Stage, Thread, World};
+use source_state::{KeptStore, Reached, Stage, ThreadRecord, World};
 use source_tree::share;
 use source_tree::tree::SharedProgram;
 use std::alloc::Global;
@@ -65,7 +64,7 @@ impl SourceRun {
         let mut threads = Vec::new(alloc);
         threads.push(Some(own))?;
         let mut made = Vec::new(alloc);
-        made.push(Thread {
+        made.push(ThreadRecord {
             function: program.main,
             argument: Ptr::Null,
             stage: Stage::Running,

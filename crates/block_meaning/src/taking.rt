@@ -7,7 +7,7 @@ ghost use Rattle.ak_words.specs.Wrapped.{wrapped_value};
 ghost use Rattle.block_store.specs.Runs as runs;
 ghost use Rattle.c_meaning.specs.Meaning as meaning;
 ghost use Rattle.source_tree.specs.SharedViews.{program_of};
-ghost use Rattle.shared_world.specs.Worlds.{stage_of, world_of};
+ghost use Rattle.source_state.specs.Worlds.{stage_of, world_of};
 ghost use Rattle.block_meaning.specs.Threads.{control_of, owns_of, turn_of};
 ghost use Rattle.block_meaning.specs.Running.{answered, answered_if, left_by, ended_by, ended_with, returned_at, state_in, owns_behind};
 
@@ -17,7 +17,7 @@ use crate::thread::{Outcome, Own};
 use crate::turn::take_turn;
 use ak_words::{IntType, NoMemory, Num};
 use block_store::Answer;
-use shared_world::{Stage, World};
+use source_state::{Stage, World};
 use source_tree::tree::SharedProgram;
 use std::alloc::Global;
 

@@ -1,7 +1,7 @@
 use ak_words::Rule;
 use block_store::Value;
-use source_control::Locals;
-use source_control::control::{LoopParts, Todo, Use, Wait};
+use source_state::Locals;
+use source_state::control::{LoopParts, Todo, Use, Wait};
 use std::rc::Rc;
 
 /// Where a turn begins.

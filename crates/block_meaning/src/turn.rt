@@ -3,25 +3,22 @@
 ghost use Rattle.std.specs.Prelude.{◌≡◌, IfOk, OnOk};
 ghost use Rattle.c_meaning.specs.Turns as turns;
 ghost use Rattle.source_tree.specs.SharedViews.{program_of};
-ghost use Rattle.shared_world.specs.Worlds.{world_of};
+ghost use Rattle.source_state.specs.Worlds.{world_of};
 ghost use Rattle.block_meaning.specs.Threads.{control_of, turn_of, Reaches, Stays};
 
 use crate::perform::perform;
 use crate::thread::{At, Outcome, Own};
 use ak_words::{NoMemory, Rule};
 use block_store::Answer;
-use kept_store::KeptStore;
-use shared_world::World;
-use source_assign::Exit;
-use source_control::Locals;
-use source_control::control::Pending;
+use source_state::control::Pending;
+use source_state::{KeptStore, Locals, World};
+use source_statements::statements::rounds;
+use source_statements::{Exit, finish, give};
 use source_tree::tree::SharedProgram;
-use source_walk::exits::rounds;
-use source_walk::{finish, give};
 use std::alloc::Global;
 
 // How far a turn gets from where it begins: to what ends it.
-#[tactic(auto, using(source_walk::proofs::Names::name_todo))]
+#[tactic(auto, using(source_statements::proofs::Names::name_todo))]
 fn reach(
     at: &At,
     alloc: Global,

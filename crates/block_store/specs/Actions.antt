@@ -29,7 +29,7 @@ pub data Stage : Type 0 where
   joined : (value : ℤ) → Stage
 
 -- a thread: the function that it began with, that one's argument, and how far it is
-pub record Thread : Type 0 where
+pub record ThreadRecord : Type 0 where
   pub function : ℕ
   pub argument : Ptr
   pub stage : Stage
@@ -46,11 +46,11 @@ pub record Reached : Type 0 where
 pub record World : Type 0 where
   pub blocks : Blocks
   pub output : List ℕ
-  pub threads : List Thread
+  pub threads : List ThreadRecord
   pub reached : List Reached
 
 -- a thread that begins
-abbrev pub beginning : (function : ℕ) → (argument : Ptr) → Thread
+abbrev pub beginning : (function : ℕ) → (argument : Ptr) → ThreadRecord
 beginning function argument = record { function = function; argument = argument; stage = running }
 
 -- the world in which a run begins: the blocks of the globals and literals, and thread 0, which is in main; nothing was reached yet
@@ -66,11 +66,11 @@ abbrev pub with_reached : World → List Reached → World
 with_reached w reached = record { blocks = w.blocks; output = w.output; threads = w.threads; reached = reached }
 
 -- a thread that has come to this stage
-abbrev pub at_stage : Stage → Thread → Thread
+abbrev pub at_stage : Stage → ThreadRecord → ThreadRecord
 at_stage stage t = record { function = t.function; argument = t.argument; stage = stage }
 
 -- the world with this thread, which has that number, at the stage; where there is no such thread, nothing changes
-abbrev pub staged_if : World → ℕ → Stage → Option Thread → World
+abbrev pub staged_if : World → ℕ → Stage → Option ThreadRecord → World
 staged_if w number stage None = w
 staged_if w number stage (Some t) = record { blocks = w.blocks; output = w.output; threads = set w.threads number (at_stage stage t); reached = w.reached }
 
@@ -94,25 +94,25 @@ pub data Printed : Type 0 where
   text : (at : Ptr) → Printed
 
 -- an action, with its operands' values (C11 5.1.2.3 p2: side effects, and this project's profile)
-pub data Action : Type 0 where
+pub data SharedAction : Type 0 where
   -- an access that reads; one that writes a value, whose access it fits
-  load : (at : Ptr) (how : Access) → Action
-  store : (at : Ptr) (value : Value) → Action
+  load : (at : Ptr) (how : Access) → SharedAction
+  store : (at : Ptr) (value : Value) → SharedAction
   -- n bytes, as memcpy copies them, or an assignment of a struct, which may be to itself (same)
-  copy : (to from : Ptr) (n align : ℕ) (same : Bool) → Action
+  copy : (to from : Ptr) (n align : ℕ) (same : Bool) → SharedAction
   -- an allocation: a heap block of so many bytes, each of which starts as this cell
-  allocate : (size : ℕ) (first : Cell) → Action
-  free : (at : Ptr) → Action
-  print : (parts : List Printed) → Action
-  lock : (at : Ptr) → Action
-  unlock : (at : Ptr) → Action
-  destroy : (at : Ptr) → Action
+  allocate : (size : ℕ) (first : Cell) → SharedAction
+  free : (at : Ptr) → SharedAction
+  print : (parts : List Printed) → SharedAction
+  lock : (at : Ptr) → SharedAction
+  unlock : (at : Ptr) → SharedAction
+  destroy : (at : Ptr) → SharedAction
   -- a new thread, whose number is stored at a place
-  start : (to : Ptr) (function : ℕ) (argument : Ptr) → Action
+  start : (to : Ptr) (function : ℕ) (argument : Ptr) → SharedAction
   -- the end of another thread is awaited, and its result stored at a place, or nowhere at null
-  join : (thread : ℕ) (to : Ptr) → Action
+  join : (thread : ℕ) (to : Ptr) → SharedAction
   -- the thread's first function returns, with a value or without
-  finish : (value : Option ℤ) → Action
+  finish : (value : Option ℤ) → SharedAction
 
 -- what comes of an action: it's done, and gives a value or none; it waits; it doesn't take this answer; or it breaks a rule.
 -- Only what is done changes the world
@@ -230,7 +230,7 @@ joins_at w thread to (returned z) = joins w thread z (stored_unless_null w.block
 joins_at w thread to (joined z) = broke C14
 
 -- no such thread was made, or it was
-abbrev pub joins_if : World → (thread : ℕ) → (to : Ptr) → Option Thread → Done
+abbrev pub joins_if : World → (thread : ℕ) → (to : Ptr) → Option ThreadRecord → Done
 joins_if w thread to None = broke C14
 joins_if w thread to (Some t) = joins_at w thread to t.stage
 
@@ -246,7 +246,7 @@ result_of None = pos 0
 -- ---- the table of the actions: which answers each takes, and what it then does, in the world w, for this thread
 
 -- what comes of an action under each answer; only an allocation and a new thread leave a choice (this project's profile)
-abbrev pub outcomes : World → (thread : ℕ) → Action → Outcomes
+abbrev pub outcomes : World → (thread : ℕ) → SharedAction → Outcomes
 outcomes w thread (load at how) = settled (gives w (loaded w.blocks at how))
 outcomes w thread (store at value) = settled (changes w (stored w.blocks at value))
 outcomes w thread (copy to from n align same) = settled (changes w (copied w.blocks to from n align same))
@@ -312,7 +312,7 @@ reading_parts blocks (part ∷ parts) = reading_part blocks part ++ reading_on (
 
 -- what an action reads; where it waits, or breaks a rule, what it tried to read. A mutex has 8 bytes; an allocation, a free, a start, a
 -- join and the end of a thread read none
-abbrev pub reads_of : World → Action → List Reached
+abbrev pub reads_of : World → SharedAction → List Reached
 reads_of w (load at how) = reading (size_of how) at
 reads_of w (store at value) = []
 reads_of w (copy to from n align same) = reading n from
@@ -332,7 +332,7 @@ start_writes answers.Got to = writing 8 to
 start_writes answer to = []
 
 -- what an action writes that is done under this answer. The result of a thread has 4 bytes, and is written nowhere at null
-abbrev pub writes_of : Answer → Action → List Reached
+abbrev pub writes_of : Answer → SharedAction → List Reached
 writes_of answer (load at how) = []
 writes_of answer (store at value) = writing (size_of (access_of value)) at
 writes_of answer (copy to from n align same) = writing n to
@@ -354,5 +354,5 @@ telling reached unfit = unfit
 telling reached (broke rule) = broke rule
 
 -- what an action of a thread does under an answer
-abbrev pub acted : World → (thread : ℕ) → Answer → Action → Done
+abbrev pub acted : World → (thread : ℕ) → Answer → SharedAction → Done
 acted w thread answer action = telling (reads_of w action ++ writes_of answer action) (under answer (outcomes w thread action))

@@ -76,38 +76,38 @@ freed blocks Null = Ok blocks
 freed blocks (To name offset) = if is_freeable offset (live blocks name) then Ok (ended blocks name) else Err C10
 
 -- bytes of a block: the block's name, the block, and where in it they start
-pub record Spot : Type 0 where
+pub record Range : Type 0 where
   pub name : ℕ
   pub block : Block
   pub offset : ℕ
 
 -- the `size` bytes in a block from an offset on, if it lives: C5 where they aren't all inside it, and then C6 where they start at
 -- no multiple of the alignment
-abbrev pub range_in : (size align name offset : ℕ) → Option Block → Result Spot Rule
+abbrev pub range_in : (size align name offset : ℕ) → Option Block → Result Range Rule
 range_in size align name offset None = Err C5
 range_in size align name offset (Some b) =
     if nat_le (offset + size) (length b.cells) then (if offset % align == 0 then Ok (record { name = name; block = b; offset = offset }) else Err C6) else Err C5
 
 -- the `size` bytes that a pointer points to: C5 through null, to a dead block or outside the block, then C6
 -- (C11 6.5.3.2 p4, 6.3.2.3 p7)
-abbrev pub range_at : Blocks → (size align : ℕ) → Ptr → Result Spot Rule
+abbrev pub range_at : Blocks → (size align : ℕ) → Ptr → Result Range Rule
 range_at blocks size align Null = Err C5
 range_at blocks size align (To name offset) = range_in size align name offset (live blocks name)
 
 -- the bytes that an access reaches in a block: its size is also its alignment
-abbrev pub spot_in : (size name offset : ℕ) → Option Block → Result Spot Rule
+abbrev pub spot_in : (size name offset : ℕ) → Option Block → Result Range Rule
 spot_in size = range_in size size
 
 -- the bytes that an access reaches
-abbrev pub spot_at : Blocks → (size : ℕ) → Ptr → Result Spot Rule
+abbrev pub spot_at : Blocks → (size : ℕ) → Ptr → Result Range Rule
 spot_at blocks size = range_at blocks size size
 
 -- the cells of `size` bytes
-abbrev pub cells_at : (size : ℕ) → Spot → List Cell
+abbrev pub cells_at : (size : ℕ) → Range → List Cell
 cells_at size s = take size (drop s.offset s.block.cells)
 
 -- what an access reads at a spot
-abbrev pub read_at : Access → Result Spot Rule → Result Value Rule
+abbrev pub read_at : Access → Result Range Rule → Result Value Rule
 read_at how (Err rule) = Err rule
 read_at how (Ok s) = read how (cells_at (size_of how) s)
 
@@ -120,11 +120,11 @@ abbrev pub with_cells : List Cell → (offset : ℕ) → List Cell → List Cell
 with_cells cells offset new = take offset cells ++ new ++ drop (offset + length new) cells
 
 -- the store with new cells at a spot
-abbrev pub with_cells_at : Blocks → List Cell → Spot → Blocks
+abbrev pub with_cells_at : Blocks → List Cell → Range → Blocks
 with_cells_at blocks new s = set blocks s.name (Some (record { kind = s.block.kind; cells = with_cells s.block.cells s.offset new }))
 
 -- the same, or C12 where the spot lies in a string literal (C11 6.4.5 p7)
-abbrev pub written_at : Blocks → List Cell → Result Spot Rule → Result Blocks Rule
+abbrev pub written_at : Blocks → List Cell → Result Range Rule → Result Blocks Rule
 written_at blocks new (Err rule) = Err rule
 written_at blocks new (Ok s) = if is_literal s.block.kind then Err C12 else Ok (with_cells_at blocks new s)
 
@@ -133,20 +133,20 @@ abbrev pub stored : Blocks → Ptr → Value → Result Blocks Rule
 stored blocks at v = written_at blocks (cells_of v) (spot_at blocks (size_of (access_of v)) at)
 
 -- two stretches of n bytes have a byte in common
-abbrev pub overlap : (n : ℕ) → Spot → Spot → Bool
+abbrev pub overlap : (n : ℕ) → Range → Range → Bool
 overlap n s t = (s.name == t.name) && nat_lt s.offset (t.offset + n) && nat_lt t.offset (s.offset + n)
 
 -- n bytes may not be copied there: the stretches overlap, but for exactly one and the same where that is allowed
-abbrev pub clash : (n : ℕ) → (same : Bool) → (to from : Spot) → Bool
+abbrev pub clash : (n : ℕ) → (same : Bool) → (to from : Range) → Bool
 clash n same to from = overlap n to from && not (same && (to.offset == from.offset))
 
 -- n cells are copied from one spot to another: C12 in a string literal, then C11
-abbrev pub copied_to : Blocks → (n : ℕ) → (same : Bool) → (to from : Spot) → Result Blocks Rule
+abbrev pub copied_to : Blocks → (n : ℕ) → (same : Bool) → (to from : Range) → Result Blocks Rule
 copied_to blocks n same to from =
     if is_literal to.block.kind then Err C12 else (if clash n same to from then Err C11 else Ok (with_cells_at blocks (cells_at n from) to))
 
 -- the same, where both spots were found: the target is judged first
-abbrev pub copied_between : Blocks → (n : ℕ) → (same : Bool) → (to from : Result Spot Rule) → Result Blocks Rule
+abbrev pub copied_between : Blocks → (n : ℕ) → (same : Bool) → (to from : Result Range Rule) → Result Blocks Rule
 copied_between blocks n same (Err rule) from = Err rule
 copied_between blocks n same (Ok to) (Err rule) = Err rule
 copied_between blocks n same (Ok to) (Ok from) = copied_to blocks n same to from

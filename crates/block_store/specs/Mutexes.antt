@@ -8,21 +8,21 @@ use Rattle.block_store.specs.declared.values.Cell.TheVariants.{Byte}
 use Rattle.block_store.specs.declared.values.LockEnd.{LockEnd}
 use Rattle.block_store.specs.declared.values.LockEnd.TheVariants as ends
 use Rattle.block_store.specs.declared.values.Ptr.{Ptr}
-use Rattle.block_store.specs.Blocks.{Blocks, Spot, spot_at, cells_at, with_cells_at, is_literal}
+use Rattle.block_store.specs.Blocks.{Blocks, Range, spot_at, cells_at, with_cells_at, is_literal}
 use Rattle.block_store.specs.Cells.{read_number}
 
 -- where a mutex lies, and its number
 pub record Mutex : Type 0 where
-  pub spot : Spot
+  pub spot : Range
   pub number : ℕ
 
 -- the mutex at a spot, of this number if that could be read
-abbrev pub with_number : Spot → Result ℕ Rule → Result Mutex Rule
+abbrev pub with_number : Range → Result ℕ Rule → Result Mutex Rule
 with_number s (Err rule) = Err rule
 with_number s (Ok n) = Ok (record { spot = s; number = n })
 
 -- the mutex at a spot: C12 in a string literal, then C4 and C16 of its cells
-abbrev pub mutex_in : Result Spot Rule → Result Mutex Rule
+abbrev pub mutex_in : Result Range Rule → Result Mutex Rule
 mutex_in (Err rule) = Err rule
 mutex_in (Ok s) = if is_literal s.block.kind then Err C12 else with_number s (read_number (cells_at 8 s))
 

@@ -16,7 +16,7 @@ use Rattle.block_store.specs.declared.values.Value.TheVariants as values
 use Rattle.block_store.specs.Blocks.{Blocks, first_cells}
 use Rattle.block_store.specs.Cells.{cells_of}
 use Rattle.block_store.specs.Pointers.{moved, indexed, tested, compared, difference}
-use Rattle.block_store.specs.Actions.{Thread, Reached, World, running, returned, joined, with_blocks, with_reached, staged, bytes, text, Action, load, store, copy, allocate, free, print, lock, unlock, destroy, start, join, finish, Done, went, blocked, unfit, broke, reads_of, acted}
+use Rattle.block_store.specs.Actions.{ThreadRecord, Reached, World, running, returned, joined, with_blocks, with_reached, staged, bytes, text, SharedAction, load, store, copy, allocate, free, print, lock, unlock, destroy, start, join, finish, Done, went, blocked, unfit, broke, reads_of, acted}
 
 -- a mutex of zero bytes; the literal "hi"; a local of four bytes never written; a block that was freed; and a heap block with a
 -- pointer to its own first byte, and then 41, an int
@@ -50,11 +50,11 @@ abbrev pub heap : List Cell
 heap = pointer ++ cells_of (an_int 41)
 
 -- a thread that runs, and began with function n and a null argument
-abbrev pub thread : ℕ → Thread
+abbrev pub thread : ℕ → ThreadRecord
 thread n = record { function = n; argument = Null; stage = running }
 
 -- threads 0 and 1 run, 2 has returned 7, and 3 has returned 8 and was joined
-abbrev pub threads : List Thread
+abbrev pub threads : List ThreadRecord
 threads =
     thread 0 ∷ thread 1
     ∷ record { function = 1; argument = Null; stage = returned (pos 7) }
@@ -78,15 +78,15 @@ abbrev pub world : ℕ → World
 world n = world_of (blocks (mutex n) heap)
 
 -- an action of thread 0 or 1 in it
-abbrev pub plainly : (mutex thread : ℕ) → Action → Done
+abbrev pub plainly : (mutex thread : ℕ) → SharedAction → Done
 plainly mutex thread = acted (world mutex) thread answers.Plain
 
 -- an action of thread 0 in the world with the free mutex, where it gets what it asks for
-abbrev pub if_got : Action → Done
+abbrev pub if_got : SharedAction → Done
 if_got = acted (world 0) 0 answers.Got
 
 -- the same where it doesn't get it
-abbrev pub if_none : Action → Done
+abbrev pub if_none : SharedAction → Done
 if_none = acted (world 0) 0 answers.None
 
 -- the int at the start of the heap block

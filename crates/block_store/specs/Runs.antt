@@ -5,7 +5,7 @@ use Rattle.std.specs.Option.{option_flatten}
 use Rattle.ak_words.specs.declared.rule.Rule.{Rule}
 use Rattle.block_store.specs.declared.values.Answer.{Answer}
 use Rattle.block_store.specs.declared.values.Ptr.{Ptr}
-use Rattle.block_store.specs.Actions.{Thread, World}
+use Rattle.block_store.specs.Actions.{ThreadRecord, World}
 
 -- what comes of a turn of a thread: it goes on, with other things of its own; its first function has returned; or nothing happens,
 -- since its next action waits, since that doesn't take the answer, or since it breaks a rule, at a place
@@ -35,7 +35,7 @@ pub record Pick : Type 0 where
 
 -- the threads from the n-th on, as they begin
 abbrev pub begun : {A : Type 0} → Program A → (n : ℕ) → World → List (Option A)
-begun P n w = map (λ (t : Thread). Some (P.begins t.function t.argument)) (drop n w.threads)
+begun P n w = map (λ (t : ThreadRecord). Some (P.begins t.function t.argument)) (drop n w.threads)
 
 -- the state in which a run begins
 abbrev pub first_state : {A : Type 0} → Program A → World → State A

@@ -3,18 +3,18 @@ ghost use Rattle.block_store.specs.Runs.{Pick};
 ghost use Rattle.c_lex.specs.Refusals.{IfRefused};
 ghost use Rattle.c_lex.specs.declared.token.Token.{Token as LexToken};
 ghost use Rattle.c_meaning.specs.Meaning.{shown};
-ghost use Rattle.c_reader.specs.Reading.{IsRead};
+ghost use Rattle.alaska_run.specs.Reading.{IsRead};
 ghost use Rattle.c_tree.specs.Typed.{Typed as Tree};
 ghost use Rattle.c_tree.specs.TypedViews.{typed_view};
-ghost use Rattle.ir_meaning.specs.Start.{start};
-ghost use Rattle.ir_meaning.specs.Threads.{program_of};
-ghost use Rattle.pin_checker.specs.CheckedViews.{code_of};
+ghost use Rattle.struct_ir.specs.meaning.Start.{start};
+ghost use Rattle.struct_ir.specs.meaning.Threads.{program_of};
+ghost use Rattle.pin_checker.specs.CheckedViews.{program_in};
 ghost use Rattle.struct_ir.specs.Linear.{entry_of, linear};
 ghost use Rattle.struct_ir.specs.LinearViews.{code_view};
 ghost use Rattle.struct_ir.specs.Pins.{PinSafe};
 ghost use Rattle.struct_ir.specs.ValidCode.{is_valid_code};
 
-use c_compile::{Built, compile};
+use alaska_run::{Built, compile};
 use c_lex::CompileFault;
 use std::alloc::Global;
 
@@ -24,11 +24,11 @@ fn parts(alloc: Global, text: &[u8]) -> Result<Built, CompileFault>
     requires { length text.now ≤ 1048576 }
     ensures in_subset { IfOk result (λ b. (tokens : List LexToken) × IsRead text.now tokens (typed_view b.typed)) }
     ensures outside { IfRefused result (λ r. (tokens : List LexToken) (t : Tree) → IsRead text.now tokens t → ⊥) }
-    ensures turns { IfOk result (λ b. (order : List Pick) → Rattle.block_store.specs.Runs.shown (program_of (code_of b.checked)) (start (code_of b.checked)) order ≡ shown (typed_view b.typed) order) }
+    ensures turns { IfOk result (λ b. (order : List Pick) → Rattle.block_store.specs.Runs.shown (program_of (program_in b.checked)) (start (program_in b.checked)) order ≡ shown (typed_view b.typed) order) }
     ensures valid { IfOk result (λ b. is_valid_code (code_view b.code) ≡ true) }
     ensures safe { IfOk result (λ b. (f : ℕ) → PinSafe (linear (code_view b.code).funcs) (entry_of f)) }
 {
-    c_reader::laws::read_each_text_once();
+    alaska_run::laws::read_each_text_once();
     compile(alloc, text)
 }
 

@@ -1,6 +1,6 @@
 -- Programs that keep each other's turns show the same under every order, and what is shown tells where a run comes to.
 use Rattle.std.proofs.Common.{◌≡◌, refl, ap, subst, ℕ, zero, suc, List, [], ◌∷◌, ◌++◌, length, map, drop, set, Option, Some, None}
-use Rattle.block_store.specs.Actions.{World, Thread}
+use Rattle.block_store.specs.Actions.{World, ThreadRecord}
 use Rattle.block_store.specs.Runs.{Turn, went, ended, blocked, unfit, broke, Program, State, Run, Pick, begun, next_state, own_at, turn_if, picked, goes_on, run_from, run, Shown, it_went, it_ended, it_blocked, it_was_unfit, no_such_turn, shown_then, shown_from, shown}
 use Rattle.c_meaning.specs.Alike.{TurnsAlike, both_went, both_ended, both_blocked, both_unfit, both_broke, KeepsTurns, reached_by, reached_in}
 
@@ -33,8 +33,8 @@ length_alike : {A B : Type 0} (R : A → B → Type 0) (xs : List (Option A)) (y
 length_alike R _ _ nobody = refl
 length_alike R _ _ (one_more a b xs ys o rest) = ap suc (length_alike R xs ys rest)
 
-begun_alike : {A B : Type 0} (R : A → B → Type 0) (P : Program A) (Q : Program B) → KeepsTurns R P Q → (ts : List Thread)
-    → AllAlike R (map (λ (t : Thread). Some (P.begins t.function t.argument)) ts) (map (λ (t : Thread). Some (Q.begins t.function t.argument)) ts)
+begun_alike : {A B : Type 0} (R : A → B → Type 0) (P : Program A) (Q : Program B) → KeepsTurns R P Q → (ts : List ThreadRecord)
+    → AllAlike R (map (λ (t : ThreadRecord). Some (P.begins t.function t.argument)) ts) (map (λ (t : ThreadRecord). Some (Q.begins t.function t.argument)) ts)
 begun_alike R P Q keeps [] = nobody
 begun_alike R P Q keeps (t ∷ ts) = one_more _ _ _ _ (both _ _ (keeps.begins t.function t.argument)) (begun_alike R P Q keeps ts)
 

@@ -15,8 +15,8 @@ use Rattle.block_store.specs.declared.values.Ptr.{Ptr}
 use Rattle.block_store.specs.declared.values.Value.{Value}
 use Rattle.block_store.specs.declared.values.Value.TheVariants as values
 use Rattle.block_store.specs.Actions as actions
-use Rattle.block_store.specs.Actions.{World, Thread, Stage, Action, Done, Reached, acted, under, outcomes, telling, at_stage, staged_if, staged}
-use Rattle.block_store.specs.Blocks.{Blocks, Spot, loaded, read_at, spot_at, cells_at, stored, copied}
+use Rattle.block_store.specs.Actions.{World, ThreadRecord, Stage, SharedAction, Done, Reached, acted, under, outcomes, telling, at_stage, staged_if, staged}
+use Rattle.block_store.specs.Blocks.{Blocks, Range, loaded, read_at, spot_at, cells_at, stored, copied}
 use Rattle.block_store.specs.Cells.{size_of, value_of, read, has_unknown, number_of, pointer_of}
 use Rattle.c_tree.specs.Typed as tree
 use Rattle.c_tree.specs.TypedForm.{IsScalar}
@@ -43,7 +43,7 @@ under_done t P answers.Plain o p g n = p
 under_done t P answers.Got o p g n = g
 under_done t P answers.None o p g n = n
 
-pub acted_done : (t : tree.Typed) (P : Option Value → Type 0) (w : World) (thread : ℕ) (answer : Answer) (action : Action)
+pub acted_done : (t : tree.Typed) (P : Option Value → Type 0) (w : World) (thread : ℕ) (answer : Answer) (action : SharedAction)
     → DoneWith t P (outcomes w thread action).plain → DoneWith t P (outcomes w thread action).got → DoneWith t P (outcomes w thread action).none → DoneWith t P (acted w thread answer action)
 acted_done t P w thread answer action p g n =
     telling_done t P (actions.reads_of w action ++ actions.writes_of answer action) (under answer (outcomes w thread action)) (under_done t P answer (outcomes w thread action) p g n)
@@ -99,7 +99,7 @@ unless_unknown ty false r h = h
 read_typed : (ty : tree.Ty) (cells : List Cell) → IsScalar ty → OkTyped ty (read (access_of_type ty) cells)
 read_typed ty cells h = unless_unknown ty (has_unknown cells) (ok_or (value_of (access_of_type ty) cells) C16) (ok_or_typed ty (value_of (access_of_type ty) cells) C16 (value_read ty cells h))
 
-read_at_typed : (ty : tree.Ty) (s : Result Spot Rule) → IsScalar ty → OkTyped ty (read_at (access_of_type ty) s)
+read_at_typed : (ty : tree.Ty) (s : Result Range Rule) → IsScalar ty → OkTyped ty (read_at (access_of_type ty) s)
 read_at_typed ty (Ok s) h = read_typed ty (cells_at (size_of (access_of_type ty)) s) h
 read_at_typed ty (Err rule) h = tt
 
@@ -124,12 +124,12 @@ copy_done t w thread answer to from n align same h = acted_done t IsNoValue w th
 
 -- ---- threads
 
-staged_threads : (t : tree.Typed) (all : List Thread) (n : ℕ) (stage : Stage) (h : Thread) → slice_get all n ≡ Some h → AllByRecursion (λ (x : Thread). CanBegin t x.function) all → AllByRecursion (λ (x : Thread). CanBegin t x.function) (set all n (at_stage stage h))
+staged_threads : (t : tree.Typed) (all : List ThreadRecord) (n : ℕ) (stage : Stage) (h : ThreadRecord) → slice_get all n ≡ Some h → AllByRecursion (λ (x : ThreadRecord). CanBegin t x.function) all → AllByRecursion (λ (x : ThreadRecord). CanBegin t x.function) (set all n (at_stage stage h))
 staged_threads t [] n stage h e a = tt
-staged_threads t (x ∷ all) zero stage h e a = let same : x ≡ h = cc in (subst (λ (y : Thread). CanBegin t y.function) same a.0, a.1)
+staged_threads t (x ∷ all) zero stage h e a = let same : x ≡ h = cc in (subst (λ (y : ThreadRecord). CanBegin t y.function) same a.0, a.1)
 staged_threads t (x ∷ all) (suc n) stage h e a = (a.0, staged_threads t all n stage h e a.1)
 
-staged_if_world : (t : tree.Typed) (w : World) (n : ℕ) (stage : Stage) (o : Option Thread) → slice_get w.threads n ≡ o → IsTypedWorld t w → IsTypedWorld t (staged_if w n stage o)
+staged_if_world : (t : tree.Typed) (w : World) (n : ℕ) (stage : Stage) (o : Option ThreadRecord) → slice_get w.threads n ≡ o → IsTypedWorld t w → IsTypedWorld t (staged_if w n stage o)
 staged_if_world t w n stage None e h = h
 staged_if_world t w n stage (Some x) e h = staged_threads t w.threads n stage x e h
 
@@ -139,7 +139,7 @@ staged_world t w n stage h = staged_if_world t w n stage (slice_get w.threads n)
 pub finish_done : (t : tree.Typed) (w : World) (thread : ℕ) (answer : Answer) (value : Option ℤ) → IsTypedWorld t w → DoneWith t IsNoValue (acted w thread answer (actions.finish value))
 finish_done t w thread answer value h = acted_done t IsNoValue w thread answer (actions.finish value) (refl, staged_world t w thread (actions.returned (actions.result_of value)) h) tt tt
 
-more_threads : (t : tree.Typed) (all : List Thread) (h : Thread) → AllByRecursion (λ (x : Thread). CanBegin t x.function) all → CanBegin t h.function → AllByRecursion (λ (x : Thread). CanBegin t x.function) (all ++ h ∷ [])
+more_threads : (t : tree.Typed) (all : List ThreadRecord) (h : ThreadRecord) → AllByRecursion (λ (x : ThreadRecord). CanBegin t x.function) all → CanBegin t h.function → AllByRecursion (λ (x : ThreadRecord). CanBegin t x.function) (all ++ h ∷ [])
 more_threads t [] h a c = (c, tt)
 more_threads t (x ∷ all) h a c = (a.0, more_threads t all h a.1 c)
 
@@ -156,7 +156,7 @@ joins_at_done t w thread to actions.running h = tt
 joins_at_done t w thread to (actions.returned z) h = joins_done t w thread z (actions.stored_unless_null w.blocks to z) h
 joins_at_done t w thread to (actions.joined z) h = tt
 
-joins_if_done : (t : tree.Typed) (w : World) (thread : ℕ) (to : Ptr) (o : Option Thread) → IsTypedWorld t w → DoneWith t (HasTypeIf (tree.integer int)) (actions.joins_if w thread to o)
+joins_if_done : (t : tree.Typed) (w : World) (thread : ℕ) (to : Ptr) (o : Option ThreadRecord) → IsTypedWorld t w → DoneWith t (HasTypeIf (tree.integer int)) (actions.joins_if w thread to o)
 joins_if_done t w thread to None h = tt
 joins_if_done t w thread to (Some x) h = joins_at_done t w thread to x.stage h
 

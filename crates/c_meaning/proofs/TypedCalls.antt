@@ -12,11 +12,11 @@ use Rattle.block_store.specs.declared.values.Ptr.{Ptr}
 use Rattle.block_store.specs.declared.values.Value.{Value}
 use Rattle.block_store.specs.declared.values.Value.TheVariants as values
 use Rattle.block_store.specs.Actions as actions
-use Rattle.block_store.specs.Actions.{World, Action, Done, acted}
+use Rattle.block_store.specs.Actions.{World, SharedAction, Done, acted}
 use Rattle.block_store.specs.Blocks.{stored, freed}
 use Rattle.block_store.specs.Mutexes.{locked, unlocked, destroyed}
 use Rattle.c_tree.specs.Typed as tree
-use Rattle.c_tree.specs.TypedForm.{IsScalar, Fits, IsNth, HasBits, ArePrinted, CanStart, Context, AreArguments, IsLibCall, IsTyped, AreTyped, Signature, signature_of, context_of, IsFunc, IsWellFormed}
+use Rattle.c_tree.specs.TypedForm.{IsScalar, Fits, IsNth, HasBits, ArePrinted, CanStart, InScope, AreArguments, IsLibCall, IsTyped, AreTyped, Signature, signature_of, context_of, IsFunc, IsWellFormed}
 use Rattle.c_tree.specs.TypedPrinting.{parts}
 use Rattle.c_meaning.specs.Control.{Callee, function, library}
 use Rattle.c_meaning.specs.Library.{numbers_of, pointers_of, free_mutex, action_of, value_of_call}
@@ -59,7 +59,7 @@ arguments_scalar [] (tree.more_exprs e all) s h = elim h [ ]
 arguments_scalar (t ∷ ts) tree.no_exprs s h = elim h [ ]
 arguments_scalar (t ∷ ts) (tree.more_exprs e all) s h = (fits_scalar (tree.type_of e) t h.0 s.0, arguments_scalar ts all s.1 h.1)
 
-lib_scalar : (c : Context) (which : tree.Lib) (all : tree.Exprs) (ty : tree.Ty) → IsLibCall c which all ty → AreScalar all
+lib_scalar : (c : InScope) (which : tree.Lib) (all : tree.Exprs) (ty : tree.Ty) → IsLibCall c which all ty → AreScalar all
 lib_scalar c (tree.print pieces) all ty h = printed_scalar pieces all h.0
 lib_scalar c tree.malloc all ty h = arguments_scalar (tree.integer unsigned_long ∷ []) all (tt, tt) h.0
 lib_scalar c tree.free all ty h = arguments_scalar (tree.pointer tree.void ∷ []) all (tt, tt) h.0
@@ -103,7 +103,7 @@ called_scalar t g (function number) all ty w h =
     arguments_scalar (signature_of f.func).params all (params_scalar t.structs f.func.params f.func.locals f.well.locals f.well.in_registers) f.arguments
 called_scalar t g (library which) all ty w h = lib_scalar (context_of t g) which all ty h.1
 
-pub called_typed : (c : Context) (callee : Callee) (all : tree.Exprs) (ty : tree.Ty) → IsCalled c callee all ty → AreTyped c all
+pub called_typed : (c : InScope) (callee : Callee) (all : tree.Exprs) (ty : tree.Ty) → IsCalled c callee all ty → AreTyped c all
 called_typed c (function number) all ty h = h.0
 called_typed c (library which) all ty h = h.0
 
@@ -112,7 +112,7 @@ called_hold t number all ty f args h = arguments_hold f.func.params f.func.local
 
 -- ---- arguments in a row
 
-pub first_typed : (c : Context) (before : List Value) (e : tree.Expr) (rest all : tree.Exprs) → StandBefore before (tree.more_exprs e rest) all → AreTyped c all → IsTyped c e
+pub first_typed : (c : InScope) (before : List Value) (e : tree.Expr) (rest all : tree.Exprs) → StandBefore before (tree.more_exprs e rest) all → AreTyped c all → IsTyped c e
 first_typed c [] e rest all h t = let u : AreTyped c (tree.more_exprs e rest) = subst (AreTyped c) (sym h) t in u.0
 first_typed c (v ∷ before) e rest tree.no_exprs h t = elim h [ ]
 first_typed c (v ∷ before) e rest (tree.more_exprs d all) h t = first_typed c before e rest all h.1 t.1
@@ -171,7 +171,7 @@ no_value_typed : (ty : tree.Ty) (v : Option Value) → IsNoValue v → HasTypeIf
 no_value_typed ty v e = subst (HasTypeIf ty) (sym e) tt
 
 -- a library's call is an action, whose value has the call's type
-abbrev pub LibDoes : tree.Typed → tree.Lib → List Value → tree.Ty → Option Action → Type 0
+abbrev pub LibDoes : tree.Typed → tree.Lib → List Value → tree.Ty → Option SharedAction → Type 0
 LibDoes t which args ty None = ⊥
 LibDoes t which args ty (Some action) = (w : World) (thread : ℕ) (answer : Answer) → IsTypedWorld t w → DoneWith t (λ v. HasTypeIf ty (value_of_call which args v)) (acted w thread answer action)
 

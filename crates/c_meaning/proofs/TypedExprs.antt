@@ -14,7 +14,7 @@ use Rattle.block_store.specs.declared.values.Value.TheVariants as values
 use Rattle.block_store.specs.Actions as actions
 use Rattle.c_tree.specs.Typed as tree
 use Rattle.c_tree.specs.TypedForm as type
-use Rattle.c_tree.specs.TypedForm.{IsInteger, IsScalar, IsNth, IsLvalue, IsInMemory, IsTyped, IsTypedNode, AreTyped, Context}
+use Rattle.c_tree.specs.TypedForm.{IsInteger, IsScalar, IsNth, IsLvalue, IsInMemory, IsTyped, IsTypedNode, AreTyped, InScope}
 use Rattle.c_meaning.specs.Control as control
 use Rattle.c_meaning.specs.Control.{Variable, Callee, Wait, wanted, dropped}
 use Rattle.c_meaning.specs.Values as reads
@@ -27,7 +27,7 @@ use Rattle.c_meaning.proofs.TypedActions.{load_done}
 use Rattle.c_meaning.proofs.TypedCalls.{called_scalar, called_typed, first_typed, first_scalar, leaves_fewer}
 use Rattle.c_meaning.proofs.TypedTurns.{Fine, TakesKind, IsFine, Evaluates, breaks_fine, ok_fine, if_fine, acts_fine, after_typed, calls_fine}
 
-abbrev pub context_at : Site → Context
+abbrev pub context_at : Site → InScope
 context_at s = (inside_at s).context
 
 -- the values of constants
@@ -134,7 +134,7 @@ takes_as : (s : Site) (how to : Access) (w : Answer → WayOfUse) → how ≡ to
 takes_as s how to w e r = let P : Access → Type 0 = λ a. TakesKind s a w in subst P e r
 
 -- an object in memory has a place
-in_memory_lvalue : (c : Context) (node : tree.ExprNode) → IsInMemory c node → IsLvalue node
+in_memory_lvalue : (c : InScope) (node : tree.ExprNode) → IsInMemory c node → IsLvalue node
 in_memory_lvalue c (tree.literal n) h = tt
 in_memory_lvalue c (tree.global n) h = tt
 in_memory_lvalue c (tree.local n) h = tt

@@ -11,7 +11,7 @@ use Rattle.block_store.specs.declared.values.Ptr.TheVariants.{To}
 use Rattle.block_store.specs.declared.values.Value.{Value}
 use Rattle.block_store.specs.declared.values.Value.TheVariants as values
 use Rattle.block_store.specs.Actions as actions
-use Rattle.block_store.specs.Actions.{World, Thread, Stage, Action, Done, Reached, acted, under, outcomes, telling}
+use Rattle.block_store.specs.Actions.{World, ThreadRecord, Stage, SharedAction, Done, Reached, acted, under, outcomes, telling}
 use Rattle.block_store.specs.Blocks.{Blocks, made, loaded, stored, copied, freed}
 use Rattle.block_store.specs.Mutexes.{locked, unlocked, destroyed}
 use Rattle.block_store.specs.Runs as runs
@@ -60,7 +60,7 @@ joins_at_fits w thread to actions.running h = h
 joins_at_fits w thread to (actions.returned z) h = joins_fits w thread z (actions.stored_unless_null w.blocks to z) h
 joins_at_fits w thread to (actions.joined z) h = h
 
-joins_if_fits : (w : World) (thread : ℕ) (to : Ptr) (o : Option Thread) → Refuses (actions.joins_if w thread to o) → ⊥
+joins_if_fits : (w : World) (thread : ℕ) (to : Ptr) (o : Option ThreadRecord) → Refuses (actions.joins_if w thread to o) → ⊥
 joins_if_fits w thread to None h = h
 joins_if_fits w thread to (Some x) h = joins_at_fits w thread to x.stage h
 
@@ -94,7 +94,7 @@ allocated_taken : (size : ℕ) (d : Done) (b : Bool) → (Refuses d → ⊥) →
 allocated_taken size d true n e = (λ m. ltb-true size (2 ^ 32) e, λ l. n)
 allocated_taken size d false n e = (λ m. absurd (m tt), λ l h. not_below size (2 ^ 32) (ltb-false size (2 ^ 32) e) l)
 
-under_takes : (w : World) (thread : ℕ) (action : Action) (answer : Answer) → Exactly (under answer (outcomes w thread action)) (Takes action answer)
+under_takes : (w : World) (thread : ℕ) (action : SharedAction) (answer : Answer) → Exactly (under answer (outcomes w thread action)) (Takes action answer)
 under_takes w thread (actions.load at how) answers.Plain = taken (actions.gives w (loaded w.blocks at how)) (gives_fits w (loaded w.blocks at how))
 under_takes w thread (actions.load at how) answers.Got = not_taken
 under_takes w thread (actions.load at how) answers.None = not_taken
@@ -134,7 +134,7 @@ under_takes w thread (actions.finish value) answers.Got = not_taken
 under_takes w thread (actions.finish value) answers.None = not_taken
 
 -- an action takes just these answers
-pub action_takes : (w : World) (thread : ℕ) (action : Action) (answer : Answer) → Exactly (acted w thread answer action) (Takes action answer)
+pub action_takes : (w : World) (thread : ℕ) (action : SharedAction) (answer : Answer) → Exactly (acted w thread answer action) (Takes action answer)
 action_takes w thread action answer =
     telling_exactly (actions.reads_of w action ++ actions.writes_of answer action) (under answer (outcomes w thread action)) (Takes action answer) (under_takes w thread action answer)
 

@@ -3,7 +3,7 @@ use Rattle.std.proofs.Common.{◌≡◌, ℕ, true, false, List, Some, refl, sym
 use Rattle.std.specs.Prelude.{slice_get}
 use Rattle.ak_words.specs.declared.operation.Op.{Op}
 use Rattle.c_tree.specs.Typed as tree
-use Rattle.c_tree.specs.TypedForm.{IsInteger, IsScalar, Fits, MovesPointer, type_of_result, Converts, IsLvalue, IsLibCall, IsTyped, IsTypedNode, Context, IsResult, IsFunc, IsLocal}
+use Rattle.c_tree.specs.TypedForm.{IsInteger, IsScalar, Fits, MovesPointer, type_of_result, Converts, IsLvalue, IsLibCall, IsTyped, IsTypedNode, InScope, IsResult, IsFunc, IsLocal}
 use Rattle.c_meaning.specs.Values.{is_scalar}
 use Rattle.c_meaning.specs.Turns.{is_struct}
 use Rattle.c_meaning.proofs.TypedValues.{number_operands, integer_scalar, pointer_scalar, sized_pointer}
@@ -69,7 +69,7 @@ moved_result structs a b ty h = elim h [ ]
 same_struct : (ty t : tree.Ty) → ty ≡ t → is_struct t ≡ false → is_struct ty ≡ false
 same_struct ty t e n = ap is_struct e ∙ n
 
-lib_no_struct : (c : Context) (which : tree.Lib) (all : tree.Exprs) (ty : tree.Ty) → IsLibCall c which all ty → is_struct ty ≡ false
+lib_no_struct : (c : InScope) (which : tree.Lib) (all : tree.Exprs) (ty : tree.Ty) → IsLibCall c which all ty → is_struct ty ≡ false
 lib_no_struct c (tree.print pieces) all ty h = ap is_struct h.1
 lib_no_struct c tree.malloc all ty h = ap is_struct h.1
 lib_no_struct c tree.free all ty h = ap is_struct h.1
@@ -101,7 +101,7 @@ converted_scalar (tree.integer s) (tree.integer t) e h p = tt
 converted_scalar (tree.pointer s) (tree.pointer t) e h p = tt
 converted_scalar s t e h p = elim h [ ]
 
-pub plain_scalar : (c : Context) (ty : tree.Ty) (node : tree.ExprNode) → IsTypedNode c ty node → IsPlain ty node → IsScalar ty
+pub plain_scalar : (c : InScope) (ty : tree.Ty) (node : tree.ExprNode) → IsTypedNode c ty node → IsPlain ty node → IsScalar ty
 plain_scalar c ty (tree.num t z) h p = subst IsScalar (sym h.0) tt
 plain_scalar c ty tree.null h p = pointer_scalar ty h
 plain_scalar c ty (tree.address_of e) h p = subst IsScalar (sym h.2) tt
@@ -119,7 +119,7 @@ plain_scalar c ty (tree.pointer_compare op a b) h p = subst IsScalar (sym h.5) t
 plain_scalar c ty (tree.pointer_test e) h p = subst IsScalar (sym h.2) tt
 plain_scalar c ty node h p = elim p [ ]
 
-convert_no_struct : (c : Context) (ty : tree.Ty) (e : tree.Expr) → IsTypedNode c ty (tree.convert e) → is_struct ty ≡ false
+convert_no_struct : (c : InScope) (ty : tree.Ty) (e : tree.Expr) → IsTypedNode c ty (tree.convert e) → is_struct ty ≡ false
 convert_no_struct c ty e h = converts_no_struct (tree.type_of e) ty h.1
 
 call_no_struct : (s : Site) → Stands s → (ty : tree.Ty) (number : ℕ) (all : tree.Exprs) → IsTypedNode (inside_at s).context ty (tree.call number all) → is_struct ty ≡ false

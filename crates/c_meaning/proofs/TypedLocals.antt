@@ -10,7 +10,7 @@ use Rattle.block_store.specs.Actions.{World}
 use Rattle.c_tree.specs.Typed as tree
 use Rattle.c_tree.specs.TypedForm.{IsScalar, AreArguments, Inside, IsLocal, IsWellFormed}
 use Rattle.c_meaning.specs.Control.{Variable, unset, holds, lies, Caller}
-use Rattle.c_meaning.specs.Turns.{Here, Now, local_at, declared_in, is_block, variable_or_unset, variable_at, with_variable, ended_if, ended_local, ended_locals, made_local, declared_local, without_block, without_blocks, first_locals}
+use Rattle.c_meaning.specs.Turns.{TurnContext, Now, local_at, declared_in, is_block, variable_or_unset, variable_at, with_variable, ended_if, ended_local, ended_locals, made_local, declared_local, without_block, without_blocks, first_locals}
 use Rattle.c_meaning.specs.Kinds.{HasType, MayHold, AllHold, StandBefore, inside, AreTypedCallers, IsTypedWorld}
 use Rattle.c_meaning.proofs.TypedValues.{fits_type}
 
@@ -25,7 +25,7 @@ pub record Site : Type 0 where
   pub callers : List Caller
 
 -- what stays the same in the turn, under each answer
-abbrev pub here_at : Site → Answer → Here
+abbrev pub here_at : Site → Answer → TurnContext
 here_at s answer = record { typed = s.typed; thread = s.thread; answer = answer; function = s.number; callers = s.callers }
 
 abbrev pub inside_at : Site → Inside

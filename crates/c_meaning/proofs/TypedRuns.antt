@@ -1,7 +1,7 @@
 -- Runs of a well formed program come only to states that are well formed, and go on from them.
 use Rattle.std.proofs.Common.{◌≡◌, ℕ, zero, suc, List, [], ◌∷◌, ◌++◌, length, map, drop, set, Option, Some, None, refl, sym, ap, subst, ◌∙◌, inl}
 use Rattle.std.specs.List.{AllByRecursion}
-use Rattle.block_store.specs.Actions.{World, Thread}
+use Rattle.block_store.specs.Actions.{World, ThreadRecord}
 use Rattle.block_store.specs.Runs as runs
 use Rattle.block_store.specs.Runs.{Turn, State, Pick, Run, begun, next_state, own_at, turn_if, picked, goes_on, run_from}
 use Rattle.c_tree.specs.Typed as tree
@@ -42,15 +42,15 @@ both_typed t [] more h m = m
 both_typed t (None ∷ all) more h m = both_typed t all more h m
 both_typed t (Some c ∷ all) more h m = (h.0, both_typed t all more h.1 m)
 
-abbrev MayBegin : tree.Typed → Thread → Type 0
+abbrev MayBegin : tree.Typed → ThreadRecord → Type 0
 MayBegin t h = CanBegin t h.function
 
-dropped_typed : (t : tree.Typed) (n : ℕ) (all : List Thread) → AllByRecursion (MayBegin t) all → AllByRecursion (MayBegin t) (drop n all)
+dropped_typed : (t : tree.Typed) (n : ℕ) (all : List ThreadRecord) → AllByRecursion (MayBegin t) all → AllByRecursion (MayBegin t) (drop n all)
 dropped_typed t zero all h = h
 dropped_typed t (suc n) [] h = tt
 dropped_typed t (suc n) (x ∷ all) h = dropped_typed t n all h.1
 
-made_typed : (t : tree.Typed) → IsWellFormed t → (all : List Thread) → AllByRecursion (MayBegin t) all → AreTypedThreads t (map (λ (x : Thread). Some ((program t).begins x.function x.argument)) all)
+made_typed : (t : tree.Typed) → IsWellFormed t → (all : List ThreadRecord) → AllByRecursion (MayBegin t) all → AreTypedThreads t (map (λ (x : ThreadRecord). Some ((program t).begins x.function x.argument)) all)
 made_typed t wf [] h = tt
 made_typed t wf (x ∷ all) h = (threads_begin_typed t wf x.function h.0 x.argument, made_typed t wf all h.1)
 

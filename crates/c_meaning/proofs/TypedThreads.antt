@@ -8,12 +8,12 @@ use Rattle.block_store.specs.declared.values.Answer.{Answer}
 use Rattle.block_store.specs.declared.values.Answer.TheVariants as answers
 use Rattle.block_store.specs.declared.values.Ptr.{Ptr}
 use Rattle.block_store.specs.Actions as actions
-use Rattle.block_store.specs.Actions.{World, Action}
+use Rattle.block_store.specs.Actions.{World, SharedAction}
 use Rattle.block_store.specs.Runs.{Turn}
 use Rattle.c_tree.specs.Typed as tree
 use Rattle.c_tree.specs.TypedForm.{IsScalar, IsFunc, IsMain, CanStart, IsWellFormed, signature_of}
 use Rattle.c_meaning.specs.Control as control
-use Rattle.c_meaning.specs.Control.{Control, Variable, Todo, Use, Point}
+use Rattle.c_meaning.specs.Control.{Control, Variable, Todo, Use, TurnStart}
 use Rattle.c_meaning.specs.Values.{access_of_type}
 use Rattle.c_meaning.specs.Turns.{WayOfUse, read_way, leave_way, run, run_arguments, run_stmt, run_row, way_of, use_of, from_point, turn}
 use Rattle.c_meaning.specs.Meaning.{arguments_if, begins_if}
@@ -99,7 +99,7 @@ use_takes s f (control.to_nowhere k) how t = nowhere_takes s how (λ answer. way
 
 -- ---- turns
 
-point_fine : (s : Site) → Stands s → (p : Point) → IsTypedPoint (inside_at s) p → IsFine s (λ answer. from_point (here_at s answer) p)
+point_fine : (s : Site) → Stands s → (p : TurnStart) → IsTypedPoint (inside_at s) p → IsFine s (λ answer. from_point (here_at s answer) p)
 point_fine s f (control.gives v k) t x n = (use_takes s f k t.0 t.2).goes v t.1 x n
 point_fine s f (control.lacks place) t x n = breaks_fine s C15 place not_c15
 point_fine s f (control.begins k) t x n = (way_follows s f k t).ends x n
@@ -123,12 +123,12 @@ turns_go_on t wf thread c w h n = let fine = turn_fine t wf thread c w h n in (f
 
 -- ---- where Plain isn't taken
 
-chosen_action : (action : Action) → (Takes action answers.Plain → ⊥) → IsChosen action
+chosen_action : (action : SharedAction) → (Takes action answers.Plain → ⊥) → IsChosen action
 chosen_action (actions.allocate size first) n = tt
 chosen_action (actions.start to function argument) n = tt
 chosen_action action n = absurd (n tt)
 
-none_taken : (action : Action) → IsChosen action → Takes action answers.None
+none_taken : (action : SharedAction) → IsChosen action → Takes action answers.None
 none_taken (actions.allocate size first) c = tt
 none_taken (actions.start to function argument) c = tt
 none_taken action c = elim c [ ]
@@ -136,13 +136,13 @@ none_taken action c = elim c [ ]
 at_least : (size : ℕ) → (size < 2 ^ 32 → ⊥) → 2 ^ 32 ≤ size
 at_least size n = omega arith
 
-got_taken : (action : Action) → IsChosen action → (Takes action answers.Got → ⊥) → AllocatesTooMuch action
+got_taken : (action : SharedAction) → IsChosen action → (Takes action answers.Got → ⊥) → AllocatesTooMuch action
 got_taken (actions.allocate size first) c n = at_least size n
 got_taken (actions.start to function argument) c n = absurd (n tt)
 got_taken action c n = elim c [ ]
 
 fits_some : (thread : ℕ) (u : Answer → Turn Control) (e : End) → EndsAs thread u e → ((answer : Answer) → (IsUnfit (u answer) → ⊥) ↔ FitsEnd e answer) → IsUnfit (u answers.Plain)
-    → (place : ℕ) × (action : Action) × (x : World) × EndsAs thread u (acting place action x) × IsChosen action × (IsUnfit (u answers.None) → ⊥) × (IsUnfit (u answers.Got) → AllocatesTooMuch action)
+    → (place : ℕ) × (action : SharedAction) × (x : World) × EndsAs thread u (acting place action x) × IsChosen action × (IsUnfit (u answers.None) → ⊥) × (IsUnfit (u answers.Got) → AllocatesTooMuch action)
 fits_some thread u (breaking rule place) h f n = absurd ((f answers.Plain).1 tt n)
 fits_some thread u (quiet own w) h f n = absurd ((f answers.Plain).1 tt n)
 fits_some thread u (acting place action w) h f n =

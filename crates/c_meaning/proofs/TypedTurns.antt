@@ -10,12 +10,12 @@ use Rattle.block_store.specs.declared.values.Answer.TheVariants as answers
 use Rattle.block_store.specs.declared.values.Value.{Value}
 use Rattle.block_store.specs.declared.values.Value.TheVariants as values
 use Rattle.block_store.specs.Actions as actions
-use Rattle.block_store.specs.Actions.{World, Action, Done, acted}
+use Rattle.block_store.specs.Actions.{World, SharedAction, Done, acted}
 use Rattle.block_store.specs.Runs as runs
 use Rattle.block_store.specs.Runs.{Turn}
 use Rattle.c_tree.specs.Typed as tree
 use Rattle.c_meaning.specs.Control as control
-use Rattle.c_meaning.specs.Control.{Control, Variable, Callee, Wait, wanted, dropped, Caller, Point}
+use Rattle.c_meaning.specs.Control.{Control, Variable, Callee, Wait, wanted, dropped, Caller, TurnStart}
 use Rattle.c_meaning.specs.Library.{action_of, value_of_call}
 use Rattle.c_meaning.specs.Turns.{Now, Does, WayOfUse, Way, on_ok, plainly, stays, on_done, acts, after_call, begins_in, enters, calls_library, calls, result_of_call, number_in, returns_to, leaves_call, without_blocks}
 use Rattle.c_meaning.specs.Kinds.{HasType, HasTypeIf, HasKind, AllHold, IsCalled, StandBefore, IsTypedTodo, Expects, Awaits, IsTypedPoint, AreTypedCallers, IsTypedControl, IsTypedWorld}
@@ -86,13 +86,13 @@ plainly_fine s own w c h = record {
 }
 
 -- the call under way goes on from a point
-abbrev pub stays_at : Site → List Variable → Point → Control
+abbrev pub stays_at : Site → List Variable → TurnStart → Control
 stays_at s locals point = record { function = s.number; locals = locals; point = point; callers = s.callers }
 
-pub stays_typed : (s : Site) (locals : List Variable) (point : Point) → Stands s → AllHold s.func.locals locals → IsTypedPoint (inside_at s) point → IsTypedControl s.typed (stays_at s locals point)
+pub stays_typed : (s : Site) (locals : List Variable) (point : TurnStart) → Stands s → AllHold s.func.locals locals → IsTypedPoint (inside_at s) point → IsTypedControl s.typed (stays_at s locals point)
 stays_typed s locals point f h p = record { func = s.func; found = f.found; locals = h; point = p; callers = f.callers }
 
-on_done_typed : (s : Site) (place : ℕ) (P : Option Value → Type 0) (locals : List Variable) (point : Option Value → Point) (d : Done) → Stands s → AllHold s.func.locals locals → DoneWith s.typed P d
+on_done_typed : (s : Site) (place : ℕ) (P : Option Value → Type 0) (locals : List Variable) (point : Option Value → TurnStart) (d : Done) → Stands s → AllHold s.func.locals locals → DoneWith s.typed P d
     → ((v : Option Value) → P v → IsTypedPoint (inside_at s) (point v)) → IsTypedTurn s.typed (on_done place (λ v next. runs.went (stays_at s locals (point v)) next) d)
 on_done_typed s place P locals point (actions.went v w) f h d p = (stays_typed s locals (point v) f h (p v d.0), d.1)
 on_done_typed s place P locals point actions.blocked f h d p = tt
@@ -106,7 +106,7 @@ on_done_comes place own actions.unfit = tt
 on_done_comes place own (actions.broke rule) = refl
 
 -- an action, and where the thread goes on
-pub acts_fine : (s : Site) (place : ℕ) (action : Action) (P : Option Value → Type 0) (point : Answer → Option Value → Point) → Stands s
+pub acts_fine : (s : Site) (place : ℕ) (action : SharedAction) (P : Option Value → Type 0) (point : Answer → Option Value → TurnStart) → Stands s
     → ((w : World) (answer : Answer) → IsTypedWorld s.typed w → DoneWith s.typed P (acted w s.thread answer action))
     → ((answer : Answer) (v : Option Value) → P v → IsTypedPoint (inside_at s) (point answer v))
     → (x : Now) → IsNow s x → Fine s (λ answer. acts (here_at s answer) place action (λ v next. stays (here_at s answer) x.locals (point answer v) next) x)
@@ -140,7 +140,7 @@ enters_fine s number all ty args k f c l waits x n =
       callers = (s.func, record { found = f.found; locals = n.locals; waits = subst (λ z. Awaits (inside_at s) z (k answer)) g.result (waits answer) }, f.callers);
     }) n.world)
 
-library_fine : (s : Site) (place : ℕ) (which : tree.Lib) (ty : tree.Ty) (args : List Value) (k : Answer → Wait) (action : Option Action) → Stands s → LibDoes s.typed which args ty action
+library_fine : (s : Site) (place : ℕ) (which : tree.Lib) (ty : tree.Ty) (args : List Value) (k : Answer → Wait) (action : Option SharedAction) → Stands s → LibDoes s.typed which args ty action
     → ((answer : Answer) → Awaits (inside_at s) ty (k answer)) → IsFine s (λ answer. calls_library (here_at s answer) place which args (k answer) action)
 library_fine s place which ty args k None f does waits x n = elim does [ ]
 library_fine s place which ty args k (Some action) f does waits x n =

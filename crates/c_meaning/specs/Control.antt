@@ -90,15 +90,15 @@ pub record Caller : Type 0 where
 
 -- where a turn begins: with a value and its use; where a call ended without the value that is used; with what is left to do; with
 -- a round of a loop
-pub data Point : Type 0 where
-  gives : (value : Value) (k : Use) → Point
-  lacks : (place : ℕ) → Point
-  begins : (k : Todo) → Point
-  round : (l : Loop) (k : Todo) → Point
+pub data TurnStart : Type 0 where
+  gives : (value : Value) (k : Use) → TurnStart
+  lacks : (place : ℕ) → TurnStart
+  begins : (k : Todo) → TurnStart
+  round : (l : Loop) (k : Todo) → TurnStart
 
 -- a thread's own: the call under way, where it is, and the calls that wait, the nearest first
 pub record Control : Type 0 where
   pub function : ℕ
   pub locals : List Variable
-  pub point : Point
+  pub point : TurnStart
   pub callers : List Caller

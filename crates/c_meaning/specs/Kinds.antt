@@ -10,11 +10,11 @@ use Rattle.block_store.specs.declared.values.Value.TheVariants as values
 use Rattle.block_store.specs.Actions as actions
 use Rattle.block_store.specs.Actions.{World}
 use Rattle.c_tree.specs.Typed as tree
-use Rattle.c_tree.specs.TypedForm.{IsScalar, AreOperands, CanUpdate, IsNth, IsLvalue, IsTyped, IsTypedNode, IfTyped, Context, Inside, IsWell, AreWell, context_of, signature_of, IsMain, CanStart}
+use Rattle.c_tree.specs.TypedForm.{IsScalar, AreOperands, CanUpdate, IsNth, IsLvalue, IsTyped, IsTypedNode, IfTyped, InScope, Inside, IsWell, AreWell, context_of, signature_of, IsMain, CanStart}
 use Rattle.c_meaning.specs.Values.{Unary, converts, negates, tests, selects, Binary, on_numbers, forward, backward, distance, on_pointers, access_of_type}
 use Rattle.c_meaning.specs.Control.{Variable, unset, holds, lies, Loop, Update, Callee, function, library, Todo, leaves, then_row, then_end, then_loop, in_body, in_step}
 use Rattle.c_meaning.specs.Control.{Use, first_of, second_of, only_of, place_read, first_test, second_test, choice, argument, to_local, left_place, to_place, struct_left, struct_right, update_left, update_local, update_right, update_read, if_test, loop_test, to_caller, to_nowhere}
-use Rattle.c_meaning.specs.Control.{Wait, wanted, dropped, Caller, Point, gives, lacks, begins, round, Control}
+use Rattle.c_meaning.specs.Control.{Wait, wanted, dropped, Caller, TurnStart, gives, lacks, begins, round, Control}
 
 -- ---- values and locals
 
@@ -77,7 +77,7 @@ UpdatesBy i u how = (t : tree.Ty) × CanUpdate i.context.structs u.op u.ty t × 
 -- ---- calls
 
 -- a call of this callee with these arguments is well formed, and its value has this type
-abbrev pub IsCalled : Context → Callee → (all : tree.Exprs) → tree.Ty → Type 0
+abbrev pub IsCalled : InScope → Callee → (all : tree.Exprs) → tree.Ty → Type 0
 IsCalled c (function number) all ty = IsTypedNode c ty (tree.call number all)
 IsCalled c (library which) all ty = IsTypedNode c ty (tree.lib which all)
 
@@ -150,7 +150,7 @@ abbrev mutual
 -- ---- threads
 
 -- where a turn begins is well formed: a value is of the kind that its use expects
-abbrev pub IsTypedPoint : Inside → Point → Type 0
+abbrev pub IsTypedPoint : Inside → TurnStart → Type 0
 IsTypedPoint i (gives v k) = (how : Access) × HasKind how v × Expects i how k
 IsTypedPoint i (lacks place) = Unit {0}
 IsTypedPoint i (begins k) = IsTypedTodo i k
@@ -182,4 +182,4 @@ CanBegin t number = IsNth t.funcs number (λ f. IsMain f ⊎ CanStart (signature
 
 -- each thread of a world has begun with a function that one may begin with
 abbrev pub IsTypedWorld : tree.Typed → World → Type 0
-IsTypedWorld t w = AllByRecursion (λ (h : actions.Thread). CanBegin t h.function) w.threads
+IsTypedWorld t w = AllByRecursion (λ (h : actions.ThreadRecord). CanBegin t h.function) w.threads

@@ -6,7 +6,7 @@ use Rattle.block_store.specs.declared.values.Cell.TheVariants.{Unknown}
 use Rattle.block_store.specs.declared.values.Ptr.{Ptr}
 use Rattle.block_store.specs.declared.values.Value.{Value}
 use Rattle.block_store.specs.declared.values.Value.TheVariants as values
-use Rattle.block_store.specs.Actions.{bytes, text, Action, store, copy, allocate, free, print, lock, unlock, destroy, start, join}
+use Rattle.block_store.specs.Actions.{bytes, text, SharedAction, store, copy, allocate, free, print, lock, unlock, destroy, start, join}
 use Rattle.c_tree.specs.Typed as tree
 use Rattle.c_tree.specs.TypedPrinting.{parts}
 
@@ -27,7 +27,7 @@ abbrev pub free_mutex : Value
 free_mutex = values.Num (num unsigned_long (pos 0))
 
 -- what a call does; a well typed one has the arguments that it takes, and so does something
-abbrev pub action_of : tree.Lib → List Value → Option Action
+abbrev pub action_of : tree.Lib → List Value → Option SharedAction
 action_of (tree.print pieces) args = Some (print (parts bytes text pieces (numbers_of args) (pointers_of args)))
 action_of tree.malloc (values.Num n ∷ []) = Some (allocate (unsigned_abs n.value) Unknown)
 action_of tree.free (values.Pointer p ∷ []) = Some (free p)

@@ -6,7 +6,7 @@ use Rattle.ak_words.specs.declared.rule.Rule.{Rule}
 use Rattle.ak_words.specs.declared.rule.Rule.TheVariants as rules
 use Rattle.ak_words.specs.IntType.{char, int, unsigned_int, long, unsigned_long}
 use Rattle.block_store.specs.declared.values.Answer.TheVariants as answers
-use Rattle.block_store.specs.Actions.{Thread, Stage, running, returned, joined}
+use Rattle.block_store.specs.Actions.{ThreadRecord, Stage, running, returned, joined}
 use Rattle.block_store.specs.Runs.{Pick, Run, reaches, breaks, no_run, Shown, it_went, it_ended, it_blocked, it_was_unfit, it_broke, no_such_turn}
 use Rattle.c_tree.specs.Typed
 use Rattle.c_tree.specs.Typed.{Ty, void, integer, mutex, pointer, array, structure, Layout, Piece, bytes, signed, unsigned, text, Lib, print, malloc, free, copy, start, join, mutex_init, mutex_lock, mutex_unlock, mutex_destroy}
@@ -98,7 +98,7 @@ pub data Told : Type 0 where
 
 -- what is told of this run
 abbrev pub told : Run Control → Told
-told (reaches s) = reached s.world.output (map (λ (t : Thread). t.stage) s.world.threads)
+told (reaches s) = reached s.world.output (map (λ (t : ThreadRecord). t.stage) s.world.threads)
 told (breaks rule n) = broken rule n
 told (no_run n) = no_turn n
 

@@ -7,7 +7,7 @@ use Rattle.block_store.specs.declared.values.Answer.{Answer}
 use Rattle.block_store.specs.declared.values.Answer.TheVariants as answers
 use Rattle.block_store.specs.declared.values.Ptr.{Ptr}
 use Rattle.block_store.specs.Actions as actions
-use Rattle.block_store.specs.Actions.{World, Action, Done, acted}
+use Rattle.block_store.specs.Actions.{World, SharedAction, Done, acted}
 use Rattle.block_store.specs.Runs as runs
 use Rattle.block_store.specs.Runs.{Turn, State, Pick}
 use Rattle.c_tree.specs.Typed as tree
@@ -20,7 +20,7 @@ use Rattle.c_meaning.specs.Kinds.{IsTypedControl, IsTypedWorld, CanBegin}
 -- ---- answers
 
 -- an action takes this answer: only an allocation and a new thread leave a choice, and there is no block of 2^32 bytes or more
-abbrev pub Takes : Action → Answer → Type 0
+abbrev pub Takes : SharedAction → Answer → Type 0
 Takes (actions.allocate size first) answers.Plain = ⊥
 Takes (actions.allocate size first) answers.Got = size < 2 ^ 32
 Takes (actions.allocate size first) answers.None = Unit {0}
@@ -36,7 +36,7 @@ Takes action answers.None = ⊥
 pub data End : Type 0 where
   breaking : (rule : Rule) (place : ℕ) → End
   quiet : (own : Control) (w : World) → End
-  acting : (place : ℕ) (action : Action) (w : World) → End
+  acting : (place : ℕ) (action : SharedAction) (w : World) → End
 
 -- a turn that ends so fits this answer: one that breaks a rule before any action does so under each
 abbrev pub FitsEnd : End → Answer → Type 0
@@ -66,13 +66,13 @@ EndsAs thread t (quiet own w) = (answer : Answer) → t answer ≡ plainly answe
 EndsAs thread t (acting place action w) = (answer : Answer) → ComesOutAs place (acted w thread answer action) (t answer)
 
 -- an action that asks for something, so that it's chosen whether the thread gets it
-abbrev pub IsChosen : Action → Type 0
+abbrev pub IsChosen : SharedAction → Type 0
 IsChosen (actions.allocate size first) = Unit {0}
 IsChosen (actions.start to function argument) = Unit {0}
 IsChosen action = ⊥
 
 -- an allocation of 2^32 bytes or more
-abbrev pub AllocatesTooMuch : Action → Type 0
+abbrev pub AllocatesTooMuch : SharedAction → Type 0
 AllocatesTooMuch (actions.allocate size first) = 2 ^ 32 ≤ size
 AllocatesTooMuch action = ⊥
 
@@ -110,7 +110,7 @@ TurnsGoOn = (t : tree.Typed) → IsWellFormed t → (thread : ℕ) (c : Control)
 -- where it doesn't take Plain, it ends by an allocation or by a new thread: it takes None, and Got but for 2^32 bytes or more
 abbrev pub SomeAnswerFits : Type 0
 SomeAnswerFits = (t : tree.Typed) → IsWellFormed t → (thread : ℕ) (c : Control) (w : World) → IsTypedControl t c → IsTypedWorld t w → IsUnfit (turn t thread answers.Plain c w)
-    → (place : ℕ) × (action : Action) × (x : World) × EndsAs thread (λ answer. turn t thread answer c w) (acting place action x) × IsChosen action
+    → (place : ℕ) × (action : SharedAction) × (x : World) × EndsAs thread (λ answer. turn t thread answer c w) (acting place action x) × IsChosen action
     × (IsUnfit (turn t thread answers.None c w) → ⊥) × (IsUnfit (turn t thread answers.Got c w) → AllocatesTooMuch action)
 
 -- ---- runs

@@ -18,7 +18,7 @@ use Rattle.block_store.specs.declared.values.Ptr.{Ptr}
 use Rattle.block_store.specs.declared.values.Value.{Value}
 use Rattle.block_store.specs.declared.values.Value.TheVariants as values
 use Rattle.block_store.specs.Actions as actions
-use Rattle.block_store.specs.Actions.{World, with_local, without_local, Action}
+use Rattle.block_store.specs.Actions.{World, with_local, without_local, SharedAction}
 use Rattle.block_store.specs.Runs.{Turn, went, ended, blocked, unfit, broke}
 use Rattle.c_tree.specs.Typed as tree
 use Rattle.c_tree.specs.TypedLayout.{size_in, align_in}
@@ -26,11 +26,11 @@ use Rattle.c_meaning.specs.Values.{access_of_type, is_scalar, element_size, memb
 use Rattle.c_meaning.specs.Library.{action_of, value_of_call}
 use Rattle.c_meaning.specs.Control.{Variable, unset, holds, lies, Loop, Update, Callee, function, library, Todo, leaves, then_row, then_end, then_loop, in_body, in_step}
 use Rattle.c_meaning.specs.Control.{Use, first_of, second_of, only_of, place_read, first_test, second_test, choice, argument, to_local, left_place, to_place, struct_left, struct_right, update_left, update_local, update_right, update_read, if_test, loop_test, to_caller, to_nowhere}
-use Rattle.c_meaning.specs.Control.{Wait, wanted, dropped, Caller, Point, gives, lacks, begins, round, Control}
+use Rattle.c_meaning.specs.Control.{Wait, wanted, dropped, Caller, TurnStart, gives, lacks, begins, round, Control}
 
 -- what stays the same in a turn: the program, the thread's number, the answer that the turn is told, and the function and the callers
 -- of the call under way
-pub record Here : Type 0 where
+pub record TurnContext : Type 0 where
   pub typed : tree.Typed
   pub thread : ℕ
   pub answer : Answer
@@ -72,7 +72,7 @@ plainly answers.Got t = unfit
 plainly answers.None t = unfit
 
 -- the call under way goes on from a point in its next turn
-abbrev pub stays : Here → List Variable → Point → World → Turn Control
+abbrev pub stays : TurnContext → List Variable → TurnStart → World → Turn Control
 stays h locals point w = went (record { function = h.function; locals = locals; point = point; callers = h.callers }) w
 
 -- how an action comes out
@@ -83,11 +83,11 @@ on_done place go actions.unfit = unfit
 on_done place go (actions.broke rule) = broke rule place
 
 -- an action is done, and ends the turn
-abbrev pub acts : Here → (place : ℕ) → Action → (Option Value → World → Turn Control) → Does
+abbrev pub acts : TurnContext → (place : ℕ) → SharedAction → (Option Value → World → Turn Control) → Does
 acts h place action go x = on_done place go (actions.acted x.world h.thread h.answer action)
 
 -- what a call's value leads to
-abbrev pub after_call : Wait → Option Value → Point
+abbrev pub after_call : Wait → Option Value → TurnStart
 after_call (wanted place k) (Some v) = gives v k
 after_call (wanted place k) None = lacks place
 after_call (dropped k) v = begins k
@@ -95,7 +95,7 @@ after_call (dropped k) v = begins k
 -- ---- locals
 
 -- the function of the call under way
-abbrev pub func_at : Here → Option tree.Func
+abbrev pub func_at : TurnContext → Option tree.Func
 func_at h = slice_get h.typed.funcs h.function
 
 -- what a function says of its local of this number: the type, and whether it lies in memory
@@ -104,7 +104,7 @@ declared_in None number = None
 declared_in (Some f) number = slice_get f.locals number
 
 -- what the function of the call under way says of its local of this number
-abbrev pub local_at : Here → (number : ℕ) → Option tree.Local
+abbrev pub local_at : TurnContext → (number : ℕ) → Option tree.Local
 local_at h number = declared_in (func_at h) number
 
 -- the local lies in memory, in a block of its own
@@ -113,7 +113,7 @@ is_block None = false
 is_block (Some l) = l.in_memory
 
 -- the size of a local's type
-abbrev pub size_of_local : Here → Option tree.Local → ℕ
+abbrev pub size_of_local : TurnContext → Option tree.Local → ℕ
 size_of_local h None = 0
 size_of_local h (Some l) = size_in h.typed.structs l.ty
 
@@ -150,11 +150,11 @@ abbrev pub with_block : (number size : ℕ) → Now → Now
 with_block number size x = record { locals = set x.locals number (lies (length x.world.blocks)); world = with_local x.world size }
 
 -- the block that a local had ends, if it had one, and it gets a new one of its type's size
-abbrev pub made_local : Here → (number : ℕ) → Now → Now
+abbrev pub made_local : TurnContext → (number : ℕ) → Now → Now
 made_local h number x = with_block number (size_of_local h (local_at h number)) (ended_local number x)
 
 -- a declaration is reached: its local has a block of cells that were never written, or no value (C11 6.2.4 p6)
-abbrev pub declared_local : Here → (number : ℕ) → Now → Now
+abbrev pub declared_local : TurnContext → (number : ℕ) → Now → Now
 declared_local h number x = if is_block (local_at h number) then made_local h number x else with_variable number unset x
 
 -- the world without the block of this local
@@ -193,23 +193,23 @@ abbrev pub begins_in : (function : ℕ) → tree.Func → List Value → (caller
 begins_in number f args callers = record { function = number; locals = first_locals f args; point = begins (then_row f.body leaves); callers = callers }
 
 -- a function is entered
-abbrev pub enters : Here → (function : ℕ) → List Value → Wait → Now → Option tree.Func → Turn Control
+abbrev pub enters : TurnContext → (function : ℕ) → List Value → Wait → Now → Option tree.Func → Turn Control
 enters h number args k x None = unfit
 enters h number args k x (Some f) =
     plainly h.answer (went (begins_in number f args (record { function = h.function; locals = x.locals; wait = k } ∷ h.callers)) x.world)
 
 -- a library's call is an action
-abbrev pub calls_library : Here → (place : ℕ) → tree.Lib → List Value → Wait → Option Action → Does
+abbrev pub calls_library : TurnContext → (place : ℕ) → tree.Lib → List Value → Wait → Option SharedAction → Does
 calls_library h place which args k None x = unfit
 calls_library h place which args k (Some action) x = acts h place action (λ v w. stays h x.locals (after_call k (value_of_call which args v)) w) x
 
 -- a call, of which the arguments' values are known
-abbrev pub calls : Here → (place : ℕ) → Callee → List Value → Wait → Does
+abbrev pub calls : TurnContext → (place : ℕ) → Callee → List Value → Wait → Does
 calls h place (function number) args k x = enters h number args k x (slice_get h.typed.funcs number)
 calls h place (library which) args k x = calls_library h place which args k (action_of which args) x
 
 -- the value that a function ends with: main gives 0 where it has none (C11 5.1.2.2.3; this project's profile where the program calls it)
-abbrev pub result_of_call : Here → Option Value → Option Value
+abbrev pub result_of_call : TurnContext → Option Value → Option Value
 result_of_call h (Some v) = Some v
 result_of_call h None = if h.function == h.typed.main then Some (values.Num (num int (pos 0))) else None
 
@@ -220,12 +220,12 @@ number_in (Some (values.Pointer p)) = None
 number_in None = None
 
 -- a call is left: the thread goes on in the caller, or its first function has returned, which is an action
-abbrev pub returns_to : Here → Option Value → World → List Caller → Turn Control
+abbrev pub returns_to : TurnContext → Option Value → World → List Caller → Turn Control
 returns_to h v w [] = on_done 0 (λ u next. ended next) (actions.acted w h.thread h.answer (actions.finish (number_in v)))
 returns_to h v w (c ∷ callers) = plainly h.answer (went (record { function = c.function; locals = c.locals; point = after_call c.wait v; callers = callers }) w)
 
 -- its locals end
-abbrev pub leaves_call : Here → Option Value → Does
+abbrev pub leaves_call : TurnContext → Option Value → Does
 leaves_call h v x = returns_to h (result_of_call h v) (without_blocks x.locals x.world) h.callers
 
 -- ---- expressions
@@ -236,7 +236,7 @@ pointer_in (values.Pointer p) = p
 pointer_in (values.Num n) = Null
 
 -- an object is read: one action
-abbrev pub read_way : Here → (place : ℕ) → Access → WayOfUse → WayOfUse
+abbrev pub read_way : TurnContext → (place : ℕ) → Access → WayOfUse → WayOfUse
 read_way h place how w = record {
   k = place_read place how w.k;
   go = λ v x. acts h place (actions.load (pointer_in v) how) (λ u next. stays h x.locals (after_call (wanted place w.k) u) next) x;
@@ -282,7 +282,7 @@ abbrev pub argument_way : (place : ℕ) → Callee → (before : List Value) →
 argument_way place callee before rest run_rest k = record { k = argument place callee before rest k; go = λ v. run_rest (before ++ v ∷ []) k }
 
 -- the value of a local: it has one, or lies in a block, which is read; else C4 (C11 6.3.2.1 p2)
-abbrev pub reads_variable : Here → (place : ℕ) → tree.Ty → WayOfUse → Variable → Does
+abbrev pub reads_variable : TurnContext → (place : ℕ) → tree.Ty → WayOfUse → Variable → Does
 reads_variable h place ty w unset x = broke C4 place
 reads_variable h place ty w (holds v) x = w.go v x
 reads_variable h place ty w (lies block) x = (read_way h place (access_of_type ty) w).go (values.Pointer (To block 0)) x
@@ -294,22 +294,22 @@ finds_variable place w (holds v) x = broke C4 place
 finds_variable place w (lies block) x = w.go (values.Pointer (To block 0)) x
 
 -- the blocks of globals have the first names, and those of literals the next ones
-abbrev pub literal_block : Here → (number : ℕ) → ℕ
+abbrev pub literal_block : TurnContext → (number : ℕ) → ℕ
 literal_block h number = length h.typed.globals + number
 
 -- the size of the elements that a pointer points to (C11 6.5.6)
-abbrev pub size_of_elements : Here → tree.Expr → ℕ
+abbrev pub size_of_elements : TurnContext → tree.Expr → ℕ
 size_of_elements h p = element_size h.typed.structs (tree.type_of p)
 
 -- `run` evaluates an expression to its value, `run_place` an lvalue to the pointer to its object, and `run_arguments` the arguments of
 -- a call, which it then makes
 abbrev mutual
   -- an expression is evaluated to its value, by its form, its type and its place in the text
-  pub run : Here → tree.Expr → WayOfUse → Does
+  pub run : TurnContext → tree.Expr → WayOfUse → Does
   run h (tree.at place ty node) w x = run_node h place ty node w x
 
   -- the same for each form: a constant is its value, an lvalue is read (C11 6.3.2.1 p2), and operands are evaluated from left to right
-  pub run_node : Here → (place : ℕ) → tree.Ty → tree.ExprNode → WayOfUse → Does
+  pub run_node : TurnContext → (place : ℕ) → tree.Ty → tree.ExprNode → WayOfUse → Does
   run_node h place ty (tree.num t z) w x = w.go (values.Num (num t z)) x
   run_node h place ty tree.null w x = w.go (values.Pointer Null) x
   run_node h place ty (tree.literal number) w x = (read_way h place (access_of_type ty) w).go (values.Pointer (To (literal_block h number) 0)) x
@@ -335,11 +335,11 @@ abbrev mutual
   run_node h place ty (tree.lib which args) w x = run_arguments h place (library which) args [] (wanted place w.k) x
 
   -- an lvalue is evaluated to the pointer to its object, which isn't read
-  pub run_place : Here → tree.Expr → WayOfUse → Does
+  pub run_place : TurnContext → tree.Expr → WayOfUse → Does
   run_place h (tree.at place ty node) w x = run_place_node h place node w x
 
   -- the same for each form that is an lvalue; in a well typed program no other stands here
-  pub run_place_node : Here → (place : ℕ) → tree.ExprNode → WayOfUse → Does
+  pub run_place_node : TurnContext → (place : ℕ) → tree.ExprNode → WayOfUse → Does
   run_place_node h place (tree.literal number) w x = w.go (values.Pointer (To (literal_block h number) 0)) x
   run_place_node h place (tree.global number) w x = w.go (values.Pointer (To number 0)) x
   run_place_node h place (tree.local number) w x = finds_variable place w (variable_at x number) x
@@ -349,7 +349,7 @@ abbrev mutual
   run_place_node h place node w x = unfit
 
   -- the arguments that are left are evaluated from left to right, behind those whose values are known, and then the call is made
-  pub run_arguments : Here → (place : ℕ) → Callee → tree.Exprs → List Value → Wait → Does
+  pub run_arguments : TurnContext → (place : ℕ) → Callee → tree.Exprs → List Value → Wait → Does
   run_arguments h place callee tree.no_exprs before k x = calls h place callee before k x
   run_arguments h place callee (tree.more_exprs e rest) before k x = run h e (argument_way place callee before rest (run_arguments h place callee rest) k) x
 
@@ -360,17 +360,17 @@ abbrev pub nowhere_way : Way → WayOfUse
 nowhere_way w = record { k = to_nowhere w.k; go = λ v x. w.end x }
 
 -- an object whose value is dropped: a number or a pointer is read all the same, and any other object is only found
-abbrev pub drops_object : Here → (place : ℕ) → tree.Ty → tree.ExprNode → Way → Does
+abbrev pub drops_object : TurnContext → (place : ℕ) → tree.Ty → tree.ExprNode → Way → Does
 drops_object h place ty node w x = if is_scalar ty then run_node h place ty node (nowhere_way w) x else run_place_node h place node (nowhere_way w) x
 
 -- an expression whose value is dropped: a call's isn't missed; a struct, an array or an object of type void is found and not read
 abbrev mutual
   -- an expression is evaluated, and its value is dropped (C11 6.8.3 p2)
-  pub run_dropped : Here → tree.Expr → Way → Does
+  pub run_dropped : TurnContext → tree.Expr → Way → Does
   run_dropped h (tree.at place ty node) w x = run_dropped_node h place ty node w x
 
   -- the same for each form; a cast to void drops its operand's value (C11 6.3.2.2)
-  pub run_dropped_node : Here → (place : ℕ) → tree.Ty → tree.ExprNode → Way → Does
+  pub run_dropped_node : TurnContext → (place : ℕ) → tree.Ty → tree.ExprNode → Way → Does
   run_dropped_node h place ty (tree.call number args) w x = run_arguments h place (function number) args [] (dropped w.k) x
   run_dropped_node h place ty (tree.lib which args) w x = run_arguments h place (library which) args [] (dropped w.k) x
   run_dropped_node h place tree.void (tree.convert e) w x = run_dropped h e w x
@@ -386,25 +386,25 @@ abbrev pub local_way : (number : ℕ) → Way → WayOfUse
 local_way number w = record { k = to_local number w.k; go = λ v x. w.end (with_variable number (holds v) x) }
 
 -- once the value is there: it is stored in the object that was found before, one action
-abbrev pub place_way : Here → (place : ℕ) → (to : Value) → Way → WayOfUse
+abbrev pub place_way : TurnContext → (place : ℕ) → (to : Value) → Way → WayOfUse
 place_way h place to w = record {
   k = to_place place to w.k;
   go = λ v x. acts h place (actions.store (pointer_in to) v) (λ u next. stays h x.locals (begins w.k) next) x;
 }
 
 -- the left side's place is found, then the right side is evaluated
-abbrev pub left_way : Here → (place : ℕ) → tree.Expr → Way → WayOfUse
+abbrev pub left_way : TurnContext → (place : ℕ) → tree.Expr → Way → WayOfUse
 left_way h place right w = record { k = left_place place right w.k; go = λ v. run h right (place_way h place v w) }
 
 -- a struct is assigned, also to itself: one action
-abbrev pub struct_right_way : Here → (place : ℕ) → tree.Ty → (to : Value) → Way → WayOfUse
+abbrev pub struct_right_way : TurnContext → (place : ℕ) → tree.Ty → (to : Value) → Way → WayOfUse
 struct_right_way h place ty to w = record {
   k = struct_right place ty to w.k;
   go = λ v x. acts h place (actions.copy (pointer_in to) (pointer_in v) (size_in h.typed.structs ty) (align_in h.typed.structs ty) true) (λ u next. stays h x.locals (begins w.k) next) x;
 }
 
 -- once the struct of the left side is found: the one of the right side is found
-abbrev pub struct_left_way : Here → (place : ℕ) → tree.Ty → tree.Expr → Way → WayOfUse
+abbrev pub struct_left_way : TurnContext → (place : ℕ) → tree.Ty → tree.Expr → Way → WayOfUse
 struct_left_way h place ty right w = record { k = struct_left place ty right w.k; go = λ v. run_place h right (struct_right_way h place ty v w) }
 
 -- the type of a struct
@@ -413,68 +413,68 @@ is_struct (tree.structure number) = true
 is_struct ty = false
 
 -- an assignment to an object, by its type
-abbrev pub assigns_object : Here → tree.Expr → tree.Expr → Way → Does
+abbrev pub assigns_object : TurnContext → tree.Expr → tree.Expr → Way → Does
 assigns_object h left right w =
     if is_struct (tree.type_of left) then run_place h left (struct_left_way h (tree.place_of left) (tree.type_of left) right w)
     else run_place h left (left_way h (tree.place_of left) right w)
 
 -- an assignment, by its left side: a local without a block, or an object
-abbrev pub assigns : Here → tree.ExprNode → (left right : tree.Expr) → Way → Does
+abbrev pub assigns : TurnContext → tree.ExprNode → (left right : tree.Expr) → Way → Does
 assigns h (tree.local number) left right w =
     if is_block (local_at h number) then assigns_object h left right w else run h right (local_way number w)
 assigns h node left right w = assigns_object h left right w
 
 -- a op= b: the place of a, then b, then a is read, and the result is stored: two actions (C11 6.5.16.2)
-abbrev pub update_read_way : Here → Update → (at by : Value) → Way → WayOfUse
+abbrev pub update_read_way : TurnContext → Update → (at by : Value) → Way → WayOfUse
 update_read_way h u at by w = record {
   k = update_read u at by w.k;
   go = λ v x. on_ok u.operator (λ r. (place_way h u.place at w).go r x) (updated h.typed.structs x.world.blocks u.ty u.op v by);
 }
 
 -- once b has its value: a is read, one action
-abbrev pub update_right_way : Here → Update → (at : Value) → Way → WayOfUse
+abbrev pub update_right_way : TurnContext → Update → (at : Value) → Way → WayOfUse
 update_right_way h u at w = record {
   k = update_right u at w.k;
   go = λ v x. acts h u.place (actions.load (pointer_in at) (access_of_type u.ty)) (λ read next. stays h x.locals (after_call (wanted u.place (update_read u at v w.k)) read) next) x;
 }
 
 -- once the place of a is found: b is evaluated
-abbrev pub update_left_way : Here → Update → tree.Expr → Way → WayOfUse
+abbrev pub update_left_way : TurnContext → Update → tree.Expr → Way → WayOfUse
 update_left_way h u right w = record { k = update_left u right w.k; go = λ v. run h right (update_right_way h u v w) }
 
 -- the same where a is a local without a block: no action; C4 where it has no value, once b was evaluated
-abbrev pub updates_variable : Here → Update → (number : ℕ) → (by : Value) → Way → Variable → Does
+abbrev pub updates_variable : TurnContext → Update → (number : ℕ) → (by : Value) → Way → Variable → Does
 updates_variable h u number by w (holds v) x =
     on_ok u.operator (λ r. w.end (with_variable number (holds r) x)) (updated h.typed.structs x.world.blocks u.ty u.op v by)
 updates_variable h u number by w v x = broke C4 u.place
 
 -- once b has its value, where a is a local without a block
-abbrev pub update_local_way : Here → Update → (number : ℕ) → Way → WayOfUse
+abbrev pub update_local_way : TurnContext → Update → (number : ℕ) → Way → WayOfUse
 update_local_way h u number w = record { k = update_local u number w.k; go = λ v x. updates_variable h u number v w (variable_at x number) x }
 
 -- a compound assignment, by its left side: a local without a block, or an object
-abbrev pub updates : Here → Update → tree.ExprNode → (left right : tree.Expr) → Way → Does
+abbrev pub updates : TurnContext → Update → tree.ExprNode → (left right : tree.Expr) → Way → Does
 updates h u (tree.local number) left right w =
     if is_block (local_at h number) then run_place h left (update_left_way h u right w) else run h right (update_local_way h u number w)
 updates h u node left right w = run_place h left (update_left_way h u right w)
 
 -- a local is declared: a value is put into it, or stored in its block (C11 6.7.9)
-abbrev pub initialises : Here → (place number : ℕ) → tree.Expr → Way → Does
+abbrev pub initialises : TurnContext → (place number : ℕ) → tree.Expr → Way → Does
 initialises h place number init w x =
     if is_block (local_at h number) then run h init (place_way h place (values.Pointer (To (length (ended_local number x).world.blocks) 0)) w) (made_local h number x)
     else run h init (local_way number w) (with_variable number unset x)
 
 -- a declaration, with an initial value, or without one, where the value is indeterminate (C11 6.7.9 p10)
-abbrev pub declares : Here → (place number : ℕ) → Option tree.Expr → Way → Does
+abbrev pub declares : TurnContext → (place number : ℕ) → Option tree.Expr → Way → Does
 declares h place number None w x = w.end (declared_local h number x)
 declares h place number (Some init) w x = initialises h place number init w x
 
 -- a returned value
-abbrev pub caller_way : Here → WayOfUse
+abbrev pub caller_way : TurnContext → WayOfUse
 caller_way h = record { k = to_caller; go = λ v x. leaves_call h (Some v) x }
 
 -- return, without a value or with one (C11 6.8.6.4)
-abbrev pub returns : Here → Option tree.Expr → Does
+abbrev pub returns : TurnContext → Option tree.Expr → Does
 returns h None x = leaves_call h None x
 returns h (Some e) x = run h e (caller_way h) x
 
@@ -490,7 +490,7 @@ abbrev pub nothing : (place : ℕ) → tree.Stmt
 nothing place = tree.at_stmt place tree.empty
 
 -- the end of a function's body
-abbrev pub leave_way : Here → Way
+abbrev pub leave_way : TurnContext → Way
 leave_way h = record { k = leaves; end = leaves_call h None; breaks = leaves_call h None; continues = leaves_call h None }
 
 -- behind a statement of a block: the rest of the block follows, and a break or a continue passes over it
@@ -510,35 +510,35 @@ end_way numbers w = record {
 -- break, or a condition that doesn't hold, leaves the loop
 
 -- a round is over, and the turn ends: the thread's next turn begins with the next round
-abbrev pub round_over : Here → Loop → Todo → Does
+abbrev pub round_over : TurnContext → Loop → Todo → Does
 round_over h l k x = plainly h.answer (stays h x.locals (round l k) x.world)
 
 -- behind a loop's step: the round is over
-abbrev pub step_way : Here → Loop → Way → Way
+abbrev pub step_way : TurnContext → Loop → Way → Way
 step_way h l w = record { k = in_step l w.k; end = round_over h l w.k; breaks = w.end; continues = round_over h l w.k }
 
 -- behind the body: the step follows, also from a continue; a break leaves the loop (C11 6.8.6.2, 6.8.6.3)
-abbrev pub body_way : Here → Loop → (run_step : Way → Does) → Way → Way
+abbrev pub body_way : TurnContext → Loop → (run_step : Way → Does) → Way → Way
 body_way h l run_step w = record { k = in_body l w.k; end = run_step (step_way h l w); breaks = w.end; continues = run_step (step_way h l w) }
 
 -- once the condition has its value: the body follows where that counts as true, and else the loop is left (C11 6.8.5 p4)
-abbrev pub loop_test_way : Here → (place : ℕ) → Loop → (run_body run_step : Way → Does) → Way → WayOfUse
+abbrev pub loop_test_way : TurnContext → (place : ℕ) → Loop → (run_body run_step : Way → Does) → Way → WayOfUse
 loop_test_way h place l run_body run_step w = record {
   k = loop_test place l w.k;
   go = λ v x. on_ok place (λ b. if b then run_body (body_way h l run_step w) x else w.end x) (truth_of x.world.blocks v);
 }
 
 -- a round under this condition; without one the body follows at once (C11 6.8.5.3 p2)
-abbrev pub rounds_if : Here → Loop → (run_body run_step : Way → Does) → Way → Option tree.Expr → Does
+abbrev pub rounds_if : TurnContext → Loop → (run_body run_step : Way → Does) → Way → Option tree.Expr → Does
 rounds_if h l run_body run_step w None x = run_body (body_way h l run_step w) x
 rounds_if h l run_body run_step w (Some e) x = run h e (loop_test_way h (tree.place_of e) l run_body run_step w) x
 
 -- a round of a loop: its condition is evaluated, and where it holds the body and the step follow
-abbrev pub rounds : Here → Loop → (run_body run_step : Way → Does) → Way → Does
+abbrev pub rounds : TurnContext → Loop → (run_body run_step : Way → Does) → Way → Does
 rounds h l run_body run_step w x = rounds_if h l run_body run_step w l.condition x
 
 -- behind the first clause of a for
-abbrev pub loop_way : Here → Loop → (run_body run_step : Way → Does) → Way → Way
+abbrev pub loop_way : TurnContext → Loop → (run_body run_step : Way → Does) → Way → Way
 loop_way h l run_body run_step w = record { k = then_loop l w.k; end = rounds h l run_body run_step w; breaks = w.breaks; continues = w.continues }
 
 -- the loops of a while and of a for
@@ -555,11 +555,11 @@ update_of operator left op = record { place = tree.place_of left; operator = ope
 
 abbrev mutual
   -- a statement is executed, by its form and its place in the text
-  pub run_stmt : Here → tree.Stmt → Way → Does
+  pub run_stmt : TurnContext → tree.Stmt → Way → Does
   run_stmt h (tree.at_stmt place node) w x = run_stmt_node h place node w x
 
   -- the same for each form (C11 6.8; an assignment is a statement in this project's profile)
-  pub run_stmt_node : Here → (place : ℕ) → tree.StmtNode → Way → Does
+  pub run_stmt_node : TurnContext → (place : ℕ) → tree.StmtNode → Way → Does
   run_stmt_node h place (tree.block body) w x = run_row h body (end_way (declared body) w) x
   run_stmt_node h place (tree.declare number init) w x = declares h place number init w x
   run_stmt_node h place (tree.if_ e one) w x = run h e (if_way (tree.place_of e) one (nothing place) (run_stmt h one) (λ v. v.end) w) x
@@ -576,14 +576,14 @@ abbrev mutual
   run_stmt_node h place tree.empty w x = w.end x
 
   -- the statements of a block are executed in order (C11 6.8.2)
-  pub run_row : Here → tree.Stmts → Way → Does
+  pub run_row : TurnContext → tree.Stmts → Way → Does
   run_row h tree.no_stmts w x = w.end x
   run_row h (tree.more_stmts s rest) w x = run_stmt h s (row_way rest (run_row h rest) w) x
 
 -- ---- what is left to do, carried out
 
 -- what is left to do in a call, as the way that does it
-abbrev pub way_of : Here → Todo → Way
+abbrev pub way_of : TurnContext → Todo → Way
 way_of h leaves = leave_way h
 way_of h (then_row rest k) = row_way rest (run_row h rest) (way_of h k)
 way_of h (then_end numbers k) = end_way numbers (way_of h k)
@@ -592,7 +592,7 @@ way_of h (in_body l k) = body_way h l (run_stmt h l.step) (way_of h k)
 way_of h (in_step l k) = step_way h l (way_of h k)
 
 -- what a value is used for, as the way that does it
-abbrev pub use_of : Here → Use → WayOfUse
+abbrev pub use_of : TurnContext → Use → WayOfUse
 use_of h (first_of place op right k) = first_way place op right (run h right) (use_of h k)
 use_of h (second_of place op left k) = second_way place op left (use_of h k)
 use_of h (only_of place op k) = only_way place op (use_of h k)
@@ -616,14 +616,14 @@ use_of h to_caller = caller_way h
 use_of h (to_nowhere k) = nowhere_way (way_of h k)
 
 -- from a point on; the value of a call that ended without one can't be used (C11 6.9.1 p12)
-abbrev pub from_point : Here → Point → Does
+abbrev pub from_point : TurnContext → TurnStart → Does
 from_point h (gives v k) x = (use_of h k).go v x
 from_point h (lacks place) x = broke C15 place
 from_point h (begins k) x = (way_of h k).end x
 from_point h (round l k) x = rounds h l (run_stmt h l.body) (run_stmt h l.step) (way_of h k) x
 
 -- what stays the same in this turn of a thread
-abbrev pub here : tree.Typed → (thread : ℕ) → Answer → Control → Here
+abbrev pub here : tree.Typed → (thread : ℕ) → Answer → Control → TurnContext
 here typed thread answer c = record { typed = typed; thread = thread; answer = answer; function = c.function; callers = c.callers }
 
 -- one turn of a thread

@@ -1,5 +1,5 @@
 -- The typed tree of a program, without where it lies in memory.
-use Rattle.std.specs.Prelude.{ℕ, ℤ, Bool, List, Option}
+use Rattle.std.specs.Prelude.{[], ◌∷◌, ℕ, ℤ, Bool, List, Option}
 use Rattle.ak_words.specs.declared.int_type.IntType.{IntType}
 use Rattle.ak_words.specs.declared.operation.Op.{Op}
 
@@ -85,6 +85,11 @@ mutual
     no_exprs : Exprs
     more_exprs : (e : Expr) (rest : Exprs) → Exprs
 
+-- a list of expressions
+abbrev pub exprs_of : List Expr → Exprs
+exprs_of [] = no_exprs
+exprs_of (e ∷ es) = more_exprs e (exprs_of es)
+
 -- the place of an expression in the text
 abbrev pub place_of : Expr → ℕ
 place_of (at place ty node) = place
@@ -125,6 +130,11 @@ mutual
   pub data Stmts : Type 0 where
     no_stmts : Stmts
     more_stmts : (s : Stmt) (rest : Stmts) → Stmts
+
+-- a list of statements
+abbrev pub stmts_of : List Stmt → Stmts
+stmts_of [] = no_stmts
+stmts_of (s ∷ rest) = more_stmts s (stmts_of rest)
 
 -- ---- programs (6.9)
 

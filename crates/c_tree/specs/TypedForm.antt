@@ -109,7 +109,7 @@ pub record Signature : Type 0 where
   pub result : Ty
 
 -- the structs, the types of the globals, the bytes of the literals, the functions, and the locals of the function around
-pub record Context : Type 0 where
+pub record InScope : Type 0 where
   pub structs : List Layout
   pub globals : List Ty
   pub literals : List (List ℕ)
@@ -137,7 +137,7 @@ IsLvalue (member e m) = Unit {0}
 IsLvalue node = ⊥
 
 -- an object that is a block or lies in one; a local that is none has no address
-abbrev pub IsInMemory : Context → ExprNode → Type 0
+abbrev pub IsInMemory : InScope → ExprNode → Type 0
 IsInMemory c (literal n) = Unit {0}
 IsInMemory c (global n) = Unit {0}
 IsInMemory c (local n) = IsNth c.locals n (λ l. l.in_memory ≡ true)
@@ -174,7 +174,7 @@ AreArguments [] (more_exprs e rest) = ⊥
 AreArguments (t ∷ ts) no_exprs = ⊥
 
 -- the arguments and the result of a library function; the mutex's kind, and the function of a new thread, are no arguments
-abbrev pub IsLibCall : Context → Lib → Exprs → Ty → Type 0
+abbrev pub IsLibCall : InScope → Lib → Exprs → Ty → Type 0
 IsLibCall c (print pieces) es t = ArePrinted pieces es × (t ≡ integer int)
 IsLibCall c malloc es t = AreArguments (integer unsigned_long ∷ []) es × (t ≡ pointer void)
 IsLibCall c free es t = AreArguments (pointer void ∷ []) es × (t ≡ void)
@@ -189,11 +189,11 @@ IsLibCall c mutex_destroy es t = AreArguments (pointer mutex ∷ []) es × (t �
 -- an expression of its type, whose parts are well formed
 abbrev mutual
   -- an expression is well formed if what it does is, at its type
-  pub IsTyped : Context → Expr → Type 0
+  pub IsTyped : InScope → Expr → Type 0
   IsTyped c (at place ty node) = IsTypedNode c ty node
 
   -- what an expression of this type does is well formed: its parts are, and their types are those that it needs (C11 6.5)
-  pub IsTypedNode : Context → Ty → ExprNode → Type 0
+  pub IsTypedNode : InScope → Ty → ExprNode → Type 0
   IsTypedNode c ty (num t value) = (ty ≡ integer t) × IsInRange t value
   IsTypedNode c ty null = IsPointer ty
   IsTypedNode c ty (literal n) = IsNth c.literals n (λ bs. ty ≡ array (integer char) (length bs))
@@ -218,12 +218,12 @@ abbrev mutual
   IsTypedNode c ty (lib which args) = AreTyped c args × IsLibCall c which args ty
 
   -- each expression of a row is well formed
-  pub AreTyped : Context → Exprs → Type 0
+  pub AreTyped : InScope → Exprs → Type 0
   AreTyped c no_exprs = Unit {0}
   AreTyped c (more_exprs e rest) = IsTyped c e × AreTyped c rest
 
 -- a value of this type, or none where there is no expression
-abbrev pub IfTyped : Context → (Ty → Type 0) → Option Expr → Type 0
+abbrev pub IfTyped : InScope → (Ty → Type 0) → Option Expr → Type 0
 IfTyped c P None = Unit {0}
 IfTyped c P (Some e) = IsTyped c e × P (type_of e)
 
@@ -248,13 +248,13 @@ IsFirst (at_stmt place (declare n init)) = Unit {0}
 IsFirst s = IsStep s
 
 -- the value of a return: none in a function of type void, and else one that fits
-abbrev pub IsReturned : Context → Ty → Option Expr → Type 0
+abbrev pub IsReturned : InScope → Ty → Option Expr → Type 0
 IsReturned c result None = result ≡ void
 IsReturned c result (Some e) = IsTyped c e × Fits (type_of e) result
 
 -- the first locals are parameters, so many, and are declared by no statement
 pub record Inside : Type 0 where
-  pub context : Context
+  pub context : InScope
   pub params : ℕ
   pub result : Ty
 
@@ -306,7 +306,7 @@ abbrev pub signature_of : Func → Signature
 signature_of f = record { params = map (λ l. l.ty) (take f.params f.locals); result = f.result }
 
 -- what is in scope in the body of a function of a program
-abbrev pub context_of : Typed → Func → Context
+abbrev pub context_of : Typed → Func → InScope
 context_of t f = record { structs = t.structs; globals = map (λ g. g.ty) t.globals; literals = t.literals; funcs = map signature_of t.funcs; locals = f.locals }
 
 -- a function of a program is well formed: its first locals are its parameters, its locals, its result and its body are well

@@ -22,6 +22,7 @@ use Rattle.c_tree.specs.declared.typed.Local.{Local as CodeLocal}
 use Rattle.c_tree.specs.declared.typed.Func.{Func as CodeFunc}
 use Rattle.c_tree.specs.declared.typed.Typed.{Typed as CodeTyped}
 use Rattle.c_tree.specs.Typed as trees
+use Rattle.c_tree.specs.Typed.{exprs_of, stmts_of}
 
 -- the type that one of the code stands for
 abbrev pub type_view : CType → trees.Ty
@@ -105,11 +106,6 @@ expr_view e = trees.at e.place (type_view e.ty) (expr_node_view e.node)
 abbrev pub boxed_expr_view : Box CodeExpr Global → trees.Expr
 boxed_expr_view b = expr_view b.value
 
--- a list of expressions
-abbrev pub exprs_of : List trees.Expr → trees.Exprs
-exprs_of [] = trees.no_exprs
-exprs_of (e ∷ es) = trees.more_exprs e (exprs_of es)
-
 -- the expression, if the code has one there
 abbrev pub optional_expr_view : Option CodeExpr → Option trees.Expr
 optional_expr_view None = None
@@ -150,11 +146,6 @@ stmt_view s = trees.at_stmt s.place (stmt_node_view s.node)
 -- the statement in a box
 abbrev pub boxed_stmt_view : Box CodeStmt Global → trees.Stmt
 boxed_stmt_view b = stmt_view b.value
-
--- a list of statements
-abbrev pub stmts_of : List trees.Stmt → trees.Stmts
-stmts_of [] = trees.no_stmts
-stmts_of (s ∷ rest) = trees.more_stmts s (stmts_of rest)
 
 -- what a global of the code holds at the start
 abbrev pub init_view : CodeInit → trees.Init

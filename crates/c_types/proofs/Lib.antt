@@ -2,3 +2,16 @@ pub mod Views
 pub mod Nodes
 pub mod Walking
 pub mod Sizes
+pub mod StatementViews
+pub mod Arms
+pub mod Steps
+pub mod StatementsAround
+pub mod StatementRows
+pub mod StatementNodes
+pub mod Known
+pub mod FilesAround
+pub mod FileRows
+pub mod FileParts
+pub mod Functions
+pub mod Externals
+pub mod Objects

@@ -34,12 +34,12 @@ use Rattle.c_typing.specs.Judgement.{judged, valued, judged_type, judged_specs, 
 use Rattle.type_context.specs.declared.context.Context.{Context as CodeContext}
 use Rattle.type_context.specs.ContextViews.{context_view}
 use Rattle.type_context.specs.inner.Outcomes.{joined}
-use Rattle.type_specifiers.specs.declared.specifiers.Part.{Part as CodePart}
-use Rattle.type_specifiers.specs.declared.declarators.Declared.{Declared}
-use Rattle.type_specifiers.specs.ListViews.{numbers_view, part_view, declared_view}
+use Rattle.type_rules.specs.declared.specifiers.Part.{Part as CodePart}
+use Rattle.type_rules.specs.declared.declarators.Declared.{Declared}
+use Rattle.type_rules.specs.SpecifierViews.{numbers_view, part_view, declared_view}
 use Rattle.type_context.specs.declared.context.MemberType.{MemberType}
-use Rattle.type_outcomes.specs.Telling.{Tells}
-use Rattle.type_outcomes.proofs.Walks.{lone_tells}
+use Rattle.type_context.specs.Telling.{Tells}
+use Rattle.type_context.proofs.Walks.{lone_tells}
 use Rattle.type_nodes.specs.Nodes.{Finishes, types_of_members, sized, name_of, behind_declarator, choice}
 use Rattle.type_nodes.proofs.Expressions as tellings
 use Rattle.type_nodes.proofs.Types as types

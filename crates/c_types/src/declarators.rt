@@ -9,8 +9,8 @@ ghost use Rattle.c_typing.specs.Judgement as rules;
 ghost use Rattle.c_typing.specs.Judgement.{ruled, valued, judged, judged_type, judged_specs, judged_parts, judged_spec, judged_members, judged_member, judged_declarators, judged_dims, dimension, braced, names_in};
 ghost use Rattle.c_typing.specs.Statements.{judged_declarator};
 ghost use Rattle.type_context.specs.ContextViews.{context_view};
-ghost use Rattle.type_specifiers.specs.ListViews.{numbers_view, part_view, parts_view, declared_view};
-ghost use Rattle.type_outcomes.specs.Telling.{Tells, lacks_memory};
+ghost use Rattle.type_rules.specs.SpecifierViews.{numbers_view, part_view, parts_view, declared_view};
+ghost use Rattle.type_context.specs.Telling.{Tells, lacks_memory};
 ghost use Rattle.type_nodes.specs.Nodes.{types_of_members};
 
 use crate::expressions::value;
@@ -19,13 +19,13 @@ use c_tree::syntax as tree;
 use c_tree::syntax::Name;
 use c_tree::typed::CType;
 use type_context::context::{Context, MemberType};
+use type_context::outcomes::{again, appended, pushed};
 use type_nodes::structs::{
     closed, declared, fresh_member, member_object, member_type, member_types, named_tag, opened,
     pointers_to, size_of_dimension, type_of_parts,
 };
-use type_outcomes::outcomes::{again, appended, pushed};
-use type_specifiers::declarators::Declared;
-use type_specifiers::specifiers::Part;
+use type_rules::declarators::Declared;
+use type_rules::specifiers::Part;
 
 /// The name of a type (C11 6.7.7).
 #[cycle(nodes)]

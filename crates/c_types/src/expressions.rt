@@ -6,7 +6,7 @@ ghost use Rattle.c_tree.specs.TypedViews.{boxed_expr_view};
 ghost use Rattle.c_typing.specs.Judgement.{judged, judged_all, judged_print, judged_start, judged_started, valued, prefixed, name_in, text_in, node_place, starting_or, meaning_in, format_or};
 ghost use Rattle.type_context.specs.ContextViews.{context_view};
 ghost use Rattle.type_rules.specs.ListViews.{exprs_view, pieces_view};
-ghost use Rattle.type_outcomes.specs.Telling.{Tells};
+ghost use Rattle.type_context.specs.Telling.{Tells};
 ghost use Rattle.type_nodes.specs.Nodes.{started_view};
 
 use crate::declarators::type_name;
@@ -16,15 +16,15 @@ use c_tree::syntax::{Name, PrefixOp};
 use c_tree::typed::{Expr, Piece};
 use type_context::context::Context;
 use type_context::faults::{both, refused};
-use type_library::literals::format_of;
+use type_context::outcomes::pushed;
 use type_nodes::callees::{begun, called_by, few_enough, is_printf, is_thrd_create};
 use type_nodes::leaves::{named, null, number, text};
+use type_nodes::literals::format_of;
 use type_nodes::operators::{
     addressed, cast_to, choice_of, combination, element_of, member_of, no_format, no_function,
     pointed_by, prefixed, print_of, size_of_expression, size_of_type, start_of, unboxed, valued,
 };
-use type_outcomes::outcomes::pushed;
-use type_specifiers::places::{name_in, node_place, text_in};
+use type_rules::places::{name_in, node_place, text_in};
 
 /// An expression, judged where it stands.
 #[cycle(nodes)]

@@ -185,7 +185,7 @@ braces_within w a c x number all f fresh g p = (
         apart e = let k : true ≡ false = sym b ∙ ap (is_begun c) e ∙ fresh in absurd cc
 
 -- what members are, in a tree around: objects, and few
-abbrev pub AreMembers : ℕ → form.Context → List (List ℕ × Ty) → Type 0
+abbrev pub AreMembers : ℕ → form.InScope → List (List ℕ × Ty) → Type 0
 AreMembers before e all = AreObjects e.structs all × (before ≤ 256 → before + length all ≤ 256)
 
 -- behind the braces, by what the members gave

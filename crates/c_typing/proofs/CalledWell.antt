@@ -9,16 +9,16 @@ use Rattle.ak_words.specs.declared.int_type.IntType.{IntType}
 use Rattle.ak_words.specs.Width.{is_width}
 use Rattle.ak_words.specs.IntType.{int, unsigned_long, promoted_type}
 use Rattle.c_tree.specs.declared.syntax.Name.{Name}
-use Rattle.c_tree.specs.Typed.{Ty, void, integer, mutex, pointer, array, structure, Piece, bytes, signed, unsigned, hexadecimal, character, text, Expr, at, num, global, local, call, lib, Exprs, no_exprs, more_exprs, type_of, node_of, place_of}
+use Rattle.c_tree.specs.Typed.{Ty, void, integer, mutex, pointer, array, structure, Piece, bytes, signed, unsigned, hexadecimal, character, text, Expr, at, num, global, local, call, lib, Exprs, no_exprs, more_exprs, type_of, node_of, place_of, exprs_of}
 use Rattle.c_tree.specs.Typed as trees
 use Rattle.c_tree.specs.TypedForm.{IsScalar, IsResult, IsPointer, IsPromoted, Fits, IsNth, Signature, HasBits, ArePrinted, CanStart, AreArguments, IsLibCall, IsTyped, AreTyped}
 use Rattle.c_tree.specs.TypedForm as form
 use Rattle.c_typing.specs.Faults.{Judged, typed, faulty, both}
 use Rattle.c_typing.specs.Scope.{Library, printf, malloc, free, memcpy, thrd_create, thrd_join, mtx_init, mtx_lock, mtx_unlock, mtx_destroy, constant, library}
-use Rattle.c_typing.specs.Scope.{Meaning, global_name, local_name, function_name, library_name, Context, bytes_of, meaning_of, or_else, found, of_library}
+use Rattle.c_typing.specs.Scope.{Binding, global_name, local_name, function_name, library_name, Context, bytes_of, meaning_of, or_else, found, of_library}
 use Rattle.c_typing.specs.Rules.{converted, fitted, or_mismatch}
 use Rattle.c_typing.specs.Formats.{number_for, text_for, before_argument, arguments_for}
-use Rattle.c_typing.specs.Judgement.{named, exprs_of, before_fitted, fitted_all, called, called_lib, printed, started_by, started, plain_kind, init_by, called_library}
+use Rattle.c_typing.specs.Judgement.{named, before_fitted, fitted_all, called, called_lib, printed, started_by, started, plain_kind, init_by, called_library}
 use Rattle.c_typing.proofs.Extending.{Ready}
 use Rattle.c_typing.proofs.Carried.{OnTyped, OnSome, on_bind, on_both, on_mismatch, Plain, World, Good, Sound, Over, IsNamed, InLibrary}
 use Rattle.c_typing.proofs.RuledWell.{Fine, Made, plain_ready, same_number, Fitting, fits, converted_has, Has}
@@ -44,13 +44,13 @@ meaning_named w c g n = by (lookup (bytes_eq q) c.inner) (found c.outer q) (look
     q : List ℕ
     q = bytes_of c.text n
 
-    by : (i f : Option Meaning) (l : Option Library) → ((m : Meaning) → or_else i f ≡ Some m → IsNamed w c m) → OnSome InLibrary l → OnSome (IsNamed w c) (or_else i (or_else f (of_library l)))
+    by : (i f : Option Binding) (l : Option Library) → ((m : Binding) → or_else i f ≡ Some m → IsNamed w c m) → OnSome InLibrary l → OnSome (IsNamed w c) (or_else i (or_else f (of_library l)))
     by (Some m) f l h k = h m refl
     by None (Some m) l h k = h m refl
     by None None (Some which) h k = k
     by None None None h k = tt
 
-pub named_made : (w : World) (d : Context) (e : form.Context) → Over w d e → (place : ℕ) (o : Option Meaning) → OnSome (IsNamed w d) o → OnTyped (Fine e) (named place o)
+pub named_made : (w : World) (d : Context) (e : form.InScope) → Over w d e → (place : ℕ) (o : Option Binding) → OnSome (IsNamed w d) o → OnTyped (Fine e) (named place o)
 named_made w d e o place None h = tt
 named_made w d e o place (Some (global_name n t)) h = (o.globals n t h, o.sound.globals n t (o.globals n t h))
 named_made w d e o place (Some (local_name n t)) h =
@@ -70,38 +70,38 @@ named_made w d e o place (Some (library_name mtx_destroy)) h = tt
 
 -- ---- arguments
 
-abbrev pub AreFine : form.Context → List Expr → Type 0
+abbrev pub AreFine : form.InScope → List Expr → Type 0
 AreFine e es = AllByRecursion (λ x. IsTyped e x) es
 
-abbrev Passed : form.Context → List Ty → List Expr → Type 0
+abbrev Passed : form.InScope → List Ty → List Expr → Type 0
 Passed e ts es = AreTyped e (exprs_of es) × AreArguments ts (exprs_of es)
 
-before_passed : (e : form.Context) (t : Ty) (ts : List Ty) (o : Option Expr) (os : Option (List Expr)) → OnSome (Fitting e t) o → OnSome (Passed e ts) os → OnSome (Passed e (t ∷ ts)) (before_fitted o os)
+before_passed : (e : form.InScope) (t : Ty) (ts : List Ty) (o : Option Expr) (os : Option (List Expr)) → OnSome (Fitting e t) o → OnSome (Passed e ts) os → OnSome (Passed e (t ∷ ts)) (before_fitted o os)
 before_passed e t ts (Some x) (Some es) h k = ((h.0, k.0), (h.1, k.1))
 before_passed e t ts None os h k = tt
 before_passed e t ts (Some x) None h k = tt
 
-passed : (e : form.Context) (ts : List Ty) (es : List Expr) → AreFine e es → OnSome (Passed e ts) (fitted_all ts es)
+passed : (e : form.InScope) (ts : List Ty) (es : List Expr) → AreFine e es → OnSome (Passed e ts) (fitted_all ts es)
 passed e [] [] h = (tt, tt)
 passed e (t ∷ ts) (x ∷ es) h = before_passed e t ts (fitted t x) (fitted_all ts es) (fits e t x h.0) (passed e ts es h.1)
 passed e [] (x ∷ es) h = tt
 passed e (t ∷ ts) [] h = tt
 
-pub called_made : (e : form.Context) (place n : ℕ) (params : List Ty) (result : Ty) (args : List Expr) → Sound e → slice_get e.funcs n ≡ Some (record { params = params; result = result }) → AreFine e args
+pub called_made : (e : form.InScope) (place n : ℕ) (params : List Ty) (result : Ty) (args : List Expr) → Sound e → slice_get e.funcs n ≡ Some (record { params = params; result = result }) → AreFine e args
     → OnTyped (Made e) (called place n params result args)
 called_made e place n params result args s f h =
     on_bind (Passed e params) (Made e) (or_mismatch place (fitted_all params args)) (λ es. typed (at place result (call n (exprs_of es))))
     (on_mismatch (Passed e params) place (fitted_all params args) (passed e params args h))
     (λ es p. (((p.0, (record { params = params; result = result }, f, (p.1, refl))), plain_ready e.structs result (s.results n (record { params = params; result = result }) f).1), tt))
 
-lib_made : (e : form.Context) (place : ℕ) (which : trees.Lib) (params : List Ty) (result : Ty) (args : List Expr)
+lib_made : (e : form.InScope) (place : ℕ) (which : trees.Lib) (params : List Ty) (result : Ty) (args : List Expr)
     → ((es : Exprs) → AreArguments params es → IsLibCall e which es result) → Plain result → AreFine e args → OnTyped (Made e) (called_lib place which params result args)
 lib_made e place which params result args f r h =
     on_bind (Passed e params) (Made e) (or_mismatch place (fitted_all params args)) (λ es. typed (at place result (lib which (exprs_of es))))
     (on_mismatch (Passed e params) place (fitted_all params args) (passed e params args h))
     (λ es p. (((p.0, f (exprs_of es) p.1), plain_ready e.structs result r), tt))
 
-init_made : (e : form.Context) (place : ℕ) (args : List Expr) → AreFine e args → OnTyped (Made e) (init_by place args)
+init_made : (e : form.InScope) (place : ℕ) (args : List Expr) → AreFine e args → OnTyped (Made e) (init_by place args)
 init_made e place [] h = tt
 init_made e place (m ∷ []) h = tt
 init_made e place (m ∷ kind ∷ []) h =
@@ -115,7 +115,7 @@ init_made e place (m ∷ kind ∷ []) h =
     any (faulty r rs) = tt
 init_made e place (m ∷ kind ∷ other ∷ rest) h = tt
 
-pub library_made : (e : form.Context) (place : ℕ) (which : Library) (args : List Expr) → AreFine e args → OnTyped (Made e) (called_library place which args)
+pub library_made : (e : form.InScope) (place : ℕ) (which : Library) (args : List Expr) → AreFine e args → OnTyped (Made e) (called_library place which args)
 library_made e place malloc args h = lib_made e place trees.malloc (integer unsigned_long ∷ []) (pointer void) args (λ es p. (p, refl)) tt h
 library_made e place free args h = lib_made e place trees.free (pointer void ∷ []) void args (λ es p. (p, refl)) tt h
 library_made e place memcpy args h = lib_made e place trees.copy (pointer void ∷ pointer void ∷ integer unsigned_long ∷ []) (pointer void) args (λ es p. (p, refl)) tt h
@@ -140,10 +140,10 @@ promoted_width t = by (nat_lt t.bits 32) refl
     by true h = inl refl
     by false h = wide t.bits t.known_width h
 
-abbrev Numbered : form.Context → ℕ → Expr → Type 0
+abbrev Numbered : form.InScope → ℕ → Expr → Type 0
 Numbered e bits x = IsTyped e x × HasBits bits (type_of x)
 
-number_fits : (e : form.Context) (bits : ℕ) (s : Ty) (x : Expr) → Has e x s → OnSome (Numbered e bits) (number_for bits s x)
+number_fits : (e : form.InScope) (bits : ℕ) (s : Ty) (x : Expr) → Has e x s → OnSome (Numbered e bits) (number_for bits s x)
 number_fits e bits (integer t) x h = by (nat_eq (promoted_type t).bits bits) refl
   where
     p : IntType
@@ -161,10 +161,10 @@ number_fits e bits (pointer t) x h = tt
 number_fits e bits (array t n) x h = tt
 number_fits e bits (structure n) x h = tt
 
-abbrev Texted : form.Context → Expr → Type 0
+abbrev Texted : form.InScope → Expr → Type 0
 Texted e x = IsTyped e x × IsPointer (type_of x)
 
-text_fits : (e : form.Context) (s : Ty) (x : Expr) → Has e x s → OnSome (Texted e) (text_for s x)
+text_fits : (e : form.InScope) (s : Ty) (x : Expr) → Has e x s → OnSome (Texted e) (text_for s x)
 text_fits e (pointer (integer t)) x h = by (nat_eq t.bits 8)
   where
     by : (b : Bool) → OnSome (Texted e) (if b then Some x else None)
@@ -172,16 +172,16 @@ text_fits e (pointer (integer t)) x h = by (nat_eq t.bits 8)
     by false = tt
 text_fits e _ x h = tt
 
-abbrev Written : form.Context → List Piece → List Expr → Type 0
+abbrev Written : form.InScope → List Piece → List Expr → Type 0
 Written e pieces es = AreTyped e (exprs_of es) × ArePrinted pieces (exprs_of es)
 
-before_written : (e : form.Context) (piece : Piece) (pieces : List Piece) (P : Expr → Type 0) (o : Option Expr) (os : Option (List Expr)) → OnSome (λ x. IsTyped e x × P x) o → OnSome (Written e pieces) os
+before_written : (e : form.InScope) (piece : Piece) (pieces : List Piece) (P : Expr → Type 0) (o : Option Expr) (os : Option (List Expr)) → OnSome (λ x. IsTyped e x × P x) o → OnSome (Written e pieces) os
     → ((x : Expr) (es : Exprs) → P x → ArePrinted pieces es → ArePrinted (piece ∷ pieces) (more_exprs x es)) → OnSome (Written e (piece ∷ pieces)) (before_argument o os)
 before_written e piece pieces P (Some x) (Some es) h k f = ((h.0, k.0), f x (exprs_of es) h.1 k.1)
 before_written e piece pieces P None os h k f = tt
 before_written e piece pieces P (Some x) None h k f = tt
 
-arguments_fit : (e : form.Context) (pieces : List Piece) (es : List Expr) → AreFine e es → OnSome (Written e pieces) (arguments_for pieces es)
+arguments_fit : (e : form.InScope) (pieces : List Piece) (es : List Expr) → AreFine e es → OnSome (Written e pieces) (arguments_for pieces es)
 arguments_fit e [] [] h = (tt, tt)
 arguments_fit e [] (x ∷ es) h = tt
 arguments_fit e (bytes all ∷ pieces) es h = arguments_fit e pieces es h
@@ -196,25 +196,25 @@ arguments_fit e (hexadecimal bits ∷ pieces) (x ∷ es) h = before_written e (h
 arguments_fit e (character ∷ pieces) (x ∷ es) h = before_written e character pieces (λ y. HasBits 32 (type_of y)) (number_for 32 (type_of x) x) (arguments_for pieces es) (number_fits e 32 (type_of x) x (h.0, refl)) (arguments_fit e pieces es h.1) (λ y ys p q. (p, q))
 arguments_fit e (text ∷ pieces) (x ∷ es) h = before_written e text pieces (λ y. IsPointer (type_of y)) (text_for (type_of x) x) (arguments_for pieces es) (text_fits e (type_of x) x (h.0, refl)) (arguments_fit e pieces es h.1) (λ y ys p q. (p, q))
 
-pub printed_made : (e : form.Context) (place : ℕ) (p : List Piece × List Expr) → AreFine e p.1 → OnTyped (Made e) (printed place p)
+pub printed_made : (e : form.InScope) (place : ℕ) (p : List Piece × List Expr) → AreFine e p.1 → OnTyped (Made e) (printed place p)
 printed_made e place p h =
     on_bind (Written e p.0) (Made e) (or_mismatch place (arguments_for p.0 p.1)) (λ es. typed (at place (integer int) (lib (trees.print p.0) (exprs_of es))))
     (on_mismatch (Written e p.0) place (arguments_for p.0 p.1) (arguments_fit e p.0 p.1 h)) (λ es k. (((k.0, (k.1, refl)), tt), tt))
 
 -- ---- thrd_create
 
-abbrev pub Starting : form.Context → Option ℕ → Type 0
+abbrev pub Starting : form.InScope → Option ℕ → Type 0
 Starting e o = OnSome (λ f. IsNth e.funcs f CanStart) o
 
-append_fine : (e : form.Context) (a b : List Expr) → AreFine e a → AreFine e b → AreFine e (a ++ b)
+append_fine : (e : form.InScope) (a b : List Expr) → AreFine e a → AreFine e b → AreFine e (a ++ b)
 append_fine e [] b h k = k
 append_fine e (x ∷ a) b h k = (h.0, append_fine e a b h.1 k)
 
-started_well : (e : form.Context) (place : ℕ) (f : Option ℕ) (es : Option (List Expr)) → Starting e f → OnSome (Passed e (pointer (integer unsigned_long) ∷ pointer void ∷ [])) es → OnTyped (Made e) (started_by place f es)
+started_well : (e : form.InScope) (place : ℕ) (f : Option ℕ) (es : Option (List Expr)) → Starting e f → OnSome (Passed e (pointer (integer unsigned_long) ∷ pointer void ∷ [])) es → OnTyped (Made e) (started_by place f es)
 started_well e place (Some f) (Some es) h k = (((k.0, (h, k.1, refl)), tt), tt)
 started_well e place None es h k = tt
 started_well e place (Some f) None h k = tt
 
-pub started_made : (e : form.Context) (place : ℕ) (before : List Expr) (f : Option ℕ) (behind : List Expr) → AreFine e before → Starting e f → AreFine e behind → OnTyped (Made e) (started place before f behind)
+pub started_made : (e : form.InScope) (place : ℕ) (before : List Expr) (f : Option ℕ) (behind : List Expr) → AreFine e before → Starting e f → AreFine e behind → OnTyped (Made e) (started place before f behind)
 started_made e place before f behind h s k =
     started_well e place f (fitted_all (pointer (integer unsigned_long) ∷ pointer void ∷ []) (before ++ behind)) s (passed e (pointer (integer unsigned_long) ∷ pointer void ∷ []) (before ++ behind) (append_fine e before behind h k))

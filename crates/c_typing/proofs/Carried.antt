@@ -8,10 +8,10 @@ use Rattle.c_lex.specs.declared.refusal.Kind.{Kind}
 use Rattle.c_lex.specs.declared.refusal.Refusal.{Refusal}
 use Rattle.c_tree.specs.Typed.{Ty, pointer, array, Layout, Local}
 use Rattle.c_tree.specs.TypedLayout.{greatest_object, size_in, IsSized}
-use Rattle.c_tree.specs.TypedForm.{IsLayout, LiesIn, Signature, IsNth, IsResult}
+use Rattle.c_tree.specs.TypedForm.{IsLayout, LiesIn, Signature, IsNth, IsResult, taken}
 use Rattle.c_tree.specs.TypedForm as form
 use Rattle.c_typing.specs.Faults.{Judged, typed, faulty, unless, both, ◌>>=◌}
-use Rattle.c_typing.specs.Scope.{Library, constant, Meaning, global_name, local_name, function_name, library_name, Context, or_else, found, taken, most_plain, is_begun}
+use Rattle.c_typing.specs.Scope.{Library, constant, Binding, global_name, local_name, function_name, library_name, Context, or_else, found, most_plain, is_begun}
 use Rattle.c_typing.specs.Numbering.{is_block, is_in}
 use Rattle.c_typing.specs.Rules.{or_mismatch}
 use Rattle.c_typing.specs.Judgement.{Judging, lone, in_turn, ruled}
@@ -77,14 +77,14 @@ abbrev pub InLibrary : Library → Type 0
 InLibrary (constant value) = IsInRange int value
 InLibrary which = Unit {0}
 
-abbrev pub IsNamed : World → Context → Meaning → Type 0
+abbrev pub IsNamed : World → Context → Binding → Type 0
 IsNamed w c (global_name n t) = slice_get c.globals n ≡ Some t
 IsNamed w c (local_name n t) = slice_get c.locals n ≡ Some t
 IsNamed w c (function_name n params result) = slice_get w.funcs n ≡ Some (record { params = params; result = result })
 IsNamed w c (library_name which) = InLibrary which
 
 -- what the scopes say
-abbrev pub visible : Context → List ℕ → Option Meaning
+abbrev pub visible : Context → List ℕ → Option Binding
 visible c q = or_else (lookup (bytes_eq q) c.inner) (found c.outer q)
 
 abbrev pub declared_in : List Layout → ℕ
@@ -99,7 +99,7 @@ bytes_taken structs globals literals = sum_by (λ t. taken (size_in structs t)) 
 -- a context is in order
 pub record Good (w : World) (c : Context) : Type 0 where
   pub results : (n : ℕ) (s : Signature) → slice_get w.funcs n ≡ Some s → IsResult s.result × Plain s.result
-  pub names : (q : List ℕ) (m : Meaning) → visible c q ≡ Some m → IsNamed w c m
+  pub names : (q : List ℕ) (m : Binding) → visible c q ≡ Some m → IsNamed w c m
   pub layouts : (n : ℕ) (l : Layout) → slice_get c.structs n ≡ Some l → IsLayout c.structs l
   pub apart : (n : ℕ) → LiesIn c.structs n n → ⊥
   pub members : (n : ℕ) (l : Layout) → slice_get c.structs n ≡ Some l → (m : ℕ) (t : Ty) → slice_get l.types m ≡ Some t → Ready c.structs t
@@ -197,7 +197,7 @@ looser false c d f = f
 -- ---- trees around
 
 -- what holds in a tree's context whatever stands in it
-pub record Sound (e : form.Context) : Type 0 where
+pub record Sound (e : form.InScope) : Type 0 where
   pub small : AreSmall e.structs
   pub members : (n : ℕ) (l : Layout) → slice_get e.structs n ≡ Some l → (m : ℕ) (t : Ty) → slice_get l.types m ≡ Some t → Ready e.structs t
   pub globals : (n : ℕ) (t : Ty) → slice_get e.globals n ≡ Some t → Ready e.structs t
@@ -207,7 +207,7 @@ pub record Sound (e : form.Context) : Type 0 where
   pub results : (n : ℕ) (s : Signature) → slice_get e.funcs n ≡ Some s → IsResult s.result × Plain s.result
 
 -- a tree's context holds all that a context has shown
-pub record Over (w : World) (d : Context) (e : form.Context) : Type 0 where
+pub record Over (w : World) (d : Context) (e : form.InScope) : Type 0 where
   pub sound : Sound e
   pub funcs : e.funcs ≡ w.funcs
   pub structs : Extends d.structs e.structs
@@ -216,7 +216,7 @@ pub record Over (w : World) (d : Context) (e : form.Context) : Type 0 where
   pub locals : (n : ℕ) (t : Ty) → slice_get d.locals n ≡ Some t → IsNth e.locals n (λ (l : Local). l.ty ≡ t)
   pub addressed : (n : ℕ) (l : Local) → is_in n d.addressed ≡ true → slice_get e.locals n ≡ Some l → l.in_memory ≡ true
 
-pub over_before : (w : World) (v : Bool) (c d : Context) (e : form.Context) → Within v c d → Over w d e → Over w c e
+pub over_before : (w : World) (v : Bool) (c d : Context) (e : form.InScope) → Within v c d → Over w d e → Over w c e
 over_before w v c d e f o = by (looser v c d f)
   where
     by : Within false c d → Over w c e
@@ -233,24 +233,24 @@ over_before w v c d e f o = by (looser v c d f)
 -- ---- judging
 
 -- behind a form: the context is in order and grown, and what was given is as it must be in each tree around
-pub record After (w : World) (v : Bool) (c d : Context) (P : form.Context → Type 0) : Type 0 where
+pub record After (w : World) (v : Bool) (c d : Context) (P : form.InScope → Type 0) : Type 0 where
   pub good : Good w d
   pub within : Within v c d
-  pub fine : (e : form.Context) → Over w d e → P e
+  pub fine : (e : form.InScope) → Over w d e → P e
 
-pub record Keeps {A : Type 0} (w : World) (v : Bool) (j : Judging A) (Fine : form.Context → A → Type 0) : Type 0 where
+pub record Keeps {A : Type 0} (w : World) (v : Bool) (j : Judging A) (Fine : form.InScope → A → Type 0) : Type 0 where
   pub keeps : (c : Context) → Good w c → OnTyped (λ x. After w v c (j c).1 (λ e. Fine e x)) (j c).0
 
 -- what shows nothing new
-pub keeps_here : {A : Type 0} (w : World) (v : Bool) (c : Context) (Fine : form.Context → A → Type 0) (j : Judged A)
-    → Good w c → ((e : form.Context) → Over w c e → OnTyped (Fine e) j) → OnTyped (λ x. After w v c c (λ e. Fine e x)) j
+pub keeps_here : {A : Type 0} (w : World) (v : Bool) (c : Context) (Fine : form.InScope → A → Type 0) (j : Judged A)
+    → Good w c → ((e : form.InScope) → Over w c e → OnTyped (Fine e) j) → OnTyped (λ x. After w v c c (λ e. Fine e x)) j
 keeps_here w v c Fine (typed x) g f = record { good = g; within = within_itself v c; fine = f }
 keeps_here w v c Fine (faulty r rs) g f = tt
 
-pub keeps_lone : {A : Type 0} (w : World) (v : Bool) (j : Judged A) (Fine : form.Context → A → Type 0) → ((e : form.Context) → OnTyped (Fine e) j) → Keeps w v (lone j) Fine
+pub keeps_lone : {A : Type 0} (w : World) (v : Bool) (j : Judged A) (Fine : form.InScope → A → Type 0) → ((e : form.InScope) → OnTyped (Fine e) j) → Keeps w v (lone j) Fine
 keeps_lone w v j Fine f = record { keeps = λ c g. keeps_here w v c Fine j g (λ e o. f e) }
 
-pub keeps_in_turn : {A B : Type 0} (w : World) (v : Bool) (a : Judging A) (b : Judging B) (FineA : form.Context → A → Type 0) (FineB : form.Context → B → Type 0)
+pub keeps_in_turn : {A B : Type 0} (w : World) (v : Bool) (a : Judging A) (b : Judging B) (FineA : form.InScope → A → Type 0) (FineB : form.InScope → B → Type 0)
     → Keeps w v a FineA → Keeps w v b FineB → Keeps w v (in_turn a b) (λ e p. FineA e p.0 × FineB e p.1)
 keeps_in_turn {A} {B} w v a b FineA FineB ka kb = record { keeps = λ c g. by c (a c).1 (a c).0 (ka.keeps c g) }
   where
@@ -272,11 +272,11 @@ keeps_in_turn {A} {B} w v a b FineA FineB ka kb = record { keeps = λ c g. by c 
     by c c1 (typed x) p = then c c1 (b c1).1 x (b c1).0 p (kb.keeps c1 p.good)
     by c c1 (faulty r rs) p = none c (b c1).1 r rs (b c1).0
 
-pub keeps_ruled : {A B : Type 0} (w : World) (v : Bool) (a : Judging A) (rule : Context → A → Judged B) (FineA : form.Context → A → Type 0) (FineB : form.Context → B → Type 0)
-    → Keeps w v a FineA → ((d : Context) (e : form.Context) (x : A) → Good w d → Over w d e → FineA e x → OnTyped (FineB e) (rule d x)) → Keeps w v (ruled a rule) FineB
+pub keeps_ruled : {A B : Type 0} (w : World) (v : Bool) (a : Judging A) (rule : Context → A → Judged B) (FineA : form.InScope → A → Type 0) (FineB : form.InScope → B → Type 0)
+    → Keeps w v a FineA → ((d : Context) (e : form.InScope) (x : A) → Good w d → Over w d e → FineA e x → OnTyped (FineB e) (rule d x)) → Keeps w v (ruled a rule) FineB
 keeps_ruled {A} {B} w v a rule FineA FineB ka f = record { keeps = λ c g. by c (a c).1 (a c).0 (ka.keeps c g) }
   where
-    then : (c d : Context) (P : form.Context → Type 0) (k : Judged B) → After w v c d P → ((e : form.Context) → Over w d e → P e → OnTyped (FineB e) k) → OnTyped (λ y. After w v c d (λ e. FineB e y)) k
+    then : (c d : Context) (P : form.InScope → Type 0) (k : Judged B) → After w v c d P → ((e : form.InScope) → Over w d e → P e → OnTyped (FineB e) k) → OnTyped (λ y. After w v c d (λ e. FineB e y)) k
     then c d P (typed y) p h = record { good = p.good; within = p.within; fine = λ e o. h e o (p.fine e o) }
     then c d P (faulty r rs) p h = tt
 
@@ -285,10 +285,10 @@ keeps_ruled {A} {B} w v a rule FineA FineB ka f = record { keeps = λ c g. by c 
     by c d (faulty r rs) p = tt
 
 -- what is asked less of
-pub keeps_weaker : {A : Type 0} (w : World) (v : Bool) (a : Judging A) (Fine Less : form.Context → A → Type 0)
-    → Keeps w v a Fine → ((e : form.Context) (x : A) → Fine e x → Less e x) → Keeps w v a Less
+pub keeps_weaker : {A : Type 0} (w : World) (v : Bool) (a : Judging A) (Fine Less : form.InScope → A → Type 0)
+    → Keeps w v a Fine → ((e : form.InScope) (x : A) → Fine e x → Less e x) → Keeps w v a Less
 keeps_weaker w v a Fine Less k f = record { keeps = λ c g. on_weaker _ _ (a c).0 (k.keeps c g) (λ x p. record { good = p.good; within = p.within; fine = λ e o. f e x (p.fine e o) }) }
 
 -- an expression in a statement
-pub keeps_looser : {A : Type 0} (w : World) (v : Bool) (a : Judging A) (Fine : form.Context → A → Type 0) → Keeps w v a Fine → Keeps w false a Fine
+pub keeps_looser : {A : Type 0} (w : World) (v : Bool) (a : Judging A) (Fine : form.InScope → A → Type 0) → Keeps w v a Fine → Keeps w false a Fine
 keeps_looser w v a Fine k = record { keeps = λ c g. on_weaker _ _ (a c).0 (k.keeps c g) (λ x p. record { good = p.good; within = looser v c (a c).1 p.within; fine = p.fine }) }

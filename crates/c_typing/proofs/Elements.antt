@@ -5,9 +5,9 @@ use Rattle.std.proofs.lemmas.List.Sums.{sum_by-append}
 use Rattle.std.proofs.lemmas.List.Folds.{list_any-append}
 use Rattle.c_tree.specs.Typed.{Ty, Layout}
 use Rattle.c_tree.specs.TypedLayout.{size_in, IsSized}
-use Rattle.c_typing.specs.Scope.{taken}
 use Rattle.c_typing.proofs.Extending.{Extends, size_kept, undeclared}
 use Rattle.c_typing.proofs.Carried.{declared_in, bytes_taken}
+use Rattle.c_tree.specs.TypedForm.{taken}
 
 pub nothing_at : {X : Type 0} (n : ℕ) (x : X) → slice_get {X = X} [] n ≡ Some x → ⊥
 nothing_at n x h = cc

@@ -10,14 +10,14 @@ use Rattle.c_lex.specs.declared.refusal.Kind.TheVariants.{DoubleName}
 use Rattle.c_tree.specs.declared.syntax.Name.{Name}
 use Rattle.c_tree.specs.declared.syntax.Pointer.{Pointer}
 use Rattle.c_tree.specs.Syntax as source
-use Rattle.c_tree.specs.Typed.{Ty, Layout, Local, GlobalVar, Func, Typed, Stmt}
+use Rattle.c_tree.specs.Typed.{Ty, Layout, Local, GlobalVar, Func, Typed, Stmt, stmts_of}
 use Rattle.c_tree.specs.TypedLayout.{greatest_object}
 use Rattle.c_tree.specs.TypedForm.{IsScalar, IsResult, IsLocal, Inside, AreWell, IsNth, Signature, signature_of, context_of, IsFunc}
 use Rattle.c_tree.specs.TypedForm as form
 use Rattle.c_typing.specs.Faults.{Judged, typed, both, ◌>>=◌}
-use Rattle.c_typing.specs.Scope.{Meaning, global_name, local_name, function_name, library_name, Frame, Context, bytes_of, or_else, found, is_double, declared, back_to}
+use Rattle.c_typing.specs.Scope.{Binding, global_name, local_name, function_name, library_name, Frame, Context, bytes_of, or_else, found, is_double, declared, back_to}
 use Rattle.c_typing.specs.Judgement.{in_turn, judged_specs}
-use Rattle.c_typing.specs.Statements.{stmts_of, judged_stmts}
+use Rattle.c_typing.specs.Statements.{judged_stmts}
 use Rattle.c_typing.specs.Types.{behind_pointers}
 use Rattle.c_typing.specs.Numbering.{Param, is_block, is_in, func_of, locals_from}
 use Rattle.c_typing.specs.Programs.{judged_globals, judged_param_list, place_of_name, one_body, with_name, with_function, in_scope_of, judged_body, body_behind, judged_function, result_type, Made, joined, judged_rest, judged_external, judged_externals}
@@ -38,13 +38,13 @@ use Rattle.c_typing.proofs.HeadsWell.{typed_given, both_is, bind_is, same_bytes_
 abbrev pub W : List Signature → ℕ → World
 W fs k = record { funcs = fs; params = k }
 
-named_world : (fs : List Signature) (k j : ℕ) (c d : Context) → ((n : ℕ) (t : Ty) → slice_get c.globals n ≡ Some t → slice_get d.globals n ≡ Some t) → ((n : ℕ) (t : Ty) → slice_get c.locals n ≡ Some t → slice_get d.locals n ≡ Some t) → (m : Meaning) → IsNamed (W fs k) c m → IsNamed (W fs j) d m
+named_world : (fs : List Signature) (k j : ℕ) (c d : Context) → ((n : ℕ) (t : Ty) → slice_get c.globals n ≡ Some t → slice_get d.globals n ≡ Some t) → ((n : ℕ) (t : Ty) → slice_get c.locals n ≡ Some t → slice_get d.locals n ≡ Some t) → (m : Binding) → IsNamed (W fs k) c m → IsNamed (W fs j) d m
 named_world fs k j c d f g (global_name n t) h = f n t h
 named_world fs k j c d f g (local_name n t) h = g n t h
 named_world fs k j c d f g (function_name n ps r) h = h
 named_world fs k j c d f g (library_name which) h = h
 
-named_free : (fs : List Signature) (k j : ℕ) (c d : Context) → ((n : ℕ) (t : Ty) → slice_get c.globals n ≡ Some t → slice_get d.globals n ≡ Some t) → (m : Meaning) → NotLocal m → IsNamed (W fs k) c m → IsNamed (W fs j) d m
+named_free : (fs : List Signature) (k j : ℕ) (c d : Context) → ((n : ℕ) (t : Ty) → slice_get c.globals n ≡ Some t → slice_get d.globals n ≡ Some t) → (m : Binding) → NotLocal m → IsNamed (W fs k) c m → IsNamed (W fs j) d m
 named_free fs k j c d f (global_name n t) l h = f n t h
 named_free fs k j c d f (local_name n t) l h = absurd l
 named_free fs k j c d f (function_name n ps r) l h = h
@@ -211,7 +211,7 @@ start_good fs c f = record {
   few = omega arith;
 }
   where
-    by : (q : List ℕ) (m : Meaning) → visible c q ≡ Some m → IsNamed (W fs 0) (start c) m
+    by : (q : List ℕ) (m : Binding) → visible c q ≡ Some m → IsNamed (W fs 0) (start c) m
     by q m h = named_free fs 0 0 c (start c) (λ n t k. k) m (f.free q m (sym (at_file c f.outer q) ∙ h)) (f.good.names q m h)
 
 -- behind a function's name
@@ -221,7 +221,7 @@ Behind around p x y = record p { inner = x; outer = around.outer; functions = y 
 abbrev functions_with : Context → Name → List (List ℕ)
 functions_with c n = if list_any (bytes_eq (bytes_of c.text n)) c.functions then c.functions else c.functions ++ bytes_of c.text n ∷ []
 
-declared_is : (c : Context) (n : Name) (m : Meaning) → declared c n m ≡ record c { inner = if is_double c n then c.inner else c.inner ++ (bytes_of c.text n, m) ∷ [] }
+declared_is : (c : Context) (n : Name) (m : Binding) → declared c n m ≡ record c { inner = if is_double c n then c.inner else c.inner ++ (bytes_of c.text n, m) ∷ [] }
 declared_is c n m = by (is_double c n)
   where
     by : (b : Bool) → (if b then c else record c { inner = c.inner ++ (bytes_of c.text n, m) ∷ [] }) ≡ record c { inner = if b then c.inner else c.inner ++ (bytes_of c.text n, m) ∷ [] }
@@ -249,23 +249,23 @@ module _ (fs : List Signature) (names : List (List ℕ)) (around p : Context) (n
   same_globals : D.globals ≡ around.globals
   same_globals = h.given.within.1.globals
 
-  named_before : (q : List ℕ) (m : Meaning) → lookup (bytes_eq q) around.inner ≡ Some m → NotLocal m × IsNamed (W fs 0) D m
+  named_before : (q : List ℕ) (m : Binding) → lookup (bytes_eq q) around.inner ≡ Some m → NotLocal m × IsNamed (W fs 0) D m
   named_before q m k =
       let l = h.file.free q m k in
       (l, named_free fs 0 0 around D (λ i t g. ap (λ ts. slice_get ts i) same_globals ∙ g) m l (h.file.good.names q m (at_file around h.file.outer q ∙ k)))
 
-  named_here : (q : List ℕ) (m : Meaning) → lookup (bytes_eq q) x ≡ Some m → NotLocal m × IsNamed (W fs 0) D m
+  named_here : (q : List ℕ) (m : Binding) → lookup (bytes_eq q) x ≡ Some m → NotLocal m × IsNamed (W fs 0) D m
   named_here q m k = by h.entry
     where
       new : IsNew (back_to around p) names n D (map (λ (z : Param). z.ty) xs) r → (lookup (bytes_eq q) around.inner ≡ Some m) ⊎ ((bytes_eq q (bytes_of p.text n) ≡ true) × (function_name (place_of_name (bytes_of p.text n) names) (map (λ (z : Param). z.ty) xs) r ≡ m)) → NotLocal m × IsNamed (W fs 0) D m
       new i (inl g) = named_before q m g
-      new i (inr g) = subst (λ (z : Meaning). NotLocal z × IsNamed (W fs 0) D z) g.1 (tt, h.agrees q (place_of_name (bytes_of p.text n) names) (map (λ (z : Param). z.ty) xs) r (k ∙ ap Some (sym g.1)))
+      new i (inr g) = subst (λ (z : Binding). NotLocal z × IsNamed (W fs 0) D z) g.1 (tt, h.agrees q (place_of_name (bytes_of p.text n) names) (map (λ (z : Param). z.ty) xs) r (k ∙ ap Some (sym g.1)))
 
       by : WasFunction (back_to around p) n D (map (λ (z : Param). z.ty) xs) r ⊎ IsNew (back_to around p) names n D (map (λ (z : Param). z.ty) xs) r → NotLocal m × IsNamed (W fs 0) D m
       by (inl i) = named_before q m (ap (lookup (bytes_eq q)) (sym i.2) ∙ k)
       by (inr i) = new i (new_name around.inner q (bytes_of p.text n) (function_name (place_of_name (bytes_of p.text n) names) (map (λ (z : Param). z.ty) xs) r) m (sym (ap (lookup (bytes_eq q)) i.3) ∙ k))
 
-  named_visible : (q : List ℕ) (m : Meaning) → visible D q ≡ Some m → NotLocal m × IsNamed (W fs 0) D m
+  named_visible : (q : List ℕ) (m : Binding) → visible D q ≡ Some m → NotLocal m × IsNamed (W fs 0) D m
   named_visible q m k = named_here q m (sym (at_file D h.file.outer q) ∙ k)
 
   behind_good : Good (W fs 0) D
@@ -319,7 +319,7 @@ module _ (fs : List Signature) (names : List (List ℕ)) (around p : Context) (n
     few = h.given.good.few;
   }
     where
-      by : (q : List ℕ) (m : Meaning) (o : Option Meaning) → lookup (bytes_eq q) p.inner ≡ o → or_else o (or_else (lookup (bytes_eq q) x) (found around.outer q)) ≡ Some m → IsNamed (W fs (length xs)) B m
+      by : (q : List ℕ) (m : Binding) (o : Option Binding) → lookup (bytes_eq q) p.inner ≡ o → or_else o (or_else (lookup (bytes_eq q) x) (found around.outer q)) ≡ Some m → IsNamed (W fs (length xs)) B m
       by q m (Some z) e k = named_world fs 0 (length xs) p B (λ i t g. g) (λ i t g. g) m (h.given.good.names q m (ap (λ o. or_else o (found p.outer q)) e ∙ k))
       by q m None e k = named_world fs 0 (length xs) D B (λ i t g. g) (λ i t g. g) m (named_visible q m k).1
 
@@ -418,7 +418,7 @@ module _ (fs : List Signature) (names : List (List ℕ)) (around p : Context) (n
 
 -- ---- a function's body, in the tree of the whole program
 
-abbrev tree_of : Typed → Context → form.Context
+abbrev tree_of : Typed → Context → form.InScope
 tree_of t z = record { structs = t.structs; globals = map (λ (g : GlobalVar). g.ty) t.globals; literals = t.literals; funcs = map signature_of t.funcs; locals = locals_from 0 z.addressed z.locals }
 
 or_true : (a b : Bool) → b ≡ true → (a || b) ≡ true
@@ -525,7 +525,7 @@ defined_step fs names around p n xs r x y h z ss a fresh result = record {
           globals = λ i t e. k.globals i t (g.globals i t e);
         }
 
-    named : (q : List ℕ) (m : Meaning) → NotLocal m × IsNamed (W fs 0) (Behind around p x y) m → IsNamed (W fs 0) (Closed around z x n) m
+    named : (q : List ℕ) (m : Binding) → NotLocal m × IsNamed (W fs 0) (Behind around p x y) m → IsNamed (W fs 0) (Closed around z x n) m
     named q m k = named_free fs 0 0 (Behind around p x y) (Closed around z x n) a.within.0.globals m k.0 k.1
 
     closed_good : Good (W fs 0) (Closed around z x n)

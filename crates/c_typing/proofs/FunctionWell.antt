@@ -244,13 +244,13 @@ fits_itself mutex h = absurd h
 fits_itself (array t n) h = absurd h
 fits_itself (structure n) h = absurd h
 
-abbrev IsCopied : form.Context → ℕ → (ℕ × Param) → Type 0
+abbrev IsCopied : form.InScope → ℕ → (ℕ × Param) → Type 0
 IsCopied e n x = IsNth e.locals n (λ (l : Local). l.ty ≡ x.1.ty) × IsNth e.locals x.0 (λ (l : Local). l.ty ≡ x.1.ty) × IsScalar x.1.ty
 
-abbrev Inner : form.Context → ℕ → Ty → Inside
+abbrev Inner : form.InScope → ℕ → Ty → Inside
 Inner e k r = record { context = e; params = k; result = r }
 
-copies_well : (e : form.Context) (k : ℕ) (r : Ty) (i : ℕ) (xs : List (ℕ × Param)) (body : Stmts) → ((j : ℕ) (x : ℕ × Param) → slice_get xs j ≡ Some x → IsCopied e (k + (i + j)) x) → AreWell (Inner e k r) false body → AreWell (Inner e k r) false (copies k i xs body)
+copies_well : (e : form.InScope) (k : ℕ) (r : Ty) (i : ℕ) (xs : List (ℕ × Param)) (body : Stmts) → ((j : ℕ) (x : ℕ × Param) → slice_get xs j ≡ Some x → IsCopied e (k + (i + j)) x) → AreWell (Inner e k r) false body → AreWell (Inner e k r) false (copies k i xs body)
 copies_well e k r i [] body f h = h
 copies_well e k r i (x ∷ xs) body f h =
     let z : k + (i + 0) ≡ k + i = omega arith in
@@ -262,7 +262,7 @@ copies_well e k r i (x ∷ xs) body f h =
     shift : (j : ℕ) → k + (i + suc j) ≡ k + ((1 + i) + j)
     shift j = omega arith
 
-pub body_well : (e : form.Context) (ps : List Param) (ts : List Ty) (addressed : List ℕ) (r : Ty) (body : Stmts) → AreFirst ps ts
+pub body_well : (e : form.InScope) (ps : List Param) (ts : List Ty) (addressed : List ℕ) (r : Ty) (body : Stmts) → AreFirst ps ts
     → AreWell (Inner (with_locals e (locals_from 0 addressed ts)) (length ps) r) false body → AreWell (Inner (with_locals e (all_locals ps ts addressed)) (length ps) r) false (func_of ps ts addressed r body).body
 body_well e ps ts addressed r body f h =
     copies_well (with_locals e (all_locals ps ts addressed)) (length ps) r 0 (addressed_params 0 ps addressed) (renumbered_stmts (number_of (length ps) (addressed_params 0 ps addressed)) body)

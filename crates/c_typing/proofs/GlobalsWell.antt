@@ -15,11 +15,11 @@ use Rattle.c_tree.specs.declared.syntax.Name.{Name}
 use Rattle.c_tree.specs.Syntax as source
 use Rattle.c_tree.specs.Typed.{Ty, void, integer, mutex, pointer, array, structure, Layout, Init, zero_bytes, number, literal_at, GlobalVar, Expr, at, ExprNode, literal, decay, node_of}
 use Rattle.c_tree.specs.TypedLayout.{size_in, IsSized}
-use Rattle.c_tree.specs.TypedForm.{IsInit, IsTyped, IsTypedNode}
+use Rattle.c_tree.specs.TypedForm.{IsInit, IsTyped, IsTypedNode, taken}
 use Rattle.c_tree.specs.TypedForm as form
 use Rattle.c_typing.specs.Faults.{Judged, typed, faulty, refuse, both, ◌>>=◌}
 use Rattle.c_typing.specs.Types.{same_int}
-use Rattle.c_typing.specs.Scope.{Meaning, global_name, local_name, function_name, Context, bytes_of, or_else, is_double, fresh, within, taken, most_plain, fits_plain}
+use Rattle.c_typing.specs.Scope.{Binding, global_name, local_name, function_name, Context, bytes_of, or_else, is_double, fresh, within, most_plain, fits_plain}
 use Rattle.c_typing.specs.Rules.{is_zero}
 use Rattle.c_typing.specs.Constants.{constant_value}
 use Rattle.c_typing.specs.Judgement.{lone, in_turn, valued, Declarator, object_declared, judged, name_in}
@@ -37,11 +37,11 @@ use Rattle.c_typing.proofs.StatedWell.{declarator_keeps, name_good, lookup_last,
 
 -- ---- what a global starts with
 
-literal_in : (e : form.Context) (ty : Ty) (node : ExprNode) → IsTypedNode e ty node → OnSome (λ n. n < length e.literals) (literal_of node)
+literal_in : (e : form.InScope) (ty : Ty) (node : ExprNode) → IsTypedNode e ty node → OnSome (λ n. n < length e.literals) (literal_of node)
 literal_in e ty (decay (at p t (literal n))) h = slice_get_within e.literals n h.0.0 h.0.1
 literal_in e ty _ h = tt
 
-literal_there : (e : form.Context) (x : Expr) → IsTyped e x → OnSome (λ n. n < length e.literals) (literal_of (node_of x))
+literal_there : (e : form.InScope) (x : Expr) → IsTyped e x → OnSome (λ n. n < length e.literals) (literal_of (node_of x))
 literal_there e (at p ty node) h = literal_in e ty node h
 
 string_well : (ls : List (List ℕ)) (t : Ty) (o : Option ℕ) → OnSome (λ n. n < length ls) o → OnSome (IsInit ls (pointer t)) (string_at t o)
@@ -57,7 +57,7 @@ string_well ls (pointer t) o h = tt
 string_well ls (array t n) o h = tt
 string_well ls (structure n) o h = tt
 
-pointer_well : (e : form.Context) (c : Context) (t : Ty) (s : source.Expr) (x : Expr) → IsTyped e x → OnSome (IsInit e.literals (pointer t)) (pointer_at c t s x)
+pointer_well : (e : form.InScope) (c : Context) (t : Ty) (s : source.Expr) (x : Expr) → IsTyped e x → OnSome (IsInit e.literals (pointer t)) (pointer_at c t s x)
 pointer_well e c t s x h = by (is_null_word s || is_zero (node_of x))
   where
     by : (b : Bool) → OnSome (IsInit e.literals (pointer t)) (if b then Some zero_bytes else string_at t (literal_of (node_of x)))
@@ -68,7 +68,7 @@ number_well : (ls : List (List ℕ)) (t : IntType) (o : Option Num) → OnSome (
 number_well ls t None = tt
 number_well ls t (Some n) = (refl, wrapped_value-in_range t n.value)
 
-init_well : (e : form.Context) (c : Context) (t : Ty) (s : source.Expr) (x : Expr) → IsTyped e x → OnSome (IsInit e.literals t) (init_at c t s x)
+init_well : (e : form.InScope) (c : Context) (t : Ty) (s : source.Expr) (x : Expr) → IsTyped e x → OnSome (IsInit e.literals t) (init_at c t s x)
 init_well e c (integer t) s x h = number_well e.literals t (constant_value c s x)
 init_well e c (pointer t) s x h = pointer_well e c t s x h
 init_well e c void s x h = tt
@@ -80,7 +80,7 @@ started_well : (ls : List (List ℕ)) (t : Ty) (place : ℕ) (o : Option Init) �
 started_well ls t place (Some i) h = h
 started_well ls t place None h = tt
 
-abbrev Starts : Ty → form.Context → Init → Type 0
+abbrev Starts : Ty → form.InScope → Init → Type 0
 Starts t e i = IsInit e.literals t i
 
 init_keeps : (w : World) (place : ℕ) (t : Ty) (o : Option source.Expr) → Keeps w true (judged_global_init place (typed t) o) (Starts t)
@@ -129,12 +129,12 @@ global_good w c g n t o small = by (is_double c n)
     by false = name_good w (with_size c t) (size_good w c g t o small) n (global_name (length c.globals) t) (get_last c.globals t)
 
 -- names at file scope mean no locals
-abbrev pub NotLocal : Meaning → Type 0
+abbrev pub NotLocal : Binding → Type 0
 NotLocal (local_name n t) = ⊥
 NotLocal m = Unit {0}
 
 abbrev pub Free : Context → Type 0
-Free c = (q : List ℕ) (m : Meaning) → lookup (bytes_eq q) c.inner ≡ Some m → NotLocal m
+Free c = (q : List ℕ) (m : Binding) → lookup (bytes_eq q) c.inner ≡ Some m → NotLocal m
 
 -- the functions that a scope has are those that another has
 abbrev pub NoFunctions : (c d : Context) → Type 0
@@ -216,10 +216,10 @@ globals_further w b c d gs hs f k = record {
     append_held s ls (g ∷ gs) hs h k = (h.0, append_held s ls gs hs h.1 k)
 
 -- a name more
-one_name : (q k : List ℕ) (c : Context) (v m : Meaning) → lookup (bytes_eq q) (c.inner ++ (k, v) ∷ []) ≡ Some m → (lookup (bytes_eq q) c.inner ≡ Some m) ⊎ (v ≡ m)
+one_name : (q k : List ℕ) (c : Context) (v m : Binding) → lookup (bytes_eq q) (c.inner ++ (k, v) ∷ []) ≡ Some m → (lookup (bytes_eq q) c.inner ≡ Some m) ⊎ (v ≡ m)
 one_name q k c v m h = by (lookup (bytes_eq q) c.inner) (bytes_eq q k) (sym (lookup_last (bytes_eq q) c.inner k v) ∙ h)
   where
-    by : (o : Option Meaning) (b : Bool) → or_else o (if b then Some v else None) ≡ Some m → (o ≡ Some m) ⊎ (v ≡ m)
+    by : (o : Option Binding) (b : Bool) → or_else o (if b then Some v else None) ≡ Some m → (o ≡ Some m) ⊎ (v ≡ m)
     by (Some x) b h = inl h
     by None true h = inr cc
     by None false h = inl h
@@ -245,7 +245,7 @@ name_step w c k n t o small = by (is_double c n) (global_good w c k n t o small)
     grown true = record { text = refl; structs = extends_itself c.structs; begun = λ n h. h; begun_kept = λ n l b h. h; count = omega arith; literals = λ n bs h. h; globals = λ m u h. get_before c.globals (t ∷ []) m u h }
     grown false = record { text = refl; structs = extends_itself c.structs; begun = λ n h. h; begun_kept = λ n l b h. h; count = omega arith; literals = λ n bs h. h; globals = λ m u h. get_before c.globals (t ∷ []) m u h }
 
-    free : (q : List ℕ) (m : Meaning) → Free c → (lookup (bytes_eq q) c.inner ≡ Some m) ⊎ (global_name (length c.globals) t ≡ m) → NotLocal m
+    free : (q : List ℕ) (m : Binding) → Free c → (lookup (bytes_eq q) c.inner ≡ Some m) ⊎ (global_name (length c.globals) t ≡ m) → NotLocal m
     free q m f (inl h) = f q m h
     free q m f (inr e) = subst NotLocal e tt
 

@@ -10,14 +10,14 @@ use Rattle.c_lex.specs.declared.refusal.Kind.TheVariants.{UnknownName, DoubleNam
 use Rattle.c_tree.specs.declared.syntax.Name.{Name}
 use Rattle.c_tree.specs.declared.syntax.Pointer.{Pointer}
 use Rattle.c_tree.specs.Syntax as source
-use Rattle.c_tree.specs.Typed.{Ty, void, integer, mutex, pointer, array, structure, Func, Stmt}
+use Rattle.c_tree.specs.Typed.{Ty, void, integer, mutex, pointer, array, structure, Func, Stmt, stmts_of}
 use Rattle.c_tree.specs.TypedLayout.{size_in}
-use Rattle.c_tree.specs.TypedForm.{IsResult, Signature, signature_of}
+use Rattle.c_tree.specs.TypedForm.{IsResult, Signature, signature_of, taken}
 use Rattle.c_typing.specs.Faults.{Judged, typed, faulty, unless, both, ◌>>=◌}
 use Rattle.c_typing.specs.Types.{is_struct_or_mutex, same_type, same_types, behind_pointers}
-use Rattle.c_typing.specs.Scope.{Meaning, global_name, local_name, function_name, library_name, Frame, Context, bytes_of, library, or_else, is_double, declared, inside, back_to, within, taken}
+use Rattle.c_typing.specs.Scope.{Binding, global_name, local_name, function_name, library_name, Frame, Context, bytes_of, library, or_else, is_double, declared, inside, back_to, within}
 use Rattle.c_typing.specs.Judgement.{in_turn, judged_specs, judged_parts, specified, place_of_specs, object_declared}
-use Rattle.c_typing.specs.Statements.{or_int, judged_declarator, name_of, stmts_of, judged_stmts}
+use Rattle.c_typing.specs.Statements.{or_int, judged_declarator, name_of, judged_stmts}
 use Rattle.c_typing.specs.Numbering.{Param, func_of}
 use Rattle.c_typing.specs.Programs.{judged_global_init, with_global, judged_global, judged_globals, judged_size, judged_sizes, with_param, judged_param, judged_params, none_if, judged_param_list, defined_name, defined_names, place_of_name, once, agrees, is_new, first_time, one_body, before_name, not_library, result_type, name_fine, type_fine, types_or, with_name, with_function, with_body, in_scope_of, judged_body, body_behind, judged_function, Made, joined, judged_rest, judged_external, judged_externals}
 use Rattle.c_typing.proofs.Carried.{OnTyped, on_bind, on_unless, Plain}
@@ -60,7 +60,7 @@ typed_same x y e = cc
 -- ---- scopes that grow
 
 abbrev pub Seen : Context → Context → Type 0
-Seen c d = (q : List ℕ) (m : Meaning) → lookup (bytes_eq q) c.inner ≡ Some m → lookup (bytes_eq q) d.inner ≡ Some m
+Seen c d = (q : List ℕ) (m : Binding) → lookup (bytes_eq q) c.inner ≡ Some m → lookup (bytes_eq q) d.inner ≡ Some m
 
 -- a function's number is its place among the names, and it is among them
 abbrev pub ArePlaced : List (List ℕ) → Context → Type 0
@@ -114,15 +114,15 @@ headed_still names c d e =
 
 -- ---- a name more
 
-pub new_name : (inner : Frame) (q k : List ℕ) (v m : Meaning) → lookup (bytes_eq q) (inner ++ (k, v) ∷ []) ≡ Some m → (lookup (bytes_eq q) inner ≡ Some m) ⊎ ((bytes_eq q k ≡ true) × (v ≡ m))
+pub new_name : (inner : Frame) (q k : List ℕ) (v m : Binding) → lookup (bytes_eq q) (inner ++ (k, v) ∷ []) ≡ Some m → (lookup (bytes_eq q) inner ≡ Some m) ⊎ ((bytes_eq q k ≡ true) × (v ≡ m))
 new_name inner q k v m h = by (lookup (bytes_eq q) inner) (bytes_eq q k) refl (sym (lookup_last (bytes_eq q) inner k v) ∙ h)
   where
-    by : (o : Option Meaning) (b : Bool) → bytes_eq q k ≡ b → or_else o (if b then Some v else None) ≡ Some m → (o ≡ Some m) ⊎ ((bytes_eq q k ≡ true) × (v ≡ m))
+    by : (o : Option Binding) (b : Bool) → bytes_eq q k ≡ b → or_else o (if b then Some v else None) ≡ Some m → (o ≡ Some m) ⊎ ((bytes_eq q k ≡ true) × (v ≡ m))
     by (Some x) b e h = inl h
     by None true e h = inr (e, cc)
     by None false e h = absurd cc
 
-old_name : (inner : Frame) (q k : List ℕ) (v m : Meaning) → lookup (bytes_eq q) inner ≡ Some m → lookup (bytes_eq q) (inner ++ (k, v) ∷ []) ≡ Some m
+old_name : (inner : Frame) (q k : List ℕ) (v m : Binding) → lookup (bytes_eq q) inner ≡ Some m → lookup (bytes_eq q) (inner ++ (k, v) ∷ []) ≡ Some m
 old_name inner q k v m h = lookup_last (bytes_eq q) inner k v ∙ ap (λ o. or_else o (if bytes_eq q k then Some v else None)) h
 
 pub same_bytes_is : (p q : List ℕ) → bytes_eq p q ≡ true → p ≡ q
@@ -131,7 +131,7 @@ same_bytes_is p q h = (bytes_eq-Decides p q).0 h
 pub bytes_same : (q : List ℕ) → bytes_eq q q ≡ true
 bytes_same q = (bytes_eq-Decides q q).1 refl
 
-pub declared_inner : (c : Context) (n : Name) (m : Meaning) → (declared c n m).inner ≡ (if is_double c n then c.inner else c.inner ++ (bytes_of c.text n, m) ∷ [])
+pub declared_inner : (c : Context) (n : Name) (m : Binding) → (declared c n m).inner ≡ (if is_double c n then c.inner else c.inner ++ (bytes_of c.text n, m) ∷ [])
 declared_inner c n m = by (is_double c n)
   where
     by : (b : Bool) → (if b then c else record c { inner = c.inner ++ (bytes_of c.text n, m) ∷ [] }).inner ≡ (if b then c.inner else c.inner ++ (bytes_of c.text n, m) ∷ [])
@@ -139,7 +139,7 @@ declared_inner c n m = by (is_double c n)
     by false = refl
 
 -- a name that is no function's
-other_name : (names : List (List ℕ)) (c d : Context) (k : List ℕ) (v : Meaning) → d.text ≡ c.text → (d.inner ≡ c.inner) ⊎ (d.inner ≡ c.inner ++ (k, v) ∷ []) → ((n : ℕ) (ps : List Ty) (r : Ty) → v ≡ function_name n ps r → ⊥) → Headed names c d [] []
+other_name : (names : List (List ℕ)) (c d : Context) (k : List ℕ) (v : Binding) → d.text ≡ c.text → (d.inner ≡ c.inner) ⊎ (d.inner ≡ c.inner ++ (k, v) ∷ []) → ((n : ℕ) (ps : List Ty) (r : Ty) → v ≡ function_name n ps r → ⊥) → Headed names c d [] []
 other_name names c d k v t i f = record { text = t; seen = seen i; placed = placed i; heads = tt }
   where
     seen : (d.inner ≡ c.inner) ⊎ (d.inner ≡ c.inner ++ (k, v) ∷ []) → Seen c d
@@ -311,14 +311,14 @@ entry c names n body xs r a t = by (before_name c n) refl a.once_at a.first_at t
     inner : (b : Bool) → is_double (with_name c n) n ≡ b → (with_function c names n (map (λ (p : Param). p.ty) xs) r).inner ≡ (if b then c.inner else c.inner ++ (bytes_of c.text n, function_name (place_of_name (bytes_of c.text n) names) (map (λ (p : Param). p.ty) xs) r) ∷ [])
     inner b e = declared_inner (with_name c n) n (function_name (place_of_name (bytes_of c.text n) names) (map (λ (p : Param). p.ty) xs) r) ∙ ap (λ b. if b then c.inner else c.inner ++ (bytes_of c.text n, function_name (place_of_name (bytes_of c.text n) names) (map (λ (p : Param). p.ty) xs) r) ∷ []) e
 
-    double : (o : Option Meaning) → lookup (bytes_eq (bytes_of c.text n)) c.inner ≡ o → is_double (with_name c n) n ≡ is_some o
+    double : (o : Option Binding) → lookup (bytes_eq (bytes_of c.text n)) c.inner ≡ o → is_double (with_name c n) n ≡ is_some o
     double o e = ap (λ o. is_some o || is_some (lookup (bytes_eq (bytes_of c.text n)) library)) e ∙ last (is_some o)
       where
         last : (b : Bool) → (b || is_some (lookup (bytes_eq (bytes_of c.text n)) library)) ≡ b
         last true = refl
         last false = a.no_library
 
-    by : (o : Option Meaning) → lookup (bytes_eq (bytes_of c.text n)) c.inner ≡ o → once n.from o ≡ typed (tt {0}) → first_time c names n (is_new o) ≡ typed (tt {0}) → agrees n.from (map (λ (p : Param). p.ty) xs) r o ≡ typed (tt {0})
+    by : (o : Option Binding) → lookup (bytes_eq (bytes_of c.text n)) c.inner ≡ o → once n.from o ≡ typed (tt {0}) → first_time c names n (is_new o) ≡ typed (tt {0}) → agrees n.from (map (λ (p : Param). p.ty) xs) r o ≡ typed (tt {0})
         → WasFunction c n (with_function c names n (map (λ (p : Param). p.ty) xs) r) (map (λ (p : Param). p.ty) xs) r ⊎ IsNew c names n (with_function c names n (map (λ (p : Param). p.ty) xs) r) (map (λ (p : Param). p.ty) xs) r
     by None e o f t =
         let k = first_is c names n f in

@@ -18,7 +18,7 @@ use Rattle.c_tree.specs.TypedForm as form
 use Rattle.c_typing.specs.Faults.{Judged, typed, faulty, refuse, both, ◌>>=◌}
 use Rattle.c_typing.specs.Types.{same_type, same_types, behind_pointers}
 use Rattle.c_typing.specs.Scope.{Library, printf, malloc, free, memcpy, thrd_create, thrd_join, mtx_init, mtx_lock, mtx_unlock, mtx_destroy, constant}
-use Rattle.c_typing.specs.Scope.{Meaning, global_name, local_name, function_name, library_name, Context, bytes_of, meaning_of, member_typed, member_numbered, member_in, member_of}
+use Rattle.c_typing.specs.Scope.{Binding, global_name, local_name, function_name, library_name, Context, bytes_of, meaning_of, member_typed, member_numbered, member_in, member_of}
 use Rattle.c_typing.specs.Rules.{value_of, tested, is_lvalue, target, address, member_found, selected_by, selected, pointed, minus_by, plus_by, not_by, complement_by, element, chosen, cast, size_number}
 use Rattle.c_typing.specs.Formats.{pieces_of}
 use Rattle.c_typing.specs.Literals.{joined_bytes, place_of_parts}
@@ -35,11 +35,11 @@ use Rattle.c_typing.proofs.Shown.{spelled_after, addressed_after, is_addressed, 
 use Rattle.c_typing.proofs.Braced.{AreObjects, AreMembers, braced_keeps}
 
 -- of an expression that is a name, in brackets or not, or none
-abbrev pub FineFor : Option Name → form.Context → Expr → Type 0
+abbrev pub FineFor : Option Name → form.InScope → Expr → Type 0
 FineFor None e x = Made e x
 FineFor (Some n) e x = Fine e x
 
-pub fine_of : (o : Option Name) (e : form.Context) (x : Expr) → FineFor o e x → Fine e x
+pub fine_of : (o : Option Name) (e : form.InScope) (x : Expr) → FineFor o e x → Fine e x
 fine_of None e x h = h.0
 fine_of (Some n) e x h = h
 
@@ -48,7 +48,7 @@ valued_keeps w o j kj = keeps_ruled w true j (λ c x. typed (value_of x)) (FineF
 
 -- ---- &
 
-in_memory : (e : form.Context) (x : Expr) → is_lvalue (node_of x) ≡ true → NoLocal x → IsInMemory e (node_of x)
+in_memory : (e : form.InScope) (x : Expr) → is_lvalue (node_of x) ≡ true → NoLocal x → IsInMemory e (node_of x)
 in_memory e (at place ty (literal n)) h k = tt
 in_memory e (at place ty (global n)) h k = tt
 in_memory e (at place ty (local n)) h k = absurd k
@@ -56,14 +56,14 @@ in_memory e (at place ty (deref x)) h k = tt
 in_memory e (at place ty (member x m)) h k = tt
 in_memory e (at place ty _) h k = absurd cc
 
-address_made : (e : form.Context) (place : ℕ) (x : Expr) → Made e x → OnTyped (Made e) (address place x)
+address_made : (e : form.InScope) (place : ℕ) (x : Expr) → Made e x → OnTyped (Made e) (address place x)
 address_made e place x h = by (is_lvalue (node_of x)) refl
   where
     by : (b : Bool) → is_lvalue (node_of x) ≡ b → OnTyped (Made e) (if b then typed (at place (pointer (type_of x)) (address_of x)) else refuse place NotAnLvalue)
     by true k = (((h.0.0, in_memory e x k h.1, refl), h.0.1), tt)
     by false k = tt
 
-addressed_name : (w : World) (c : Context) → Good w c → (place from : ℕ) (o : Option Meaning) → OnSome (IsNamed w c) o
+addressed_name : (w : World) (c : Context) → Good w c → (place from : ℕ) (o : Option Binding) → OnSome (IsNamed w c) o
     → OnTyped (λ x. After w true c (with_addressed c o) (λ e. Made e x)) (named from o >>= address place)
 addressed_name w c g place from None h = tt
 addressed_name w c g place from (Some (global_name n t)) h =
@@ -127,14 +127,14 @@ found_at s n o = by (slice_get s n) refl o
     by (Some l) h None = tt
     by (Some l) h (Some m) = there l m h (slice_get l.types m) refl
 
-member_kept : (w : World) (d : Context) (e : form.Context) → Over w d e → (n : ℕ) (p : ℕ × Ty) → Found d.structs n p → Found e.structs n p
+member_kept : (w : World) (d : Context) (e : form.InScope) → Over w d e → (n : ℕ) (p : ℕ × Ty) → Found d.structs n p → Found e.structs n p
 member_kept w d e v n p f = (f.0, by (v.structs n f.0 f.1), f.2)
   where
     by : (slice_get e.structs n ≡ Some f.0) ⊎ (f.0 ≡ undeclared) → slice_get e.structs n ≡ Some f.0
     by (inl h) = h
     by (inr u) = absurd (nothing_at p.0 p.1 (subst (λ (l : Layout). slice_get l.types p.0 ≡ Some p.1) u f.2))
 
-selected_well : (w : World) (d : Context) (e : form.Context) → Over w d e → (place : ℕ) (s : Ty) (x : Expr) → Fine e x → type_of x ≡ s → (m : Name) → OnTyped (Made e) (selected_by d place s x m)
+selected_well : (w : World) (d : Context) (e : form.InScope) → Over w d e → (place : ℕ) (s : Ty) (x : Expr) → Fine e x → type_of x ≡ s → (m : Name) → OnTyped (Made e) (selected_by d place s x m)
 selected_well w d e v place (structure n) x h k m = by (member_of d n m) (found_at d.structs n (member_in (slice_get d.members n) (bytes_of d.text m)))
   where
     by : (o : Option (ℕ × Ty)) → OnSome (Found d.structs n) o → OnTyped (Made e) (member_found place x o)
@@ -149,10 +149,10 @@ selected_well w d e v place mutex x h k m = tt
 selected_well w d e v place (pointer t) x h k m = tt
 selected_well w d e v place (array t i) x h k m = tt
 
-selected_made : (w : World) (d : Context) (e : form.Context) → Over w d e → (place : ℕ) (x : Expr) → Fine e x → (m : Name) → OnTyped (Made e) (selected d place x m)
+selected_made : (w : World) (d : Context) (e : form.InScope) → Over w d e → (place : ℕ) (x : Expr) → Fine e x → (m : Name) → OnTyped (Made e) (selected d place x m)
 selected_made w d e v place x h m = selected_well w d e v place (type_of x) x h refl m
 
-pointed_made : (w : World) (d : Context) (e : form.Context) → Over w d e → (place : ℕ) (x : Expr) → Fine e x → (m : Name) → OnTyped (Made e) (pointed d place x m)
+pointed_made : (w : World) (d : Context) (e : form.InScope) → Over w d e → (place : ℕ) (x : Expr) → Fine e x → (m : Name) → OnTyped (Made e) (pointed d place x m)
 pointed_made w d e v place x h m = on_bind (Made e) (Made e) (target place x) (λ y. selected d place y m) (target_made e v.sound place x h) (λ y k. selected_made w d e v place y k.0 m)
 
 -- ---- two values
@@ -160,10 +160,10 @@ pointed_made w d e v place x h m = on_bind (Made e) (Made e) (target place x) (�
 pair_keeps : (w : World) (n m : Option Name) (a b : Judging Expr) → Keeps w true a (FineFor n) → Keeps w true b (FineFor m) → Keeps w true (in_turn (valued a) (valued b)) (λ e p. Fine e p.0 × Fine e p.1)
 pair_keeps w n m a b ka kb = keeps_in_turn w true (valued a) (valued b) Fine Fine (valued_keeps w n a ka) (valued_keeps w m b kb)
 
-conditions : (e : form.Context) (place : ℕ) (a b : Expr) → Fine e a → Fine e b → OnTyped (λ (p : Expr × Expr). Tested e p.0 × Tested e p.1) (both (tested place a) (tested place b))
+conditions : (e : form.InScope) (place : ℕ) (a b : Expr) → Fine e a → Fine e b → OnTyped (λ (p : Expr × Expr). Tested e p.0 × Tested e p.1) (both (tested place a) (tested place b))
 conditions e place a b h k = on_both (Tested e) (Tested e) (tested place a) (tested place b) (tested_well e place a h.0) (tested_well e place b k.0)
 
-combined_made : (w : World) (d : Context) (e : form.Context) → Over w d e → (place : ℕ) (op : BinaryOp) (a b : Expr) → Fine e a → Fine e b → OnTyped (Made e) (combined d place op a b)
+combined_made : (w : World) (d : Context) (e : form.InScope) → Over w d e → (place : ℕ) (op : BinaryOp) (a b : Expr) → Fine e a → Fine e b → OnTyped (Made e) (combined d place op a b)
 combined_made w d e v place (binaries.Value op) a b h k = operated_made w d e v place op a b h k
 combined_made w d e v place binaries.AndAnd a b h k =
     on_bind (λ (p : Expr × Expr). Tested e p.0 × Tested e p.1) (Made e) (both (tested place a) (tested place b)) (λ p. typed (at place (integer int) (and_also p.0 p.1))) (conditions e place a b h k)
@@ -172,7 +172,7 @@ combined_made w d e v place binaries.OrOr a b h k =
     on_bind (λ (p : Expr × Expr). Tested e p.0 × Tested e p.1) (Made e) (both (tested place a) (tested place b)) (λ p. typed (at place (integer int) (or_else p.0 p.1))) (conditions e place a b h k)
     (λ p t. (((t.0.0, t.1.0, t.0.1, t.1.1, refl), tt), tt))
 
-chosen_by_test : (e : form.Context) (place : ℕ) (x a b : Expr) → Fine e x → Fine e a → Fine e b → OnTyped (Made e) (tested place x >>= λ t. chosen place t a b)
+chosen_by_test : (e : form.InScope) (place : ℕ) (x a b : Expr) → Fine e x → Fine e a → Fine e b → OnTyped (Made e) (tested place x >>= λ t. chosen place t a b)
 chosen_by_test e place x a b h k l = on_bind (Tested e) (Made e) (tested place x) (λ t. chosen place t a b) (tested_well e place x h.0) (λ t r. chosen_made e place t a b r k l)
 
 -- ---- calls
@@ -195,7 +195,7 @@ called_keeps w place n params result args f ka = keeps_ruled w true args (λ c e
 library_keeps : (w : World) (place : ℕ) (which : Library) (args : Judging (List Expr)) → Keeps w true args AreFine → Keeps w true (ruled args (λ c es. called_library place which es)) Made
 library_keeps w place which args ka = keeps_ruled w true args (λ c es. called_library place which es) AreFine Made ka (λ d e es g v h. library_made e place which es h)
 
-called_after : (w : World) (c : Context) → Good w c → (o : Option Meaning) → OnSome (IsNamed w c) o → (place : ℕ) (args : Judging (List Expr)) (print start : Judging Expr)
+called_after : (w : World) (c : Context) → Good w c → (o : Option Binding) → OnSome (IsNamed w c) o → (place : ℕ) (args : Judging (List Expr)) (print start : Judging Expr)
     → Keeps w true args AreFine → Keeps w true print Made → Keeps w true start Made
     → OnTyped (λ x. After w true c (called_by o place args print start c).1 (λ e. Made e x)) (called_by o place args print start c).0
 called_after w c g (Some (function_name n params result)) h place args print start ka kp ks = (called_keeps w place n params result args h ka).keeps c g
@@ -225,13 +225,13 @@ print_well w place most format rest kf kr =
     (keeps_in_turn w true (lone most) (in_turn format rest) (λ e u. Unit {0}) (λ e p. Unit {0} × AreFine e p.1) (keeps_lone w true most (λ e u. Unit {0}) (λ e. any most)) (keeps_in_turn w true format rest (λ e p. Unit {0}) AreFine kf kr))
     (λ d e p g v h. printed_made e place p.1 h.1.1)
 
-starting_well : (e : form.Context) (n : ℕ) (params : List Ty) (result : Ty) (b : Bool) → (same_type result (integer int) && same_types params (pointer void ∷ [])) ≡ b → slice_get e.funcs n ≡ Some (record { params = params; result = result }) → Starting e (starting_by n b)
+starting_well : (e : form.InScope) (n : ℕ) (params : List Ty) (result : Ty) (b : Bool) → (same_type result (integer int) && same_types params (pointer void ∷ [])) ≡ b → slice_get e.funcs n ≡ Some (record { params = params; result = result }) → Starting e (starting_by n b)
 starting_well e n params result true h f =
     let p = both_hold (same_type result (integer int)) (same_types params (pointer void ∷ [])) h in
     (record { params = params; result = result }, f, (same_type_is result (integer int) p.0, same_types_are params (pointer void ∷ []) p.1))
 starting_well e n params result false h f = tt
 
-starting_keeps : (w : World) (c : Context) (o : Option Meaning) → OnSome (IsNamed w c) o → (n : Option Name) (j : Judging Expr) → Keeps w true j (FineFor n) → Keeps w true (starting_or o j) Starting
+starting_keeps : (w : World) (c : Context) (o : Option Binding) → OnSome (IsNamed w c) o → (n : Option Name) (j : Judging Expr) → Keeps w true j (FineFor n) → Keeps w true (starting_or o j) Starting
 starting_keeps w c (Some (function_name n params result)) h m j kj = record {
   keeps = λ d g. keeps_here w true d Starting (typed (starting_by n (same_type result (integer int) && same_types params (pointer void ∷ [])))) g
       (λ e v. starting_well e n params result (same_type result (integer int) && same_types params (pointer void ∷ [])) refl (subst (λ (fs : List Signature). slice_get fs n ≡ Some (record { params = params; result = result })) (sym v.funcs) h));
@@ -251,7 +251,7 @@ starting_keeps w c (Some (global_name n t)) h m j kj = keeps_ruled w true j (λ 
 starting_keeps w c (Some (local_name n t)) h m j kj = keeps_ruled w true j (λ d x. typed None) (FineFor m) Starting kj (λ d e x g v k. tt)
 starting_keeps w c None h m j kj = keeps_ruled w true j (λ d x. typed None) (FineFor m) Starting kj (λ d e x g v k. tt)
 
-abbrev AreStarted : form.Context → (Option ℕ × List Expr) → Type 0
+abbrev AreStarted : form.InScope → (Option ℕ × List Expr) → Type 0
 AreStarted e p = Starting e p.0 × AreFine e p.1
 
 meaning_in_named : (w : World) (c : Context) → Good w c → (o : Option Name) → OnSome (IsNamed w c) (meaning_in c o)
@@ -268,11 +268,11 @@ specs_keeps : (w : World) (s : source.Specs) (parts : Judging (List Part)) → K
 specs_keeps w s parts kp = keeps_ruled w true parts (λ c all. specified (place_of_specs s) all) (λ e p. Unit {0}) (λ e t. Plain t) kp (λ d e all g v h. specified_plain (place_of_specs s) all)
 
 -- members behind so many names, as many as there are names
-abbrev AreMembersOf : (before count : ℕ) → form.Context → List (List ℕ × Ty) → Type 0
+abbrev AreMembersOf : (before count : ℕ) → form.InScope → List (List ℕ × Ty) → Type 0
 AreMembersOf before count e all = AreObjects e.structs all × (length all ≡ count) × (before ≤ most_members → before + count ≤ most_members)
 
 -- a member behind so many names
-abbrev IsMemberBehind : ℕ → form.Context → List ℕ × Ty → Type 0
+abbrev IsMemberBehind : ℕ → form.InScope → List ℕ × Ty → Type 0
 IsMemberBehind before e m = (before < most_members) × IsObject e.structs m.1
 
 -- an object's type, by the type of its specifiers and sizes

@@ -9,7 +9,7 @@ use Rattle.c_typing.proofs.Extending.{Ready, extends_itself}
 use Rattle.c_typing.proofs.Elements.{nothing_at}
 use Rattle.c_typing.proofs.Carried.{World, Good, Sound, Over}
 
-abbrev pub own : World → Context → form.Context
+abbrev pub own : World → Context → form.InScope
 own w d = record { structs = d.structs; globals = d.globals; literals = d.literals; funcs = w.funcs; locals = locals_from 0 d.addressed d.locals }
 
 -- a local of a type, by number

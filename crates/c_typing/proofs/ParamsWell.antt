@@ -27,7 +27,7 @@ use Rattle.c_typing.proofs.StatedWell.{with_type, type_good, local_good, local_w
 
 -- ---- sizes between brackets
 
-abbrev IfPositive : form.Context → Option ℕ → Type 0
+abbrev IfPositive : form.InScope → Option ℕ → Type 0
 IfPositive e o = OnSome (λ n. 0 < n) o
 
 size_keeps : (w : World) (outermost : Bool) (d : source.ParamDim) (o : Option source.Expr) → Keeps w true (judged_size outermost d o) IfPositive
@@ -37,7 +37,7 @@ size_keeps w outermost d (Some s) =
     keeps_ruled w true (ruled (valued (judged s)) (dimension s)) (λ x n. typed (Some n)) (λ e n. 0 < n) IfPositive
     (keeps_ruled w true (valued (judged s)) (dimension s) Fine (λ e n. 0 < n) (valued_keeps w (name_in s) (judged s) (judged_keeps w s)) (λ d e x g v h. dimension_well s d x)) (λ d e n g v h. h)
 
-abbrev AreKnown : form.Context → List (Option ℕ) → Type 0
+abbrev AreKnown : form.InScope → List (Option ℕ) → Type 0
 AreKnown e os = ArePositive (known os)
 
 known_more : (o : Option ℕ) (os : List (Option ℕ)) → OnSome (λ n. 0 < n) o → ArePositive (known os) → ArePositive (known (o ∷ os))

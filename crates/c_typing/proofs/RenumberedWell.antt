@@ -12,14 +12,14 @@ use Rattle.c_typing.specs.Numbering.{renumbered, renumbered_node, renumbered_all
 abbrev pub Carries : (ℕ → ℕ) → (old new : List Local) → Type 0
 Carries f old new = (n : ℕ) (l : Local) → slice_get old n ≡ Some l → IsNth new (f n) (λ (m : Local). (m.ty ≡ l.ty) × (l.in_memory ≡ true → m.in_memory ≡ true))
 
-abbrev pub with_locals : form.Context → List Local → form.Context
+abbrev pub with_locals : form.InScope → List Local → form.InScope
 with_locals e ls = record e { locals = ls }
 
 lvalue_too : (f : ℕ → ℕ) (node : ExprNode) → IsLvalue node → IsLvalue (renumbered_node f node)
 lvalue_too f (literal n) h = tt
 lvalue_too f _ h = h
 
-memory_too : (f : ℕ → ℕ) (e : form.Context) (ls : List Local) → Carries f e.locals ls → (node : ExprNode) → IsInMemory e node → IsInMemory (with_locals e ls) (renumbered_node f node)
+memory_too : (f : ℕ → ℕ) (e : form.InScope) (ls : List Local) → Carries f e.locals ls → (node : ExprNode) → IsInMemory e node → IsInMemory (with_locals e ls) (renumbered_node f node)
 memory_too f e ls c (local n) h = let m = c n h.0 h.1 in (m.0, m.1, m.2.1 h.2)
 memory_too f e ls c (literal n) h = tt
 memory_too f e ls c _ h = h
@@ -48,7 +48,7 @@ printed_too f (hexadecimal bits ∷ ps) no_exprs h = absurd h
 printed_too f (character ∷ ps) no_exprs h = absurd h
 printed_too f (text ∷ ps) no_exprs h = absurd h
 
-lib_too : (f : ℕ → ℕ) (e : form.Context) (ls : List Local) (which : Lib) (es : Exprs) (t : Ty) → IsLibCall e which es t → IsLibCall (with_locals e ls) which (renumbered_all f es) t
+lib_too : (f : ℕ → ℕ) (e : form.InScope) (ls : List Local) (which : Lib) (es : Exprs) (t : Ty) → IsLibCall e which es t → IsLibCall (with_locals e ls) which (renumbered_all f es) t
 lib_too f e ls (print pieces) es t h = (printed_too f pieces es h.0, h.1)
 lib_too f e ls malloc es t h = (arguments_too f (integer unsigned_long ∷ []) es h.0, h.1)
 lib_too f e ls free es t h = (arguments_too f (pointer void ∷ []) es h.0, h.1)
@@ -61,7 +61,7 @@ lib_too f e ls mutex_unlock es t h = (arguments_too f (pointer mutex ∷ []) es 
 lib_too f e ls mutex_destroy es t h = (arguments_too f (pointer mutex ∷ []) es h.0, h.1)
 
 mutual
-  node_too : (f : ℕ → ℕ) (e : form.Context) (ls : List Local) → Carries f e.locals ls → (ty : Ty) (node : ExprNode) → IsTypedNode e ty node → IsTypedNode (with_locals e ls) ty (renumbered_node f node)
+  node_too : (f : ℕ → ℕ) (e : form.InScope) (ls : List Local) → Carries f e.locals ls → (ty : Ty) (node : ExprNode) → IsTypedNode e ty node → IsTypedNode (with_locals e ls) ty (renumbered_node f node)
   node_too f e ls c ty (num t value) h = h
   node_too f e ls c ty null h = h
   node_too f e ls c ty (literal n) h = h
@@ -85,11 +85,11 @@ mutual
   node_too f e ls c ty (call n args) h = (all_too f e ls c args h.0, (h.1.0, h.1.1, (arguments_too f h.1.0.params args h.1.2.0, h.1.2.1)))
   node_too f e ls c ty (lib which args) h = (all_too f e ls c args h.0, lib_too f e ls which args ty h.1)
 
-  all_too : (f : ℕ → ℕ) (e : form.Context) (ls : List Local) → Carries f e.locals ls → (es : Exprs) → AreTyped e es → AreTyped (with_locals e ls) (renumbered_all f es)
+  all_too : (f : ℕ → ℕ) (e : form.InScope) (ls : List Local) → Carries f e.locals ls → (es : Exprs) → AreTyped e es → AreTyped (with_locals e ls) (renumbered_all f es)
   all_too f e ls c no_exprs h = tt
   all_too f e ls c (more_exprs (at p t x) rest) h = (node_too f e ls c t x h.0, all_too f e ls c rest h.1)
 
-typed_too : (f : ℕ → ℕ) (e : form.Context) (ls : List Local) → Carries f e.locals ls → (x : Expr) → IsTyped e x → IsTyped (with_locals e ls) (renumbered f x)
+typed_too : (f : ℕ → ℕ) (e : form.InScope) (ls : List Local) → Carries f e.locals ls → (x : Expr) → IsTyped e x → IsTyped (with_locals e ls) (renumbered f x)
 typed_too f e ls c (at p t x) h = node_too f e ls c t x h
 
 -- ---- statements
@@ -109,29 +109,29 @@ first_too f (at_stmt place (declare n init)) h = tt
 first_too f (at_stmt place (block body)) h = h
 first_too f (at_stmt place _) h = h
 
-if_too : (f : ℕ → ℕ) (e : form.Context) (ls : List Local) → Carries f e.locals ls → (P : Ty → Type 0) (o : Option Expr) → IfTyped e P o → IfTyped (with_locals e ls) P (renumbered_if f o)
+if_too : (f : ℕ → ℕ) (e : form.InScope) (ls : List Local) → Carries f e.locals ls → (P : Ty → Type 0) (o : Option Expr) → IfTyped e P o → IfTyped (with_locals e ls) P (renumbered_if f o)
 if_too f e ls c P None h = tt
 if_too f e ls c P (Some (at p t x)) h = (node_too f e ls c t x h.0, h.1)
 
-returned_too : (f : ℕ → ℕ) (e : form.Context) (ls : List Local) → Carries f e.locals ls → (r : Ty) (o : Option Expr) → IsReturned e r o → IsReturned (with_locals e ls) r (renumbered_if f o)
+returned_too : (f : ℕ → ℕ) (e : form.InScope) (ls : List Local) → Carries f e.locals ls → (r : Ty) (o : Option Expr) → IsReturned e r o → IsReturned (with_locals e ls) r (renumbered_if f o)
 returned_too f e ls c r None h = h
 returned_too f e ls c r (Some (at p t x)) h = (node_too f e ls c t x h.0, h.1)
 
-abbrev Inner : form.Context → ℕ → Ty → Inside
+abbrev Inner : form.InScope → ℕ → Ty → Inside
 Inner e k r = record { context = e; params = k; result = r }
 
 -- no parameter's number becomes of what is none
 abbrev pub Rises : (ℕ → ℕ) → ℕ → Type 0
 Rises f k = (n : ℕ) → k ≤ n → k ≤ f n
 
-declared_too : (f : ℕ → ℕ) (e : form.Context) (ls : List Local) → Carries f e.locals ls → (k : ℕ) (r : Ty) → Rises f k → (l : Bool) (n : ℕ) (init : Option Expr)
+declared_too : (f : ℕ → ℕ) (e : form.InScope) (ls : List Local) → Carries f e.locals ls → (k : ℕ) (r : Ty) → Rises f k → (l : Bool) (n : ℕ) (init : Option Expr)
     → IsWellNode (Inner e k r) l (declare n init) → IsWellNode (Inner (with_locals e ls) k r) l (declare (f n) (renumbered_if f init))
 declared_too f e ls c k r u l n init h =
     let m = c n h.1.0 h.1.1 in
     (u n h.0, (m.0, m.1, if_too f e ls c (λ t. Fits t m.0.ty × IsScalar t) init (subst (λ v. IfTyped e (λ t. Fits t v × IsScalar t) init) (sym m.2.0) h.1.2)))
 
 mutual
-  stmt_too : (f : ℕ → ℕ) (e : form.Context) (ls : List Local) → Carries f e.locals ls → (k : ℕ) (r : Ty) → Rises f k → (l : Bool) (s : StmtNode) → IsWellNode (Inner e k r) l s → IsWellNode (Inner (with_locals e ls) k r) l (renumbered_stmt_node f s)
+  stmt_too : (f : ℕ → ℕ) (e : form.InScope) (ls : List Local) → Carries f e.locals ls → (k : ℕ) (r : Ty) → Rises f k → (l : Bool) (s : StmtNode) → IsWellNode (Inner e k r) l s → IsWellNode (Inner (with_locals e ls) k r) l (renumbered_stmt_node f s)
   stmt_too f e ls c k r u l (block body) h = stmts_too f e ls c k r u l body h
   stmt_too f e ls c k r u l (declare n init) h = declared_too f e ls c k r u l n init h
   stmt_too f e ls c k r u l (if_ (at p t x) (at_stmt q s)) h = (node_too f e ls c t x h.0, h.1, stmt_too f e ls c k r u l s h.2, no_declaration_too f (at_stmt q s) h.3)
@@ -148,6 +148,6 @@ mutual
   stmt_too f e ls c k r u l (evaluate (at p t x)) h = node_too f e ls c t x h
   stmt_too f e ls c k r u l empty h = tt
 
-  pub stmts_too : (f : ℕ → ℕ) (e : form.Context) (ls : List Local) → Carries f e.locals ls → (k : ℕ) (r : Ty) → Rises f k → (l : Bool) (ss : Stmts) → AreWell (Inner e k r) l ss → AreWell (Inner (with_locals e ls) k r) l (renumbered_stmts f ss)
+  pub stmts_too : (f : ℕ → ℕ) (e : form.InScope) (ls : List Local) → Carries f e.locals ls → (k : ℕ) (r : Ty) → Rises f k → (l : Bool) (ss : Stmts) → AreWell (Inner e k r) l ss → AreWell (Inner (with_locals e ls) k r) l (renumbered_stmts f ss)
   stmts_too f e ls c k r u l no_stmts h = tt
   stmts_too f e ls c k r u l (more_stmts (at_stmt p s) rest) h = (stmt_too f e ls c k r u l s h.0, stmts_too f e ls c k r u l rest h.1)

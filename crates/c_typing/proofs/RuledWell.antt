@@ -26,7 +26,7 @@ use Rattle.c_typing.proofs.Extending.{Ready, sized_of, target_of, has_size_kept}
 use Rattle.c_typing.proofs.Carried.{OnTyped, OnSome, on_bind, on_unless, Plain, World, Sound, Over}
 
 -- an expression of its type, whose arrays have a size
-abbrev pub Fine : form.Context → Expr → Type 0
+abbrev pub Fine : form.InScope → Expr → Type 0
 Fine e x = IsTyped e x × Ready e.structs (type_of x)
 
 abbrev pub NoLocal : Expr → Type 0
@@ -34,7 +34,7 @@ NoLocal (at place ty (local n)) = ⊥
 NoLocal x = Unit {0}
 
 -- and no local, as a rule gives it
-abbrev pub Made : form.Context → Expr → Type 0
+abbrev pub Made : form.InScope → Expr → Type 0
 Made e x = Fine e x × NoLocal x
 
 pub plain_ready : (s : List Layout) (t : Ty) → Plain t → Ready s t
@@ -173,7 +173,7 @@ operand_is op (array s n) t h = absurd h
 operand_is ops.Shl (structure n) t h = absurd h
 operand_is op (structure n) t h = absurd h
 
-no_lib : (e : form.Context) (which : Lib) (es : Exprs) (t : Ty) → IsLibCall e which es t → IsAggregate t → ⊥
+no_lib : (e : form.InScope) (which : Lib) (es : Exprs) (t : Ty) → IsLibCall e which es t → IsAggregate t → ⊥
 no_lib e (print pieces) es t h a = absurd (subst IsAggregate h.1 a)
 no_lib e malloc es t h a = absurd (subst IsAggregate h.1 a)
 no_lib e free es t h a = absurd (subst IsAggregate h.1 a)
@@ -193,11 +193,11 @@ a_block (integer t) a = absurd a
 a_block mutex a = absurd a
 a_block (pointer t) a = absurd a
 
-abbrev IsObjectNode : form.Context → ExprNode → Type 0
+abbrev IsObjectNode : form.InScope → ExprNode → Type 0
 IsObjectNode e node = IsLvalue node × IsInMemory e node
 
 -- what has an array's or a struct's type is an object in memory
-object_node : (e : form.Context) → Sound e → (ty : Ty) (node : ExprNode) → IsTypedNode e ty node → IsAggregate ty → IsObjectNode e node
+object_node : (e : form.InScope) → Sound e → (ty : Ty) (node : ExprNode) → IsTypedNode e ty node → IsAggregate ty → IsObjectNode e node
 object_node e s ty (num t value) h a = absurd (subst IsAggregate h.0 a)
 object_node e s ty null h a = absurd (no_pointer ty h a)
 object_node e s ty (literal n) h a = (tt, tt)
@@ -224,12 +224,12 @@ object_node e s ty (pointer_test p) h a = absurd (subst IsAggregate h.2 a)
 object_node e s ty (call f args) h a = absurd (no_result h.1.0.result (s.results f h.1.0 h.1.1).0 (subst IsAggregate h.1.2.1 a))
 object_node e s ty (lib which args) h a = absurd (no_lib e which args ty h.1 a)
 
-pub an_object : (e : form.Context) → Sound e → (x : Expr) → IsTyped e x → IsAggregate (type_of x) → IsLvalue (node_of x) × IsInMemory e (node_of x)
+pub an_object : (e : form.InScope) → Sound e → (x : Expr) → IsTyped e x → IsAggregate (type_of x) → IsLvalue (node_of x) × IsInMemory e (node_of x)
 an_object e s (at place ty node) h a = object_node e s ty node h a
 
 -- ---- values
 
-pub value_fine : (e : form.Context) → Sound e → (x : Expr) → Fine e x → Fine e (value_of x)
+pub value_fine : (e : form.InScope) → Sound e → (x : Expr) → Fine e x → Fine e (value_of x)
 value_fine e s (at place (array t n) node) h =
     ((h.0, (an_object e s (at place (array t n) node) h.0 tt).1, (t, n, refl, refl)), h.1.1)
 value_fine e s (at place void node) h = h
@@ -239,37 +239,37 @@ value_fine e s (at place (pointer t) node) h = h
 value_fine e s (at place (structure n) node) h = h
 
 -- of a type
-abbrev pub Has : form.Context → Expr → Ty → Type 0
+abbrev pub Has : form.InScope → Expr → Ty → Type 0
 Has e x t = IsTyped e x × (type_of x ≡ t)
 
-pub converted_has : (e : form.Context) (s t : IntType) (x : Expr) → Has e x (integer s) → Has e (converted s t x) (integer t)
+pub converted_has : (e : form.InScope) (s t : IntType) (x : Expr) → Has e x (integer s) → Has e (converted s t x) (integer t)
 converted_has e s t x h = by (same_int s t) refl
   where
     by : (b : Bool) → same_int s t ≡ b → Has e (if b then x else at (place_of x) (integer t) (convert x)) (integer t)
     by true p = (h.0, h.1 ∙ ap integer (same_int_is s t p))
     by false p = ((h.0, subst (λ u. Converts u (integer t)) (sym h.1) tt), refl)
 
-null_has : (e : form.Context) (t : Ty) (x : Expr) → Has e (null_for t x) (pointer t)
+null_has : (e : form.InScope) (t : Ty) (x : Expr) → Has e (null_for t x) (pointer t)
 null_has e t x = (tt, refl)
 
 -- ---- assignment
 
 -- fitted to a type
-abbrev pub Fitting : form.Context → Ty → Expr → Type 0
+abbrev pub Fitting : form.InScope → Ty → Expr → Type 0
 Fitting e t x = IsTyped e x × Fits (type_of x) t
 
-some_if : (e : form.Context) (t : Ty) (x : Expr) (b : Bool) → (b ≡ true → Fitting e t x) → OnSome (Fitting e t) (fitted_if x b)
+some_if : (e : form.InScope) (t : Ty) (x : Expr) (b : Bool) → (b ≡ true → Fitting e t x) → OnSome (Fitting e t) (fitted_if x b)
 some_if e t x true h = h refl
 some_if e t x false h = tt
 
-pointers_fit : (e : form.Context) (s t : Ty) (x : Expr) → Has e x (pointer s) → OnSome (Fitting e (pointer t)) (pointer_fitted s t x)
+pointers_fit : (e : form.InScope) (s t : Ty) (x : Expr) → Has e x (pointer s) → OnSome (Fitting e (pointer t)) (pointer_fitted s t x)
 pointers_fit e s t x h = by (same_type s t)
   where
     by : (b : Bool) → OnSome (Fitting e (pointer t)) (if b then Some x else fitted_if (at (place_of x) (pointer t) (convert x)) (is_void s || is_void t))
     by true = (h.0, subst (λ u. Fits u (pointer t)) (sym h.1) tt)
     by false = some_if e (pointer t) (at (place_of x) (pointer t) (convert x)) (is_void s || is_void t) (λ b. ((h.0, subst (λ u. Converts u (pointer t)) (sym h.1) tt), tt))
 
-fits_by : (e : form.Context) (s t : Ty) (x : Expr) → Has e x s → OnSome (Fitting e t) (fitted_by s t x)
+fits_by : (e : form.InScope) (s t : Ty) (x : Expr) → Has e x s → OnSome (Fitting e t) (fitted_by s t x)
 fits_by e (integer s) (integer t) x h = let c = converted_has e s t x h in (c.0, subst (λ u. Fits u (integer t)) (sym c.1) refl)
 fits_by e (integer s) (pointer t) x h = some_if e (pointer t) (at (place_of x) (pointer t) null) (is_zero (node_of x)) (λ b. (tt, tt))
 fits_by e (pointer s) (pointer t) x h = pointers_fit e s t x h
@@ -277,16 +277,16 @@ fits_by e (structure m) (structure n) x h =
     some_if e (structure n) x (nat_eq m n) (λ b. (h.0, subst (λ u. Fits u (structure n)) (sym h.1) (same_number m n b)))
 fits_by e _ _ x h = tt
 
-pub fits : (e : form.Context) (t : Ty) (x : Expr) → IsTyped e x → OnSome (Fitting e t) (fitted t x)
+pub fits : (e : form.InScope) (t : Ty) (x : Expr) → IsTyped e x → OnSome (Fitting e t) (fitted t x)
 fits e t x h = fits_by e (type_of x) t x (h, refl)
 
 -- ---- conditions
 
 -- a condition: a number
-abbrev pub Tested : form.Context → Expr → Type 0
+abbrev pub Tested : form.InScope → Expr → Type 0
 Tested e x = IsTyped e x × IsScalar (type_of x)
 
-tests : (e : form.Context) (place : ℕ) (s : Ty) (x : Expr) → Has e x s → OnTyped (Tested e) (tested_by place s x)
+tests : (e : form.InScope) (place : ℕ) (s : Ty) (x : Expr) → Has e x s → OnTyped (Tested e) (tested_by place s x)
 tests e place (integer t) x h = (h.0, subst IsScalar (sym h.1) tt)
 tests e place (pointer t) x h = ((h.0, subst IsPointer (sym h.1) tt, refl), tt)
 tests e place void x h = tt
@@ -294,12 +294,12 @@ tests e place mutex x h = tt
 tests e place (array t n) x h = tt
 tests e place (structure n) x h = tt
 
-pub tested_well : (e : form.Context) (place : ℕ) (x : Expr) → IsTyped e x → OnTyped (Tested e) (tested place x)
+pub tested_well : (e : form.InScope) (place : ℕ) (x : Expr) → IsTyped e x → OnTyped (Tested e) (tested place x)
 tested_well e place x h = tests e place (type_of x) x (h, refl)
 
 -- ---- what leads to objects
 
-targets : (e : form.Context) → Sound e → (place : ℕ) (s : Ty) (x : Expr) → Has e x s → Ready e.structs s → OnTyped (Made e) (target_by place s x)
+targets : (e : form.InScope) → Sound e → (place : ℕ) (s : Ty) (x : Expr) → Has e x s → Ready e.structs s → OnTyped (Made e) (target_by place s x)
 targets e f place (pointer t) x h r = (((h.0, h.1, target_of e.structs f.small t r), r), tt)
 targets e f place void x h r = tt
 targets e f place (integer t) x h r = tt
@@ -307,7 +307,7 @@ targets e f place mutex x h r = tt
 targets e f place (array t n) x h r = tt
 targets e f place (structure n) x h r = tt
 
-pub target_made : (e : form.Context) → Sound e → (place : ℕ) (x : Expr) → Fine e x → OnTyped (Made e) (target place x)
+pub target_made : (e : form.InScope) → Sound e → (place : ℕ) (x : Expr) → Fine e x → OnTyped (Made e) (target place x)
 target_made e f place x h = targets e f place (type_of x) x (h.0, refl) h.1
 
 -- ---- unary operators
@@ -319,12 +319,12 @@ zero_in_range t = by t.signed (2 ^ (t.bits - 1)) (2 ^ t.bits) (pow_pos (t.bits -
     by true h m p e = (omega (arith, ints), omega (arith, ints))
     by false h m p e = (omega (arith, ints), omega (arith, ints))
 
-pub binary_made : (e : form.Context) (place : ℕ) (op : Op) (p q : IntType) (a b : Expr) → Has e a (integer p) → Has e b (integer q) → AreOperands op (integer p) (integer q)
+pub binary_made : (e : form.InScope) (place : ℕ) (op : Op) (p q : IntType) (a b : Expr) → Has e a (integer p) → Has e b (integer q) → AreOperands op (integer p) (integer q)
     → Made e (at place (integer (result_type op p)) (binary op a b))
 binary_made e place op p q a b h l o =
     (((h.0, l.0, subst (λ u. AreOperands op u (type_of b)) (sym h.1) (subst (λ u. AreOperands op (integer p) u) (sym l.1) o), ap (type_of_result op) (sym h.1)), tt), tt)
 
-minus_well : (e : form.Context) (place : ℕ) (s : Ty) (x : Expr) → Has e x s → OnTyped (Made e) (minus_by place s x)
+minus_well : (e : form.InScope) (place : ℕ) (s : Ty) (x : Expr) → Has e x s → OnTyped (Made e) (minus_by place s x)
 minus_well e place (integer t) x h =
     let p = promoted_type t in
     binary_made e place ops.Sub p p (at place (integer p) (num p (pos 0))) (converted t p x) ((refl, zero_in_range p), refl) (converted_has e t p x h) (promoted t, refl)
@@ -334,7 +334,7 @@ minus_well e place (pointer t) x h = tt
 minus_well e place (array t n) x h = tt
 minus_well e place (structure n) x h = tt
 
-plus_well : (e : form.Context) (place : ℕ) (s : Ty) (x : Expr) → Has e x s → OnTyped (Made e) (plus_by place s x)
+plus_well : (e : form.InScope) (place : ℕ) (s : Ty) (x : Expr) → Has e x s → OnTyped (Made e) (plus_by place s x)
 plus_well e place (integer t) x h = (((h.0, subst (λ u. Converts u (integer (promoted_type t))) (sym h.1) tt), tt), tt)
 plus_well e place void x h = tt
 plus_well e place mutex x h = tt
@@ -342,7 +342,7 @@ plus_well e place (pointer t) x h = tt
 plus_well e place (array t n) x h = tt
 plus_well e place (structure n) x h = tt
 
-not_well : (e : form.Context) (place : ℕ) (s : Ty) (x : Expr) → Has e x s → OnTyped (Made e) (not_by place s x)
+not_well : (e : form.InScope) (place : ℕ) (s : Ty) (x : Expr) → Has e x s → OnTyped (Made e) (not_by place s x)
 not_well e place (integer t) x h = (((h.0, subst IsScalar (sym h.1) tt, refl), tt), tt)
 not_well e place (pointer t) x h = ((((h.0, subst IsPointer (sym h.1) tt, refl), tt, refl), tt), tt)
 not_well e place void x h = tt
@@ -350,7 +350,7 @@ not_well e place mutex x h = tt
 not_well e place (array t n) x h = tt
 not_well e place (structure n) x h = tt
 
-complement_well : (e : form.Context) (place : ℕ) (s : Ty) (x : Expr) → Has e x s → OnTyped (Made e) (complement_by place s x)
+complement_well : (e : form.InScope) (place : ℕ) (s : Ty) (x : Expr) → Has e x s → OnTyped (Made e) (complement_by place s x)
 complement_well e place (integer t) x h =
     let p = promoted_type t in
     binary_made e place ops.Xor p p (converted t p x) (at place (integer p) (num p (wrapped_value p (negsuc 0)))) (converted_has e t p x h) ((refl, wrapped_value-in_range p (negsuc 0)), refl) (promoted t, refl)
@@ -360,16 +360,16 @@ complement_well e place (pointer t) x h = tt
 complement_well e place (array t n) x h = tt
 complement_well e place (structure n) x h = tt
 
-pub minus_made : (e : form.Context) (place : ℕ) (x : Expr) → IsTyped e x → OnTyped (Made e) (minus_by place (type_of x) x)
+pub minus_made : (e : form.InScope) (place : ℕ) (x : Expr) → IsTyped e x → OnTyped (Made e) (minus_by place (type_of x) x)
 minus_made e place x h = minus_well e place (type_of x) x (h, refl)
 
-pub plus_made : (e : form.Context) (place : ℕ) (x : Expr) → IsTyped e x → OnTyped (Made e) (plus_by place (type_of x) x)
+pub plus_made : (e : form.InScope) (place : ℕ) (x : Expr) → IsTyped e x → OnTyped (Made e) (plus_by place (type_of x) x)
 plus_made e place x h = plus_well e place (type_of x) x (h, refl)
 
-pub not_made : (e : form.Context) (place : ℕ) (x : Expr) → IsTyped e x → OnTyped (Made e) (not_by place (type_of x) x)
+pub not_made : (e : form.InScope) (place : ℕ) (x : Expr) → IsTyped e x → OnTyped (Made e) (not_by place (type_of x) x)
 not_made e place x h = not_well e place (type_of x) x (h, refl)
 
-pub complement_made : (e : form.Context) (place : ℕ) (x : Expr) → IsTyped e x → OnTyped (Made e) (complement_by place (type_of x) x)
+pub complement_made : (e : form.InScope) (place : ℕ) (x : Expr) → IsTyped e x → OnTyped (Made e) (complement_by place (type_of x) x)
 complement_made e place x h = complement_well e place (type_of x) x (h, refl)
 
 -- ---- binary operators
@@ -388,20 +388,20 @@ described (pointer t) (integer s) = (refl, refl)
 described (pointer s) (pointer t) = (refl, refl)
 described _ _ = tt
 
-arithmetic_made : (e : form.Context) (place : ℕ) (op : Op) (s t : IntType) (a b : Expr) → Has e a (integer s) → Has e b (integer t)
+arithmetic_made : (e : form.InScope) (place : ℕ) (op : Op) (s t : IntType) (a b : Expr) → Has e a (integer s) → Has e b (integer t)
     → AreOperands op (integer (common_type s t)) (integer (common_type s t)) → Made e (arithmetic place op s a t b)
 arithmetic_made e place op s t a b h l o =
     let c = common_type s t in
     binary_made e place op c c (converted s c a) (converted t c b) (converted_has e s c a h) (converted_has e t c b l) o
 
-ready_target : (e : form.Context) (x : Expr) (t : Ty) → Fine e x → type_of x ≡ pointer t → Ready e.structs t
+ready_target : (e : form.InScope) (x : Expr) (t : Ty) → Fine e x → type_of x ≡ pointer t → Ready e.structs t
 ready_target e x t h p = subst (Ready e.structs) p h.1
 
-sized_target : (w : World) (d : Context) (e : form.Context) → Over w d e → (x : Expr) (t : Ty) → Fine e x → type_of x ≡ pointer t → has_size d.structs t ≡ true → PointsToSized e.structs (type_of x)
+sized_target : (w : World) (d : Context) (e : form.InScope) → Over w d e → (x : Expr) (t : Ty) → Fine e x → type_of x ≡ pointer t → has_size d.structs t ≡ true → PointsToSized e.structs (type_of x)
 sized_target w d e o x t h p k =
     subst (PointsToSized e.structs) (sym p) (sized_of e.structs o.sound.small t (ready_target e x t h p) (has_size_kept d.structs e.structs o.structs t k))
 
-up_made : (w : World) (d : Context) (e : form.Context) → Over w d e → (place : ℕ) (t : Ty) (i : IntType) (p n : Expr) → Fine e p → Fine e n → type_of p ≡ pointer t → type_of n ≡ integer i → OnTyped (Made e) (moved_up d place t p n)
+up_made : (w : World) (d : Context) (e : form.InScope) → Over w d e → (place : ℕ) (t : Ty) (i : IntType) (p n : Expr) → Fine e p → Fine e n → type_of p ≡ pointer t → type_of n ≡ integer i → OnTyped (Made e) (moved_up d place t p n)
 up_made w d e o place t i p n h l hp ln = on_bind _ (Made e) (sized d place t) _ (on_unless place _ (has_size d.structs t))
     (λ u k. (
       (
@@ -416,7 +416,7 @@ up_made w d e o place t i p n h l hp ln = on_bind _ (Made e) (sized d place t) _
       tt,
     ))
 
-up_from : (w : World) (d : Context) (e : form.Context) → Over w d e → (place : ℕ) (t : Ty) (i : IntType) (n p : Expr) → Fine e n → Fine e p → type_of p ≡ pointer t → type_of n ≡ integer i → OnTyped (Made e) (moved_up d place t n p)
+up_from : (w : World) (d : Context) (e : form.InScope) → Over w d e → (place : ℕ) (t : Ty) (i : IntType) (n p : Expr) → Fine e n → Fine e p → type_of p ≡ pointer t → type_of n ≡ integer i → OnTyped (Made e) (moved_up d place t n p)
 up_from w d e o place t i n p l h hp ln = on_bind _ (Made e) (sized d place t) _ (on_unless place _ (has_size d.structs t))
     (λ u k. (
       (
@@ -431,18 +431,18 @@ up_from w d e o place t i n p l h hp ln = on_bind _ (Made e) (sized d place t) _
       tt,
     ))
 
-down_made : (w : World) (d : Context) (e : form.Context) → Over w d e → (place : ℕ) (t : Ty) (i : IntType) (p n : Expr) → Fine e p → Fine e n → type_of p ≡ pointer t → type_of n ≡ integer i → OnTyped (Made e) (moved_down d place t p n)
+down_made : (w : World) (d : Context) (e : form.InScope) → Over w d e → (place : ℕ) (t : Ty) (i : IntType) (p n : Expr) → Fine e p → Fine e n → type_of p ≡ pointer t → type_of n ≡ integer i → OnTyped (Made e) (moved_down d place t p n)
 down_made w d e o place t i p n h l hp ln = on_bind _ (Made e) (sized d place t) _ (on_unless place _ (has_size d.structs t))
     (λ u k. (((h.0, l.0, sized_target w d e o p t h hp k, subst IsInteger (sym ln) tt, sym hp), ready_target e p t h hp), tt))
 
-sum_made : (w : World) (d : Context) (e : form.Context) → Over w d e → (place : ℕ) (what : Operands) (a b : Expr) → Fine e a → Fine e b → Describes what (type_of a) (type_of b) → OnTyped (Made e) (sum d place what a b)
+sum_made : (w : World) (d : Context) (e : form.InScope) → Over w d e → (place : ℕ) (what : Operands) (a b : Expr) → Fine e a → Fine e b → Describes what (type_of a) (type_of b) → OnTyped (Made e) (sum d place what a b)
 sum_made w d e o place (numbers s t) a b h l k = arithmetic_made e place ops.Add s t a b (h.0, k.0) (l.0, k.1) (common_promoted s t, refl)
 sum_made w d e o place (pointer_number t s) a b h l k = up_made w d e o place t s a b h l k.0 k.1
 sum_made w d e o place (number_pointer s t) a b h l k = up_from w d e o place t s a b h l k.1 k.0
 sum_made w d e o place (pointers s t) a b h l k = tt
 sum_made w d e o place others a b h l k = tt
 
-distance_made : (w : World) (d : Context) (e : form.Context) → Over w d e → (place : ℕ) (s t : Ty) (a b : Expr) → Fine e a → Fine e b → type_of a ≡ pointer s → type_of b ≡ pointer t → OnTyped (Made e) (distance d place s t a b)
+distance_made : (w : World) (d : Context) (e : form.InScope) → Over w d e → (place : ℕ) (s t : Ty) (a b : Expr) → Fine e a → Fine e b → type_of a ≡ pointer s → type_of b ≡ pointer t → OnTyped (Made e) (distance d place s t a b)
 distance_made w d e o place s t a b h l p q =
     on_bind _ (Made e) (unless place TypeMismatch (same_type s t)) (λ u. sized d place s >>= λ v. typed made) (on_unless place TypeMismatch (same_type s t))
     (λ u x. on_bind _ (Made e) (sized d place s) (λ v. typed made) (on_unless place BadSize (has_size d.structs s)) (λ v k. (((h.0, l.0, sized_target w d e o a s h p k, subst IsPointer (sym q) tt, refl), tt), tt)))
@@ -450,18 +450,18 @@ distance_made w d e o place s t a b h l p q =
     made : Expr
     made = at place (integer long) (pointer_diff a b)
 
-difference_made : (w : World) (d : Context) (e : form.Context) → Over w d e → (place : ℕ) (what : Operands) (a b : Expr) → Fine e a → Fine e b → Describes what (type_of a) (type_of b) → OnTyped (Made e) (difference d place what a b)
+difference_made : (w : World) (d : Context) (e : form.InScope) → Over w d e → (place : ℕ) (what : Operands) (a b : Expr) → Fine e a → Fine e b → Describes what (type_of a) (type_of b) → OnTyped (Made e) (difference d place what a b)
 difference_made w d e o place (numbers s t) a b h l k = arithmetic_made e place ops.Sub s t a b (h.0, k.0) (l.0, k.1) (common_promoted s t, refl)
 difference_made w d e o place (pointer_number t s) a b h l k = down_made w d e o place t s a b h l k.0 k.1
 difference_made w d e o place (pointers s t) a b h l k = distance_made w d e o place s t a b h l k.0 k.1
 difference_made w d e o place (number_pointer s t) a b h l k = tt
 difference_made w d e o place others a b h l k = tt
 
-compared_made : (e : form.Context) (place : ℕ) (op : Op) (b : Bool) (p q : Expr) (s t : Ty) → Has e p (pointer s) → Has e q (pointer t) → is_comparison op ≡ true → OnTyped (Made e) (compared place op b p q)
+compared_made : (e : form.InScope) (place : ℕ) (op : Op) (b : Bool) (p q : Expr) (s t : Ty) → Has e p (pointer s) → Has e q (pointer t) → is_comparison op ≡ true → OnTyped (Made e) (compared place op b p q)
 compared_made e place op true p q s t h l c = (((h.0, l.0, subst IsPointer (sym h.1) tt, subst IsPointer (sym l.1) tt, c, refl), tt), tt)
 compared_made e place op false p q s t h l c = tt
 
-equality_made : (e : form.Context) (place : ℕ) (op : Op) (what : Operands) (a b : Expr) → Fine e a → Fine e b → Describes what (type_of a) (type_of b)
+equality_made : (e : form.InScope) (place : ℕ) (op : Op) (what : Operands) (a b : Expr) → Fine e a → Fine e b → Describes what (type_of a) (type_of b)
     → ((s t : IntType) → AreOperands op (integer (common_type s t)) (integer (common_type s t))) → is_comparison op ≡ true → OnTyped (Made e) (equality place op what a b)
 equality_made e place op (numbers s t) a b h l k f c = arithmetic_made e place op s t a b (h.0, k.0) (l.0, k.1) (f s t)
 equality_made e place op (pointers s t) a b h l k f c = compared_made e place op (same_type s t || is_void s || is_void t) a b s t (h.0, k.0) (l.0, k.1) c
@@ -469,7 +469,7 @@ equality_made e place op (pointer_number t s) a b h l k f c = compared_made e pl
 equality_made e place op (number_pointer s t) a b h l k f c = compared_made e place op (is_zero (node_of a)) (null_for t a) b t t (null_has e t a) (l.0, k.1) c
 equality_made e place op others a b h l k f c = tt
 
-order_made : (e : form.Context) (place : ℕ) (op : Op) (what : Operands) (a b : Expr) → Fine e a → Fine e b → Describes what (type_of a) (type_of b)
+order_made : (e : form.InScope) (place : ℕ) (op : Op) (what : Operands) (a b : Expr) → Fine e a → Fine e b → Describes what (type_of a) (type_of b)
     → ((s t : IntType) → AreOperands op (integer (common_type s t)) (integer (common_type s t))) → is_comparison op ≡ true → OnTyped (Made e) (order place op what a b)
 order_made e place op (numbers s t) a b h l k f c = arithmetic_made e place op s t a b (h.0, k.0) (l.0, k.1) (f s t)
 order_made e place op (pointers s t) a b h l k f c = compared_made e place op (same_type s t) a b s t (h.0, k.0) (l.0, k.1) c
@@ -477,7 +477,7 @@ order_made e place op (pointer_number t s) a b h l k f c = tt
 order_made e place op (number_pointer s t) a b h l k f c = tt
 order_made e place op others a b h l k f c = tt
 
-numbers_made : (e : form.Context) (place : ℕ) (op : Op) (what : Operands) (a b : Expr) → Fine e a → Fine e b → Describes what (type_of a) (type_of b)
+numbers_made : (e : form.InScope) (place : ℕ) (op : Op) (what : Operands) (a b : Expr) → Fine e a → Fine e b → Describes what (type_of a) (type_of b)
     → ((s t : IntType) → AreOperands op (integer (common_type s t)) (integer (common_type s t))) → OnTyped (Made e) (on_numbers place op what a b)
 numbers_made e place op (numbers s t) a b h l k f = arithmetic_made e place op s t a b (h.0, k.0) (l.0, k.1) (f s t)
 numbers_made e place op (pointer_number t s) a b h l k f = tt
@@ -485,7 +485,7 @@ numbers_made e place op (number_pointer s t) a b h l k f = tt
 numbers_made e place op (pointers s t) a b h l k f = tt
 numbers_made e place op others a b h l k f = tt
 
-left_made : (e : form.Context) (place : ℕ) (what : Operands) (a b : Expr) → Fine e a → Fine e b → Describes what (type_of a) (type_of b) → OnTyped (Made e) (shift place ops.Shl what a b)
+left_made : (e : form.InScope) (place : ℕ) (what : Operands) (a b : Expr) → Fine e a → Fine e b → Describes what (type_of a) (type_of b) → OnTyped (Made e) (shift place ops.Shl what a b)
 left_made e place (numbers s t) a b h l k =
     binary_made e place ops.Shl (promoted_type s) (promoted_type t) (converted s (promoted_type s) a) (converted t (promoted_type t) b)
     (converted_has e s (promoted_type s) a (h.0, k.0)) (converted_has e t (promoted_type t) b (l.0, k.1)) (promoted s, promoted t)
@@ -494,7 +494,7 @@ left_made e place (number_pointer s t) a b h l k = tt
 left_made e place (pointers s t) a b h l k = tt
 left_made e place others a b h l k = tt
 
-right_made : (e : form.Context) (place : ℕ) (what : Operands) (a b : Expr) → Fine e a → Fine e b → Describes what (type_of a) (type_of b) → OnTyped (Made e) (shift place ops.Shr what a b)
+right_made : (e : form.InScope) (place : ℕ) (what : Operands) (a b : Expr) → Fine e a → Fine e b → Describes what (type_of a) (type_of b) → OnTyped (Made e) (shift place ops.Shr what a b)
 right_made e place (numbers s t) a b h l k =
     binary_made e place ops.Shr (promoted_type s) (promoted_type t) (converted s (promoted_type s) a) (converted t (promoted_type t) b)
     (converted_has e s (promoted_type s) a (h.0, k.0)) (converted_has e t (promoted_type t) b (l.0, k.1)) (promoted s, promoted t)
@@ -503,7 +503,7 @@ right_made e place (number_pointer s t) a b h l k = tt
 right_made e place (pointers s t) a b h l k = tt
 right_made e place others a b h l k = tt
 
-operated_well : (w : World) (d : Context) (e : form.Context) → Over w d e → (place : ℕ) (op : Op) (what : Operands) (a b : Expr) → Fine e a → Fine e b → Describes what (type_of a) (type_of b) → OnTyped (Made e) (operated_by d place op what a b)
+operated_well : (w : World) (d : Context) (e : form.InScope) → Over w d e → (place : ℕ) (op : Op) (what : Operands) (a b : Expr) → Fine e a → Fine e b → Describes what (type_of a) (type_of b) → OnTyped (Made e) (operated_by d place op what a b)
 unfolding operated_by
 operated_well w d e o place ops.Add what a b h l k = sum_made w d e o place what a b h l k
 operated_well w d e o place ops.Sub what a b h l k = difference_made w d e o place what a b h l k
@@ -522,15 +522,15 @@ operated_well w d e o place ops.And what a b h l k = numbers_made e place ops.An
 operated_well w d e o place ops.Or what a b h l k = numbers_made e place ops.Or what a b h l k (λ s t. (common_promoted s t, refl))
 operated_well w d e o place ops.Xor what a b h l k = numbers_made e place ops.Xor what a b h l k (λ s t. (common_promoted s t, refl))
 
-pub operated_made : (w : World) (d : Context) (e : form.Context) → Over w d e → (place : ℕ) (op : Op) (a b : Expr) → Fine e a → Fine e b → OnTyped (Made e) (operated d place op a b)
+pub operated_made : (w : World) (d : Context) (e : form.InScope) → Over w d e → (place : ℕ) (op : Op) (a b : Expr) → Fine e a → Fine e b → OnTyped (Made e) (operated d place op a b)
 operated_made w d e o place op a b h l = operated_well w d e o place op (operands (type_of a) (type_of b)) a b h l (described (type_of a) (type_of b))
 
-pub element_made : (w : World) (d : Context) (e : form.Context) → Over w d e → (place : ℕ) (a b : Expr) → Fine e a → Fine e b → OnTyped (Made e) (element d place a b)
+pub element_made : (w : World) (d : Context) (e : form.InScope) → Over w d e → (place : ℕ) (a b : Expr) → Fine e a → Fine e b → OnTyped (Made e) (element d place a b)
 element_made w d e o place a b h l =
     on_bind (Made e) (Made e) (sum d place (operands (type_of a) (type_of b)) a b) (target place) (sum_made w d e o place (operands (type_of a) (type_of b)) a b h l (described (type_of a) (type_of b)))
     (λ x k. target_made e o.sound place x k.0)
 
-chosen_well : (e : form.Context) (place : ℕ) (what : Operands) (x a b : Expr) → Tested e x → Fine e a → Fine e b → Describes what (type_of a) (type_of b) → OnTyped (Made e) (chosen_by place what x a b)
+chosen_well : (e : form.InScope) (place : ℕ) (what : Operands) (x a b : Expr) → Tested e x → Fine e a → Fine e b → Describes what (type_of a) (type_of b) → OnTyped (Made e) (chosen_by place what x a b)
 chosen_well e place (numbers s t) x a b p h l k =
     let c = common_type s t in
     let m = converted_has e s c a (h.0, k.0) in
@@ -541,21 +541,21 @@ chosen_well e place (number_pointer s t) x a b p h l k = tt
 chosen_well e place (pointers s t) x a b p h l k = tt
 chosen_well e place others x a b p h l k = tt
 
-pub chosen_made : (e : form.Context) (place : ℕ) (x a b : Expr) → Tested e x → Fine e a → Fine e b → OnTyped (Made e) (chosen place x a b)
+pub chosen_made : (e : form.InScope) (place : ℕ) (x a b : Expr) → Tested e x → Fine e a → Fine e b → OnTyped (Made e) (chosen place x a b)
 chosen_made e place x a b p h l = chosen_well e place (operands (type_of a) (type_of b)) x a b p h l (described (type_of a) (type_of b))
 
 -- ---- casts
 
-null_cast : (e : form.Context) (place : ℕ) (t : Ty) (b : Bool) (x : Expr) → Ready e.structs t → OnTyped (Made e) (cast_number_by place t b x)
+null_cast : (e : form.InScope) (place : ℕ) (t : Ty) (b : Bool) (x : Expr) → Ready e.structs t → OnTyped (Made e) (cast_number_by place t b x)
 null_cast e place t true x r = ((tt, r), tt)
 null_cast e place t false x r = tt
 
-cast_well : (e : form.Context) (place : ℕ) (s t : Ty) (x : Expr) → Has e x s → Ready e.structs t → OnTyped (Made e) (cast_by place s t x)
+cast_well : (e : form.InScope) (place : ℕ) (s t : Ty) (x : Expr) → Has e x s → Ready e.structs t → OnTyped (Made e) (cast_by place s t x)
 cast_well e place s void x h r = (((h.0, tt), tt), tt)
 cast_well e place (integer s) (integer t) x h r = (((h.0, subst (λ u. Converts u (integer t)) (sym h.1) tt), tt), tt)
 cast_well e place (pointer s) (pointer t) x h r = (((h.0, subst (λ u. Converts u (pointer t)) (sym h.1) tt), r), tt)
 cast_well e place (integer s) (pointer t) x h r = null_cast e place t (is_zero (node_of x)) x r
 cast_well e place _ _ x h r = tt
 
-pub cast_made : (e : form.Context) (place : ℕ) (t : Ty) (x : Expr) → Fine e x → Plain t → OnTyped (Made e) (cast place t x)
+pub cast_made : (e : form.InScope) (place : ℕ) (t : Ty) (x : Expr) → Fine e x → Plain t → OnTyped (Made e) (cast place t x)
 cast_made e place t x h p = cast_well e place (type_of x) t x (h.0, refl) (plain_ready e.structs t p)

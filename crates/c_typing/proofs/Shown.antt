@@ -10,10 +10,10 @@ use Rattle.c_tree.specs.declared.syntax.Name.{Name}
 use Rattle.c_tree.specs.declared.syntax.Span.{Span}
 use Rattle.c_tree.specs.Typed.{Ty, integer, array, Layout, Expr, at, literal}
 use Rattle.c_tree.specs.TypedLayout.{greatest_object, layout_size}
-use Rattle.c_tree.specs.TypedForm.{IsLayout, HoldsStruct, IsPart, IsNth, IsLvalue, IsInMemory, IsTyped}
+use Rattle.c_tree.specs.TypedForm.{IsLayout, HoldsStruct, IsPart, IsNth, IsLvalue, IsInMemory, IsTyped, taken}
 use Rattle.c_tree.specs.TypedForm as form
 use Rattle.c_typing.specs.Faults.{typed, refuse, mapped}
-use Rattle.c_typing.specs.Scope.{Meaning, global_name, local_name, function_name, library_name, Context, bytes_of, taken, most_plain, tag_among, tag_number, with_tag, is_begun}
+use Rattle.c_typing.specs.Scope.{Binding, global_name, local_name, function_name, library_name, Context, bytes_of, most_plain, tag_among, tag_number, with_tag, is_begun}
 use Rattle.c_typing.specs.Literals.{between_quotes, joined_bytes}
 use Rattle.c_typing.specs.Numbering.{is_in}
 use Rattle.c_typing.specs.Judgement.{with_literal, spelled, with_addressed}
@@ -24,7 +24,7 @@ use Rattle.c_typing.proofs.Carried.{OnTyped, World, IsNamed, IsObject, Good, Wit
 use Rattle.c_typing.proofs.RuledWell.{Made}
 
 pub named_kept : (w : World) (c d : Context) → ((n : ℕ) (t : Ty) → slice_get c.globals n ≡ Some t → slice_get d.globals n ≡ Some t) → ((n : ℕ) (t : Ty) → slice_get c.locals n ≡ Some t → slice_get d.locals n ≡ Some t)
-    → (m : Meaning) → IsNamed w c m → IsNamed w d m
+    → (m : Binding) → IsNamed w c m → IsNamed w d m
 named_kept w c d f g (global_name n t) h = f n t h
 named_kept w c d f g (local_name n t) h = g n t h
 named_kept w c d f g (function_name n params result) h = h
@@ -86,7 +86,7 @@ literal_within c all = (
   record { inner = refl; outer = refl; locals = refl },
 )
 
-literal_sized : (e : form.Context) (all : List ℕ) → (0 < length all) × (length all ≤ greatest_object) → Ready e.structs (array (integer char) (length all))
+literal_sized : (e : form.InScope) (all : List ℕ) → (0 < length all) × (length all ≤ greatest_object) → Ready e.structs (array (integer char) (length all))
 literal_sized e all h = let a = h.0 in let b = h.1 in ((tt, a, omega (arith, b)), tt)
 
 pub spelled_after : (w : World) (c : Context) → Good w c → (place : ℕ) (parts : List Span)
@@ -99,7 +99,7 @@ spelled_after w c g place parts = by (nat_le (c.plain + taken (length all)) most
     x : Expr
     x = at place (array (integer char) (length all)) (literal (length c.literals))
 
-    fine : (e : form.Context) → Over w (with_literal c all) e → Made e x
+    fine : (e : form.InScope) → Over w (with_literal c all) e → Made e x
     fine e o =
         let k = o.literals (length c.literals) all (get_last c.literals all) in
         (((all, k, refl), literal_sized e all (o.sound.literals (length c.literals) all k)), tt)
@@ -137,7 +137,7 @@ addressed_within c k = (
   record { inner = refl; outer = refl; locals = refl },
 )
 
-pub addressed_after : (w : World) (c : Context) → Good w c → (o : Option Meaning) → Good w (with_addressed c o) × Within true c (with_addressed c o)
+pub addressed_after : (w : World) (c : Context) → Good w c → (o : Option Binding) → Good w (with_addressed c o) × Within true c (with_addressed c o)
 addressed_after w c g (Some (local_name n t)) = (addressed_good w c g n, addressed_within c n)
 addressed_after w c g (Some (global_name n t)) = (g, within_itself true c)
 addressed_after w c g (Some (function_name n ps r)) = (g, within_itself true c)

@@ -22,7 +22,7 @@ use Rattle.c_tree.specs.TypedForm.{IsScalar, Fits, is_comparison, CanUpdate, IsN
 use Rattle.c_tree.specs.TypedForm as form
 use Rattle.c_typing.specs.Faults.{Judged, typed, faulty, refuse, unless, both, ◌>>=◌}
 use Rattle.c_typing.specs.Types.{is_array, is_scalar, has_size, is_declared}
-use Rattle.c_typing.specs.Scope.{Meaning, local_name, Frame, Context, bytes_of, or_else, found, is_double, fresh, within}
+use Rattle.c_typing.specs.Scope.{Binding, local_name, Frame, Context, bytes_of, or_else, found, is_double, fresh, within}
 use Rattle.c_typing.specs.Rules.{value_of, fitted, or_mismatch, is_lvalue}
 use Rattle.c_typing.specs.Judgement.{lone, in_turn, valued, Declarator, object_declared, node_place, name_in, judged, judged_specs, judged_dims}
 use Rattle.c_typing.specs.Statements.{assignable, assigned, moves, updates, updated, step_op, stepped, assign_op, assigned_by, judged_simple, or_int, most_locals, with_local, initialised, judged_init, judged_declarator, name_of, judged_local, judged_locals, judged_declaration}
@@ -36,7 +36,7 @@ use Rattle.c_typing.proofs.Own.{own, over_own}
 use Rattle.c_typing.proofs.JudgedWell.{FineFor, fine_of, valued_keeps, judged_keeps, dims_keeps, judged_specs_keeps}
 
 -- the function around
-abbrev pub inside_of : World → Ty → form.Context → Inside
+abbrev pub inside_of : World → Ty → form.InScope → Inside
 inside_of w r e = record { context = e; params = w.params; result = r }
 
 -- ---- assignments
@@ -89,10 +89,10 @@ assignable_is c place x =
     by false h = lvalue_is (node_of x) h
 
 -- a statement that may be a step
-abbrev pub Stepping : World → Ty → Bool → form.Context → Stmt → Type 0
+abbrev pub Stepping : World → Ty → Bool → form.InScope → Stmt → Type 0
 Stepping w r l e s = IsWell (inside_of w r e) l s × IsStep s
 
-assigned_well : (w : World) (r : Ty) (l : Bool) (d : Context) (e : form.Context) → Over w d e → (place : ℕ) (a b : Expr) → Fine e a → Fine e b → OnTyped (Stepping w r l e) (assigned d place a b)
+assigned_well : (w : World) (r : Ty) (l : Bool) (d : Context) (e : form.InScope) → Over w d e → (place : ℕ) (a b : Expr) → Fine e a → Fine e b → OnTyped (Stepping w r l e) (assigned d place a b)
 assigned_well w r l d e o place a b h k =
     on_bind (λ u. Assignable d a) (Stepping w r l e) (assignable d place a) (λ u. or_mismatch place (fitted (type_of a) (value_of b)) >>= λ x. typed (at_stmt place (assign a x))) (assignable_is d place a)
     (λ u v. on_bind (Fitting e (type_of a)) (Stepping w r l e) (or_mismatch place (fitted (type_of a) (value_of b))) (λ x. typed (at_stmt place (assign a x)))
@@ -104,7 +104,7 @@ moves_is ops.Add h = inl refl
 moves_is ops.Sub h = inr refl
 moves_is _ h = absurd cc
 
-updates_well : (w : World) (d : Context) (e : form.Context) → Over w d e → (place : ℕ) (op : Op) (s t : Ty) → is_comparison op ≡ false → Ready e.structs s → OnTyped (λ u. CanUpdate e.structs op s t) (updates d place op s t)
+updates_well : (w : World) (d : Context) (e : form.InScope) → Over w d e → (place : ℕ) (op : Op) (s t : Ty) → is_comparison op ≡ false → Ready e.structs s → OnTyped (λ u. CanUpdate e.structs op s t) (updates d place op s t)
 updates_well w d e v place op (integer s) (integer t) c r = c
 updates_well w d e v place op (pointer s) (integer t) c r =
     on_bind (λ u. moves op ≡ true) (λ u. CanUpdate e.structs op (pointer s) (integer t)) (unless place TypeMismatch (moves op)) (λ u. unless place BadSize (has_size d.structs s)) (on_unless place TypeMismatch (moves op))
@@ -112,7 +112,7 @@ updates_well w d e v place op (pointer s) (integer t) c r =
     (λ u h. (moves_is op m, sized_of e.structs v.sound.small s r (has_size_kept d.structs e.structs v.structs s h))))
 updates_well w d e v place op _ _ c r = tt
 
-updated_well : (w : World) (r : Ty) (l : Bool) (d : Context) (e : form.Context) → Over w d e → (place : ℕ) (op : Op) (a b : Expr) → is_comparison op ≡ false → Fine e a → Fine e b → OnTyped (Stepping w r l e) (updated d place op a b)
+updated_well : (w : World) (r : Ty) (l : Bool) (d : Context) (e : form.InScope) → Over w d e → (place : ℕ) (op : Op) (a b : Expr) → is_comparison op ≡ false → Fine e a → Fine e b → OnTyped (Stepping w r l e) (updated d place op a b)
 updated_well w r l d e v place op a b c h k =
     on_bind (λ u. Assignable d a) (Stepping w r l e) (assignable d place a) (λ u. updates d place op (type_of a) (type_of b) >>= λ x. typed (at_stmt place (update a op b))) (assignable_is d place a)
     (λ u i. on_bind (λ x. CanUpdate e.structs op (type_of a) (type_of b)) (Stepping w r l e) (updates d place op (type_of a) (type_of b)) (λ x. typed (at_stmt place (update a op b)))
@@ -122,13 +122,13 @@ step_is : (op : StepOp) → is_comparison (step_op op) ≡ false
 step_is steps.Increment = refl
 step_is steps.Decrement = refl
 
-one_fine : (e : form.Context) (place : ℕ) → Fine e (at place (integer int) (num int (pos 1)))
+one_fine : (e : form.InScope) (place : ℕ) → Fine e (at place (integer int) (num int (pos 1)))
 one_fine e place = ((refl, (omega (arith, ints), omega (arith, ints))), tt)
 
-stepped_well : (w : World) (r : Ty) (l : Bool) (d : Context) (e : form.Context) → Over w d e → (place : ℕ) (op : StepOp) (a : Expr) → Fine e a → OnTyped (Stepping w r l e) (stepped d place op a)
+stepped_well : (w : World) (r : Ty) (l : Bool) (d : Context) (e : form.InScope) → Over w d e → (place : ℕ) (op : StepOp) (a : Expr) → Fine e a → OnTyped (Stepping w r l e) (stepped d place op a)
 stepped_well w r l d e v place op a h = updated_well w r l d e v place (step_op op) a (at place (integer int) (num int (pos 1))) (step_is op) h (one_fine e place)
 
-assigned_by_well : (w : World) (r : Ty) (l : Bool) (d : Context) (e : form.Context) → Over w d e → (place : ℕ) (op : AssignOp) (a b : Expr) → Fine e a → Fine e b → OnTyped (Stepping w r l e) (assigned_by d place (assign_op op) a b)
+assigned_by_well : (w : World) (r : Ty) (l : Bool) (d : Context) (e : form.InScope) → Over w d e → (place : ℕ) (op : AssignOp) (a b : Expr) → Fine e a → Fine e b → OnTyped (Stepping w r l e) (assigned_by d place (assign_op op) a b)
 assigned_by_well w r l d e v place assigns.Plain a b h k = assigned_well w r l d e v place a b h k
 assigned_by_well w r l d e v place assigns.Add a b h k = updated_well w r l d e v place ops.Add a (value_of b) refl h (value_fine e v.sound b k)
 assigned_by_well w r l d e v place assigns.Sub a b h k = updated_well w r l d e v place ops.Sub a (value_of b) refl h (value_fine e v.sound b k)
@@ -168,10 +168,10 @@ lookup_last {X} q (x ∷ xs) k v = by (q x.0) (lookup_last q xs k v)
     by false h = h
 
 -- what a scope says with one more name is that name's meaning, or what it said before
-pub seen_or_new : (inner : Frame) (outer : Option Meaning) (k q : List ℕ) (v m : Meaning) → or_else (lookup (bytes_eq q) (inner ++ (k, v) ∷ [])) outer ≡ Some m → (or_else (lookup (bytes_eq q) inner) outer ≡ Some m) ⊎ (v ≡ m)
+pub seen_or_new : (inner : Frame) (outer : Option Binding) (k q : List ℕ) (v m : Binding) → or_else (lookup (bytes_eq q) (inner ++ (k, v) ∷ [])) outer ≡ Some m → (or_else (lookup (bytes_eq q) inner) outer ≡ Some m) ⊎ (v ≡ m)
 seen_or_new inner outer k q v m h = by (lookup (bytes_eq q) inner) (bytes_eq q k) (sym (ap (λ o. or_else o outer) (lookup_last (bytes_eq q) inner k v)) ∙ h)
   where
-    by : (o : Option Meaning) (b : Bool) → or_else (or_else o (if b then Some v else None)) outer ≡ Some m → (or_else o outer ≡ Some m) ⊎ (v ≡ m)
+    by : (o : Option Binding) (b : Bool) → or_else (or_else o (if b then Some v else None)) outer ≡ Some m → (or_else o outer ≡ Some m) ⊎ (v ≡ m)
     by (Some x) b h = inl h
     by None true h = inr cc
     by None false h = inl h
@@ -179,7 +179,7 @@ seen_or_new inner outer k q v m h = by (lookup (bytes_eq q) inner) (bytes_eq q k
 abbrev pub with_type : Context → Ty → Context
 with_type c t = record c { locals = c.locals ++ t ∷ [] }
 
-abbrev named_too : Context → Name → Meaning → Context
+abbrev named_too : Context → Name → Binding → Context
 named_too c n m = record c { inner = c.inner ++ (bytes_of c.text n, m) ∷ [] }
 
 pub type_good : (w : World) (c : Context) → Good w c → (t : Ty) → IsObject c.structs t → length c.locals < 1024 → Good w (with_type c t)
@@ -205,7 +205,7 @@ type_good w c g t o few = record {
     by n u (inl h) = g.locals n u h
     by n u (inr e) = subst (IsObject c.structs) e o
 
-pub name_good : (w : World) (c : Context) → Good w c → (n : Name) (m : Meaning) → IsNamed w c m → Good w (named_too c n m)
+pub name_good : (w : World) (c : Context) → Good w c → (n : Name) (m : Binding) → IsNamed w c m → Good w (named_too c n m)
 name_good w c g n m i = record {
   results = g.results;
   names = λ q p h. by q p (seen_or_new c.inner (found c.outer q) (bytes_of c.text n) q m p h);
@@ -224,7 +224,7 @@ name_good w c g n m i = record {
   few = g.few;
 }
   where
-    by : (q : List ℕ) (p : Meaning) → (visible c q ≡ Some p) ⊎ (m ≡ p) → IsNamed w (named_too c n m) p
+    by : (q : List ℕ) (p : Binding) → (visible c q ≡ Some p) ⊎ (m ≡ p) → IsNamed w (named_too c n m) p
     by q p (inl h) = named_kept w c (named_too c n m) (λ n t k. k) (λ n t k. k) p (g.names q p h)
     by q p (inr e) = subst (λ x. IsNamed w (named_too c n m) x) e (named_kept w c (named_too c n m) (λ n t k. k) (λ n t k. k) m i)
 
@@ -272,10 +272,10 @@ scalar_too (structure m) (pointer t) h k = absurd h
 scalar_too (structure m) (array t n) h k = absurd h
 
 -- what starts a local of a type
-abbrev Starts : Ty → form.Context → Option Expr → Type 0
+abbrev Starts : Ty → form.InScope → Option Expr → Type 0
 Starts t e o = IfTyped e (λ s. Fits s t × IsScalar s) o
 
-initialised_well : (e : form.Context) (place : ℕ) (t : Ty) (x : Expr) → IsTyped e x → OnTyped (λ y. IsTyped e y × (Fits (type_of y) t × IsScalar (type_of y))) (initialised place t x)
+initialised_well : (e : form.InScope) (place : ℕ) (t : Ty) (x : Expr) → IsTyped e x → OnTyped (λ y. IsTyped e y × (Fits (type_of y) t × IsScalar (type_of y))) (initialised place t x)
 initialised_well e place t x h =
     on_bind (λ u. is_scalar t ≡ true) (λ y. IsTyped e y × (Fits (type_of y) t × IsScalar (type_of y))) (unless place TypeMismatch (is_scalar t)) (λ u. or_mismatch place (fitted t x)) (on_unless place TypeMismatch (is_scalar t))
     (λ u s. on_weaker (Fitting e t) (λ y. IsTyped e y × (Fits (type_of y) t × IsScalar (type_of y))) (or_mismatch place (fitted t x)) (on_mismatch (Fitting e t) place (fitted t x) (fits e t x h))
@@ -293,7 +293,7 @@ pub declarator_keeps : (w : World) (d : source.Declarator) → Keeps w true (jud
 declarator_keeps w (source.declarator pointers n dims) = keeps_ruled w true (judged_dims dims) (λ c sizes. typed (record { name = n; pointers = pointers; sizes = sizes })) (λ e ns. ArePositive ns) (λ e x. ArePositive x.sizes) (dims_keeps w dims) (λ d e ns g v h. h)
 
 -- a statement that may stand first in a for
-abbrev pub Starting : World → Ty → Bool → form.Context → Stmt → Type 0
+abbrev pub Starting : World → Ty → Bool → form.InScope → Stmt → Type 0
 Starting w r l e s = IsWell (inside_of w r e) l s × IsFirst s
 
 pub none_of : {A B C D : Type 0} (P : D → Type 0) (f : Judged A) (r : Refusal) (rs : List Refusal) (k : Judged C) (make : (A × B) × C → Judged D) → OnTyped P (both (both {B = B} f (faulty r rs)) k >>= make)
@@ -349,7 +349,7 @@ local_keeps w r l base hb x = record { keeps = λ c g. by c base hb (judged_decl
     by c (faulty q qs) h d (typed y) a = none_of _ (both (fresh d (name_of x.declarator)) (within (name_of x.declarator).from 5 most_locals (length d.locals))) q qs (judged_init (name_of x.declarator).from (faulty q qs) x.value (with_local d (name_of x.declarator) (integer int))).0 _
     by c (faulty q qs) h d (faulty s ss) a = none_of _ (both (fresh d (name_of x.declarator)) (within (name_of x.declarator).from 5 most_locals (length d.locals))) q (qs ++ s ∷ ss) (judged_init (name_of x.declarator).from (faulty q (qs ++ s ∷ ss)) x.value (with_local d (name_of x.declarator) (integer int))).0 _
 
-abbrev pub AreStarting : World → Ty → Bool → form.Context → List Stmt → Type 0
+abbrev pub AreStarting : World → Ty → Bool → form.InScope → List Stmt → Type 0
 AreStarting w r l e ss = AllByRecursion (λ s. Starting w r l e s) ss
 
 locals_keeps : (w : World) (r : Ty) (l : Bool) (base : Judged Ty) → OnTyped Plain base → (xs : List source.InitDeclarator) → Keeps w false (judged_locals base xs) (AreStarting w r l)

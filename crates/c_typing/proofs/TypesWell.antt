@@ -165,7 +165,7 @@ size_bound s (structure n) h = h.2
 size_fits : (n : ℕ) → n ≤ greatest_object → IsInRange unsigned_long (pos n)
 size_fits n h = (omega (arith, ints), omega (arith, ints))
 
-pub size_made : (w : World) (d : Context) (e : form.Context) → Over w d e → (place : ℕ) (t : Ty) → Ready e.structs t → OnTyped (Made e) (size_number d place t)
+pub size_made : (w : World) (d : Context) (e : form.InScope) → Over w d e → (place : ℕ) (t : Ty) → Ready e.structs t → OnTyped (Made e) (size_number d place t)
 size_made w d e o place t r =
     on_bind (λ u. has_size d.structs t ≡ true) (Made e) (unless place BadSize (has_size d.structs t)) (λ u. typed (at place (integer unsigned_long) (num unsigned_long (pos (size_in d.structs t)))))
     (on_unless place BadSize (has_size d.structs t))

@@ -11,7 +11,7 @@ use Rattle.c_tree.specs.Typed.{Ty, Expr, Stmt}
 use Rattle.c_tree.specs.TypedLayout.{laid_out}
 use Rattle.c_typing.specs.Faults.{Judged, typed, faulty, ◌>>=◌}
 use Rattle.c_typing.specs.Scope.{printf, malloc, free, memcpy, thrd_create, thrd_join, mtx_init, mtx_lock, mtx_unlock, mtx_destroy, constant}
-use Rattle.c_typing.specs.Scope.{Meaning, global_name, local_name, function_name, library_name, Frame, Context, bytes_of, meaning_of, is_double, with_tag, tag_number, is_begun, with_begun, inside, declared}
+use Rattle.c_typing.specs.Scope.{Binding, global_name, local_name, function_name, library_name, Frame, Context, bytes_of, meaning_of, is_double, with_tag, tag_number, is_begun, with_begun, inside, declared}
 use Rattle.c_typing.specs.Judgement.{Judging, in_turn, member_by, name_in, text_in, node_place, with_addressed, meaning_in, valued, prefixed, format_or, starting_or, called_by, struct_fits, closed, braced, specs_by}
 use Rattle.c_typing.specs.Judgement.{judged, judged_all, judged_print, judged_start, judged_started, judged_type, judged_parts, judged_spec, judged_members, judged_member, judged_declarators, judged_dims, judged_specs}
 use Rattle.c_typing.specs.Statements.{judged_simple, judged_init, judged_declarator, judged_local, judged_locals, judged_declaration, one_of, returned, condition, judged_first, judged_condition, judged_step, looped, judged_stmt, judged_stmts}
@@ -26,7 +26,7 @@ Still j = (c : Context) → mark (j c).1 ≡ mark c
 still_both : {A B : Type 0} (a : Judging A) (b : Judging B) → Still a → Still b → Still (in_turn a b)
 still_both a b f g c = g (a c).1 ∙ f c
 
-addressed_still : (c : Context) (o : Option Meaning) → mark (with_addressed c o) ≡ mark c
+addressed_still : (c : Context) (o : Option Binding) → mark (with_addressed c o) ≡ mark c
 addressed_still c None = refl
 addressed_still c (Some (local_name n t)) = refl
 addressed_still c (Some (global_name n t)) = refl
@@ -41,7 +41,7 @@ prefixed_still place prefixes.Complement n j f c = f c
 prefixed_still place prefixes.Deref n j f c = f c
 prefixed_still place prefixes.AddressOf n j f c = addressed_still (j c).1 (meaning_in (j c).1 n) ∙ f c
 
-called_still : (o : Option Meaning) (place : ℕ) (args : Judging (List Expr)) (print start : Judging Expr) → Still args → Still print → Still start → Still (called_by o place args print start)
+called_still : (o : Option Binding) (place : ℕ) (args : Judging (List Expr)) (print start : Judging Expr) → Still args → Still print → Still start → Still (called_by o place args print start)
 called_still (Some (function_name n params result)) place args print start f g h c = f c
 called_still (Some (library_name printf)) place args print start f g h c = g c
 called_still (Some (library_name thrd_create)) place args print start f g h c = h c
@@ -62,7 +62,7 @@ format_still : (o : Option (List Span)) (place : ℕ) (j : Judging Expr) → Sti
 format_still (Some parts) place j f c = refl
 format_still None place j f c = f c
 
-starting_still : (o : Option Meaning) (j : Judging Expr) → Still j → Still (starting_or o j)
+starting_still : (o : Option Binding) (j : Judging Expr) → Still j → Still (starting_or o j)
 starting_still (Some (function_name n params result)) j f c = refl
 starting_still (Some (library_name (constant value))) j f c = f c
 starting_still (Some (library_name printf)) j f c = refl
@@ -189,7 +189,7 @@ simple_text (source.after place op s) c = expr_text s c
 simple_text (source.assign place op a b) c = text_both (judged a) (judged b) (expr_text a) (expr_text b) c
 simple_text (source.eval s) c = expr_text s c
 
-pub declared_text : (c : Context) (n : Name) (m : Meaning) → (declared c n m).text ≡ c.text
+pub declared_text : (c : Context) (n : Name) (m : Binding) → (declared c n m).text ≡ c.text
 declared_text c n m = by (is_double c n)
   where
     by : (b : Bool) → (if b then c else record c { inner = c.inner ++ (bytes_of c.text n, m) ∷ [] }).text ≡ c.text

@@ -5,15 +5,15 @@ use Rattle.std.specs.Map.{lookup}
 use Rattle.std.specs.Str.{bytes_eq}
 use Rattle.c_lex.specs.declared.refusal.Kind.TheVariants.{TypeMismatch}
 use Rattle.c_tree.specs.Syntax as source
-use Rattle.c_tree.specs.Typed.{Ty, void, integer, mutex, pointer, array, structure, Expr, Stmt, at_stmt, block, declare, if_, if_else, while_, for_, break_, continue_, return_, empty}
+use Rattle.c_tree.specs.Typed.{Ty, void, integer, mutex, pointer, array, structure, Expr, Stmt, at_stmt, block, declare, if_, if_else, while_, for_, break_, continue_, return_, empty, stmts_of}
 use Rattle.c_tree.specs.TypedForm.{IsScalar, Fits, IsTyped, IfTyped, IsNoDeclaration, IsStep, IsFirst, IsReturned, Inside, IsWell, AreWell}
 use Rattle.c_tree.specs.TypedForm as form
 use Rattle.c_typing.specs.Faults.{typed, unless, ◌>>=◌}
 use Rattle.c_typing.specs.Types.{is_void}
-use Rattle.c_typing.specs.Scope.{Meaning, Frame, Context, or_else, found, inside, back_to}
+use Rattle.c_typing.specs.Scope.{Binding, Frame, Context, or_else, found, inside, back_to}
 use Rattle.c_typing.specs.Rules.{fitted, or_mismatch, tested}
 use Rattle.c_typing.specs.Judgement.{Judging, lone, in_turn, ruled, valued, judged}
-use Rattle.c_typing.specs.Statements.{judged_simple, judged_declaration, stmts_of, condition, scoped, only, one_of, returned_by, returned, header_row, headed, judged_first, judged_condition, judged_step, looped, judged_stmt, judged_stmts}
+use Rattle.c_typing.specs.Statements.{judged_simple, judged_declaration, condition, scoped, only, one_of, returned_by, returned, header_row, headed, judged_first, judged_condition, judged_step, looped, judged_stmt, judged_stmts}
 use Rattle.c_typing.specs.Laws.{IsAlone, IsWritten, AreWritten}
 use Rattle.c_typing.proofs.Carried.{on_bind, on_unless, on_mismatch, on_weaker, World, Good, Within, Over, After, Keeps, keeps_lone, keeps_in_turn, keeps_ruled, keeps_weaker}
 use Rattle.c_typing.proofs.RuledWell.{Fine, Fitting, fits, Tested, tested_well}
@@ -29,7 +29,7 @@ or_assoc None b c = refl
 pub found_last : (fs : List Frame) (f : Frame) (q : List ℕ) → found (fs ++ f ∷ []) q ≡ or_else (lookup (bytes_eq q) f) (found fs q)
 found_last [] f q = by (lookup (bytes_eq q) f)
   where
-    by : (o : Option Meaning) → or_else None o ≡ or_else o None
+    by : (o : Option Binding) → or_else None o ≡ or_else o None
     by (Some x) = refl
     by None = refl
 found_last (g ∷ fs) f q = ap (λ o. or_else o (lookup (bytes_eq q) g)) (found_last fs f q) ∙ or_assoc (lookup (bytes_eq q) f) (found fs q) (lookup (bytes_eq q) g)
@@ -79,10 +79,10 @@ back_within c d f = (
   tt,
 )
 
-over_back : (w : World) (c d : Context) (e : form.Context) → Over w (back_to c d) e → Over w d e
+over_back : (w : World) (c d : Context) (e : form.InScope) → Over w (back_to c d) e → Over w d e
 over_back w c d e o = record { sound = o.sound; funcs = o.funcs; structs = o.structs; globals = o.globals; literals = o.literals; locals = o.locals; addressed = o.addressed }
 
-scoped_keeps : {A : Type 0} (w : World) (j : Judging A) (FineA : form.Context → A → Type 0) → Keeps w false j FineA → Keeps w false (scoped j) FineA
+scoped_keeps : {A : Type 0} (w : World) (j : Judging A) (FineA : form.InScope → A → Type 0) → Keeps w false j FineA → Keeps w false (scoped j) FineA
 scoped_keeps w j FineA kj = record {
   keeps = λ c g. on_weaker (λ x. After w false (inside c) (j (inside c)).1 (λ e. FineA e x)) (λ x. After w false c (back_to c (j (inside c)).1) (λ e. FineA e x)) (j (inside c)).0 (kj.keeps (inside c) (inside_good w c g))
       (λ x a. record { good = back_good w c (j (inside c)).1 g a.good a.within; within = back_within c (j (inside c)).1 a.within; fine = λ e o. a.fine e (over_back w c (j (inside c)).1 e o) });
@@ -91,18 +91,18 @@ scoped_keeps w j FineA kj = record {
 -- ---- statements
 
 -- statements in a row
-abbrev pub AreFineStmts : World → Ty → Bool → form.Context → List Stmt → Type 0
+abbrev pub AreFineStmts : World → Ty → Bool → form.InScope → List Stmt → Type 0
 AreFineStmts w r l e ss = AllByRecursion (λ s. IsWell (inside_of w r e) l s) ss
 
 abbrev NoDeclarations : List Stmt → Type 0
 NoDeclarations ss = AllByRecursion IsNoDeclaration ss
 
 -- those of one statement: none declares where it is no declaration
-abbrev pub FineStmts : World → Ty → Bool → source.Stmt → form.Context → List Stmt → Type 0
+abbrev pub FineStmts : World → Ty → Bool → source.Stmt → form.InScope → List Stmt → Type 0
 FineStmts w r l s e ss = AreFineStmts w r l e ss × (IsAlone s → NoDeclarations ss)
 
 -- one statement that is no declaration
-abbrev Single : World → Ty → Bool → form.Context → Stmt → Type 0
+abbrev Single : World → Ty → Bool → form.InScope → Stmt → Type 0
 Single w r l e s = IsWell (inside_of w r e) l s × IsNoDeclaration s
 
 no_declaration : (s : Stmt) → IsStep s → IsNoDeclaration s
@@ -115,18 +115,18 @@ step_first (at_stmt place (declare n init)) h = tt
 step_first (at_stmt place (block body)) h = h
 step_first (at_stmt place _) h = h
 
-pub stmts_well : (w : World) (r : Ty) (l : Bool) (e : form.Context) (ss : List Stmt) → AreFineStmts w r l e ss → AreWell (inside_of w r e) l (stmts_of ss)
+pub stmts_well : (w : World) (r : Ty) (l : Bool) (e : form.InScope) (ss : List Stmt) → AreFineStmts w r l e ss → AreWell (inside_of w r e) l (stmts_of ss)
 stmts_well w r l e [] h = tt
 stmts_well w r l e (s ∷ ss) h = (h.0, stmts_well w r l e ss h.1)
 
-starting_fine : (w : World) (r : Ty) (l : Bool) (e : form.Context) (ss : List Stmt) → AreStarting w r l e ss → AreFineStmts w r l e ss
+starting_fine : (w : World) (r : Ty) (l : Bool) (e : form.InScope) (ss : List Stmt) → AreStarting w r l e ss → AreFineStmts w r l e ss
 starting_fine w r l e [] h = tt
 starting_fine w r l e (s ∷ ss) h = (h.0.0, starting_fine w r l e ss h.1)
 
 condition_keeps : (w : World) (place : ℕ) (s : source.Expr) → Keeps w false (condition place s) Tested
 condition_keeps w place s = keeps_ruled w false (valued (judged s)) (λ c x. tested place x) Fine Tested (value_keeps w s) (λ d e x g v h. tested_well e place x h.0)
 
-only_well : (w : World) (r : Ty) (l : Bool) (e : form.Context) (ss : List Stmt) → AreFineStmts w r l e ss → NoDeclarations ss → Single w r l e (only ss)
+only_well : (w : World) (r : Ty) (l : Bool) (e : form.InScope) (ss : List Stmt) → AreFineStmts w r l e ss → NoDeclarations ss → Single w r l e (only ss)
 only_well w r l e [] h k = (tt, tt)
 only_well w r l e (s ∷ ss) h k = (h.0, k.0)
 
@@ -150,12 +150,12 @@ returned_keeps w r l place (Some s) = keeps_ruled w false (valued (judged s)) (�
 
 -- ---- for
 
-header_well : (w : World) (r : Ty) (l : Bool) (e : form.Context) (s : Stmt) (ss : List Stmt) (loop : Stmt → Stmt) → Starting w r l e s → AreStarting w r l e ss → ((s : Stmt) → Starting w r l e s → Single w r l e (loop s))
+header_well : (w : World) (r : Ty) (l : Bool) (e : form.InScope) (s : Stmt) (ss : List Stmt) (loop : Stmt → Stmt) → Starting w r l e s → AreStarting w r l e ss → ((s : Stmt) → Starting w r l e s → Single w r l e (loop s))
     → AreWell (inside_of w r e) l (stmts_of (header_row s ss loop))
 header_well w r l e s [] loop h k f = ((f s h).0, tt)
 header_well w r l e s (t ∷ rest) loop h k f = (h.0, header_well w r l e t rest loop k.0 k.1 f)
 
-headed_well : (w : World) (r : Ty) (l : Bool) (e : form.Context) (place : ℕ) (ss : List Stmt) (loop : Stmt → Stmt) → AreStarting w r l e ss → ((s : Stmt) → Starting w r l e s → Single w r l e (loop s)) → Single w r l e (headed place ss loop)
+headed_well : (w : World) (r : Ty) (l : Bool) (e : form.InScope) (place : ℕ) (ss : List Stmt) (loop : Stmt → Stmt) → AreStarting w r l e ss → ((s : Stmt) → Starting w r l e s → Single w r l e (loop s)) → Single w r l e (headed place ss loop)
 headed_well w r l e place [] loop h f = f (at_stmt place empty) (tt, tt)
 headed_well w r l e place (s ∷ []) loop h f = f s h.0
 headed_well w r l e place (s ∷ t ∷ rest) loop h f = (header_well w r l e s (t ∷ rest) loop h.0 h.1 f, tt)
@@ -165,7 +165,7 @@ first_keeps w r l place (source.first_declare d) = declaration_keeps w r l d
 first_keeps w r l place (source.first_simple s) = keeps_ruled w false (judged_simple s) (λ c x. typed (x ∷ [])) (Stepping w r l) (AreStarting w r l) (simple_keeps w r l s) (λ d e x g v h. ((h.0, step_first x h.1), tt))
 first_keeps w r l place source.first_nothing = keeps_lone w false (typed []) (AreStarting w r l) (λ e. tt)
 
-abbrev Testing : form.Context → Option Expr → Type 0
+abbrev Testing : form.InScope → Option Expr → Type 0
 Testing e o = IfTyped e IsScalar o
 
 test_keeps : (w : World) (place : ℕ) (o : Option source.Expr) → Keeps w false (judged_condition place o) Testing
@@ -200,7 +200,7 @@ continue_keeps : (w : World) (r : Ty) (l : Bool) (s : source.Stmt) (place : ℕ)
 continue_keeps w r l s place = keeps_lone w false (unless place TypeMismatch l >>= λ u. typed (at_stmt place continue_ ∷ [])) (FineStmts w r l s)
     (λ e. on_bind (λ u. l ≡ true) (FineStmts w r l s e) (unless place TypeMismatch l) (λ u. typed (at_stmt place continue_ ∷ [])) (on_unless place TypeMismatch l) (λ u h. ((h, tt), λ a. (tt, tt))))
 
-append_fine : (w : World) (r : Ty) (l : Bool) (e : form.Context) (a b : List Stmt) → AreFineStmts w r l e a → AreFineStmts w r l e b → AreFineStmts w r l e (a ++ b)
+append_fine : (w : World) (r : Ty) (l : Bool) (e : form.InScope) (a b : List Stmt) → AreFineStmts w r l e a → AreFineStmts w r l e b → AreFineStmts w r l e (a ++ b)
 append_fine w r l e [] b h k = k
 append_fine w r l e (x ∷ a) b h k = (h.0, append_fine w r l e a b h.1 k)
 

@@ -10,10 +10,10 @@ use Rattle.ak_words.specs.IntType.{int}
 use Rattle.c_lex.specs.declared.refusal.Kind.TheVariants.{UnknownName}
 use Rattle.c_tree.specs.Typed.{Ty, void, integer, mutex, pointer, array, structure, Local, GlobalVar, Func, Typed}
 use Rattle.c_tree.specs.TypedLayout.{size_in}
-use Rattle.c_tree.specs.TypedForm.{LiesIn, as_part, deeper, IsNth, Signature, signature_of, IsLayout, IsInit, IsGlobal, IsFunc, IsMain, IsWellFormed}
+use Rattle.c_tree.specs.TypedForm.{LiesIn, as_part, deeper, IsNth, Signature, signature_of, IsLayout, IsInit, IsGlobal, IsFunc, IsMain, IsWellFormed, taken}
 use Rattle.c_tree.specs.TypedForm as form
 use Rattle.c_typing.specs.Faults.{Judged, typed, unless, both}
-use Rattle.c_typing.specs.Scope.{Meaning, global_name, local_name, function_name, library_name, Context, at_start, taken}
+use Rattle.c_typing.specs.Scope.{Binding, global_name, local_name, function_name, library_name, Context, at_start}
 use Rattle.c_typing.specs.Programs.{defined_names, place_of_name, is_main, has_main, Made, program_of, judged_externals}
 use Rattle.c_typing.specs.Laws.{GivesWellFormed}
 use Rattle.c_typing.proofs.Extending.{extends_itself}
@@ -72,7 +72,7 @@ some_of : {A B : Type 0} (f : A → B) (o : Option A) (y : B) → option_map f o
 some_of f (Some x) y h = (x, refl, cc)
 some_of f None y h = absurd cc
 
-main_is : (o : Option Meaning) → is_main o ≡ true → (n : ℕ) × (o ≡ Some (function_name n [] (integer int)))
+main_is : (o : Option Binding) → is_main o ≡ true → (n : ℕ) × (o ≡ Some (function_name n [] (integer int)))
 main_is (Some (function_name n [] (integer t))) h = (n, ap (λ u. Some (function_name n [] (integer u))) (same_int_is t int h))
 main_is (Some (function_name n [] void)) h = absurd cc
 main_is (Some (function_name n [] mutex)) h = absurd cc

@@ -13,10 +13,10 @@ use Rattle.c_tree.specs.declared.syntax.BinaryOp.{BinaryOp}
 use Rattle.c_tree.specs.declared.syntax.BinaryOp.TheVariants as binaries
 use Rattle.c_tree.specs.Syntax as source
 use Rattle.c_tree.specs.Typed.{Ty, integer, Expr, at, ExprNode, num, convert, not_, binary}
-use Rattle.c_typing.specs.Scope.{Context, Meaning, library_name, constant, meaning_of}
+use Rattle.c_typing.specs.Scope.{Context, Binding, library_name, constant, meaning_of}
 
 -- a name that stands for a constant
-abbrev pub is_constant_name : Option Meaning → Bool
+abbrev pub is_constant_name : Option Binding → Bool
 is_constant_name (Some (library_name (constant value))) = true
 is_constant_name m = false
 

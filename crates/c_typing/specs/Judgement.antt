@@ -15,17 +15,18 @@ use Rattle.c_tree.specs.declared.syntax.PrefixOp.TheVariants as prefixes
 use Rattle.c_tree.specs.declared.syntax.BinaryOp.{BinaryOp}
 use Rattle.c_tree.specs.declared.syntax.BinaryOp.TheVariants as binaries
 use Rattle.c_tree.specs.Syntax as source
-use Rattle.c_tree.specs.Typed.{Ty, void, integer, mutex, pointer, array, structure, Piece, Expr, at, num, null, literal, global, local, and_also, or_else, call, lib, Exprs, no_exprs, more_exprs, type_of, node_of, place_of}
+use Rattle.c_tree.specs.Typed.{Ty, void, integer, mutex, pointer, array, structure, Piece, Expr, at, num, null, literal, global, local, and_also, or_else, call, lib, Exprs, no_exprs, more_exprs, type_of, node_of, place_of, exprs_of}
 use Rattle.c_tree.specs.Typed as trees
 use Rattle.c_tree.specs.TypedLayout.{laid_out, greatest_object}
 use Rattle.c_typing.specs.Faults.{Judged, typed, faulty, refuse, unless, both, mapped, ◌>>=◌}
 use Rattle.c_typing.specs.Types.{same_type, same_types, has_size, is_small, says_nothing, named_by, behind_pointers, arrays_of}
 use Rattle.c_typing.specs.Scope.{Library, printf, malloc, free, memcpy, thrd_create, thrd_join, mtx_init, mtx_lock, mtx_unlock, mtx_destroy, constant}
-use Rattle.c_typing.specs.Scope.{Meaning, global_name, local_name, function_name, library_name, Context, bytes_of, meaning_of, within, taken, fits_plain, tag_number, with_tag, is_begun, with_begun, with_struct}
+use Rattle.c_typing.specs.Scope.{Binding, global_name, local_name, function_name, library_name, Context, bytes_of, meaning_of, within, fits_plain, tag_number, with_tag, is_begun, with_begun, with_struct}
 use Rattle.c_typing.specs.Rules.{value_of, is_zero, fitted, or_mismatch, tested, target, address, selected, pointed, minus_by, plus_by, not_by, complement_by, operated, element, chosen, cast, size_number}
 use Rattle.c_typing.specs.Constants.{constant_value}
 use Rattle.c_typing.specs.Formats.{pieces_of, arguments_for}
 use Rattle.c_typing.specs.Literals.{joined_bytes, place_of_parts}
+use Rattle.c_tree.specs.TypedForm.{taken}
 
 -- ---- judging in the order of the text
 
@@ -53,7 +54,7 @@ named_by_library place (constant value) = typed (at place (integer int) (num int
 named_by_library place which = refuse place (OutsideSubset 12)
 
 -- a name where an expression stands, by what it means
-abbrev pub named : ℕ → Option Meaning → Judged Expr
+abbrev pub named : ℕ → Option Binding → Judged Expr
 named place (Some (global_name n t)) = typed (at place t (global n))
 named place (Some (local_name n t)) = typed (at place t (local n))
 named place (Some (function_name n params result)) = refuse place (OutsideSubset 12)
@@ -101,12 +102,12 @@ node_place (source.binary place op a b) = place
 node_place (source.conditional place e a b) = place
 
 -- the local whose address `&` takes is in memory (6.5.3.2 p1)
-abbrev pub with_addressed : Context → Option Meaning → Context
+abbrev pub with_addressed : Context → Option Binding → Context
 with_addressed c (Some (local_name n t)) = record c { addressed = c.addressed ++ n ∷ [] }
 with_addressed c m = c
 
 -- what a name means, if there is a name
-abbrev pub meaning_in : Context → Option Name → Option Meaning
+abbrev pub meaning_in : Context → Option Name → Option Binding
 meaning_in c None = None
 meaning_in c (Some n) = meaning_of c n
 
@@ -136,11 +137,6 @@ prefixed place prefixes.Deref n e = ruled (valued e) (λ c x. target place x)
 prefixed place prefixes.AddressOf n e = addressing place n e
 
 -- ---- calls (6.5.2.2)
-
--- expressions of a list, in a row
-abbrev pub exprs_of : List Expr → Exprs
-exprs_of [] = no_exprs
-exprs_of (e ∷ es) = more_exprs e (exprs_of es)
 
 -- an argument before those behind it, if all of them fit their parameters
 abbrev pub before_fitted : Option Expr → Option (List Expr) → Option (List Expr)
@@ -196,7 +192,7 @@ starting_by n fits = if fits then Some n else None
 
 -- the second argument of thrd_create, by what it means: the number of a function that a thread may begin with, or none; what
 -- isn't the name of a function is judged for its faults
-abbrev pub starting_or : Option Meaning → Judging Expr → Judging (Option ℕ)
+abbrev pub starting_or : Option Binding → Judging Expr → Judging (Option ℕ)
 starting_or (Some (function_name n params result)) e c =
     (typed (starting_by n (same_type result (integer int) && same_types params (pointer void ∷ []))), c)
 starting_or (Some (library_name (constant value))) e c = ruled e (λ d x. typed None) c
@@ -239,7 +235,7 @@ abbrev pub no_call : (place : ℕ) → Kind → Judging (List Expr) → Judging 
 no_call place kind args = ruled (in_turn (lone (refuse {A = Unit {0}} place kind)) args) (λ c p. refuse place kind)
 
 -- a call, by what its name means; a name is looked up whether or not the arguments are typed
-abbrev pub called_by : Option Meaning → (place : ℕ) → (args : Judging (List Expr)) → (print start : Judging Expr) → Judging Expr
+abbrev pub called_by : Option Binding → (place : ℕ) → (args : Judging (List Expr)) → (print start : Judging Expr) → Judging Expr
 called_by (Some (function_name n params result)) place args print start = ruled args (λ c es. called place n params result es)
 called_by (Some (library_name printf)) place args print start = print
 called_by (Some (library_name thrd_create)) place args print start = start

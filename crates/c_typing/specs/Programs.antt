@@ -12,17 +12,18 @@ use Rattle.c_lex.specs.declared.refusal.Kind.TheVariants.{UnknownName, DoubleNam
 use Rattle.c_tree.specs.declared.syntax.Name.{Name}
 use Rattle.c_tree.specs.declared.syntax.Pointer.{Pointer}
 use Rattle.c_tree.specs.Syntax as source
-use Rattle.c_tree.specs.Typed.{Ty, void, integer, pointer, structure, mutex, Init, zero_bytes, literal_at, GlobalVar, Func, Typed, Expr, ExprNode, literal, decay, node_of, Stmt}
+use Rattle.c_tree.specs.Typed.{Ty, void, integer, pointer, structure, mutex, Init, zero_bytes, literal_at, GlobalVar, Func, Typed, Expr, ExprNode, literal, decay, node_of, Stmt, stmts_of}
 use Rattle.c_tree.specs.Typed as trees
 use Rattle.c_tree.specs.TypedLayout.{size_in}
 use Rattle.c_typing.specs.Faults.{Judged, typed, faulty, refuse, unless, both, mapped, ◌>>=◌}
 use Rattle.c_typing.specs.Types.{same_int, same_type, same_types, is_void, is_struct_or_mutex, has_size, behind_pointers, arrays_of}
-use Rattle.c_typing.specs.Scope.{Meaning, global_name, function_name, Context, at_start, bytes_of, library, fresh, declared, inside, back_to, within, taken, fits_plain}
+use Rattle.c_typing.specs.Scope.{Binding, global_name, function_name, Context, at_start, bytes_of, library, fresh, declared, inside, back_to, within, fits_plain}
 use Rattle.c_typing.specs.Rules.{is_zero}
 use Rattle.c_typing.specs.Constants.{constant_value}
 use Rattle.c_typing.specs.Judgement.{Judging, lone, in_turn, ruled, valued, judged, judged_specs, place_of_specs, dimension, object_type, object_declared}
-use Rattle.c_typing.specs.Statements.{or_int, most_locals, with_local, judged_declarator, name_of, stmts_of, judged_stmts}
+use Rattle.c_typing.specs.Statements.{or_int, most_locals, with_local, judged_declarator, name_of, judged_stmts}
 use Rattle.c_typing.specs.Numbering.{Param, func_of}
+use Rattle.c_tree.specs.TypedForm.{taken}
 
 -- ---- globals (6.9.2, 6.7.9)
 
@@ -191,18 +192,18 @@ place_of_name q [] = 0
 place_of_name q (name ∷ names) = if bytes_eq q name then 0 else 1 + place_of_name q names
 
 -- a function's name meant nothing before at file scope, or a function (6.7 p3, p4)
-abbrev pub once : (place : ℕ) → Option Meaning → Judged (Unit {0})
+abbrev pub once : (place : ℕ) → Option Binding → Judged (Unit {0})
 once place (Some (function_name n ps r)) = typed tt
 once place (Some m) = refuse place DoubleName
 once place None = typed tt
 
 -- the type of a function is the one that its name was declared with before, if it was (C11 6.7 p4)
-abbrev pub agrees : (place : ℕ) → (params : List Ty) → (result : Ty) → Option Meaning → Judged (Unit {0})
+abbrev pub agrees : (place : ℕ) → (params : List Ty) → (result : Ty) → Option Binding → Judged (Unit {0})
 agrees place params result (Some (function_name n ps r)) = unless place TypeMismatch (same_types params ps && same_type result r)
 agrees place params result m = typed tt
 
 -- the name was not declared as a function before
-abbrev pub is_new : Option Meaning → Bool
+abbrev pub is_new : Option Binding → Bool
 is_new (Some (function_name n ps r)) = false
 is_new m = true
 
@@ -219,7 +220,7 @@ one_body c n None = typed tt
 one_body c n (Some body) = unless n.from DoubleName (not (list_any (bytes_eq (bytes_of c.text n)) c.bodies))
 
 -- what the name meant before at file scope
-abbrev pub before_name : Context → Name → Option Meaning
+abbrev pub before_name : Context → Name → Option Binding
 before_name c n = lookup (bytes_eq (bytes_of c.text n)) c.inner
 
 -- no name of the library
@@ -317,7 +318,7 @@ judged_externals names [] c = (typed (record { globals = []; funcs = [] }), c)
 judged_externals names (x ∷ xs) c = ruled (in_turn (judged_external names x) (judged_externals names xs)) (λ d p. typed (joined p.0 p.1)) c
 
 -- there is `int main(void)`, with a body; else its name is unknown at the text's end (5.1.2.2.1, this project's profile)
-abbrev pub is_main : Option Meaning → Bool
+abbrev pub is_main : Option Binding → Bool
 is_main (Some (function_name n [] (integer t))) = same_int t int
 is_main m = false
 

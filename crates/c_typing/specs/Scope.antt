@@ -9,6 +9,7 @@ use Rattle.c_tree.specs.declared.syntax.Name.{Name}
 use Rattle.c_tree.specs.Typed.{Ty, Layout}
 use Rattle.c_tree.specs.TypedLayout.{laid_out}
 use Rattle.c_typing.specs.Faults.{Judged, unless}
+use Rattle.c_tree.specs.TypedForm.{taken}
 
 -- ---- the library
 
@@ -36,15 +37,15 @@ library = (codes "printf", printf) ∷ (codes "malloc", malloc) ∷ (codes "free
 -- ---- names
 
 -- what a name means: an object of file scope or a local by its number, a function by its number, or a name of the library
-pub data Meaning : Type 0 where
-  global_name : (n : ℕ) (t : Ty) → Meaning
-  local_name : (n : ℕ) (t : Ty) → Meaning
-  function_name : (n : ℕ) (params : List Ty) (result : Ty) → Meaning
-  library_name : (which : Library) → Meaning
+pub data Binding : Type 0 where
+  global_name : (n : ℕ) (t : Ty) → Binding
+  local_name : (n : ℕ) (t : Ty) → Binding
+  function_name : (n : ℕ) (params : List Ty) (result : Ty) → Binding
+  library_name : (which : Library) → Binding
 
 -- one scope: the bytes of each name, and what it means, in order of declaration
 abbrev pub Frame : Type 0
-Frame = List (List ℕ × Meaning)
+Frame = List (List ℕ × Binding)
 
 -- what stands before a node: the text; the tags in the order in which they were first named, each with its struct's layout and
 -- the names of its members, which has no member where the struct isn't declared yet, and whether its braces were begun; how many
@@ -96,17 +97,17 @@ or_else (Some x) o = Some x
 or_else None o = o
 
 -- what the innermost scope that declares it says
-abbrev pub found : List Frame → List ℕ → Option Meaning
+abbrev pub found : List Frame → List ℕ → Option Binding
 found [] q = None
 found (around ∷ inner) q = or_else (found inner q) (lookup (bytes_eq q) around)
 
 -- a name of the library
-abbrev pub of_library : Option Library → Option Meaning
+abbrev pub of_library : Option Library → Option Binding
 of_library None = None
 of_library (Some which) = Some (library_name which)
 
 -- what a name means in a context; the library's names are declared around all else
-abbrev pub meaning_of : Context → Name → Option Meaning
+abbrev pub meaning_of : Context → Name → Option Binding
 meaning_of c n =
     let q = bytes_of c.text n in
     or_else (lookup (bytes_eq q) c.inner) (or_else (found c.outer q) (of_library (lookup (bytes_eq q) library)))
@@ -120,7 +121,7 @@ abbrev pub fresh : Context → Name → Judged (Unit {0})
 fresh c n = unless n.from DoubleName (not (is_double c n))
 
 -- after a declaration: the innermost scope has the name, and what it first meant there
-abbrev pub declared : Context → Name → Meaning → Context
+abbrev pub declared : Context → Name → Binding → Context
 declared c n m = if is_double c n then c else record c { inner = c.inner ++ (bytes_of c.text n, m) ∷ [] }
 
 -- into a scope of its own (6.8.2, 6.8.5), and back to those around, with all that the text has shown there
@@ -136,10 +137,6 @@ back_to around c = record c { inner = around.inner; outer = around.outer }
 -- fewer than so many were there before
 abbrev pub within : (place count : ℕ) → (most before : ℕ) → Judged (Unit {0})
 within place count most before = unless place (TooMany count) (nat_lt before most)
-
--- the bytes that a plain object takes, with one of padding behind it at least
-abbrev pub taken : ℕ → ℕ
-taken size = 16 * (size / 16 + 1)
 
 -- what globals and literals may take
 abbrev pub most_plain : ℕ

@@ -10,7 +10,7 @@ use Rattle.c_tree.specs.declared.syntax.StepOp.TheVariants as steps
 use Rattle.c_tree.specs.declared.syntax.AssignOp.{AssignOp}
 use Rattle.c_tree.specs.declared.syntax.AssignOp.TheVariants as assigns
 use Rattle.c_tree.specs.Syntax as source
-use Rattle.c_tree.specs.Typed.{Ty, integer, pointer, Expr, at, num, type_of, node_of, place_of, Stmt, at_stmt, block, declare, if_, if_else, while_, for_, break_, continue_, return_, assign, update, evaluate, empty, Stmts, no_stmts, more_stmts}
+use Rattle.c_tree.specs.Typed.{Ty, integer, pointer, Expr, at, num, type_of, node_of, place_of, Stmt, at_stmt, block, declare, if_, if_else, while_, for_, break_, continue_, return_, assign, update, evaluate, empty, Stmts, no_stmts, more_stmts, stmts_of}
 use Rattle.c_typing.specs.Faults.{Judged, typed, faulty, refuse, unless, both, ◌>>=◌}
 use Rattle.c_typing.specs.Types.{is_void, is_array, is_scalar, has_size, is_declared}
 use Rattle.c_typing.specs.Scope.{Context, local_name, fresh, declared, inside, back_to, within}
@@ -138,11 +138,6 @@ judged_declaration d around =
     (both base.0 all.0 >>= λ p. typed p.1, all.1)
 
 -- ---- statements (6.8)
-
--- statements of a list, in a row
-abbrev pub stmts_of : List Stmt → Stmts
-stmts_of [] = no_stmts
-stmts_of (s ∷ ss) = more_stmts s (stmts_of ss)
 
 -- a condition, at the place of a word
 abbrev pub condition : (place : ℕ) → source.Expr → Judging Expr

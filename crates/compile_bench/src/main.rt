@@ -8,8 +8,8 @@ ghost use Rattle.std.specs.Prelude.{◌≤◌, length};
 
 use ak_io::{FileShelf, ReadEnd, Shelf};
 use ak_words::NoMemory;
+use alaska_run::{Reading, read};
 use c_lex::{CompileFault, Refusal};
-use c_reader::{Reading, read};
 use compile_passes::{Compiled, compile};
 use ir_lower::lower;
 use std::env::Env;

@@ -6,10 +6,11 @@ use Rattle.struct_ir.specs.Instrs.{LinearCode}
 use Rattle.struct_ir.specs.Linear.{linear, entry_of}
 use Rattle.struct_ir.specs.Pins.{PinSafe}
 use Rattle.struct_ir.specs.Placed.{all_due}
-use Rattle.pin_flow.specs.Funcs.{EveryFunc, IsExact, IsHoisted}
+use Rattle.struct_ir.specs.Safe.{EveryFunc}
+use Rattle.pin_flow.specs.Funcs.{IsExact, IsHoisted}
 use Rattle.pin_flow.specs.Slots.{HasOwnSlots}
 use Rattle.pin_checker.specs.Safe.{IsSafe}
-use Rattle.emit_code.specs.Emitted.{IsEmitted}
+use Rattle.struct_ir.specs.Emitted.{IsEmitted}
 
 -- the code with its Looks, safepoints and lists
 pub record IsPrepared (given ready : Ir) : Type 0 where

@@ -5,7 +5,7 @@ ghost use Rattle.struct_ir.specs.Erased.{ir_erased};
 ghost use Rattle.struct_ir.specs.LinearViews.{code_view};
 ghost use Rattle.struct_ir.specs.Valid.{is_valid};
 ghost use Rattle.struct_ir.specs.WholeViews.{ir_view};
-ghost use Rattle.pin_checker.specs.CheckedViews.{code_of};
+ghost use Rattle.pin_checker.specs.CheckedViews.{program_in};
 ghost use Rattle.pin_checker.specs.Safe.{IsSafe};
 ghost use Rattle.compile_passes.specs.Compiled.{IsCompiled, IsPrepared};
 
@@ -37,7 +37,7 @@ pub fn prepare(alloc: Global, ir: Ir) -> Result<Ir, NoMemory>
 // Code that is safe passes the check.
 fn checked(alloc: Global, ir: Ir) -> Result<Checked, NoMemory>
     requires { IsSafe (ir_view ir) }
-    ensures { IfOk result (λ c. code_of c ≡ ir_view ir) }
+    ensures { IfOk result (λ c. program_in c ≡ ir_view ir) }
 {
     match check(alloc, ir) {
         Ok(checked) => Ok(checked),
@@ -64,7 +64,7 @@ pub struct Compiled {
 pub fn compile(alloc: Global, ir: Ir) -> Result<Compiled, NoMemory>
     requires valid { is_valid (ir_view ir) ≡ true }
     requires bare { ir_erased (ir_view ir) ≡ ir_view ir }
-    ensures { IfOk result (λ x. IsCompiled (ir_view ir) (code_of x.checked) (code_view x.code)) }
+    ensures { IfOk result (λ x. IsCompiled (ir_view ir) (program_in x.checked) (code_view x.code)) }
 {
     let ready = prepare(alloc, ir)?;
     let checked = checked(alloc, ready)?;

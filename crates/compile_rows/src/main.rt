@@ -6,8 +6,8 @@
 ghost use Rattle.std.specs.Prelude.{◌≤◌, length};
 
 use ak_words::NoMemory;
+use alaska_run::read;
 use c_lex::CompileFault;
-use c_reader::read;
 use compile_passes::{Compiled, compile, prepare};
 use ir_lower::lower;
 use std::alloc::Global;

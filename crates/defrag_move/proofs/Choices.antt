@@ -5,8 +5,8 @@ use Rattle.sub_heaps.specs.declared.objects.Object.{Object}
 use Rattle.sub_heaps.specs.ByPlace.{end_of}
 use Rattle.sub_heaps.specs.SubHeaps.{FitsAt, IsRounded, StandFrom, rounded}
 use Rattle.sub_heaps.proofs.Kept.{IsSound-with_object}
-use Rattle.defrag_move.specs.Arena.{IsConsistent, Storage}
-use Rattle.defrag_move.specs.Changes.{with_new, without_id, without_owner}
+use Rattle.arena_meaning.specs.Arena.{IsConsistent, Storage}
+use Rattle.arena_meaning.specs.Changes.{with_new, without_id, without_owner}
 use Rattle.defrag_move.proofs.Kept.{IsConsistent-with_new, IsConsistent-without_id}
 use Rattle.defrag_move.proofs.Named.{fewer}
 

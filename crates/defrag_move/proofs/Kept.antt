@@ -11,14 +11,14 @@ use Rattle.flat_store.specs.Flat.{first_address, byte_at, bytes_from, with_bytes
 use Rattle.sub_heaps.specs.declared.objects.Object.{Object}
 use Rattle.sub_heaps.specs.ByPlace.{end_of, object_at, without, shifted}
 use Rattle.sub_heaps.specs.SubHeaps.{IsSound, IsApartFrom, LiesInOne, StandFrom}
-use Rattle.move_plan.specs.declared.moves.Move.{Move}
-use Rattle.move_plan.specs.Moving.{AreLegal, IsAllowed, after_moves, destination}
+use Rattle.sub_heaps.specs.declared.moves.Move.{Move}
+use Rattle.sub_heaps.specs.Moving.{AreLegal, IsAllowed, after_moves, destination}
 use Rattle.move_plan.proofs.Turns.{IsSound-after_move, allowed_object}
 use Rattle.sub_heaps.proofs.Edits.{without-Each}
 use Rattle.sub_heaps.proofs.Taken.{found_at}
-use Rattle.defrag_move.specs.Arena.{IsConsistent, Storage, object_of}
-use Rattle.defrag_move.specs.Changes.{with_new, without_id}
-use Rattle.defrag_move.specs.Moves.{IsCarried, KeepsObjects, after_plan, moved, moved_with}
+use Rattle.arena_meaning.specs.Arena.{IsConsistent, Storage, object_of}
+use Rattle.arena_meaning.specs.Changes.{with_new, without_id}
+use Rattle.arena_meaning.specs.Moves.{IsCarried, KeepsObjects, after_plan, moved, moved_with}
 use Rattle.defrag_move.proofs.Bytes.{byte_at-below, bytes_from-apart, bytes_from-with_bytes, length-bytes_from, length-with_bytes}
 use Rattle.defrag_move.proofs.Owners.{Matches, Matches-gone, Matches-moved, Matches-new, find_each, in_use_within, object_at-owned, object_of-moved, object_of-placed, object_of-unmoved, owner_found}
 

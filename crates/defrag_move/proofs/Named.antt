@@ -5,7 +5,7 @@ use Rattle.std.proofs.lemmas.Bool.{le-leb, false≢true}
 use Rattle.handle_words.specs.Handle.{IsHandle, id_of, offset_of}
 use Rattle.handle_table.specs.Table.{IsFree, IsInUse, address_of, translated}
 use Rattle.sub_heaps.specs.declared.objects.Object.{Object}
-use Rattle.defrag_move.specs.Arena.{IsConsistent, Storage, object_of}
+use Rattle.arena_meaning.specs.Arena.{IsConsistent, Storage, object_of}
 use Rattle.defrag_move.proofs.Counts.{as_many, in_use_count-free}
 use Rattle.defrag_move.proofs.Kept.{matches, object_starts}
 use Rattle.defrag_move.proofs.Owners.{owner_found, value_in}

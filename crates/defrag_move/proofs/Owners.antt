@@ -11,8 +11,8 @@ use Rattle.sub_heaps.specs.ByPlace.{end_of, object_at, with_object, without, wit
 use Rattle.sub_heaps.specs.SubHeaps.{StandFrom}
 use Rattle.sub_heaps.proofs.Edits.{Each-with_object}
 use Rattle.sub_heaps.proofs.Taken.{found_at}
-use Rattle.defrag_move.specs.Arena.{object_of}
-use Rattle.defrag_move.specs.Changes.{without_owner}
+use Rattle.arena_meaning.specs.Arena.{object_of}
+use Rattle.arena_meaning.specs.Changes.{without_owner}
 
 -- ---- what a test finds
 

@@ -6,8 +6,8 @@ use Rattle.std.specs.List.{cons_option}
 use Rattle.std.specs.Ordering.{nat_cmp, eq_by_cmp}
 use Rattle.std.proofs.lemmas.Bool.{cases_eq, eq-eqb, ne_eqb}
 use Rattle.std.proofs.lemmas.List.{drop_more}
-use Rattle.defrag_move.specs.Arena.{Storage, place_named, places_named}
-use Rattle.defrag_move.specs.Changes.{with_places}
+use Rattle.arena_meaning.specs.Arena.{Storage, place_named, places_named}
+use Rattle.arena_meaning.specs.Changes.{with_places}
 
 abbrev Places : Type 0
 Places = set.FinSet nat_cmp

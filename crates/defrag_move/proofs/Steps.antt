@@ -8,8 +8,8 @@ use Rattle.handle_table.specs.Table.{IsFree, address_of}
 use Rattle.sub_heaps.specs.declared.objects.Object.{Object}
 use Rattle.sub_heaps.specs.ByPlace.{object_at, with_object, without}
 use Rattle.sub_heaps.specs.SubHeaps.{SubHeaps, IsSound}
-use Rattle.defrag_move.specs.Arena.{IsConsistent, Storage, object_of}
-use Rattle.defrag_move.specs.Changes.{with_new, without_id, without_owner}
+use Rattle.arena_meaning.specs.Arena.{IsConsistent, Storage, object_of}
+use Rattle.arena_meaning.specs.Changes.{with_new, without_id, without_owner}
 use Rattle.defrag_move.proofs.Kept.{IsConsistent-with_new, IsConsistent-without_id, matches}
 use Rattle.defrag_move.proofs.Owners.{object_at-owned, without-object}
 

@@ -9,12 +9,12 @@ use Rattle.flat_store.specs.Flat.{HasBytes, bytes_from, with_bytes}
 use Rattle.sub_heaps.specs.declared.objects.Object.{Object}
 use Rattle.sub_heaps.specs.ByPlace.{end_of, object_at, without, shifted}
 use Rattle.sub_heaps.specs.SubHeaps.{SubHeaps, StandFrom, FitsAt}
-use Rattle.move_plan.specs.declared.moves.Move.{Move}
-use Rattle.move_plan.specs.Moving.{AreLegal, IsAllowed, after_move}
+use Rattle.sub_heaps.specs.declared.moves.Move.{Move}
+use Rattle.sub_heaps.specs.Moving.{AreLegal, IsAllowed, after_move}
 use Rattle.move_plan.proofs.Turns.{allowed_object}
 use Rattle.sub_heaps.proofs.Taken.{found_at}
-use Rattle.defrag_move.specs.Arena.{IsConsistent, Storage}
-use Rattle.defrag_move.specs.Moves.{after_plan, moved, moved_with}
+use Rattle.arena_meaning.specs.Arena.{IsConsistent, Storage}
+use Rattle.arena_meaning.specs.Moves.{after_plan, moved, moved_with}
 use Rattle.defrag_move.proofs.Kept.{IsConsistent-moved, from_within, matches, moved_is, mover, moving, owned, to_within}
 use Rattle.defrag_move.proofs.Owners.{each_above, find_each, owner_found}
 

@@ -1,3 +1,0 @@
-pub mod Arena
-pub mod Changes
-pub mod Moves

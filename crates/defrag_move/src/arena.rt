@@ -7,13 +7,13 @@ ghost use Rattle.flat_store.specs.Flat.{first_address, HasBytes, first_outside, 
 ghost use Rattle.flat_store.specs.Word.{is_word_size, low_bytes};
 ghost use Rattle.sub_heaps.specs.SubHeaps.{IsShape};
 ghost use Rattle.move_plan.specs.Holding.{is_pinned};
-ghost use Rattle.move_plan.specs.Moving.{AreLegal, IsAllowed, after_moves};
-ghost use Rattle.defrag_move.specs.Arena.{IsConsistent, IsLiveStart, object_of, place_named, places_named, start_behind};
-ghost use Rattle.defrag_move.specs.Changes.{IsAnswer, after_alloc, with_places, without_id};
-ghost use Rattle.defrag_move.specs.Moves.{KeepsObjects, after_plan, moved};
+ghost use Rattle.sub_heaps.specs.Moving.{AreLegal, IsAllowed, after_moves};
+ghost use Rattle.arena_meaning.specs.Arena.{IsConsistent, IsLiveStart, object_of, place_named, places_named, start_behind};
+ghost use Rattle.arena_meaning.specs.Changes.{IsAnswer, after_alloc, with_places, without_id};
+ghost use Rattle.arena_meaning.specs.Moves.{KeepsObjects, after_plan, moved};
 
-use crate::answers::{Alloced, NotLive};
 use ak_words::NoMemory;
+use arena_meaning::{Alloced, NotLive};
 use flat_store::{FIRST_ADDRESS, Flat, OutsideFlat};
 use handle_table::{PinWords, Table};
 use handle_words::{id, is_handle, make, offset};
@@ -33,7 +33,7 @@ pub struct Arena {
 
 // Clauses see where the sub-heaps begin, the address of each id in use, the objects in order of place, and the bytes.
 impl Model for Arena {
-    ghost use Rattle.defrag_move.specs.Arena.{Storage, IsConsistent};
+    ghost use Rattle.arena_meaning.specs.Arena.{Storage, IsConsistent};
 
     ghost Value = { Storage };
 

@@ -3,11 +3,11 @@ ghost use Rattle.std.specs.FinSet as set;
 ghost use Rattle.std.specs.Ordering.{nat_cmp};
 ghost use Rattle.handle_table.specs.Table.{IsFree};
 ghost use Rattle.sub_heaps.specs.SubHeaps.{FitsAt, rounded};
-ghost use Rattle.move_plan.specs.declared.moves.Move.{Move};
-ghost use Rattle.move_plan.specs.Moving.{AreLegal};
-ghost use Rattle.defrag_move.specs.Arena.{IsConsistent, Storage, places_named};
-ghost use Rattle.defrag_move.specs.Changes.{with_new, with_places, without_id};
-ghost use Rattle.defrag_move.specs.Moves.{KeepsObjects, after_plan};
+ghost use Rattle.sub_heaps.specs.declared.moves.Move.{Move};
+ghost use Rattle.sub_heaps.specs.Moving.{AreLegal};
+ghost use Rattle.arena_meaning.specs.Arena.{IsConsistent, Storage, places_named};
+ghost use Rattle.arena_meaning.specs.Changes.{with_new, with_places, without_id};
+ghost use Rattle.arena_meaning.specs.Moves.{KeepsObjects, after_plan};
 
 /// The laws of storage: it stays consistent whichever free id and fitting place a new object takes, whichever id is freed, and
 /// whichever legal moves are made, and those keep each object with its bytes.

@@ -3,10 +3,9 @@
 //! Stands on handle_table, sub_heaps, move_plan and flat_store for its parts, on handle_words, and on ak_words for want of memory.
 #![tactic(auto)]
 
-mod answers;
 mod arena;
 mod laws;
 
-pub use answers::{Alloced, NotLive};
 pub use arena::Arena;
+pub use arena_meaning::{Alloced, NotLive};
 pub use laws::{objects_are_counted, storage_stays_consistent};

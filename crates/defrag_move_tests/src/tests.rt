@@ -2,7 +2,7 @@ ghost use Rattle.std.specs.Prelude.{◌≡◌, ◌≤◌, [], length};
 ghost use Rattle.std.specs.FinSet as set;
 ghost use Rattle.move_plan.specs.Holding.{is_pinned};
 ghost use Rattle.move_plan.specs.Sliding.{IsSlid, holds};
-ghost use Rattle.defrag_move.specs.Moves.{KeepsObjects};
+ghost use Rattle.arena_meaning.specs.Moves.{KeepsObjects};
 
 use ak_words::NoMemory;
 use defrag_move::{Alloced, Arena, NotLive, objects_are_counted};

@@ -5,8 +5,8 @@ use Rattle.struct_ir.specs.Nodes.{Call, Act, set, call, step, look, safepoint, b
 use Rattle.struct_ir.specs.Valid.{list_at, first_list, last_list, is_the_list, act_is_placed, node_is_placed, are_placed}
 use Rattle.struct_ir.specs.Instrs.{Instr, acts, unless, jump, round_to, leave}
 use Rattle.struct_ir.specs.Lawful.{safe_list, list_at_index, IsBetweenSafepoints}
-use Rattle.struct_ir.specs.Marks.{is_mark}
-use Rattle.emit_code.specs.inner.Layout.{node_long, long, emit_node, emit, code_of}
+use Rattle.struct_ir.specs.Marks.{is_lifetime_mark}
+use Rattle.emit_code.specs.inner.Layout.{node_long, long, emit_node, emit, instrs_for}
 use Rattle.emit_code.proofs.Safepoints.{false_true, left_of, right_of, last_in, Tells, node_tells, tells_none}
 
 -- ---- lists of instructions
@@ -70,7 +70,7 @@ row_first no_nodes after at out next e = false_true e
 row_first (more_nodes n rest) after at out next e = node_first n (emit (at + node_long n) out next rest) after at out next e
 
 act_calls : (place : ℕ) (a : Act) (list : Option (List ℕ)) (rest : Nodes) → act_is_placed list a rest ≡ true → (before : Option (List ℕ)) (after : Bool) → Tells list before → (is_some (first_list rest) ≡ true → after ≡ true)
-    → CallsAre before (if is_mark a then [] else (acts place a ∷ [])) after
+    → CallsAre before (if is_lifetime_mark a then [] else (acts place a ∷ [])) after
 act_calls place (set to calc) list rest p before after t f = (tt, tt)
 act_calls place (call c) list rest p before after t f =
     ((the_list list before c.slots t (left_of (is_the_list list c.slots) (is_some (first_list rest)) p), f (right_of (is_the_list list c.slots) (is_some (first_list rest)) p)), tt)
@@ -149,10 +149,10 @@ between_at code (suc k) slots e f =
     let z' : suc (suc k) ≡ suc k + 1 = omega arith in
     (omega arith, subst (λ (n : ℕ). is_the_list (list_at_index code n) slots ≡ true) z e, subst (λ (n : ℕ). is_some (list_at_index code n) ≡ true) z' f)
 
-pub between : (nodes : Nodes) → are_placed None nodes ≡ true → (at place : ℕ) (c : Call) → slice_get (code_of nodes) at ≡ Some (acts place (call c)) → IsBetweenSafepoints (code_of nodes) at c.slots
+pub between : (nodes : Nodes) → are_placed None nodes ≡ true → (at place : ℕ) (c : Call) → slice_get (instrs_for nodes) at ≡ Some (acts place (call c)) → IsBetweenSafepoints (instrs_for nodes) at c.slots
 between nodes p at place c e =
     let n = long nodes in
     let a = row_calls nodes None p None false 0 n n (tells_none None) in
-    let all : CallsAre None (code_of nodes) false = calls_append None (emit 0 n n nodes) (leave 0 None ∷ []) false a (tt, tt) in
-    let r = found (code_of nodes) None all at place c e in
-    between_at (code_of nodes) at c.slots r.0 r.1
+    let all : CallsAre None (instrs_for nodes) false = calls_append None (emit 0 n n nodes) (leave 0 None ∷ []) false a (tt, tt) in
+    let r = found (instrs_for nodes) None all at place c e in
+    between_at (instrs_for nodes) at c.slots r.0 r.1

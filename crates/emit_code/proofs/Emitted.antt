@@ -12,10 +12,10 @@ use Rattle.struct_ir.proofs.Lawful.{lawful_code_shrinks}
 use Rattle.struct_ir.proofs.Level.{same_events}
 use Rattle.struct_ir.proofs.Mirrors.{mirrors_runs}
 use Rattle.pin_flow.proofs.Starts.{each_start}
-use Rattle.emit_code.specs.inner.Layout.{long, emit, code_of, func_linear, linear_of}
+use Rattle.emit_code.specs.inner.Layout.{long, emit, instrs_for, func_linear, linear_of}
 use Rattle.emit_code.specs.inner.Holds.{Holds}
-use Rattle.emit_code.specs.Stands.{StandsAt, StandsIn}
-use Rattle.emit_code.specs.Emitted.{row_count, nodes_count, SameFrames, IsEmitted, LinearCodeKeepsRuns, LinearCodeKeepsEvents}
+use Rattle.struct_ir.specs.Stands.{StandsAt, StandsIn}
+use Rattle.struct_ir.specs.Emitted.{row_count, nodes_count, SameFrames, IsEmitted, LinearCodeKeepsRuns, LinearCodeKeepsEvents}
 use Rattle.emit_code.proofs.Holding.{has_all, has_front}
 use Rattle.emit_code.proofs.Lying.{row_lies}
 use Rattle.emit_code.proofs.Short.{code_short}
@@ -25,13 +25,13 @@ use Rattle.emit_code.proofs.Keeps.{follows}
 
 -- ---- where functions begin
 
-row_starts : (nodes : Nodes) → StandsAt (code_of nodes) 0 (then_ nodes done)
+row_starts : (nodes : Nodes) → StandsAt (instrs_for nodes) 0 (then_ nodes done)
 row_starts nodes =
     let e = emit 0 (long nodes) (long nodes) nodes in
-    let whole = subst (λ x. Holds x 0 (code_of nodes)) (append-nil (code_of nodes)) (has_all (code_of nodes) [] []) in
-    let front = has_front (code_of nodes) 0 e (leave 0 None ∷ []) whole in
+    let whole = subst (λ x. Holds x 0 (instrs_for nodes)) (append-nil (instrs_for nodes)) (has_all (instrs_for nodes) [] []) in
+    let front = has_front (instrs_for nodes) 0 e (leave 0 None ∷ []) whole in
     let z : 0 + long nodes ≡ long nodes = omega arith in
-    record { out = long nodes; next = long nodes; stands = (0 + long nodes, long nodes, row_lies (code_of nodes) nodes 0 (long nodes) (long nodes) front, inl z, (ap (λ (o : Option Instr). instr_here o) (last_leaves nodes), refl, refl)) }
+    record { out = long nodes; next = long nodes; stands = (0 + long nodes, long nodes, row_lies (instrs_for nodes) nodes 0 (long nodes) (long nodes) front, inl z, (ap (λ (o : Option Instr). instr_here o) (last_leaves nodes), refl, refl)) }
 
 none_starts : StandsAt [] 0 (then_ no_nodes done)
 none_starts = record { out = 0; next = 0; stands = (0, 0, refl, inl refl, (refl, refl, refl)) }

@@ -5,7 +5,7 @@ use Rattle.struct_ir.specs.Nodes.{set, call, step, look, safepoint, begin_object
 use Rattle.struct_ir.specs.Valid.{last_list, are_placed}
 use Rattle.struct_ir.specs.Instrs.{Instr}
 use Rattle.struct_ir.specs.Lawful.{is_guarded}
-use Rattle.emit_code.specs.Stands.{Lies}
+use Rattle.struct_ir.specs.Stands.{Lies}
 use Rattle.emit_code.proofs.Safepoints.{false_true, left_of, right_of}
 
 module _ (code : List Instr) where

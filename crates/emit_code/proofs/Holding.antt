@@ -4,7 +4,7 @@ use Rattle.std.proofs.Math.Seq.{get_or-append_seam}
 use Rattle.std.proofs.lemmas.Option.{slice_get-get_or}
 use Rattle.struct_ir.specs.Nodes.{Node, plain, if_, loop, break_, next_, ret, Nodes, no_nodes, more_nodes}
 use Rattle.struct_ir.specs.Instrs.{Instr, jump, round_to}
-use Rattle.struct_ir.specs.Marks.{is_mark}
+use Rattle.struct_ir.specs.Marks.{is_lifetime_mark}
 use Rattle.emit_code.specs.inner.Layout.{node_long, long, emit_node, emit}
 use Rattle.emit_code.specs.inner.Holds.{Holds}
 
@@ -32,7 +32,7 @@ act_length false i = omega arith
 
 mutual
   pub node_length : (at out next : ℕ) (n : Node) → length (emit_node at out next n) ≡ node_long n
-  node_length at out next (plain place a) = act_length (is_mark a) _
+  node_length at out next (plain place a) = act_length (is_lifetime_mark a) _
   node_length at out next (if_ place temp one other) =
       let other_at = at + 1 + long one + 1 in
       let e1 = row_length (at + 1) out next one in

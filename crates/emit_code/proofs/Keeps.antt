@@ -6,8 +6,8 @@ use Rattle.struct_ir.specs.Flow.{Stays}
 use Rattle.struct_ir.specs.Structured.{Position, done, then_, in_body, in_latch, out_of, end_of, here, next, structured}
 use Rattle.struct_ir.specs.Instrs.{Instr, acts, unless, jump, round_to, leave, LinearFunc, instrs_of}
 use Rattle.struct_ir.specs.Linear.{Spot, instr_here, instr_next, here_in, next_in, linear}
-use Rattle.struct_ir.specs.Marks.{is_mark, IsUnseen, FollowsAt, both_go, first_goes, Follows}
-use Rattle.emit_code.specs.Stands.{ActLies, Lies, Joins, Stands, StandsAt, StandsIn}
+use Rattle.struct_ir.specs.Marks.{is_lifetime_mark, IsUnseen, FollowsAt, both_go, first_goes, Follows}
+use Rattle.struct_ir.specs.Stands.{ActLies, Lies, Joins, Stands, StandsAt, StandsIn}
 
 module _ (code : List Instr) where
   -- the same stands at both, and control goes on to positions that correspond
@@ -56,7 +56,7 @@ module _ (code : List Instr) where
   })
 
   -- an act, or a mark
-  plain_kept : (place : ℕ) (a : Act) (rest : Nodes) (k : Position) (at out next : ℕ) (b : Bool) → is_mark a ≡ b → Stands code (then_ (more_nodes (plain place a) rest) k) at out next → Kept (then_ (more_nodes (plain place a) rest) k) at
+  plain_kept : (place : ℕ) (a : Act) (rest : Nodes) (k : Position) (at out next : ℕ) (b : Bool) → is_lifetime_mark a ≡ b → Stands code (then_ (more_nodes (plain place a) rest) k) at out next → Kept (then_ (more_nodes (plain place a) rest) k) at
   plain_kept place a rest k at out next true e h =
       let f : ActLies true code place a at h.2.0 = subst (λ (b : Bool). ActLies b code place a at h.2.0) e h.2.1 in
       inr (record { unseen = e; onward = λ c. rest_place (plain place a) rest k at at out next h f })
@@ -102,7 +102,7 @@ module _ (code : List Instr) where
       inr (record { unseen = tt; onward = λ c. body_place place body latch (then_ rest k) at f.0 f.1 out next f.2 f.3 f.4 r })
 
   node_kept : (n : Node) (rest : Nodes) (k : Position) (at out next : ℕ) → Stands code (then_ (more_nodes n rest) k) at out next → Kept (then_ (more_nodes n rest) k) at
-  node_kept (plain place a) rest k at out next h = plain_kept place a rest k at out next (is_mark a) refl h
+  node_kept (plain place a) rest k at out next h = plain_kept place a rest k at out next (is_lifetime_mark a) refl h
   node_kept (if_ place temp one other) rest k at out next h = if_kept place temp one other rest k at out next h
   node_kept (loop place body latch) rest k at out next h = loop_kept place body latch rest k at out next h
   node_kept (break_ place) rest k at out next h = goes_by _ at (jump place out) h.2.1.0 refl (λ s c. out_place k h.1 out next h.4)

@@ -5,8 +5,8 @@ use Rattle.struct_ir.specs.Nodes.{Act, Node, plain, if_, loop, break_, next_, re
 use Rattle.struct_ir.specs.Valid.{list_at, last_list, node_is_placed, are_placed, Scope, Around, body_of, latch_of, outside, is_node, are_nodes}
 use Rattle.struct_ir.specs.Instrs.{Instr, acts, unless, jump, round_to, leave}
 use Rattle.struct_ir.specs.Lawful.{safe_list, is_leave, is_guarded, list_at_index, IsLater, IsBehindSafepoint, PassesSafepoints, IsLawful}
-use Rattle.struct_ir.specs.Marks.{is_mark}
-use Rattle.emit_code.specs.inner.Layout.{node_long, long, emit_node, emit, code_of}
+use Rattle.struct_ir.specs.Marks.{is_lifetime_mark}
+use Rattle.emit_code.specs.inner.Layout.{node_long, long, emit_node, emit, instrs_for}
 use Rattle.emit_code.specs.inner.Holds.{Holds}
 use Rattle.emit_code.proofs.Holding.{has_all, has_front, has_back, row_length, node_length}
 use Rattle.emit_code.proofs.Short.{code_length}
@@ -56,7 +56,7 @@ module _ (code : List Instr) where
     mutual
       node_fine : (n : Node) (list : Option (List ℕ)) (rest : Nodes) → node_is_placed list n rest ≡ true → (w : Around) → is_node x w n ≡ true → (limit : ℕ) (before : Option (List ℕ)) (at out next : ℕ) → Leads limit w (at + node_long n) out next
           → Holds code at (emit_node at out next n) → (is_some (list_at n) ≡ true) ⊎ Free code (at + node_long n) → AllFine limit before at (emit_node at out next n)
-      node_fine (plain place a) list rest c w v limit before at out next to h f = act_fine place a limit before at (is_mark a) (let o = to.out_later in let l = to.out_within in omega (arith, o, l))
+      node_fine (plain place a) list rest c w v limit before at out next to h f = act_fine place a limit before at (is_lifetime_mark a) (let o = to.out_later in let l = to.out_within in omega (arith, o, l))
       node_fine (if_ place temp one other) list rest c w v limit before at out next to h f =
           let jump_at = at + 1 + long one in
           let other_at = jump_at + 1 in
@@ -163,16 +163,16 @@ behind : (is : List Instr) (k : ℕ) → Told None is k → IsBehindSafepoint is
 behind is k (inl h) = false_true h.1
 behind is k (inr h) = h
 
-pub last_leaves : (nodes : Nodes) → slice_get (code_of nodes) (long nodes) ≡ Some (leave 0 None)
+pub last_leaves : (nodes : Nodes) → slice_get (instrs_for nodes) (long nodes) ≡ Some (leave 0 None)
 last_leaves nodes =
     let n = long nodes in
-    let h = subst (λ x. Holds x 0 (code_of nodes)) (append-nil (code_of nodes)) (has_all (code_of nodes) [] []) in
-    let b = has_back (code_of nodes) 0 n (emit 0 n n nodes) (leave 0 None ∷ []) (omega (arith, row_length 0 n n nodes)) h in
+    let h = subst (λ x. Holds x 0 (instrs_for nodes)) (append-nil (instrs_for nodes)) (has_all (instrs_for nodes) [] []) in
+    let b = has_back (instrs_for nodes) 0 n (emit 0 n n nodes) (leave 0 None ∷ []) (omega (arith, row_length 0 n n nodes)) h in
     b.0
 
 module _ (nodes : Nodes) (c : are_placed None nodes ≡ true) (x : Scope) (v : are_nodes x outside nodes ≡ true) where
   abbrev code : List Instr
-  code = code_of nodes
+  code = instrs_for nodes
 
   all_fine : AllFine code (long nodes) None 0 code
   all_fine =
@@ -211,7 +211,7 @@ module _ (nodes : Nodes) (c : are_placed None nodes ≡ true) (x : Scope) (v : a
     rounds = λ at place to e. (fine_at at (round_to place to) e).1.2;
   }
 
-pub lawful : (nodes : Nodes) → are_placed None nodes ≡ true → (x : Scope) → are_nodes x outside nodes ≡ true → IsLawful (code_of nodes)
+pub lawful : (nodes : Nodes) → are_placed None nodes ≡ true → (x : Scope) → are_nodes x outside nodes ≡ true → IsLawful (instrs_for nodes)
 lawful nodes c x v = record {
   jumps = jumps_on nodes c x v;
   tests = tests_on nodes c x v;
@@ -220,6 +220,6 @@ lawful nodes c x v = record {
   rounds = rounds_back nodes c x v;
   safepoints = nothing_passes nodes c x v;
   last =
-      let z : long nodes ≡ length (code_of nodes) - 1 = omega (arith, code_length nodes) in
-      (omega (arith, code_length nodes), subst (λ (n : ℕ). is_leave (slice_get (code_of nodes) n) ≡ true) z (ap is_leave (last_leaves nodes)));
+      let z : long nodes ≡ length (instrs_for nodes) - 1 = omega (arith, code_length nodes) in
+      (omega (arith, code_length nodes), subst (λ (n : ℕ). is_leave (slice_get (instrs_for nodes) n) ≡ true) z (ap is_leave (last_leaves nodes)));
 }

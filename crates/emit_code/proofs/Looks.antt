@@ -3,8 +3,8 @@ use Rattle.std.proofs.Common.{◌≡◌, ℕ, ◌+◌, List, [], ◌∷◌, ◌+
 use Rattle.std.proofs.lemmas.List.Sums.{sum_by-cons, sum_by-append}
 use Rattle.struct_ir.specs.Nodes.{Act, set, call, step, look, safepoint, begin_object, end_object, Node, plain, if_, loop, break_, next_, ret, Nodes, no_nodes, more_nodes, Func}
 use Rattle.struct_ir.specs.Instrs.{Instr, unless, jump, round_to, leave, LinearFunc}
-use Rattle.emit_code.specs.Looks.{looks_or_steps, looks_in, look_count, node_looks, row_looks, looks_of_nodes}
-use Rattle.emit_code.specs.inner.Layout.{emit_node, emit, node_long, long, code_of, func_linear}
+use Rattle.struct_ir.specs.Looks.{looks_or_steps, looks_in, look_count, node_looks, row_looks, looks_of_nodes}
+use Rattle.emit_code.specs.inner.Layout.{emit_node, emit, node_long, long, instrs_for, func_linear}
 
 none_more : (i : Instr) (is : List Instr) → looks_or_steps i ≡ false → looks_in (i ∷ is) ≡ looks_in is
 none_more i is e =
@@ -60,7 +60,7 @@ mutual
       let c = row_same rest (at + node_long n) out next in
       omega (arith, a, b, c)
 
-code_same : (nodes : Nodes) → looks_in (code_of nodes) ≡ row_looks nodes
+code_same : (nodes : Nodes) → looks_in (instrs_for nodes) ≡ row_looks nodes
 code_same nodes =
     let a = both (emit 0 (long nodes) (long nodes) nodes) (leave 0 None ∷ []) in
     let b = row_same nodes 0 (long nodes) (long nodes) in

@@ -3,10 +3,10 @@ use Rattle.std.proofs.Common.{◌≡◌, ℕ, ◌+◌, List, [], ◌∷◌, ◌+
 use Rattle.std.specs.Prelude.{slice_get}
 use Rattle.struct_ir.specs.Nodes.{Act, Node, plain, if_, loop, break_, next_, ret, Nodes, no_nodes, more_nodes}
 use Rattle.struct_ir.specs.Instrs.{Instr, acts, jump, round_to}
-use Rattle.struct_ir.specs.Marks.{is_mark}
+use Rattle.struct_ir.specs.Marks.{is_lifetime_mark}
 use Rattle.emit_code.specs.inner.Layout.{node_long, long, emit_node, emit}
 use Rattle.emit_code.specs.inner.Holds.{Holds}
-use Rattle.emit_code.specs.Stands.{ActLies, NodeLies, Lies}
+use Rattle.struct_ir.specs.Stands.{ActLies, NodeLies, Lies}
 use Rattle.emit_code.proofs.Holding.{has_front, has_back, node_length, row_length}
 
 module _ (code : List Instr) where
@@ -31,7 +31,7 @@ module _ (code : List Instr) where
 
   mutual
     node_lies : (n : Node) (at out next : ℕ) → Holds code at (emit_node at out next n) → NodeLies code n at (at + node_long n) out next
-    node_lies (plain place a) at out next h = act_lies (is_mark a) place a at h
+    node_lies (plain place a) at out next h = act_lies (is_lifetime_mark a) place a at h
     node_lies (if_ place temp one other) at out next h =
         let jump_at = at + 1 + long one in
         let end = at + node_long (if_ place temp one other) in

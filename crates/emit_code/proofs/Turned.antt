@@ -5,7 +5,7 @@ use Rattle.struct_ir.specs.declared.linear.Instr.{Instr as CodeInstr}
 use Rattle.struct_ir.specs.Instrs.{leave}
 use Rattle.struct_ir.specs.InstrViews.{instr_view}
 use Rattle.struct_ir.specs.Nodes.{Nodes}
-use Rattle.emit_code.specs.inner.Layout.{long, emit, code_of}
+use Rattle.emit_code.specs.inner.Layout.{long, emit, instrs_for}
 
 map_reverse : (xs : List CodeInstr) → map instr_view (reverse xs) ≡ reverse (map instr_view xs)
 map_reverse [] = refl
@@ -15,7 +15,7 @@ map_reverse (x ∷ xs) =
     ∙ ap (λ l. l ++ instr_view x ∷ []) (map_reverse xs)
     ∙ sym (reverse-append (instr_view x ∷ []) (map instr_view xs))
 
-pub turned : (c0 c1 c2 : List CodeInstr) (nodes : Nodes) (at end : ℕ) → map instr_view c0 ≡ leave 0 None ∷ [] → map instr_view c1 ≡ map instr_view c0 ++ reverse (emit at end end nodes) → c2 ≡ reverse c1 → end ≡ long nodes → at + long nodes ≡ end → map instr_view c2 ≡ code_of nodes
+pub turned : (c0 c1 c2 : List CodeInstr) (nodes : Nodes) (at end : ℕ) → map instr_view c0 ≡ leave 0 None ∷ [] → map instr_view c1 ≡ map instr_view c0 ++ reverse (emit at end end nodes) → c2 ≡ reverse c1 → end ≡ long nodes → at + long nodes ≡ end → map instr_view c2 ≡ instrs_for nodes
 turned c0 c1 c2 nodes at end e0 e1 e2 l p =
     let z : at ≡ 0 = omega (arith, l, p) in
     let e = emit at end end nodes in

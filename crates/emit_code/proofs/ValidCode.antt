@@ -7,8 +7,8 @@ use Rattle.struct_ir.specs.Nodes.{Act, Node, plain, if_, loop, break_, next_, re
 use Rattle.struct_ir.specs.Valid.{Scope, Around, body_of, latch_of, outside, is_act, is_node, are_nodes, scope_of, is_valid}
 use Rattle.struct_ir.specs.Instrs.{Instr, acts, jump, round_to, leave}
 use Rattle.struct_ir.specs.ValidCode.{code_scope_of, is_instr, is_valid_code}
-use Rattle.struct_ir.specs.Marks.{is_mark}
-use Rattle.emit_code.specs.inner.Layout.{node_long, long, emit_node, emit, code_of, func_linear, linear_of}
+use Rattle.struct_ir.specs.Marks.{is_lifetime_mark}
+use Rattle.emit_code.specs.inner.Layout.{node_long, long, emit_node, emit, instrs_for, func_linear, linear_of}
 
 module _ (x : Scope) where
   abbrev AreFine : List Instr → Type 0
@@ -24,7 +24,7 @@ module _ (x : Scope) where
 
   mutual
     node_valid : (n : Node) (w : Around) (at out next : ℕ) → is_node x w n ≡ true → AreFine (emit_node at out next n)
-    node_valid (plain place a) w at out next e = act_valid place a (is_mark a) e
+    node_valid (plain place a) w at out next e = act_valid place a (is_lifetime_mark a) e
     node_valid (if_ place temp one other) w at out next e =
         let other_at = at + 1 + long one + 1 in
         let p = and_parts (nat_lt temp x.temps) (are_nodes x w one && are_nodes x w other) e in
@@ -46,7 +46,7 @@ module _ (x : Scope) where
         let p = and_parts (is_node x w n) (are_nodes x w rest) e in
         fine_both (emit_node at out next n) (emit (at + node_long n) out next rest) (node_valid n w at out next p.0) (row_valid rest w (at + node_long n) out next p.1)
 
-  code_of_valid : (ns : Nodes) → are_nodes x outside ns ≡ true → AreFine (code_of ns)
+  code_of_valid : (ns : Nodes) → are_nodes x outside ns ≡ true → AreFine (instrs_for ns)
   code_of_valid ns e = fine_both (emit 0 (long ns) (long ns) ns) (leave 0 None ∷ []) (row_valid ns outside 0 (long ns) (long ns) e) refl
 
 -- ---- all functions
@@ -63,7 +63,7 @@ funcs_valid p [] e = refl
 funcs_valid p (f ∷ fs) e =
     let q = and_parts (are_nodes (scope_of p f) outside f.nodes) (list_all (λ g. are_nodes (scope_of p g) outside g.nodes) fs) e in
     let x = code_scope_of (linear_of p) (func_linear f) in
-    let here : list_all (is_instr x) (code_of f.nodes) ≡ true = subst (λ (y : Scope). list_all (is_instr y) (code_of f.nodes) ≡ true) (sym (same_scope p f)) (code_of_valid (scope_of p f) f.nodes q.0) in
+    let here : list_all (is_instr x) (instrs_for f.nodes) ≡ true = subst (λ (y : Scope). list_all (is_instr y) (instrs_for f.nodes) ≡ true) (sym (same_scope p f)) (code_of_valid (scope_of p f) f.nodes q.0) in
     and_from _ _ here (funcs_valid p fs q.1)
 
 pub code_valid : (p : Ir) → is_valid p ≡ true → is_valid_code (linear_of p) ≡ true

@@ -3,7 +3,7 @@ use Rattle.std.specs.Prelude.{List, [], ◌∷◌, Some, None}
 use Rattle.struct_ir.specs.Nodes.{null, set, look, safepoint, begin_object, end_object, Node, Nodes, no_nodes, more_nodes, plain, if_, loop, break_, next_, ret}
 use Rattle.struct_ir.specs.Instrs.{Instr, acts, unless, jump, round_to, leave}
 use Rattle.struct_ir.specs.Lawful.{IsLawful}
-use Rattle.emit_code.specs.Stands.{Lies}
+use Rattle.struct_ir.specs.Stands.{Lies}
 
 -- a row of one node
 abbrev pub one : Node → Nodes

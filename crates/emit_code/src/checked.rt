@@ -4,8 +4,8 @@ ghost use Rattle.std.specs.Prelude.{ℕ, IfOk};
 ghost use Rattle.struct_ir.specs.Linear.{linear, entry_of};
 ghost use Rattle.struct_ir.specs.LinearViews.{code_view};
 ghost use Rattle.struct_ir.specs.Pins.{PinSafe};
-ghost use Rattle.pin_checker.specs.CheckedViews.{code_of};
-ghost use Rattle.emit_code.specs.Emitted.{IsEmitted};
+ghost use Rattle.pin_checker.specs.CheckedViews.{program_in};
+ghost use Rattle.struct_ir.specs.Emitted.{IsEmitted};
 
 use crate::emitting::{emit_code, emit_code_owned};
 use ak_words::NoMemory;
@@ -19,7 +19,7 @@ use struct_ir::linear::Code;
 ///
 /// Only want of memory.
 pub fn emit(alloc: Global, checked: &Checked) -> Result<Code, NoMemory>
-    ensures emitted { IfOk result (λ code. IsEmitted (code_of checked.now) (code_view code)) }
+    ensures emitted { IfOk result (λ code. IsEmitted (program_in checked.now) (code_view code)) }
     ensures safe { IfOk result (λ code. (f : ℕ) → PinSafe (linear (code_view code).funcs) (entry_of f)) }
 {
     emit_code(alloc, checked.ir())
@@ -31,7 +31,7 @@ pub fn emit(alloc: Global, checked: &Checked) -> Result<Code, NoMemory>
 ///
 /// Only want of memory.
 pub fn emit_owned(alloc: Global, checked: Checked) -> Result<Code, NoMemory>
-    ensures emitted { IfOk result (λ code. IsEmitted (code_of checked) (code_view code)) }
+    ensures emitted { IfOk result (λ code. IsEmitted (program_in checked) (code_view code)) }
     ensures safe { IfOk result (λ code. (f : ℕ) → PinSafe (linear (code_view code).funcs) (entry_of f)) }
 {
     emit_code_owned(alloc, checked.into_ir())

@@ -10,8 +10,8 @@ ghost use Rattle.struct_ir.specs.Views.{node_view, nodes_view, func_view};
 ghost use Rattle.struct_ir.specs.WholeViews.{ir_view};
 ghost use Rattle.std.specs.List.{AllByRecursion, list_all};
 ghost use Rattle.emit_code.specs.inner.Scoped.{IsScoped};
-ghost use Rattle.emit_code.specs.inner.Layout.{long, node_long, emit, emit_node, code_of, func_linear, linear_of};
-ghost use Rattle.emit_code.specs.Emitted.{IsEmitted};
+ghost use Rattle.emit_code.specs.inner.Layout.{long, node_long, emit, emit_node, instrs_for, func_linear, linear_of};
+ghost use Rattle.struct_ir.specs.Emitted.{IsEmitted};
 ghost use Rattle.struct_ir.specs.Placed.{all_placed};
 
 use crate::lengths::long_of;
@@ -94,7 +94,7 @@ fn emit_func(alloc: Global, f: IrFunc) -> Result<CodeFunc, NoMemory>
 
 // The instructions of a function.
 fn emit_nodes(alloc: Global, nodes: Vec<Node>) -> Result<Vec<Instr>, NoMemory>
-    ensures { IfOk result (λ code. map instr_view code.items ≡ code_of (nodes_view nodes.items)) }
+    ensures { IfOk result (λ code. map instr_view code.items ≡ instrs_for (nodes_view nodes.items)) }
 {
     match long_of(&nodes) {
         None => Err(NoMemory),

@@ -1,6 +1,6 @@
 //! The laws of linear code, as contracts of a function that does nothing.
 
-ghost use Rattle.emit_code.specs.Emitted.{LinearCodeKeepsEvents, LinearCodeKeepsRuns};
+ghost use Rattle.struct_ir.specs.Emitted.{LinearCodeKeepsEvents, LinearCodeKeepsRuns};
 ghost use Rattle.emit_code.specs.Rows.{RowsHold};
 
 /// On every machine for which the beginning and the end of a stack object are nothing, a thread

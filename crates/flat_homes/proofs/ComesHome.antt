@@ -26,7 +26,7 @@ use Rattle.flat_machine.specs.Shares.{Shared, IsSharedOf}
 use Rattle.flat_machine.specs.lemmas.Goes.{goes_on}
 use Rattle.world_rules.specs.Every.{ComesHome}
 use Rattle.flat_homes.specs.Laws.{ThreadsComeHome}
-use Rattle.emit_code.specs.Looks.{is_look_or_step, look_count}
+use Rattle.struct_ir.specs.Looks.{is_look_or_step, look_count}
 use Rattle.flat_homes.proofs.Left.{left_at, later_is_less, left_from, left_is_few, one_is_less}
 use Rattle.flat_homes.proofs.Rises.{IsBeyond, unguarded_behind}
 use Rattle.flat_homes.proofs.Arrives.{arrives}

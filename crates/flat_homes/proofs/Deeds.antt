@@ -28,7 +28,7 @@ use Rattle.flat_machine.specs.Shares.{Shared, image_of}
 use Rattle.flat_machine.specs.Turns.{blocked_turned, fault_turned, outcome_turned, turned_of}
 use Rattle.flat_machine.specs.lemmas.Goes.{Pending, looks_so, does_so, returns_so, pending}
 use Rattle.flat_machine.specs.lemmas.Steps.{choice_at, done_at, last_call, leave_turned_is, look_effect_is, looked_at, outcome_at, stands, step_effect_is, step_turned_is}
-use Rattle.emit_code.specs.Looks.{is_look_or_step}
+use Rattle.struct_ir.specs.Looks.{is_look_or_step}
 use Rattle.flat_homes.proofs.Fits.{step_is_fit}
 
 back_not_on : (turned : turns.Turned) → goes turned ≡ back → goes turned ≡ on → ⊥

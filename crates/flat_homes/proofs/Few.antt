@@ -12,7 +12,7 @@ use Rattle.flat_machine.specs.lemmas.MachineIsFlat.{machine_is_flat}
 use Rattle.flat_machine.proofs.Opened.{opened_of}
 use Rattle.world_rules.proofs.Bounded.{few_turns}
 use Rattle.flat_homes.specs.Laws.{TurnsAreFew, TurnsBetweenBarriersAreFew, TurnsOfStructuredCodeAreFew, first_world}
-use Rattle.emit_code.specs.Looks.{look_count}
+use Rattle.struct_ir.specs.Looks.{look_count}
 use Rattle.flat_homes.proofs.ComesHome.{threads_come_home}
 
 nobody_ended : (code : LinearCode) (s : Settings) (k : ℕ) → (machine_of code).has_ended (first_shared code (settings_limits s)) k ≡ false

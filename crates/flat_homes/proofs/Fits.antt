@@ -7,9 +7,9 @@ use Rattle.std.proofs.lemmas.List.{length-map}
 use Rattle.struct_ir.specs.Nodes.{Action, load, store, copy_bytes, malloc, free, print, lock, unlock, destroy, start, join, Step}
 use Rattle.struct_ir.specs.Valid.{Scope, Counts, are_below, counts_of, has_counts, is_action, is_below_if, is_own_list, is_place, is_step}
 use Rattle.handle_words.specs.Handle.{id_of}
-use Rattle.defrag_move.specs.Changes.{without_id}
-use Rattle.flat_meaning.specs.declared.endings.TrapKind.{TrapKind}
-use Rattle.flat_meaning.specs.declared.endings.TrapKind.TheVariants as kinds
+use Rattle.arena_meaning.specs.Changes.{without_id}
+use Rattle.ak_trace.specs.declared.endings.TrapKind.{TrapKind}
+use Rattle.ak_trace.specs.declared.endings.TrapKind.TheVariants as kinds
 use Rattle.flat_meaning.specs.Accesses as actions
 use Rattle.flat_meaning.specs.Accesses.{Choice, Done, is_live_start, within, prints}
 use Rattle.flat_meaning.specs.Actions.{acted, joined_at, joined_if}

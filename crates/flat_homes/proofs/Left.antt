@@ -5,7 +5,7 @@ use Rattle.std.proofs.lemmas.List.Sums.{sum_by-cons, get_or-le-sum_by}
 use Rattle.std.proofs.lemmas.Option.{same_Some, slice_get_within, get_or_from_slice_get}
 use Rattle.struct_ir.specs.Instrs.{Instr, LinearFunc, instrs_if, instrs_of}
 use Rattle.struct_ir.specs.Linear.{Spot}
-use Rattle.emit_code.specs.Looks.{looks_or_steps, looks_in, look_count}
+use Rattle.struct_ir.specs.Looks.{looks_or_steps, looks_in, look_count}
 
 abbrev one_if : Instr → ℕ
 one_if i = cond {A = ℕ} (looks_or_steps i) 1 0

@@ -15,8 +15,8 @@ use Rattle.flat_machine.specs.Start.{first_shared, settings_limits}
 use Rattle.world_rules.specs.declared.calls.Seat.TheVariants as seat
 use Rattle.world_rules.specs.Whole.{Whole}
 use Rattle.world_rules.specs.Every.{AllComeHome, IsBetween, IsWantedWithin, is_turn}
-use Rattle.emit_code.specs.Looks.{look_count, looks_of_nodes}
-use Rattle.emit_code.specs.Emitted.{IsEmitted}
+use Rattle.struct_ir.specs.Looks.{look_count, looks_of_nodes}
+use Rattle.struct_ir.specs.Emitted.{IsEmitted}
 
 -- each thread that is asked home does, in two turns more than the code has Looks and steps
 abbrev pub ThreadsComeHome : Type 0

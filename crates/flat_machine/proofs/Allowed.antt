@@ -6,7 +6,7 @@ use Rattle.std.proofs.lemmas.Bool.{ltb-true}
 use Rattle.std.proofs.lemmas.List.Sums.{passes_at_first}
 use Rattle.handle_table.specs.Table.{IsFree}
 use Rattle.sub_heaps.specs.SubHeaps.{SubHeaps, FitsAt, rounded}
-use Rattle.defrag_move.specs.Arena.{Storage}
+use Rattle.arena_meaning.specs.Arena.{Storage}
 use Rattle.struct_ir.specs.Flow.{Here, does, tests, passes, round, returns}
 use Rattle.struct_ir.specs.Nodes.{Action, load, store, copy_bytes, malloc, free, print, lock, unlock, destroy, start, join, set, call, step, look, safepoint, begin_object, end_object}
 use Rattle.flat_meaning.specs.Accesses.{Choice, null, wait}

@@ -6,7 +6,7 @@ use Rattle.std.proofs.lemmas.Bool.Decides.{leb_tells}
 use Rattle.std.proofs.lemmas.List.{append-nil, drop_all, length-set}
 use Rattle.block_store.specs.Runs.{own_at}
 use Rattle.sub_heaps.specs.SubHeaps.{SubHeaps, IsSound}
-use Rattle.move_plan.specs.Moving.{AreLegal}
+use Rattle.sub_heaps.specs.Moving.{AreLegal}
 use Rattle.move_plan.proofs.Slides.{IsSlide-slide_moves}
 use Rattle.move_plan.proofs.Slid as lower
 use Rattle.struct_ir.specs.Instrs.{Instr, acts, LinearCode, instrs_of}

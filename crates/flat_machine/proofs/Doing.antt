@@ -6,8 +6,8 @@ use Rattle.block_store.specs.Cells.{size_of}
 use Rattle.flat_store.specs.Flat.{HasBytes, bytes_from, first_outside_of_both, with_bytes}
 use Rattle.flat_store.specs.Word.{number_of}
 use Rattle.flat_store.proofs.Firsts.{none_outside}
-use Rattle.defrag_move.specs.Arena.{Storage}
-use Rattle.flat_meaning.specs.declared.endings.TrapKind.{TrapKind}
+use Rattle.arena_meaning.specs.Arena.{Storage}
+use Rattle.ak_trace.specs.declared.endings.TrapKind.{TrapKind}
 use Rattle.flat_meaning.specs.Memory.{Memory, with_storage, written}
 use Rattle.flat_meaning.specs.Accesses as actions
 use Rattle.flat_meaning.specs.Accesses.{trap, within, word_read, loaded}

@@ -3,10 +3,10 @@ use Rattle.std.proofs.Common.{◌≡◌, ℕ, ◌%◌, ◌≤◌, false, ltb, Op
 use Rattle.std.proofs.lemmas.Bool.Decides.{nat_tests}
 use Rattle.handle_words.specs.Handle.{handle_of}
 use Rattle.sub_heaps.specs.SubHeaps.{rounded}
-use Rattle.defrag_move.specs.declared.answers.Alloced.{Alloced}
-use Rattle.defrag_move.specs.declared.answers.Alloced.TheVariants.{Got, NoGap, NoId}
-use Rattle.defrag_move.specs.Arena.{Storage, IsConsistent}
-use Rattle.defrag_move.specs.Changes.{IsAnswer, after_alloc}
+use Rattle.arena_meaning.specs.declared.answers.Alloced.{Alloced}
+use Rattle.arena_meaning.specs.declared.answers.Alloced.TheVariants.{Got, NoGap, NoId}
+use Rattle.arena_meaning.specs.Arena.{Storage, IsConsistent}
+use Rattle.arena_meaning.specs.Changes.{IsAnswer, after_alloc}
 use Rattle.flat_meaning.specs.Accesses.{Choice, got, null, wait, allocated}
 use Rattle.flat_machine.specs.declared.done.Done.{Done}
 use Rattle.flat_machine.specs.declared.done.Done.TheVariants as dones

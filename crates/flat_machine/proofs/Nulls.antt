@@ -8,7 +8,7 @@ use Rattle.handle_table.specs.Table.{IsFull, address_of}
 use Rattle.sub_heaps.specs.SubHeaps.{SubHeaps, FitsAt, IsLowestFit, IsSound, rounded}
 use Rattle.sub_heaps.specs.declared.objects.Object.{Object}
 use Rattle.move_plan.specs.Sliding.{IsSlid}
-use Rattle.defrag_move.specs.Arena.{IsConsistent, Storage}
+use Rattle.arena_meaning.specs.Arena.{IsConsistent, Storage}
 use Rattle.defrag_move.proofs.Choices.{chosen_new}
 use Rattle.flat_meaning.specs.Accesses as actions
 use Rattle.flat_meaning.specs.Accesses.{Choice, null, wait, allocated, with_object}

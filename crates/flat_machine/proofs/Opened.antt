@@ -7,7 +7,7 @@ use Rattle.c_tree.specs.Typed.{Init}
 use Rattle.c_tree.specs.Typed as inits
 use Rattle.c_tree.specs.TypedForm.{taken}
 use Rattle.flat_store.specs.Flat.{first_address, with_bytes}
-use Rattle.defrag_move.specs.Arena.{Storage, start_behind}
+use Rattle.arena_meaning.specs.Arena.{Storage, start_behind}
 use Rattle.struct_ir.specs.Nodes.{Global}
 use Rattle.struct_ir.specs.Instrs.{LinearCode}
 use Rattle.struct_ir.specs.Valid.{has_params}

@@ -6,7 +6,7 @@ use Rattle.ak_words.specs.IntType.{int}
 use Rattle.ak_words.specs.Num.{num}
 use Rattle.ak_words.specs.Wrapped.{residue, wrapped_value}
 use Rattle.flat_words.specs.Words.{number_word}
-use Rattle.flat_meaning.specs.declared.endings.TrapKind.TheVariants as kinds
+use Rattle.ak_trace.specs.declared.endings.TrapKind.TheVariants as kinds
 use Rattle.flat_meaning.specs.Accesses.{prints}
 use Rattle.flat_meaning.specs.Printing.{Read, reads, outside, too_long}
 use Rattle.flat_machine.specs.declared.done.Done.{Done}

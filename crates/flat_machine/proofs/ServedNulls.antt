@@ -8,13 +8,13 @@ use Rattle.handle_table.specs.Table.{IsFull}
 use Rattle.sub_heaps.specs.declared.objects.Object.{Object}
 use Rattle.sub_heaps.specs.ByPlace.{end_of, object_at}
 use Rattle.sub_heaps.specs.SubHeaps.{SubHeaps}
-use Rattle.move_plan.specs.declared.moves.Move.{Move}
-use Rattle.move_plan.specs.Moving.{after_moves}
+use Rattle.sub_heaps.specs.declared.moves.Move.{Move}
+use Rattle.sub_heaps.specs.Moving.{after_moves}
 use Rattle.move_plan.specs.Sliding.{HaveSlid, IsSlid, IsSlide, holds}
 use Rattle.move_plan.proofs.Slid as lower
 use Rattle.move_plan.proofs.Slides.{IsSlide-slide_moves}
-use Rattle.defrag_move.specs.Arena.{IsConsistent}
-use Rattle.defrag_move.specs.Moves.{after_plan}
+use Rattle.arena_meaning.specs.Arena.{IsConsistent}
+use Rattle.arena_meaning.specs.Moves.{after_plan}
 use Rattle.defrag_move.proofs.Kept.{IsConsistent-after_plan, heaps_after}
 use Rattle.struct_ir.specs.Instrs.{LinearCode}
 use Rattle.struct_ir.specs.Linear.{Spot}

@@ -7,15 +7,15 @@ use Rattle.std.proofs.lemmas.Bool.{eq-eqb, eqb-true}
 use Rattle.sub_heaps.specs.declared.objects.Object.{Object}
 use Rattle.sub_heaps.specs.SubHeaps.{SubHeaps, IsSound, extent_of}
 use Rattle.move_plan.specs.Stretches.{room_of}
-use Rattle.move_plan.specs.declared.moves.Move.{Move}
+use Rattle.sub_heaps.specs.declared.moves.Move.{Move}
 use Rattle.move_plan.specs.Holding.{PinSet, is_pinned}
-use Rattle.move_plan.specs.Moving.{after_moves}
+use Rattle.sub_heaps.specs.Moving.{after_moves}
 use Rattle.move_plan.specs.Sliding.{IsSlide, slid_place}
 use Rattle.move_plan.proofs.Slid as lower
 use Rattle.move_plan.proofs.Unique.{slide_moves_only}
 use Rattle.sub_heaps.specs.ByPlace.{object_at}
-use Rattle.defrag_move.specs.Arena.{Storage, places_named}
-use Rattle.defrag_move.specs.Moves.{after_plan, moved, moved_with}
+use Rattle.arena_meaning.specs.Arena.{Storage, places_named}
+use Rattle.arena_meaning.specs.Moves.{after_plan, moved, moved_with}
 use Rattle.struct_ir.specs.Instrs.{LinearCode}
 use Rattle.struct_ir.specs.Linear.{Spot}
 use Rattle.flat_meaning.specs.Allowed.{pinned}

@@ -7,8 +7,8 @@ use Rattle.std.proofs.lemmas.Option.{slice_get-map, slice_get_read}
 use Rattle.flat_store.specs.Flat.{HasBytes, first_outside, with_bytes}
 use Rattle.flat_store.specs.Word.{low_bytes}
 use Rattle.flat_store.proofs.Firsts.{none_outside}
-use Rattle.defrag_move.specs.Arena.{Storage}
-use Rattle.flat_meaning.specs.declared.endings.TrapKind.TheVariants as kinds
+use Rattle.arena_meaning.specs.Arena.{Storage}
+use Rattle.ak_trace.specs.declared.endings.TrapKind.TheVariants as kinds
 use Rattle.flat_meaning.specs.Accesses as actions
 use Rattle.flat_meaning.specs.Accesses.{within}
 use Rattle.flat_meaning.specs.Actions.{may_start, started, joined_if, joined_at}

@@ -4,7 +4,7 @@ use Rattle.std.specs.List.{list_all, find, range_with_len}
 use Rattle.sub_heaps.specs.declared.objects.Object.{Object}
 use Rattle.sub_heaps.specs.ByPlace.{end_of}
 use Rattle.sub_heaps.specs.SubHeaps.{SubHeaps, rounded}
-use Rattle.defrag_move.specs.Arena.{Storage}
+use Rattle.arena_meaning.specs.Arena.{Storage}
 use Rattle.struct_ir.specs.Nodes.{Action, malloc, step}
 use Rattle.struct_ir.specs.Flow.{Here, does}
 use Rattle.flat_meaning.specs.Words.{Words, word_at}

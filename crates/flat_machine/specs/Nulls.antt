@@ -6,7 +6,7 @@ use Rattle.block_store.specs.Runs.{own_at}
 use Rattle.handle_table.specs.Table.{IsFull}
 use Rattle.sub_heaps.specs.SubHeaps.{SubHeaps, IsSound, rounded}
 use Rattle.move_plan.specs.Stretches.{room_in}
-use Rattle.defrag_move.specs.Arena.{Storage, IsConsistent}
+use Rattle.arena_meaning.specs.Arena.{Storage, IsConsistent}
 use Rattle.struct_ir.specs.Flow.{Here, does}
 use Rattle.struct_ir.specs.Instrs.{LinearCode}
 use Rattle.struct_ir.specs.Linear.{Spot}

@@ -3,7 +3,7 @@ use Rattle.std.specs.Prelude.{ℕ, List, length, Option}
 use Rattle.std.specs.Option.{option_map}
 use Rattle.ak_trace.specs.declared.entry.Entry.{Entry}
 use Rattle.struct_ir.specs.Instrs.{LinearCode}
-use Rattle.flat_meaning.specs.declared.endings.End.{End}
+use Rattle.ak_trace.specs.declared.endings.End.{End}
 use Rattle.flat_rules.specs.declared.settings.Settings.{Settings}
 use Rattle.flat_rules.specs.Rules.{rules_of}
 use Rattle.flat_rules.specs.States.{State, end_of}

@@ -1,7 +1,7 @@
 -- The moves that slide objects, as move_plan's slide pushes them.
 use Rattle.std.specs.Prelude.{ℕ, ◌+◌, ◌==◌, if◌then◌else◌, Bool, List, [], ◌∷◌, ◌++◌}
 use Rattle.sub_heaps.specs.declared.objects.Object.{Object}
-use Rattle.move_plan.specs.declared.moves.Move.{Move}
+use Rattle.sub_heaps.specs.declared.moves.Move.{Move}
 use Rattle.move_plan.specs.Sliding.{slid_place}
 
 -- the move of an object to a place, unless it stands there

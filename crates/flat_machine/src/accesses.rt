@@ -10,8 +10,8 @@ ghost use Rattle.flat_machine.specs.inner.Dones.{done_view, Does, Went};
 
 use crate::done::Done;
 use crate::shared::Shared;
+use ak_trace::TrapKind;
 use block_store::Access;
-use flat_meaning::TrapKind;
 use flat_threads::Target;
 use flat_words::word_in;
 

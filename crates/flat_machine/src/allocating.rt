@@ -9,8 +9,8 @@ ghost use Rattle.flat_machine.specs.inner.Dones.{Does, WaitsFor, Went};
 
 use crate::done::Done;
 use crate::shared::Shared;
+use ak_trace::TrapKind;
 use defrag_move::Alloced;
-use flat_meaning::TrapKind;
 use flat_threads::Wait;
 
 impl Shared {

@@ -4,7 +4,7 @@ ghost use Rattle.std.specs.Prelude.{◌≡◌, ◌^◌, ◌<◌, Some, None};
 ghost use Rattle.handle_words.specs.Handle.{handle_of};
 
 use crate::turned::Turned;
-use flat_meaning::TrapKind;
+use ak_trace::TrapKind;
 use flat_threads::Wait;
 use handle_words::make;
 

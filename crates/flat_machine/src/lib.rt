@@ -20,8 +20,9 @@ mod starting;
 mod turned;
 
 pub use acting::act;
+pub use ak_trace::{End, TrapKind};
 pub use barriers::barrier;
-pub use flat_meaning::{End, Stop, TrapKind};
+pub use flat_meaning::Stop;
 pub use flat_rules::{Mode, Settings, Step};
 pub use flat_threads::{Context, Program, local};
 pub use laws::{

@@ -2,7 +2,7 @@
 
 ghost use Rattle.std.specs.Prelude.{◌<◌, Some, None};
 ghost use Rattle.flat_store.specs.Word.{low_bytes};
-ghost use Rattle.flat_meaning.specs.declared.endings.TrapKind.TheVariants as kinds;
+ghost use Rattle.ak_trace.specs.declared.endings.TrapKind.TheVariants as kinds;
 ghost use Rattle.flat_meaning.specs.Accesses.{went, within};
 ghost use Rattle.flat_meaning.specs.Memory.{written};
 ghost use Rattle.flat_store.specs.Flat.{first_outside};
@@ -13,7 +13,7 @@ ghost use Rattle.flat_machine.specs.inner.Dones.{Does, WaitsFor, Went};
 
 use crate::done::Done;
 use crate::shared::Shared;
-use flat_meaning::TrapKind;
+use ak_trace::TrapKind;
 use flat_threads::{Target, Wait};
 
 impl Shared {

@@ -22,8 +22,8 @@ ghost use Rattle.flat_machine.specs.inner.Prints.{PrintsPart};
 
 use crate::done::Done;
 use crate::shared::Shared;
+use ak_trace::TrapKind;
 use c_tree::typed::Piece;
-use flat_meaning::TrapKind;
 use flat_store::Flat;
 use flat_threads::Context;
 use struct_ir::Place;

@@ -50,7 +50,7 @@ pub struct Shared {
 // Clauses see all but what a barrier needs.
 impl Model for Shared {
     ghost use Rattle.std.specs.Prelude.{map, vec_capacity, ◌≤◌, length};
-    ghost use Rattle.defrag_move.specs.Arena.{IsConsistent};
+    ghost use Rattle.arena_meaning.specs.Arena.{IsConsistent};
     ghost use Rattle.flat_machine.specs.Shares.{Shared as SharedView};
     ghost use Rattle.flat_machine.specs.inner.Shares.{made_view, IsKept};
 

@@ -13,8 +13,8 @@ use crate::done::Done;
 use crate::made::MadeThread;
 use crate::shared::{Shared, THREADS};
 use crate::turned::Turned;
+use ak_trace::TrapKind;
 use ak_words::IntType;
-use flat_meaning::TrapKind;
 use flat_threads::{Target, Wait};
 use flat_words::number_of_word;
 

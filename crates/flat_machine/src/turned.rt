@@ -2,11 +2,10 @@
 
 ghost use Rattle.std.specs.Prelude.{◌≡◌, ◌<◌, ◌^◌};
 ghost use Rattle.flat_rules.specs.Answers.{step_of};
-ghost use Rattle.flat_rules.specs.Entries.{how_of, id_of, place_of, turn_entry};
+ghost use Rattle.flat_rules.specs.Entries.{how_of, id_of, heap_place_of, turn_entry};
 ghost use Rattle.flat_machine.specs.inner.Turneds.{turned_view};
 
-use ak_trace::{Entry, how, kind};
-use flat_meaning::{End, TrapKind};
+use ak_trace::{End, Entry, TrapKind, how, kind};
 use flat_rules::Step;
 
 /// How a thread's pending step went.
@@ -65,7 +64,7 @@ impl Turned {
     // The id and the place of the object that it got, or the number of the thread that it made.
     fn object(self) -> (u32, u32)
         ensures id { result.0 ≡ id_of (turned_view self) }
-        ensures place { result.1 ≡ place_of (turned_view self) }
+        ensures place { result.1 ≡ heap_place_of (turned_view self) }
     {
         match self {
             Turned::Got { id, place } => (id, place),

@@ -3,7 +3,7 @@ use Rattle.std.proofs.Common.{◌≡◌, ◌^◌, ◌==◌, ◌&&◌, Bool, true
 use Rattle.std.specs.Prelude.{nat_le}
 use Rattle.std.proofs.lemmas.Bool.{le-leb, leb-true, eqb-true, eq-eqb}
 use Rattle.handle_words.specs.Handle.{offset_of}
-use Rattle.defrag_move.specs.Arena.{IsLiveStart}
+use Rattle.arena_meaning.specs.Arena.{IsLiveStart}
 use Rattle.flat_meaning.specs.Accesses.{is_live_start}
 use Rattle.flat_meaning.specs.Laws.{LiveStartsAreTold}
 

@@ -6,9 +6,9 @@ use Rattle.block_store.specs.declared.values.Answer.TheVariants.{Plain, Got}
 use Rattle.c_tree.specs.Typed.{bytes, text}
 use Rattle.struct_ir.specs.Nodes.{StackObject, Ir}
 use Rattle.struct_ir.specs.Instrs.{LinearCode}
-use Rattle.ir_meaning.specs.Rows.{broke}
-use Rattle.flat_meaning.specs.declared.endings.End.TheVariants as ends
-use Rattle.flat_meaning.specs.declared.endings.TrapKind.TheVariants as kinds
+use Rattle.struct_ir.specs.meaning.Rows.{broke}
+use Rattle.ak_trace.specs.declared.endings.End.TheVariants as ends
+use Rattle.ak_trace.specs.declared.endings.TrapKind.TheVariants as kinds
 use Rattle.flat_meaning.specs.Image.{structured_image, linear_image}
 use Rattle.flat_meaning.specs.Stages.{starts, can_go}
 use Rattle.flat_meaning.specs.Events.{Event}

@@ -5,20 +5,20 @@ use Rattle.block_store.specs.declared.values.Answer.{Answer}
 use Rattle.block_store.specs.Runs as runs
 use Rattle.block_store.specs.Runs.{Pick, Run, reaches, breaks, no_run, own_at, picked}
 use Rattle.sub_heaps.specs.SubHeaps.{IsShape}
-use Rattle.move_plan.specs.declared.moves.Move.{Move}
-use Rattle.defrag_move.specs.Arena.{IsConsistent}
-use Rattle.defrag_move.specs.Moves.{KeepsObjects, after_plan}
+use Rattle.sub_heaps.specs.declared.moves.Move.{Move}
+use Rattle.arena_meaning.specs.Arena.{IsConsistent}
+use Rattle.arena_meaning.specs.Moves.{KeepsObjects, after_plan}
 use Rattle.struct_ir.specs.Nodes.{Global, Func, Ir}
 use Rattle.struct_ir.specs.Structured.{Position, structured}
 use Rattle.struct_ir.specs.Threads.{Thread}
 use Rattle.struct_ir.specs.Pins.{PinSafe}
 use Rattle.struct_ir.specs.Whole.{plain_bytes, takes_nothing, is_init_in}
 use Rattle.struct_ir.specs.Valid.{is_valid}
-use Rattle.ir_meaning.specs.Blocks.{Own}
-use Rattle.ir_meaning.specs.Start.{start}
-use Rattle.ir_meaning.specs.Threads.{program_of, code_of}
-use Rattle.flat_meaning.specs.declared.endings.End.{End}
-use Rattle.flat_meaning.specs.declared.endings.End.TheVariants as ends
+use Rattle.struct_ir.specs.meaning.Blocks.{Own}
+use Rattle.struct_ir.specs.meaning.Start.{start}
+use Rattle.struct_ir.specs.meaning.Threads.{program_of, start_in}
+use Rattle.ak_trace.specs.declared.endings.End.{End}
+use Rattle.ak_trace.specs.declared.endings.End.TheVariants as ends
 use Rattle.flat_meaning.specs.Image.{limits_for, Layout, Image, structured_image, plain_size}
 use Rattle.flat_meaning.specs.Accesses.{Choice}
 use Rattle.flat_meaning.specs.Stages.{Stage, steps, thread_at}
@@ -83,7 +83,7 @@ EachTurnTakesAnAnswer p =
 pub record IsChecked (p : Ir) : Type 0 where
   pub valid : is_valid p ≡ true
   pub sized : IsSized p
-  pub safe : (function : ℕ) → PinSafe structured (code_of p function)
+  pub safe : (function : ℕ) → PinSafe structured (start_in p function)
   pub answers : EachTurnTakesAnAnswer p
   pub main : takes_nothing (slice_get p.funcs p.main) ≡ true
   pub params : All (λ (f : Func). f.params ≤ f.temps) p.funcs

@@ -8,8 +8,8 @@ use Rattle.struct_ir.specs.Linear.{Spot}
 use Rattle.struct_ir.specs.Nodes.{Action, load, store, copy_bytes, malloc, free, print, lock, unlock, destroy, start, join, set, call, step, look, safepoint, begin_object, end_object}
 use Rattle.struct_ir.specs.Threads.{Thread, Outcome, blocked, served, stop_at}
 use Rattle.flat_store.specs.Flat.{first_outside}
-use Rattle.flat_meaning.specs.declared.endings.End.{End}
-use Rattle.flat_meaning.specs.declared.endings.TrapKind.{TrapKind}
+use Rattle.ak_trace.specs.declared.endings.End.{End}
+use Rattle.ak_trace.specs.declared.endings.TrapKind.{TrapKind}
 use Rattle.flat_meaning.specs.Accesses as choices
 use Rattle.flat_meaning.specs.Accesses.{Done, Fault, plain, within}
 use Rattle.flat_meaning.specs.Actions as actions

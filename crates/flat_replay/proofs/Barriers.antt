@@ -8,7 +8,7 @@ use Rattle.sub_heaps.specs.SubHeaps.{SubHeaps}
 use Rattle.move_plan.specs.Sliding.{IsSlide}
 use Rattle.move_plan.proofs.Slid.{slide_moves}
 use Rattle.move_plan.proofs.Slides.{IsSlide-slide_moves}
-use Rattle.defrag_move.specs.Arena.{IsConsistent}
+use Rattle.arena_meaning.specs.Arena.{IsConsistent}
 use Rattle.defrag_move.proofs.Kept.{keeps_all}
 use Rattle.flat_meaning.specs.Allowed.{pinned}
 use Rattle.struct_ir.specs.Instrs.{LinearCode}

@@ -14,10 +14,10 @@ use Rattle.struct_ir.specs.Linear.{Spot}
 use Rattle.struct_ir.specs.Nodes.{Ir}
 use Rattle.struct_ir.specs.Structured.{Position}
 use Rattle.struct_ir.specs.Threads.{Thread}
-use Rattle.ir_meaning.specs.Blocks.{Own}
-use Rattle.ir_meaning.specs.Start.{start}
-use Rattle.ir_meaning.specs.Threads.{program_of}
-use Rattle.flat_meaning.specs.declared.endings.End.{End}
+use Rattle.struct_ir.specs.meaning.Blocks.{Own}
+use Rattle.struct_ir.specs.meaning.Start.{start}
+use Rattle.struct_ir.specs.meaning.Threads.{program_of}
+use Rattle.ak_trace.specs.declared.endings.End.{End}
 use Rattle.flat_meaning.specs.Accesses.{Choice}
 use Rattle.flat_meaning.specs.Events.{State, Event, act, after_all, first_state}
 use Rattle.flat_meaning.specs.Image.{Image}

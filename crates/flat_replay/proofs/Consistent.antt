@@ -3,12 +3,12 @@ use Rattle.std.proofs.Common.{◌≡◌, ℕ, ◌+◌, ◌<◌, List, [], ◌∷
 use Rattle.std.specs.Prelude.{◌⊎◌, count_by}
 use Rattle.ak_trace.specs.declared.entry.Entry.{Entry}
 use Rattle.std.proofs.lemmas.List.{length-replicate, length-set}
-use Rattle.defrag_move.specs.Arena.{IsConsistent}
+use Rattle.arena_meaning.specs.Arena.{IsConsistent}
 use Rattle.struct_ir.specs.Instrs.{LinearCode}
 use Rattle.struct_ir.specs.Linear.{Spot}
 use Rattle.flat_meaning.specs.declared.endings.Stop.{Stop}
 use Rattle.flat_meaning.specs.Events as events
-use Rattle.flat_meaning.specs.declared.endings.End.{End}
+use Rattle.ak_trace.specs.declared.endings.End.{End}
 use Rattle.flat_meaning.specs.Local.{stop_at}
 use Rattle.flat_meaning.specs.Stages.{Stage}
 use Rattle.flat_rules.specs.Events.{Goes, on, back, away, most_local, turned_by}

@@ -6,12 +6,12 @@ use Rattle.ak_words.specs.Bytes.{low_bytes}
 use Rattle.block_store.specs.declared.values.Access.{Access}
 use Rattle.block_store.specs.Cells.{size_of}
 use Rattle.flat_store.specs.Flat.{bytes_from, first_outside, first_outside_of_both}
-use Rattle.defrag_move.specs.Arena.{Storage}
+use Rattle.arena_meaning.specs.Arena.{Storage}
 use Rattle.sub_heaps.specs.SubHeaps.{rounded}
 use Rattle.struct_ir.specs.Nodes.{Action, load, store, copy_bytes, malloc, free, print, lock, unlock, destroy, start, join}
 use Rattle.struct_ir.specs.Valid.{counts_of}
-use Rattle.flat_meaning.specs.declared.endings.TrapKind.{TrapKind}
-use Rattle.flat_meaning.specs.declared.endings.TrapKind.TheVariants as kinds
+use Rattle.ak_trace.specs.declared.endings.TrapKind.{TrapKind}
+use Rattle.ak_trace.specs.declared.endings.TrapKind.TheVariants as kinds
 use Rattle.flat_meaning.specs.Accesses.{Choice, plain, got, null, wait, Done, went, waits, unfit, over, within, allocated, is_live_start, prints, output_room}
 use Rattle.flat_meaning.specs.Actions.{acted, is_free, joined_at, joined_if, joined_with, may_start, printed_parts}
 use Rattle.flat_meaning.specs.Image.{Layout}

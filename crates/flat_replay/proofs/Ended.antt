@@ -3,7 +3,7 @@ use Rattle.std.proofs.Common.{◌≡◌, List, ap, sym, ◌∙◌, Option, Some,
 use Rattle.std.specs.Prelude.{true, false, All}
 use Rattle.std.specs.Option.{option_map}
 use Rattle.ak_trace.specs.declared.entry.Entry.{Entry}
-use Rattle.flat_meaning.specs.declared.endings.End.{End}
+use Rattle.ak_trace.specs.declared.endings.End.{End}
 use Rattle.flat_rules.specs.Rules.{Rules}
 use Rattle.flat_rules.specs.Machine.{Machine}
 use Rattle.flat_rules.specs.States.{State, end_of}

@@ -9,9 +9,9 @@ use Rattle.struct_ir.specs.Flow.{Here, does, tests, passes, round, returns}
 use Rattle.struct_ir.specs.Linear.{Spot}
 use Rattle.struct_ir.specs.Nodes.{Action, load, store, copy_bytes, malloc, free, print, lock, unlock, destroy, start, join, set, call, step, look, safepoint, begin_object, end_object}
 use Rattle.struct_ir.specs.Threads.{Thread, Outcome, went, ended, blocked, broke, unfit, served, stop_at}
-use Rattle.flat_meaning.specs.declared.endings.End.{End}
-use Rattle.flat_meaning.specs.declared.endings.End.TheVariants as ends
-use Rattle.flat_meaning.specs.declared.endings.TrapKind.{TrapKind}
+use Rattle.ak_trace.specs.declared.endings.End.{End}
+use Rattle.ak_trace.specs.declared.endings.End.TheVariants as ends
+use Rattle.ak_trace.specs.declared.endings.TrapKind.{TrapKind}
 use Rattle.flat_meaning.specs.Accesses as choices
 use Rattle.flat_meaning.specs.Accesses.{Choice, Done, Fault, is_plain, output_limit, over, plain, wait, within}
 use Rattle.flat_meaning.specs.Actions as actions

@@ -11,10 +11,10 @@ use Rattle.struct_ir.specs.Nodes.{Ir}
 use Rattle.struct_ir.specs.Structured.{Position}
 use Rattle.struct_ir.specs.Threads.{Thread}
 use Rattle.struct_ir.specs.Whole.{plain_bytes}
-use Rattle.emit_code.specs.Emitted.{IsEmitted}
-use Rattle.ir_meaning.specs.Blocks.{Own}
-use Rattle.ir_meaning.specs.Start.{start}
-use Rattle.ir_meaning.specs.Threads.{program_of}
+use Rattle.struct_ir.specs.Emitted.{IsEmitted}
+use Rattle.struct_ir.specs.meaning.Blocks.{Own}
+use Rattle.struct_ir.specs.meaning.Start.{start}
+use Rattle.struct_ir.specs.meaning.Threads.{program_of}
 use Rattle.flat_meaning.specs.Allowed.{AreAllowed}
 use Rattle.flat_meaning.specs.Events.{Event, after_all, first_state}
 use Rattle.flat_meaning.specs.Image.{linear_image}

@@ -10,8 +10,8 @@ use Rattle.struct_ir.specs.Flow.{Here, does, tests, passes, round, returns}
 use Rattle.struct_ir.specs.Structured.{Position, structured}
 use Rattle.struct_ir.specs.Machine.{Point}
 use Rattle.struct_ir.specs.Threads.{Thread, Outcome, went, ended, blocked, broke, unfit, served, finished, left_call, stop_at, stop_event, local_event, and_then, turn}
-use Rattle.ir_meaning.specs.Blocks.{Own, Fault, broken, wrong_kind, blocks_machine}
-use Rattle.ir_meaning.specs.Threads.{blocks_world, code_of, served_by, served_if, action_of, result_of, finished_with, over, program_of, turned}
+use Rattle.struct_ir.specs.meaning.Blocks.{Own, Fault, broken, wrong_kind, blocks_machine}
+use Rattle.struct_ir.specs.meaning.Threads.{blocks_world, start_in, served_by, served_if, action_of, result_of, finished_with, over, program_of, turned}
 use Rattle.flat_meaning.specs.Order.{pick}
 use Rattle.flat_meaning.specs.Reaching.{Broken}
 use Rattle.flat_replay.specs.Meaning.{tried_with}
@@ -45,7 +45,7 @@ Refuses actions.unfit = Unit {0}
 Refuses (actions.broke rule) = Unit {0}
 
 -- where Got breaks a rule, Plain isn't taken
-fails_refused : (w : World) (thread : ℕ) (a : actions.Action) → Fails (acted w thread answers.Got a) → Refuses (acted w thread answers.Plain a)
+fails_refused : (w : World) (thread : ℕ) (a : actions.SharedAction) → Fails (acted w thread answers.Got a) → Refuses (acted w thread answers.Plain a)
 fails_refused w thread (actions.load at how) h = absurd h
 fails_refused w thread (actions.store at v) h = absurd h
 fails_refused w thread (actions.copy to from n align same) h = absurd h
@@ -78,7 +78,7 @@ module _ (p : Ir) (thread : ℕ) where
   finished_stops place l to (actions.broke rule) actions.unfit go h = tt
   finished_stops place l to (actions.broke rule) (actions.broke r) go h = tt
 
-  step_stops : (t : Thread Position Own) (place : ℕ) (l : Own) (to : Option ℕ) (w : World) (r : Result actions.Action Fault) → Faults (served structured t (served_if place thread answers.Got l to w r)) → Stops (served structured t (served_if place thread answers.Plain l to w r))
+  step_stops : (t : Thread Position Own) (place : ℕ) (l : Own) (to : Option ℕ) (w : World) (r : Result actions.SharedAction Fault) → Faults (served structured t (served_if place thread answers.Got l to w r)) → Stops (served structured t (served_if place thread answers.Plain l to w r))
   step_stops t place l to w (Ok action) h = served_stops t place l to (acted w thread answers.Got action) (acted w thread answers.Plain action) (fails_refused w thread action) h
   step_stops t place l to w (Err f) h = tt
 
@@ -89,10 +89,10 @@ module _ (p : Ir) (thread : ℕ) where
   result_stops l w blocks (Err f) h = tt
 
   abbrev FaultsAt : Thread Position Own → World → Here → Type 0
-  FaultsAt t w h = Faults (stop_at structured (blocks_machine p) (blocks_world p thread) (code_of p) answers.Got t w h)
+  FaultsAt t w h = Faults (stop_at structured (blocks_machine p) (blocks_world p thread) (start_in p) answers.Got t w h)
 
   abbrev StopsAt : Thread Position Own → World → Here → Type 0
-  StopsAt t w h = Stops (stop_at structured (blocks_machine p) (blocks_world p thread) (code_of p) answers.Plain t w h)
+  StopsAt t w h = Stops (stop_at structured (blocks_machine p) (blocks_world p thread) (start_in p) answers.Plain t w h)
 
   act_stops : (t : Thread Position Own) (w : World) (place : ℕ) (a : Act) → FaultsAt t w (does place a) → StopsAt t w (does place a)
   act_stops t w place (set to calc) h = absurd h
@@ -114,7 +114,7 @@ module _ (p : Ir) (thread : ℕ) where
   here_stops t w round h = absurd h
   here_stops t w (returns temp) h = left_stops t.top.own temp w t.callers h
 
-  then_stops : (o : Outcome Position Own Fault World) → Faults (and_then o (stop_event structured (blocks_machine p) (blocks_world p thread) (code_of p) answers.Got)) → Stops (and_then o (stop_event structured (blocks_machine p) (blocks_world p thread) (code_of p) answers.Plain))
+  then_stops : (o : Outcome Position Own Fault World) → Faults (and_then o (stop_event structured (blocks_machine p) (blocks_world p thread) (start_in p) answers.Got)) → Stops (and_then o (stop_event structured (blocks_machine p) (blocks_world p thread) (start_in p) answers.Plain))
   then_stops (went t w) h = here_stops t w (structured.here t.top.at) h
   then_stops (ended l w) h = absurd h
   then_stops blocked h = absurd h
@@ -142,7 +142,7 @@ module _ (p : Ir) (thread : ℕ) where
   turn_tried : (k : Thread Position Own) (w : World) → Broken (Some ((program_of p).turn thread answers.Got k w)) → Broken (tried_with (Some ((program_of p).turn thread answers.Plain k w)) (Some ((program_of p).turn thread answers.Got k w)))
   turn_tried k w h =
       let first = local_event structured (blocks_machine p) (blocks_world p thread) k w in
-      tried_stops (and_then first (stop_event structured (blocks_machine p) (blocks_world p thread) (code_of p) answers.Plain)) _ (then_stops first (broken_faults _ h)) h
+      tried_stops (and_then first (stop_event structured (blocks_machine p) (blocks_world p thread) (start_in p) answers.Plain)) _ (then_stops first (broken_faults _ h)) h
 
   if_tried : (u : runs.State (Thread Position Own)) (main own : Option (Thread Position Own)) → Broken (turn_if (program_of p) u (pick thread answers.Got) main own)
       → Broken (tried_with (turn_if (program_of p) u (pick thread answers.Plain) main own) (turn_if (program_of p) u (pick thread answers.Got) main own))

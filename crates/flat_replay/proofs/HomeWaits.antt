@@ -9,7 +9,7 @@ use Rattle.block_store.specs.Runs.{own_at}
 use Rattle.struct_ir.specs.Instrs.{LinearCode}
 use Rattle.struct_ir.specs.Linear.{Spot}
 use Rattle.struct_ir.specs.Threads.{Thread}
-use Rattle.flat_meaning.specs.declared.endings.End.{End}
+use Rattle.ak_trace.specs.declared.endings.End.{End}
 use Rattle.flat_meaning.specs.Memory.{Made}
 use Rattle.flat_meaning.specs.Ready.{has_ended}
 use Rattle.flat_meaning.specs.Stages.{Stage, starts, going, waiting, landed}

@@ -6,7 +6,7 @@ use Rattle.std.proofs.lemmas.Option.{option_and_then_some}
 use Rattle.ak_trace.specs.declared.entry.Entry.{Entry}
 use Rattle.struct_ir.specs.Instrs.{LinearCode}
 use Rattle.struct_ir.specs.Linear.{Spot}
-use Rattle.flat_meaning.specs.declared.endings.End.{End}
+use Rattle.ak_trace.specs.declared.endings.End.{End}
 use Rattle.flat_meaning.specs.Events as events
 use Rattle.flat_meaning.specs.Events.{Serve, after_serves, first_state, moved_state}
 use Rattle.flat_meaning.specs.Image.{Limits, linear_image}

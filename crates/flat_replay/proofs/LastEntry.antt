@@ -1,7 +1,7 @@
 -- Where a run ended at the output's limit, its journal's last entry tells of an attempt.
 use Rattle.std.proofs.Common.{◌≡◌, ℕ, ◌+◌, ◌==◌, Bool, true, false, cond, List, [], ◌∷◌, ◌++◌, Some, None, refl, sym, ap, ◌∙◌, subst}
 use Rattle.ak_trace.specs.declared.entry.Entry.{Entry}
-use Rattle.flat_meaning.specs.declared.endings.End.TheVariants as ends
+use Rattle.ak_trace.specs.declared.endings.End.TheVariants as ends
 use Rattle.flat_rules.specs.Entries.{turn_entry}
 use Rattle.flat_rules.specs.Events.{Event, Goes, on, back, away, ends_with, goes, turn_event, turned_by}
 use Rattle.flat_rules.specs.Machine.{Machine, Acted, Turned, looked, stepped, got, got_null, made_thread, refused_thread, found_busy, wants_room, rested, ended, trapped, passed_limit, lacked_stack}

@@ -6,7 +6,7 @@ use Rattle.struct_ir.specs.Flow.{Here, does, tests, passes, round, returns}
 use Rattle.struct_ir.specs.Linear.{Spot}
 use Rattle.struct_ir.specs.Nodes.{set, call, step, look, safepoint, begin_object, end_object}
 use Rattle.struct_ir.specs.Threads.{Thread, stop_at}
-use Rattle.flat_meaning.specs.declared.endings.End.{End}
+use Rattle.ak_trace.specs.declared.endings.End.{End}
 use Rattle.flat_meaning.specs.Accesses.{Choice, plain}
 use Rattle.flat_meaning.specs.Allowed.{AreAllowed, IsAllowed, MayCome, MayServe, MayServeAll}
 use Rattle.flat_meaning.specs.Effects.{Effect, acted, gone_effect, look_before, look_effect, no_effect, own_list_of, serve_effect}

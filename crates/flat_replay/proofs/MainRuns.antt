@@ -2,8 +2,8 @@
 use Rattle.std.proofs.Common.{◌≡◌, ℕ, ◌+◌, ◌<◌, ◌==◌, ◌&&◌, ◌||◌, Bool, true, false, cond, List, [], Option, Some, None, refl, sym, ap, ◌∙◌, subst, arith, inl, inr}
 use Rattle.std.specs.Prelude.{◌⊎◌, count_by}
 use Rattle.ak_trace.specs.declared.entry.Entry.{Entry}
-use Rattle.flat_meaning.specs.declared.endings.End.{End}
-use Rattle.flat_meaning.specs.declared.endings.End.TheVariants as ends
+use Rattle.ak_trace.specs.declared.endings.End.{End}
+use Rattle.ak_trace.specs.declared.endings.End.TheVariants as ends
 use Rattle.flat_rules.specs.Events.{Goes, on, back, away, ends_with, goes, most_local, turn_event, turned_by}
 use Rattle.flat_rules.specs.Lawful.{IsFlat, IsOpened, Leaves, is_end}
 use Rattle.flat_rules.specs.Machine.{Machine, Turned, looked, stepped, got, got_null, made_thread, refused_thread, found_busy, wants_room, rested, ended, trapped, passed_limit, lacked_stack}

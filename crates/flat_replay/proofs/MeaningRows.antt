@@ -10,8 +10,8 @@ use Rattle.block_store.specs.declared.values.Answer.TheVariants as answers
 use Rattle.block_store.specs.declared.values.Ptr.TheVariants.{Null}
 use Rattle.block_store.specs.Actions.{World, beginning, at_stage, staged, returned}
 use Rattle.block_store.specs.Runs.{State, blocked, picked, reaches, first_state}
-use Rattle.flat_meaning.specs.declared.endings.End.{End}
-use Rattle.flat_meaning.specs.declared.endings.End.TheVariants as ends
+use Rattle.ak_trace.specs.declared.endings.End.{End}
+use Rattle.ak_trace.specs.declared.endings.End.TheVariants as ends
 use Rattle.flat_meaning.specs.Order.{pick}
 use Rattle.flat_rules.specs.declared.settings.Settings.{Settings}
 use Rattle.flat_replay.specs.Meaning.{whole_run, Runs, BreaksAt, IsClean, by_turn, by_attempt, by_waiting, EndsAs}

@@ -11,8 +11,8 @@ use Rattle.struct_ir.specs.Flow.{Here, does, tests, passes, round, returns}
 use Rattle.struct_ir.specs.Machine.{Point}
 use Rattle.struct_ir.specs.Threads as threads
 use Rattle.struct_ir.specs.Threads.{Thread, Outcome, Served, serves, refuses, fails, if_fits, finished, left_call, stop_at}
-use Rattle.flat_meaning.specs.declared.endings.TrapKind.{TrapKind}
-use Rattle.flat_meaning.specs.declared.endings.TrapKind.TheVariants as kinds
+use Rattle.ak_trace.specs.declared.endings.TrapKind.{TrapKind}
+use Rattle.ak_trace.specs.declared.endings.TrapKind.TheVariants as kinds
 use Rattle.flat_meaning.specs.Accesses.{Fault, Choice, plain, got, null, wait, Done, went, waits, unfit, over, is_plain, within, allocated, is_live_start, prints, output_room}
 use Rattle.flat_meaning.specs.Actions.{acted, is_free, joined_at, joined_if, joined_with, may_start, printed_parts}
 use Rattle.flat_meaning.specs.Effects as effects

@@ -5,9 +5,9 @@ use Rattle.c_meaning.specs.Control.{Control}
 use Rattle.c_meaning.specs.Meaning as source
 use Rattle.struct_ir.specs.Structured.{Position}
 use Rattle.struct_ir.specs.Threads.{Thread}
-use Rattle.ir_meaning.specs.Blocks.{Own}
-use Rattle.ir_meaning.specs.Start.{start}
-use Rattle.ir_meaning.specs.Threads.{program_of}
+use Rattle.struct_ir.specs.meaning.Blocks.{Own}
+use Rattle.struct_ir.specs.meaning.Start.{start}
+use Rattle.struct_ir.specs.meaning.Threads.{program_of}
 use Rattle.lower_turns.specs.Turns.{AsDeep, CallsAreAsDeep, CodeBeginsAlike, CodeKeepsEveryTurn}
 use Rattle.flat_machine.specs.Replays.{final_at}
 use Rattle.flat_replay.specs.Laws.{JournalsMeanTheSource, JournalsOfCheckedCodeAreMeant}

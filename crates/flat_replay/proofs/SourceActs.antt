@@ -17,13 +17,13 @@ use Rattle.struct_ir.specs.Machine.{Point, run}
 use Rattle.struct_ir.specs.Nodes.{Action, load, store, copy_bytes, malloc, free, print, lock, unlock, destroy, start, join, set as sets, call, step, look, safepoint, begin_object, end_object, Ir}
 use Rattle.struct_ir.specs.Structured.{Position, structured}
 use Rattle.struct_ir.specs.Threads.{Thread, Outcome, went, ended, blocked, broke, unfit, alone, back_in, served, finished, if_fits, left_call, result_to, stop_at, stop_event, and_then, turn}
-use Rattle.ir_meaning.specs.Blocks.{Own, Fault, blocks_machine, with_blocks as with_own}
-use Rattle.ir_meaning.specs.Threads.{action_of, action_with, address_of, all_of, blocks_world, code_of, finished_with, fits, is_plain, left, number_of, on_ok, over, result_of, served_by, served_if}
+use Rattle.struct_ir.specs.meaning.Blocks.{Own, Fault, blocks_machine, with_blocks as with_own}
+use Rattle.struct_ir.specs.meaning.Threads.{action_of, action_with, address_of, all_of, blocks_world, start_in, finished_with, fits, is_plain, left, number_of, on_ok, over, result_of, served_by, served_if}
 
 -- ---- no step is a return
 
 -- an action, but no return
-abbrev IsStep : actions.Action → Type 0
+abbrev IsStep : actions.SharedAction → Type 0
 IsStep (actions.load at how) = Unit {0}
 IsStep (actions.store at value) = Unit {0}
 IsStep (actions.copy to from n align eq) = Unit {0}
@@ -37,15 +37,15 @@ IsStep (actions.start to function argument) = Unit {0}
 IsStep (actions.join thread to) = Unit {0}
 IsStep (actions.finish value) = ⊥
 
-abbrev StepIf : Result actions.Action Fault → Type 0
+abbrev StepIf : Result actions.SharedAction Fault → Type 0
 StepIf (Ok action) = IsStep action
 StepIf (Err f) = Unit {0}
 
-ok_step : {A : Type 0} (r : Result A Fault) (go : A → Result actions.Action Fault) → ((a : A) → StepIf (go a)) → StepIf (on_ok r go)
+ok_step : {A : Type 0} (r : Result A Fault) (go : A → Result actions.SharedAction Fault) → ((a : A) → StepIf (go a)) → StepIf (on_ok r go)
 ok_step (Ok a) go h = h a
 ok_step (Err f) go h = tt
 
-test_step : (b : Bool) (action : actions.Action) (f : Fault) → IsStep action → StepIf (cond b (Ok action) (Err f))
+test_step : (b : Bool) (action : actions.SharedAction) (f : Fault) → IsStep action → StepIf (cond b (Ok action) (Err f))
 test_step true action f h = h
 test_step false action f h = tt
 
@@ -106,17 +106,17 @@ with_step join (to ∷ b ∷ places) vs = tt
 -- ---- an action
 
 -- the threads behind it: as they were; one more; or one that has returned is joined
-pub data Change (ts : List actions.Thread) : List actions.Thread → Type 0 where
+pub data Change (ts : List actions.ThreadRecord) : List actions.ThreadRecord → Type 0 where
   same : Change ts ts
   more : (function : ℕ) (argument : Ptr) → Change ts (ts ++ beginning function argument ∷ [])
-  joins_one : (number : ℕ) (t : actions.Thread) (z : ℤ) → slice_get ts number ≡ Some t → t.stage ≡ returned z → Change ts (set ts number (at_stage (joined z) t))
+  joins_one : (number : ℕ) (t : actions.ThreadRecord) (z : ℤ) → slice_get ts number ≡ Some t → t.stage ≡ returned z → Change ts (set ts number (at_stage (joined z) t))
 
 -- the threads once one of them has come to a stage
-abbrev pub stage_list : List actions.Thread → ℕ → Stage → Option actions.Thread → List actions.Thread
+abbrev pub stage_list : List actions.ThreadRecord → ℕ → Stage → Option actions.ThreadRecord → List actions.ThreadRecord
 stage_list ts number stage None = ts
 stage_list ts number stage (Some t) = set ts number (at_stage stage t)
 
-list_is : (w : World) (number : ℕ) (stage : Stage) (o : Option actions.Thread) → (staged_if w number stage o).threads ≡ stage_list w.threads number stage o
+list_is : (w : World) (number : ℕ) (stage : Stage) (o : Option actions.ThreadRecord) → (staged_if w number stage o).threads ≡ stage_list w.threads number stage o
 list_is w number stage None = refl
 list_is w number stage (Some t) = refl
 
@@ -166,17 +166,17 @@ module _ (w : World) (thread : ℕ) where
   starts_changes function argument (Ok blocks) = more function argument
   starts_changes function argument (Err rule) = tt
 
-  joins_changes : (number : ℕ) (t : actions.Thread) (z : ℤ) → slice_get w.threads number ≡ Some t → t.stage ≡ returned z → (r : Result Blocks Rule) → Changes (joins w number z r)
+  joins_changes : (number : ℕ) (t : actions.ThreadRecord) (z : ℤ) → slice_get w.threads number ≡ Some t → t.stage ≡ returned z → (r : Result Blocks Rule) → Changes (joins w number z r)
   joins_changes number t z is stage (Ok blocks) =
       subst (Change w.threads) (sym (list_is (with_blocks w blocks) number (joined z) (slice_get w.threads number) ∙ ap (stage_list w.threads number (joined z)) is)) (joins_one number t z is stage)
   joins_changes number t z is stage (Err rule) = tt
 
-  stage_changes : (number : ℕ) (to : Ptr) (t : actions.Thread) → slice_get w.threads number ≡ Some t → (stage : Stage) → t.stage ≡ stage → Changes (joins_at w number to stage)
+  stage_changes : (number : ℕ) (to : Ptr) (t : actions.ThreadRecord) → slice_get w.threads number ≡ Some t → (stage : Stage) → t.stage ≡ stage → Changes (joins_at w number to stage)
   stage_changes number to t is running e = tt
   stage_changes number to t is (returned z) e = joins_changes number t z is e (actions.stored_unless_null w.blocks to z)
   stage_changes number to t is (joined z) e = tt
 
-  thread_changes : (number : ℕ) (to : Ptr) (o : Option actions.Thread) → slice_get w.threads number ≡ o → Changes (joins_if w number to o)
+  thread_changes : (number : ℕ) (to : Ptr) (o : Option actions.ThreadRecord) → slice_get w.threads number ≡ o → Changes (joins_if w number to o)
   thread_changes number to None is = tt
   thread_changes number to (Some t) is = stage_changes number to t is t.stage refl
 
@@ -191,7 +191,7 @@ module _ (w : World) (thread : ℕ) where
   telling_changes reached (actions.broke rule) k = tt
 
   -- each action by the table
-  under_changes : (answer : Answer) (a : actions.Action) → IsStep a → Changes (under answer (actions.outcomes w thread a))
+  under_changes : (answer : Answer) (a : actions.SharedAction) → IsStep a → Changes (under answer (actions.outcomes w thread a))
   under_changes answer (actions.load at how) h = told (gives w (loaded w.blocks at how)) (gives_changes (loaded w.blocks at how)) answer
   under_changes answer (actions.store at v) h = told (changes w (stored w.blocks at v)) (changes_changes (stored w.blocks at v)) answer
   under_changes answer (actions.copy to from n align eq) h = told (changes w (copied w.blocks to from n align eq)) (changes_changes (copied w.blocks to from n align eq)) answer
@@ -210,7 +210,7 @@ module _ (w : World) (thread : ℕ) where
 
 module _ (p : Ir) (thread : ℕ) (answer : Answer) where
   -- where it goes on, a change; where its first function has returned, its own stage
-  abbrev pub Comes : List actions.Thread → Outcome Position Own Fault World → Type 0
+  abbrev pub Comes : List actions.ThreadRecord → Outcome Position Own Fault World → Type 0
   Comes ts (went t w) = Change ts w.threads
   Comes ts (ended l w) = (z : ℤ) × (w.threads ≡ stage_list ts thread (returned z) (slice_get ts thread))
   Comes ts blocked = Unit {0}
@@ -227,7 +227,7 @@ module _ (p : Ir) (thread : ℕ) (answer : Answer) where
   done_comes t place l to w actions.unfit k = tt
   done_comes t place l to w (actions.broke rule) k = tt
 
-  step_comes : (t : Thread Position Own) (place : ℕ) (l : Own) (to : Option ℕ) (w : World) (r : Result actions.Action Fault) → StepIf r → Comes w.threads (served structured t (served_if place thread answer l to w r))
+  step_comes : (t : Thread Position Own) (place : ℕ) (l : Own) (to : Option ℕ) (w : World) (r : Result actions.SharedAction Fault) → StepIf r → Comes w.threads (served structured t (served_if place thread answer l to w r))
   step_comes t place l to w (Ok action) h = done_comes t place l to w (acted w thread answer action) (telling_changes w thread _ (under answer (actions.outcomes w thread action)) (under_changes w thread answer action h))
   step_comes t place l to w (Err f) h = tt
 
@@ -249,7 +249,7 @@ module _ (p : Ir) (thread : ℕ) (answer : Answer) where
   left_comes l temp w (c ∷ cs) = back_comes (is_plain answer) (left p l temp c.own (result_to (structured.here c.at))) w c cs
 
   -- by what stands there
-  here_comes : (t : Thread Position Own) (w : World) (h : Here) → Comes w.threads (stop_at structured (blocks_machine p) (blocks_world p thread) (code_of p) answer t w h)
+  here_comes : (t : Thread Position Own) (w : World) (h : Here) → Comes w.threads (stop_at structured (blocks_machine p) (blocks_world p thread) (start_in p) answer t w h)
   here_comes t w (does place (sets to calc)) = tt
   here_comes t w (does place (call c)) = fits_comes (is_plain answer) _ w
   here_comes t w (does place (step s)) = step_comes t place t.top.own s.to w (action_of place t.top.own s) (ok_step (all_of (address_of place t.top.own) s.places) _ (λ places. ok_step _ _ (λ vs. with_step s.action places vs)))
@@ -262,10 +262,10 @@ module _ (p : Ir) (thread : ℕ) (answer : Answer) where
   here_comes t w round = fits_comes (is_plain answer) _ w
   here_comes t w (returns temp) = left_comes t.top.own temp w t.callers
 
-  run_comes : (callers : List (Point Position Own)) (w : World) (r : Result (Point Position Own) Fault) → Comes w.threads (and_then (alone (blocks_world p thread) callers w r) (stop_event structured (blocks_machine p) (blocks_world p thread) (code_of p) answer))
+  run_comes : (callers : List (Point Position Own)) (w : World) (r : Result (Point Position Own) Fault) → Comes w.threads (and_then (alone (blocks_world p thread) callers w r) (stop_event structured (blocks_machine p) (blocks_world p thread) (start_in p) answer))
   run_comes callers w (Ok q) = here_comes (record { top = q; callers = callers }) (with_blocks w q.own.blocks) (structured.here q.at)
   run_comes callers w (Err f) = tt
 
   -- a turn
-  pub turn_comes : (t : Thread Position Own) (w : World) → Comes w.threads (turn structured (blocks_machine p) (blocks_world p thread) (code_of p) answer t w)
+  pub turn_comes : (t : Thread Position Own) (w : World) → Comes w.threads (turn structured (blocks_machine p) (blocks_world p thread) (start_in p) answer t w)
   turn_comes t w = run_comes t.callers w (run structured (blocks_machine p) (record { at = t.top.at; own = with_own t.top.own w.blocks }))

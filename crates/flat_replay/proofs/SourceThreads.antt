@@ -10,9 +10,9 @@ use Rattle.block_store.specs.Runs.{Pick, State, Turn, Run, reaches, first_state,
 use Rattle.struct_ir.specs.Nodes.{Ir}
 use Rattle.struct_ir.specs.Structured.{Position}
 use Rattle.struct_ir.specs.Threads.{Thread, Outcome, went, ended, blocked, broke, unfit}
-use Rattle.ir_meaning.specs.Blocks.{Own, Fault, broken, wrong_kind}
-use Rattle.ir_meaning.specs.Start.{start}
-use Rattle.ir_meaning.specs.Threads.{program_of, turned}
+use Rattle.struct_ir.specs.meaning.Blocks.{Own, Fault, broken, wrong_kind}
+use Rattle.struct_ir.specs.meaning.Start.{start}
+use Rattle.struct_ir.specs.meaning.Threads.{program_of, turned}
 use Rattle.flat_rules.specs.inner.Cases.{same_number}
 use Rattle.flat_replay.specs.Meaning.{Runs}
 use Rattle.flat_simulation.specs.inner.Kept.{source_turn}
@@ -23,65 +23,65 @@ use Rattle.flat_replay.proofs.Standing.{MainIs}
 -- ---- threads
 
 -- the thread of this number runs
-abbrev RunsIn : List actions.Thread → ℕ → Type 0
-RunsIn ts n = (t : actions.Thread) × (slice_get ts n ≡ Some t) × (t.stage ≡ running)
+abbrev RunsIn : List actions.ThreadRecord → ℕ → Type 0
+RunsIn ts n = (t : actions.ThreadRecord) × (slice_get ts n ≡ Some t) × (t.stage ≡ running)
 
 -- main runs, or has returned
-abbrev MainIn : List actions.Thread → Type 0
-MainIn ts = RunsIn ts 0 ⊎ ((t : actions.Thread) × (slice_get ts 0 ≡ Some t) × ((z : ℤ) × (t.stage ≡ returned z)))
+abbrev MainIn : List actions.ThreadRecord → Type 0
+MainIn ts = RunsIn ts 0 ⊎ ((t : actions.ThreadRecord) × (slice_get ts 0 ≡ Some t) × ((z : ℤ) × (t.stage ≡ returned z)))
 
-front : (ts us : List actions.Thread) (n : ℕ) → n < length ts → slice_get (ts ++ us) n ≡ slice_get ts n
+front : (ts us : List actions.ThreadRecord) (n : ℕ) → n < length ts → slice_get (ts ++ us) n ≡ slice_get ts n
 front [] us n below = absurd (omega (arith, below))
 front (t ∷ ts) us zero below = refl
 front (t ∷ ts) us (suc n) below = front ts us n (omega (arith, below))
 
-other_at : (ts : List actions.Thread) (number n : ℕ) (t : actions.Thread) → n ≢ number → slice_get (set ts number t) n ≡ slice_get ts n
+other_at : (ts : List actions.ThreadRecord) (number n : ℕ) (t : actions.ThreadRecord) → n ≢ number → slice_get (set ts number t) n ≡ slice_get ts n
 other_at [] number n t other = refl
 other_at (u ∷ ts) zero zero t other = absurd (other refl)
 other_at (u ∷ ts) zero (suc n) t other = refl
 other_at (u ∷ ts) (suc number) zero t other = refl
 other_at (u ∷ ts) (suc number) (suc n) t other = other_at ts number n t (λ (e : n ≡ number). other (ap suc e))
 
-one_at : (ts : List actions.Thread) (n : ℕ) (t : actions.Thread) → n < length ts → slice_get (set ts n t) n ≡ Some t
+one_at : (ts : List actions.ThreadRecord) (n : ℕ) (t : actions.ThreadRecord) → n < length ts → slice_get (set ts n t) n ≡ Some t
 one_at [] n t below = absurd (omega (arith, below))
 one_at (u ∷ ts) zero t below = refl
 one_at (u ∷ ts) (suc n) t below = one_at ts n t (omega (arith, below))
 
-at_below : (ts : List actions.Thread) (n : ℕ) (t : actions.Thread) → slice_get ts n ≡ Some t → n < length ts
+at_below : (ts : List actions.ThreadRecord) (n : ℕ) (t : actions.ThreadRecord) → slice_get ts n ≡ Some t → n < length ts
 at_below [] n t e = absurd cc
 at_below (u ∷ ts) zero t e = omega arith
 at_below (u ∷ ts) (suc n) t e = omega (arith, at_below ts n t e)
 
-there_is : (ts : List actions.Thread) (n : ℕ) → n < length ts → (t : actions.Thread) × (slice_get ts n ≡ Some t)
+there_is : (ts : List actions.ThreadRecord) (n : ℕ) → n < length ts → (t : actions.ThreadRecord) × (slice_get ts n ≡ Some t)
 there_is [] n below = absurd (omega (arith, below))
 there_is (u ∷ ts) zero below = (u, refl)
 there_is (u ∷ ts) (suc n) below = there_is ts n (omega (arith, below))
 
-moved : (ts us : List actions.Thread) (n : ℕ) → slice_get us n ≡ slice_get ts n → RunsIn us n → RunsIn ts n
+moved : (ts us : List actions.ThreadRecord) (n : ℕ) → slice_get us n ≡ slice_get ts n → RunsIn us n → RunsIn ts n
 moved ts us n e r = (r.0, sym e ∙ r.1, r.2)
 
 differ : (n k : ℕ) → (n == k) ≡ false → n ≢ k
 differ n k e is = let equal : (n == k) ≡ true = grind (arith, nat_tests) in let bad : true ≡ false = sym equal ∙ e in cc
 
 -- one that doesn't run
-set_back : (ts : List actions.Thread) (number n : ℕ) (t : actions.Thread) (stage : actions.Stage) → number < length ts → (stage ≡ running → ⊥) → RunsIn (set ts number (at_stage stage t)) n → RunsIn ts n
+set_back : (ts : List actions.ThreadRecord) (number n : ℕ) (t : actions.ThreadRecord) (stage : actions.Stage) → number < length ts → (stage ≡ running → ⊥) → RunsIn (set ts number (at_stage stage t)) n → RunsIn ts n
 set_back ts number n t stage below stops r = by (n == number) refl where
   by : (b : Bool) → (n == number) ≡ b → RunsIn ts n
   by true e =
       let is : n ≡ number = same_number n number e in
       let one : Some (at_stage stage t) ≡ Some r.0 = sym (one_at ts number (at_stage stage t) below) ∙ subst (λ (k : ℕ). slice_get (set ts number (at_stage stage t)) k ≡ Some r.0) is r.1 in
       let it : at_stage stage t ≡ r.0 = cc in
-      absurd (stops (ap (λ (k : actions.Thread). k.stage) it ∙ r.2))
+      absurd (stops (ap (λ (k : actions.ThreadRecord). k.stage) it ∙ r.2))
   by false e = moved ts (set ts number (at_stage stage t)) n (other_at ts number n (at_stage stage t) (differ n number e)) r
 
 -- who runs behind a change ran before, if made
-back : (ts us : List actions.Thread) → Change ts us → (n : ℕ) → n < length ts → RunsIn us n → RunsIn ts n
+back : (ts us : List actions.ThreadRecord) → Change ts us → (n : ℕ) → n < length ts → RunsIn us n → RunsIn ts n
 back ts _ same n below r = r
 back ts _ (more function argument) n below r = moved ts (ts ++ beginning function argument ∷ []) n (front ts (beginning function argument ∷ []) n below) r
 back ts _ (joins_one number t z is stage) n below r = set_back ts number n t (joined z) (at_below ts number t is) (λ (e : joined z ≡ running). absurd cc) r
 
 -- main runs on
-main_on : (ts us : List actions.Thread) → Change ts us → RunsIn ts 0 → RunsIn us 0
+main_on : (ts us : List actions.ThreadRecord) → Change ts us → RunsIn ts 0 → RunsIn us 0
 main_on ts _ same r = r
 main_on ts _ (more function argument) r = (r.0, front ts (beginning function argument ∷ []) 0 (at_below ts 0 r.0 r.1) ∙ r.1, r.2)
 main_on ts _ (joins_one number t z is stage) r = by (0 == number) refl where
@@ -90,57 +90,57 @@ main_on ts _ (joins_one number t z is stage) r = by (0 == number) refl where
       let zero_is : 0 ≡ number = same_number 0 number e in
       let one : Some t ≡ Some r.0 = sym is ∙ subst (λ (k : ℕ). slice_get ts k ≡ Some r.0) zero_is r.1 in
       let it : t ≡ r.0 = cc in
-      let bad : returned z ≡ running = sym stage ∙ ap (λ (k : actions.Thread). k.stage) it ∙ r.2 in absurd cc
+      let bad : returned z ≡ running = sym stage ∙ ap (λ (k : actions.ThreadRecord). k.stage) it ∙ r.2 in absurd cc
   by false e = (r.0, other_at ts number 0 (at_stage (joined z) t) (differ 0 number e) ∙ r.1, r.2)
 
-change_long : (ts us : List actions.Thread) → Change ts us → length ts ≤ length us
+change_long : (ts us : List actions.ThreadRecord) → Change ts us → length ts ≤ length us
 change_long ts _ same = omega arith
 change_long ts _ (more function argument) = omega (arith, length-append ts (beginning function argument ∷ []))
 change_long ts _ (joins_one number t z is stage) = omega (arith, length-set ts number (at_stage (joined z) t))
 
 -- ---- what threads have of their own
 
-module _ {A : Type 0} (begins : actions.Thread → A) where
+module _ {A : Type 0} (begins : actions.ThreadRecord → A) where
   abbrev Has : List (Option A) → ℕ → Type 0
   Has os n = (a : A) × (own_at os n ≡ Some a)
 
-  abbrev fresh : List actions.Thread → List (Option A)
-  fresh ts = map (λ (t : actions.Thread). Some (begins t)) ts
+  abbrev fresh : List actions.ThreadRecord → List (Option A)
+  fresh ts = map (λ (t : actions.ThreadRecord). Some (begins t)) ts
 
-  fresh_has : (ts : List actions.Thread) (n : ℕ) → n < length ts → Has (fresh ts) n
+  fresh_has : (ts : List actions.ThreadRecord) (n : ℕ) → n < length ts → Has (fresh ts) n
   fresh_has [] n below = absurd (omega (arith, below))
   fresh_has (t ∷ ts) zero below = (begins t, refl)
   fresh_has (t ∷ ts) (suc n) below = fresh_has ts n (omega (arith, below))
 
-  new_has : (os : List (Option A)) (ts : List actions.Thread) (n : ℕ) → length os ≤ n → n < length ts → Has (os ++ fresh (drop (length os) ts)) n
+  new_has : (os : List (Option A)) (ts : List actions.ThreadRecord) (n : ℕ) → length os ≤ n → n < length ts → Has (os ++ fresh (drop (length os) ts)) n
   new_has [] ts n from below = fresh_has ts n below
   new_has (o ∷ os) [] n from below = absurd (omega (arith, below))
   new_has (o ∷ os) (t ∷ ts) zero from below = absurd (omega (arith, from))
   new_has (o ∷ os) (t ∷ ts) (suc n) from below = new_has os ts n (omega (arith, from)) (omega (arith, below))
 
   -- each thread that runs has something; main runs while it has; and it runs or has returned
-  pub record Held (os : List (Option A)) (ts : List actions.Thread) : Type 0 where
+  pub record Held (os : List (Option A)) (ts : List actions.ThreadRecord) : Type 0 where
     pub count : length os ≡ length ts
     pub own : (n : ℕ) → RunsIn ts n → Has os n
     pub runs : Has os 0 → RunsIn ts 0
     pub main : MainIn ts
 
-  abbrev put : List (Option A) → ℕ → Option A → List actions.Thread → List (Option A)
+  abbrev put : List (Option A) → ℕ → Option A → List actions.ThreadRecord → List (Option A)
   put os thread v us = set os thread v ++ fresh (drop (length os) us)
 
   -- it is as long as the threads
-  put_long : (os : List (Option A)) (thread : ℕ) (v : Option A) (us : List actions.Thread) → length os ≤ length us → length (put os thread v us) ≡ length us
+  put_long : (os : List (Option A)) (thread : ℕ) (v : Option A) (us : List actions.ThreadRecord) → length os ≤ length us → length (put os thread v us) ≡ length us
   put_long os thread v us le =
-      let rest : List actions.Thread = drop (length os) us in
-      omega (arith, le, length-append (set os thread v) (fresh rest), length-set os thread v, length-map rest (λ (t : actions.Thread). Some (begins t)), length-drop (length os) us)
+      let rest : List actions.ThreadRecord = drop (length os) us in
+      omega (arith, le, length-append (set os thread v) (fresh rest), length-set os thread v, length-map rest (λ (t : actions.ThreadRecord). Some (begins t)), length-drop (length os) us)
 
   -- who was made has something
-  put_new : (os : List (Option A)) (thread : ℕ) (v : Option A) (us : List actions.Thread) (n : ℕ) → length os ≤ n → n < length us → Has (put os thread v us) n
+  put_new : (os : List (Option A)) (thread : ℕ) (v : Option A) (us : List actions.ThreadRecord) (n : ℕ) → length os ≤ n → n < length us → Has (put os thread v us) n
   put_new os thread v us n from below =
       subst (λ (k : ℕ). Has (set os thread v ++ fresh (drop k us)) n) (length-set os thread v) (new_has (set os thread v) us n (omega (arith, from, length-set os thread v)) below)
 
   -- a thread goes on
-  pub goes : (os : List (Option A)) (ts us : List actions.Thread) (thread : ℕ) (a : A) → Held os ts → Has os 0 → thread < length os → Change ts us → Held (put os thread (Some a) us) us
+  pub goes : (os : List (Option A)) (ts us : List actions.ThreadRecord) (thread : ℕ) (a : A) → Held os ts → Has os 0 → thread < length os → Change ts us → Held (put os thread (Some a) us) us
   goes os ts us thread a held main below change = record {
     count = put_long os thread (Some a) us (omega (arith, held.count, change_long ts us change));
     own = λ n r. by_long n r (nat_lt n (length os)) refl;
@@ -158,14 +158,14 @@ module _ {A : Type 0} (begins : actions.Thread → A) where
     by_long n r false e = put_new os thread (Some a) us n (grind (arith, nat_tests)) (at_below us n r.0 r.1)
 
   -- it ends
-  pub over : (os : List (Option A)) (ts : List actions.Thread) (thread : ℕ) (z : ℤ) (t : actions.Thread) → Held os ts → Has os 0 → slice_get ts thread ≡ Some t → Held (put os thread None (set ts thread (at_stage (returned z) t))) (set ts thread (at_stage (returned z) t))
+  pub over : (os : List (Option A)) (ts : List actions.ThreadRecord) (thread : ℕ) (z : ℤ) (t : actions.ThreadRecord) → Held os ts → Has os 0 → slice_get ts thread ≡ Some t → Held (put os thread None (set ts thread (at_stage (returned z) t))) (set ts thread (at_stage (returned z) t))
   over os ts thread z t held main is = record {
     count = put_long os thread None us (omega (arith, long, held.count));
     own = own_all;
     runs = λ h. still_main h (0 == thread) refl;
     main = is_main (0 == thread) refl;
   } where
-    us : List actions.Thread
+    us : List actions.ThreadRecord
     us = set ts thread (at_stage (returned z) t)
 
     long : length (set ts thread (at_stage (returned z) t)) ≡ length ts
@@ -178,7 +178,7 @@ module _ {A : Type 0} (begins : actions.Thread → A) where
     not_it n r same_one =
         let one : Some (at_stage (returned z) t) ≡ Some r.0 = sym (one_at ts thread (at_stage (returned z) t) below) ∙ subst (λ (k : ℕ). slice_get us k ≡ Some r.0) same_one r.1 in
         let it : at_stage (returned z) t ≡ r.0 = cc in
-        let bad : returned z ≡ running = ap (λ (k : actions.Thread). k.stage) it ∙ r.2 in cc
+        let bad : returned z ≡ running = ap (λ (k : actions.ThreadRecord). k.stage) it ∙ r.2 in cc
 
     own_all : (n : ℕ) → RunsIn us n → Has (put os thread None us) n
     own_all n r =
@@ -197,7 +197,7 @@ module _ {A : Type 0} (begins : actions.Thread → A) where
 -- ---- runs
 
 module _ (p : Ir) where
-  abbrev begins : actions.Thread → Thread Position Own
+  abbrev begins : actions.ThreadRecord → Thread Position Own
   begins t = (program_of p).begins t.function t.argument
 
   abbrev HeldOf : State (Thread Position Own) → Type 0
@@ -216,9 +216,9 @@ module _ (p : Ir) where
       → (o : Outcome Position Own Fault World) → Comes p k.thread k.answer u.world.threads o → NextHeld u k.thread (Some (turned o))
   comes_held u k held main a at (went t w) c = goes begins u.own u.world.threads w.threads k.thread t held main (own_below u.own k.thread a at) c
   comes_held u k held main a at (ended l w) c =
-      let there : (t : actions.Thread) × (slice_get u.world.threads k.thread ≡ Some t) = there_is u.world.threads k.thread (omega (arith, own_below u.own k.thread a at, held.count)) in
+      let there : (t : actions.ThreadRecord) × (slice_get u.world.threads k.thread ≡ Some t) = there_is u.world.threads k.thread (omega (arith, own_below u.own k.thread a at, held.count)) in
       let list : w.threads ≡ set u.world.threads k.thread (at_stage (returned c.0) there.0) = c.1 ∙ ap (stage_list u.world.threads k.thread (returned c.0)) there.1 in
-      subst (λ (us : List actions.Thread). Held begins (put begins u.own k.thread None us) us) (sym list) (over begins u.own u.world.threads k.thread c.0 there.0 held main there.1)
+      subst (λ (us : List actions.ThreadRecord). Held begins (put begins u.own k.thread None us) us) (sym list) (over begins u.own u.world.threads k.thread c.0 there.0 held main there.1)
   comes_held u k held main a at blocked c = tt
   comes_held u k held main a at (broke (broken rule place)) c = tt
   comes_held u k held main a at (broke wrong_kind) c = tt

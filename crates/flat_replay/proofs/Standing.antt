@@ -7,7 +7,7 @@ use Rattle.block_store.specs.Actions as actions
 use Rattle.block_store.specs.Actions.{World, running, returned, joined}
 use Rattle.block_store.specs.Blocks.{Blocks}
 use Rattle.flat_words.specs.Words.{word_of}
-use Rattle.flat_meaning.specs.declared.endings.End.TheVariants as ends
+use Rattle.ak_trace.specs.declared.endings.End.TheVariants as ends
 use Rattle.flat_meaning.specs.Effects.{exit_of, exit_with}
 use Rattle.flat_meaning.specs.Memory.{Made, Memory}
 use Rattle.flat_meaning.specs.Names.{Name}
@@ -19,22 +19,22 @@ use Rattle.flat_replay.proofs.WaitsMade.{there_is}
 
 -- main runs, or has returned
 abbrev pub MainIs : World → Type 0
-MainIs w = Runs w 0 ⊎ ((t : actions.Thread) × (slice_get w.threads 0 ≡ Some t) × ((z : ℤ) × (t.stage ≡ returned z)))
+MainIs w = Runs w 0 ⊎ ((t : actions.ThreadRecord) × (slice_get w.threads 0 ≡ Some t) × ((z : ℤ) × (t.stage ≡ returned z)))
 
 module _ (names : List Name) (blocks : Blocks) where
   -- a thread that stands for this one was made
-  pub record MadeAt (t : actions.Thread) (us : List Made) (n : ℕ) : Type 0 where
+  pub record MadeAt (t : actions.ThreadRecord) (us : List Made) (n : ℕ) : Type 0 where
     pub made : Made
     pub is : slice_get us n ≡ Some made
     pub result : ResultStands t.stage made.result
 
   -- there is one for each
-  pub made_at : (ts : List actions.Thread) (us : List Made) → AllMadeStand names blocks ts us → (n : ℕ) (t : actions.Thread) → slice_get ts n ≡ Some t → MadeAt t us n
+  pub made_at : (ts : List actions.ThreadRecord) (us : List Made) → AllMadeStand names blocks ts us → (n : ℕ) (t : actions.ThreadRecord) → slice_get ts n ≡ Some t → MadeAt t us n
   made_at [] us stand n t is = absurd cc
   made_at (t2 ∷ ts) [] stand n t is = absurd stand
   made_at (t2 ∷ ts) (u ∷ us) stand zero t is =
       let same : t2 ≡ t = cc in
-      record { made = u; is = refl; result = subst (λ (k : actions.Thread). ResultStands k.stage u.result) same stand.0.result }
+      record { made = u; is = refl; result = subst (λ (k : actions.ThreadRecord). ResultStands k.stage u.result) same stand.0.result }
   made_at (t2 ∷ ts) (u ∷ us) stand (suc n) t is = let r : MadeAt t us n = made_at ts us stand.1 n t is in record { made = r.made; is = r.is; result = r.result }
 
 -- one that runs has no result
@@ -49,7 +49,7 @@ pub runs_below : (names : List Name) (w : World) (m : Memory) → WorldStands na
 runs_below names w m stands n runs = let a : MadeAt names w.blocks runs.0 m.threads n = made_at names w.blocks w.threads m.threads stands.threads n runs.0 runs.1 in there_is m.threads n a.made a.is
 
 -- of threads that stand for others, one without a result stands for one that runs
-back_at : (names : List Name) (blocks : Blocks) (ts : List actions.Thread) (us : List Made) → AllMadeStand names blocks ts us → (n : ℕ) → n < length us → has_ended (slice_get us n) ≡ false → (t : actions.Thread) × (slice_get ts n ≡ Some t) × (t.stage ≡ running)
+back_at : (names : List Name) (blocks : Blocks) (ts : List actions.ThreadRecord) (us : List Made) → AllMadeStand names blocks ts us → (n : ℕ) → n < length us → has_ended (slice_get us n) ≡ false → (t : actions.ThreadRecord) × (slice_get ts n ≡ Some t) × (t.stage ≡ running)
 back_at names blocks [] [] stand n below none = absurd (omega (arith, below))
 back_at names blocks [] (u ∷ us) stand n below none = absurd stand
 back_at names blocks (t ∷ ts) [] stand n below none = absurd stand

@@ -7,7 +7,7 @@ use Rattle.block_store.specs.Runs.{Pick, own_at}
 use Rattle.block_store.specs.declared.values.Answer.TheVariants as answers
 use Rattle.struct_ir.specs.Instrs.{LinearCode}
 use Rattle.struct_ir.specs.Linear.{Spot}
-use Rattle.flat_meaning.specs.declared.endings.End.{End}
+use Rattle.ak_trace.specs.declared.endings.End.{End}
 use Rattle.flat_meaning.specs.declared.endings.Stop.{Stop}
 use Rattle.flat_meaning.specs.Effects.{Effect}
 use Rattle.flat_meaning.specs.Events as events

@@ -12,8 +12,8 @@ use Rattle.block_store.specs.Runs.{Pick, Turn, went, ended, blocked, unfit, brok
 use Rattle.block_store.specs.Runs as runs
 use Rattle.c_meaning.specs.Alike.{TurnsAlike, both_went, both_ended, both_blocked, both_unfit, both_broke, in_world, at_break, at_no_run, reached_by, reached_in}
 use Rattle.c_meaning.proofs.Alike.{reached_shown}
-use Rattle.flat_meaning.specs.declared.endings.End.{End}
-use Rattle.flat_meaning.specs.declared.endings.End.TheVariants as ends
+use Rattle.ak_trace.specs.declared.endings.End.{End}
+use Rattle.ak_trace.specs.declared.endings.End.TheVariants as ends
 use Rattle.flat_meaning.specs.Journals.{journal_picks}
 use Rattle.flat_meaning.specs.Order.{pick}
 use Rattle.flat_meaning.specs.Reaching.{Broken}

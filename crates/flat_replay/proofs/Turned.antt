@@ -14,7 +14,7 @@ use Rattle.struct_ir.specs.Nodes.{Action, load, store, copy_bytes, malloc, free,
 use Rattle.struct_ir.specs.Threads.{Thread, Outcome, went, ended, blocked, broke, left_call, stop_at}
 use Rattle.struct_ir.specs.Valid.{Scope, are_below, counts_of, has_counts, is_action, is_below_if, is_own_list, is_place, is_step}
 use Rattle.struct_ir.specs.ValidCode.{code_scope_of, is_here}
-use Rattle.flat_meaning.specs.declared.endings.End.TheVariants as endings
+use Rattle.ak_trace.specs.declared.endings.End.TheVariants as endings
 use Rattle.flat_meaning.specs.declared.endings.Stop.{Stop}
 use Rattle.flat_meaning.specs.declared.endings.Stop.TheVariants.{AtStep, Spent, NoRoom}
 use Rattle.flat_meaning.specs.Accesses as actions

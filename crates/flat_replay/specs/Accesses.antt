@@ -4,8 +4,8 @@ use Rattle.ak_trace.specs.declared.entry.Entry.{Entry}
 use Rattle.block_store.specs.Runs.{run}
 use Rattle.struct_ir.specs.Nodes.{Ir}
 use Rattle.struct_ir.specs.Instrs.{LinearCode}
-use Rattle.ir_meaning.specs.Start.{start}
-use Rattle.ir_meaning.specs.Threads.{program_of}
+use Rattle.struct_ir.specs.meaning.Start.{start}
+use Rattle.struct_ir.specs.meaning.Threads.{program_of}
 use Rattle.flat_meaning.specs.Events.{Event, after_all, first_state}
 use Rattle.flat_meaning.specs.Order.{order_of}
 use Rattle.flat_meaning.specs.Simulation.{UpToABreak}

@@ -2,10 +2,10 @@
 use Rattle.std.specs.Prelude.{◌≡◌, true, List, ◌∷◌, ◌++◌, Some}
 use Rattle.ak_trace.specs.declared.entry.Entry.{Entry}
 use Rattle.ak_trace.specs.Kinds as kind
-use Rattle.move_plan.specs.declared.moves.Move.{Move}
+use Rattle.sub_heaps.specs.declared.moves.Move.{Move}
 use Rattle.move_plan.specs.Sliding.{IsSlide}
-use Rattle.defrag_move.specs.Arena.{IsConsistent}
-use Rattle.defrag_move.specs.Moves.{KeepsObjects, after_plan}
+use Rattle.arena_meaning.specs.Arena.{IsConsistent}
+use Rattle.arena_meaning.specs.Moves.{KeepsObjects, after_plan}
 use Rattle.struct_ir.specs.Instrs.{LinearCode}
 use Rattle.struct_ir.specs.Linear.{Spot}
 use Rattle.flat_meaning.specs.Events as events

@@ -9,9 +9,9 @@ use Rattle.struct_ir.specs.Erased.{ir_erased}
 use Rattle.struct_ir.specs.Instrs.{LinearCode}
 use Rattle.struct_ir.specs.Lawful.{AllLawful}
 use Rattle.struct_ir.specs.Whole.{plain_bytes}
-use Rattle.emit_code.specs.Emitted.{IsEmitted}
-use Rattle.ir_meaning.specs.Start.{start}
-use Rattle.ir_meaning.specs.Threads.{program_of}
+use Rattle.struct_ir.specs.Emitted.{IsEmitted}
+use Rattle.struct_ir.specs.meaning.Start.{start}
+use Rattle.struct_ir.specs.meaning.Threads.{program_of}
 use Rattle.lower_forms.specs.Programs.{lowered}
 use Rattle.flat_meaning.specs.Image.{linear_image}
 use Rattle.flat_meaning.specs.Simulation.{IsLoadable, IsChecked}

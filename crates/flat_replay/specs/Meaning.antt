@@ -7,10 +7,10 @@ use Rattle.ak_words.specs.Num.{num}
 use Rattle.ak_words.specs.Prefix.{IsPrefix}
 use Rattle.ak_trace.specs.declared.entry.Entry.{Entry}
 use Rattle.block_store.specs.declared.values.Answer.TheVariants as answers
-use Rattle.block_store.specs.Actions.{Thread, running, returned, World}
+use Rattle.block_store.specs.Actions.{ThreadRecord, running, returned, World}
 use Rattle.block_store.specs.Runs.{Pick, Turn, went, ended, blocked, unfit, broke, Program, State, own_at, picked, Run, reaches, breaks, no_run, run}
-use Rattle.flat_meaning.specs.declared.endings.End.{End}
-use Rattle.flat_meaning.specs.declared.endings.End.TheVariants as ends
+use Rattle.ak_trace.specs.declared.endings.End.{End}
+use Rattle.ak_trace.specs.declared.endings.End.TheVariants as ends
 use Rattle.flat_meaning.specs.Journals.{journal_picks}
 use Rattle.flat_meaning.specs.Order.{pick}
 use Rattle.flat_meaning.specs.Reaching.{Broken}
@@ -22,8 +22,8 @@ use Rattle.flat_replay.specs.Attempts.{attempts_from}
 -- ---- threads
 
 -- the thread of this number was made, and is at a stage of which this holds
-abbrev pub AtStage : World → (thread : ℕ) → (Thread → Type 0) → Type 0
-AtStage w thread A = (t : Thread) × (slice_get w.threads thread ≡ Some t) × A t
+abbrev pub AtStage : World → (thread : ℕ) → (ThreadRecord → Type 0) → Type 0
+AtStage w thread A = (t : ThreadRecord) × (slice_get w.threads thread ≡ Some t) × A t
 
 -- it was made, and hasn't ended
 abbrev pub Runs : World → (thread : ℕ) → Type 0

@@ -8,9 +8,9 @@ use Rattle.block_store.specs.declared.values.Answer.{Answer}
 use Rattle.block_store.specs.declared.values.Answer.TheVariants as answers
 use Rattle.block_store.specs.Actions.{World, first_world, returned, staged}
 use Rattle.block_store.specs.Runs.{Turn, went, ended, blocked, unfit, broke, Program, first_state}
-use Rattle.flat_meaning.specs.declared.endings.End.{End}
-use Rattle.flat_meaning.specs.declared.endings.End.TheVariants as ends
-use Rattle.flat_meaning.specs.declared.endings.TrapKind.{TrapKind}
+use Rattle.ak_trace.specs.declared.endings.End.{End}
+use Rattle.ak_trace.specs.declared.endings.End.TheVariants as ends
+use Rattle.ak_trace.specs.declared.endings.TrapKind.{TrapKind}
 use Rattle.flat_rules.specs.declared.settings.Settings.{Settings}
 use Rattle.flat_machine.specs.Replays.{Final}
 use Rattle.flat_replay.specs.Meaning.{last_thread, tried_turn, BreaksAt, IsClean, IsFirstBreak, IsAsMeant}

@@ -1,8 +1,8 @@
 -- What each call of a worker comes to, where it leaves entries: these, and the state after. The entries are not yet taken from the spare.
 use Rattle.std.specs.Prelude.{ℕ, ◌+◌, ◌%◌, ◌==◌, Bool, false, ◌||◌, nat_le, if◌then◌else◌, List, [], ◌∷◌, map, slice_set, Option, Some, None}
 use Rattle.ak_trace.specs.declared.entry.Entry.{Entry}
-use Rattle.flat_meaning.specs.declared.endings.End.{End}
-use Rattle.flat_meaning.specs.declared.endings.End.TheVariants.{Done, Trap, OutputLimit, StackLimit}
+use Rattle.ak_trace.specs.declared.endings.End.{End}
+use Rattle.ak_trace.specs.declared.endings.End.TheVariants.{Done, Trap, OutputLimit, StackLimit}
 use Rattle.flat_rules.specs.Rules.{Rules}
 use Rattle.flat_rules.specs.Machine.{Machine, Acted, Swept, Turned, found_busy, wants_room, rested, ended, trapped, passed_limit, lacked_stack}
 use Rattle.flat_rules.specs.Entries.{out_entry, home_entry, turn_entry, barrier_entry, served_entry}

@@ -2,7 +2,7 @@
 -- `S` is what the threads share, `C` one thread's context.
 use Rattle.std.specs.Prelude.{ℕ, Bool, List, Option, ℤ}
 use Rattle.ak_trace.specs.declared.entry.Entry.{Entry}
-use Rattle.flat_meaning.specs.declared.endings.TrapKind.{TrapKind}
+use Rattle.ak_trace.specs.declared.endings.TrapKind.{TrapKind}
 
 -- how a turn ended, with what its entry tells beside
 pub data Turned : Type 0 where

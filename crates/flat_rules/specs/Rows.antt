@@ -1,7 +1,7 @@
 -- Journals worked by hand, with their numbers written out, over the small machine.
 use Rattle.std.specs.Prelude.{ℕ, zero, suc, List, [], ◌∷◌, ◌++◌, replicate, Option, option_map, pos}
 use Rattle.ak_trace.specs.declared.entry.Entry.{Entry}
-use Rattle.flat_meaning.specs.declared.endings.End.{End}
+use Rattle.ak_trace.specs.declared.endings.End.{End}
 use Rattle.flat_rules.specs.Rules.{Rules}
 use Rattle.flat_rules.specs.Toys.{Deed, start, join, stop, toy, common}
 use Rattle.flat_rules.specs.States.{end_of}

@@ -1,8 +1,8 @@
 -- The shared world between two events, when a barrier is wanted, which threads are ready, and when the run is over.
 use Rattle.std.specs.Prelude.{ℕ, zero, suc, ◌+◌, ◌%◌, ◌==◌, Bool, true, false, not, ◌&&◌, ◌||◌, nat_lt, nat_le, if◌then◌else◌, List, [], ◌∷◌, length, map, count_by, find, slice_get, slice_index_or, Option, Some, None, is_none}
 use Rattle.ak_trace.specs.declared.entry.Entry.{Entry}
-use Rattle.flat_meaning.specs.declared.endings.End.{End}
-use Rattle.flat_meaning.specs.declared.endings.End.TheVariants.{AllBlocked, TurnLimit}
+use Rattle.ak_trace.specs.declared.endings.End.{End}
+use Rattle.ak_trace.specs.declared.endings.End.TheVariants.{AllBlocked, TurnLimit}
 use Rattle.flat_rules.specs.Rules.{Rules}
 use Rattle.flat_rules.specs.Machine.{Machine}
 use Rattle.flat_rules.specs.Draws.{seeded, after_draw, drawn}

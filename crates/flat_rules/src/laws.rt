@@ -1,6 +1,6 @@
 //! Laws of the rules, and journals worked by hand.
 ghost use Rattle.std.specs.Prelude.{◌≡◌, [], ◌∷◌, ◌++◌, replicate, Some, None, pos, drop, take};
-ghost use Rattle.flat_meaning.specs.declared.endings.End.TheVariants.{Done, AllBlocked, TurnLimit};
+ghost use Rattle.ak_trace.specs.declared.endings.End.TheVariants.{Done, AllBlocked, TurnLimit};
 ghost use Rattle.flat_rules.specs.Laws.{SpareIsLeft, TurnLimitAt65, BarriersAlone};
 ghost use Rattle.flat_rules.specs.Draws.{draws, seeded};
 ghost use Rattle.flat_rules.specs.Toys.{safe, spin, store, lock, alloc, stop, start};

@@ -16,12 +16,12 @@ use Rattle.block_store.specs.declared.values.Ptr.{Ptr}
 use Rattle.block_store.specs.declared.values.Ptr.TheVariants.{Null, To}
 use Rattle.block_store.specs.declared.values.Value.{Value}
 use Rattle.block_store.specs.Blocks as source
-use Rattle.block_store.specs.Blocks.{Block, Blocks, live, is_heap, is_literal, Spot, range_in, range_at, spot_at, cells_at, read_at, with_cells_at, written_at}
+use Rattle.block_store.specs.Blocks.{Block, Blocks, live, is_heap, is_literal, Range, range_in, range_at, spot_at, cells_at, read_at, with_cells_at, written_at}
 use Rattle.block_store.specs.Cells.{size_of, access_of, cells_of, read}
 use Rattle.flat_store.specs.Flat.{bytes_from, with_bytes, first_outside}
-use Rattle.defrag_move.specs.Arena.{Storage}
-use Rattle.ir_meaning.specs.Blocks.{value}
-use Rattle.flat_meaning.specs.declared.endings.TrapKind.TheVariants as kinds
+use Rattle.arena_meaning.specs.Arena.{Storage}
+use Rattle.struct_ir.specs.meaning.Blocks.{value}
+use Rattle.ak_trace.specs.declared.endings.TrapKind.TheVariants as kinds
 use Rattle.flat_meaning.specs.Words.{Target}
 use Rattle.flat_meaning.specs.Memory.{Memory, written}
 use Rattle.flat_meaning.specs.Accesses as words
@@ -42,12 +42,12 @@ use Rattle.flat_simulation.proofs.Memory.{none_outside, row_read, memory_written
 -- ---- a range that was found
 
 -- it is in a live block
-pub record IsFound (blocks : Blocks) (size : ℕ) (p : Ptr) (at : Spot) : Type 0 where
+pub record IsFound (blocks : Blocks) (size : ℕ) (p : Ptr) (at : Range) : Type 0 where
   pub is : p ≡ To at.name at.offset
   pub lives : live blocks at.name ≡ Some at.block
   pub within : at.offset + size ≤ length at.block.cells
 
-found_if : (blocks : Blocks) (size name offset : ℕ) (b : Block) (inside aligned : Bool) (at : Spot) → live blocks name ≡ Some b → nat_le (offset + size) (length b.cells) ≡ inside
+found_if : (blocks : Blocks) (size name offset : ℕ) (b : Block) (inside aligned : Bool) (at : Range) → live blocks name ≡ Some b → nat_le (offset + size) (length b.cells) ≡ inside
     → (if inside then (if aligned then Ok (record { name = name; block = b; offset = offset }) else Err C6) else Err C5) ≡ Ok at → IsFound blocks size (To name offset) at
 found_if blocks size name offset b true true at lives inside e =
     let is : (record { name = name; block = b; offset = offset }) ≡ at = cc in
@@ -55,11 +55,11 @@ found_if blocks size name offset b true true at lives inside e =
 found_if blocks size name offset b true false at lives inside e = absurd cc
 found_if blocks size name offset b false aligned at lives inside e = absurd cc
 
-found_in : (blocks : Blocks) (size align name offset : ℕ) (o : Option Block) (at : Spot) → live blocks name ≡ o → range_in size align name offset o ≡ Ok at → IsFound blocks size (To name offset) at
+found_in : (blocks : Blocks) (size align name offset : ℕ) (o : Option Block) (at : Range) → live blocks name ≡ o → range_in size align name offset o ≡ Ok at → IsFound blocks size (To name offset) at
 found_in blocks size align name offset None at lives e = absurd cc
 found_in blocks size align name offset (Some b) at lives e = found_if blocks size name offset b (nat_le (offset + size) (length b.cells)) (offset % align == 0) at lives refl e
 
-pub found : (blocks : Blocks) (size align : ℕ) (p : Ptr) (at : Spot) → range_at blocks size align p ≡ Ok at → IsFound blocks size p at
+pub found : (blocks : Blocks) (size align : ℕ) (p : Ptr) (at : Range) → range_at blocks size align p ≡ Ok at → IsFound blocks size p at
 found blocks size align Null at e = absurd cc
 found blocks size align (To name offset) at e = found_in blocks size align name offset (live blocks name) at refl e
 
@@ -76,13 +76,13 @@ module _ (names : List Name) (blocks : Blocks) (m : Memory) (stand : BlocksStand
   sees = sees_all names blocks s stand.consistent stand.names_stand
 
   -- where a pointer goes that has a range
-  pub reaches : (size : ℕ) (p : Ptr) (at : Spot) (a : ℕ) → 0 < size → IsFound blocks size p at → GoesTo names blocks s p a → a ≡ address at.name + at.offset
+  pub reaches : (size : ℕ) (p : Ptr) (at : Range) (a : ℕ) → 0 < size → IsFound blocks size p at → GoesTo names blocks s p a → a ≡ address at.name + at.offset
   reaches size p at a some at_found goes =
       let there = in_bytes names blocks s stand.consistent stand.names_stand at.name at.block at_found.lives in
       let to : GoesTo names blocks s (To at.name at.offset) a = subst (λ q. GoesTo names blocks s q a) at_found.is goes in
       to at.block at_found.lives ∙ mod-eq_of_lt (omega (arith, there.1, at_found.within, stand.consistent.whole, stand.consistent.small))
 
-  pub there_at : (size : ℕ) (p : Ptr) (at : Spot) (a : ℕ) → 0 < size → IsFound blocks size p at → GoesTo names blocks s p a → first_outside s.bytes a size ≡ None
+  pub there_at : (size : ℕ) (p : Ptr) (at : Range) (a : ℕ) → 0 < size → IsFound blocks size p at → GoesTo names blocks s p a → first_outside s.bytes a size ≡ None
   there_at size p at a some at_found goes =
       ap (λ x. first_outside s.bytes x size) (reaches size p at a some at_found goes) ∙ none_outside names blocks s stand.consistent stand.names_stand stand.memory at.name at.block at_found.lives at.offset size at_found.within
 
@@ -91,7 +91,7 @@ module _ (names : List Name) (blocks : Blocks) (m : Memory) (stand : BlocksStand
     pub stands : BlocksStand names later (written m at bytes).storage
     pub ages : Aged names names blocks later
 
-  pub write_stands : (new : List Cell) (at : Spot) (bytes : List ℕ) → live blocks at.name ≡ Some at.block → at.offset + length new ≤ length at.block.cells → RowStands names blocks new bytes
+  pub write_stands : (new : List Cell) (at : Range) (bytes : List ℕ) → live blocks at.name ≡ Some at.block → at.offset + length new ≤ length at.block.cells → RowStands names blocks new bytes
       → IsWritten (with_cells_at blocks new at) (address at.name + at.offset) bytes
   write_stands new at bytes here fits row =
       let later = with_cells_at blocks new at in
@@ -124,7 +124,7 @@ module _ (names : List Name) (blocks : Blocks) (m : Memory) (stand : BlocksStand
   size_some (accesses.Number t) = omega (arith, (width_bounds t.bits t.known_width).0)
   size_some accesses.Pointer = omega arith
 
-  pub was_read : (how : Access) (r : Result Spot Rule) (v : Value) → read_at how r ≡ Ok v → (at : Spot) × (r ≡ Ok at) × (read how (cells_at (size_of how) at) ≡ Ok v)
+  pub was_read : (how : Access) (r : Result Range Rule) (v : Value) → read_at how r ≡ Ok v → (at : Range) × (r ≡ Ok at) × (read how (cells_at (size_of how) at) ≡ Ok v)
   was_read how (Ok at) v e = (at, refl, e)
   was_read how (Err rule) v e = absurd cc
 
@@ -151,7 +151,7 @@ module _ (names : List Name) (blocks : Blocks) (m : Memory) (stand : BlocksStand
     pub went : words.stored (access_of v) a word m ≡ went None (written m a.address (low_bytes (size_of (access_of v)) word))
     pub after : IsWritten later a.address (low_bytes (size_of (access_of v)) word)
 
-  pub was_written : (new : List Cell) (r : Result Spot Rule) (later : Blocks) → written_at blocks new r ≡ Ok later → (at : Spot) × (r ≡ Ok at) × (with_cells_at blocks new at ≡ later)
+  pub was_written : (new : List Cell) (r : Result Range Rule) (later : Blocks) → written_at blocks new r ≡ Ok later → (at : Range) × (r ≡ Ok at) × (with_cells_at blocks new at ≡ later)
   was_written new (Ok at) later e = (at, refl, unless (is_literal at.block.kind) (with_cells_at blocks new at) e)
     where
       unless : (b : Bool) (x : Blocks) → (if b then Err C12 else Ok x) ≡ Ok later → x ≡ later

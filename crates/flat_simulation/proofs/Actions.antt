@@ -9,8 +9,8 @@ use Rattle.defrag_move.proofs.Choices.{chosen_new, chosen_free}
 use Rattle.defrag_move.proofs.Kept.{IsConsistent-changed, matches}
 use Rattle.struct_ir.specs.Nodes.{Action, load, store, copy_bytes, malloc, free, print, lock, unlock, destroy, start, join}
 use Rattle.handle_words.specs.Handle.{id_of}
-use Rattle.flat_meaning.specs.declared.endings.TrapKind.{TrapKind}
-use Rattle.flat_meaning.specs.declared.endings.TrapKind.TheVariants as kinds
+use Rattle.ak_trace.specs.declared.endings.TrapKind.{TrapKind}
+use Rattle.ak_trace.specs.declared.endings.TrapKind.TheVariants as kinds
 use Rattle.flat_meaning.specs.Image.{Layout}
 use Rattle.flat_meaning.specs.Words.{Words, word_at, Target}
 use Rattle.flat_meaning.specs.Memory.{Made, Memory, written}

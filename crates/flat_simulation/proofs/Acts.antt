@@ -11,10 +11,10 @@ use Rattle.block_store.specs.Pointers.{tested}
 use Rattle.handle_table.specs.declared.frame.PinSlot.{PinSlot}
 use Rattle.handle_table.specs.Table.{translated}
 use Rattle.handle_table.specs.Frame.{blank_slot, slot_at}
-use Rattle.defrag_move.specs.Arena.{Storage}
+use Rattle.arena_meaning.specs.Arena.{Storage}
 use Rattle.struct_ir.specs.Nodes.{Calc, Ir}
 use Rattle.struct_ir.specs.Valid.{Scope, is_calc}
-use Rattle.ir_meaning.specs.Blocks.{Held, value, unset, missing, Fault, Own, set_at, with_temps, known, on_value, calculated, assigned, way_of}
+use Rattle.struct_ir.specs.meaning.Blocks.{Held, value, unset, missing, Fault, Own, set_at, with_temps, known, on_value, calculated, assigned, way_of}
 use Rattle.flat_meaning.specs.Image.{Layout}
 use Rattle.flat_meaning.specs.Words as words
 use Rattle.flat_meaning.specs.Words.{Words, word_at}

@@ -4,8 +4,8 @@ use Rattle.block_store.specs.Actions.{World}
 use Rattle.struct_ir.specs.Nodes.{set, call, step, look, safepoint, begin_object, end_object, Ir}
 use Rattle.struct_ir.specs.Flow.{Here, does, tests, passes, round, returns}
 use Rattle.struct_ir.specs.Threads.{Thread, turn}
-use Rattle.ir_meaning.specs.Blocks.{Own, blocks_machine}
-use Rattle.ir_meaning.specs.Threads.{blocks_world}
+use Rattle.struct_ir.specs.meaning.Blocks.{Own, blocks_machine}
+use Rattle.struct_ir.specs.meaning.Threads.{blocks_world}
 use Rattle.flat_meaning.specs.Image.{Image}
 use Rattle.flat_meaning.specs.Words.{Words}
 use Rattle.flat_meaning.specs.Memory.{Memory}

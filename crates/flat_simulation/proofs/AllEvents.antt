@@ -7,9 +7,9 @@ use Rattle.block_store.specs.Runs.{Pick, Run, reaches, own_at, run_from}
 use Rattle.struct_ir.specs.Nodes.{Ir}
 use Rattle.struct_ir.specs.Structured.{Position, structured}
 use Rattle.struct_ir.specs.Threads.{Thread}
-use Rattle.ir_meaning.specs.Blocks.{Own}
-use Rattle.ir_meaning.specs.Start.{start}
-use Rattle.ir_meaning.specs.Threads.{program_of}
+use Rattle.struct_ir.specs.meaning.Blocks.{Own}
+use Rattle.struct_ir.specs.meaning.Start.{start}
+use Rattle.struct_ir.specs.meaning.Threads.{program_of}
 use Rattle.flat_meaning.specs.Image.{Limits, Image, structured_image}
 use Rattle.flat_meaning.specs.Words.{Words}
 use Rattle.flat_meaning.specs.Accesses.{Choice}

@@ -5,7 +5,7 @@ use Rattle.std.specs.Prelude.{nat_lt, not, ◌==◌}
 use Rattle.std.proofs.lemmas.Bool.{ltb-true, and_parts}
 use Rattle.block_store.specs.Blocks.{Blocks}
 use Rattle.block_store.specs.Actions.{World}
-use Rattle.defrag_move.specs.Arena.{Storage}
+use Rattle.arena_meaning.specs.Arena.{Storage}
 use Rattle.struct_ir.specs.Nodes.{Act, set, call, step, look, safepoint, begin_object, end_object, Ir}
 use Rattle.struct_ir.specs.Flow.{Here, does, tests, passes, round, returns}
 use Rattle.struct_ir.specs.Machine as steps
@@ -14,8 +14,8 @@ use Rattle.struct_ir.specs.Threads.{Thread, behind}
 use Rattle.struct_ir.specs.Valid.{scope_of}
 use Rattle.struct_ir.specs.ValidCode.{is_here}
 use Rattle.struct_ir.proofs.Runs.{runs_are_steps}
-use Rattle.ir_meaning.specs.Blocks as source
-use Rattle.ir_meaning.specs.Blocks.{Fault, Own, ends_turn, blocks_machine}
+use Rattle.struct_ir.specs.meaning.Blocks as source
+use Rattle.struct_ir.specs.meaning.Blocks.{Fault, Own, ends_turn, blocks_machine}
 use Rattle.flat_meaning.specs.Image.{Image}
 use Rattle.flat_meaning.specs.Words.{Words, word_at}
 use Rattle.flat_meaning.specs.Words as words

@@ -8,7 +8,7 @@ use Rattle.std.proofs.lemmas.Option.{slice_get_within}
 use Rattle.ak_words.specs.Prefix.{IsPrefix}
 use Rattle.block_store.specs.declared.values.BlockKind.{BlockKind}
 use Rattle.block_store.specs.declared.values.Cell.{Cell}
-use Rattle.block_store.specs.Blocks.{Block, Blocks, live, made, ended, with_cells, with_cells_at, Spot}
+use Rattle.block_store.specs.Blocks.{Block, Blocks, live, made, ended, with_cells, with_cells_at, Range}
 use Rattle.flat_meaning.specs.Names.{Name, plain, name_of}
 use Rattle.flat_meaning.specs.Stands.{Ages}
 use Rattle.flat_simulation.specs.inner.Aged.{Aged}
@@ -91,7 +91,7 @@ module _ (blocks : Blocks) (k : ℕ) where
   ]
 
 -- after cells were written in one
-module _ (blocks : Blocks) (new : List Cell) (s : Spot) (here : live blocks s.name ≡ Some s.block) (within : s.offset + length new ≤ length s.block.cells) where
+module _ (blocks : Blocks) (new : List Cell) (s : Range) (here : live blocks s.name ≡ Some s.block) (within : s.offset + length new ≤ length s.block.cells) where
   -- the block then
   abbrev pub written_block : Block
   written_block = record { kind = s.block.kind; cells = with_cells s.block.cells s.offset new }
@@ -130,7 +130,7 @@ ages_made blocks size kind first = record {
 pub ages_ended : (blocks : Blocks) (k : ℕ) → Ages blocks (ended blocks k)
 ages_ended blocks k = record { more = omega (arith, length-set blocks k None); lives = λ n b below e. (b, (ended_live blocks k n b e).1, refl, refl) }
 
-pub ages_written : (blocks : Blocks) (new : List Cell) (s : Spot) → live blocks s.name ≡ Some s.block → s.offset + length new ≤ length s.block.cells → Ages blocks (with_cells_at blocks new s)
+pub ages_written : (blocks : Blocks) (new : List Cell) (s : Range) → live blocks s.name ≡ Some s.block → s.offset + length new ≤ length s.block.cells → Ages blocks (with_cells_at blocks new s)
 ages_written blocks new s here within = record {
   more = omega (arith, length-set blocks s.name (Some (written_block blocks new s here within)));
   lives = λ n b below e. elim (cases_eq n s.name) [
@@ -184,7 +184,7 @@ aged_made names name blocks size kind first each = record {
 pub aged_ended : (names : List Name) (blocks : Blocks) (k : ℕ) → length names ≡ length blocks → Aged names names blocks (ended blocks k)
 aged_ended names blocks k each = record { ages = ages_ended blocks k; first = prefix_still names; each = each; each_later = each ∙ sym (length-set blocks k None) }
 
-pub aged_written : (names : List Name) (blocks : Blocks) (new : List Cell) (s : Spot) → live blocks s.name ≡ Some s.block → s.offset + length new ≤ length s.block.cells → length names ≡ length blocks
+pub aged_written : (names : List Name) (blocks : Blocks) (new : List Cell) (s : Range) → live blocks s.name ≡ Some s.block → s.offset + length new ≤ length s.block.cells → length names ≡ length blocks
     → Aged names names blocks (with_cells_at blocks new s)
 aged_written names blocks new s here within each = record {
   ages = ages_written blocks new s here within;

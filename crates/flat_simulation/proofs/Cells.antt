@@ -28,7 +28,7 @@ use Rattle.block_store.specs.declared.values.Value.{Value}
 use Rattle.block_store.specs.declared.values.Value.TheVariants as values
 use Rattle.block_store.specs.Blocks.{Block, Blocks, live}
 use Rattle.block_store.specs.Cells.{size_of, access_of, cells_of, number_of, are_parts, are_zeros, pointer_of, read, has_unknown}
-use Rattle.ir_meaning.specs.Blocks.{value}
+use Rattle.struct_ir.specs.meaning.Blocks.{value}
 use Rattle.flat_words.specs.Words.{word_of, number_word, word_in}
 use Rattle.flat_meaning.specs.Accesses.{word_read}
 use Rattle.flat_meaning.specs.Names.{Name, name_of, word_for}

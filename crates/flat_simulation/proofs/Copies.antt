@@ -8,9 +8,9 @@ use Rattle.ak_words.specs.declared.rule.Rule.TheVariants.{C11, C12}
 use Rattle.block_store.specs.declared.values.Cell.TheVariants.{Unknown}
 use Rattle.block_store.specs.declared.values.Ptr.{Ptr}
 use Rattle.block_store.specs.Blocks as source
-use Rattle.block_store.specs.Blocks.{Blocks, Spot, range_at, cells_at, with_cells_at, is_literal, clash, copied_to, copied_between}
+use Rattle.block_store.specs.Blocks.{Blocks, Range, range_at, cells_at, with_cells_at, is_literal, clash, copied_to, copied_between}
 use Rattle.flat_store.specs.Flat.{first_address, bytes_from, with_bytes, first_of}
-use Rattle.flat_meaning.specs.declared.endings.TrapKind.TheVariants as kinds
+use Rattle.ak_trace.specs.declared.endings.TrapKind.TheVariants as kinds
 use Rattle.flat_meaning.specs.Words.{Target}
 use Rattle.flat_meaning.specs.Memory.{Memory, with_storage, written}
 use Rattle.flat_meaning.specs.Accesses as words
@@ -38,9 +38,9 @@ nothing_written : (m : Memory) (at : ℕ) → written m at [] ≡ m
 nothing_written m at = ap (λ bytes. with_storage m (record m.storage { bytes = bytes })) (nothing_over m.storage.bytes at)
 
 -- both ranges were found
-pub record WereFound (blocks : Blocks) (n : ℕ) (to from : Result Spot Rule) (later : Blocks) : Type 0 where
-  pub target : Spot
-  pub source : Spot
+pub record WereFound (blocks : Blocks) (n : ℕ) (to from : Result Range Rule) (later : Blocks) : Type 0 where
+  pub target : Range
+  pub source : Range
   pub to_is : to ≡ Ok target
   pub from_is : from ≡ Ok source
   pub later_is : with_cells_at blocks (cells_at n source) target ≡ later
@@ -50,7 +50,7 @@ unless true clashes x later e = absurd cc
 unless false true x later e = absurd cc
 unless false false x later e = cc
 
-pub were_found : (blocks : Blocks) (n : ℕ) (same : Bool) (to from : Result Spot Rule) (later : Blocks) → copied_between blocks n same to from ≡ Ok later → WereFound blocks n to from later
+pub were_found : (blocks : Blocks) (n : ℕ) (same : Bool) (to from : Result Range Rule) (later : Blocks) → copied_between blocks n same to from ≡ Ok later → WereFound blocks n to from later
 were_found blocks n same (Err rule) from later e = absurd cc
 were_found blocks n same (Ok to) (Err rule) later e = absurd cc
 were_found blocks n same (Ok to) (Ok from) later e = record { target = to; source = from; to_is = refl; from_is = refl; later_is = unless (is_literal to.block.kind) (clash n same to from) _ later e }

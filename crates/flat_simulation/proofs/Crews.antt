@@ -19,7 +19,7 @@ use Rattle.block_store.specs.Blocks.{Block, Blocks, live, spot_at}
 use Rattle.block_store.specs.Cells.{cells_of}
 use Rattle.flat_store.specs.Flat.{first_outside}
 use Rattle.flat_words.specs.Words.{word_of, number_word}
-use Rattle.flat_meaning.specs.declared.endings.TrapKind.TheVariants as kinds
+use Rattle.ak_trace.specs.declared.endings.TrapKind.TheVariants as kinds
 use Rattle.flat_meaning.specs.Words.{Target}
 use Rattle.flat_meaning.specs.Memory.{Memory, written, beginning, with_thread}
 use Rattle.flat_meaning.specs.Accesses.{went, within}

@@ -30,7 +30,7 @@ use Rattle.handle_words.specs.Handle.{handle_of}
 use Rattle.handle_table.specs.Table.{IsFree}
 use Rattle.sub_heaps.specs.SubHeaps.{rounded, FitsAt}
 use Rattle.struct_ir.specs.Nodes.{Func, Ir}
-use Rattle.ir_meaning.specs.Blocks.{value}
+use Rattle.struct_ir.specs.meaning.Blocks.{value}
 use Rattle.flat_words.specs.Words.{word_of, number_word}
 use Rattle.flat_meaning.specs.Image.{Layout}
 use Rattle.flat_meaning.specs.Words.{Target}
@@ -248,7 +248,7 @@ module _ (y : Layout) (p : Ir) (names : List Name) (w : World) (m : Memory) (wor
           )
 
   -- a thread that has come to another stage
-  pub staged_made : (later : Blocks) (now : List Made) (number : ℕ) (t : source.Thread) (u : Made) (stage : Stage) → Aged names names w.blocks later → now ≡ m.threads → slice_get w.threads number ≡ Some t → slice_get m.threads number ≡ Some u
+  pub staged_made : (later : Blocks) (now : List Made) (number : ℕ) (t : source.ThreadRecord) (u : Made) (stage : Stage) → Aged names names w.blocks later → now ≡ m.threads → slice_get w.threads number ≡ Some t → slice_get m.threads number ≡ Some u
       → MadeStands names later (source.at_stage stage t) u → AllMadeStand names later (source.staged (with_blocks w later) number stage).threads now
   staged_made later now number t u stage aged same there is new =
       subst (λ us. AllMadeStand names later (source.staged (with_blocks w later) number stage).threads us) (sym same)
@@ -256,19 +256,19 @@ module _ (y : Layout) (p : Ir) (names : List Name) (w : World) (m : Memory) (wor
       (made_staged names later w.threads m.threads number (source.at_stage stage t) u (made_later names names w.blocks later aged w.threads m.threads world.threads) is new))
 
   -- staging changes neither blocks nor output nor the count of threads
-  staged_blocks : (v : World) (number : ℕ) (stage : Stage) (o : Option source.Thread) → (source.staged_if v number stage o).blocks ≡ v.blocks
+  staged_blocks : (v : World) (number : ℕ) (stage : Stage) (o : Option source.ThreadRecord) → (source.staged_if v number stage o).blocks ≡ v.blocks
   staged_blocks v number stage None = refl
   staged_blocks v number stage (Some t) = refl
 
-  staged_output : (v : World) (number : ℕ) (stage : Stage) (o : Option source.Thread) → (source.staged_if v number stage o).output ≡ v.output
+  staged_output : (v : World) (number : ℕ) (stage : Stage) (o : Option source.ThreadRecord) → (source.staged_if v number stage o).output ≡ v.output
   staged_output v number stage None = refl
   staged_output v number stage (Some t) = refl
 
-  staged_many : (v : World) (number : ℕ) (stage : Stage) (o : Option source.Thread) → length (source.staged_if v number stage o).threads ≡ length v.threads
+  staged_many : (v : World) (number : ℕ) (stage : Stage) (o : Option source.ThreadRecord) → length (source.staged_if v number stage o).threads ≡ length v.threads
   staged_many v number stage None = refl
   staged_many v number stage (Some t) = length-set v.threads number (source.at_stage stage t)
 
-  join_returned : (thread number : ℕ) (to : Ptr) (a : Target) (z : ℤ) (t : source.Thread) (u : Made) → slice_get w.threads number ≡ Some t → slice_get m.threads number ≡ Some u → MadeStands names w.blocks t u → u.result ≡ Some (word_of z)
+  join_returned : (thread number : ℕ) (to : Ptr) (a : Target) (z : ℤ) (t : source.ThreadRecord) (u : Made) → slice_get w.threads number ≡ Some t → slice_get m.threads number ≡ Some u → MadeStands names w.blocks t u → u.result ≡ Some (word_of z)
       → TargetStands names w.blocks m.storage to a → (r : Result Blocks Rule) → source.stored_unless_null w.blocks to z ≡ r
       → DoneAlike y p names [] w m (telling (reads_of w (source.join number to) ++ writes_of answers.Plain (source.join number to)) (source.joins w number z r)) (words_too.joined_with a (word_of z) m)
   join_returned thread number to a z t u there is stands result goes (Err rule) e = tt
@@ -293,7 +293,7 @@ module _ (y : Layout) (p : Ir) (names : List Name) (w : World) (m : Memory) (wor
       → DoneAlike y p names [] w m (source.acted w thread answers.Plain (source.join number to)) (words_too.joined_if a (slice_get m.threads number) m)
   join_done thread number to a goes = by_self (thread == number)
     where
-      by_stage : (t : source.Thread) (u : Made) (stage : Stage) → t.stage ≡ stage → slice_get w.threads number ≡ Some t → slice_get m.threads number ≡ Some u → MadeStands names w.blocks t u
+      by_stage : (t : source.ThreadRecord) (u : Made) (stage : Stage) → t.stage ≡ stage → slice_get w.threads number ≡ Some t → slice_get m.threads number ≡ Some u → MadeStands names w.blocks t u
           → DoneAlike y p names [] w m (telling (reads_of w (source.join number to) ++ writes_of answers.Plain (source.join number to)) (source.joins_at w number to stage)) (words_too.joined_at a u.result m)
       by_stage t u running at there is stands =
           let none : u.result ≡ None = subst (λ s. ResultStands s u.result) at stands.result in
@@ -304,7 +304,7 @@ module _ (y : Layout) (p : Ir) (names : List Name) (w : World) (m : Memory) (wor
           (join_returned thread number to a z t u there is stands some goes (source.stored_unless_null w.blocks to z) refl)
       by_stage t u (joined z) at there is stands = tt
 
-      by_thread : (o : Option source.Thread) → slice_get w.threads number ≡ o
+      by_thread : (o : Option source.ThreadRecord) → slice_get w.threads number ≡ o
           → DoneAlike y p names [] w m (telling (reads_of w (source.join number to) ++ writes_of answers.Plain (source.join number to)) (source.joins_if w number to o)) (words_too.joined_if a (slice_get m.threads number) m)
       by_thread None e = tt
       by_thread (Some t) e =
@@ -320,7 +320,7 @@ module _ (y : Layout) (p : Ir) (names : List Name) (w : World) (m : Memory) (wor
   pub finish_done : (thread word : ℕ) (z : ℤ) (reached : List Reached) → word ≡ word_of z → Acted y p names names [] w (with_reached (source.staged w thread (returned z)) reached) m (thread_ended m thread word)
   finish_done thread word z reached is = by_thread (slice_get w.threads thread) refl
     where
-      by_thread : (o : Option source.Thread) → slice_get w.threads thread ≡ o → Acted y p names names [] w (with_reached (source.staged_if w thread (returned z) o) reached) m (thread_ended m thread word)
+      by_thread : (o : Option source.ThreadRecord) → slice_get w.threads thread ≡ o → Acted y p names names [] w (with_reached (source.staged_if w thread (returned z) o) reached) m (thread_ended m thread word)
       by_thread None e =
           let none = none_made names w.blocks w.threads m.threads thread world.threads e in
           same_names (with_reached w reached) (thread_ended m thread word) (aged_still names w.blocks each) world.blocks refl world.output

@@ -5,16 +5,16 @@ use Rattle.std.proofs.lemmas.Bool.{and_parts}
 use Rattle.block_store.specs.Blocks.{Block, live}
 use Rattle.block_store.specs.Actions.{World, with_blocks}
 use Rattle.c_tree.specs.TypedForm.{taken}
-use Rattle.defrag_move.specs.Arena.{Storage}
+use Rattle.arena_meaning.specs.Arena.{Storage}
 use Rattle.struct_ir.specs.Nodes.{Call, call, Ir}
 use Rattle.struct_ir.specs.Flow.{does, round, IsCall, entry}
 use Rattle.struct_ir.specs.Machine.{Point}
 use Rattle.struct_ir.specs.Threads.{went, behind}
 use Rattle.struct_ir.specs.Valid.{scope_of, is_below_if, are_below, is_list}
 use Rattle.struct_ir.specs.ValidCode.{is_here}
-use Rattle.ir_meaning.specs.Blocks.{Own}
-use Rattle.ir_meaning.specs.Threads as source
-use Rattle.ir_meaning.specs.Threads.{over, given, set_given}
+use Rattle.struct_ir.specs.meaning.Blocks.{Own}
+use Rattle.struct_ir.specs.meaning.Threads as source
+use Rattle.struct_ir.specs.meaning.Threads.{over, given, set_given}
 use Rattle.flat_meaning.specs.Image.{Image, stack_address, objects_bytes}
 use Rattle.flat_meaning.specs.Words.{Words, used_with, has_room, object_address}
 use Rattle.flat_meaning.specs.Memory.{Memory}

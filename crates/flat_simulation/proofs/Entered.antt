@@ -9,9 +9,9 @@ use Rattle.block_store.specs.Blocks.{Blocks}
 use Rattle.handle_table.specs.Frame.{blank_slot}
 use Rattle.struct_ir.specs.Nodes.{Func, Ir}
 use Rattle.struct_ir.specs.Valid.{are_below, has_params}
-use Rattle.ir_meaning.specs.Blocks.{Held, Own, with_blocks}
-use Rattle.ir_meaning.specs.Threads as source
-use Rattle.ir_meaning.specs.Threads.{passed, first_temps, first_own, params_of}
+use Rattle.struct_ir.specs.meaning.Blocks.{Held, Own, with_blocks}
+use Rattle.struct_ir.specs.meaning.Threads as source
+use Rattle.struct_ir.specs.meaning.Threads.{passed, first_temps, first_own, params_of}
 use Rattle.flat_meaning.specs.Image.{Image, Frame, Limits, func_frame, frame_of, frame_if, objects_bytes}
 use Rattle.flat_meaning.specs.Words.{Used, none_used, Words, word_at, with_frame, is_within, used_with, has_room, call_of, first_arguments, first_call}
 use Rattle.flat_meaning.specs.Machine as machine

@@ -4,7 +4,7 @@ use Rattle.std.specs.Prelude.{if◌then◌else◌}
 use Rattle.block_store.specs.declared.values.Answer.TheVariants as answers
 use Rattle.block_store.specs.Runs.{own_at}
 use Rattle.struct_ir.specs.Threads.{Thread}
-use Rattle.flat_meaning.specs.declared.endings.End.TheVariants as ends
+use Rattle.ak_trace.specs.declared.endings.End.TheVariants as ends
 use Rattle.flat_meaning.specs.Image.{Image}
 use Rattle.flat_meaning.specs.Words.{Words}
 use Rattle.flat_meaning.specs.Memory.{Memory}

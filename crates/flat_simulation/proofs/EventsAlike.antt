@@ -11,7 +11,7 @@ use Rattle.flat_meaning.specs.Words.{Words}
 use Rattle.flat_meaning.specs.Memory.{Memory}
 use Rattle.flat_meaning.specs.Accesses.{Fault, Choice, plain, got, null, wait}
 use Rattle.flat_meaning.specs.Stages.{Stage, starts, going, waiting, landed, first_thread, thread_at, Before, safe, looks, steps, calls, turn_over, nothing, before, room_for, past_if, gone_from, gone, goes_alone, can_go}
-use Rattle.flat_meaning.specs.declared.endings.End.TheVariants as ends
+use Rattle.ak_trace.specs.declared.endings.End.TheVariants as ends
 use Rattle.flat_meaning.specs.Effects.{no_effect, ends_run, end_of, own_list_of, acted, stop_of, step_effect}
 use Rattle.flat_meaning.specs.Events.{State, local, look, act, put, after}
 use Rattle.flat_meaning.specs.Order.{local_picks, pick_if, tried_if, answer_of, picks_of, tried_by}

@@ -16,12 +16,12 @@ use Rattle.block_store.specs.Runs.{own_at}
 use Rattle.c_tree.specs.TypedForm.{taken}
 use Rattle.flat_store.specs.Flat.{first_address, byte_at}
 use Rattle.sub_heaps.specs.SubHeaps.{IsShape}
-use Rattle.defrag_move.specs.Arena.{Storage, start_behind}
+use Rattle.arena_meaning.specs.Arena.{Storage, start_behind}
 use Rattle.struct_ir.specs.Nodes.{Global, Func, Ir}
 use Rattle.struct_ir.specs.Structured.{Position}
 use Rattle.struct_ir.specs.Whole.{plain_bytes, takes_nothing, is_init_in}
-use Rattle.ir_meaning.specs.Start.{block_of, first_blocks, first_value, start}
-use Rattle.ir_meaning.specs.Threads.{program_of}
+use Rattle.struct_ir.specs.meaning.Start.{block_of, first_blocks, first_value, start}
+use Rattle.struct_ir.specs.meaning.Threads.{program_of}
 use Rattle.flat_meaning.specs.Image.{Layout, Image, limits_for, structured_image, global_address, literal_address, plain_size, globals_written, first_storage}
 use Rattle.flat_meaning.specs.Events.{first_memory, first_state}
 use Rattle.flat_meaning.specs.Names.{Name, heap, plain, name_of, word_for, address_for, ids_in, Apart, IsOutside, LiesAt}

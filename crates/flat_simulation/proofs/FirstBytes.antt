@@ -19,7 +19,7 @@ use Rattle.flat_store.specs.Flat.{first_address, byte_at, with_bytes}
 use Rattle.defrag_move.proofs.Bytes.{length-with_bytes}
 use Rattle.struct_ir.specs.Nodes.{Global}
 use Rattle.struct_ir.specs.Whole.{is_init_in}
-use Rattle.ir_meaning.specs.Start.{first_value}
+use Rattle.struct_ir.specs.meaning.Start.{first_value}
 use Rattle.flat_meaning.specs.Image.{Layout, literal_address, first_bytes, globals_written, literals_written}
 use Rattle.flat_meaning.specs.Names.{Name}
 use Rattle.flat_simulation.specs.inner.Cells.{CellStands, RowStands}

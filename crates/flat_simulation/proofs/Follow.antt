@@ -10,10 +10,10 @@ use Rattle.struct_ir.specs.Nodes.{set, call, step, look, safepoint, begin_object
 use Rattle.struct_ir.specs.Flow.{Here, does, tests, passes, round, returns}
 use Rattle.struct_ir.specs.Structured.{Position, structured}
 use Rattle.struct_ir.specs.Threads.{Thread, Outcome, went, ended, blocked, broke, unfit, served, stop_at}
-use Rattle.ir_meaning.specs.Blocks.{Own, Fault, broken, wrong_kind}
-use Rattle.ir_meaning.specs.Threads.{program_of, turned, code_of}
-use Rattle.flat_meaning.specs.declared.endings.TrapKind.{TrapKind}
-use Rattle.flat_meaning.specs.declared.endings.End.TheVariants as ends
+use Rattle.struct_ir.specs.meaning.Blocks.{Own, Fault, broken, wrong_kind}
+use Rattle.struct_ir.specs.meaning.Threads.{program_of, turned, start_in}
+use Rattle.ak_trace.specs.declared.endings.TrapKind.{TrapKind}
+use Rattle.ak_trace.specs.declared.endings.End.TheVariants as ends
 use Rattle.flat_meaning.specs.Image.{Limits, Image, structured_image}
 use Rattle.flat_meaning.specs.Words.{Words, word_at, target_of}
 use Rattle.flat_meaning.specs.Actions as actions_of_words
@@ -178,7 +178,7 @@ module _ (p : Ir) (limits : Limits) (image : IsImage (structured_image p limits)
     its_stage = subst (λ o. StageStands y p thread names u.world.blocks m.storage o (Some g)) (thread_there thread g e).1 (subst (λ o. StageStands y p thread names u.world.blocks m.storage (own_at u.own thread) o) e (stand.threads thread))
 
     pub its_alike : (choice ≡ wait → ⊥) → TurnsAlike y p thread names (chosen_id choice) (own_list_of h) u.world m (source_turn p thread answer k u.world) (stop_of y thread choice t m)
-    its_alike moving = stage_acts y p image thread (code_of p) names u.world m stand.world k g its_stage choice at may moving
+    its_alike moving = stage_acts y p image thread (start_in p) names u.world m stand.world k g its_stage choice at may moving
 
     pub its_right : source_turn p thread answer k u.world ≢ broke wrong_kind
     its_right = is_right thread answer k (thread_there thread g e).1

@@ -10,8 +10,8 @@ use Rattle.struct_ir.specs.Nodes.{Action, load, store, copy_bytes, malloc, free,
 use Rattle.struct_ir.specs.Flow.{Here, does, tests, passes, round, returns}
 use Rattle.struct_ir.specs.Structured.{Position, structured}
 use Rattle.struct_ir.specs.Threads.{Thread, Outcome, went, ended, blocked, broke, unfit, served, stop_at}
-use Rattle.ir_meaning.specs.Blocks.{Own, Fault}
-use Rattle.ir_meaning.specs.Threads.{program_of, code_of}
+use Rattle.struct_ir.specs.meaning.Blocks.{Own, Fault}
+use Rattle.struct_ir.specs.meaning.Threads.{program_of, start_in}
 use Rattle.flat_meaning.specs.Image.{Limits, Image, structured_image}
 use Rattle.flat_meaning.specs.Words.{Words, Target, word_at, target_of}
 use Rattle.flat_meaning.specs.Memory.{Memory}
@@ -141,8 +141,8 @@ module _ (p : Ir) (limits : Limits) (image : IsImage (structured_image p limits)
     reaches_one : (choice ≡ wait → ⊥) → R (pick thread (answer_of y m choice t))
     reaches_one moving unbroken =
         let stage = its_stage p limits image names u s stand takes goes_on thread choice g e at may in
-        let its = begun_stands y p image thread (code_of p) names u.world m stand.world k g at stage in
-        let is = at_step y p image thread (code_of p) names u.world m stand.world g at in
+        let its = begun_stands y p image thread (start_in p) names u.world m stand.world k g at stage in
+        let is = at_step y p image thread (start_in p) names u.world m stand.world g at in
         step_reaches p limits image thread names u m stand.world k t its choice moving (stops_here is)
         (its_pick p limits image names u s stand takes goes_on thread choice g e at may) (its_right p limits image names u s stand takes goes_on thread choice g e at may)
         (alike_fits thread _ _ _ _ (its_alike p limits image names u s stand takes goes_on thread choice g e at may moving)) unbroken is

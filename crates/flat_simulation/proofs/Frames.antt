@@ -5,9 +5,9 @@ use Rattle.std.proofs.lemmas.List.Sums.{sum_by-cons}
 use Rattle.std.proofs.lemmas.Nat.{mul-le}
 use Rattle.std.proofs.Math.Seq.{take-length}
 use Rattle.c_tree.specs.TypedForm.{taken}
-use Rattle.defrag_move.specs.Arena.{start_behind}
+use Rattle.arena_meaning.specs.Arena.{start_behind}
 use Rattle.struct_ir.specs.Nodes.{StackObject, Ir}
-use Rattle.ir_meaning.specs.Blocks.{size_of}
+use Rattle.struct_ir.specs.meaning.Blocks.{size_of}
 use Rattle.flat_meaning.specs.Image.{Layout, frame_of, objects_bytes, stack_address, plain_size}
 use Rattle.flat_meaning.specs.Words.{Words, object_address}
 use Rattle.flat_simulation.specs.inner.Calls.{objects_in, object_size}

@@ -10,11 +10,11 @@ use Rattle.block_store.specs.Blocks.{Block, Blocks, live, ended, is_heap, is_fre
 use Rattle.handle_words.specs.Handle.{handle_of, id_of}
 use Rattle.handle_table.specs.Table.{IsInUse, address_of}
 use Rattle.flat_store.specs.Flat.{byte_at}
-use Rattle.defrag_move.specs.Arena.{Storage}
-use Rattle.defrag_move.specs.Changes.{without_id}
+use Rattle.arena_meaning.specs.Arena.{Storage}
+use Rattle.arena_meaning.specs.Changes.{without_id}
 use Rattle.defrag_move.proofs.Choices.{chosen_free}
 use Rattle.defrag_move.proofs.Owners.{object_of-without_owner, freed_unused}
-use Rattle.flat_meaning.specs.declared.endings.TrapKind.TheVariants as kinds
+use Rattle.ak_trace.specs.declared.endings.TrapKind.TheVariants as kinds
 use Rattle.flat_meaning.specs.Accesses as words
 use Rattle.flat_meaning.specs.Accesses.{Done, went, is_live_start}
 use Rattle.flat_meaning.specs.Memory.{Memory, with_storage}

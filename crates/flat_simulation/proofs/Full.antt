@@ -9,10 +9,10 @@ use Rattle.struct_ir.specs.Nodes.{Call, set, call, step, look, safepoint, begin_
 use Rattle.struct_ir.specs.Flow.{Here, does, tests, passes, round, returns}
 use Rattle.struct_ir.specs.Structured.{Position, structured}
 use Rattle.struct_ir.specs.Threads.{Thread, Outcome, went, ended, blocked, broke, unfit, stop_at}
-use Rattle.ir_meaning.specs.Blocks.{Own, Fault, broken, wrong_kind, blocks_machine}
-use Rattle.ir_meaning.specs.Threads.{program_of, turned, code_of, blocks_world}
-use Rattle.flat_meaning.specs.declared.endings.End.{End}
-use Rattle.flat_meaning.specs.declared.endings.End.TheVariants as ends
+use Rattle.struct_ir.specs.meaning.Blocks.{Own, Fault, broken, wrong_kind, blocks_machine}
+use Rattle.struct_ir.specs.meaning.Threads.{program_of, turned, start_in, blocks_world}
+use Rattle.ak_trace.specs.declared.endings.End.{End}
+use Rattle.ak_trace.specs.declared.endings.End.TheVariants as ends
 use Rattle.flat_meaning.specs.Image.{Limits, Image, structured_image}
 use Rattle.flat_meaning.specs.Words.{Words}
 use Rattle.flat_meaning.specs.Memory.{Memory}
@@ -62,17 +62,17 @@ module _ (p : Ir) (limits : Limits) (image : IsImage (structured_image p limits)
     call_enters : (q : Thread Position Words) → ThreadStands y p thread names u.world.blocks m.storage k q → (place : ℕ) (c : Call) → structured.here q.top.at ≡ does place (call c) → Enters k (Some (turned its_turn))
     call_enters q its place c here = elim (stops_or_breaks y p image thread names u.world m stand.world k q its stop) [
       | inl t ↦ subst (λ o. Enters k (Some (turned o))) (sym (turn_is t)) refl
-      | inr b ↦ fault_enters b.0 (turn_breaks y p image thread (code_of p) names u.world m stand.world k q its stop answers.Plain b.0 b.1)
+      | inr b ↦ fault_enters b.0 (turn_breaks y p image thread (start_in p) names u.world m stand.world k q its stop answers.Plain b.0 b.1)
     ]
       where
         stop : IsStop (structured.here q.top.at)
         stop = subst IsStop (sym here) refl
 
         at_stop : Stopped y p image thread names u.world m stand.world k q its stop → Here → Outcome Position Own Fault World
-        at_stop t h = stop_at structured (blocks_machine p) (blocks_world p thread) (code_of p) answers.Plain (there y p image thread (code_of p) names u.world m stand.world k q its stop t) (left y p image thread names u.world m stand.world k q its stop t) h
+        at_stop t h = stop_at structured (blocks_machine p) (blocks_world p thread) (start_in p) answers.Plain (there y p image thread (start_in p) names u.world m stand.world k q its stop t) (left y p image thread names u.world m stand.world k q its stop t) h
 
         turn_is : (t : Stopped y p image thread names u.world m stand.world k q its stop) → its_turn ≡ at_stop t (does place (call c))
-        turn_is t = turn_stops y p image thread (code_of p) names u.world m stand.world k q its stop answers.Plain t ∙ ap (at_stop t) here
+        turn_is t = turn_stops y p image thread (start_in p) names u.world m stand.world k q its stop answers.Plain t ∙ ap (at_stop t) here
 
     -- a return is no call
     no_call : {A : Type 0} (cs : List A) (function : ℕ) → before_return cs ≡ calls function → ⊥

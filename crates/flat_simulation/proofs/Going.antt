@@ -3,7 +3,7 @@ use Rattle.std.proofs.Common.{◌≡◌, ℕ, List, [], ◌∷◌, length, Bool,
 use Rattle.std.specs.Prelude.{if◌then◌else◌}
 use Rattle.block_store.specs.declared.values.Answer.TheVariants as answers
 use Rattle.block_store.specs.Actions.{World, with_blocks}
-use Rattle.defrag_move.specs.Arena.{Storage}
+use Rattle.arena_meaning.specs.Arena.{Storage}
 use Rattle.struct_ir.specs.Nodes.{Act, Call, call, set, step, look, safepoint, begin_object, end_object, Ir}
 use Rattle.struct_ir.specs.Flow.{Here, does, tests, passes, round, returns, entry}
 use Rattle.struct_ir.specs.Machine.{Point, stops, breaks, acted, stopped_or, ahead_at, ahead, run, IsRun}
@@ -11,8 +11,8 @@ use Rattle.struct_ir.specs.Threads.{Thread, Outcome, went, broke, alone, stop_ev
 use Rattle.struct_ir.specs.Valid.{scope_of}
 use Rattle.struct_ir.specs.ValidCode.{is_here}
 use Rattle.struct_ir.proofs.Runs.{runs_are_steps}
-use Rattle.ir_meaning.specs.Blocks.{Fault, Own, ends_turn, own_act, blocks_machine}
-use Rattle.ir_meaning.specs.Threads.{first_own, blocks_world}
+use Rattle.struct_ir.specs.meaning.Blocks.{Fault, Own, ends_turn, own_act, blocks_machine}
+use Rattle.struct_ir.specs.meaning.Threads.{first_own, blocks_world}
 use Rattle.flat_meaning.specs.Image.{Image}
 use Rattle.flat_meaning.specs.Words.{Words, none_used, used_with, has_room}
 use Rattle.flat_meaning.specs.Memory.{Memory}

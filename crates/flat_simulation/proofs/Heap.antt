@@ -13,8 +13,8 @@ use Rattle.flat_store.specs.Flat.{byte_at}
 use Rattle.sub_heaps.specs.declared.objects.Object.{Object}
 use Rattle.sub_heaps.specs.ByPlace.{with_object}
 use Rattle.sub_heaps.specs.SubHeaps.{rounded, FitsAt}
-use Rattle.defrag_move.specs.Arena.{Storage, object_of}
-use Rattle.defrag_move.specs.Changes.{with_new}
+use Rattle.arena_meaning.specs.Arena.{Storage, object_of}
+use Rattle.arena_meaning.specs.Changes.{with_new}
 use Rattle.defrag_move.proofs.Choices.{chosen_new}
 use Rattle.defrag_move.proofs.Kept.{matches}
 use Rattle.defrag_move.proofs.Owners.{owner_found}

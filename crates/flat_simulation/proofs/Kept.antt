@@ -6,7 +6,7 @@ use Rattle.block_store.specs.Blocks.{Block, Blocks}
 use Rattle.handle_words.specs.Handle.{id_of, offset_of}
 use Rattle.handle_table.specs.Table.{IsFree, address_of, translated, reached}
 use Rattle.sub_heaps.specs.SubHeaps.{rounded, FitsAt}
-use Rattle.defrag_move.specs.Arena.{Storage}
+use Rattle.arena_meaning.specs.Arena.{Storage}
 use Rattle.flat_meaning.specs.Memory.{Memory}
 use Rattle.flat_meaning.specs.Names.{Name, heap, plain, name_of, word_for}
 use Rattle.flat_simulation.specs.inner.Values.{IsPlaced}

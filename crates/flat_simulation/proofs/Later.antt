@@ -8,14 +8,14 @@ use Rattle.c_tree.specs.TypedForm.{taken}
 use Rattle.handle_table.specs.declared.frame.PinSlot.{PinSlot}
 use Rattle.handle_table.specs.Table.{translated}
 use Rattle.handle_table.specs.Frame.{slot_at}
-use Rattle.defrag_move.specs.Arena.{Storage}
+use Rattle.arena_meaning.specs.Arena.{Storage}
 use Rattle.struct_ir.specs.Nodes.{Ir}
 use Rattle.struct_ir.specs.Flow.{Flow}
 use Rattle.struct_ir.specs.Machine as steps
 use Rattle.struct_ir.specs.Machine.{Point}
 use Rattle.struct_ir.specs.Threads.{Thread}
 use Rattle.struct_ir.specs.Pins.{looked, lacks, facts}
-use Rattle.ir_meaning.specs.Blocks.{Own}
+use Rattle.struct_ir.specs.meaning.Blocks.{Own}
 use Rattle.flat_meaning.specs.Image.{Image, stack_address}
 use Rattle.flat_meaning.specs.Words.{Words}
 use Rattle.flat_meaning.specs.Memory.{Memory}

@@ -7,12 +7,12 @@ use Rattle.block_store.specs.Blocks.{Block, Blocks, live}
 use Rattle.handle_table.specs.declared.frame.PinSlot.{PinSlot}
 use Rattle.handle_table.specs.Table.{address_of, translated}
 use Rattle.handle_table.specs.Frame.{slot_at}
-use Rattle.defrag_move.specs.Arena.{Storage}
+use Rattle.arena_meaning.specs.Arena.{Storage}
 use Rattle.struct_ir.specs.Nodes.{Place, Step, step, Ir}
 use Rattle.struct_ir.specs.Flow.{does}
 use Rattle.struct_ir.specs.Machine.{Point}
 use Rattle.struct_ir.specs.Pins.{looked, lacks_if, listing, facts, Among}
-use Rattle.ir_meaning.specs.Blocks.{value, Own}
+use Rattle.struct_ir.specs.meaning.Blocks.{value, Own}
 use Rattle.flat_meaning.specs.Image.{Image}
 use Rattle.flat_meaning.specs.Words.{Words, word_at, base_address}
 use Rattle.flat_meaning.specs.Allowed.{list_at}

@@ -9,11 +9,11 @@ use Rattle.struct_ir.specs.Lawful.{safe_list, list_at_index, is_guarded, IsLawfu
 use Rattle.struct_ir.specs.Valid.{is_the_list}
 use Rattle.struct_ir.proofs.Sizes.{structured_shrinks}
 use Rattle.struct_ir.proofs.Lawful.{lawful_at, lawful_code_shrinks}
-use Rattle.emit_code.specs.Stands.{StandsIn}
-use Rattle.emit_code.specs.Emitted.{SameFrames, IsEmitted}
+use Rattle.struct_ir.specs.Stands.{StandsIn}
+use Rattle.struct_ir.specs.Emitted.{SameFrames, IsEmitted}
 use Rattle.block_store.specs.Runs as runs
-use Rattle.ir_meaning.specs.Start.{start}
-use Rattle.ir_meaning.specs.Threads.{program_of}
+use Rattle.struct_ir.specs.meaning.Start.{start}
+use Rattle.struct_ir.specs.meaning.Threads.{program_of}
 use Rattle.flat_meaning.specs.Events.{after_all, first_state}
 use Rattle.flat_meaning.specs.Simulation.{Simulates, UpToABreak}
 use Rattle.flat_meaning.specs.Image.{Frame, Limits, limits_for, func_frame, linear_frame, structured_image, linear_image}

@@ -12,9 +12,9 @@ use Rattle.struct_ir.specs.Flow.{Flow}
 use Rattle.struct_ir.specs.Linear.{Spot}
 use Rattle.struct_ir.specs.Structured.{Position, structured}
 use Rattle.struct_ir.specs.Threads.{Thread}
-use Rattle.ir_meaning.specs.Blocks.{Own}
-use Rattle.ir_meaning.specs.Start.{start}
-use Rattle.ir_meaning.specs.Threads.{program_of, code_of}
+use Rattle.struct_ir.specs.meaning.Blocks.{Own}
+use Rattle.struct_ir.specs.meaning.Start.{start}
+use Rattle.struct_ir.specs.meaning.Threads.{program_of, start_in}
 use Rattle.flat_meaning.specs.Image.{Limits, Image, limits_for, structured_image}
 use Rattle.flat_meaning.specs.Accesses.{Choice}
 use Rattle.flat_meaning.specs.Stages.{Stage, steps, thread_at, before}
@@ -101,10 +101,10 @@ module _ (p : Ir) (limits : Limits) (its : IsImage (structured_image p limits) p
       takes thread main own m o = takes_answers order u now.reached thread main own m o
 
       abbrev Alike : (thread : ℕ) → Choice → Type 0
-      Alike thread choice = ActAlike x.layout structured D (code_of p) code' R one guarded s r thread choice
+      Alike thread choice = ActAlike x.layout structured D (start_in p) code' R one guarded s r thread choice
 
       alike : (thread : ℕ) (choice : Choice) → IsAllowed y r (act thread choice) → Alike thread choice
-      alike thread choice may = act_alike x.layout structured D (code_of p) code' R one guarded s r match thread choice may
+      alike thread choice may = act_alike x.layout structured D (start_in p) code' R one guarded s r match thread choice may
 
       module _ (thread : ℕ) (choice : Choice) (a : Alike thread choice) where
         stands : StateStands x p names u a.came
@@ -115,7 +115,7 @@ module _ (p : Ir) (limits : Limits) (its : IsImage (structured_image p limits) p
 
         -- ---- what it touches
 
-        module _ (t : Thread Position Own) (h : Stage Spot) (g : MeetsStage x.layout structured D (code_of p) code' R one guarded a.came thread h) where
+        module _ (t : Thread Position Own) (h : Stage Spot) (g : MeetsStage x.layout structured D (start_in p) code' R one guarded a.came thread h) where
           -- what the first touches the second does
           touches : (k : Pick) → StepReaches x p names u a.came.memory k t (thread_at x g.stage) → StepTouches y p names u r k t (thread_at y h)
           touches k z = record {
@@ -134,7 +134,7 @@ module _ (p : Ir) (limits : Limits) (its : IsImage (structured_image p limits) p
 
           all_touch : own_at u.own thread ≡ Some t → before y (thread_at y h) ≡ steps → All Touching (picks_of y r (act thread choice) ++ tried_by y r (act thread choice))
           all_touch i is =
-              let is' : before x (thread_at x g.stage) ≡ steps = sym (before_same x.layout structured D (code_of p) code' R one (thread_at x g.stage) (thread_at y h) g.same) ∙ is in
+              let is' : before x (thread_at x g.stage) ≡ steps = sym (before_same x.layout structured D (start_in p) code' R one (thread_at x g.stage) (thread_at y h) g.same) ∙ is in
               let at : StandsBefore x (own_at a.came.own thread) steps = subst (λ o. StandsBefore x o steps) (sym g.at) (stands_at x g.stage g.begun steps is') in
               let turns = picks_of x a.came (act thread choice) ++ tried_by x a.came (act thread choice) in
               subst (λ l. All Touching l) (λ i. a.picks i ++ a.tried i)
@@ -192,7 +192,7 @@ module _ (p : Ir) (c : IsChecked p) (output heaps heap ids : ℕ) (shape : IsSha
       → (ds : List Event) → AreAllowed (image D code' first.layout) ds (first_state (image D code' first.layout)) → Found p first (image D code' first.layout) ds
   found_at D code' R one guarded ds may =
       let y = image D code' first.layout in
-      let f = have_matching first.layout structured D (code_of p) code' R one guarded ds may in
+      let f = have_matching first.layout structured D (start_in p) code' R one guarded ds may in
       let es = f.0 in
       let its = checked_image p c output heaps heap ids in
       let keep = events_keep p its_limits its in

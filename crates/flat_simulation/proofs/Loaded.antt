@@ -14,7 +14,7 @@ use Rattle.c_tree.specs.Typed as inits
 use Rattle.c_tree.specs.TypedForm.{taken}
 use Rattle.handle_table.specs.Table.{IsInUse, address_of}
 use Rattle.flat_store.specs.Flat.{first_address, with_bytes}
-use Rattle.defrag_move.specs.Arena.{IsConsistent, start_behind}
+use Rattle.arena_meaning.specs.Arena.{IsConsistent, start_behind}
 use Rattle.defrag_move.proofs.Bytes.{length-with_bytes}
 use Rattle.struct_ir.specs.Nodes.{Global}
 use Rattle.struct_ir.specs.Whole.{plain_bytes}

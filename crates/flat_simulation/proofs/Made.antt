@@ -3,7 +3,7 @@ use Rattle.std.proofs.Common.{◌≡◌, ℕ, zero, suc, ◌+◌, List, [], ◌�
 use Rattle.std.specs.Prelude.{slice_get, slice_set}
 use Rattle.std.specs.Prelude as std
 use Rattle.block_store.specs.Blocks.{Blocks}
-use Rattle.block_store.specs.Actions.{Thread, World}
+use Rattle.block_store.specs.Actions.{ThreadRecord, World}
 use Rattle.struct_ir.specs.Nodes.{Ir}
 use Rattle.flat_meaning.specs.Memory.{Made, Memory}
 use Rattle.flat_meaning.specs.Names.{Name}
@@ -17,27 +17,27 @@ use Rattle.flat_simulation.proofs.Blocks.{aged_name}
 use Rattle.flat_simulation.proofs.Values.{pointer_later, pointer_agrees, cells_agree}
 
 module _ (names : List Name) (blocks : Blocks) where
-  pub made_length : (ts : List Thread) (us : List Made) → AllMadeStand names blocks ts us → length us ≡ length ts
+  pub made_length : (ts : List ThreadRecord) (us : List Made) → AllMadeStand names blocks ts us → length us ≡ length ts
   made_length [] [] stand = refl
   made_length [] (u ∷ us) stand = absurd stand
   made_length (t ∷ ts) [] stand = absurd stand
   made_length (t ∷ ts) (u ∷ us) stand = ap suc (made_length ts us stand.1)
 
   -- one more
-  pub made_more : (ts : List Thread) (us : List Made) (t : Thread) (u : Made) → AllMadeStand names blocks ts us → MadeStands names blocks t u → AllMadeStand names blocks (ts ++ t ∷ []) (us ++ u ∷ [])
+  pub made_more : (ts : List ThreadRecord) (us : List Made) (t : ThreadRecord) (u : Made) → AllMadeStand names blocks ts us → MadeStands names blocks t u → AllMadeStand names blocks (ts ++ t ∷ []) (us ++ u ∷ [])
   made_more [] [] t u stand new = (new, tt)
   made_more [] (v ∷ us) t u stand new = absurd stand
   made_more (x ∷ ts) [] t u stand new = absurd stand
   made_more (x ∷ ts) (v ∷ us) t u stand new = (stand.0, made_more ts us t u stand.1 new)
 
   -- the one of a number
-  pub made_at : (ts : List Thread) (us : List Made) (k : ℕ) (t : Thread) → AllMadeStand names blocks ts us → slice_get ts k ≡ Some t → (u : Made) × (slice_get us k ≡ Some u) × MadeStands names blocks t u
+  pub made_at : (ts : List ThreadRecord) (us : List Made) (k : ℕ) (t : ThreadRecord) → AllMadeStand names blocks ts us → slice_get ts k ≡ Some t → (u : Made) × (slice_get us k ≡ Some u) × MadeStands names blocks t u
   made_at [] us k t stand e = absurd cc
   made_at (x ∷ ts) [] k t stand e = absurd stand
   made_at (x ∷ ts) (v ∷ us) zero t stand e = let is : x ≡ t = cc in (v, refl, subst (λ y. MadeStands names blocks y v) is stand.0)
   made_at (x ∷ ts) (v ∷ us) (suc k) t stand e = made_at ts us k t stand.1 e
 
-  pub none_made : (ts : List Thread) (us : List Made) (k : ℕ) → AllMadeStand names blocks ts us → slice_get ts k ≡ None → slice_get us k ≡ None
+  pub none_made : (ts : List ThreadRecord) (us : List Made) (k : ℕ) → AllMadeStand names blocks ts us → slice_get ts k ≡ None → slice_get us k ≡ None
   none_made [] [] k stand e = refl
   none_made [] (u ∷ us) k stand e = absurd stand
   none_made (t ∷ ts) [] k stand e = absurd stand
@@ -45,7 +45,7 @@ module _ (names : List Name) (blocks : Blocks) where
   none_made (t ∷ ts) (u ∷ us) (suc k) stand e = none_made ts us k stand.1 e
 
   -- one that has changed in both
-  pub made_set : (ts : List Thread) (us : List Made) (k : ℕ) (t : Thread) (u : Made) → AllMadeStand names blocks ts us → MadeStands names blocks t u → AllMadeStand names blocks (std.set ts k t) (slice_set us k u)
+  pub made_set : (ts : List ThreadRecord) (us : List Made) (k : ℕ) (t : ThreadRecord) (u : Made) → AllMadeStand names blocks ts us → MadeStands names blocks t u → AllMadeStand names blocks (std.set ts k t) (slice_set us k u)
   made_set [] [] k t u stand new = tt
   made_set [] (v ∷ us) k t u stand new = absurd stand
   made_set (x ∷ ts) [] k t u stand new = absurd stand
@@ -53,17 +53,17 @@ module _ (names : List Name) (blocks : Blocks) where
   made_set (x ∷ ts) (v ∷ us) (suc k) t u stand new = (stand.0, made_set ts us k t u stand.1 new)
 
   -- or in the first alone
-  pub made_staged : (ts : List Thread) (us : List Made) (k : ℕ) (t : Thread) (u : Made) → AllMadeStand names blocks ts us → slice_get us k ≡ Some u → MadeStands names blocks t u → AllMadeStand names blocks (std.set ts k t) us
+  pub made_staged : (ts : List ThreadRecord) (us : List Made) (k : ℕ) (t : ThreadRecord) (u : Made) → AllMadeStand names blocks ts us → slice_get us k ≡ Some u → MadeStands names blocks t u → AllMadeStand names blocks (std.set ts k t) us
   made_staged [] [] k t u stand at new = tt
   made_staged [] (v ∷ us) k t u stand at new = absurd stand
   made_staged (x ∷ ts) [] k t u stand at new = absurd stand
   made_staged (x ∷ ts) (v ∷ us) zero t u stand at new = let is : u ≡ v = cc in (subst (λ y. MadeStands names blocks t y) is new, stand.1)
   made_staged (x ∷ ts) (v ∷ us) (suc k) t u stand at new = (stand.0, made_staged ts us k t u stand.1 at new)
 
-  made_agrees : (t : Thread) (u : Made) → MadeStands names blocks t u → agreed.MadeStands names blocks t u
+  made_agrees : (t : ThreadRecord) (u : Made) → MadeStands names blocks t u → agreed.MadeStands names blocks t u
   made_agrees t u stand = record { function = stand.function; argument = pointer_agrees names blocks AnyBlock t.argument u.argument stand.argument; result = stand.result }
 
-  all_made_agree : (ts : List Thread) (us : List Made) → AllMadeStand names blocks ts us → agreed.AllMadeStand names blocks ts us
+  all_made_agree : (ts : List ThreadRecord) (us : List Made) → AllMadeStand names blocks ts us → agreed.AllMadeStand names blocks ts us
   all_made_agree [] [] stand = tt
   all_made_agree [] (u ∷ us) stand = absurd stand
   all_made_agree (t ∷ ts) [] stand = absurd stand
@@ -71,7 +71,7 @@ module _ (names : List Name) (blocks : Blocks) where
 
 -- when the blocks have aged
 module _ (names all : List Name) (blocks later : Blocks) (aged : Aged names all blocks later) where
-  pub made_later : (ts : List Thread) (us : List Made) → AllMadeStand names blocks ts us → AllMadeStand all later ts us
+  pub made_later : (ts : List ThreadRecord) (us : List Made) → AllMadeStand names blocks ts us → AllMadeStand all later ts us
   made_later [] [] stand = tt
   made_later [] (u ∷ us) stand = absurd stand
   made_later (t ∷ ts) [] stand = absurd stand

@@ -4,10 +4,10 @@ use Rattle.std.proofs.lemmas.Bool.{cases_eq, cases_lt}
 use Rattle.std.proofs.lemmas.Option.{slice_get_within, get_or_from_slice_get, slice_get-get_or}
 use Rattle.block_store.specs.declared.values.Cell.{Cell}
 use Rattle.block_store.specs.declared.values.Cell.TheVariants.{Unknown}
-use Rattle.block_store.specs.Blocks.{Block, Blocks, live, Spot, with_cells, with_cells_at}
+use Rattle.block_store.specs.Blocks.{Block, Blocks, live, Range, with_cells, with_cells_at}
 use Rattle.flat_store.specs.Flat.{first_address, HasBytes, byte_at, bytes_from, with_bytes, first_outside}
 use Rattle.flat_store.proofs.Firsts.{none_meant}
-use Rattle.defrag_move.specs.Arena.{IsConsistent, Storage}
+use Rattle.arena_meaning.specs.Arena.{IsConsistent, Storage}
 use Rattle.flat_meaning.specs.Names.{Name, heap, plain, name_of, address_for, Apart, NamesStand}
 use Rattle.flat_simulation.specs.inner.Cells.{CellStands, RowStands, MemoryStands}
 use Rattle.flat_simulation.proofs.Blocks.{written_block, written_same, written_other, written_size, aged_written, one_live}
@@ -49,7 +49,7 @@ module _ (names : List Name) (blocks : Blocks) (s : Storage) (consistent : IsCon
 
   -- ---- a row is written
 
-  module _ (new : List Cell) (at : Spot) (here : live blocks at.name ≡ Some at.block) (within : at.offset + length new ≤ length at.block.cells) (bytes : List ℕ) (row : RowStands names blocks new bytes) where
+  module _ (new : List Cell) (at : Range) (here : live blocks at.name ≡ Some at.block) (within : at.offset + length new ≤ length at.block.cells) (bytes : List ℕ) (row : RowStands names blocks new bytes) where
     abbrev later : Blocks
     later = with_cells_at blocks new at
 

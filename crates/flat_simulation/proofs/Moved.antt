@@ -3,13 +3,13 @@ use Rattle.std.proofs.Common.{ℕ, Bool, List, ◌∙◌}
 use Rattle.block_store.specs.Actions.{World}
 use Rattle.block_store.specs.Runs as runs
 use Rattle.block_store.specs.Runs.{own_at}
-use Rattle.move_plan.specs.declared.moves.Move.{Move}
-use Rattle.move_plan.specs.Moving.{AreLegal}
-use Rattle.defrag_move.specs.Moves.{after_plan}
+use Rattle.sub_heaps.specs.declared.moves.Move.{Move}
+use Rattle.sub_heaps.specs.Moving.{AreLegal}
+use Rattle.arena_meaning.specs.Moves.{after_plan}
 use Rattle.defrag_move.proofs.Kept.{IsConsistent-after_plan, keeps_all}
 use Rattle.struct_ir.specs.Nodes.{Ir}
 use Rattle.struct_ir.specs.Threads.{Thread}
-use Rattle.ir_meaning.specs.Blocks.{Own}
+use Rattle.struct_ir.specs.meaning.Blocks.{Own}
 use Rattle.flat_meaning.specs.Image.{Layout, Image}
 use Rattle.flat_meaning.specs.Memory.{Memory, with_storage}
 use Rattle.flat_meaning.specs.Events.{State, moved_state}

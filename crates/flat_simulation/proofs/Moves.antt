@@ -5,10 +5,10 @@ use Rattle.block_store.specs.Blocks.{Block, Blocks, live, is_heap}
 use Rattle.handle_table.specs.Table.{address_of}
 use Rattle.flat_store.specs.Flat.{first_address, byte_at, bytes_from}
 use Rattle.sub_heaps.specs.declared.objects.Object.{Object}
-use Rattle.move_plan.specs.declared.moves.Move.{Move}
-use Rattle.move_plan.specs.Moving.{destination}
-use Rattle.defrag_move.specs.Arena.{IsConsistent, Storage, object_of}
-use Rattle.defrag_move.specs.Moves.{IsCarried, KeepsObjects}
+use Rattle.sub_heaps.specs.declared.moves.Move.{Move}
+use Rattle.sub_heaps.specs.Moving.{destination}
+use Rattle.arena_meaning.specs.Arena.{IsConsistent, Storage, object_of}
+use Rattle.arena_meaning.specs.Moves.{IsCarried, KeepsObjects}
 use Rattle.defrag_move.proofs.Kept.{matches}
 use Rattle.defrag_move.proofs.Owners.{owner_found}
 use Rattle.flat_meaning.specs.Names.{Name, name_of, address_if, address_for, LiesAt}

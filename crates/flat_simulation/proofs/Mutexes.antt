@@ -11,12 +11,12 @@ use Rattle.ak_words.specs.Bytes.{low_bytes}
 use Rattle.ak_words.proofs.Bytes.{length-low_bytes}
 use Rattle.block_store.specs.declared.values.Cell.TheVariants.{Byte}
 use Rattle.block_store.specs.declared.values.Ptr.{Ptr}
-use Rattle.block_store.specs.Blocks.{Blocks, Spot, spot_at, cells_at, is_literal}
+use Rattle.block_store.specs.Blocks.{Blocks, Range, spot_at, cells_at, is_literal}
 use Rattle.block_store.specs.Cells.{has_unknown, number_of, read_number}
 use Rattle.block_store.specs.Mutexes as source
 use Rattle.block_store.specs.Mutexes.{Mutex, with_number, mutex_in, mutex_at, renumbered, lock_by, unlock_by}
 use Rattle.flat_store.specs.Flat.{bytes_from, first_outside}
-use Rattle.flat_meaning.specs.declared.endings.TrapKind.TheVariants as kinds
+use Rattle.ak_trace.specs.declared.endings.TrapKind.TheVariants as kinds
 use Rattle.flat_meaning.specs.Words.{Target}
 use Rattle.flat_meaning.specs.Memory.{Memory, written}
 use Rattle.flat_meaning.specs.Accesses.{went, waits, within}
@@ -36,7 +36,7 @@ was_number true o n e = absurd cc
 was_number false (Some k) n e = let is : k ≡ n = cc in ap Some is
 was_number false None n e = absurd cc
 
-numbered : (s : Spot) (r : Result ℕ Rule) (mu : Mutex) → with_number s r ≡ Ok mu → (s ≡ mu.spot) × (r ≡ Ok mu.number)
+numbered : (s : Range) (r : Result ℕ Rule) (mu : Mutex) → with_number s r ≡ Ok mu → (s ≡ mu.spot) × (r ≡ Ok mu.number)
 numbered s (Ok n) mu e = let is : (record { spot = s; number = n }) ≡ mu = cc in (ap (λ (x : Mutex). x.spot) is, ap (λ (x : Mutex). Ok x.number) is)
 numbered s (Err rule) mu e = absurd cc
 
@@ -45,7 +45,7 @@ unless_literal true r x e = absurd cc
 unless_literal false r x e = e
 
 -- its spot, and its number
-pub mutex_there : (r : Result Spot Rule) (mu : Mutex) → mutex_in r ≡ Ok mu → (r ≡ Ok mu.spot) × (number_of (cells_at 8 mu.spot) ≡ Some mu.number)
+pub mutex_there : (r : Result Range Rule) (mu : Mutex) → mutex_in r ≡ Ok mu → (r ≡ Ok mu.spot) × (number_of (cells_at 8 mu.spot) ≡ Some mu.number)
 mutex_there (Ok s) mu e =
     let n = numbered s (read_number (cells_at 8 s)) mu (unless_literal (is_literal s.block.kind) _ mu e) in
     (ap Ok n.0, ap (λ x. number_of (cells_at 8 x)) (sym n.0) ∙ was_number (has_unknown (cells_at 8 s)) (number_of (cells_at 8 s)) mu.number n.1)

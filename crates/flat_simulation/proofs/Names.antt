@@ -3,7 +3,7 @@ use Rattle.std.proofs.Common.{◌≡◌, ℕ, Bool, true, false, List, length, O
 use Rattle.std.specs.Prelude.{IsSome}
 use Rattle.block_store.specs.Blocks.{Block, Blocks, live, is_heap}
 use Rattle.c_tree.specs.TypedForm.{taken}
-use Rattle.defrag_move.specs.Arena.{Storage}
+use Rattle.arena_meaning.specs.Arena.{Storage}
 use Rattle.flat_meaning.specs.Names.{Name, name_of, Lives, LiesAt, NamesStand, Apart}
 
 pub lives_there : (o : Option Block) → IsSome o → (b : Block) × (o ≡ Some b)

@@ -25,7 +25,7 @@ use Rattle.ak_words.proofs.Numbers.{num_is}
 use Rattle.ak_words.proofs.Residues.{powers, residue_is, residue_left, residue_same}
 use Rattle.ak_words.proofs.Types.{int_type_is, width_bounds, half_twice, range_bounds}
 use Rattle.ak_words.proofs.Wraps.{wrapped_value-same, wrapped_value-in_type}
-use Rattle.ir_meaning.specs.Blocks.{same_type, is_shift, takes}
+use Rattle.struct_ir.specs.meaning.Blocks.{same_type, is_shift, takes}
 use Rattle.flat_words.specs.Words.{word_of, number_word, number_in, word_in, applied}
 
 -- ---- words

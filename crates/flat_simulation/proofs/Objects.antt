@@ -6,7 +6,7 @@ use Rattle.block_store.specs.declared.values.BlockKind.TheVariants as block_kind
 use Rattle.block_store.specs.declared.values.Cell.TheVariants.{Unknown}
 use Rattle.block_store.specs.Blocks.{Block, Blocks, live, made, ended, is_heap}
 use Rattle.struct_ir.specs.Nodes.{Ir}
-use Rattle.ir_meaning.specs.Blocks.{Own, set_at, with_blocks, without, begun, object_ended}
+use Rattle.struct_ir.specs.meaning.Blocks.{Own, set_at, with_blocks, without, begun, object_ended}
 use Rattle.flat_meaning.specs.Image.{Layout}
 use Rattle.flat_meaning.specs.Words.{Words, word_at, object_address}
 use Rattle.flat_meaning.specs.Names.{Name, heap, plain, name_of, ids_in}

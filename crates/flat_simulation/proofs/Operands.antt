@@ -14,12 +14,12 @@ use Rattle.block_store.specs.declared.values.Value.{Value}
 use Rattle.block_store.specs.declared.values.Value.TheVariants as values
 use Rattle.block_store.specs.Blocks.{Block, live}
 use Rattle.block_store.specs.Cells.{access_of}
-use Rattle.defrag_move.specs.Arena.{Storage}
+use Rattle.arena_meaning.specs.Arena.{Storage}
 use Rattle.struct_ir.specs.Nodes.{Place, Ir}
 use Rattle.struct_ir.specs.Valid.{Scope, is_place, are_below}
 use Rattle.struct_ir.specs.Pins.{Among}
-use Rattle.ir_meaning.specs.Blocks.{Held, value, unset, missing, Own, known, same_type}
-use Rattle.ir_meaning.specs.Threads.{address_of, all_of, indexed_if, moved_if, fits, number_of}
+use Rattle.struct_ir.specs.meaning.Blocks.{Held, value, unset, missing, Own, known, same_type}
+use Rattle.struct_ir.specs.meaning.Threads.{address_of, all_of, indexed_if, moved_if, fits, number_of}
 use Rattle.flat_words.specs.Words.{word_of, number_word}
 use Rattle.flat_meaning.specs.Image.{Layout}
 use Rattle.flat_meaning.specs.Words.{Words, word_at, base_address, target_of}

@@ -9,10 +9,10 @@ use Rattle.c_tree.specs.TypedForm.{taken}
 use Rattle.handle_table.specs.declared.frame.PinSlot.{PinSlot}
 use Rattle.handle_table.specs.Table.{translated}
 use Rattle.handle_table.specs.Frame.{slot_at}
-use Rattle.defrag_move.specs.Arena.{Storage}
+use Rattle.arena_meaning.specs.Arena.{Storage}
 use Rattle.struct_ir.specs.Nodes.{Ir}
 use Rattle.struct_ir.specs.Machine.{Point}
-use Rattle.ir_meaning.specs.Blocks.{Held, value, unset, missing, Own}
+use Rattle.struct_ir.specs.meaning.Blocks.{Held, value, unset, missing, Own}
 use Rattle.flat_meaning.specs.Image.{Image, stack_address}
 use Rattle.flat_meaning.specs.Words.{Words, word_at, object_address}
 use Rattle.flat_meaning.specs.Names.{Name, name_of, word_for, SlotAgrees}

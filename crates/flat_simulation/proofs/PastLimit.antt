@@ -7,10 +7,10 @@ use Rattle.block_store.specs.Actions.{World}
 use Rattle.struct_ir.specs.Nodes.{Ir}
 use Rattle.struct_ir.specs.Structured.{Position, structured}
 use Rattle.struct_ir.specs.Threads.{Thread, Outcome, went, ended, blocked, broke, unfit}
-use Rattle.ir_meaning.specs.Blocks.{Own, Fault, broken, wrong_kind}
-use Rattle.ir_meaning.specs.Threads.{program_of, turned}
-use Rattle.flat_meaning.specs.declared.endings.End.{End}
-use Rattle.flat_meaning.specs.declared.endings.End.TheVariants as ends
+use Rattle.struct_ir.specs.meaning.Blocks.{Own, Fault, broken, wrong_kind}
+use Rattle.struct_ir.specs.meaning.Threads.{program_of, turned}
+use Rattle.ak_trace.specs.declared.endings.End.{End}
+use Rattle.ak_trace.specs.declared.endings.End.TheVariants as ends
 use Rattle.flat_meaning.specs.Image.{Limits, Image, structured_image}
 use Rattle.flat_meaning.specs.Words.{Words}
 use Rattle.flat_meaning.specs.Memory.{Memory}

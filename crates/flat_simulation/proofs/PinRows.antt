@@ -6,7 +6,7 @@ use Rattle.ak_words.specs.Op.{exact_result, rule_of, replacement}
 use Rattle.ak_words.specs.Wrapped.{residue, wrapped_value}
 use Rattle.sub_heaps.specs.declared.objects.Object.{Object}
 use Rattle.sub_heaps.specs.SubHeaps.{IsApartFrom, FitsAt}
-use Rattle.move_plan.specs.Moving.{IsAllowed}
+use Rattle.sub_heaps.specs.Moving.{IsAllowed}
 use Rattle.struct_ir.specs.Flow.{Flow}
 use Rattle.struct_ir.specs.Machine.{run_within, run}
 use Rattle.struct_ir.specs.Structured.{Position, structured}

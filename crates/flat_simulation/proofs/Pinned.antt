@@ -10,15 +10,15 @@ use Rattle.handle_table.specs.declared.frame.PinSlot.{PinSlot}
 use Rattle.handle_table.specs.Table.{address_of, translated}
 use Rattle.handle_table.specs.Frame.{slot_at, listed_words}
 use Rattle.sub_heaps.specs.declared.objects.Object.{Object}
-use Rattle.move_plan.specs.declared.moves.Move.{Move}
-use Rattle.defrag_move.specs.Arena.{IsConsistent, Storage, object_of, place_named, places_named}
-use Rattle.defrag_move.specs.Moves.{KeepsObjects}
+use Rattle.sub_heaps.specs.declared.moves.Move.{Move}
+use Rattle.arena_meaning.specs.Arena.{IsConsistent, Storage, object_of, place_named, places_named}
+use Rattle.arena_meaning.specs.Moves.{KeepsObjects}
 use Rattle.struct_ir.specs.Nodes.{set, call, step, look, safepoint, begin_object, end_object, Ir}
 use Rattle.struct_ir.specs.Flow.{Here, does, tests, passes, round, returns, IsCall}
 use Rattle.struct_ir.specs.Machine.{Point}
 use Rattle.struct_ir.specs.Threads.{Thread}
 use Rattle.struct_ir.specs.Pins.{lacks, lacks_if}
-use Rattle.ir_meaning.specs.Blocks.{Own}
+use Rattle.struct_ir.specs.meaning.Blocks.{Own}
 use Rattle.flat_meaning.specs.Image.{Image}
 use Rattle.flat_meaning.specs.Words.{Words}
 use Rattle.flat_meaning.specs.Stages.{Stage, starts, going, waiting, landed}

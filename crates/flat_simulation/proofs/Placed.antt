@@ -9,7 +9,7 @@ use Rattle.flat_store.specs.Flat.{first_address}
 use Rattle.sub_heaps.specs.declared.objects.Object.{Object}
 use Rattle.sub_heaps.specs.ByPlace.{end_of}
 use Rattle.sub_heaps.specs.SubHeaps.{StandFrom}
-use Rattle.defrag_move.specs.Arena.{IsConsistent, Storage, object_of}
+use Rattle.arena_meaning.specs.Arena.{IsConsistent, Storage, object_of}
 use Rattle.defrag_move.proofs.Kept.{matches, object_within}
 use Rattle.defrag_move.proofs.Owners.{find_each, each_above, owner_found, in_use_within}
 use Rattle.flat_meaning.specs.Names.{Name, heap, plain, name_of, address_if, address_for, Apart, Lives, IsOnHeap, IsOutside, LiesAt, NamesStand}

@@ -13,12 +13,12 @@ use Rattle.block_store.specs.declared.values.Value.TheVariants as values
 use Rattle.block_store.specs.Blocks.{live}
 use Rattle.handle_words.specs.Handle.{id_of, offset_of}
 use Rattle.handle_table.specs.Table.{address_of, translated, reached}
-use Rattle.defrag_move.specs.Arena.{Storage}
+use Rattle.arena_meaning.specs.Arena.{Storage}
 use Rattle.struct_ir.specs.Nodes.{Place, Ir}
 use Rattle.struct_ir.specs.Valid.{Scope, is_place, is_below_if}
-use Rattle.ir_meaning.specs.Blocks.{value, Fault, Own}
-use Rattle.ir_meaning.specs.Threads as source
-use Rattle.ir_meaning.specs.Threads.{offset_in, further, indexed_if, moved_if, on_ok}
+use Rattle.struct_ir.specs.meaning.Blocks.{value, Fault, Own}
+use Rattle.struct_ir.specs.meaning.Threads as source
+use Rattle.struct_ir.specs.meaning.Threads.{offset_in, further, indexed_if, moved_if, on_ok}
 use Rattle.flat_words.specs.Words.{word_of, number_word}
 use Rattle.flat_meaning.specs.Image.{Layout}
 use Rattle.flat_meaning.specs.Words.{Words, word_at, base_address, index_bytes, target_of}

@@ -8,12 +8,12 @@ use Rattle.block_store.specs.Blocks.{Block, Blocks, live}
 use Rattle.handle_table.specs.declared.frame.PinSlot.{PinSlot}
 use Rattle.handle_table.specs.Table.{translated}
 use Rattle.handle_table.specs.Frame.{slot_at}
-use Rattle.defrag_move.specs.Arena.{Storage}
+use Rattle.arena_meaning.specs.Arena.{Storage}
 use Rattle.struct_ir.specs.Nodes.{Act, set, call, step, look, safepoint, begin_object, end_object, list_of, assigned_by, Ir}
 use Rattle.struct_ir.specs.Flow.{Here, does, tests, passes, round, returns, Stays, Path, on}
 use Rattle.struct_ir.specs.Machine.{Point}
 use Rattle.struct_ir.specs.Pins.{Fact, looked, lacks_if, listing, doing, passing, facts}
-use Rattle.ir_meaning.specs.Blocks.{Held, value, unset, missing, Own}
+use Rattle.struct_ir.specs.meaning.Blocks.{Held, value, unset, missing, Own}
 use Rattle.flat_meaning.specs.Image.{Image}
 use Rattle.flat_meaning.specs.Words.{Words, word_at}
 use Rattle.flat_meaning.specs.Machine as machine

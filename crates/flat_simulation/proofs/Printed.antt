@@ -18,7 +18,7 @@ use Rattle.block_store.specs.declared.values.Ptr.{Ptr}
 use Rattle.block_store.specs.Blocks.{Blocks}
 use Rattle.block_store.specs.Actions as source
 use Rattle.block_store.specs.Actions.{printed_bytes, joined_bytes, all_bytes}
-use Rattle.defrag_move.specs.Arena.{Storage}
+use Rattle.arena_meaning.specs.Arena.{Storage}
 use Rattle.struct_ir.specs.Valid.{has_width, is_piece}
 use Rattle.flat_words.specs.Words.{word_of}
 use Rattle.flat_meaning.specs.Words.{Target}

@@ -2,7 +2,7 @@
 use Rattle.std.proofs.Common.{◌≡◌, ℕ, ◌+◌, ◌<◌, ◌≤◌, List, option_map, Some, refl, sym, ap, subst, ◌∙◌, arith}
 use Rattle.std.specs.Prelude.{slice_get, true}
 use Rattle.std.proofs.lemmas.Option.{slice_get-map}
-use Rattle.defrag_move.specs.Arena.{Storage, IsConsistent, start_behind}
+use Rattle.arena_meaning.specs.Arena.{Storage, IsConsistent, start_behind}
 use Rattle.struct_ir.specs.Nodes.{Func, Ir}
 use Rattle.struct_ir.specs.Flow.{Path}
 use Rattle.struct_ir.specs.Structured.{done, then_, nodes_of, structured}
@@ -10,8 +10,8 @@ use Rattle.struct_ir.specs.Valid.{scope_of}
 use Rattle.struct_ir.specs.ValidCode.{is_here}
 use Rattle.struct_ir.proofs.Sizes.{structured_shrinks}
 use Rattle.struct_ir.proofs.ValidCode.{valid_is_reached}
-use Rattle.ir_meaning.specs.Blocks.{objects_of}
-use Rattle.ir_meaning.specs.Threads.{code_of}
+use Rattle.struct_ir.specs.meaning.Blocks.{objects_of}
+use Rattle.struct_ir.specs.meaning.Threads.{start_in}
 use Rattle.flat_meaning.specs.Image.{Image, Frame, func_frame, frame_if, frame_of, limits_for, structured_image, plain_size, objects_bytes}
 use Rattle.flat_meaning.specs.Words.{Words}
 use Rattle.flat_meaning.specs.Simulation.{IsChecked}
@@ -25,7 +25,7 @@ use Rattle.flat_simulation.proofs.Sized.{HereIsSized, sized_is_reached}
 -- ---- checked code
 
 -- where a function begins
-begins_there : (p : Ir) (n : ℕ) (f : Func) → slice_get p.funcs n ≡ Some f → code_of p n ≡ then_ f.nodes done
+begins_there : (p : Ir) (n : ℕ) (f : Func) → slice_get p.funcs n ≡ Some f → start_in p n ≡ then_ f.nodes done
 begins_there p n f at = ap (λ o. then_ (nodes_of o) done) at
 
 pub checked_image : (p : Ir) → IsChecked p → (output heaps heap ids : ℕ) → IsImage (structured_image p (limits_for output heaps heap ids)) p

@@ -5,13 +5,13 @@ use Rattle.block_store.specs.declared.values.Value.TheVariants as values
 use Rattle.block_store.specs.Blocks.{Blocks}
 use Rattle.block_store.specs.Runs as runs
 use Rattle.block_store.specs.Runs.{own_at}
-use Rattle.defrag_move.specs.Arena.{Storage}
+use Rattle.arena_meaning.specs.Arena.{Storage}
 use Rattle.struct_ir.specs.Nodes.{Ir}
 use Rattle.struct_ir.specs.Flow.{entry}
 use Rattle.struct_ir.specs.Machine.{Point, still}
 use Rattle.struct_ir.specs.Threads.{Thread}
-use Rattle.ir_meaning.specs.Blocks.{Held, value, Own}
-use Rattle.ir_meaning.specs.Threads.{first_own}
+use Rattle.struct_ir.specs.meaning.Blocks.{Held, value, Own}
+use Rattle.struct_ir.specs.meaning.Threads.{first_own}
 use Rattle.flat_meaning.specs.Image.{Image}
 use Rattle.flat_meaning.specs.Words.{Words, word_at}
 use Rattle.flat_meaning.specs.Stages.{Stage, starts, going, waiting, landed, first_thread}

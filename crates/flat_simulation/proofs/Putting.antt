@@ -11,9 +11,9 @@ use Rattle.block_store.specs.Runs.{own_at, begun, next_state}
 use Rattle.struct_ir.specs.Nodes.{Ir}
 use Rattle.struct_ir.specs.Structured.{Position}
 use Rattle.struct_ir.specs.Threads.{Thread}
-use Rattle.ir_meaning.specs.Blocks.{Own}
-use Rattle.ir_meaning.specs.Threads.{program_of}
-use Rattle.flat_meaning.specs.declared.endings.End.{End}
+use Rattle.struct_ir.specs.meaning.Blocks.{Own}
+use Rattle.struct_ir.specs.meaning.Threads.{program_of}
+use Rattle.ak_trace.specs.declared.endings.End.{End}
 use Rattle.flat_meaning.specs.Image.{Limits, Image, structured_image}
 use Rattle.flat_meaning.specs.Memory.{Made, Memory}
 use Rattle.flat_meaning.specs.Stages.{Stage}
@@ -27,14 +27,14 @@ use Rattle.flat_simulation.proofs.StatesAlike.{no_new_stages}
 use Rattle.flat_simulation.proofs.Later.{others_stay, stacks_stay}
 
 -- as many threads were made
-pub length-made : (names : List Name) (blocks : Blocks) (ts : List source.Thread) (us : List Made) → AllMadeStand names blocks ts us → length us ≡ length ts
+pub length-made : (names : List Name) (blocks : Blocks) (ts : List source.ThreadRecord) (us : List Made) → AllMadeStand names blocks ts us → length us ≡ length ts
 length-made names blocks [] [] h = refl
 length-made names blocks [] (u ∷ us) h = absurd h
 length-made names blocks (t ∷ ts) [] h = absurd h
 length-made names blocks (t ∷ ts) (u ∷ us) h = let e = length-made names blocks ts us h.1 in omega (arith, e)
 
 -- the last of them
-last_made : (names : List Name) (blocks : Blocks) (ts : List source.Thread) (t : source.Thread) (us : List Made) → AllMadeStand names blocks (ts ++ t ∷ []) us → (front : List Made) × (u : Made) × (us ≡ front ++ u ∷ []) × (length front ≡ length ts) × MadeStands names blocks t u
+last_made : (names : List Name) (blocks : Blocks) (ts : List source.ThreadRecord) (t : source.ThreadRecord) (us : List Made) → AllMadeStand names blocks (ts ++ t ∷ []) us → (front : List Made) × (u : Made) × (us ≡ front ++ u ∷ []) × (length front ≡ length ts) × MadeStands names blocks t u
 last_made names blocks [] t [] h = absurd h
 last_made names blocks [] t (u ∷ []) h = ([], u, refl, refl, h.0)
 last_made names blocks [] t (u ∷ v ∷ us) h = absurd h.1
@@ -98,7 +98,7 @@ module _ (p : Ir) (limits : Limits) (image : IsImage (structured_image p limits)
       more : length u.own ≤ length later.threads
       more = elim ended.born [
         | inl e ↦ let made = stand.made in omega (arith, e, made)
-        | inr b ↦ let made = stand.made in let e = ap (λ (l : List source.Thread). length l) b.last in let l = length-append u.world.threads (b.born ∷ []) in omega (arith, e, l, made)
+        | inr b ↦ let made = stand.made in let e = ap (λ (l : List source.ThreadRecord). length l) b.last in let l = length-append u.world.threads (b.born ∷ []) in omega (arith, e, l, made)
       ]
 
       many : length m.threads ≡ length later.threads
@@ -110,7 +110,7 @@ module _ (p : Ir) (limits : Limits) (image : IsImage (structured_image p limits)
         | inl e ↦
             let none : drop (length u.own) later.threads ≡ [] = drop_all (length u.own) later.threads (let made = stand.made in omega (arith, e, made)) in
             let none' : drop (length s.own) m.threads ≡ [] = drop_all (length s.own) m.threads (let made = stand.made in let count = stand.count in omega (arith, e, made, count, many)) in
-            subst (λ ts. Stands (length u.own + n) (own_at (map (λ (t : source.Thread). Some (P.begins t.function t.argument)) ts) n) (own_at (new_stages s.own m) n)) (sym none)
+            subst (λ ts. Stands (length u.own + n) (own_at (map (λ (t : source.ThreadRecord). Some (P.begins t.function t.argument)) ts) n) (own_at (new_stages s.own m) n)) (sym none)
             (subst (λ (ts : List Made). Stands (length u.own + n) None (own_at (map stage_made ts) n)) (sym none') tt)
         | inr b ↦ born_stands b n
       ]
@@ -129,7 +129,7 @@ module _ (p : Ir) (limits : Limits) (image : IsImage (structured_image p limits)
                 clear = stacks_stay x p image thread (length u.own) ne names all given u.world later s.memory m stand.world ended (stand.stacks (length u.own) (omega arith) stack);
               }
 
-          one_stands : (b : IsBorn x.layout p u.world later) (t : Made) → MadeStands all later.blocks b.born t → (n : ℕ) → Stands (length u.own + n) (own_at (map (λ (t : source.Thread). Some (P.begins t.function t.argument)) (b.born ∷ [])) n) (own_at (map stage_made (t ∷ [])) n)
+          one_stands : (b : IsBorn x.layout p u.world later) (t : Made) → MadeStands all later.blocks b.born t → (n : ℕ) → Stands (length u.own + n) (own_at (map (λ (t : source.ThreadRecord). Some (P.begins t.function t.argument)) (b.born ∷ [])) n) (own_at (map stage_made (t ∷ [])) n)
           one_stands b t z zero = let e : length u.own + 0 ≡ length u.own = omega arith in subst (λ j. Stands j (Some (P.begins b.born.function b.born.argument)) (stage_made t)) (sym e) (born_at b t z)
           one_stands b t z (suc n) = tt
 
@@ -138,8 +138,8 @@ module _ (p : Ir) (limits : Limits) (image : IsImage (structured_image p limits)
               let r = last_made all later.blocks u.world.threads b.born m.threads (subst (λ ts. AllMadeStand all later.blocks ts m.threads) b.last ended.world.threads) in
               let one : drop (length u.own) later.threads ≡ b.born ∷ [] = ap (drop (length u.own)) b.last ∙ drop_at u.world.threads (b.born ∷ []) (length u.own) (sym stand.made) in
               let one' : drop (length s.own) m.threads ≡ r.1 ∷ [] = ap (drop (length s.own)) r.2 ∙ drop_at r.0 (r.1 ∷ []) (length s.own) (r.3 ∙ sym stand.made ∙ sym stand.count) in
-              subst (λ ts. Stands (length u.own + n) (own_at (map (λ (t : source.Thread). Some (P.begins t.function t.argument)) ts) n) (own_at (new_stages s.own m) n)) (sym one)
-              (subst (λ (ts : List Made). Stands (length u.own + n) (own_at (map (λ (t : source.Thread). Some (P.begins t.function t.argument)) (b.born ∷ [])) n) (own_at (map stage_made ts) n)) (sym one') (one_stands b r.1 r.4 n))
+              subst (λ ts. Stands (length u.own + n) (own_at (map (λ (t : source.ThreadRecord). Some (P.begins t.function t.argument)) ts) n) (own_at (new_stages s.own m) n)) (sym one)
+              (subst (λ (ts : List Made). Stands (length u.own + n) (own_at (map (λ (t : source.ThreadRecord). Some (P.begins t.function t.argument)) (b.born ∷ [])) n) (own_at (map stage_made ts) n)) (sym one') (one_stands b r.1 r.4 n))
 
       module _ (k : Option (Thread Position Own)) (g : Option (Stage Position)) (end : Option End) (z : Stands thread k g) (main : end ≡ None → thread ≡ 0 → IsSome g) where
         set_each : (n : ℕ) → Stands n (own_at (set u.own thread k) n) (own_at (set s.own thread g) n)
@@ -164,7 +164,7 @@ module _ (p : Ir) (limits : Limits) (image : IsImage (structured_image p limits)
         length-source =
             let a = length-append (set u.own thread k) (begun P (length u.own) later) in
             let b = length-set_own u.own thread k in
-            let c = length-map {A = source.Thread} {B = Option (Thread Position Own)} (drop (length u.own) later.threads) (λ t. Some (P.begins t.function t.argument)) in
+            let c = length-map {A = source.ThreadRecord} {B = Option (Thread Position Own)} (drop (length u.own) later.threads) (λ t. Some (P.begins t.function t.argument)) in
             let d = length-drop (length u.own) later.threads in
             omega (arith, a, b, c, d, more)
 

@@ -13,7 +13,7 @@ use Rattle.block_store.specs.Actions as source
 use Rattle.block_store.specs.Actions.{Reached, bytes_at, cells_from, printed_bytes, all_bytes, reading_text, reading_part, reading_on, reading_parts}
 use Rattle.block_store.specs.Texts.{text_of, text_in}
 use Rattle.flat_store.specs.Flat.{first_address, has_byte}
-use Rattle.defrag_move.specs.Arena.{Storage}
+use Rattle.arena_meaning.specs.Arena.{Storage}
 use Rattle.flat_meaning.specs.Names.{Name, name_of, address_for}
 use Rattle.flat_meaning.specs.Printing as flat
 use Rattle.flat_meaning.specs.Printing.{reads, too_long}

@@ -20,7 +20,7 @@ use Rattle.block_store.specs.Pointers.{indexed, tested, compared, difference}
 use Rattle.struct_ir.specs.Nodes.{Calc, constant, null, global, literal, object, copy, convert, apply, pointer_add, pointer_sub, pointer_diff, pointer_compare, pointer_test, Ir}
 use Rattle.struct_ir.specs.Nodes as calcs
 use Rattle.struct_ir.specs.Valid.{Scope, is_promoted, is_calc}
-use Rattle.ir_meaning.specs.Blocks.{Held, value, unset, missing, Fault, Own, known, on_value, on_number, on_pointer, or_broken, number, pointer, takes, if_taken, truth, start_of, calculated}
+use Rattle.struct_ir.specs.meaning.Blocks.{Held, value, unset, missing, Fault, Own, known, on_value, on_number, on_pointer, or_broken, number, pointer, takes, if_taken, truth, start_of, calculated}
 use Rattle.flat_words.specs.Words.{word_of, number_word, word_in, applied}
 use Rattle.flat_meaning.specs.Image.{Layout, global_address, literal_address}
 use Rattle.flat_meaning.specs.Words as words

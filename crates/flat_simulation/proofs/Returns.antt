@@ -4,16 +4,16 @@ use Rattle.std.specs.Prelude.{slice_get}
 use Rattle.std.proofs.lemmas.Bool.{cases_lt, cases_eq, ltb-true}
 use Rattle.block_store.specs.Blocks.{Blocks}
 use Rattle.block_store.specs.Actions.{World, with_blocks}
-use Rattle.defrag_move.specs.Arena.{Storage}
+use Rattle.arena_meaning.specs.Arena.{Storage}
 use Rattle.struct_ir.specs.Nodes.{Call, call, set, step, look, safepoint, begin_object, end_object, Ir}
 use Rattle.struct_ir.specs.Flow.{Here, does, tests, passes, round, returns, IsCall}
 use Rattle.struct_ir.specs.Machine.{Point}
 use Rattle.struct_ir.specs.Threads.{went, behind, result_to}
 use Rattle.struct_ir.specs.Valid.{is_below_if}
-use Rattle.ir_meaning.specs.Blocks as blocks
-use Rattle.ir_meaning.specs.Blocks.{Held, missing, Own, set_at, objects_of, object_ended, all_ended}
-use Rattle.ir_meaning.specs.Threads as source
-use Rattle.ir_meaning.specs.Threads.{over, given, set_given}
+use Rattle.struct_ir.specs.meaning.Blocks as blocks
+use Rattle.struct_ir.specs.meaning.Blocks.{Held, missing, Own, set_at, objects_of, object_ended, all_ended}
+use Rattle.struct_ir.specs.meaning.Threads as source
+use Rattle.struct_ir.specs.meaning.Threads.{over, given, set_given}
 use Rattle.flat_meaning.specs.Image.{Layout, Image, stack_address}
 use Rattle.flat_meaning.specs.Words.{Words, word_at, set_if}
 use Rattle.flat_meaning.specs.Words as words

@@ -5,10 +5,10 @@ use Rattle.block_store.specs.Blocks.{Block, Blocks, live}
 use Rattle.block_store.specs.Actions as source
 use Rattle.block_store.specs.Actions.{World, with_blocks}
 use Rattle.c_tree.specs.TypedForm.{taken}
-use Rattle.defrag_move.specs.Arena.{Storage}
+use Rattle.arena_meaning.specs.Arena.{Storage}
 use Rattle.struct_ir.specs.Nodes.{Ir}
 use Rattle.struct_ir.specs.Machine.{Point}
-use Rattle.ir_meaning.specs.Blocks.{Own}
+use Rattle.struct_ir.specs.meaning.Blocks.{Own}
 use Rattle.flat_meaning.specs.Image.{Layout, Image, stack_address}
 use Rattle.flat_meaning.specs.Words.{Words, object_address}
 use Rattle.flat_meaning.specs.Memory.{Made, Memory}

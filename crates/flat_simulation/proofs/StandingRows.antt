@@ -23,14 +23,14 @@ use Rattle.handle_table.specs.Table.{IsInUse}
 use Rattle.flat_store.specs.Flat.{byte_at, with_bytes}
 use Rattle.sub_heaps.specs.declared.objects.Object.{Object}
 use Rattle.sub_heaps.specs.SubHeaps.{SubHeaps, IsApartFrom, FitsAt}
-use Rattle.move_plan.specs.Moving.{IsAllowed}
-use Rattle.defrag_move.specs.Arena.{Storage, object_of}
+use Rattle.sub_heaps.specs.Moving.{IsAllowed}
+use Rattle.arena_meaning.specs.Arena.{Storage, object_of}
 use Rattle.struct_ir.specs.Nodes.{Act, call}
 use Rattle.struct_ir.specs.Flow.{Path, entry, on}
 use Rattle.struct_ir.specs.Machine.{run_within, run}
 use Rattle.struct_ir.specs.Pins.{unlooked, looked, lacks, lacks_if, listing, facts}
 use Rattle.struct_ir.specs.Structured.{Position, done, then_, structured}
-use Rattle.ir_meaning.specs.Blocks.{Held, value, unset, Own, set_at}
+use Rattle.struct_ir.specs.meaning.Blocks.{Held, value, unset, Own, set_at}
 use Rattle.flat_meaning.specs.Words.{Words, none_used, word_at}
 use Rattle.flat_meaning.specs.Stages.{landed}
 use Rattle.flat_meaning.specs.Events.{State, first_state}

@@ -15,8 +15,8 @@ use Rattle.block_store.specs.Actions as source
 use Rattle.block_store.specs.Actions.{World}
 use Rattle.struct_ir.specs.Nodes.{Action, load, store, copy_bytes, malloc, free, print, lock, unlock, destroy, start, join, Step, Ir}
 use Rattle.struct_ir.specs.Valid.{Scope, is_piece, is_place, are_below, is_below_if, is_action, counts_of, has_counts, is_own_list, is_step}
-use Rattle.ir_meaning.specs.Blocks.{unset, Own, wrong_kind, same_type}
-use Rattle.ir_meaning.specs.Threads.{action_with, action_of, number_of, all_of, fits}
+use Rattle.struct_ir.specs.meaning.Blocks.{unset, Own, wrong_kind, same_type}
+use Rattle.struct_ir.specs.meaning.Threads.{action_with, action_of, number_of, all_of, fits}
 use Rattle.flat_meaning.specs.Image.{Layout, Image}
 use Rattle.flat_meaning.specs.Words.{Words, Target, word_at, target_of}
 use Rattle.flat_meaning.specs.Memory.{Memory}
@@ -47,7 +47,7 @@ module _ {P : Type 0} (x : Image P) (p : Ir) (thread : ℕ) (names : List Name) 
   Numbers = WordsStand names w.blocks
 
   -- what an action touches stays in what the source's reaches under the answer
-  abbrev pub Within : Choice → Action → source.Action → List Target → List ℕ → Type 0
+  abbrev pub Within : Choice → Action → source.SharedAction → List Target → List ℕ → Type 0
   Within choice a action ts ws = StaysIf names m.storage (touched_by y a ts ws m) w action (source.acted w thread (action_answer x m choice a) action)
 
   load_within : (choice : Choice) (how : Access) (at : Ptr) (ts : List Target) (ws : List ℕ) → Places (at ∷ []) ts → Numbers [] ws → Within choice (load how) (source.load at how) ts ws
@@ -75,7 +75,7 @@ module _ {P : Type 0} (x : Image P) (p : Ir) (thread : ℕ) (names : List Name) 
       subst (λ k. Within choice (copy_bytes align same) (source.copy to from (unsigned_abs n.value) align same) (a ∷ b ∷ []) (k ∷ [])) (sym is)
       (copy_stays y p names w m world thread (unsigned_abs n.value) align same to from a b goes.0 goes.1.0)
 
-  print_within : (choice : Choice) (pieces : List Piece) (ps : List Ptr) (vs : List Value) (ts : List Target) (ws : List ℕ) (action : source.Action) → list_all is_piece pieces ≡ true → Places ps ts → Numbers vs ws
+  print_within : (choice : Choice) (pieces : List Piece) (ps : List Ptr) (vs : List Value) (ts : List Target) (ws : List ℕ) (action : source.SharedAction) → list_all is_piece pieces ≡ true → Places ps ts → Numbers vs ws
       → action_with (print pieces) ps vs ≡ Ok action → Within choice (print pieces) action ts ws
   print_within choice pieces ps vs ts ws action ok goes stand e =
       let zs = ok_then (all_of number_of vs) _ action e in
@@ -113,7 +113,7 @@ module _ {P : Type 0} (x : Image P) (p : Ir) (thread : ℕ) (names : List Name) 
       subst (λ k. Within choice join (source.join (unsigned_abs n.value) to) (a ∷ []) (k ∷ [])) (sym is) (join_stays y p names w m world thread (unsigned_abs n.value) to a goes.0)
 
   -- the table of the actions
-  pub acted_within : (scope : Scope) (a : Action) (choice : Choice) (ps : List Ptr) (vs : List Value) (ts : List Target) (ws : List ℕ) (action : source.Action)
+  pub acted_within : (scope : Scope) (a : Action) (choice : Choice) (ps : List Ptr) (vs : List Value) (ts : List Target) (ws : List ℕ) (action : source.SharedAction)
       → is_action scope a ≡ true → Places ps ts → Numbers vs ws → action_with a ps vs ≡ Ok action → Within choice a action ts ws
   acted_within scope (load how) choice (at ∷ []) [] ts ws action ok goes stand e = let is : source.load at how ≡ action = cc in subst (λ a. Within choice (load how) a ts ws) is (load_within choice how at ts ws goes stand)
   acted_within scope (load how) choice ps vs ts ws action ok goes stand e = absurd cc
@@ -148,7 +148,7 @@ module _ {P : Type 0} (x : Image P) (p : Ir) (thread : ℕ) (names : List Name) 
     abbrev its_scope : Scope
     its_scope = scope x p thread names w m world l same q call frame
 
-    pub step_within : (place : ℕ) (s : Step) (choice : Choice) → is_step its_scope s ≡ true → Leads x p thread names w m world l same q call frame s → (action : source.Action) → action_of place l s ≡ Ok action
+    pub step_within : (place : ℕ) (s : Step) (choice : Choice) → is_step its_scope s ≡ true → Leads x p thread names w m world l same q call frame s → (action : source.SharedAction) → action_of place l s ≡ Ok action
         → Within choice s.action action (map (target_of q) s.places) (map (word_at q) s.temps)
     step_within place s choice ok leads action e =
         let t = step_takes x p thread names w m world l same q call frame place s action ok leads e in

@@ -17,7 +17,7 @@ use Rattle.flat_meaning.specs.Ready.{takes_room, is_malloc}
 use Rattle.flat_meaning.specs.Stages.{Stage, steps, before_here}
 use Rattle.flat_meaning.specs.Effects.{exit_of, acted}
 use Rattle.flat_meaning.specs.Allowed.{MayDo, MayAct}
-use Rattle.defrag_move.specs.Arena.{Storage}
+use Rattle.arena_meaning.specs.Arena.{Storage}
 use Rattle.flat_simulation.proofs.TurnsStand.{HasGone, HasExit}
 
 -- ---- left waiting

@@ -11,9 +11,9 @@ use Rattle.struct_ir.specs.Structured.{Position, structured}
 use Rattle.struct_ir.specs.Valid.{scope_of, is_step}
 use Rattle.struct_ir.specs.ValidCode.{is_here}
 use Rattle.struct_ir.specs.Threads.{Thread, Outcome, broke, unfit, served, stop_at}
-use Rattle.ir_meaning.specs.Blocks.{Own, Fault, broken, wrong_kind, blocks_machine}
-use Rattle.ir_meaning.specs.Threads as source
-use Rattle.ir_meaning.specs.Threads.{program_of, turned, code_of, action_of, served_if, blocks_world}
+use Rattle.struct_ir.specs.meaning.Blocks.{Own, Fault, broken, wrong_kind, blocks_machine}
+use Rattle.struct_ir.specs.meaning.Threads as source
+use Rattle.struct_ir.specs.meaning.Threads.{program_of, turned, start_in, action_of, served_if, blocks_world}
 use Rattle.flat_meaning.specs.Image.{Limits, Image, structured_image}
 use Rattle.flat_meaning.specs.Words.{Words}
 use Rattle.flat_meaning.specs.Memory.{Memory}
@@ -77,24 +77,24 @@ module _ (p : Ir) (limits : Limits) (image : IsImage (structured_image p limits)
       abbrev touched : List Touched
       touched = touched_at x.layout q.top.own m (does place (step st))
 
-      turn_is : source_turn p thread answer k w ≡ served structured (there x p image thread (code_of p) names w m world k q stand stop t) (served_if place thread answer t.own st.to (left_ t) (action_of place t.own st))
+      turn_is : source_turn p thread answer k w ≡ served structured (there x p image thread (start_in p) names w m world k q stand stop t) (served_if place thread answer t.own st.to (left_ t) (action_of place t.own st))
       turn_is =
-          turn_stops x p image thread (code_of p) names w m world k q stand stop answer t
-          ∙ ap (λ z. stop_at structured (blocks_machine p) (blocks_world p thread) (code_of p) answer (there x p image thread (code_of p) names w m world k q stand stop t) (left_ t) z) here
+          turn_stops x p image thread (start_in p) names w m world k q stand stop answer t
+          ∙ ap (λ z. stop_at structured (blocks_machine p) (blocks_world p thread) (start_in p) answer (there x p image thread (start_in p) names w m world k q stand stop t) (left_ t) z) here
 
       abbrev Reached_ : Outcome Position Own Fault World → List Reached
       Reached_ o = reached_in w t.own (does place (step st)) (Some (turned o))
 
-      done_within : (action : actions.Action) (d : actions.Done) → action_of place t.own st ≡ Ok action → source_turn p thread answer k w ≡ served structured (there x p image thread (code_of p) names w m world k q stand stop t) (source.served_by place t.own st.to d)
-          → StaysIf n m.storage touched (left_ t) action d → StaysInBlocks n m.storage touched (Reached_ (served structured (there x p image thread (code_of p) names w m world k q stand stop t) (source.served_by place t.own st.to d)))
+      done_within : (action : actions.SharedAction) (d : actions.Done) → action_of place t.own st ≡ Ok action → source_turn p thread answer k w ≡ served structured (there x p image thread (start_in p) names w m world k q stand stop t) (source.served_by place t.own st.to d)
+          → StaysIf n m.storage touched (left_ t) action d → StaysInBlocks n m.storage touched (Reached_ (served structured (there x p image thread (start_in p) names w m world k q stand stop t) (source.served_by place t.own st.to d)))
       done_within action (actions.went v to) is e stays = stays
       done_within action actions.blocked is e stays = subst (λ r. StaysInBlocks n m.storage touched (action_reads (left_ t) r)) (sym is) stays
       done_within action actions.unfit is e stays = absurd (fits e)
       done_within action (actions.broke rule) is e stays = absurd (no_fault (broken rule place) e)
 
-      its_action : (r : Result actions.Action Fault) → action_of place t.own st ≡ r → StaysInBlocks n m.storage touched (Reached_ (source_turn p thread answer k w))
+      its_action : (r : Result actions.SharedAction Fault) → action_of place t.own st ≡ r → StaysInBlocks n m.storage touched (Reached_ (source_turn p thread answer k w))
       its_action (Err f) is =
-          absurd (no_fault f (turn_is ∙ ap (λ r. served structured (there x p image thread (code_of p) names w m world k q stand stop t) (served_if place thread answer t.own st.to (left_ t) r)) is))
+          absurd (no_fault f (turn_is ∙ ap (λ r. served structured (there x p image thread (start_in p) names w m world k q stand stop t) (served_if place thread answer t.own st.to (left_ t) r)) is))
       its_action (Ok action) is =
           let world_there = stopped_world x p image thread names w m world k q stand stop t in
           let stands_there = stopped_stands x p image thread names w m world k q stand stop t in
@@ -102,8 +102,8 @@ module _ (p : Ir) (limits : Limits) (image : IsImage (structured_image p limits)
           let within = step_within x p thread n (left_ t) m world_there t.own refl q.top.own stands_there.call stand.frame place st choice ok
           (leads_there x p image thread n m.storage (record { at = q.top.at; own = t.own }) q.top world_there.blocks stands_there place st here) action is in
           let told : answer ≡ action_answer x m choice st.action = ap (answer_here x m choice) here in
-          let e : source_turn p thread answer k w ≡ served structured (there x p image thread (code_of p) names w m world k q stand stop t) (source.served_by place t.own st.to (actions.acted (left_ t) thread answer action))
-          = turn_is ∙ ap (λ r. served structured (there x p image thread (code_of p) names w m world k q stand stop t) (served_if place thread answer t.own st.to (left_ t) r)) is in
+          let e : source_turn p thread answer k w ≡ served structured (there x p image thread (start_in p) names w m world k q stand stop t) (source.served_by place t.own st.to (actions.acted (left_ t) thread answer action))
+          = turn_is ∙ ap (λ r. served structured (there x p image thread (start_in p) names w m world k q stand stop t) (served_if place thread answer t.own st.to (left_ t) r)) is in
           subst (λ o. StaysInBlocks n m.storage touched (Reached_ o)) (sym e)
           (done_within action (actions.acted (left_ t) thread answer action) is e (subst (λ a. StaysIf n m.storage touched (left_ t) action (actions.acted (left_ t) thread a action)) (sym told) within))
 
@@ -128,7 +128,7 @@ module _ (p : Ir) (limits : Limits) (image : IsImage (structured_image p limits)
     pub step_reaches : before x q ≡ steps → StepReaches x p names u m (pick thread answer) k q
     step_reaches at = elim (stops_or_breaks x p image thread names w m world k q stand stop) [
       | inl t ↦ reaches t
-      | inr b ↦ absurd (no_fault b.0 (turn_breaks x p image thread (code_of p) names w m world k q stand stop answer b.0 b.1))
+      | inr b ↦ absurd (no_fault b.0 (turn_breaks x p image thread (start_in p) names w m world k q stand stop answer b.0 b.1))
     ]
       where
         reaches : Stop → StepReaches x p names u m (pick thread answer) k q

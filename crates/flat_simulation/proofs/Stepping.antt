@@ -14,8 +14,8 @@ use Rattle.struct_ir.specs.Machine.{Point, run}
 use Rattle.struct_ir.specs.Threads.{Thread, Outcome, ended, broke, alone, and_then, served, finished, stop_at, stop_event, left_call, turn}
 use Rattle.struct_ir.specs.Valid.{scope_of, is_below_if, is_step}
 use Rattle.struct_ir.specs.ValidCode.{is_here}
-use Rattle.ir_meaning.specs.Blocks.{value, Own, Fault, wrong_kind, same_type, blocks_machine}
-use Rattle.ir_meaning.specs.Threads.{action_of, served_if, result_of, int_in, finished_with, over, blocks_world}
+use Rattle.struct_ir.specs.meaning.Blocks.{value, Own, Fault, wrong_kind, same_type, blocks_machine}
+use Rattle.struct_ir.specs.meaning.Threads.{action_of, served_if, result_of, int_in, finished_with, over, blocks_world}
 use Rattle.flat_words.specs.Words.{word_of}
 use Rattle.flat_meaning.specs.Image.{Image}
 use Rattle.flat_meaning.specs.Words.{Words, word_at}
@@ -79,7 +79,7 @@ module _ {P : Type 0} (x : Image P) (p : Ir) (image : IsImage x p) (thread : ℕ
     words_stop : stop_of x thread choice q m ≡ stop_at x.flow (words_machine x.layout thread) (words_world x.layout thread) x.start choice q m (does place (step st))
     words_stop = ap (λ h. stop_at x.flow (words_machine x.layout thread) (words_world x.layout thread) x.start choice q m h) here
 
-    by_action : (t : Stop) (r : Result actions.Action Fault) → action_of place t.own st ≡ r
+    by_action : (t : Stop) (r : Result actions.SharedAction Fault) → action_of place t.own st ≡ r
         → TurnsAlike x p thread t.made_names (chosen_id choice) (own_list st) (left_ t) m (served x.flow (there t) (served_if place thread (action_answer x m choice st.action) t.own st.to (left_ t) r))
         (stop_at x.flow (words_machine x.layout thread) (words_world x.layout thread) x.start choice q m (does place (step st)))
     by_action t (Err f) e = tt

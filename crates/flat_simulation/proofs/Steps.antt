@@ -14,14 +14,14 @@ use Rattle.block_store.specs.declared.values.Value.{Value}
 use Rattle.block_store.specs.declared.values.Value.TheVariants as values
 use Rattle.block_store.specs.Actions as source
 use Rattle.block_store.specs.Actions.{World}
-use Rattle.defrag_move.specs.Arena.{Storage}
+use Rattle.arena_meaning.specs.Arena.{Storage}
 use Rattle.struct_ir.specs.Nodes.{Place, Action, load, store, copy_bytes, malloc, free, print, lock, unlock, destroy, start, join, Step, Func, Ir}
 use Rattle.struct_ir.specs.Valid.{Scope, scope_of, has_params, is_piece, is_place, are_below, is_below_if, is_action, counts_of, has_counts, is_own_list, is_step}
 use Rattle.struct_ir.specs.Pins.{Among}
 use Rattle.c_tree.specs.TypedPrinting.{parts}
 use Rattle.c_tree.specs.Typed.{Piece}
-use Rattle.ir_meaning.specs.Blocks.{value, unset, Own, wrong_kind, same_type, known}
-use Rattle.ir_meaning.specs.Threads.{action_with, action_of, if_count, number_of, all_of, address_of, fits}
+use Rattle.struct_ir.specs.meaning.Blocks.{value, unset, Own, wrong_kind, same_type, known}
+use Rattle.struct_ir.specs.meaning.Threads.{action_with, action_of, if_count, number_of, all_of, address_of, fits}
 use Rattle.flat_meaning.specs.Image.{Layout, Image}
 use Rattle.flat_meaning.specs.Words.{Words, Target, word_at, base_address, target_of}
 use Rattle.flat_meaning.specs.Memory.{Memory}
@@ -57,7 +57,7 @@ there_is p function n e = by_func (slice_get p.funcs function) refl (ap (λ o. h
 
 -- ---- operands of the kinds that an action takes
 
-pub counted : (n : Num) (action chosen : source.Action) → if_count n action ≡ Ok chosen → (same_type unsigned_long n.ty ≡ true) × (action ≡ chosen)
+pub counted : (n : Num) (action chosen : source.SharedAction) → if_count n action ≡ Ok chosen → (same_type unsigned_long n.ty ≡ true) × (action ≡ chosen)
 counted n action chosen e = if_ok (same_type unsigned_long n.ty) action chosen wrong_kind e
 
 -- what may be chosen, by the words
@@ -91,7 +91,7 @@ module _ {P : Type 0} (x : Image P) (p : Ir) (thread : ℕ) (names : List Name) 
   Numbers = WordsStand names w.blocks
 
   -- what comes of a source's action under the answer, and of the machine's
-  abbrev pub Alike : Choice → Action → source.Action → List Target → List ℕ → Type 0
+  abbrev pub Alike : Choice → Action → source.SharedAction → List Target → List ℕ → Type 0
   Alike choice a action ts ws = DoneAlike y p names (chosen_id choice) w m (source.acted w thread (action_answer x m choice a) action) (words.acted y thread choice a ts ws m)
 
   load_alike : (how : Access) (at : Ptr) (ts : List Target) (ws : List ℕ) → Places (at ∷ []) ts → Numbers [] ws → Alike plain (load how) (source.load at how) ts ws
@@ -125,7 +125,7 @@ module _ {P : Type 0} (x : Image P) (p : Ir) (thread : ℕ) (names : List Name) 
   free_alike at [] (u ∷ t ∷ ws) goes stand = absurd stand.1
   free_alike at [] (u ∷ []) goes stand = free_done y p names w m world thread u at stand.0
 
-  print_alike : (pieces : List Piece) (ps : List Ptr) (vs : List Value) (ts : List Target) (ws : List ℕ) (action : source.Action) → list_all is_piece pieces ≡ true → Places ps ts → Numbers vs ws
+  print_alike : (pieces : List Piece) (ps : List Ptr) (vs : List Value) (ts : List Target) (ws : List ℕ) (action : source.SharedAction) → list_all is_piece pieces ≡ true → Places ps ts → Numbers vs ws
       → action_with (print pieces) ps vs ≡ Ok action → Alike plain (print pieces) action ts ws
   print_alike pieces ps vs ts ws action ok goes stand e =
       let zs = ok_then (all_of number_of vs) _ action e in
@@ -192,11 +192,11 @@ module _ {P : Type 0} (x : Image P) (p : Ir) (thread : ℕ) (names : List Name) 
       subst (λ k. Alike choice malloc (source.allocate (unsigned_abs n.value) Unknown) [] (k ∷ [])) (sym is) (malloc_chosen (unsigned_abs n.value) choice (subst (λ k. MayGet m.storage k choice) is may) not_waiting)
 
   -- with a choice that an action takes of which nothing is chosen
-  plainly : (choice : Choice) (a : Action) (action : source.Action) (ts : List Target) (ws : List ℕ) → choice ≡ plain → Alike plain a action ts ws → Alike choice a action ts ws
+  plainly : (choice : Choice) (a : Action) (action : source.SharedAction) (ts : List Target) (ws : List ℕ) → choice ≡ plain → Alike plain a action ts ws → Alike choice a action ts ws
   plainly choice a action ts ws is alike = subst (λ c. Alike c a action ts ws) (sym is) alike
 
   -- the table of the actions
-  pub acted_alike : (scope : Scope) → scope.params ≡ map {A = Func} {B = ℕ} (λ g. g.params) p.funcs → (a : Action) (choice : Choice) (ps : List Ptr) (vs : List Value) (ts : List Target) (ws : List ℕ) (action : source.Action)
+  pub acted_alike : (scope : Scope) → scope.params ≡ map {A = Func} {B = ℕ} (λ g. g.params) p.funcs → (a : Action) (choice : Choice) (ps : List Ptr) (vs : List Value) (ts : List Target) (ws : List ℕ) (action : source.SharedAction)
       → is_action scope a ≡ true → Places ps ts → Numbers vs ws → MayTake m.storage choice a ws → (choice ≡ wait → ⊥) → action_with a ps vs ≡ Ok action → Alike choice a action ts ws
   acted_alike scope params (load how) choice (at ∷ []) [] ts ws action ok goes stand may not_waiting e =
       let is : source.load at how ≡ action = cc in
@@ -251,14 +251,14 @@ module _ {P : Type 0} (x : Image P) (p : Ir) (thread : ℕ) (names : List Name) 
     Leads s = (a : Place) → Among s.places a → (from : Ptr) → l.temps a.base ≡ value (values.Pointer from) → GoesTo names l.blocks m.storage from (base_address q a.base a.slot)
 
     -- the operands of a step that has an action
-    pub record StepTakes (place : ℕ) (s : Step) (action : source.Action) : Type 0 where
+    pub record StepTakes (place : ℕ) (s : Step) (action : source.SharedAction) : Type 0 where
       pub places : List Ptr
       pub vs : List Value
       pub is_action : action_with s.action places vs ≡ Ok action
       pub targets : TargetsStand names w.blocks m.storage places (map (target_of q) s.places)
       pub numbers : WordsStand names w.blocks vs (map (word_at q) s.temps)
 
-    pub step_takes : (place : ℕ) (s : Step) (action : source.Action) → is_step scope s ≡ true → Leads s → action_of place l s ≡ Ok action → StepTakes place s action
+    pub step_takes : (place : ℕ) (s : Step) (action : source.SharedAction) → is_step scope s ≡ true → Leads s → action_of place l s ≡ Ok action → StepTakes place s action
     step_takes place s action ok leads e =
         let sees : Sees names AnyBlock l.blocks = subst (λ b. Sees names AnyBlock b) (sym same) (sees_all names w.blocks m.storage world.blocks.consistent world.blocks.names_stand) in
         let front = and_parts (list_all (is_place scope) s.places) _ (and_parts (list_all (is_place scope) s.places && (are_below scope.temps s.temps && is_below_if scope.temps s.to)) _ ok).0 in
@@ -273,7 +273,7 @@ module _ {P : Type 0} (x : Image P) (p : Ir) (thread : ℕ) (names : List Name) 
           numbers = subst (λ b. WordsStand names b vs.0 (map (word_at q) s.temps)) same (words_stand y p scope thread place names l q call frame.temps m.storage sees s.temps vs.0 below.0 vs.1);
         }
 
-    pub step_alike : (place : ℕ) (s : Step) (choice : Choice) → is_step scope s ≡ true → Leads s → MayDo m.storage q choice s.action s.temps → (choice ≡ wait → ⊥) → (action : source.Action) → action_of place l s ≡ Ok action
+    pub step_alike : (place : ℕ) (s : Step) (choice : Choice) → is_step scope s ≡ true → Leads s → MayDo m.storage q choice s.action s.temps → (choice ≡ wait → ⊥) → (action : source.SharedAction) → action_of place l s ≡ Ok action
         → Alike choice s.action action (map (target_of q) s.places) (map (word_at q) s.temps)
     step_alike place s choice ok leads may not_waiting action e =
         let t = step_takes place s action ok leads e in

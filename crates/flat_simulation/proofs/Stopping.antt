@@ -1,13 +1,13 @@
 -- Where a thread over words stands at the end of a turn, the other comes there from the turn's start, or breaks a rule before.
 use Rattle.std.proofs.Common.{◌≡◌, ℕ, ◌+◌, List, [], length, true, Ok, Err, refl, sym, ap, ◌∙◌, ◌⊎◌, inl, inr}
 use Rattle.block_store.specs.Actions.{World, with_blocks}
-use Rattle.defrag_move.specs.Arena.{Storage}
+use Rattle.arena_meaning.specs.Arena.{Storage}
 use Rattle.struct_ir.specs.Nodes.{Ir}
 use Rattle.struct_ir.specs.Flow.{Here, does, tests, passes, round, returns}
 use Rattle.struct_ir.specs.Machine.{Point, stops, stopped_or, acted, ahead_at, ahead, run, IsRun}
 use Rattle.struct_ir.specs.Threads.{Thread}
 use Rattle.struct_ir.proofs.Runs.{runs_are_steps}
-use Rattle.ir_meaning.specs.Blocks.{Own, Fault, ends_turn, blocks_machine}
+use Rattle.struct_ir.specs.meaning.Blocks.{Own, Fault, ends_turn, blocks_machine}
 use Rattle.flat_meaning.specs.Image.{Image, stack_address}
 use Rattle.flat_meaning.specs.Words.{Words}
 use Rattle.flat_meaning.specs.Memory.{Memory}

@@ -14,7 +14,7 @@ use Rattle.block_store.specs.Blocks.{Block, Blocks, live}
 use Rattle.block_store.specs.Texts as source
 use Rattle.block_store.specs.Texts.{behind_byte, text_of}
 use Rattle.flat_store.specs.Flat.{first_address}
-use Rattle.defrag_move.specs.Arena.{Storage}
+use Rattle.arena_meaning.specs.Arena.{Storage}
 use Rattle.flat_meaning.specs.Names.{Name, name_of, address_for}
 use Rattle.flat_meaning.specs.Printing.{Read, reads, outside, too_long, behind, text_in, text_at}
 use Rattle.flat_simulation.specs.inner.Cells.{RowStands}

@@ -13,7 +13,7 @@ use Rattle.block_store.specs.declared.values.Ptr.TheVariants.{Null, To}
 use Rattle.block_store.specs.declared.values.Value.{Value}
 use Rattle.block_store.specs.declared.values.Value.TheVariants as values
 use Rattle.block_store.specs.Blocks as blocks
-use Rattle.block_store.specs.Blocks.{Blocks, Spot, spot_at, range_at, copied_between}
+use Rattle.block_store.specs.Blocks.{Blocks, Range, spot_at, range_at, copied_between}
 use Rattle.block_store.specs.Cells.{size_of, access_of, cells_of}
 use Rattle.block_store.specs.Mutexes as mutexes
 use Rattle.block_store.specs.Mutexes.{mutex_at}
@@ -51,7 +51,7 @@ module _ (y : Layout) (p : Ir) (names : List Name) (w : World) (m : Memory) (wor
   Goes = TargetStands names w.blocks m.storage
 
   -- the bytes of a range that was found
-  range_stays : (writes : Bool) (size : ℕ) (at : Ptr) (spot : Spot) (a : ℕ) → 0 < size → IsFound w.blocks size at spot → GoesTo names w.blocks m.storage at a
+  range_stays : (writes : Bool) (size : ℕ) (at : Ptr) (spot : Range) (a : ℕ) → 0 < size → IsFound w.blocks size at spot → GoesTo names w.blocks m.storage at a
       → Stay (record { address = a; bytes = size; writes = writes } ∷ []) (bytes_at writes size at)
   range_stays writes size at spot a some is goes =
       subst (λ r. Stay (record { address = a; bytes = size; writes = writes } ∷ []) (bytes_at writes size r)) (sym is.is)
@@ -167,7 +167,7 @@ module _ (y : Layout) (p : Ir) (names : List Name) (w : World) (m : Memory) (wor
       by_result (Err rule) e = tt
 
   -- what touches nothing
-  pub untouched_stays : (action : source.Action) (d : source.Done) → StaysIf names m.storage [] w action d
+  pub untouched_stays : (action : source.SharedAction) (d : source.Done) → StaysIf names m.storage [] w action d
   untouched_stays action (source.went v to) = nothing_stays names m.storage _
   untouched_stays action source.blocked = nothing_stays names m.storage _
   untouched_stays action source.unfit = tt
@@ -201,12 +201,12 @@ module _ (y : Layout) (p : Ir) (names : List Name) (w : World) (m : Memory) (wor
       → StaysIf names m.storage (touched_by y join (a ∷ []) (number ∷ []) m) w (source.join number to) (source.acted w thread answers.Plain (source.join number to))
   join_stays thread number to a goes = by_self (thread == number)
     where
-      by_stored : (t : source.Thread) (z : ℤ) (word : ℕ) (r : Result Blocks Rule) → source.stored_unless_null w.blocks to z ≡ r
+      by_stored : (t : source.ThreadRecord) (z : ℤ) (word : ℕ) (r : Result Blocks Rule) → source.stored_unless_null w.blocks to z ≡ r
           → StaysIf names m.storage (result_writes a (Some word)) w (source.join number to) (telling (reads_of w (source.join number to) ++ writes_of answers.Plain (source.join number to)) (source.joins w number z r))
       by_stored t z word (Ok later) e = result_stays z word to a later goes e
       by_stored t z word (Err rule) e = tt
 
-      by_stage : (t : source.Thread) (u : Made) (stage : Stage) → t.stage ≡ stage → MadeStands names w.blocks t u
+      by_stage : (t : source.ThreadRecord) (u : Made) (stage : Stage) → t.stage ≡ stage → MadeStands names w.blocks t u
           → StaysIf names m.storage (result_writes a u.result) w (source.join number to) (telling (reads_of w (source.join number to) ++ writes_of answers.Plain (source.join number to)) (source.joins_at w number to stage))
       by_stage t u running at stands =
           let none : u.result ≡ None = subst (λ s. ResultStands s u.result) at stands.result in
@@ -217,7 +217,7 @@ module _ (y : Layout) (p : Ir) (names : List Name) (w : World) (m : Memory) (wor
           (by_stored t z (word_of z) (source.stored_unless_null w.blocks to z) refl)
       by_stage t u (joined z) at stands = tt
 
-      by_thread : (o : Option source.Thread) → slice_get w.threads number ≡ o
+      by_thread : (o : Option source.ThreadRecord) → slice_get w.threads number ≡ o
           → StaysIf names m.storage (join_writes a (slice_get m.threads number)) w (source.join number to) (telling (reads_of w (source.join number to) ++ writes_of answers.Plain (source.join number to)) (source.joins_if w number to o))
       by_thread None e = tt
       by_thread (Some t) e =

@@ -8,9 +8,9 @@ use Rattle.block_store.specs.declared.values.Cell.TheVariants.{Unknown}
 use Rattle.block_store.specs.Blocks.{Block, Blocks, live, is_heap}
 use Rattle.c_tree.specs.TypedForm.{taken}
 use Rattle.flat_store.specs.Flat.{byte_at}
-use Rattle.defrag_move.specs.Arena.{Storage}
+use Rattle.arena_meaning.specs.Arena.{Storage}
 use Rattle.struct_ir.specs.Nodes.{Ir}
-use Rattle.ir_meaning.specs.Blocks.{Own}
+use Rattle.struct_ir.specs.meaning.Blocks.{Own}
 use Rattle.flat_meaning.specs.Image.{Layout}
 use Rattle.flat_meaning.specs.Words.{Words, object_address}
 use Rattle.flat_meaning.specs.Names.{Name, heap, plain, name_of, address_for, Apart, Owns, LiesAt}

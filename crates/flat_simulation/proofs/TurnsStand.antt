@@ -10,9 +10,9 @@ use Rattle.block_store.specs.Runs.{Pick, Run, reaches, own_at, picked, turn_if, 
 use Rattle.struct_ir.specs.Nodes.{Ir}
 use Rattle.struct_ir.specs.Structured.{Position}
 use Rattle.struct_ir.specs.Threads.{Thread, Outcome, went, ended, blocked, broke, unfit}
-use Rattle.ir_meaning.specs.Blocks.{Own, Fault, broken, wrong_kind}
-use Rattle.ir_meaning.specs.Start.{start}
-use Rattle.ir_meaning.specs.Threads.{program_of, turned}
+use Rattle.struct_ir.specs.meaning.Blocks.{Own, Fault, broken, wrong_kind}
+use Rattle.struct_ir.specs.meaning.Start.{start}
+use Rattle.struct_ir.specs.meaning.Threads.{program_of, turned}
 use Rattle.flat_meaning.specs.Image.{Limits, Image, structured_image}
 use Rattle.flat_meaning.specs.Words.{Words}
 use Rattle.flat_meaning.specs.Memory.{Memory}

@@ -8,8 +8,8 @@ use Rattle.block_store.specs.declared.values.Ptr.{Ptr}
 use Rattle.block_store.specs.declared.values.Ptr.TheVariants.{Null, To}
 use Rattle.block_store.specs.declared.values.Value.TheVariants as values
 use Rattle.block_store.specs.Blocks.{Block, Blocks, live}
-use Rattle.ir_meaning.specs.Blocks.{Held, value, unset, missing}
-use Rattle.defrag_move.specs.Arena.{Storage}
+use Rattle.struct_ir.specs.meaning.Blocks.{Held, value, unset, missing}
+use Rattle.arena_meaning.specs.Arena.{Storage}
 use Rattle.flat_meaning.specs.Names.{Name, word_for, PointerAgrees, Agrees, ByteAgrees, CellsStand}
 use Rattle.flat_simulation.specs.inner.Aged.{Aged}
 use Rattle.flat_simulation.specs.inner.Values.{Points, PointerStands, Stands}

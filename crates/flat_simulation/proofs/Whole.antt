@@ -4,8 +4,8 @@ use Rattle.block_store.specs.Runs as runs
 use Rattle.block_store.specs.Runs.{Run, reaches, breaks, no_run}
 use Rattle.struct_ir.specs.Nodes.{Ir}
 use Rattle.struct_ir.specs.Structured.{Position}
-use Rattle.ir_meaning.specs.Start.{start}
-use Rattle.ir_meaning.specs.Threads.{program_of, code_of}
+use Rattle.struct_ir.specs.meaning.Start.{start}
+use Rattle.struct_ir.specs.meaning.Threads.{program_of, start_in}
 use Rattle.flat_meaning.specs.Image.{Limits, Image, limits_for, structured_image}
 use Rattle.flat_meaning.specs.Events.{after_all, first_state}
 use Rattle.flat_meaning.specs.Order.{order_of}
@@ -31,7 +31,7 @@ events_keep p limits image = record {
     goes = λ can none. goes_on (structured_image p limits) p image thread names w m world k g stand can none;
     ends = λ can one. ends (structured_image p limits) p image thread names w m world k g stand can one;
     looks_on = λ at. looks_on (structured_image p limits) p image thread names w m world k g stand at;
-    acts = λ choice at may not_waiting. stage_acts (structured_image p limits) p image thread (code_of p) names w m world k g stand choice at may not_waiting;
+    acts = λ choice at may not_waiting. stage_acts (structured_image p limits) p image thread (start_in p) names w m world k g stand choice at may not_waiting;
   };
   moves = λ names u s plan stand all legal. state_moved (structured_image p limits) p image names u s plan stand all legal;
 }

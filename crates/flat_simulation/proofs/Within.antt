@@ -3,14 +3,14 @@ use Rattle.std.proofs.Common.{◌≡◌, ℕ, ◌<◌, List, length, Bool, true,
 use Rattle.std.specs.Prelude.{nat_lt, not, ◌==◌}
 use Rattle.std.proofs.lemmas.Bool.{ltb-true, and_parts}
 use Rattle.block_store.specs.Blocks.{Blocks}
-use Rattle.defrag_move.specs.Arena.{Storage}
+use Rattle.arena_meaning.specs.Arena.{Storage}
 use Rattle.struct_ir.specs.Nodes.{Calc, Act, set, call, step, look, safepoint, begin_object, end_object, assigned_by, Ir}
 use Rattle.struct_ir.specs.Flow.{Here, does, tests, passes, round, returns}
 use Rattle.struct_ir.specs.Machine.{Point, Ahead, goes, stops, breaks, acted, tested, stopped_or, ahead_at, ahead}
 use Rattle.struct_ir.specs.Valid.{scope_of, is_calc}
 use Rattle.struct_ir.specs.ValidCode.{is_here}
-use Rattle.ir_meaning.specs.Blocks as source
-use Rattle.ir_meaning.specs.Blocks.{Held, Fault, Own, set_at, with_temps, calculated, assigned, begun, object_ended, known, on_value, way_of, ends_turn, blocks_machine}
+use Rattle.struct_ir.specs.meaning.Blocks as source
+use Rattle.struct_ir.specs.meaning.Blocks.{Held, Fault, Own, set_at, with_temps, calculated, assigned, begun, object_ended, known, on_value, way_of, ends_turn, blocks_machine}
 use Rattle.flat_meaning.specs.Image.{Image}
 use Rattle.flat_meaning.specs.Words.{Words, word_at}
 use Rattle.flat_meaning.specs.Words as words

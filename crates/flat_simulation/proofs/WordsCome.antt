@@ -3,20 +3,20 @@ use Rattle.std.proofs.Common.{◌≡◌, ℕ, zero, suc, ◌+◌, ◌<◌, List,
 use Rattle.std.specs.Prelude.{set as with_own, slice_get, drop, if◌then◌else◌}
 use Rattle.std.proofs.lemmas.Bool.{cases_eq, eqb-true, and_parts}
 use Rattle.block_store.specs.Runs.{own_at}
-use Rattle.defrag_move.specs.Arena.{Storage}
+use Rattle.arena_meaning.specs.Arena.{Storage}
 use Rattle.struct_ir.specs.Nodes.{Action, load, store, copy_bytes, malloc, free, print, lock, unlock, destroy, start, join, Place, Step, set, call, step, look, safepoint, begin_object, end_object, no_nodes, Func, Ir}
 use Rattle.struct_ir.specs.Flow.{Here, does, tests, passes, round, returns, Path, entry, on}
 use Rattle.struct_ir.specs.Machine as machines
 use Rattle.struct_ir.specs.Machine.{Machine, run}
 use Rattle.struct_ir.specs.Structured.{Position, done, then_, nodes_of, structured}
-use Rattle.struct_ir.specs.Threads.{World, Thread, Outcome, went, ended, blocked, broke, unfit, served, stop_at, AllCome, IfWent, KeepsWays}
+use Rattle.struct_ir.specs.Threads.{Environment, Thread, Outcome, went, ended, blocked, broke, unfit, served, stop_at, AllCome, IfWent, KeepsWays}
 use Rattle.struct_ir.specs.Valid.{Scope, scope_of, is_step, counts_of}
 use Rattle.struct_ir.specs.ValidCode.{is_here}
 use Rattle.struct_ir.proofs.Sizes.{structured_shrinks}
 use Rattle.struct_ir.proofs.Runs.{ways_are_paths}
 use Rattle.struct_ir.proofs.Threads.{events_keep_ways}
-use Rattle.ir_meaning.specs.Threads.{code_of}
-use Rattle.flat_meaning.specs.declared.endings.End.TheVariants as ends
+use Rattle.struct_ir.specs.meaning.Threads.{start_in}
+use Rattle.ak_trace.specs.declared.endings.End.TheVariants as ends
 use Rattle.flat_meaning.specs.Image.{Limits, Image, structured_image}
 use Rattle.handle_words.specs.Handle.{handle_of}
 use Rattle.flat_meaning.specs.Words.{Words, word_at, target_of, set_if}
@@ -38,7 +38,7 @@ module _ (p : Ir) (limits : Limits) where
   x = structured_image p limits
 
   abbrev pub Comes : ℕ → Thread Position Words → Type 0
-  Comes thread t = AllCome structured (words_machine x.layout thread) (code_of p) t
+  Comes thread t = AllCome structured (words_machine x.layout thread) (start_in p) t
 
   -- by the stage
   abbrev pub StageComes : ℕ → Option (Stage Position) → Type 0
@@ -59,8 +59,8 @@ module _ (p : Ir) (limits : Limits) where
   StateComes s = (thread : ℕ) → StageComes thread (own_at s.own thread)
 
   module _ (thread : ℕ) where
-    ways : KeepsWays structured (words_machine x.layout thread) (words_world x.layout thread) (code_of p)
-    ways = events_keep_ways _ _ _ _ _ structured structured_shrinks (words_machine x.layout thread) (words_world x.layout thread) (code_of p)
+    ways : KeepsWays structured (words_machine x.layout thread) (words_world x.layout thread) (start_in p)
+    ways = events_keep_ways _ _ _ _ _ structured structured_shrinks (words_machine x.layout thread) (words_world x.layout thread) (start_in p)
 
     if_went : (o : Outcome Position Words Fault Memory) (t : Thread Position Words) (m : Memory) → o ≡ went t m → IfWent (Comes thread) o → Comes thread t
     if_went o t m e h = subst (λ z. IfWent (Comes thread) z) e h
@@ -231,7 +231,7 @@ module _ (p : Ir) (limits : Limits) where
     no_step k place s (inr e) h = let z : returns None ≡ does place (step s) = sym (ap structured.here e) ∙ h in absurd cc
 
     -- what stands there is in range
-    here_valid : (function : ℕ) (w : List Position) (k : Position) → Path structured (code_of p function) w k → (place : ℕ) (s : Step) → structured.here k ≡ does place (step s)
+    here_valid : (function : ℕ) (w : List Position) (k : Position) → Path structured (start_in p function) w k → (place : ℕ) (s : Step) → structured.here k ≡ does place (step s)
         → (o : Option Func) → slice_get p.funcs function ≡ o → (z : Scope) × (is_step z s ≡ true)
     here_valid function w k path place s h None e =
         absurd (no_step k place s (none_path w k (subst (λ o. Path structured (then_ (nodes_of o) done) w k) e path)) h)
@@ -239,7 +239,7 @@ module _ (p : Ir) (limits : Limits) where
 
     step_valid : (thread : ℕ) (t : Thread Position Words) → Comes thread t → (place : ℕ) (s : Step) → structured.here t.top.at ≡ does place (step s) → (z : Scope) × (is_step z s ≡ true)
     step_valid thread t c place s h =
-        here_valid c.top.function c.top.way t.top.at (ways_are_paths _ _ _ structured (words_machine x.layout thread) (code_of p c.top.function) c.top.way t.top c.top.comes) place s h (slice_get p.funcs c.top.function) refl
+        here_valid c.top.function c.top.way t.top.at (ways_are_paths _ _ _ structured (words_machine x.layout thread) (start_in p c.top.function) c.top.way t.top c.top.comes) place s h (slice_get p.funcs c.top.function) refl
 
     no_places : (z : Scope) (s : Step) → is_step z s ≡ true → s.action ≡ malloc → s.places ≡ []
     no_places z s e is =
@@ -272,7 +272,7 @@ module _ (p : Ir) (limits : Limits) where
       pub record Takes (h : Here) : Type 0 where
         pub behind : Thread Position Words
         pub memory : Memory
-        pub is : stop_at structured (words_machine x.layout thread) (words_world x.layout thread) (code_of p) (got id place) t m h ≡ went behind memory
+        pub is : stop_at structured (words_machine x.layout thread) (words_world x.layout thread) (start_in p) (got id place) t m h ≡ went behind memory
 
       malloc_takes : (at : ℕ) (s : Step) (size : ℕ) → s.action ≡ malloc → s.temps ≡ size ∷ [] → s.places ≡ [] → Takes (does at (step s))
       malloc_takes at s size e f g =

@@ -9,8 +9,8 @@ use Rattle.struct_ir.specs.Flow.{Here, does, tests, passes, round, returns}
 use Rattle.struct_ir.specs.Structured.{Position, structured}
 use Rattle.struct_ir.specs.Machine.{Point}
 use Rattle.struct_ir.specs.Threads.{Thread, Outcome, went, ended, blocked, broke, unfit, served, finished, if_fits, left_call, stop_at, stop_event, local_event, and_then}
-use Rattle.ir_meaning.specs.Blocks.{Own, Fault, wrong_kind, blocks_machine}
-use Rattle.ir_meaning.specs.Threads.{blocks_world, code_of, is_plain, served_by, served_if, action_of, result_of, finished_with, over, program_of, turned}
+use Rattle.struct_ir.specs.meaning.Blocks.{Own, Fault, wrong_kind, blocks_machine}
+use Rattle.struct_ir.specs.meaning.Threads.{blocks_world, start_in, is_plain, served_by, served_if, action_of, result_of, finished_with, over, program_of, turned}
 use Rattle.flat_simulation.specs.inner.Kept.{source_turn}
 
 abbrev IsWrong : Outcome Position Own Fault World → Type 0
@@ -34,7 +34,7 @@ module _ (p : Ir) (thread : ℕ) where
   finish_wrong place l to (actions.broke rule) e = cc
 
   module _ (one other : Answer) where
-    step_wrong : (t : Thread Position Own) (place : ℕ) (l : Own) (to : Option ℕ) (w : World) (r : Result actions.Action Fault) → IsWrong (served structured t (served_if place thread one l to w r)) → IsWrong (served structured t (served_if place thread other l to w r))
+    step_wrong : (t : Thread Position Own) (place : ℕ) (l : Own) (to : Option ℕ) (w : World) (r : Result actions.SharedAction Fault) → IsWrong (served structured t (served_if place thread one l to w r)) → IsWrong (served structured t (served_if place thread other l to w r))
     step_wrong t place l to w (Ok action) e = absurd (done_wrong t place l to _ e)
     step_wrong t place l to w (Err f) e = e
 
@@ -42,7 +42,7 @@ module _ (p : Ir) (thread : ℕ) where
     result_wrong l w blocks (Ok z) e = absurd (finish_wrong 0 l None _ e)
     result_wrong l w blocks (Err f) e = e
 
-    act_wrong : (t : Thread Position Own) (w : World) (place : ℕ) (a : Act) → IsWrong (stop_at structured (blocks_machine p) (blocks_world p thread) (code_of p) one t w (does place a)) → IsWrong (stop_at structured (blocks_machine p) (blocks_world p thread) (code_of p) other t w (does place a))
+    act_wrong : (t : Thread Position Own) (w : World) (place : ℕ) (a : Act) → IsWrong (stop_at structured (blocks_machine p) (blocks_world p thread) (start_in p) one t w (does place a)) → IsWrong (stop_at structured (blocks_machine p) (blocks_world p thread) (start_in p) other t w (does place a))
     act_wrong t w place (set to calc) e = absurd cc
     act_wrong t w place (call c) e = absurd (if_wrong (is_plain one) _ _ e)
     act_wrong t w place (step s) e = step_wrong t place t.top.own s.to w (action_of place t.top.own s) e
@@ -55,14 +55,14 @@ module _ (p : Ir) (thread : ℕ) where
     left_wrong l temp w [] e = result_wrong l w (over p l).blocks (result_of l temp) e
     left_wrong l temp w (c ∷ cs) e = absurd (if_wrong (is_plain one) _ _ e)
 
-    here_wrong : (t : Thread Position Own) (w : World) (h : Here) → IsWrong (stop_at structured (blocks_machine p) (blocks_world p thread) (code_of p) one t w h) → IsWrong (stop_at structured (blocks_machine p) (blocks_world p thread) (code_of p) other t w h)
+    here_wrong : (t : Thread Position Own) (w : World) (h : Here) → IsWrong (stop_at structured (blocks_machine p) (blocks_world p thread) (start_in p) one t w h) → IsWrong (stop_at structured (blocks_machine p) (blocks_world p thread) (start_in p) other t w h)
     here_wrong t w (does place a) e = act_wrong t w place a e
     here_wrong t w (tests place temp) e = absurd cc
     here_wrong t w passes e = absurd cc
     here_wrong t w round e = absurd (if_wrong (is_plain one) _ _ e)
     here_wrong t w (returns temp) e = left_wrong t.top.own temp w t.callers e
 
-    then_wrong : (o : Outcome Position Own Fault World) → IsWrong (and_then o (stop_event structured (blocks_machine p) (blocks_world p thread) (code_of p) one)) → IsWrong (and_then o (stop_event structured (blocks_machine p) (blocks_world p thread) (code_of p) other))
+    then_wrong : (o : Outcome Position Own Fault World) → IsWrong (and_then o (stop_event structured (blocks_machine p) (blocks_world p thread) (start_in p) one)) → IsWrong (and_then o (stop_event structured (blocks_machine p) (blocks_world p thread) (start_in p) other))
     then_wrong (went t w) e = here_wrong t w (structured.here t.top.at) e
     then_wrong (ended l w) e = absurd cc
     then_wrong blocked e = absurd cc

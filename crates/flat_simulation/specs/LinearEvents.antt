@@ -5,9 +5,9 @@ use Rattle.sub_heaps.specs.SubHeaps.{IsShape}
 use Rattle.struct_ir.specs.Nodes.{Ir}
 use Rattle.struct_ir.specs.Instrs.{LinearCode}
 use Rattle.struct_ir.specs.Lawful.{AllLawful}
-use Rattle.emit_code.specs.Emitted.{IsEmitted}
-use Rattle.ir_meaning.specs.Start.{start}
-use Rattle.ir_meaning.specs.Threads.{program_of}
+use Rattle.struct_ir.specs.Emitted.{IsEmitted}
+use Rattle.struct_ir.specs.meaning.Start.{start}
+use Rattle.struct_ir.specs.meaning.Threads.{program_of}
 use Rattle.flat_meaning.specs.Image.{Limits, limits_for, structured_image, linear_image}
 use Rattle.flat_meaning.specs.Events.{Event, after_all, first_state}
 use Rattle.flat_meaning.specs.Order.{order_of}

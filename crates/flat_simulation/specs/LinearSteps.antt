@@ -8,9 +8,9 @@ use Rattle.struct_ir.specs.Linear.{Spot}
 use Rattle.struct_ir.specs.Machine.{Point, run}
 use Rattle.struct_ir.specs.Structured.{Position, structured}
 use Rattle.struct_ir.specs.Threads.{Thread}
-use Rattle.ir_meaning.specs.Blocks.{Own, blocks_machine}
-use Rattle.ir_meaning.specs.Threads.{program_of}
-use Rattle.flat_meaning.specs.declared.endings.End.TheVariants as ends
+use Rattle.struct_ir.specs.meaning.Blocks.{Own, blocks_machine}
+use Rattle.struct_ir.specs.meaning.Threads.{program_of}
+use Rattle.ak_trace.specs.declared.endings.End.TheVariants as ends
 use Rattle.flat_meaning.specs.Image.{Image}
 use Rattle.flat_meaning.specs.Words.{Words}
 use Rattle.flat_meaning.specs.Accesses.{Choice}

@@ -13,9 +13,9 @@ use Rattle.c_tree.specs.Typed.{bytes}
 use Rattle.handle_table.specs.declared.frame.PinSlot.{PinSlot}
 use Rattle.struct_ir.specs.Nodes.{constant, copy, apply, pointer_compare, load, store, free, print, Act, set, call, look, safepoint, plain, if_, loop, break_, Nodes, no_nodes, more_nodes, Func, Ir}
 use Rattle.struct_ir.specs.Instrs.{Instr, acts, unless, round_to, LinearFunc, LinearCode}
-use Rattle.ir_meaning.specs.Threads.{program_of}
-use Rattle.ir_meaning.specs.Rows.{Came, came, broke, seen as source_of}
-use Rattle.flat_meaning.specs.declared.endings.End.TheVariants as ends
+use Rattle.struct_ir.specs.meaning.Threads.{program_of}
+use Rattle.struct_ir.specs.meaning.Rows.{Came, came, broke, seen as source_of}
+use Rattle.ak_trace.specs.declared.endings.End.TheVariants as ends
 use Rattle.flat_meaning.specs.Image.{Limits, Image, structured_image, linear_image}
 use Rattle.flat_meaning.specs.Stages.{Stage, thread_at}
 use Rattle.flat_meaning.specs.Events.{State, Event, barrier, after_all, first_state}

@@ -12,14 +12,14 @@ use Rattle.block_store.specs.Runs.{Pick, Run, reaches, breaks, no_run, run}
 use Rattle.c_tree.specs.Typed.{zero_bytes}
 use Rattle.handle_words.specs.Handle.{handle_of}
 use Rattle.sub_heaps.specs.declared.objects.Object.{Object}
-use Rattle.defrag_move.specs.Arena.{Storage}
+use Rattle.arena_meaning.specs.Arena.{Storage}
 use Rattle.struct_ir.specs.Nodes.{constant, null, global, object, load, store, malloc, free, start, join, Act, set, call, step, look, Func, Ir}
 use Rattle.struct_ir.specs.Structured.{Position}
 use Rattle.struct_ir.specs.Machine.{Point}
 use Rattle.struct_ir.specs.Threads.{Thread}
-use Rattle.ir_meaning.specs.Blocks.{Own}
-use Rattle.ir_meaning.specs.Start as ir
-use Rattle.ir_meaning.specs.Threads.{program_of}
+use Rattle.struct_ir.specs.meaning.Blocks.{Own}
+use Rattle.struct_ir.specs.meaning.Start as ir
+use Rattle.struct_ir.specs.meaning.Threads.{program_of}
 use Rattle.flat_meaning.specs.Image.{Image, structured_image}
 use Rattle.flat_meaning.specs.Words.{Words, with_temps}
 use Rattle.flat_meaning.specs.Memory.{Made, Memory, with_storage, written}

@@ -4,9 +4,9 @@ ghost use Rattle.std.specs.Prelude.{◌≤◌, length};
 use c_grammar::laws::tokens_end_once;
 use c_lex::{CompileFault, Refusal, lex};
 use c_parse::parse;
+use c_types::files::check;
 use std::alloc::Global;
 use std::io;
-use type_program::files::check;
 
 // The most bytes that a text may have.
 const MOST_BYTES: usize = 1_048_576;

@@ -1,7 +1,7 @@
 -- What the runs of the text come to, under every order of turns and every answer.
 use Rattle.std.specs.Prelude.{◌≡◌, ◌≢◌, ℕ, ◌≤◌, ◌⊎◌, nat_le, if◌then◌else◌, List, [], ◌∷◌, length, map, take, replicate, codes, pos, Option, Some, None}
 use Rattle.block_store.specs.declared.values.Answer.TheVariants as answers
-use Rattle.block_store.specs.Actions.{Thread, Stage, running, returned}
+use Rattle.block_store.specs.Actions.{ThreadRecord, Stage, running, returned}
 use Rattle.block_store.specs.Runs.{Pick, Turn, went, ended, blocked, unfit, broke, State, own_at, picked, reaches, no_run}
 use Rattle.c_meaning.specs.Control.{Control}
 use Rattle.c_meaning.specs.Meaning.{program, run}
@@ -47,7 +47,7 @@ IsQuiet callers (Some (broke rule place)) = ⊥
 -- a state once so many turns are done
 pub record IsAfter (turns : ℕ) (u : State Control) : Type 0 where
   pub output : u.world.output ≡ printed turns
-  pub stages_are : map (λ (t : Thread). t.stage) u.world.threads ≡ stages turns
+  pub stages_are : map (λ (t : ThreadRecord). t.stage) u.world.threads ≡ stages turns
   -- no call ever waits
   pub callers : (thread : ℕ) (own : Control) → own_at u.own thread ≡ Some own → length own.callers ≡ 0
   -- whatever turn comes next, of whichever thread and whatever it is told, is quiet

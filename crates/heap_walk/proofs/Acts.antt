@@ -8,8 +8,8 @@ use Rattle.struct_ir.specs.Flow.{does, returns, Shrinks}
 use Rattle.struct_ir.specs.Threads.{Thread}
 use Rattle.struct_ir.specs.Instrs.{Instr}
 use Rattle.struct_ir.specs.Linear.{Spot}
-use Rattle.flat_meaning.specs.declared.endings.End.{End}
-use Rattle.flat_meaning.specs.declared.endings.End.TheVariants as ends
+use Rattle.ak_trace.specs.declared.endings.End.{End}
+use Rattle.ak_trace.specs.declared.endings.End.TheVariants as ends
 use Rattle.flat_meaning.specs.declared.endings.Stop.TheVariants.{AtStep}
 use Rattle.flat_meaning.specs.Image.{Limits, Image, linear_image}
 use Rattle.flat_meaning.specs.Words.{Words, Target, word_at, target_of, set_if}
@@ -23,8 +23,8 @@ use Rattle.block_store.specs.declared.values.Access.{Access}
 use Rattle.block_store.specs.Cells.{size_of}
 use Rattle.flat_store.specs.Flat.{bytes_from, first_outside}
 use Rattle.handle_words.specs.Handle.{id_of}
-use Rattle.defrag_move.specs.Changes.{without_id}
-use Rattle.flat_meaning.specs.declared.endings.TrapKind.TheVariants as kinds
+use Rattle.arena_meaning.specs.Changes.{without_id}
+use Rattle.ak_trace.specs.declared.endings.TrapKind.TheVariants as kinds
 use Rattle.flat_meaning.specs.Effects as effects
 use Rattle.flat_meaning.specs.Effects.{Effect, landing}
 use Rattle.flat_meaning.specs.Stages.{Stage, going, thread_at}

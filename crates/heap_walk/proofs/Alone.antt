@@ -9,8 +9,8 @@ use Rattle.struct_ir.specs.Machine.{Machine, Point, Ahead, goes, stops, ahead, a
 use Rattle.struct_ir.specs.Instrs.{Instr, acts, LinearCode}
 use Rattle.struct_ir.specs.Linear.{Spot, linear, instr_here, instr_next}
 use Rattle.struct_ir.proofs.Runs.{unfolds}
-use Rattle.struct_ir.specs.Marks.{is_mark}
-use Rattle.emit_code.specs.Stands.{ActLies, Lies}
+use Rattle.struct_ir.specs.Marks.{is_lifetime_mark}
+use Rattle.struct_ir.specs.Stands.{ActLies, Lies}
 use Rattle.flat_meaning.specs.Image.{Layout}
 use Rattle.flat_meaning.specs.Accesses.{Fault}
 use Rattle.flat_meaning.specs.Words.{Words, calculated}
@@ -111,7 +111,7 @@ module _ (instrs : List Instr) where
     pub next_is : (c : Bool) → flow.next (spot i) c ≡ spot (i + 1)
     pub behind : Sits rest (i + 1)
 
-  act_at : (a : Act) (place : ℕ) (rest : Nodes) (i : ℕ) → is_mark a ≡ false → Sits (more_nodes (plain place a) rest) i → ActAt a place rest i
+  act_at : (a : Act) (place : ℕ) (rest : Nodes) (i : ℕ) → is_lifetime_mark a ≡ false → Sits (more_nodes (plain place a) rest) i → ActAt a place rest i
   act_at a place rest i unmarked s =
       let here = subst (λ mark. ActLies mark instrs place a i s.lies.0) unmarked s.lies.1 in
       record {

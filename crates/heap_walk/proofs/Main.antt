@@ -17,8 +17,8 @@ use Rattle.pin_flow.specs.Laws.{BasesAreKept}
 use Rattle.pin_flow.specs.Looks.{some_act, act_looks}
 use Rattle.pin_flow.specs.Slots.{bases_below, bases_of, own, IsIn, HasOwnSlots, slot_in}
 use Rattle.lower_forms.specs.Programs.{lowered}
-use Rattle.emit_code.specs.Emitted.{SameFrames}
-use Rattle.emit_code.specs.Stands.{StandsAt}
+use Rattle.struct_ir.specs.Emitted.{SameFrames}
+use Rattle.struct_ir.specs.Stands.{StandsAt}
 use Rattle.heap_text.specs.Text.{tree}
 use Rattle.heap_walk.specs.Room.{IsTextsCode}
 use Rattle.heap_walk.proofs.Rows.{Flat, flat, looks, assigns, stops, assigns_kept, stops_are, few}

@@ -11,8 +11,8 @@ use Rattle.struct_ir.specs.Flow.{Shrinks}
 use Rattle.struct_ir.specs.Threads.{Thread}
 use Rattle.struct_ir.specs.Instrs.{Instr}
 use Rattle.struct_ir.specs.Linear.{Spot}
-use Rattle.defrag_move.specs.Arena.{Storage}
-use Rattle.flat_meaning.specs.declared.endings.End.{End}
+use Rattle.arena_meaning.specs.Arena.{Storage}
+use Rattle.ak_trace.specs.declared.endings.End.{End}
 use Rattle.flat_meaning.specs.declared.endings.Stop.TheVariants.{AtStep}
 use Rattle.flat_meaning.specs.Image.{Image}
 use Rattle.flat_meaning.specs.Words.{Words, first_call}
@@ -31,7 +31,7 @@ use Rattle.flat_rules.specs.Machine as turns
 use Rattle.flat_rules.specs.Draws.{after_draw}
 use Rattle.flat_rules.specs.Entries.{out_entry, turn_entry, how_of}
 use Rattle.flat_rules.specs.Events.{Event, Goes, on, goes, goes_out, turn_event, turned_by, mood_after, come_home, turned_state, ends_with}
-use Rattle.flat_meaning.specs.declared.endings.End.TheVariants.{AllBlocked, TurnLimit}
+use Rattle.ak_trace.specs.declared.endings.End.TheVariants.{AllBlocked, TurnLimit}
 use Rattle.flat_rules.specs.States.{is_blocked, or_else, State, Place, unbegun, home, out, gone, Mood, free, asked, must, place_at, unbegun_from, start}
 use Rattle.flat_rules.specs.Replays.{same_entry, event_at, step, run}
 use Rattle.flat_rules.specs.inner.Cases.{same_number, Cases, Holds, event_holds}

@@ -12,8 +12,8 @@ use Rattle.struct_ir.specs.Nodes.{Nodes}
 use Rattle.struct_ir.specs.Instrs.{Instr, LinearCode}
 use Rattle.struct_ir.specs.Flow.{Shrinks}
 use Rattle.pin_flow.specs.Laws.{BasesAreKept}
-use Rattle.flat_meaning.specs.declared.endings.End.{End}
-use Rattle.flat_meaning.specs.declared.endings.End.TheVariants as ends
+use Rattle.ak_trace.specs.declared.endings.End.{End}
+use Rattle.ak_trace.specs.declared.endings.End.TheVariants as ends
 use Rattle.flat_meaning.specs.Image.{linear_image}
 use Rattle.flat_meaning.specs.Events.{first_memory}
 use Rattle.flat_meaning.specs.Memory.{Memory}

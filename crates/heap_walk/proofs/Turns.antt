@@ -4,7 +4,7 @@ use Rattle.std.proofs.lemmas.Bool.Decides.{nat_tests}
 use Rattle.std.specs.Prelude.{◌⊎◌, ◌%◌, ◌&&◌, slice_index, nat_lt, nat_le, cond}
 use Rattle.std.specs.List.{find, list_all, range_with_len}
 use Rattle.sub_heaps.specs.SubHeaps.{rounded}
-use Rattle.defrag_move.specs.Arena.{Storage}
+use Rattle.arena_meaning.specs.Arena.{Storage}
 use Rattle.handle_words.specs.Handle.{handle_of}
 use Rattle.struct_ir.specs.Nodes.{Place, Action, load, store, copy_bytes, malloc, free, print, lock, unlock, destroy, start, join, Step, set, call, step, look, safepoint, begin_object, end_object, plain, if_, loop, break_, next_, ret, Nodes, no_nodes, more_nodes}
 use Rattle.struct_ir.specs.Flow.{Shrinks}

@@ -6,12 +6,13 @@ use Rattle.struct_ir.specs.Erased.{ir_erased}
 use Rattle.struct_ir.specs.Instrs.{LinearCode}
 use Rattle.struct_ir.specs.Lawful.{AllLawful}
 use Rattle.struct_ir.specs.Placed.{all_due}
-use Rattle.pin_flow.specs.Funcs.{EveryFunc, IsHoisted}
+use Rattle.struct_ir.specs.Safe.{EveryFunc}
+use Rattle.pin_flow.specs.Funcs.{IsHoisted}
 use Rattle.pin_flow.specs.Slots.{HasOwnSlots}
 use Rattle.lower_forms.specs.Programs.{lowered}
-use Rattle.emit_code.specs.Emitted.{IsEmitted}
-use Rattle.flat_meaning.specs.declared.endings.End.{End}
-use Rattle.flat_meaning.specs.declared.endings.End.TheVariants as ends
+use Rattle.struct_ir.specs.Emitted.{IsEmitted}
+use Rattle.ak_trace.specs.declared.endings.End.{End}
+use Rattle.ak_trace.specs.declared.endings.End.TheVariants as ends
 use Rattle.flat_meaning.specs.Journals.{journal_picks}
 use Rattle.flat_rules.specs.declared.settings.Settings.{Settings}
 use Rattle.flat_machine.specs.Replays.{Final, final_of}

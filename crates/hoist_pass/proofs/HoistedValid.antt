@@ -2,7 +2,7 @@
 use Rattle.std.proofs.Common.{◌≡◌, ℕ, zero, suc, ◌<◌, List, [], ◌∷◌, ◌++◌, length, true, ◌&&◌, ◌⊎◌, inl, inr, if◌then◌else◌, refl, arith}
 use Rattle.std.proofs.lemmas.Bool.{and_parts, and_from, lt-ltb}
 use Rattle.std.specs.Prelude.{nat_lt}
-use Rattle.struct_ir.specs.Nodes.{look, Node, plain, if_, loop, break_, next_, ret, Nodes, no_nodes, more_nodes}
+use Rattle.struct_ir.specs.Nodes.{look, Node, plain, if_, loop, break_, next_, ret, Nodes, no_nodes, more_nodes, node_place}
 use Rattle.struct_ir.specs.Erased.{put}
 use Rattle.struct_ir.specs.Valid.{Scope, Around, body_of, latch_of, is_node, are_nodes}
 use Rattle.pin_flow.specs.Marks.{State, bad, flow_node}
@@ -11,7 +11,7 @@ use Rattle.pin_flow.specs.Looks.{some_act}
 use Rattle.pin_flow.specs.Slots.{accesses, bases_below, slot_in, IsIn}
 use Rattle.pin_flow.proofs.Bases.{slots_are_few}
 use Rattle.pin_flow.proofs.Strip.{by_bool}
-use Rattle.hoist_pass.specs.inner.Hoist.{wants, place_of, lifted, lifted_in, needs, dropped, dropped_in, hoisted_one, hoisted}
+use Rattle.hoist_pass.specs.inner.Hoist.{wants, lifted, lifted_in, needs, dropped, dropped_in, hoisted_one, hoisted}
 
 -- ---- one register's turn
 
@@ -22,7 +22,7 @@ module _ (x : Scope) (slot b : ℕ) (slot_fits : nat_lt slot x.slots ≡ true) (
     lifted_valid w (more_nodes n rest) e =
         let q = and_parts (is_node x w n) (are_nodes x w rest) e in
         let r = and_from _ _ (lifted_in_valid w n q.0) (lifted_valid w rest q.1) in
-        by_bool (λ k. are_nodes x w (put k (plain (place_of n) (look slot b)) (more_nodes (lifted_in slot b n) (lifted slot b rest))) ≡ true) (wants b n)
+        by_bool (λ k. are_nodes x w (put k (plain (node_place n) (look slot b)) (more_nodes (lifted_in slot b n) (lifted slot b rest))) ≡ true) (wants b n)
         (λ g. and_from _ _ (and_from _ _ slot_fits b_fits) r) (λ g. r)
 
     lifted_in_valid : (w : Around) (n : Node) → is_node x w n ≡ true → is_node x w (lifted_in slot b n) ≡ true

@@ -1,12 +1,12 @@
 -- Looks before loops make states no worse, and no loop that doesn't assign the temporary keeps one.
 use Rattle.std.proofs.Common.{◌≡◌, ℕ, ◌≤◌, Bool, true, false, refl, arith}
 use Rattle.std.proofs.lemmas.Bool.{eq-eqb}
-use Rattle.struct_ir.specs.Nodes.{Act, look, Node, plain, if_, loop, break_, next_, ret, Nodes, no_nodes, more_nodes}
+use Rattle.struct_ir.specs.Nodes.{Act, look, Node, plain, if_, loop, break_, next_, ret, Nodes, no_nodes, more_nodes, node_place}
 use Rattle.struct_ir.specs.Erased.{put}
 use Rattle.pin_flow.specs.Marks.{Mark, State, unreached, good, bad, after, Ways, round_of, head_of, flow, flow_node, Each, EachIn}
 use Rattle.pin_flow.specs.Looks.{act_looks}
 use Rattle.pin_flow.specs.Held.{held}
-use Rattle.hoist_pass.specs.inner.Hoist.{wants, place_of, lifted, lifted_in}
+use Rattle.hoist_pass.specs.inner.Hoist.{wants, lifted, lifted_in}
 use Rattle.pin_flow.proofs.Order.{rank, Below, after_mono, join_mono, either_mono, in_turn_mono, at_mono, end_mono, turned_mono}
 use Rattle.pin_flow.proofs.Sound.{IsDown}
 use Rattle.pin_flow.proofs.Fresh.{held_fair}
@@ -46,7 +46,7 @@ module _ (slot b : ℕ) where
     pub lifted_below : (ns : Nodes) (t u : State) → rank t ≤ rank u → Below (flow m (lifted slot b ns) t) (flow m ns u)
     lifted_below no_nodes t u le = at_mono t u le
     lifted_below (more_nodes n rest) t u le =
-        put_below (wants b n) (place_of n) (more_nodes (lifted_in slot b n) (lifted slot b rest)) t (flow m (more_nodes n rest) u) (λ v l.
+        put_below (wants b n) (node_place n) (more_nodes (lifted_in slot b n) (lifted slot b rest)) t (flow m (more_nodes n rest) u) (λ v l.
         let x = node_below n v u (omega arith) in
         in_turn_mono _ _ _ _ x (lifted_below rest _ _ x.on))
 
@@ -71,7 +71,7 @@ module _ (slot b : ℕ) where
       pub each_lifted : (ns : Nodes) (t u : State) → rank t ≤ rank u → Each Q m ns u → Each Q m (lifted slot b ns) t
       each_lifted no_nodes t u le e = tt
       each_lifted (more_nodes n rest) t u le e =
-          put_each (wants b n) (place_of n) (more_nodes (lifted_in slot b n) (lifted slot b rest)) t (λ v l.
+          put_each (wants b n) (node_place n) (more_nodes (lifted_in slot b n) (lifted slot b rest)) t (λ v l.
           (in_lifted n v u (omega arith) e.0, each_lifted rest _ _ ((node_below n v u (omega arith)).on) e.1))
 
       in_lifted : (n : Node) (t u : State) → rank t ≤ rank u → EachIn Q m n u → EachIn Q m (lifted_in slot b n) t

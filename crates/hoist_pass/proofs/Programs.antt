@@ -6,7 +6,8 @@ use Rattle.std.specs.List.{AllByRecursion, list_all}
 use Rattle.struct_ir.specs.Nodes.{Func, Ir, Nodes}
 use Rattle.struct_ir.specs.Erased.{erased, func_erased, ir_erased}
 use Rattle.struct_ir.specs.Valid.{scope_of, outside, are_nodes, is_valid}
-use Rattle.pin_flow.specs.Funcs.{EveryFunc, IsCovered, IsHoisted, IsHoistedThroughout}
+use Rattle.struct_ir.specs.Safe.{EveryFunc}
+use Rattle.pin_flow.specs.Funcs.{IsCovered, IsHoisted, IsHoistedThroughout}
 use Rattle.pin_flow.specs.Slots.{bases_of, slot_in, slot_if, IsIn, IsOwn, HasOwnSlots}
 use Rattle.pin_flow.proofs.Bases.{same_bases, slots_are_apart, slot_known}
 use Rattle.hoist_pass.specs.inner.Hoist.{hoisted, hoisted_one, hoisted_for, hoisted_each, func_hoisted, ir_hoisted, HoistIsRight}

@@ -2,12 +2,12 @@
 use Rattle.std.proofs.Common.{◌≡◌, ℕ, ◌≤◌, Bool, true, false, ◌||◌, ◌&&◌, refl, sym, subst, arith}
 use Rattle.std.proofs.lemmas.Bool.{or_parts, or_from, and_from}
 use Rattle.std.specs.Prelude.{not}
-use Rattle.struct_ir.specs.Nodes.{Act, look, Node, plain, if_, loop, break_, next_, ret, Nodes, no_nodes, more_nodes}
+use Rattle.struct_ir.specs.Nodes.{Act, look, Node, plain, if_, loop, break_, next_, ret, Nodes, no_nodes, more_nodes, node_place}
 use Rattle.struct_ir.specs.Erased.{put}
 use Rattle.pin_flow.specs.Marks.{Mark, State, unreached, good, bad, join, state_of, after, at, Ways, round_of, head_of, end_state, flow, flow_node}
 use Rattle.pin_flow.specs.Looks.{act_looks, act_assigns, some_act, some_in, loop_assigns, loops_assign, loop_in_assigns}
 use Rattle.pin_flow.specs.Held.{held}
-use Rattle.hoist_pass.specs.inner.Hoist.{is_bad, needs, dropped, dropped_in, wants, place_of, lifted, lifted_in}
+use Rattle.hoist_pass.specs.inner.Hoist.{is_bad, needs, dropped, dropped_in, wants, lifted, lifted_in}
 use Rattle.pin_flow.proofs.Order.{rank, rank_join}
 use Rattle.pin_flow.proofs.Strip.{by_bool}
 
@@ -162,7 +162,7 @@ module _ (b : ℕ) where
       lifts_none no_nodes e = refl
       lifts_none (more_nodes n rest) e =
           let q = or_parts (some_in (act_looks b) n) (some_act (act_looks b) rest) e in
-          subst (λ (x : Bool). some_act (act_looks b) (put x (plain (place_of n) (look slot b)) (more_nodes (lifted_in slot b n) (lifted slot b rest))) ≡ false) (sym (wants_none n q.0))
+          subst (λ (x : Bool). some_act (act_looks b) (put x (plain (node_place n) (look slot b)) (more_nodes (lifted_in slot b n) (lifted slot b rest))) ≡ false) (sym (wants_none n q.0))
           (or_from _ _ (lifts_none_in n q.0) (lifts_none rest q.1))
 
       wants_none : (n : Node) → some_in (act_looks b) n ≡ false → wants b n ≡ false
@@ -192,7 +192,7 @@ module _ (b : ℕ) where
       lifts_still f g (more_nodes n rest) e =
           let q = or_parts (some_in f n) (some_act f rest) e in
           let r = or_from _ _ (lifts_still_in f g n q.0) (lifts_still f g rest q.1) in
-          by_bool (λ x. some_act f (put x (plain (place_of n) (look slot b)) (more_nodes (lifted_in slot b n) (lifted slot b rest))) ≡ false) (wants b n) (λ h. or_from _ _ g r) (λ h. r)
+          by_bool (λ x. some_act f (put x (plain (node_place n) (look slot b)) (more_nodes (lifted_in slot b n) (lifted slot b rest))) ≡ false) (wants b n) (λ h. or_from _ _ g r) (λ h. r)
 
       lifts_still_in : (f : Act → Bool) → f (look slot b) ≡ false → (n : Node) → some_in f n ≡ false → some_in f (lifted_in slot b n) ≡ false
       lifts_still_in f g (plain p a) e = e

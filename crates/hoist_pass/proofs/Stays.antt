@@ -3,11 +3,11 @@ use Rattle.std.proofs.Common.{◌≡◌, ℕ, Bool, true, false, ◌||◌, refl,
 use Rattle.std.specs.Global.{Vec}
 use Rattle.struct_ir.specs.declared.code.Node.{Node as CodeNode}
 use Rattle.struct_ir.specs.declared.code.NodeKind.TheViews as views
-use Rattle.struct_ir.specs.Nodes.{look, Node, plain, if_, loop, break_, next_, ret, Nodes, no_nodes, more_nodes}
+use Rattle.struct_ir.specs.Nodes.{look, Node, plain, if_, loop, break_, next_, ret, Nodes, no_nodes, more_nodes, node_place}
 use Rattle.struct_ir.specs.Erased.{put}
 use Rattle.struct_ir.specs.Views.{node_view, nodes_view}
 use Rattle.struct_ir.proofs.Views.{if_is, loop_is}
-use Rattle.hoist_pass.specs.inner.Hoist.{wants, some_wants, some_wants_in, place_of, lifted, lifted_in}
+use Rattle.hoist_pass.specs.inner.Hoist.{wants, some_wants, some_wants_in, lifted, lifted_in}
 
 -- ---- no Look goes before a loop
 
@@ -31,7 +31,7 @@ mutual
       let w = loop_wants b n p.0 in
       let f = lifts_none_in slot b n p.0 in
       let g = lifts_none slot b rest p.1 in
-      λ i. put (w i) (plain (place_of n) (look slot b)) (more_nodes (f i) (g i))
+      λ i. put (w i) (plain (node_place n) (look slot b)) (more_nodes (f i) (g i))
 
   lifts_none_in : (slot b : ℕ) (n : Node) → some_wants_in b n ≡ false → lifted_in slot b n ≡ n
   lifts_none_in slot b (plain p a) e = refl

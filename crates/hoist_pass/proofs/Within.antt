@@ -5,14 +5,14 @@ use Rattle.std.proofs.lemmas.Bool.{and_parts}
 use Rattle.std.proofs.lemmas.List.{at_drop_more}
 use Rattle.std.specs.Prelude.{not}
 use Rattle.struct_ir.specs.declared.code.Node.{Node as CodeNode}
-use Rattle.struct_ir.specs.Nodes.{look, Node, plain, if_, loop, break_, next_, ret, Nodes, no_nodes, more_nodes}
+use Rattle.struct_ir.specs.Nodes.{look, Node, plain, if_, loop, break_, next_, ret, Nodes, no_nodes, more_nodes, node_place}
 use Rattle.struct_ir.specs.Erased.{put}
 use Rattle.struct_ir.specs.Views.{node_view, nodes_view}
 use Rattle.pin_flow.specs.Marks.{State, flow_node}
 use Rattle.pin_flow.specs.Looks.{act_looks, some_act, some_in}
 use Rattle.pin_flow.specs.Held.{held}
 use Rattle.pin_flow.proofs.Strip.{by_bool}
-use Rattle.hoist_pass.specs.inner.Hoist.{wants, place_of, lifted, lifted_in, lifted_within, with_looks, wants_here, needs, needed, all_needed, dropped, dropped_in, dropped_within}
+use Rattle.hoist_pass.specs.inner.Hoist.{wants, lifted, lifted_in, lifted_within, with_looks, wants_here, needs, needed, all_needed, dropped, dropped_in, dropped_within}
 use Rattle.hoist_pass.proofs.Done.{assigns_lifted}
 use Rattle.hoist_pass.proofs.Drop.{node_dropped}
 use Rattle.hoist_pass.proofs.Lift.{is_look}
@@ -35,7 +35,7 @@ module _ (slot b : ℕ) where
     looks_lifted no_nodes = refl
     looks_lifted (more_nodes n rest) =
         let inside = some_in (act_looks b) (lifted_in slot b n) || some_act (act_looks b) (lifted slot b rest) in
-        by_bool (λ x. some_act (act_looks b) (put x (plain (place_of n) (look slot b)) (more_nodes (lifted_in slot b n) (lifted slot b rest))) ≡ (some_in (act_looks b) n || some_act (act_looks b) rest)) (wants b n)
+        by_bool (λ x. some_act (act_looks b) (put x (plain (node_place n) (look slot b)) (more_nodes (lifted_in slot b n) (lifted slot b rest))) ≡ (some_in (act_looks b) n || some_act (act_looks b) rest)) (wants b n)
         (λ e.
         let one = is_look slot b in
         let other = sym (wanted b n e) in
@@ -73,7 +73,7 @@ module _ (slot b : ℕ) where
   wants_lifted (next_ p) = refl
   wants_lifted (ret p x) = refl
 
-  place_lifted : (n : Node) → place_of (lifted_in slot b n) ≡ place_of n
+  place_lifted : (n : Node) → node_place (lifted_in slot b n) ≡ node_place n
   place_lifted (plain p a) = refl
   place_lifted (if_ p x one other) = refl
   place_lifted (loop p body latch) = refl
@@ -97,7 +97,7 @@ module _ (slot b : ℕ) where
       let p = neither (wants b n) (wants_here b rest) e in
       let w = p.0 in
       let f = none_here rest p.1 in
-      λ i. put (w i) (plain (place_of n) (look slot b)) (more_nodes n (f i))
+      λ i. put (w i) (plain (node_place n) (look slot b)) (more_nodes n (f i))
 
 -- ---- Looks that aren't needed
 

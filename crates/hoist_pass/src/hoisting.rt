@@ -3,7 +3,8 @@ ghost use Rattle.struct_ir.specs.Erased.{ir_erased};
 ghost use Rattle.struct_ir.specs.Valid.{is_valid};
 ghost use Rattle.struct_ir.specs.Views.{nodes_view, func_view};
 ghost use Rattle.struct_ir.specs.WholeViews.{ir_view};
-ghost use Rattle.pin_flow.specs.Funcs.{EveryFunc, IsCovered, IsHoisted, IsHoistedThroughout};
+ghost use Rattle.struct_ir.specs.Safe.{EveryFunc};
+ghost use Rattle.pin_flow.specs.Funcs.{IsCovered, IsHoisted, IsHoistedThroughout};
 ghost use Rattle.pin_flow.specs.Slots.{HasOwnSlots, slot_if};
 ghost use Rattle.hoist_pass.specs.inner.Hoist.{lifted, hoisted_one, hoisted_for, hoisted_each, func_hoisted, ir_hoisted};
 

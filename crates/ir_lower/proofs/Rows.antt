@@ -9,7 +9,7 @@ use Rattle.c_tree.specs.declared.typed.StmtNode.{StmtNode}
 use Rattle.c_tree.specs.declared.typed.StmtNode.TheViews as stmt_views
 use Rattle.c_tree.specs.Typed as tree
 use Rattle.lower_forms.specs.Counts.{greatest_row}
-use Rattle.c_tree.specs.TypedViews.{type_view, expr_view, expr_node_view, exprs_of, lib_view, stmt_view, stmt_node_view, stmts_of}
+use Rattle.c_tree.specs.TypedViews.{type_view, expr_view, expr_node_view, lib_view, stmt_view, stmt_node_view}
 use Rattle.struct_ir.specs.declared.code.Node.{Node}
 use Rattle.struct_ir.specs.Nodes.{Nodes, no_nodes, more_nodes, break_, ret, StackObject, copy}
 use Rattle.struct_ir.specs.Views.{nodes_view, followed}
@@ -17,6 +17,7 @@ use Rattle.struct_ir.proofs.Views.{followed_none}
 use Rattle.lower_forms.specs.Forms.{Frame, first_temp, branches, sets, sets_int, calls, temps_of, lib_nodes, expr_nodes, value_nodes, args_nodes, dropped_nodes, dropped_value, ends, objects_in, test_nodes, form_nodes, row_nodes}
 use Rattle.lower_forms.specs.Programs.{homes_from, next_home, objects_of, frame_of, registers_of, last_nodes, func_lowered}
 use Rattle.ir_lower.proofs.Views.{call_view, lib_call_view, block_view}
+use Rattle.c_tree.specs.Typed.{exprs_of, stmts_of}
 
 module _ (F : Frame) where
   pub call_done : (e : Expr) (fn : ℕ) (v : Vec Expr) (t : ℕ) (o0 o1 : List Node) (d : List Expr) → e.node ≡ expr_views.Call fn v → d ≡ v.items

@@ -9,8 +9,9 @@ use Rattle.c_tree.specs.declared.typed.Stmt.{Stmt}
 use Rattle.c_tree.specs.declared.typed.StmtNode.{StmtNode, Row_of-Stmt, end_of-Stmt, more_of-Stmt, items-the_row-Stmt, items_hidden-the_row-Stmt-0}
 use Rattle.c_tree.specs.declared.typed.StmtNode.TheViews as stmt_views
 use Rattle.c_tree.specs.Typed as trees
-use Rattle.c_tree.specs.TypedViews.{type_view, expr_view, expr_node_view, expr_row_view, exprs_of, lib_view, stmt_view, stmt_node_view, stmt_row_view, stmts_of}
+use Rattle.c_tree.specs.TypedViews.{type_view, expr_view, expr_node_view, expr_row_view, lib_view, stmt_view, stmt_node_view, stmt_row_view}
 use Rattle.lower_forms.specs.Counts.{count_parts, count_all, greatest_in, greatest_row}
+use Rattle.c_tree.specs.Typed.{exprs_of, stmts_of}
 
 pub on_ok_map : {A B : Type 0} (P Q : Type 0) (r : Result A B) → (P → Q) → OnOk r P → OnOk r Q
 on_ok_map P Q (Ok x) f h = f h

@@ -1,8 +1,9 @@
 //! How large an expression is.
 
 ghost use Rattle.std.specs.Prelude.{◌≡◌, ◌+◌, suc, max, IfOk, map};
-ghost use Rattle.c_tree.specs.TypedViews.{expr_view, expr_node_view, exprs_of, optional_expr_view, stmt_view, stmt_node_view, stmts_of};
+ghost use Rattle.c_tree.specs.TypedViews.{expr_view, expr_node_view, optional_expr_view, stmt_view, stmt_node_view};
 ghost use Rattle.lower_forms.specs.Counts.{count, count_parts, count_all, count_if, greatest, greatest_in, greatest_row};
+ghost use Rattle.c_tree.specs.Typed.{exprs_of, stmts_of};
 
 use crate::nodes::after;
 use ak_words::NoMemory;

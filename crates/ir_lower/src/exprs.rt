@@ -1,12 +1,13 @@
 //! Expressions.
 
 ghost use Rattle.std.specs.Prelude.{◌≡◌, IfOk, OnOk, map, suc, None, Some};
-ghost use Rattle.c_tree.specs.TypedViews.{type_view, expr_view, expr_node_view, exprs_of, lib_view};
+ghost use Rattle.c_tree.specs.TypedViews.{type_view, expr_view, expr_node_view, lib_view};
 ghost use Rattle.struct_ir.specs.Nodes.{Nodes, no_nodes, copy};
 ghost use Rattle.struct_ir.specs.Views.{nodes_view, followed};
 ghost use Rattle.lower_forms.specs.Forms.{branches, calls, lib_nodes, loads, reach, sets, temps_of, expr_nodes, place_nodes, args_nodes, dropped_object, dropped_nodes, sets_int, sets_truth};
 ghost use Rattle.ir_lower.specs.inner.Views.{frame_view, reach_view};
 ghost use Rattle.ir_lower.specs.inner.Operators.{unary_nodes, operation};
+ghost use Rattle.c_tree.specs.Typed.{exprs_of};
 
 use crate::forms::{called, calls_with, lib_nodes, loads, local_place, local_value, member_nodes};
 use crate::frame::{Frame, Reach};

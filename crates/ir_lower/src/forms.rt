@@ -1,8 +1,8 @@
 //! The parts of which forms are made.
 
 ghost use Rattle.std.specs.Prelude.{◌≡◌, OnOk, IfOk, map, suc, [], ◌∷◌, None, Some, false};
-ghost use Rattle.c_tree.specs.Typed.{print, mutex_init, no_exprs};
-ghost use Rattle.c_tree.specs.TypedViews.{type_view, layout_view, expr_view, exprs_of, lib_view, piece_view};
+ghost use Rattle.c_tree.specs.Typed.{print, mutex_init, no_exprs, exprs_of};
+ghost use Rattle.c_tree.specs.TypedViews.{type_view, layout_view, expr_view, lib_view, piece_view};
 ghost use Rattle.c_meaning.specs.Values.{access_of_type, operand_types};
 ghost use Rattle.struct_ir.specs.Nodes.{Nodes, copy, copy_bytes, load, store};
 ghost use Rattle.struct_ir.specs.Views.{place_view, calc_view, action_view, followed};

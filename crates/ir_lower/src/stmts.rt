@@ -1,11 +1,12 @@
 //! Statements.
 
 ghost use Rattle.std.specs.Prelude.{◌≡◌, ◌++◌, [], IfOk, OnOk, map, Some};
-ghost use Rattle.c_tree.specs.TypedViews.{expr_view, optional_expr_view, stmt_view, stmts_of};
+ghost use Rattle.c_tree.specs.TypedViews.{expr_view, optional_expr_view, stmt_view};
 ghost use Rattle.struct_ir.specs.Nodes.{Nodes, no_nodes, more_nodes, loop};
 ghost use Rattle.struct_ir.specs.Views.{place_view, nodes_view, followed};
 ghost use Rattle.lower_forms.specs.Forms.{branches, expr_nodes, declared_home, ends, objects_by, objects_in, store_nodes, copy_nodes, object_assign, assign_nodes, update_register, update_at, update_object, update_nodes, test_nodes, declare_nodes, return_nodes, stmt_nodes, row_nodes};
 ghost use Rattle.ir_lower.specs.inner.Views.{frame_view};
+ghost use Rattle.c_tree.specs.Typed.{stmts_of};
 
 use crate::exprs::{dropped, expr, place};
 use crate::forms::{computes, initialises, loads_at, stores, struct_nodes};

@@ -10,8 +10,9 @@ ghost use Rattle.struct_ir.specs.LinearViews.{code_view};
 ghost use Rattle.struct_ir.specs.Pins.{PinSafe};
 ghost use Rattle.struct_ir.specs.Valid.{is_valid};
 ghost use Rattle.struct_ir.specs.WholeViews.{ir_view};
-ghost use Rattle.emit_code.specs.Emitted.{nodes_count};
-ghost use Rattle.pin_flow.specs.Funcs.{EveryFunc, IsCovered, IsExact, IsHoisted, IsPinSafe};
+ghost use Rattle.struct_ir.specs.Emitted.{nodes_count};
+ghost use Rattle.struct_ir.specs.Safe.{EveryFunc, IsPinSafe};
+ghost use Rattle.pin_flow.specs.Funcs.{IsCovered, IsExact, IsHoisted};
 ghost use Rattle.pin_flow.specs.Slots.{HasOwnSlots};
 
 use ak_words::NoMemory;

@@ -7,7 +7,7 @@ use Rattle.std.specs.Prelude.{nat_lt, slice_get}
 use Rattle.std.specs.List.{list_all}
 use Rattle.ak_words.specs.IntType.{int, unsigned_long}
 use Rattle.c_tree.specs.Typed as tree
-use Rattle.c_tree.specs.TypedForm.{IsPointer, HasBits, ArePrinted, Signature, CanStart, Context, IsNth, AreArguments, IsLibCall, IsTyped, IsTypedNode, AreTyped}
+use Rattle.c_tree.specs.TypedForm.{IsPointer, HasBits, ArePrinted, Signature, CanStart, InScope, IsNth, AreArguments, IsLibCall, IsTyped, IsTypedNode, AreTyped}
 use Rattle.c_tree.specs.TypedPrinting.{takes_number, takes_text}
 use Rattle.c_meaning.specs.Values.{element_size}
 use Rattle.struct_ir.specs.Nodes.{Calc, Place, Action, Step, Nodes, no_nodes, more_nodes, plain, if_, loop, break_, next_, ret, set, call, step, begin_object, end_object}
@@ -44,7 +44,7 @@ printed_pieces (tree.character ∷ pieces) tree.no_exprs h = elim h [ ]
 printed_pieces (tree.text ∷ pieces) tree.no_exprs h = elim h [ ]
 
 -- what a function's nodes may name is there, where its tree names it
-pub record Suits (x : Scope) (c : Context) (f : Frame) : Type 0 where
+pub record Suits (x : Scope) (c : InScope) (f : Frame) : Type 0 where
   pub first : first_temp f ≤ x.temps
   pub local : (n : ℕ) (l : tree.Local) → slice_get c.locals n ≡ Some l → n < x.temps
   pub object : (n k : ℕ) → home f n ≡ Some k → nat_lt k x.objects ≡ true
@@ -169,7 +169,7 @@ module _ (x : Scope) where
     bare = ap (more_nodes (plain place (call (record { to = to; function = function; temps = temps; slots = [] })))) g.bare;
   }
 
-module _ (x : Scope) (c : Context) (f : Frame) (s : Suits x c f) where
+module _ (x : Scope) (c : InScope) (f : Frame) (s : Suits x c f) where
   -- a call has as many arguments as its function has parameters
   pub called : (function : ℕ) (g : Signature) (es : tree.Exprs) (t : ℕ) → slice_get c.funcs function ≡ Some g → AreArguments g.params es
       → has_params (slice_get x.params function) (length (temps_of es t)) ≡ true

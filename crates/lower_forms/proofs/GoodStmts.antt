@@ -5,7 +5,7 @@ use Rattle.std.specs.Prelude.{nat_lt}
 use Rattle.ak_words.specs.declared.int_type.IntType.{IntType}
 use Rattle.ak_words.specs.declared.operation.Op.{Op}
 use Rattle.c_tree.specs.Typed as tree
-use Rattle.c_tree.specs.TypedForm.{Context, IsScalar, Inside, IsStep, IfTyped, IsTyped, IsTypedNode, IsWell, IsWellNode, AreWell}
+use Rattle.c_tree.specs.TypedForm.{InScope, IsScalar, Inside, IsStep, IfTyped, IsTyped, IsTypedNode, IsWell, IsWellNode, AreWell}
 use Rattle.c_meaning.specs.Values.{is_scalar, operand_types}
 use Rattle.c_meaning.specs.Turns.{is_struct}
 use Rattle.struct_ir.specs.Nodes.{Nodes, no_nodes, more_nodes, plain, begin_object}
@@ -26,7 +26,7 @@ in_no_loop a e = absurd cc
 in_a_loop : (b : Bool) → Loops b body_of
 in_a_loop b e = (refl, refl)
 
-module _ (x : Scope) (c : Context) (f : Frame) (s : Suits x c f) where
+module _ (x : Scope) (c : InScope) (f : Frame) (s : Suits x c f) where
   either_good : (a : Around) (b : Bool) (m n : Nodes) → Good x a m → Good x a n → Good x a (if b then m else n)
   either_good a true m n h k = h
   either_good a false m n h k = k

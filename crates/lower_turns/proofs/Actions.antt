@@ -14,7 +14,7 @@ use Rattle.block_store.specs.declared.values.Ptr.{Ptr}
 use Rattle.block_store.specs.declared.values.Ptr.TheVariants.{To}
 use Rattle.block_store.specs.declared.values.Value.{Value}
 use Rattle.block_store.specs.declared.values.Value.TheVariants as values
-use Rattle.block_store.specs.Actions.{World, Thread, Stage, running, returned, joined, at_stage, staged, staged_if, with_blocks, Done, went, blocked, unfit, broke, Outcomes, under, settled, chosen, gives, changes, changes_or_waits, passes, int_value, allocated, refused_allocation, all_bytes, prints, starts, refused_start, next_number, stored_unless_null, joins, joins_at, joins_if, joined_by, result_of, outcomes, acted, beginning}
+use Rattle.block_store.specs.Actions.{World, ThreadRecord, Stage, running, returned, joined, at_stage, staged, staged_if, with_blocks, Done, went, blocked, unfit, broke, Outcomes, under, settled, chosen, gives, changes, changes_or_waits, passes, int_value, allocated, refused_allocation, all_bytes, prints, starts, refused_start, next_number, stored_unless_null, joins, joins_at, joins_if, joined_by, result_of, outcomes, acted, beginning}
 use Rattle.block_store.specs.Actions as actions
 use Rattle.block_store.specs.Blocks.{Blocks, made, loaded, stored, copied, freed}
 use Rattle.block_store.specs.Mutexes.{locked, unlocked, destroyed}
@@ -80,7 +80,7 @@ module _ (t : tree.Typed) where
   prints_so w (Ok all) a = (refl, a)
   prints_so w (Err rule) a = tt
 
-  all_more : (xs : List Thread) (x : Thread) → AllByRecursion (λ (h : Thread). CanBegin t h.function) xs → CanBegin t x.function → AllByRecursion (λ (h : Thread). CanBegin t h.function) (xs ++ x ∷ [])
+  all_more : (xs : List ThreadRecord) (x : ThreadRecord) → AllByRecursion (λ (h : ThreadRecord). CanBegin t h.function) xs → CanBegin t x.function → AllByRecursion (λ (h : ThreadRecord). CanBegin t h.function) (xs ++ x ∷ [])
   all_more [] x a c = (c, tt)
   all_more (y ∷ xs) x a c = (a.0, all_more xs x a.1 c)
 
@@ -88,17 +88,17 @@ module _ (t : tree.Typed) where
   starts_so w m argument (Ok b) a c = (refl, all_more w.threads (beginning m argument) a c)
   starts_so w m argument (Err rule) a c = tt
 
-  all_set : (xs : List Thread) (i : ℕ) (x : Thread) → AllByRecursion (λ (h : Thread). CanBegin t h.function) xs → CanBegin t x.function → AllByRecursion (λ (h : Thread). CanBegin t h.function) (set xs i x)
+  all_set : (xs : List ThreadRecord) (i : ℕ) (x : ThreadRecord) → AllByRecursion (λ (h : ThreadRecord). CanBegin t h.function) xs → CanBegin t x.function → AllByRecursion (λ (h : ThreadRecord). CanBegin t h.function) (set xs i x)
   all_set [] i x a c = tt
   all_set (y ∷ xs) zero x a c = (c, a.1)
   all_set (y ∷ xs) (suc i) x a c = (a.0, all_set xs i x a.1 c)
 
-  all_at : (xs : List Thread) (i : ℕ) (x : Thread) → AllByRecursion (λ (h : Thread). CanBegin t h.function) xs → slice_get xs i ≡ Some x → CanBegin t x.function
+  all_at : (xs : List ThreadRecord) (i : ℕ) (x : ThreadRecord) → AllByRecursion (λ (h : ThreadRecord). CanBegin t h.function) xs → slice_get xs i ≡ Some x → CanBegin t x.function
   all_at [] i x a e = absurd cc
-  all_at (y ∷ xs) zero x a e = let same : y ≡ x = cc in subst (λ (h : Thread). CanBegin t h.function) same a.0
+  all_at (y ∷ xs) zero x a e = let same : y ≡ x = cc in subst (λ (h : ThreadRecord). CanBegin t h.function) same a.0
   all_at (y ∷ xs) (suc i) x a e = all_at xs i x a.1 e
 
-  staged_at : (w : World) (i : ℕ) (stage : Stage) (o : Option Thread) → slice_get w.threads i ≡ o → AllBegin t w → AllBegin t (staged_if w i stage o)
+  staged_at : (w : World) (i : ℕ) (stage : Stage) (o : Option ThreadRecord) → slice_get w.threads i ≡ o → AllBegin t w → AllBegin t (staged_if w i stage o)
   staged_at w i stage None e a = a
   staged_at w i stage (Some x) e a = all_set w.threads i (at_stage stage x) a (all_at w.threads i x a e)
 
@@ -114,7 +114,7 @@ module _ (t : tree.Typed) where
   joins_at_so w i to (returned z) a = joins_so w i z (stored_unless_null w.blocks to z) a
   joins_at_so w i to (joined z) a = tt
 
-  joins_if_so : (w : World) (i : ℕ) (to : Ptr) (o : Option Thread) → AllBegin t w → IfWent (GivesKind (accesses.Number int)) (joins_if w i to o)
+  joins_if_so : (w : World) (i : ℕ) (to : Ptr) (o : Option ThreadRecord) → AllBegin t w → IfWent (GivesKind (accesses.Number int)) (joins_if w i to o)
   joins_if_so w i to None a = tt
   joins_if_so w i to (Some x) a = joins_at_so w i to x.stage a
 

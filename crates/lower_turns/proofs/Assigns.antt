@@ -32,8 +32,8 @@ use Rattle.c_meaning.specs.Turns.{Way, on_ok, stays, local_way, nowhere_way, pla
 use Rattle.struct_ir.specs.Nodes as ir
 use Rattle.struct_ir.specs.Nodes.{Nodes, Place, Step, more_nodes, plain}
 use Rattle.struct_ir.specs.Structured.{Position, then_}
-use Rattle.ir_meaning.specs.Blocks.{Held, value, number, pointer, broken, Own, set_at, known, on_value, on_number, or_broken, calculated, start_of, takes, if_taken}
-use Rattle.ir_meaning.specs.Threads.{action_of, set_if}
+use Rattle.struct_ir.specs.meaning.Blocks.{Held, value, number, pointer, broken, Own, set_at, known, on_value, on_number, or_broken, calculated, start_of, takes, if_taken}
+use Rattle.struct_ir.specs.meaning.Threads.{action_of, set_if}
 use Rattle.lower_forms.specs.Forms as forms
 use Rattle.lower_forms.specs.Forms.{home, sets, sets_long, Reach, found, reached, behind, at_temp, pointed, reach, number_type, moves, number_update, computes, update_at, sized_copy, expr_nodes, place_nodes}
 use Rattle.lower_forms.specs.Programs.{lowered}
@@ -153,7 +153,7 @@ module _ (g : Setting) (vs : List Variable) (ob : ℕ → Option ℕ) (b : Block
   }
 
   -- a step without a value, and then the statement is done
-  stores : (a : ℕ → Held) → Agrees (frame g) g.f.locals vs a ob → (place : ℕ) (st : Step) → st.to ≡ None → (act : actions.Action) → action_of place (own g ob a b) st ≡ Ok act
+  stores : (a : ℕ → Held) → Agrees (frame g) g.f.locals vs a ob → (place : ℕ) (st : Step) → st.to ≡ None → (act : actions.SharedAction) → action_of place (own g ob a b) st ≡ Ok act
       → IfWent g.t GivesNone (acted world_now g.thread g.answer act)
       → Alike g (acts (here g) place act (λ v next. stays (here g) vs (source.begins w.k) next) (now g vs b)) (then_ (more_nodes (plain place (ir.step st)) r) q) (own g ob a b)
   stores a h place st to act is so =

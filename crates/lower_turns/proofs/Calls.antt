@@ -21,9 +21,9 @@ use Rattle.struct_ir.specs.Nodes as ir
 use Rattle.struct_ir.specs.Nodes.{Nodes, Func, more_nodes, plain}
 use Rattle.struct_ir.specs.Structured.{Position, then_, done}
 use Rattle.struct_ir.specs.Threads.{Thread, if_fits, went}
-use Rattle.ir_meaning.specs.Blocks.{Held, value, Own, set_at}
-use Rattle.ir_meaning.specs.Blocks as code
-use Rattle.ir_meaning.specs.Threads.{passed, nodes_of, is_plain, turned}
+use Rattle.struct_ir.specs.meaning.Blocks.{Held, value, Own, set_at}
+use Rattle.struct_ir.specs.meaning.Blocks as code
+use Rattle.struct_ir.specs.meaning.Threads.{passed, nodes_of, is_plain, turned}
 use Rattle.lower_forms.specs.Forms as forms
 use Rattle.lower_forms.specs.Forms.{home, home_or_none, temps_of, sets, Reach, found}
 use Rattle.lower_forms.specs.Programs.{home_if, next_home, homes_from, func_lowered, funcs_lowered, lowered}

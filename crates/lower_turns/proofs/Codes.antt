@@ -11,8 +11,8 @@ use Rattle.c_meaning.specs.Meaning as source
 use Rattle.c_meaning.proofs.Alike.{reached_shown}
 use Rattle.c_meaning.proofs.TypedRuns.{runs_go_on}
 use Rattle.struct_ir.specs.Nodes.{Ir}
-use Rattle.ir_meaning.specs.Start as code
-use Rattle.ir_meaning.specs.Threads.{program_of}
+use Rattle.struct_ir.specs.meaning.Start as code
+use Rattle.struct_ir.specs.meaning.Threads.{program_of}
 use Rattle.lower_forms.specs.Programs.{lowered, globals_lowered}
 use Rattle.lower_turns.specs.Turns.{CodeWithLooksKeepsEveryRun, CodeBeginsAlike, CodeKeepsEveryTurn, CodeGoesOn, KeepsEveryTurn}
 use Rattle.lower_turns.proofs.Looks.{looks_keep_every_turn}

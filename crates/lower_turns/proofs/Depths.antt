@@ -18,8 +18,8 @@ use Rattle.struct_ir.specs.Machine.{Point}
 use Rattle.struct_ir.specs.Erased.{ir_erased, at_erased}
 use Rattle.struct_ir.specs.MapsTurns.{points_mapped}
 use Rattle.struct_ir.specs.Threads.{Thread}
-use Rattle.ir_meaning.specs.Blocks.{Own}
-use Rattle.ir_meaning.specs.Threads.{program_of}
+use Rattle.struct_ir.specs.meaning.Blocks.{Own}
+use Rattle.struct_ir.specs.meaning.Threads.{program_of}
 use Rattle.lower_forms.specs.Programs.{lowered}
 use Rattle.lower_turns.specs.Turns.{AsDeep, CallsAreAsDeep}
 use Rattle.lower_turns.proofs.Relation.{Callers, no_callers, one_wants, one_drops, Same, same, CanBegin, AllBegin, Together, both_went, both_ended, both_blocked, both_unfit, both_broke}

@@ -16,7 +16,7 @@ use Rattle.c_meaning.specs.Turns.{WayOfUse, run, run_node, run_place_node, run_a
 use Rattle.struct_ir.specs.Nodes as ir
 use Rattle.struct_ir.specs.Nodes.{Nodes}
 use Rattle.struct_ir.specs.Structured.{Position, then_}
-use Rattle.ir_meaning.specs.Blocks.{Held, value, pointer, set_at, calculated}
+use Rattle.struct_ir.specs.meaning.Blocks.{Held, value, pointer, set_at, calculated}
 use Rattle.lower_forms.specs.Forms as forms
 use Rattle.lower_forms.specs.Forms.{home, sets, Reach, found, direct_if, is_pointer, register_of, member_reach, pointed, pointed_in, reach, reach_in, number_type, expr_nodes, value_nodes, place_nodes, object_place, args_nodes, lib_nodes}
 use Rattle.lower_forms.specs.Programs.{globals_lowered, lowered}

@@ -16,8 +16,8 @@ use Rattle.c_meaning.specs.Turns.{Now, Way, run, run_place, local_way, place_way
 use Rattle.struct_ir.specs.Nodes as ir
 use Rattle.struct_ir.specs.Nodes.{Nodes}
 use Rattle.struct_ir.specs.Structured.{Position, then_}
-use Rattle.ir_meaning.specs.Blocks as code
-use Rattle.ir_meaning.specs.Blocks.{Held, Own, set_at, begun}
+use Rattle.struct_ir.specs.meaning.Blocks as code
+use Rattle.struct_ir.specs.meaning.Blocks.{Held, Own, set_at, begun}
 use Rattle.lower_forms.specs.Forms as forms
 use Rattle.lower_forms.specs.Forms.{home, register_if, own_register, pointed, pointed_in, reach, reach_in, is_void, expr_nodes, place_nodes, object_assign, copy_nodes, store_nodes, assign_nodes, update_nodes, update_object, update_register, declare_nodes, dropped_nodes, dropped_value, dropped_object}
 use Rattle.lower_forms.specs.Programs.{lowered}

@@ -32,9 +32,9 @@ use Rattle.struct_ir.specs.Machine.{Point, ahead_at}
 use Rattle.struct_ir.specs.Flow.{returns, Here}
 use Rattle.struct_ir.specs.Threads as threads
 use Rattle.struct_ir.specs.Threads.{Thread, finished, left_call, if_fits, stop_at}
-use Rattle.ir_meaning.specs.Blocks as code
-use Rattle.ir_meaning.specs.Blocks.{Held, value, Own, set_at, blocks_machine, same_type, wrong_kind, on_value, known}
-use Rattle.ir_meaning.specs.Threads.{over, given, int_in, result_of, finished_with, served_by, blocks_world, is_plain, turned, code_of}
+use Rattle.struct_ir.specs.meaning.Blocks as code
+use Rattle.struct_ir.specs.meaning.Blocks.{Held, value, Own, set_at, blocks_machine, same_type, wrong_kind, on_value, known}
+use Rattle.struct_ir.specs.meaning.Threads.{over, given, int_in, result_of, finished_with, served_by, blocks_world, is_plain, turned, start_in}
 use Rattle.lower_forms.specs.Forms as forms
 use Rattle.lower_forms.specs.Forms.{sets_int, Reach, found}
 use Rattle.lower_forms.specs.Programs.{registers_of, last_nodes, lowered}
@@ -128,7 +128,7 @@ module _ (g : Setting) where
         subst (Together g.t (leaves_call (here g) v (now g vs b)))
         (sym (stops_at (lowered g.t) g.thread g.answer g.cs' g.s k (own g ob tm b) (ap (ahead_at structured (blocks_machine (lowered g.t)) (record { at = k; own = own g ob tm b })) stands)))
         (subst (λ (h : Here). Together g.t (leaves_call (here g) v (now g vs b)) (turned (stop_at structured (blocks_machine (lowered g.t)) (blocks_world (lowered g.t) g.thread)
-        (code_of (lowered g.t)) g.answer (record { top = record { at = k; own = own g ob tm b }; callers = g.cs' }) (actions.with_blocks g.s b) h))) (sym stands)
+        (start_in (lowered g.t)) g.answer (record { top = record { at = k; own = own g ob tm b }; callers = g.cs' }) (actions.with_blocks g.s b) h))) (sym stands)
         (returns_at temp (result_of_call (here g) v) g.n g.cs g.cs' refl g.callers kept (without_blocks vs (actions.with_blocks g.s b)) (blocks_over g vs tm ob a agrees b)))
 
     -- main, of a program that calls nothing, gives 0 and has no register for it

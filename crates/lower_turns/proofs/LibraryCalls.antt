@@ -9,7 +9,7 @@ use Rattle.block_store.specs.declared.values.Ptr.{Ptr}
 use Rattle.block_store.specs.declared.values.Value.{Value}
 use Rattle.block_store.specs.declared.values.Value.TheVariants as values
 use Rattle.block_store.specs.Actions as actions
-use Rattle.block_store.specs.Actions.{World, Action, acted, bytes, text}
+use Rattle.block_store.specs.Actions.{World, SharedAction, acted, bytes, text}
 use Rattle.block_store.specs.Blocks.{Blocks}
 use Rattle.c_tree.specs.Typed as tree
 use Rattle.c_tree.specs.TypedForm.{IsLibCall, AreArguments, IsNth, CanStart, signature_of}
@@ -22,8 +22,8 @@ use Rattle.c_meaning.specs.Turns.{stays, after_call, calls_library, acts}
 use Rattle.struct_ir.specs.Nodes as ir
 use Rattle.struct_ir.specs.Nodes.{Nodes, Place, Step, more_nodes, plain}
 use Rattle.struct_ir.specs.Structured.{Position, then_}
-use Rattle.ir_meaning.specs.Blocks.{Held, value, set_at, wrong_kind, same_type}
-use Rattle.ir_meaning.specs.Threads.{action_of, set_if, action_with, if_count}
+use Rattle.struct_ir.specs.meaning.Blocks.{Held, value, set_at, wrong_kind, same_type}
+use Rattle.struct_ir.specs.meaning.Threads.{action_of, set_if, action_with, if_count}
 use Rattle.lower_forms.specs.Forms.{sets_int, at_temp, number_temps, text_places, lib_nodes}
 use Rattle.lower_forms.specs.Programs.{lowered}
 use Rattle.lower_turns.proofs.Relation.{ctx, HasKind, Agrees, Stand, AreScalars, Calls, AllBegin}
@@ -68,7 +68,7 @@ module _ (g : Setting) (busy : Calls g.t) (vs : List Variable) (ob : ℕ → Opt
       lands_value g busy vs ob b tm agrees place ty u kw r q waits v (set_at tm u (value v)) w (subst (λ z. HasKind z v) e k) (below_set u u tm tm (value v) (omega arith) (below_same u tm)) (set_here tm u (value v)) all
 
   -- a step whose value comes to the register
-  kind_alike : (how : Access) → how ≡ access_of_type ty → (st : Step) → st.to ≡ Some u → (act : Action) → action_of place (own g ob tm b) st ≡ Ok act → IfWent g.t (GivesKind how) (acted world_now g.thread g.answer act)
+  kind_alike : (how : Access) → how ≡ access_of_type ty → (st : Step) → st.to ≡ Some u → (act : SharedAction) → action_of place (own g ob tm b) st ≡ Ok act → IfWent g.t (GivesKind how) (acted world_now g.thread g.answer act)
       → Alike g (acts (here g) place act (λ v w. stays (here g) vs (after_call kw v) w) (now g vs b)) (then_ (more_nodes (plain place (ir.step st)) r) q) (own g ob tm b)
   kind_alike how e st to act is so =
       step_alike (lowered g.t) g.thread g.answer g.cs' g.s g.t (λ v w. stays (here g) vs (after_call kw v) w) place st r q (own g ob tm b) act is
@@ -81,7 +81,7 @@ module _ (g : Setting) (busy : Calls g.t) (vs : List Variable) (ob : ℕ → Opt
       (actions.print (parts bytes text pieces (numbers_of args) (pointers_of args))) (print_is place (own g ob tm b) pieces es args u (Some u) s h)
       (print_so g.t world_now g.begun g.thread g.answer (parts bytes text pieces (numbers_of args) (pointers_of args)))
 
-  count_is : (n : Num) (action : Action) → n.ty ≡ unsigned_long → if_count n action ≡ Ok action
+  count_is : (n : Num) (action : SharedAction) → n.ty ≡ unsigned_long → if_count n action ≡ Ok action
   count_is n action e = ap (λ s. if same_type unsigned_long s then Ok action else Err wrong_kind) e
 
   pub malloc_alike : (es : tree.Exprs) (args : List Value) → ty ≡ tree.pointer tree.void → StandAs tm (accesses.Number unsigned_long ∷ []) args u → Ends tree.malloc args (lib_nodes place tree.malloc es u r)
@@ -128,7 +128,7 @@ module _ (g : Setting) (busy : Calls g.t) (vs : List Variable) (ob : ℕ → Opt
   -- ---- without a value
 
   -- a step that gives none, and what the call's value then is
-  none_alike : (which : tree.Lib) (args : List Value) (ns : Nodes) (a : ℕ → Held) (st : Step) → st.to ≡ None → (act : Action) → action_of place (own g ob a b) st ≡ Ok act → IfWent g.t GivesNone (acted world_now g.thread g.answer act)
+  none_alike : (which : tree.Lib) (args : List Value) (ns : Nodes) (a : ℕ → Held) (st : Step) → st.to ≡ None → (act : SharedAction) → action_of place (own g ob a b) st ≡ Ok act → IfWent g.t GivesNone (acted world_now g.thread g.answer act)
       → ((v : Option Value) (w : World) → GivesNone v → AllBegin g.t w → Lands g busy vs ob b tm agrees kw (value_of_call which args v) ns q a w)
       → Alike g (acts (here g) place act (λ v w. stays (here g) vs (after_call kw (value_of_call which args v)) w) (now g vs b)) (then_ (more_nodes (plain place (ir.step st)) ns) q) (own g ob a b)
   none_alike which args ns a st to act is so lands =

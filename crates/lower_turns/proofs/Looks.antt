@@ -15,9 +15,9 @@ use Rattle.struct_ir.specs.MapsTurns.{thread_mapped, AllCarry, IsMapped}
 use Rattle.struct_ir.specs.Lists.{listless}
 use Rattle.struct_ir.specs.Erased.{erased, func_erased, ir_erased, at_erased}
 use Rattle.struct_ir.specs.Threads.{Thread, Outcome, went, ended, blocked, broke, unfit, turn}
-use Rattle.ir_meaning.specs.Blocks.{Fault, broken, wrong_kind, Own, calculated, assigned, objects_of, size_of, without, begun_after, own_act, all_ended, blocks_machine}
-use Rattle.ir_meaning.specs.Threads.{result_of, finished_with, given, set_given, over, left, finished, nodes_of, params_of, first_temps, code_of, blocks_world, turned, program_of}
-use Rattle.ir_meaning.proofs.Bare.{erased_code}
+use Rattle.struct_ir.specs.meaning.Blocks.{Fault, broken, wrong_kind, Own, calculated, assigned, objects_of, size_of, without, begun_after, own_act, all_ended, blocks_machine}
+use Rattle.struct_ir.specs.meaning.Threads.{result_of, finished_with, given, set_given, over, left, finished, nodes_of, params_of, first_temps, start_in, blocks_world, turned, program_of}
+use Rattle.struct_ir.proofs.Bare.{erased_code}
 use Rattle.lower_turns.specs.Turns.{ErasedCodeShowsTheSame, CodeWithLooksKeepsEveryTurn}
 use Rattle.lower_turns.proofs.Threads.{lower_keeps_every_turn}
 
@@ -92,11 +92,11 @@ module _ (p : Ir) where
       left = λ l temp caller to. left_same l temp caller to i;
     }
 
-    code_same : code_of (ir_erased p) ≡ (λ (f : ℕ). at_erased (code_of p f))
+    code_same : start_in (ir_erased p) ≡ (λ (f : ℕ). at_erased (start_in p f))
     code_same = λ i f. then_ (nodes_same p.funcs f i) done
 
     turn_same : (answer : Answer) (t : Thread Position Own) (w : Shared)
-        → turn structured (blocks_machine p) (blocks_world p thread) (λ f. at_erased (code_of p f)) answer t w ≡ turn structured (blocks_machine (ir_erased p)) (blocks_world (ir_erased p) thread) (code_of (ir_erased p)) answer t w
+        → turn structured (blocks_machine p) (blocks_world p thread) (λ f. at_erased (start_in p f)) answer t w ≡ turn structured (blocks_machine (ir_erased p)) (blocks_world (ir_erased p) thread) (start_in (ir_erased p)) answer t w
     turn_same answer t w = sym (λ i. turn structured (machine_same i) (world_same i) (code_same i) answer t w)
 
   -- ---- threads

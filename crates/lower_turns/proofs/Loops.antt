@@ -19,8 +19,8 @@ use Rattle.struct_ir.specs.Structured as position
 use Rattle.struct_ir.specs.Structured.{Position, then_, out_of, end_of}
 use Rattle.struct_ir.specs.Threads as threads
 use Rattle.struct_ir.specs.Threads.{Thread, if_fits}
-use Rattle.ir_meaning.specs.Blocks.{Held, Own}
-use Rattle.ir_meaning.specs.Threads.{is_plain, turned}
+use Rattle.struct_ir.specs.meaning.Blocks.{Held, Own}
+use Rattle.struct_ir.specs.meaning.Threads.{is_plain, turned}
 use Rattle.lower_forms.specs.Counts.{count, greatest_row, count_if}
 use Rattle.lower_forms.specs.Forms.{Reach, branches, pointed, test_nodes, stmt_nodes, row_nodes}
 use Rattle.lower_forms.specs.Programs.{lowered}

@@ -11,7 +11,7 @@ use Rattle.c_meaning.specs.Control as source
 use Rattle.c_meaning.specs.Control.{Variable}
 use Rattle.c_meaning.specs.Turns.{Now, ended_if, ended_local, variable_or_unset}
 use Rattle.struct_ir.specs.Nodes.{StackObject}
-use Rattle.ir_meaning.specs.Blocks.{Held, Own, set_at, without, object_ended}
+use Rattle.struct_ir.specs.meaning.Blocks.{Held, Own, set_at, without, object_ended}
 use Rattle.lower_forms.specs.Forms.{home, home_or_none}
 use Rattle.lower_forms.specs.Programs.{home_if, next_home, homes_from, object_of, with_object, objects_of}
 use Rattle.lower_turns.proofs.Relation.{InRegister, no_value, one_value, InBlock, no_block, one_block, held_in, Agrees}

@@ -10,13 +10,13 @@ use Rattle.block_store.specs.declared.values.Access.TheVariants as accesses
 use Rattle.block_store.specs.declared.values.Value.{Value}
 use Rattle.block_store.specs.declared.values.Value.TheVariants as values
 use Rattle.c_tree.specs.Typed as tree
-use Rattle.c_tree.specs.TypedForm.{IsInteger, IsPointer, IsScalar, Fits, PointsToSized, MovesPointer, AreOperands, type_of_result, Converts, HasBits, ArePrinted, Context, AreArguments, IsLibCall}
+use Rattle.c_tree.specs.TypedForm.{IsInteger, IsPointer, IsScalar, Fits, PointsToSized, MovesPointer, AreOperands, type_of_result, Converts, HasBits, ArePrinted, InScope, AreArguments, IsLibCall}
 use Rattle.c_meaning.specs.Values.{operand_types, Binary, on_numbers, forward, backward, distance, on_pointers, access_of_type}
 use Rattle.struct_ir.specs.Nodes as ir
 use Rattle.lower_forms.specs.Forms.{Frame, Reach, indexed, is_pointer, register_of, pointer_register, direct_if, indexed_if, pointed, sum_calc, number_type}
 use Rattle.lower_turns.proofs.Relation.{HasKind, Points, BinaryFits, numbers, forwards, forwards_from, backwards, distances, comparisons, calc_of, Joins, no_join, one_join, Joined, not_joined, joined, ConvertFits, to_number, to_pointer, AreScalars}
 use Rattle.lower_turns.proofs.Values.{unmoved, type_itself}
-use Rattle.ir_meaning.specs.Blocks.{Held, pointer, same_type, is_shift, takes}
+use Rattle.struct_ir.specs.meaning.Blocks.{Held, pointer, same_type, is_shift, takes}
 
 -- ---- kinds
 
@@ -232,7 +232,7 @@ argument_scalars [] (tree.more_exprs e es) s h = elim h [ ]
 argument_scalars (t ∷ ts) tree.no_exprs s h = elim h [ ]
 argument_scalars (t ∷ ts) (tree.more_exprs e es) s h = (fits_scalar (tree.type_of e) t h.0 s.0, argument_scalars ts es s.1 h.1)
 
-pub lib_scalars : (c : Context) (which : tree.Lib) (es : tree.Exprs) (ty : tree.Ty) → IsLibCall c which es ty → AreScalars es
+pub lib_scalars : (c : InScope) (which : tree.Lib) (es : tree.Exprs) (ty : tree.Ty) → IsLibCall c which es ty → AreScalars es
 lib_scalars c (tree.print pieces) es ty h = printed_scalars pieces es h.0
 lib_scalars c tree.malloc es ty h = argument_scalars (tree.integer unsigned_long ∷ []) es (tt, tt) h.0
 lib_scalars c tree.free es ty h = argument_scalars (tree.pointer tree.void ∷ []) es (tt, tt) h.0

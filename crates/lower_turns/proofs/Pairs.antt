@@ -2,7 +2,7 @@
 use Rattle.std.proofs.Common.{◌≡◌, refl, ap, subst, ℕ, zero, suc, List, [], ◌∷◌, ◌++◌, length, map, drop, set, Option, Some, None}
 use Rattle.std.specs.List.{AllByRecursion}
 use Rattle.block_store.specs.declared.values.Ptr.{Ptr}
-use Rattle.block_store.specs.Actions.{World, Thread}
+use Rattle.block_store.specs.Actions.{World, ThreadRecord}
 use Rattle.block_store.specs.Runs.{Program, begun, own_at}
 
 module _ {A B : Type 0} (R : A → B → Type 0) where
@@ -37,21 +37,21 @@ module _ {A B : Type 0} (R : A → B → Type 0) where
 
   -- where threads begin alike with each function that they may begin with
   module _ (P : Program A) (Q : Program B) (May : ℕ → Type 0) (begins : (f : ℕ) (argument : Ptr) → May f → R (P.begins f argument) (Q.begins f argument)) where
-    threads_alike : (ts : List Thread) → AllByRecursion (λ (h : Thread). May h.function) ts
-        → AllAlike (map (λ (h : Thread). Some (P.begins h.function h.argument)) ts) (map (λ (h : Thread). Some (Q.begins h.function h.argument)) ts)
+    threads_alike : (ts : List ThreadRecord) → AllByRecursion (λ (h : ThreadRecord). May h.function) ts
+        → AllAlike (map (λ (h : ThreadRecord). Some (P.begins h.function h.argument)) ts) (map (λ (h : ThreadRecord). Some (Q.begins h.function h.argument)) ts)
     threads_alike [] all = nobody
     threads_alike (h ∷ ts) all = one_more _ _ _ _ (both _ _ (begins h.function h.argument all.0)) (threads_alike ts all.1)
 
-    all_drop : (n : ℕ) (ts : List Thread) → AllByRecursion (λ (h : Thread). May h.function) ts → AllByRecursion (λ (h : Thread). May h.function) (drop n ts)
+    all_drop : (n : ℕ) (ts : List ThreadRecord) → AllByRecursion (λ (h : ThreadRecord). May h.function) ts → AllByRecursion (λ (h : ThreadRecord). May h.function) (drop n ts)
     all_drop zero ts all = all
     all_drop (suc n) [] all = all
     all_drop (suc n) (h ∷ ts) all = all_drop n ts all.1
 
-    pub begun_alike : (n : ℕ) (w : World) → AllByRecursion (λ (h : Thread). May h.function) w.threads → AllAlike (begun P n w) (begun Q n w)
+    pub begun_alike : (n : ℕ) (w : World) → AllByRecursion (λ (h : ThreadRecord). May h.function) w.threads → AllAlike (begun P n w) (begun Q n w)
     begun_alike n w all = threads_alike (drop n w.threads) (all_drop n w.threads all)
 
     -- after a turn, also one that has made threads
-    pub next_alike : (xs : List (Option A)) (ys : List (Option B)) (n : ℕ) (a : Option A) (b : Option B) (next : World) → AllByRecursion (λ (h : Thread). May h.function) next.threads
+    pub next_alike : (xs : List (Option A)) (ys : List (Option B)) (n : ℕ) (a : Option A) (b : Option B) (next : World) → AllByRecursion (λ (h : ThreadRecord). May h.function) next.threads
         → AllAlike xs ys → OneAlike a b → AllAlike (set xs n a ++ begun P (length xs) next) (set ys n b ++ begun Q (length ys) next)
     next_alike xs ys n a b next may all o =
         append_alike (set xs n a) (begun P (length xs) next) (set ys n b) (begun Q (length ys) next) (set_alike xs ys n a b all o)

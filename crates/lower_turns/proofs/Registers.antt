@@ -10,7 +10,7 @@ use Rattle.c_meaning.specs.Values.{Binary, access_of_type}
 use Rattle.c_meaning.specs.Control.{Variable, Use}
 use Rattle.struct_ir.specs.Nodes.{Nodes}
 use Rattle.struct_ir.specs.Structured.{Position}
-use Rattle.ir_meaning.specs.Blocks.{Held, set_at}
+use Rattle.struct_ir.specs.meaning.Blocks.{Held, set_at}
 use Rattle.lower_forms.specs.Forms.{Frame, Reach, found, direct, indexed, behind}
 use Rattle.lower_turns.proofs.Relation.{Below, Reaches, InRegister, held_in, Agrees, Joined, not_joined, joined, Taken, none_yet, one_more, first, AtE, at_first, at_second, at_convert, at_not, at_test, at_member, at_read, at_and, at_or, at_second_test, at_choice, at_wanted, at_dropped, at_local, at_left, at_place, at_block, at_struct_left, at_struct_right, at_update_left, at_update_right, at_update_read, at_update_local, at_if, at_loop_test, at_caller, at_nowhere, at_inside, at_found, at_again}
 

@@ -13,7 +13,7 @@ use Rattle.block_store.specs.declared.values.Ptr.TheVariants.{To}
 use Rattle.block_store.specs.declared.values.Value.{Value}
 use Rattle.block_store.specs.declared.values.Value.TheVariants as values
 use Rattle.c_tree.specs.Typed as tree
-use Rattle.c_tree.specs.TypedForm.{IsScalar, IsNth, CanUpdate, CanStart, signature_of, Context, Inside, IsTyped, AreTyped, IfTyped, AreArguments, IsLibCall, IsWell, AreWell, context_of}
+use Rattle.c_tree.specs.TypedForm.{IsScalar, IsNth, CanUpdate, CanStart, signature_of, InScope, Inside, IsTyped, AreTyped, IfTyped, AreArguments, IsLibCall, IsWell, AreWell, context_of}
 use Rattle.c_tree.specs.TypedLayout.{size_in}
 use Rattle.c_meaning.specs.Values.{Binary, converts, negates, tests, selects, on_numbers, forward, backward, distance, on_pointers, access_of_type}
 use Rattle.c_meaning.specs.Control as source
@@ -33,9 +33,9 @@ use Rattle.struct_ir.specs.Threads.{Thread}
 use Rattle.struct_ir.specs.Structured as position
 use Rattle.struct_ir.specs.Structured.{Position, then_}
 use Rattle.struct_ir.specs.Machine.{Point}
-use Rattle.ir_meaning.specs.Blocks as code
-use Rattle.ir_meaning.specs.Blocks.{Held, Own, value, number, pointer, takes}
-use Rattle.ir_meaning.specs.Threads.{further, moved_if}
+use Rattle.struct_ir.specs.meaning.Blocks as code
+use Rattle.struct_ir.specs.meaning.Blocks.{Held, Own, value, number, pointer, takes}
+use Rattle.struct_ir.specs.meaning.Threads.{further, moved_if}
 use Rattle.lower_forms.specs.Counts.{greatest, greatest_row, count_if}
 use Rattle.lower_forms.specs.Forms as forms
 use Rattle.lower_forms.specs.Forms.{Frame, home, first_temp, sets, acts, branches, sets_int, sets_truth, Reach, found, direct, indexed, reached, behind, at_temp, member_reach, reach, member_nodes, temps_of, lib_nodes, expr_nodes, place_nodes, args_nodes, ends, with_home, sized_copy, computes, update_at, test_nodes, stmt_nodes, row_nodes}
@@ -171,7 +171,7 @@ dropped_args place (function m) all t r = forms.calls place None m (temps_of all
 dropped_args place (library which) all t r = lib_nodes place which all t r
 
 -- a call is well formed, and its value has this type
-abbrev pub CallIs : Context → Callee → tree.Exprs → tree.Ty → Type 0
+abbrev pub CallIs : InScope → Callee → tree.Exprs → tree.Ty → Type 0
 CallIs c (function m) all ty = IsNth c.funcs m (λ s. AreArguments s.params all × (ty ≡ s.result))
 CallIs c (library which) all ty = IsLibCall c which all ty
 
@@ -208,7 +208,7 @@ module _ (t : tree.Typed) (n : ℕ) (f : tree.Func) where
   abbrev pub fr : Frame
   fr = frame_of t.structs f
 
-  abbrev pub ctx : Context
+  abbrev pub ctx : InScope
   ctx = context_of t f
 
   abbrev pub inside : Inside
@@ -369,7 +369,7 @@ module _ (t : tree.Typed) where
         (record { at = then_ (forms.calls place None m ts r) q; own = record { function = n; temps = tm; objects = ob; blocks = b } } ∷ cs')
 
   -- where a turn begins
-  pub data PointIs (n : ℕ) (f : tree.Func) (ob : ℕ → Option ℕ) (tm : ℕ → Held) : source.Point → Position → Type 0 where
+  pub data PointIs (n : ℕ) (f : tree.Func) (ob : ℕ → Option ℕ) (tm : ℕ → Held) : source.TurnStart → Position → Type 0 where
     at_gives : {k : Use} {u : ℕ} {how : Access} {r : Nodes} {q : Position} (v : Value) → HasKind how v → tm u ≡ value v → first t n f ≤ u → Calls t
         → AtE t n f ob tm k u how found r q → PointIs n f ob tm (source.gives v k) (then_ r q)
     at_zero : {k : Use} {u : ℕ} {r : Nodes} {q : Position} (place : ℕ) → first t n f ≤ u → Calls t
@@ -380,7 +380,7 @@ module _ (t : tree.Typed) where
         → PointIs n f ob tm (source.round l k) (then_ (body_nodes t n f l) (position.in_body (body_nodes t n f l) (latch_nodes t n f l) (then_ r q)))
 
   pub data Same : Control → Thread Position Own → Type 0 where
-    same : {n : ℕ} {f : tree.Func} {vs : List Variable} {tm : ℕ → Held} {ob : ℕ → Option ℕ} {b : Blocks} {p : source.Point} {q : Position} {cs : List Caller} {cs' : List (Point Position Own)}
+    same : {n : ℕ} {f : tree.Func} {vs : List Variable} {tm : ℕ → Held} {ob : ℕ → Option ℕ} {b : Blocks} {p : source.TurnStart} {q : Position} {cs : List Caller} {cs' : List (Point Position Own)}
         → InCall n f → Agrees (fr t n f) f.locals vs tm ob → PointIs n f ob tm p q → Callers n cs cs'
         → Same (record { function = n; locals = vs; point = p; callers = cs }) (record { top = record { at = q; own = record { function = n; temps = tm; objects = ob; blocks = b } }; callers = cs' })
 
@@ -389,7 +389,7 @@ module _ (t : tree.Typed) where
   CanBegin m = (m ≡ t.main) ⊎ (Calls t × IsNth t.funcs m (λ f. CanStart (signature_of f)))
 
   abbrev pub AllBegin : World → Type 0
-  AllBegin w = AllByRecursion (λ (h : actions.Thread). CanBegin h.function) w.threads
+  AllBegin w = AllByRecursion (λ (h : actions.ThreadRecord). CanBegin h.function) w.threads
 
   -- two turns come out alike
   pub data Together : Turn Control → Turn (Thread Position Own) → Type 0 where

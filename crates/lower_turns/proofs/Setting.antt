@@ -11,12 +11,12 @@ use Rattle.block_store.specs.Runs.{Turn}
 use Rattle.c_tree.specs.Typed as tree
 use Rattle.c_tree.specs.TypedForm.{IsFunc, IsWellFormed}
 use Rattle.c_meaning.specs.Control.{Variable, Caller, Control}
-use Rattle.c_meaning.specs.Turns.{Here, Now, WayOfUse, Way}
+use Rattle.c_meaning.specs.Turns.{TurnContext, Now, WayOfUse, Way}
 use Rattle.struct_ir.specs.Nodes.{Nodes, no_nodes}
 use Rattle.struct_ir.specs.Structured.{Position, then_, out_of, end_of}
 use Rattle.struct_ir.specs.Machine.{Point}
 use Rattle.struct_ir.specs.Threads.{Thread}
-use Rattle.ir_meaning.specs.Blocks.{Held, value, Own, object_ended}
+use Rattle.struct_ir.specs.meaning.Blocks.{Held, value, Own, object_ended}
 use Rattle.lower_forms.specs.Forms.{Reach, found, Frame}
 use Rattle.lower_forms.specs.Programs.{next_home, homes_from, lowered}
 use Rattle.lower_turns.proofs.Relation.{HasKind, Below, Points, Agrees, fr, first, AtE, AtS, at_found, at_inside, at_inner, AllBegin, InCall, Callers, Together}
@@ -39,7 +39,7 @@ pub record Setting : Type 0 where
   pub cs' : List (Point Position Own)
   pub callers : Callers t n cs cs'
 
-abbrev pub here : Setting → Here
+abbrev pub here : Setting → TurnContext
 here g = record { typed = g.t; thread = g.thread; answer = g.answer; function = g.n; callers = g.cs }
 
 abbrev pub now : Setting → List Variable → Blocks → Now

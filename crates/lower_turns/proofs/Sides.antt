@@ -20,8 +20,8 @@ use Rattle.c_meaning.specs.Turns.{Way, stays, after_call, place_way, left_way, s
 use Rattle.struct_ir.specs.Nodes as ir
 use Rattle.struct_ir.specs.Nodes.{Nodes}
 use Rattle.struct_ir.specs.Structured.{Position, then_}
-use Rattle.ir_meaning.specs.Blocks.{Held, value, set_at}
-use Rattle.ir_meaning.specs.Threads.{set_if}
+use Rattle.struct_ir.specs.meaning.Blocks.{Held, value, set_at}
+use Rattle.struct_ir.specs.meaning.Threads.{set_if}
 use Rattle.lower_forms.specs.Forms as forms
 use Rattle.lower_forms.specs.Forms.{Reach, found, reached, behind, pointed, reach, update_at, computes, sized_copy, expr_nodes, place_nodes}
 use Rattle.lower_forms.specs.Programs.{lowered}

@@ -21,15 +21,15 @@ use Rattle.struct_ir.specs.Threads.{Thread, Outcome, and_then, alone, stop_event
 use Rattle.struct_ir.specs.Threads as threads
 use Rattle.struct_ir.proofs.Runs.{unfolds}
 use Rattle.struct_ir.proofs.Sizes.{structured_shrinks}
-use Rattle.ir_meaning.specs.Blocks.{Held, value, Fault, broken, Own, set_at, with_temps, known, on_value, or_broken, calculated, assigned, begun, object_ended, way_of, blocks_machine}
-use Rattle.ir_meaning.specs.Threads.{action_of, set_if, served_by, blocks_world, code_of, turned, served_if}
+use Rattle.struct_ir.specs.meaning.Blocks.{Held, value, Fault, broken, Own, set_at, with_temps, known, on_value, or_broken, calculated, assigned, begun, object_ended, way_of, blocks_machine}
+use Rattle.struct_ir.specs.meaning.Threads.{action_of, set_if, served_by, blocks_world, start_in, turned, served_if}
 use Rattle.lower_forms.specs.Forms.{sets, branches}
 use Rattle.lower_turns.proofs.Relation.{Together, both_blocked, both_unfit, both_broke}
 
 module _ (p : Ir) (thread : ℕ) (answer : Answer) (callers : List (Point Position Own)) (s : World) where
   -- what comes of a turn that goes on so
   abbrev pub after : Result (Point Position Own) Fault → Turn (Thread Position Own)
-  after x = turned (and_then (alone (blocks_world p thread) callers s x) (stop_event structured (blocks_machine p) (blocks_world p thread) (code_of p) answer))
+  after x = turned (and_then (alone (blocks_world p thread) callers s x) (stop_event structured (blocks_machine p) (blocks_world p thread) (start_in p) answer))
 
   -- the rest of a turn, from a position on
   abbrev pub onward : Position → Own → Turn (Thread Position Own)
@@ -56,7 +56,7 @@ module _ (p : Ir) (thread : ℕ) (answer : Answer) (callers : List (Point Positi
 
   -- what the thread stops before
   pub stops_at : (k : Position) (l : Own) → ahead structured (blocks_machine p) (record { at = k; own = l }) ≡ stops
-      → onward k l ≡ turned (stop_event structured (blocks_machine p) (blocks_world p thread) (code_of p) answer (record { top = record { at = k; own = l }; callers = callers }) (kept l))
+      → onward k l ≡ turned (stop_event structured (blocks_machine p) (blocks_world p thread) (start_in p) answer (record { top = record { at = k; own = l }; callers = callers }) (kept l))
   stops_at k l e = leads_to k l stops e
 
   -- ---- nodes at which nothing is decided
@@ -108,12 +108,12 @@ module _ (p : Ir) (thread : ℕ) (answer : Answer) (callers : List (Point Positi
 
   -- ---- actions
 
-  pub does_step : (place : ℕ) (st : Step) (r : Nodes) (q : Position) (l : Own) (a : actions.Action) → action_of place l st ≡ Ok a
+  pub does_step : (place : ℕ) (st : Step) (r : Nodes) (q : Position) (l : Own) (a : actions.SharedAction) → action_of place l st ≡ Ok a
       → onward (then_ (more_nodes (plain place (ir.step st)) r) q) l
       ≡ turned (served structured (record { top = record { at = then_ (more_nodes (plain place (ir.step st)) r) q; own = l }; callers = callers }) (served_by place l st.to (acted (kept l) thread answer a)))
   does_step place st r q l a e =
       stops_at (then_ (more_nodes (plain place (ir.step st)) r) q) l refl
-      ∙ ap (λ (x : Result actions.Action Fault). turned (served structured (record { top = record { at = then_ (more_nodes (plain place (ir.step st)) r) q; own = l }; callers = callers })
+      ∙ ap (λ (x : Result actions.SharedAction Fault). turned (served structured (record { top = record { at = then_ (more_nodes (plain place (ir.step st)) r) q; own = l }; callers = callers })
       (served_if place thread answer l st.to (kept l) x))) e
 
   -- ---- both sides
@@ -172,7 +172,7 @@ module _ (p : Ir) (thread : ℕ) (answer : Answer) (callers : List (Point Positi
     done_alike go place at to (actions.broke rule) h = both_broke rule place
 
     -- a step that both do
-    pub step_alike : (go : Option Value → World → Turn Control) (place : ℕ) (st : Step) (r : Nodes) (q : Position) (l : Own) (a : actions.Action) → action_of place l st ≡ Ok a
+    pub step_alike : (go : Option Value → World → Turn Control) (place : ℕ) (st : Step) (r : Nodes) (q : Position) (l : Own) (a : actions.SharedAction) → action_of place l st ≡ Ok a
         → ((v : Option Value) (w : World) → acted (kept l) thread answer a ≡ actions.went v w
         → Together t (go v w) (runs.went (record { top = record { at = then_ r q; own = with_temps l (set_if l.temps st.to v) }; callers = callers }) w))
         → Together t (on_done place go (acted (kept l) thread answer a)) (onward (then_ (more_nodes (plain place (ir.step st)) r) q) l)

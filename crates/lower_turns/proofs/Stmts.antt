@@ -11,7 +11,7 @@ use Rattle.c_meaning.specs.Turns.{Way, run, run_node, run_place_node, run_droppe
 use Rattle.struct_ir.specs.Nodes as ir
 use Rattle.struct_ir.specs.Nodes.{Nodes, no_nodes, more_nodes}
 use Rattle.struct_ir.specs.Structured.{Position, then_, out_of, end_of}
-use Rattle.ir_meaning.specs.Blocks.{Held}
+use Rattle.struct_ir.specs.meaning.Blocks.{Held}
 use Rattle.lower_forms.specs.Counts.{count, greatest, greatest_in, greatest_row, count_if}
 use Rattle.lower_forms.specs.Forms as forms
 use Rattle.lower_forms.specs.Forms.{home, pointed, pointed_in, reach_in, branches, expr_nodes, value_nodes, object_place, args_nodes, dropped_nodes, dropped_value, dropped_object, return_nodes, ends, objects_in, objects_by, stmt_nodes, form_nodes, row_nodes}

@@ -26,9 +26,9 @@ use Rattle.struct_ir.specs.Nodes.{Nodes, Func}
 use Rattle.struct_ir.specs.Structured.{Position, then_, done, structured}
 use Rattle.struct_ir.specs.Threads.{Thread}
 use Rattle.struct_ir.specs.Threads as threads
-use Rattle.ir_meaning.specs.Blocks as code
-use Rattle.ir_meaning.specs.Blocks.{Held, value, number, broken, Own, set_at, known, on_value, blocks_machine}
-use Rattle.ir_meaning.specs.Threads.{nodes_of, params_of, first_temps, passed, blocks_world, code_of, turned, program_of}
+use Rattle.struct_ir.specs.meaning.Blocks as code
+use Rattle.struct_ir.specs.meaning.Blocks.{Held, value, number, broken, Own, set_at, known, on_value, blocks_machine}
+use Rattle.struct_ir.specs.meaning.Threads.{nodes_of, params_of, first_temps, passed, blocks_world, start_in, turned, program_of}
 use Rattle.lower_forms.specs.Forms.{Reach, found, sets, sets_int, member_reach}
 use Rattle.lower_forms.specs.Programs.{registers_of, lowered}
 use Rattle.lower_turns.proofs.Relation.{Agrees, Calls, Free, AtS, at_leaves, at_row, at_end, at_loop, at_body, at_step, at_inner, at_int, AtE, at_first, at_second, at_convert, at_not, at_test, at_member, at_read, at_and, at_or, at_second_test, at_choice, at_wanted, at_dropped, at_local, at_left, at_place, at_block, at_struct_left, at_struct_right, at_update_left, at_update_right, at_update_read, at_update_local, at_if, at_loop_test, at_caller, at_nowhere, at_inside, at_found, at_again, fr, no_callers, PointIs, at_gives, at_zero, at_lacks, at_begins, at_round, Same, same, CanBegin, AllBegin, Together, both_broke}
@@ -137,7 +137,7 @@ module _ (g : Setting) where
     goes_e _ _ _ _ _ _ (at_again {k} {u} {how} {r} {q} place rch at) = again_goes (use_of (here g) k) u how r q (goes_e k u how found r q at) place rch
 
   -- from where a turn begins
-  pub point_alike : (vs : List Variable) (ob : ℕ → Option ℕ) (b : Blocks) (tm : ℕ → Held) → Agrees (frame g) g.f.locals vs tm ob → (p : source.Point) (q : Position) → PointIs g.t g.n g.f ob tm p q
+  pub point_alike : (vs : List Variable) (ob : ℕ → Option ℕ) (b : Blocks) (tm : ℕ → Held) → Agrees (frame g) g.f.locals vs tm ob → (p : source.TurnStart) (q : Position) → PointIs g.t g.n g.f ob tm p q
       → Alike g (from_point (here g) p (now g vs b)) q (own g ob tm b)
   point_alike vs ob b tm agrees _ _ (at_gives {k} {u} {how} {r} {q} v kind is above busy at) =
       (goes_e busy vs ob b tm agrees k u how found r q at).go v tm kind (below_same u tm) is (points_found tm u v is)
@@ -154,7 +154,7 @@ module _ (g : Setting) where
 
 -- a turn
 pub turn_alike : (t : tree.Typed) → IsWellFormed t → (thread : ℕ) (answer : Answer) (x : Control) (y : Thread Position Own) (w : World) → AllBegin t w → Same t x y
-    → Together t (turn t thread answer x w) (turned (threads.turn structured (blocks_machine (lowered t)) (blocks_world (lowered t) thread) (code_of (lowered t)) answer y w))
+    → Together t (turn t thread answer x w) (turned (threads.turn structured (blocks_machine (lowered t)) (blocks_world (lowered t) thread) (start_in (lowered t)) answer y w))
 turn_alike t well thread answer _ _ w all (same {n} {f} {vs} {tm} {ob} {b} {p} {q} {cs} {cs'} call agrees point callers) =
     let g : Setting = record {
       t = t;

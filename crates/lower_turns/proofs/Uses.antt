@@ -11,7 +11,7 @@ use Rattle.block_store.specs.declared.values.Ptr.{Ptr}
 use Rattle.block_store.specs.declared.values.Value.{Value}
 use Rattle.block_store.specs.declared.values.Value.TheVariants as values
 use Rattle.block_store.specs.Actions as actions
-use Rattle.block_store.specs.Actions.{World, Action, acted}
+use Rattle.block_store.specs.Actions.{World, SharedAction, acted}
 use Rattle.block_store.specs.Blocks.{Blocks}
 use Rattle.block_store.specs.Pointers.{moved, indexed, tested}
 use Rattle.block_store.specs.Runs as runs
@@ -24,9 +24,9 @@ use Rattle.c_meaning.specs.Turns.{WayOfUse, on_ok, stays, after_call, second_way
 use Rattle.struct_ir.specs.Nodes as ir
 use Rattle.struct_ir.specs.Nodes.{Calc, Nodes, no_nodes, Place}
 use Rattle.struct_ir.specs.Structured.{Position, then_}
-use Rattle.ir_meaning.specs.Blocks.{Held, value, number, pointer, truth, Fault, Own, set_at, known, on_value, on_number, on_pointer, or_broken, calculated}
-use Rattle.ir_meaning.specs.Threads.{address_of, action_of, action_with, set_if, all_of, moved_if}
-use Rattle.ir_meaning.specs.Threads as served
+use Rattle.struct_ir.specs.meaning.Blocks.{Held, value, number, pointer, truth, Fault, Own, set_at, known, on_value, on_number, on_pointer, or_broken, calculated}
+use Rattle.struct_ir.specs.meaning.Threads.{address_of, action_of, action_with, set_if, all_of, moved_if}
+use Rattle.struct_ir.specs.meaning.Threads as served
 use Rattle.lower_forms.specs.Forms as forms
 use Rattle.lower_forms.specs.Forms.{sets, sets_int, sets_long, sets_truth, branches, Reach, found, direct, indexed as by_index, reached, behind, at_temp, member_reach, pointed, reach, expr_nodes, place_nodes, member_nodes}
 use Rattle.lower_forms.specs.Programs.{lowered}

@@ -19,14 +19,14 @@ use Rattle.block_store.specs.declared.values.Ptr.{Ptr}
 use Rattle.block_store.specs.declared.values.Ptr.TheVariants.{Null, To}
 use Rattle.block_store.specs.declared.values.Value.{Value}
 use Rattle.block_store.specs.declared.values.Value.TheVariants as values
-use Rattle.block_store.specs.Blocks.{Block, Blocks, Spot, live, loaded, read_at, spot_at, cells_at}
+use Rattle.block_store.specs.Blocks.{Block, Blocks, Range, live, loaded, read_at, spot_at, cells_at}
 use Rattle.block_store.specs.Cells as cells
 use Rattle.block_store.specs.Pointers.{within, moved_in, moved_null, moved, indexed, difference, compared}
 use Rattle.c_meaning.specs.Values as meant
 use Rattle.c_meaning.specs.Values.{on_numbers, forward, backward, distance, on_pointers, of_two, value_of, pointer_of, int_result, long_result, int_of}
 use Rattle.struct_ir.specs.Nodes.{Ir}
-use Rattle.ir_meaning.specs.Blocks.{value, number, pointer, truth, Fault, Own, or_broken, calculated, takes, if_taken, same_type}
-use Rattle.ir_meaning.specs.Threads.{further, fits, offset_in}
+use Rattle.struct_ir.specs.meaning.Blocks.{value, number, pointer, truth, Fault, Own, or_broken, calculated, takes, if_taken, same_type}
+use Rattle.struct_ir.specs.meaning.Threads.{further, fits, offset_in}
 use Rattle.lower_turns.proofs.Relation.{HasKind, Further, Moved, BinaryFits, numbers, forwards, forwards_from, backwards, distances, comparisons, calc_of}
 
 -- ---- operators on two values
@@ -211,7 +211,7 @@ read_kind accesses.Pointer cs v e = at_test (cells.has_unknown cs) e
     at_test true d = absurd cc
     at_test false d = found_pointer (cells.pointer_of cs) d
 
-read_at_kind : (how : Access) (s : Result Spot Rule) (v : Value) → read_at how s ≡ Ok v → HasKind how v
+read_at_kind : (how : Access) (s : Result Range Rule) (v : Value) → read_at how s ≡ Ok v → HasKind how v
 read_at_kind how (Err rule) v e = absurd cc
 read_at_kind how (Ok s) v e = read_kind how (cells_at (cells.size_of how) s) v e
 

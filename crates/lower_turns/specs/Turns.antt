@@ -15,9 +15,9 @@ use Rattle.struct_ir.specs.Nodes.{Ir}
 use Rattle.struct_ir.specs.Erased.{ir_erased}
 use Rattle.struct_ir.specs.Structured.{Position}
 use Rattle.struct_ir.specs.Threads.{Thread}
-use Rattle.ir_meaning.specs.Blocks.{Own}
-use Rattle.ir_meaning.specs.Start.{start as code_start}
-use Rattle.ir_meaning.specs.Threads.{program_of}
+use Rattle.struct_ir.specs.meaning.Blocks.{Own}
+use Rattle.struct_ir.specs.meaning.Start.{start as code_start}
+use Rattle.struct_ir.specs.meaning.Threads.{program_of}
 use Rattle.lower_forms.specs.Programs.{lowered}
 use Rattle.lower_turns.specs.Rows.{Keeps}
 

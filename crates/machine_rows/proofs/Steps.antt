@@ -1,8 +1,8 @@
 -- One step of a thread, and several of them.
 use Rattle.std.proofs.Common.{◌≡◌, ◌≢◌, ℕ, ◌<◌, ◌≤◌, ◌==◌, ◌||◌, ◌&&◌, Bool, true, false, cond, ap, sym, subst, ◌∙◌, refl, arith, inl, inr, Option, Some, None}
 use Rattle.std.proofs.lemmas.Bool.Decides.{nat_tests}
-use Rattle.flat_meaning.specs.declared.endings.End.{End}
-use Rattle.flat_meaning.specs.declared.endings.End.TheVariants.{Done}
+use Rattle.ak_trace.specs.declared.endings.End.{End}
+use Rattle.ak_trace.specs.declared.endings.End.TheVariants.{Done}
 use Rattle.flat_rules.specs.declared.step.Step.{Step}
 use Rattle.flat_rules.specs.declared.step.Step.TheVariants as step
 use Rattle.flat_rules.specs.Answers.{step_of, step_by_end}

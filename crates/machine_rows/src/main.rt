@@ -9,7 +9,7 @@ mod turns;
 
 use crate::rows::{Outcome, Told, run_code, run_code_alone, settings_of};
 use ak_words::NoMemory;
-use c_compile::compile;
+use alaska_run::compile;
 use std::{fs, io};
 use struct_ir::linear::Code;
 

@@ -10,8 +10,8 @@ use Rattle.sub_heaps.specs.SubHeaps.{SubHeaps, IsSound, IsRounded, IsApartFrom}
 use Rattle.sub_heaps.proofs.Edits.{Each-with_object, with_object-Each, object_at-with_object}
 use Rattle.sub_heaps.proofs.Standing.{Each-weaker, Each-both, Each-append, Each-left, Each-right, each_rounded}
 use Rattle.sub_heaps.proofs.Taken.{found_at, found_each}
-use Rattle.move_plan.specs.declared.moves.Move.{Move}
-use Rattle.move_plan.specs.Moving.{AreLegal}
+use Rattle.sub_heaps.specs.declared.moves.Move.{Move}
+use Rattle.sub_heaps.specs.Moving.{AreLegal}
 use Rattle.move_plan.specs.inner.Spans.{origin, target, origins_of, targets_of, AreInOrder, IsClearOf, IsWithin, KeepClear}
 use Rattle.move_plan.proofs.Judged.{AreApart, KeepsClearOf, StaysClearOf, MayFollow, legal_append-left, legal_passes, passes_legal}
 use Rattle.move_plan.proofs.Spans.{origins_push, targets_push, each_span, span_each, turns_below, order_with, with_order, none_at, at_none, object_at-with_new}

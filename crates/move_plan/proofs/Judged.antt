@@ -8,8 +8,8 @@ use Rattle.sub_heaps.specs.ByPlace.{end_of, object_at, with_object, without, wit
 use Rattle.sub_heaps.specs.SubHeaps.{SubHeaps, LiesInOne, IsApartFrom, StandFrom}
 use Rattle.sub_heaps.proofs.Edits.{object_at-above, Each-with_object, with_object-Each, Each-without, without-Each}
 use Rattle.sub_heaps.proofs.Standing.{Each-weaker, Each-append, Each-left, Each-right, start_above}
-use Rattle.move_plan.specs.declared.moves.Move.{Move}
-use Rattle.move_plan.specs.Moving.{after_move, after_moves, IsAllowed, AreLegal}
+use Rattle.sub_heaps.specs.declared.moves.Move.{Move}
+use Rattle.sub_heaps.specs.Moving.{after_move, after_moves, IsAllowed, AreLegal}
 use Rattle.move_plan.proofs.Turns.{Each-three, object_at-shifted, object_at-shifted_from, allowed_object}
 
 -- ---- whether one more move is legal

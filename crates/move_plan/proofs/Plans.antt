@@ -6,8 +6,8 @@ use Rattle.std.proofs.lemmas.List.Elements.{recursion_from_All, All-from_recursi
 use Rattle.sub_heaps.specs.declared.objects.Object.{Object}
 use Rattle.sub_heaps.specs.ByPlace.{object_at}
 use Rattle.sub_heaps.specs.SubHeaps.{SubHeaps, IsSound}
-use Rattle.move_plan.specs.declared.moves.Move.{Move}
-use Rattle.move_plan.specs.Moving.{after_move, after_moves, AreLegal, destination, carried}
+use Rattle.sub_heaps.specs.declared.moves.Move.{Move}
+use Rattle.sub_heaps.specs.Moving.{after_move, after_moves, AreLegal, destination, carried}
 use Rattle.move_plan.proofs.Turns.{Each-three, object_at-shifted, IsSound-after_move}
 
 -- moves whose places of origin rise, from a place on

@@ -5,7 +5,7 @@ use Rattle.sub_heaps.specs.declared.objects.Object.{Object}
 use Rattle.sub_heaps.specs.ByPlace.{end_of}
 use Rattle.sub_heaps.specs.SubHeaps.{LiesInOne, StandFrom}
 use Rattle.sub_heaps.proofs.Blocks.{place_parts, mod_below, number_is}
-use Rattle.move_plan.specs.declared.moves.Move.{Move}
+use Rattle.sub_heaps.specs.declared.moves.Move.{Move}
 use Rattle.move_plan.specs.Sliding.{slid_place}
 
 -- the objects after they have slid

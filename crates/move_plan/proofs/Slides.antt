@@ -12,8 +12,8 @@ use Rattle.sub_heaps.proofs.Blocks.{place_parts}
 use Rattle.sub_heaps.proofs.Edits.{object_at-split, without-split, with_object-split}
 use Rattle.sub_heaps.proofs.Taken.{element_found}
 use Rattle.sub_heaps.proofs.Standing.{last_end, StandFrom-weaker, Each-weaker, Each-both, Each-append, StandFrom-append, start_above, each_rounded, end_below}
-use Rattle.move_plan.specs.declared.moves.Move.{Move}
-use Rattle.move_plan.specs.Moving.{after_moves, IsAllowed, AreLegal, destination, carried}
+use Rattle.sub_heaps.specs.declared.moves.Move.{Move}
+use Rattle.sub_heaps.specs.Moving.{after_moves, IsAllowed, AreLegal, destination, carried}
 use Rattle.move_plan.specs.Sliding.{slid_place, HaveSlid, IsSlid, holds, IsSlide}
 use Rattle.move_plan.proofs.Plans.{RiseFrom, RiseFrom-weaker, rise_above, AllPairs-from_rise, destination_below, carried_skip}
 use Rattle.move_plan.proofs.Slid.{slid_objects, slide_moves, slid_place-le, le-slid_place, slid_place-number, slid_place_lies}

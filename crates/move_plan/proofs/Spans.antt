@@ -10,7 +10,7 @@ use Rattle.sub_heaps.specs.SubHeaps.{IsApartFrom}
 use Rattle.sub_heaps.proofs.Edits.{Each-with_object, with_object-Each, object_at-above}
 use Rattle.sub_heaps.proofs.Kept.{length-with_object}
 use Rattle.sub_heaps.proofs.Standing.{Each-weaker}
-use Rattle.move_plan.specs.declared.moves.Move.{Move}
+use Rattle.sub_heaps.specs.declared.moves.Move.{Move}
 use Rattle.move_plan.proofs.Judged.{if_there}
 use Rattle.move_plan.specs.inner.Spans.{origin, target, spans_after, origins_of, targets_of, AreSorted, AreInOrder}
 

@@ -9,8 +9,8 @@ use Rattle.sub_heaps.proofs.Fits.{objects_in_order}
 use Rattle.sub_heaps.proofs.Kept.{IsSound-with_object, IsSound-without}
 use Rattle.sub_heaps.proofs.Standing.{each_rounded}
 use Rattle.sub_heaps.proofs.Taken.{found_each, object_at-without_other, length-without}
-use Rattle.move_plan.specs.declared.moves.Move.{Move}
-use Rattle.move_plan.specs.Moving.{after_move, IsAllowed}
+use Rattle.sub_heaps.specs.declared.moves.Move.{Move}
+use Rattle.sub_heaps.specs.Moving.{after_move, IsAllowed}
 
 pub Each-three : {X : Type 0} (P Q R S : X → Type 0) → ((x : X) → P x → Q x → R x → S x) → (xs : List X) → Each P xs → Each Q xs → Each R xs → Each S xs
 Each-three P Q R S f [] p q r = tt

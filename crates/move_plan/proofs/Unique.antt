@@ -8,8 +8,8 @@ use Rattle.sub_heaps.specs.ByPlace.{end_of, object_at}
 use Rattle.sub_heaps.specs.SubHeaps.{SubHeaps, StandFrom, IsSound}
 use Rattle.sub_heaps.proofs.Blocks.{place_parts}
 use Rattle.sub_heaps.proofs.Standing.{Each-weaker, Each-both, start_above}
-use Rattle.move_plan.specs.declared.moves.Move.{Move}
-use Rattle.move_plan.specs.Moving.{after_moves, destination, carried}
+use Rattle.sub_heaps.specs.declared.moves.Move.{Move}
+use Rattle.sub_heaps.specs.Moving.{after_moves, destination, carried}
 use Rattle.move_plan.specs.Sliding.{slid_place, HaveSlid, holds, IsSlide}
 use Rattle.move_plan.specs.Stretches.{room_of, IsLongestGap}
 use Rattle.move_plan.proofs.Longest.{IsLongestGap-slid}

@@ -3,7 +3,7 @@ use Rattle.std.specs.Prelude.{ℕ, Bool, List, refl}
 use Rattle.std.specs.Coded.{Coded, code_by, coded×, coded_ℕ}
 use Rattle.std.specs.FinSet as set
 use Rattle.std.specs.Ordering.{nat_cmp}
-use Rattle.move_plan.specs.declared.moves.Move.{Move}
+use Rattle.sub_heaps.specs.declared.moves.Move.{Move}
 
 -- moves in a row, and how many there may be
 pub record MoveList : Type 0 where

@@ -4,8 +4,8 @@ use Rattle.std.specs.List.{All, AllPairs}
 use Rattle.sub_heaps.specs.declared.objects.Object.{Object}
 use Rattle.sub_heaps.specs.ByPlace.{end_of, object_at}
 use Rattle.sub_heaps.specs.SubHeaps.{SubHeaps}
-use Rattle.move_plan.specs.declared.moves.Move.{Move}
-use Rattle.move_plan.specs.Moving.{AreLegal, after_moves, carried}
+use Rattle.sub_heaps.specs.declared.moves.Move.{Move}
+use Rattle.sub_heaps.specs.Moving.{AreLegal, after_moves, carried}
 
 -- where an object slides to above a place: a pinned one stays, any other goes to that place or to its sub-heap's start, whichever is higher
 abbrev pub slid_place : (pinned : ℕ → Bool) → (size below : ℕ) → Object → ℕ

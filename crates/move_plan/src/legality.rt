@@ -3,13 +3,13 @@ ghost use Rattle.std.specs.List.{All};
 ghost use Rattle.sub_heaps.specs.ByPlace.{end_of, object_at};
 ghost use Rattle.sub_heaps.specs.SubHeaps.{LiesInOne, IsApartFrom, IsSound};
 ghost use Rattle.move_plan.specs.Holding.{is_pinned};
-ghost use Rattle.move_plan.specs.Moving.{AreLegal};
+ghost use Rattle.sub_heaps.specs.Moving.{AreLegal};
 ghost use Rattle.move_plan.specs.inner.Spans.{AreSorted, AreInOrder, IsClearOf, IsWithin, origins_of, targets_of};
 
-use crate::moves::{Move, Plan};
+use crate::moves::Plan;
 use crate::pinned::Pins;
 use crate::places::{are_in_order, span_at};
-use sub_heaps::{Heaps, Object};
+use sub_heaps::{Heaps, Move, Object};
 
 /// Whether each move, at its turn, is of an unpinned object of its size that starts at `from`, and ends in
 /// one sub-heap without overlapping another object, and no object is moved twice. It takes time in

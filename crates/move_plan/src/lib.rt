@@ -11,7 +11,8 @@ mod rooms;
 mod sliding;
 
 pub use legality::is_legal;
-pub use moves::{Move, Plan};
+pub use moves::Plan;
 pub use pinned::Pins;
 pub use rooms::room;
 pub use sliding::{slide, slide_is_unique};
+pub use sub_heaps::Move;

@@ -5,18 +5,7 @@ use crate::places::put_in_order;
 use ak_words::NoMemory;
 use std::alloc::Global;
 use std::marker::Model;
-use sub_heaps::Object;
-
-/// A move of an object of `size` bytes.
-#[derive(Clone, Copy, Debug, PartialEq, Eq)]
-pub struct Move {
-    /// The place where the object starts before.
-    pub from: u32,
-    /// The place where it starts after.
-    pub to: u32,
-    /// How many bytes it takes.
-    pub size: u32,
-}
+use sub_heaps::{Move, Object};
 
 /// Moves in the order in which they are to be made.
 #[derive(Debug, Drop)]

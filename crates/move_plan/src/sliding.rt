@@ -1,14 +1,14 @@
 ghost use Rattle.std.specs.Prelude.{◌≡◌, ◌<◌, ◌≤◌, ℕ, Bool, List, [], length};
 ghost use Rattle.sub_heaps.specs.SubHeaps.{SubHeaps, IsSound};
-ghost use Rattle.move_plan.specs.declared.moves.Move.{Move};
+ghost use Rattle.sub_heaps.specs.declared.moves.Move.{Move};
 ghost use Rattle.move_plan.specs.Holding.{is_pinned};
-ghost use Rattle.move_plan.specs.Moving.{after_moves};
+ghost use Rattle.sub_heaps.specs.Moving.{after_moves};
 ghost use Rattle.move_plan.specs.Sliding.{IsSlide, slid_place};
 ghost use Rattle.move_plan.specs.Stretches.{room_of, IsLongestGap};
 
-use crate::moves::{Move, Plan};
+use crate::moves::Plan;
 use crate::pinned::Pins;
-use sub_heaps::{Heaps, Object};
+use sub_heaps::{Heaps, Move, Object};
 
 /// Gives the moves after which each unpinned object starts where its lower neighbour ends, or at its
 /// sub-heap's start.

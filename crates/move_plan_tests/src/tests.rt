@@ -1,7 +1,7 @@
 ghost use Rattle.std.specs.Prelude.{◌≡◌, ◌≤◌, [], length};
 ghost use Rattle.std.specs.FinSet as set;
 ghost use Rattle.move_plan.specs.Holding.{is_pinned};
-ghost use Rattle.move_plan.specs.Moving.{AreLegal, after_moves};
+ghost use Rattle.sub_heaps.specs.Moving.{AreLegal, after_moves};
 
 use ak_words::NoMemory;
 use move_plan::{Move, Pins, Plan, is_legal, room, slide};

@@ -2,7 +2,7 @@
 use Rattle.std.proofs.Common.{◌≡◌, ℕ, List, [], ◌∷◌, Option, Some, None, Bool, true, false, inl, inr, refl, subst}
 use Rattle.std.proofs.lemmas.Bool.{or_cases, and_parts, eqb-true}
 use Rattle.std.specs.Prelude.{not, ◌==◌}
-use Rattle.struct_ir.specs.Nodes.{Act, Node, plain, if_, loop, break_, next_, ret, Nodes, no_nodes, more_nodes, Func, Ir}
+use Rattle.struct_ir.specs.Nodes.{Act, Node, plain, if_, loop, break_, next_, ret, Nodes, no_nodes, more_nodes, Func, Ir, node_place}
 use Rattle.struct_ir.specs.Flow.{does}
 use Rattle.struct_ir.specs.Structured.{Position, done, then_, in_body, in_latch, here}
 use Rattle.struct_ir.specs.Valid.{Scope, Around, body_of, latch_of, outside, scope_of, list_at}
@@ -11,7 +11,7 @@ use Rattle.pin_flow.proofs.EachAt.{EachAt, EachAtIn}
 use Rattle.pin_checker.specs.declared.fault.Why.TheVariants.{BadTemp}
 use Rattle.pin_checker.specs.declared.fault.Fault.{Fault}
 use Rattle.pin_checker.specs.declared.pair.Pair.{Pair}
-use Rattle.pin_checker.specs.Faults.{place_of, is_sound, Invalid, InvalidIn}
+use Rattle.pin_checker.specs.Faults.{is_sound, Invalid, InvalidIn}
 use Rattle.pin_checker.specs.inner.Reports.{Search, report_invalid, report_invalid_in, report, report_node, report_all, for_other, for_none, for_stale, for_lacking, for_bare, is_pair, has_pair, pairs_of, report_pair, report_pairs, report_func}
 use Rattle.pin_checker.proofs.Order.{made, AtMost, noted_least}
 
@@ -19,7 +19,7 @@ use Rattle.pin_checker.proofs.Order.{made, AtMost, noted_least}
 abbrev pub place_at : Position → ℕ
 place_at done = 0
 place_at (then_ no_nodes k) = 0
-place_at (then_ (more_nodes n rest) k) = place_of n
+place_at (then_ (more_nodes n rest) k) = node_place n
 place_at (in_body body latch k) = 0
 place_at (in_latch body latch k) = 0
 
@@ -93,7 +93,7 @@ mutual
   invalid_least c x around before (more_nodes n rest) best h =
       let k = invalid_least c x around (list_at n) rest _ h in
       let m = invalid_in_least c x around n _ k.0 in
-      let v = noted_least c (not (is_sound x around before n rest)) (place_of n) BadTemp best m.0 in
+      let v = noted_least c (not (is_sound x around before n rest)) (node_place n) BadTemp best m.0 in
       (v.0, λ place. elim [ inl e ↦ subst (Strict c) e.0 (v.1 (not_it _ e.1)) | inr (inl i) ↦ m.1 place i | inr (inr i) ↦ k.1 place i ])
 
   invalid_in_least : (c : Option Fault) (x : Scope) (around : Around) (n : Node) (best : Option Fault) → AtMost c (report_invalid_in x around n best)

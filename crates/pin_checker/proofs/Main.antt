@@ -3,18 +3,18 @@ use Rattle.std.proofs.Common.{◌≡◌, ℕ, ◌≤◌, List, [], ◌∷◌, Op
 use Rattle.std.specs.List.{AllByRecursion, list_all}
 use Rattle.std.specs.Prelude.{not, nat_lt, ◌&&◌, ◌||◌, ◌==◌}
 use Rattle.std.proofs.lemmas.Bool.{and_parts, and_from, eqb-true, eq-eqb}
-use Rattle.struct_ir.specs.Nodes.{Place, Act, Node, plain, if_, loop, break_, next_, ret, Nodes, no_nodes, more_nodes, Func, Ir, places_of}
+use Rattle.struct_ir.specs.Nodes.{Place, Act, Node, plain, if_, loop, break_, next_, ret, Nodes, no_nodes, more_nodes, Func, Ir, places_of, node_place}
 use Rattle.struct_ir.specs.Flow.{does, Path}
 use Rattle.struct_ir.specs.Structured.{Position, done, then_, here, structured}
 use Rattle.struct_ir.specs.Pins.{Fact, unlooked, looked, facts, lacks_if, held_by, Among, IsPlaced, PinSafe}
 use Rattle.struct_ir.specs.Valid.{Scope, Around, body_of, latch_of, outside, scope_of, list_at, last_list, is_node, are_nodes, node_is_placed, are_placed}
-use Rattle.pin_flow.specs.Funcs.{IsPinSafe}
+use Rattle.struct_ir.specs.Safe.{IsPinSafe}
 use Rattle.pin_flow.proofs.Strip.{by_bool}
 use Rattle.pin_checker.specs.declared.fault.Why.{Why}
 use Rattle.pin_checker.specs.declared.fault.Why.TheVariants.{BadTemp, NoLook, StaleLook, NotPinned}
 use Rattle.pin_checker.specs.declared.fault.Fault.{Fault}
 use Rattle.pin_checker.specs.Safe.{IsSafe}
-use Rattle.pin_checker.specs.Faults.{place_of, is_alone, is_guarded, is_sound, Invalid, InvalidIn, fails, fails_through, Unsafe, FailsAmong, Fails, rank, NoLater, IsFirst}
+use Rattle.pin_checker.specs.Faults.{is_alone, is_guarded, is_sound, Invalid, InvalidIn, fails, fails_through, Unsafe, FailsAmong, Fails, rank, NoLater, IsFirst}
 use Rattle.pin_checker.specs.Answers.{IsRefused}
 use Rattle.pin_checker.specs.inner.Reports.{first_fault}
 use Rattle.pin_checker.proofs.Order.{AtMost, no_later_self, same_rank}
@@ -50,7 +50,7 @@ mutual
   valid_if : (x : Scope) (around : Around) (before : Option (List ℕ)) (ns : Nodes) → ((place : ℕ) → Invalid x around before ns place → ⊥) → (are_nodes x around ns ≡ true) × (are_placed before ns ≡ true)
   valid_if x around before no_nodes h = (refl, refl)
   valid_if x around before (more_nodes n rest) h =
-      let y = and_parts (is_alone x around n) (is_guarded before n rest) (true_if _ (λ e. h (place_of n) (inl (refl, e)))) in
+      let y = and_parts (is_alone x around n) (is_guarded before n rest) (true_if _ (λ e. h (node_place n) (inl (refl, e)))) in
       let m = node_valid_if x around before n rest y.0 y.1 (λ place i. h place (inr (inl i))) in
       let r = valid_if x around (list_at n) rest (λ place i. h place (inr (inr i))) in
       (and_from _ _ m.0 r.0, and_from _ _ m.1 r.1)

@@ -11,8 +11,9 @@ use Rattle.pin_flow.specs.Marks.{State, flow_node}
 use Rattle.pin_flow.proofs.FlowRows.{split_at}
 use Rattle.pin_checker.specs.declared.fault.Fault.{Fault}
 use Rattle.pin_checker.specs.declared.fault.Why.TheVariants.{BadTemp}
-use Rattle.pin_checker.specs.Faults.{place_of, is_sound}
+use Rattle.pin_checker.specs.Faults.{is_sound}
 use Rattle.pin_checker.specs.inner.Reports.{Search, noted, report, report_node, report_invalid, report_invalid_in}
+use Rattle.struct_ir.specs.Nodes.{node_place}
 
 -- one node more
 pub row_on : (s : Search) (rows : List CodeNode) (i : ℕ) (x : CodeNode) (t t' : State) (best best' all : Option Fault) → i < length rows → x ≡ get_or rows i x → report s (nodes_view (drop i rows)) t best ≡ all
@@ -28,7 +29,7 @@ row_over s rows i t best all le inv = ap (λ l. report s (nodes_view l) t best) 
 
 -- ---- nodes that are not valid
 
-place_is : (p : ℕ) (k : NodeKind) → p ≡ place_of (kind_view p k)
+place_is : (p : ℕ) (k : NodeKind) → p ≡ node_place (kind_view p k)
 place_is p (kinds.Set to calc) = refl
 place_is p (kinds.If' temp shape one shape' other) = refl
 place_is p (kinds.Loop' shape body shape' latch) = refl
@@ -53,6 +54,6 @@ pub invalid_on : (x : Scope) (around : Around) (rows : List CodeNode) (i : ℕ) 
 unfolding report_invalid
 invalid_on x around rows i n before before' best next best' all sound le is inv e f g h =
     let e' = e ∙ ap (λ l. is_sound x around before (node_view n) (nodes_view l)) (rest_is rows i) in
-    let a : next ≡ noted (not (is_sound x around before (node_view n) (nodes_view (drop (i + 1) rows)))) (place_of (node_view n)) BadTemp best = f ∙ (λ j. noted (not (e' j)) (place_is n.place n.kind j) BadTemp best) in
+    let a : next ≡ noted (not (is_sound x around before (node_view n) (nodes_view (drop (i + 1) rows)))) (node_place (node_view n)) BadTemp best = f ∙ (λ j. noted (not (e' j)) (place_is n.place n.kind j) BadTemp best) in
     let b = g ∙ ap (report_invalid_in x around (node_view n)) a in
     (λ j. report_invalid x around (h j) (nodes_view (drop (i + 1) rows)) (b j)) ∙ (ap (λ l. report_invalid x around before (nodes_view l) best) (sym (split_at rows i n le is)) ∙ inv)

@@ -2,7 +2,7 @@
 use Rattle.std.proofs.Common.{◌≡◌, ℕ, ◌≤◌, List, [], ◌∷◌, Option, Some, None, Bool, true, false, inl, inr, refl, sym, ap, subst, ◌∙◌, arith}
 use Rattle.std.specs.Prelude.{not, is_none, ◌&&◌, ◌||◌, ◌==◌}
 use Rattle.std.proofs.lemmas.Bool.{or_cases, or_right, and_parts}
-use Rattle.struct_ir.specs.Nodes.{Place, Act, Node, plain, if_, loop, break_, next_, ret, Nodes, no_nodes, more_nodes, Func, Ir, places_of, list_of}
+use Rattle.struct_ir.specs.Nodes.{Place, Act, Node, plain, if_, loop, break_, next_, ret, Nodes, no_nodes, more_nodes, Func, Ir, places_of, list_of, node_place}
 use Rattle.struct_ir.specs.Flow.{does, Path, entry}
 use Rattle.struct_ir.specs.Structured.{Position, done, then_, in_body, in_latch, here, structured}
 use Rattle.struct_ir.specs.Pins.{Fact, unlooked, looked, facts, lacks_if, held_by, is_fresh, Among}
@@ -19,7 +19,7 @@ use Rattle.pin_checker.specs.declared.fault.Why.{Why}
 use Rattle.pin_checker.specs.declared.fault.Why.TheVariants.{BadTemp, NoLook, StaleLook, NotPinned}
 use Rattle.pin_checker.specs.declared.fault.Fault.{Fault}
 use Rattle.pin_checker.specs.declared.pair.Pair.{Pair}
-use Rattle.pin_checker.specs.Faults.{place_of, is_sound, Invalid, InvalidIn, fails, fails_through, Unsafe, rank, FailsAmong}
+use Rattle.pin_checker.specs.Faults.{is_sound, Invalid, InvalidIn, fails, fails_through, Unsafe, rank, FailsAmong}
 use Rattle.pin_checker.specs.inner.Reports.{Search, noted, is_bad, is_good, has_bare, for_other, for_none, for_stale, for_lacking, for_bare, report, report_node, report_all, report_invalid, report_invalid_in, pairs_of, report_pair, report_pairs, report_func, report_funcs}
 use Rattle.pin_checker.proofs.Facts.{suits, is_looked, is_pinned, suits_answer, looked_answer, pinned_answer, filled_for_fair, filled_fair, pinned_fair}
 use Rattle.pin_checker.proofs.Order.{made, earlier_one}
@@ -185,7 +185,7 @@ module _ (F : ℕ → Why → Type 0) where
     invalid_shown : (x : Scope) (around : Around) (before : Option (List ℕ)) (ns : Nodes) → ((place : ℕ) → Invalid x around before ns place → F place BadTemp) → (best : Option Fault) → AreShown best → AreShown (report_invalid x around before ns best)
     invalid_shown x around before no_nodes into best r = r
     invalid_shown x around before (more_nodes n rest) into best r =
-        let v = noted_shown (not (is_sound x around before n rest)) (place_of n) BadTemp best r (λ e. (BadTemp, omega arith, into (place_of n) (inl (refl, it_is _ e)))) in
+        let v = noted_shown (not (is_sound x around before n rest)) (node_place n) BadTemp best r (λ e. (BadTemp, omega arith, into (node_place n) (inl (refl, it_is _ e)))) in
         invalid_shown x around (list_at n) rest (λ place i. into place (inr (inr i))) _ (invalid_in_shown x around n (λ place i. into place (inr (inl i))) _ v)
 
     invalid_in_shown : (x : Scope) (around : Around) (n : Node) → ((place : ℕ) → InvalidIn x around n place → F place BadTemp) → (best : Option Fault) → AreShown best → AreShown (report_invalid_in x around n best)

@@ -4,5 +4,5 @@ use Rattle.struct_ir.specs.WholeViews.{ir_view}
 use Rattle.pin_checker.specs.declared.checked.Checked.{Checked}
 
 -- the program
-abbrev pub code_of : Checked → nodes.Ir
-code_of c = ir_view c.ir
+abbrev pub program_in : Checked → nodes.Ir
+program_in c = ir_view c.ir

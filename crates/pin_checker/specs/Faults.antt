@@ -1,6 +1,6 @@
 -- At which node code is not safe for moves, and why.
 use Rattle.std.specs.Prelude.{◌≡◌, ℕ, ◌<◌, ◌≤◌, ◌⊎◌, not, nat_lt, List, [], ◌∷◌, Option, Some, None, is_some, Bool, true, false, ◌==◌, ◌&&◌, ◌||◌}
-use Rattle.struct_ir.specs.Nodes.{Place, Act, Node, plain, if_, loop, break_, next_, ret, Nodes, no_nodes, more_nodes, Func, Ir, places_of}
+use Rattle.struct_ir.specs.Nodes.{Place, Act, Node, plain, if_, loop, break_, next_, ret, Nodes, no_nodes, more_nodes, Func, Ir, places_of, node_place}
 use Rattle.struct_ir.specs.Flow.{Flow, does, Path}
 use Rattle.struct_ir.specs.Structured.{Position, done, then_, structured}
 use Rattle.struct_ir.specs.Pins.{Fact, unlooked, looked, facts, lacks_if, held_by, Among}
@@ -9,15 +9,6 @@ use Rattle.pin_checker.specs.declared.fault.Why.{Why}
 use Rattle.pin_checker.specs.declared.fault.Why.TheVariants.{BadTemp, NoLook, StaleLook, NotPinned}
 
 -- ---- nodes that are not valid
-
--- where a node stands in the text
-abbrev pub place_of : Node → ℕ
-place_of (plain place a) = place
-place_of (if_ place temp one other) = place
-place_of (loop place body latch) = place
-place_of (break_ place) = place
-place_of (next_ place) = place
-place_of (ret place temp) = place
 
 -- the node is valid, apart from the nodes inside it
 abbrev pub is_alone : Scope → Around → Node → Bool
@@ -46,7 +37,7 @@ abbrev mutual
   pub Invalid : Scope → Around → (before : Option (List ℕ)) → Nodes → ℕ → Type 0
   Invalid x around before no_nodes place = ⊥
   Invalid x around before (more_nodes n rest) place =
-      ((place_of n ≡ place) × (is_sound x around before n rest ≡ false)) ⊎ (InvalidIn x around n place ⊎ Invalid x around (list_at n) rest place)
+      ((node_place n ≡ place) × (is_sound x around before n rest ≡ false)) ⊎ (InvalidIn x around n place ⊎ Invalid x around (list_at n) rest place)
 
   pub InvalidIn : Scope → Around → Node → ℕ → Type 0
   InvalidIn x around (plain place' a) place = ⊥

@@ -3,7 +3,7 @@ use Rattle.std.specs.Prelude.{◌≡◌, true, None}
 use Rattle.std.specs.List.{list_all}
 use Rattle.struct_ir.specs.Nodes.{Ir}
 use Rattle.struct_ir.specs.Valid.{is_valid, are_placed}
-use Rattle.pin_flow.specs.Funcs.{EveryFunc, IsPinSafe}
+use Rattle.struct_ir.specs.Safe.{EveryFunc, IsPinSafe}
 
 -- each node is valid; safepoints stand around calls and at the ends of loops' steps; and in each function, on every path, each
 -- access finds its base's word in its slot, which no list since lacks

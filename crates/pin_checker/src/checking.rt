@@ -3,7 +3,7 @@
 ghost use Rattle.std.specs.Prelude.{◌≡◌, IfOk};
 ghost use Rattle.struct_ir.specs.WholeViews.{ir_view};
 ghost use Rattle.pin_checker.specs.Answers.{IfRefused, IsRefused};
-ghost use Rattle.pin_checker.specs.CheckedViews.{code_of};
+ghost use Rattle.pin_checker.specs.CheckedViews.{program_in};
 ghost use Rattle.pin_checker.specs.Safe.{IsSafe};
 
 use crate::checked::Checked;
@@ -16,16 +16,16 @@ impl Checked {
     /// The code, which is safe for moves.
     #[tactic(auto, using(crate::proofs::Main::accepted_is))]
     pub fn ir(&self) -> &Ir
-        ensures same { ir_view result.now ≡ code_of self.now }
-        ensures safe { IsSafe (code_of self.now) }
+        ensures same { ir_view result.now ≡ program_in self.now }
+        ensures safe { IsSafe (program_in self.now) }
     {
         &self.ir
     }
 
     /// The code itself, which is safe for moves.
     pub fn into_ir(self) -> Ir
-        ensures same { ir_view result ≡ code_of self }
-        ensures safe { IsSafe (code_of self) }
+        ensures same { ir_view result ≡ program_in self }
+        ensures safe { IsSafe (program_in self) }
     {
         self.ir
     }
@@ -39,7 +39,7 @@ impl Checked {
 /// `Refused` with that node's place and reason, or `NoMemory`.
 #[tactic(auto, using(crate::proofs::Main::accepted_is, crate::proofs::Main::refused_is))]
 pub fn check(alloc: Global, ir: Ir) -> Result<Checked, CheckFault>
-    ensures accepted { IfOk result (λ c. code_of c ≡ ir_view ir) }
+    ensures accepted { IfOk result (λ c. program_in c ≡ ir_view ir) }
     ensures refused { IfRefused result (λ place why. IsRefused (ir_view ir) place why) }
 {
     match first_fault(alloc, &ir)? {

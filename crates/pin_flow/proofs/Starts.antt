@@ -5,7 +5,7 @@ use Rattle.struct_ir.specs.Structured.{done, then_, structured, start_of}
 use Rattle.struct_ir.specs.Pins.{PinSafe}
 use Rattle.pin_flow.specs.Held.{held}
 use Rattle.std.specs.List.{AllByRecursion}
-use Rattle.pin_flow.specs.Funcs.{IsPinSafe}
+use Rattle.struct_ir.specs.Safe.{IsPinSafe}
 use Rattle.pin_flow.proofs.Fresh.{held_fair}
 use Rattle.pin_flow.proofs.Sound.{each_holds}
 

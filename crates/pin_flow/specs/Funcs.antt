@@ -1,14 +1,8 @@
 -- What is asked of the functions of a program.
-use Rattle.std.specs.List.{AllByRecursion}
-use Rattle.struct_ir.specs.Nodes.{Func, Ir}
+use Rattle.struct_ir.specs.Nodes.{Func}
 use Rattle.struct_ir.specs.Structured.{done, then_, structured}
-use Rattle.struct_ir.specs.Pins.{PinSafe}
 use Rattle.pin_flow.specs.Looks as looks
 use Rattle.pin_flow.specs.Held.{HoistedThroughout}
-
--- each function is so
-abbrev pub EveryFunc : (Func → Type 0) → Ir → Type 0
-EveryFunc R x = AllByRecursion R x.funcs
 
 -- each access has a slot, which is available there for its base
 abbrev pub IsCovered : Func → Type 0
@@ -25,7 +19,3 @@ IsHoistedThroughout f = HoistedThroughout f.nodes
 -- each list has just the slots that are available there and used later, and those that its act uses
 abbrev pub IsExact : Func → Type 0
 IsExact f = looks.PinsExact f.nodes
-
--- safe for moves: on every path, each access finds its base's word in its slot, which no list since lacks
-abbrev pub IsPinSafe : Func → Type 0
-IsPinSafe f = PinSafe structured (then_ f.nodes done)

@@ -13,7 +13,8 @@ use Rattle.pin_flow.specs.Marks.{bad, Each}
 use Rattle.pin_flow.specs.Looks.{some_act, act_looks, Covered, Hoisted, PinsExact}
 use Rattle.pin_flow.specs.Held.{fresh, HoistedThroughout}
 use Rattle.pin_flow.specs.Live.{is_slot, has, uses}
-use Rattle.pin_flow.specs.Funcs.{EveryFunc, IsCovered, IsHoisted, IsHoistedThroughout, IsExact, IsPinSafe}
+use Rattle.struct_ir.specs.Safe.{EveryFunc, IsPinSafe}
+use Rattle.pin_flow.specs.Funcs.{IsCovered, IsHoisted, IsHoistedThroughout, IsExact}
 use Rattle.pin_flow.specs.Slots.{has_base, accesses, bases_of, slot_in, own, IsIn, IsOwn, HasOwnSlots}
 use Rattle.pin_flow.proofs.Strip.{by_bool}
 use Rattle.pin_flow.proofs.At.{some_finds}

@@ -10,7 +10,8 @@ ghost use Rattle.struct_ir.specs.Views.{nodes_view, func_view};
 ghost use Rattle.struct_ir.specs.WholeViews.{ir_view};
 ghost use Rattle.pin_flow.specs.Marks.{bad};
 ghost use Rattle.pin_flow.specs.Live.{lives};
-ghost use Rattle.pin_flow.specs.Funcs.{EveryFunc, IsCovered, IsExact, IsHoisted, IsHoistedThroughout, IsPinSafe};
+ghost use Rattle.struct_ir.specs.Safe.{EveryFunc, IsPinSafe};
+ghost use Rattle.pin_flow.specs.Funcs.{IsCovered, IsExact, IsHoisted, IsHoistedThroughout};
 ghost use Rattle.pin_flow.specs.Slots.{HasOwnSlots, slot_if};
 ghost use Rattle.pin_frames.specs.inner.Place.{seated, cleared, listed_one, listed_for, listed_each, func_placed, ir_placed};
 

@@ -36,6 +36,7 @@ abbrev pub calls : ℕ → ℕ → List ℕ
 calls k zero = []
 calls k (suc n) = call k ++ calls (k + 1) n
 
+-- the text of a seed and a size: its globals, its functions, and main, which calls each once and prints the sum
 unfoldable pub text : (seed size : ℕ) → List ℕ
 text seed size = codes "#include <stdio.h>\n#include <stdlib.h>\nchar *slot[64];\nlong sum;\n"
     ++ functions 0 (draws (3 * size) (seeded (Some seed)))

@@ -1,10 +1,10 @@
 -- The report of a run that ended: eight lines.
 use Rattle.std.specs.Prelude.{ℕ, List, ◌++◌, codes, decimal, Option, Some, None}
 use Rattle.std.specs.Fmt.{signed_decimal}
-use Rattle.flat_meaning.specs.declared.endings.End.{End}
-use Rattle.flat_meaning.specs.declared.endings.End.TheVariants as ends
-use Rattle.flat_meaning.specs.declared.endings.TrapKind.{TrapKind}
-use Rattle.flat_meaning.specs.declared.endings.TrapKind.TheVariants as trap_kinds
+use Rattle.ak_trace.specs.declared.endings.End.{End}
+use Rattle.ak_trace.specs.declared.endings.End.TheVariants as ends
+use Rattle.ak_trace.specs.declared.endings.TrapKind.{TrapKind}
+use Rattle.ak_trace.specs.declared.endings.TrapKind.TheVariants as trap_kinds
 use Rattle.run_report.specs.declared.report.LastBarrier.{LastBarrier}
 use Rattle.run_report.specs.declared.report.Report.{Report}
 

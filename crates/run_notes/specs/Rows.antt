@@ -2,8 +2,8 @@
 use Rattle.std.specs.Prelude.{◌≡◌, pos, negsuc, [], ◌++◌, codes, replicate, Some, None, refl}
 use Rattle.std.specs.Fmt.{digits}
 use Rattle.c_lex.specs.declared.refusal.Kind.TheVariants.{TooDeep, UnknownName, OutsideSubset}
-use Rattle.flat_meaning.specs.declared.endings.End.TheVariants.{Done, Trap, AllBlocked, TurnLimit, OutputLimit, StackLimit}
-use Rattle.flat_meaning.specs.declared.endings.TrapKind.TheVariants.{Store, Free}
+use Rattle.ak_trace.specs.declared.endings.End.TheVariants.{Done, Trap, AllBlocked, TurnLimit, OutputLimit, StackLimit}
+use Rattle.ak_trace.specs.declared.endings.TrapKind.TheVariants.{Store, Free}
 use Rattle.run_notes.specs.declared.status.Status.TheVariants as statuses
 use Rattle.run_report.specs.declared.report.Report.{Report}
 use Rattle.run_notes.specs.Reports.{report_text, end_text}

@@ -2,7 +2,7 @@ ghost use Rattle.std.specs.Prelude.{◌≡◌};
 ghost use Rattle.run_notes.specs.Statuses.{status_of};
 
 use crate::status::Status;
-use flat_meaning::End;
+use ak_trace::End;
 
 /// The status of a run that ended so, where all was written.
 pub fn status_of(end: End) -> Status

@@ -2,7 +2,7 @@ ghost use Rattle.std.specs.Prelude.{◌≡◌, ◌+◌, ◌≤◌, ◌++◌, [],
 ghost use Rattle.run_notes.specs.Reports.{barrier_text, end_text, last_text, line, objects_text, report_text, trap_name};
 
 use crate::pieces::{push_bytes, push_decimal};
-use flat_meaning::{End, TrapKind};
+use ak_trace::{End, TrapKind};
 use run_report::{LastBarrier, Report};
 
 // The name of a kind of trap.

@@ -1,5 +1,5 @@
+use ak_trace::TrapKind;
 use c_lex::Kind;
-use flat_meaning::TrapKind;
 
 /// How a call of `alaska` ended.
 #[derive(Clone, Copy, Debug, PartialEq, Eq)]

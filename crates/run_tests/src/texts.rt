@@ -1,7 +1,7 @@
 use ak_io::{MemShelf, MemSink};
+use ak_trace::{End, TrapKind};
 use ak_words::NoMemory;
 use c_lex::Kind;
-use flat_meaning::{End, TrapKind};
 use run_edges::{TextRead, read_text, write_ending};
 use run_notes::{Status, fault_line, push_report, status_of};
 use run_report::{LastBarrier, Report};

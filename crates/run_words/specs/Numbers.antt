@@ -4,8 +4,8 @@ use Rattle.std.specs.Str.Parse.{digits_value}
 use Rattle.run_words.specs.Numerals.{is_numeral}
 use Rattle.run_words.specs.declared.numbers.Bounds.{Bounds}
 
--- the numbers from the one to the other
 infix 11 ◌to◌
+-- the numbers from the one to the other
 abbrev pub ◌to◌ : ℕ → ℕ → Bounds
 least to most = record { least = least; most = most }
 

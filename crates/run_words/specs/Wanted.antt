@@ -50,6 +50,7 @@ mode_or_run None = Some Run
 mode_or_run (Some name) = mode_named name
 
 infixl 10 ◌>>=◌
+-- what the first gives goes into the next; none where it is none
 abbrev pub ◌>>=◌ : {A B : Type 0} → Option A → (A → Option B) → Option B
 given >>= next = option_and_then next given
 

@@ -5,9 +5,9 @@
 
 use ak_io::{FileShelf, ReadEnd, Shelf};
 use ak_words::NoMemory;
+use alaska_run::{Reading, read};
 use block_meaning::{Answer, SourceRun, Turned};
 use c_lex::CompileFault;
-use c_reader::{Reading, read};
 use std::alloc::Global;
 use std::env::Env;
 use std::time::Instant;

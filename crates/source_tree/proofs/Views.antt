@@ -10,11 +10,12 @@ use Rattle.c_tree.specs.declared.typed.Stmt.{Stmt}
 use Rattle.c_tree.specs.declared.typed.StmtNode.{Row_of-Stmt, end_of-Stmt, more_of-Stmt, items-the_row-Stmt}
 use Rattle.c_tree.specs.declared.typed.StmtNode.TheViews as stmt_views
 use Rattle.c_tree.specs.Typed as trees
-use Rattle.c_tree.specs.TypedViews.{type_view, expr_node_view, expr_row_view, lib_view, stmt_view, stmt_node_view, stmt_row_view, stmts_of}
+use Rattle.c_tree.specs.TypedViews.{type_view, expr_node_view, expr_row_view, lib_view, stmt_view, stmt_node_view, stmt_row_view}
 use Rattle.source_tree.specs.declared.tree.SharedStmt.{SharedStmt, Row_of-SharedRow-stmts-1, end_of-SharedRow-stmts-1, more_of-SharedRow-stmts-1, items-the_row-SharedRow-stmts-1}
 use Rattle.source_tree.specs.declared.tree.SharedStmt.TheViews as shared_views
 use Rattle.source_tree.specs.declared.tree.SharedRow.{SharedRow}
 use Rattle.source_tree.specs.SharedViews.{exprs_view, stmt_of, held_row, these, row_of}
+use Rattle.c_tree.specs.Typed.{stmts_of}
 
 pub args_view : (n : _) (k : Row_of-Expr n) → expr_row_view k ≡ exprs_view (items-the_row-Expr n k)
 args_view _ end_of-Expr = refl

@@ -2,8 +2,9 @@
 
 ghost use Rattle.std.specs.Prelude.{◌≡◌, IfOk, map};
 ghost use Rattle.c_tree.specs.Typed as tree;
-ghost use Rattle.c_tree.specs.TypedViews.{stmt_view, stmt_node_view, stmts_of, func_view, typed_view};
+ghost use Rattle.c_tree.specs.TypedViews.{stmt_view, stmt_node_view, func_view, typed_view};
 ghost use Rattle.source_tree.specs.SharedViews.{stmt_of, row_of, these, func_of, program_of};
+ghost use Rattle.c_tree.specs.Typed.{stmts_of};
 
 use crate::share_exprs::{share_expr, share_optional};
 use crate::tree::{SharedFunc, SharedProgram, SharedRow, SharedStmt};

@@ -4,12 +4,12 @@ use Rattle.struct_ir.specs.Nodes.{Act, set, call, step, look, safepoint, begin_o
 use Rattle.struct_ir.specs.Flow.{Here, does, tests, passes, round, returns, GoesOn, Stays, Flow, Shrinks, Path, entry, on}
 use Rattle.struct_ir.specs.Machine.{Machine, goes, stopped_or, acted, ahead_at}
 use Rattle.struct_ir.specs.Mirrors.{Both, IsIdle, Match, both, first, IsMirror}
-use Rattle.struct_ir.specs.Marks.{is_mark, MarksAreIdle, IsUnseen, FollowsAt, both_go, first_goes, Follows}
+use Rattle.struct_ir.specs.Marks.{is_lifetime_mark, LifetimeMarksAreIdle, IsUnseen, FollowsAt, both_go, first_goes, Follows}
 use Rattle.struct_ir.specs.Pins.{passing, doing, facts, IsPinned, PinSafe}
 
 -- ---- machines
 
-module _ {P L F : Type 0} (C : Flow P) (M : Machine L F) (idle : MarksAreIdle M) (k : P) where
+module _ {P L F : Type 0} (C : Flow P) (M : Machine L F) (idle : LifetimeMarksAreIdle M) (k : P) where
   unseen_ahead : (h : Here) → IsUnseen h → (l : L) → ahead_at C M (record { at = k; own = l }) h ≡ goes (record { at = C.next k true; own = l })
   unseen_ahead (does place a) u l =
       let i = idle a u in
@@ -22,7 +22,7 @@ module _ {P L F : Type 0} (C : Flow P) (M : Machine L F) (idle : MarksAreIdle M)
   pub unseen_idle : IsUnseen (C.here k) → IsIdle C M k
   unseen_idle u l = unseen_ahead (C.here k) u l
 
-pub follows_mirrors : {P Q L F : Type 0} (C : Flow P) (D : Flow Q) (M : Machine L F) (R : P → Q → Type 0) → MarksAreIdle M → Follows C D R → IsMirror C D M R
+pub follows_mirrors : {P Q L F : Type 0} (C : Flow P) (D : Flow Q) (M : Machine L F) (R : P → Q → Type 0) → LifetimeMarksAreIdle M → Follows C D R → IsMirror C D M R
 follows_mirrors C D M R idle follows k j r = go (follows k j r)
   where
     go : FollowsAt C D R k j → Match C D M R k j
@@ -46,7 +46,7 @@ unseen_goes round u = absurd u
 unseen_goes (returns temp) u = absurd u
 
 module _ (s : ℕ) where
-  mark_does : (a : Act) → is_mark a ≡ true → (f : _) → doing s a f ≡ f
+  mark_does : (a : Act) → is_lifetime_mark a ≡ true → (f : _) → doing s a f ≡ f
   mark_does (set to calc) e f = absurd cc
   mark_does (call c) e f = absurd cc
   mark_does (step x) e f = absurd cc

@@ -4,12 +4,12 @@ use Rattle.struct_ir.specs.Nodes.{Act, set, call, step, look, safepoint, begin_o
 use Rattle.struct_ir.specs.Flow.{Here, does, tests, passes, round, returns, Flow, Stays, IsCall, Shrinks}
 use Rattle.struct_ir.specs.Machine.{Machine, Point, run}
 use Rattle.struct_ir.specs.Mirrors.{Both, IsMirror, EndAlike}
-use Rattle.struct_ir.specs.Threads.{World, Thread, Outcome, went, ended, blocked, broke, unfit, Served, serves, waits, refuses, fails, result_to, alone, served, finished, if_fits, entered_or_served, left_call, stop_at, local_event, stop_event, and_then}
+use Rattle.struct_ir.specs.Threads.{Environment, Thread, Outcome, went, ended, blocked, broke, unfit, Served, serves, waits, refuses, fails, result_to, alone, served, finished, if_fits, entered_or_served, left_call, stop_at, local_event, stop_event, and_then}
 use Rattle.struct_ir.specs.Alike.{SameCallers, LevelThreads, SameThreads, SameOutcomes, SameEvents}
 use Rattle.struct_ir.proofs.Mirrors.{mirrors_runs}
 use Rattle.struct_ir.proofs.Threads.{call_stays}
 
-module _ {P Q L F S A : Type 0} (C : Flow P) (D : Flow Q) (c_shrinks : Shrinks C) (d_shrinks : Shrinks D) (M : Machine L F) (W : World L F S A) (R : P → Q → Type 0) (mirror : IsMirror C D M R)
+module _ {P Q L F S A : Type 0} (C : Flow P) (D : Flow Q) (c_shrinks : Shrinks C) (d_shrinks : Shrinks D) (M : Machine L F) (W : Environment L F S A) (R : P → Q → Type 0) (mirror : IsMirror C D M R)
     (code : ℕ → P) (code' : ℕ → Q) (starts : (f : ℕ) → R (code f) (code' f)) where
   abbrev Level : Outcome P L F S → Outcome Q L F S → Type 0
   Level o o' = SameOutcomes (LevelThreads C D R) o o'

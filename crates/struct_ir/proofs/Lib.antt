@@ -6,7 +6,6 @@ pub mod MapsTurns
 pub mod Lists
 pub mod Erased
 pub mod Mirrors
-pub mod Pins
 pub mod PlacedRows
 pub mod Views
 pub mod ErasedRows
@@ -14,3 +13,5 @@ pub mod Lawful
 pub mod ValidCode
 pub mod Follows
 pub mod Level
+pub mod Bare
+pub mod WorkedRows

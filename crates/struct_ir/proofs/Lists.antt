@@ -3,10 +3,10 @@ use Rattle.std.proofs.Common.{◌≡◌, ℕ, zero, suc, List, [], ◌∷◌, tr
 use Rattle.struct_ir.specs.Nodes.{Act, set, call, step, look, safepoint, begin_object, end_object}
 use Rattle.struct_ir.specs.Flow.{Here, does, tests, passes, round, returns, Flow, GoesOn, Shrinks}
 use Rattle.struct_ir.specs.Machine.{Machine, Point, Ahead, goes, stops, breaks, acted, stopped_or, further, ahead_at, ahead, run_within, run}
-use Rattle.struct_ir.specs.Threads.{World, Thread, Outcome, went, ended, blocked, broke, unfit, result_to, alone, served, if_fits, entered_or_served, back_in, left_call, stop_at, stop_event, and_then, turn}
+use Rattle.struct_ir.specs.Threads.{Environment, Thread, Outcome, went, ended, blocked, broke, unfit, result_to, alone, served, if_fits, entered_or_served, back_in, left_call, stop_at, stop_event, and_then, turn}
 use Rattle.struct_ir.specs.Lists.{bare_act, bare_here, listless, IgnoresLists, ListsAreNothing}
 
-module _ {P L F S A : Type 0} (C : Flow P) (M : Machine L F) (W : World L F S A) (ignores : IgnoresLists M W) (code : ℕ → P) (answer : A) where
+module _ {P L F S A : Type 0} (C : Flow P) (M : Machine L F) (W : Environment L F S A) (ignores : IgnoresLists M W) (code : ℕ → P) (answer : A) where
   abbrev D : Flow P
   D = listless C
 

@@ -4,12 +4,12 @@ use Rattle.struct_ir.specs.Nodes.{Act, set, call, step, look, safepoint, begin_o
 use Rattle.struct_ir.specs.Flow.{Here, does, tests, passes, round, returns, Flow, Shrinks}
 use Rattle.struct_ir.specs.Machine.{Machine, Point, ahead, stops, goes, run}
 use Rattle.struct_ir.specs.Maps.{end_mapped, Carries, Vanishes, IsMap}
-use Rattle.struct_ir.specs.Threads.{World, Thread, Outcome, Served, serves, waits, refuses, fails, went, result_to, alone, served, finished, if_fits, entered_or_served, left_call, stop_at, stop_event, and_then, turn}
+use Rattle.struct_ir.specs.Threads.{Environment, Thread, Outcome, Served, serves, waits, refuses, fails, went, result_to, alone, served, finished, if_fits, entered_or_served, left_call, stop_at, stop_event, and_then, turn}
 use Rattle.struct_ir.specs.MapsTurns.{points_mapped, thread_mapped, AllCarry, IsMapped, MapsMapTurns}
 use Rattle.struct_ir.proofs.Runs.{runs_are_steps}
 use Rattle.struct_ir.proofs.Maps.{maps_runs}
 
-module _ {P Q L F S A : Type 0} (C : Flow P) (D : Flow Q) (shrinks : Shrinks C) (shrinks' : Shrinks D) (M : Machine L F) (W : World L F S A) (f : P → Q) (is_map : IsMap C D M f) (code : ℕ → P) (answer : A) where
+module _ {P Q L F S A : Type 0} (C : Flow P) (D : Flow Q) (shrinks : Shrinks C) (shrinks' : Shrinks D) (M : Machine L F) (W : Environment L F S A) (f : P → Q) (is_map : IsMap C D M f) (code : ℕ → P) (answer : A) where
   abbrev code' : ℕ → Q
   code' g = f (code g)
 

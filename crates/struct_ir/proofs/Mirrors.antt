@@ -2,7 +2,7 @@
 use Rattle.std.proofs.Common.{◌≡◌, ℕ, zero, suc, ◌+◌, ◌<◌, Bool, true, false, Result, Ok, Err, refl, sym, ap, subst, ◌∙◌, arith}
 use Rattle.struct_ir.specs.Flow.{Here, does, tests, passes, round, returns, Flow, Stays, Shrinks}
 use Rattle.struct_ir.specs.Machine.{Machine, Point, Ahead, goes, stops, breaks, acted, tested, stopped_or, ahead_at, ahead, further, run}
-use Rattle.struct_ir.specs.Mirrors.{SameAt, both_on, first_on, second_on, IsSame, IsIdle, Both, Match, both, first, second, IsMirror, EndAlike, MirrorsRuns}
+use Rattle.struct_ir.specs.Mirrors.{IsIdle, Both, Match, both, first, second, IsMirror, EndAlike, MirrorsRuns}
 use Rattle.struct_ir.proofs.Runs.{unfolds, smaller}
 
 module _ {P Q L F : Type 0} (C : Flow P) (D : Flow Q) (M : Machine L F) (R : P → Q → Type 0) (k : P) (j : Q) (r : R k j) (b : Both C D R k j) where
@@ -73,17 +73,3 @@ module _ {P Q L F : Type 0} (C : Flow P) (D : Flow Q) (c_shrinks : Shrinks C) (d
 
   pub mirrors_runs : MirrorsRuns C D M R
   mirrors_runs k j l r = within (suc (C.size k + D.size j)) k j l (omega arith) r (mirror k j r)
-
--- ---- the same control
-
-idle_at : {P L F : Type 0} (C : Flow P) (M : Machine L F) (k : P) → C.here k ≡ passes → IsIdle C M k
-idle_at C M k e l = ap (ahead_at C M (record { at = k; own = l })) e
-
--- it is a mirror for each machine
-pub same_mirrors : {P Q L F : Type 0} (C : Flow P) (D : Flow Q) (M : Machine L F) (R : P → Q → Type 0) → IsSame C D R → IsMirror C D M R
-same_mirrors C D M R same k j r = go (same k j r)
-  where
-    go : SameAt C D R k j → Match C D M R k j
-    go (both_on b) = both b
-    go (first_on e on) = first (idle_at C M k e) (on true)
-    go (second_on e on) = second (idle_at D M j e) (on true)

@@ -3,7 +3,7 @@ use Rattle.std.proofs.Common.{◌≡◌, ℕ, List, [], ◌∷◌, Bool, true, f
 use Rattle.struct_ir.specs.Nodes.{Act, call}
 use Rattle.struct_ir.specs.Flow.{Here, does, tests, passes, round, returns, Flow, Stays, IsCall, Shrinks}
 use Rattle.struct_ir.specs.Machine.{Machine, Point, stops, stopped_or, acted, ahead_at, ahead, run, Steps, still, more, starts, walks, resumes, changes}
-use Rattle.struct_ir.specs.Threads.{Served, serves, waits, refuses, fails, World, Thread, Outcome, behind, alone, served, finished, if_fits, entered_or_served, left_call, stop_at, HasCome, Waits, AllWait, AllCome, IfWent, KeepsWays, EventsKeepWays}
+use Rattle.struct_ir.specs.Threads.{Served, serves, waits, refuses, fails, Environment, Thread, Outcome, behind, alone, served, finished, if_fits, entered_or_served, left_call, stop_at, HasCome, Waits, AllWait, AllCome, IfWent, KeepsWays, EventsKeepWays}
 use Rattle.struct_ir.proofs.Runs.{runs_are_steps}
 
 -- behind a call the caller goes on
@@ -20,7 +20,7 @@ record Rests {P L F : Type 0} (C : Flow P) (M : Machine L F) (code : ℕ → P) 
   stands : ahead C M p ≡ stops
   stays : Stays (C.here p.at)
 
-module _ {P L F S A : Type 0} (C : Flow P) (shrinks : Shrinks C) (M : Machine L F) (W : World L F S A) (code : ℕ → P) where
+module _ {P L F S A : Type 0} (C : Flow P) (shrinks : Shrinks C) (M : Machine L F) (W : Environment L F S A) (code : ℕ → P) where
   come_on : (p q : Point P L) → Steps C M p q → HasCome C M code p → HasCome C M code q
   come_on p q still h = h
   come_on p q (more r s before e) h = let m = come_on p r before h in record { function = m.function; way = r.at ∷ m.way; comes = walks m.way r q m.comes e }

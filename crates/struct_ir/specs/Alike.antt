@@ -3,7 +3,7 @@ use Rattle.std.specs.Prelude.{◌≡◌, ℕ, List, [], ◌∷◌}
 use Rattle.struct_ir.specs.Flow.{Flow, IsCall}
 use Rattle.struct_ir.specs.Machine.{Machine, Point}
 use Rattle.struct_ir.specs.Mirrors.{Both}
-use Rattle.struct_ir.specs.Threads.{World, Thread, Outcome, went, ended, blocked, broke, unfit, local_event, stop_event, turn}
+use Rattle.struct_ir.specs.Threads.{Environment, Thread, Outcome, went, ended, blocked, broke, unfit, local_event, stop_event, turn}
 
 module _ {P Q L : Type 0} (C : Flow P) (D : Flow Q) (R : P → Q → Type 0) where
   -- at positions that correspond, with the same of its own
@@ -50,7 +50,7 @@ SameOutcomes T unfit unfit = Unit {0}
 SameOutcomes T _ o = ⊥
 
 -- a thread does the same in both codes: alone, up to the same stop; there; and in a whole turn
-pub record SameEvents {P Q L F S A : Type 0} (C : Flow P) (D : Flow Q) (M : Machine L F) (W : World L F S A) (R : P → Q → Type 0) (code : ℕ → P) (code' : ℕ → Q) : Type 0 where
+pub record SameEvents {P Q L F S A : Type 0} (C : Flow P) (D : Flow Q) (M : Machine L F) (W : Environment L F S A) (R : P → Q → Type 0) (code : ℕ → P) (code' : ℕ → Q) : Type 0 where
   pub alone : (t : Thread P L) (u : Thread Q L) (s : S) → LevelThreads C D R t u → SameOutcomes (SameThreads C D R) (local_event C M W t s) (local_event D M W u s)
   pub stop : (answer : A) (t : Thread P L) (u : Thread Q L) (s : S) → SameThreads C D R t u → SameOutcomes (LevelThreads C D R) (stop_event C M W code answer t s) (stop_event D M W code' answer u s)
   pub turn : (answer : A) (t : Thread P L) (u : Thread Q L) (s : S) → LevelThreads C D R t u → SameOutcomes (LevelThreads C D R) (turn C M W code answer t s) (turn D M W code' answer u s)

@@ -5,7 +5,7 @@ use Rattle.struct_ir.specs.Structured.{Position, done, then_, in_body, in_latch,
 use Rattle.struct_ir.specs.Machine.{Machine}
 use Rattle.struct_ir.specs.MapsTurns.{thread_mapped, AllCarry, IsMapped}
 use Rattle.struct_ir.specs.Lists.{bare_act, listless, IgnoresLists}
-use Rattle.struct_ir.specs.Threads.{World, Thread, turn}
+use Rattle.struct_ir.specs.Threads.{Environment, Thread, turn}
 
 -- neither a Look nor a safepoint
 abbrev pub is_kept : Act → Bool
@@ -69,5 +69,5 @@ LooksAreIdle {L} M = (a : Act) → is_kept a ≡ false → (M.stops a ≡ false)
 -- where Looks, safepoints, slots and lists are nothing, erased code does the same in each turn, with calls
 abbrev pub ErasureKeepsTurns : (L F S A : Type 0) → Type 0
 ErasureKeepsTurns L F S A =
-    (M : Machine L F) (W : World L F S A) → IgnoresLists M W → LooksAreIdle M → (code : ℕ → Position) (answer : A) (t : Thread Position L) (s : S) → AllCarry (listless structured) structured at_erased t.callers
+    (M : Machine L F) (W : Environment L F S A) → IgnoresLists M W → LooksAreIdle M → (code : ℕ → Position) (answer : A) (t : Thread Position L) (s : S) → AllCarry (listless structured) structured at_erased t.callers
     → IsMapped (listless structured) structured at_erased (turn structured M W code answer t s) (turn structured M W (λ g. at_erased (code g)) answer (thread_mapped at_erased t) s)

@@ -25,3 +25,8 @@ pub mod Marks
 pub mod Alike
 pub mod Placed
 pub mod PlacedRows
+pub mod Looks
+pub mod Stands
+pub mod Emitted
+pub mod Safe
+pub mod meaning

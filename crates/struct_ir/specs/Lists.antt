@@ -3,7 +3,7 @@ use Rattle.std.specs.Prelude.{◌≡◌, ℕ, [], map, None}
 use Rattle.struct_ir.specs.Nodes.{Place, Step, Call, Act, set, call, step, look, safepoint, begin_object, end_object}
 use Rattle.struct_ir.specs.Flow.{Here, does, tests, passes, round, returns, Flow}
 use Rattle.struct_ir.specs.Machine.{Machine}
-use Rattle.struct_ir.specs.Threads.{World, Thread, turn}
+use Rattle.struct_ir.specs.Threads.{Environment, Thread, turn}
 
 -- a place without its slot
 abbrev pub bare_place : Place → Place
@@ -40,7 +40,7 @@ abbrev pub listless : {P : Type 0} → Flow P → Flow P
 listless C = record { here = λ k. bare_here (C.here k); next = C.next; size = C.size }
 
 -- neither the machine nor the world looks at slots and lists
-pub record IgnoresLists {L F S A : Type 0} (M : Machine L F) (W : World L F S A) : Type 0 where
+pub record IgnoresLists {L F S A : Type 0} (M : Machine L F) (W : Environment L F S A) : Type 0 where
   pub stops : (a : Act) → M.stops (bare_act a) ≡ M.stops a
   pub does : (place : ℕ) (a : Act) (l : L) → M.does place (bare_act a) l ≡ M.does place a l
   pub serve : (answer : A) (place : ℕ) (a : Act) (l : L) (s : S) → W.serve answer place (bare_act a) l s ≡ W.serve answer place a l s
@@ -48,4 +48,4 @@ pub record IgnoresLists {L F S A : Type 0} (M : Machine L F) (W : World L F S A)
 -- code does in a turn what it does without its slots and lists
 abbrev pub ListsAreNothing : (P L F S A : Type 0) → Type 0
 ListsAreNothing P L F S A =
-    (C : Flow P) (M : Machine L F) (W : World L F S A) → IgnoresLists M W → (code : ℕ → P) (answer : A) (t : Thread P L) (s : S) → turn (listless C) M W code answer t s ≡ turn C M W code answer t s
+    (C : Flow P) (M : Machine L F) (W : Environment L F S A) → IgnoresLists M W → (code : ℕ → P) (answer : A) (t : Thread P L) (s : S) → turn (listless C) M W code answer t s ≡ turn C M W code answer t s

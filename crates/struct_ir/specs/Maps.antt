@@ -1,4 +1,4 @@
--- A map from one code to another, which may break_ out positions where nothing happens.
+-- A map from one code to another, which may leave out positions where nothing happens.
 use Rattle.std.specs.Prelude.{◌≡◌, ◌⊎◌, Bool, true, Result, Ok, Err}
 use Rattle.struct_ir.specs.Flow.{Flow}
 use Rattle.struct_ir.specs.Machine.{Machine, Point, goes, ahead, run}

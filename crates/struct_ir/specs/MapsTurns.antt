@@ -3,7 +3,7 @@ use Rattle.std.specs.Prelude.{◌≡◌, ℕ, List, [], ◌∷◌}
 use Rattle.struct_ir.specs.Flow.{Flow, Shrinks}
 use Rattle.struct_ir.specs.Machine.{Machine, Point}
 use Rattle.struct_ir.specs.Maps.{point_mapped, Carries, IsMap}
-use Rattle.struct_ir.specs.Threads.{World, Thread, Outcome, went, ended, blocked, broke, unfit, turn}
+use Rattle.struct_ir.specs.Threads.{Environment, Thread, Outcome, went, ended, blocked, broke, unfit, turn}
 
 -- the calls that wait, in the other code
 abbrev pub points_mapped : {P Q L : Type 0} → (P → Q) → List (Point P L) → List (Point Q L)
@@ -31,5 +31,5 @@ IsMapped C D f _ o = ⊥
 -- a map of code keeps the turns of every thread whose waiting calls it carries
 abbrev pub MapsMapTurns : (P Q L F S A : Type 0) → Type 0
 MapsMapTurns P Q L F S A =
-    (C : Flow P) (D : Flow Q) → Shrinks C → Shrinks D → (M : Machine L F) (W : World L F S A) (f : P → Q) → IsMap C D M f → (code : ℕ → P) (answer : A) (t : Thread P L) (s : S) → AllCarry C D f t.callers
+    (C : Flow P) (D : Flow Q) → Shrinks C → Shrinks D → (M : Machine L F) (W : Environment L F S A) (f : P → Q) → IsMap C D M f → (code : ℕ → P) (answer : A) (t : Thread P L) (s : S) → AllCarry C D f t.callers
     → IsMapped C D f (turn C M W code answer t s) (turn D M W (λ g. f (code g)) answer (thread_mapped f t) s)

@@ -6,22 +6,22 @@ use Rattle.struct_ir.specs.Machine.{Machine}
 use Rattle.struct_ir.specs.Mirrors.{Both}
 
 -- the beginning or the end of a stack object
-abbrev pub is_mark : Act → Bool
-is_mark (set to calc) = false
-is_mark (call c) = false
-is_mark (step s) = false
-is_mark (look slot base) = false
-is_mark (safepoint slots) = false
-is_mark (begin_object i) = true
-is_mark (end_object i) = true
+abbrev pub is_lifetime_mark : Act → Bool
+is_lifetime_mark (set to calc) = false
+is_lifetime_mark (call c) = false
+is_lifetime_mark (step s) = false
+is_lifetime_mark (look slot base) = false
+is_lifetime_mark (safepoint slots) = false
+is_lifetime_mark (begin_object i) = true
+is_lifetime_mark (end_object i) = true
 
 -- the machine does nothing at the beginning and at the end of a stack object
-abbrev pub MarksAreIdle : {L F : Type 0} → Machine L F → Type 0
-MarksAreIdle {L} M = (a : Act) → is_mark a ≡ true → (M.stops a ≡ false) × ((place : ℕ) (l : L) → M.does place a l ≡ Ok l)
+abbrev pub LifetimeMarksAreIdle : {L F : Type 0} → Machine L F → Type 0
+LifetimeMarksAreIdle {L} M = (a : Act) → is_lifetime_mark a ≡ true → (M.stops a ≡ false) × ((place : ℕ) (l : L) → M.does place a l ≡ Ok l)
 
 -- nothing stands there, or a mark
 abbrev pub IsUnseen : Here → Type 0
-IsUnseen (does place a) = is_mark a ≡ true
+IsUnseen (does place a) = is_lifetime_mark a ≡ true
 IsUnseen (tests place temp) = ⊥
 IsUnseen passes = Unit {0}
 IsUnseen round = ⊥

@@ -1,6 +1,6 @@
 -- Two codes in which the same is done in the same order, wherever it stands.
 use Rattle.std.specs.Prelude.{◌≡◌, Bool, true, Result, Ok, Err}
-use Rattle.struct_ir.specs.Flow.{Flow, passes, Stays}
+use Rattle.struct_ir.specs.Flow.{Flow, Stays}
 use Rattle.struct_ir.specs.Machine.{Machine, Point, goes, ahead, run}
 
 -- at k the thread goes on with what it has
@@ -21,16 +21,6 @@ pub data Match {P Q L F : Type 0} (C : Flow P) (D : Flow Q) (M : Machine L F) (R
 -- at positions that correspond the codes match
 abbrev pub IsMirror : {P Q L F : Type 0} → Flow P → Flow Q → Machine L F → (P → Q → Type 0) → Type 0
 IsMirror {P} {Q} C D M R = (k : P) (j : Q) → R k j → Match C D M R k j
-
--- the same control, whatever the machine: only where nothing stands may one go on alone
-pub data SameAt {P Q : Type 0} (C : Flow P) (D : Flow Q) (R : P → Q → Type 0) (k : P) (j : Q) : Type 0 where
-  both_on : Both C D R k j → SameAt C D R k j
-  first_on : C.here k ≡ passes → ((c : Bool) → R (C.next k c) j) → SameAt C D R k j
-  second_on : D.here j ≡ passes → ((c : Bool) → R k (D.next j c)) → SameAt C D R k j
-
--- at positions that correspond control is the same
-abbrev pub IsSame : {P Q : Type 0} → Flow P → Flow Q → (P → Q → Type 0) → Type 0
-IsSame {P} {Q} C D R = (k : P) (j : Q) → R k j → SameAt C D R k j
 
 -- the two runs end at positions that correspond, before the same, with the same, or in the same fault
 abbrev pub EndAlike : {P Q L F : Type 0} → Flow P → Flow Q → (P → Q → Type 0) → Result (Point P L) F → Result (Point Q L) F → Type 0

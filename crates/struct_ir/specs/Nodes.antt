@@ -91,6 +91,15 @@ mutual
     no_nodes : Nodes
     more_nodes : (n : Node) (rest : Nodes) → Nodes
 
+-- where a node stands in the text
+abbrev pub node_place : Node → ℕ
+node_place (plain place a) = place
+node_place (if_ place temp one other) = place
+node_place (loop place body latch) = place
+node_place (break_ place) = place
+node_place (next_ place) = place
+node_place (ret place temp) = place
+
 -- sizes and alignments are in bytes
 pub record StackObject : Type 0 where
   pub size : ℕ

@@ -13,7 +13,7 @@ pub data Served (L F S : Type 0) : Type 0 where
   fails : (f : F) → Served L F S
 
 -- what is shared, and what becomes of a thread's own at its stops; an answer is what the world chooses
-pub record World (L F S A : Type 0) : Type 0 where
+pub record Environment (L F S A : Type 0) : Type 0 where
   -- what a thread sees of what is shared when it goes on, and what it keeps there when it stops
   pub seen : S → L → L
   pub kept : L → S → S
@@ -53,12 +53,12 @@ behind C p l = record { at = C.next p.at true; own = l }
 -- ---- the thread alone, up to its next stop
 
 -- what came of a run
-abbrev pub alone : {P L F S A : Type 0} → World L F S A → List (Point P L) → S → Result (Point P L) F → Outcome P L F S
+abbrev pub alone : {P L F S A : Type 0} → Environment L F S A → List (Point P L) → S → Result (Point P L) F → Outcome P L F S
 alone W callers s (Ok q) = went (record { top = q; callers = callers }) (W.kept q.own s)
 alone W callers s (Err f) = broke f
 
 -- the thread goes on alone, with what it sees of what is shared, up to its next stop
-abbrev pub local_event : {P L F S A : Type 0} → Flow P → Machine L F → World L F S A → Thread P L → S → Outcome P L F S
+abbrev pub local_event : {P L F S A : Type 0} → Flow P → Machine L F → Environment L F S A → Thread P L → S → Outcome P L F S
 local_event C M W t s = alone W t.callers s (run C M (record { at = t.top.at; own = W.seen s t.top.own }))
 
 -- ---- what the thread stops before is done
@@ -83,22 +83,22 @@ if_fits true x = x
 if_fits false x = unfit
 
 -- a call is entered, and any other act is done by the world
-abbrev pub entered_or_served : {P L F S A : Type 0} → Flow P → World L F S A → (ℕ → P) → A → Thread P L → S → (place : ℕ) → Act → Outcome P L F S
+abbrev pub entered_or_served : {P L F S A : Type 0} → Flow P → Environment L F S A → (ℕ → P) → A → Thread P L → S → (place : ℕ) → Act → Outcome P L F S
 entered_or_served C W code answer t s place (call c) =
     if_fits (W.is_plain answer) (went (record { top = record { at = code c.function; own = W.entered c.function t.top.own c.temps }; callers = t.top ∷ t.callers }) s)
 entered_or_served C W code answer t s place a = served C t (W.serve answer place a t.top.own s)
 
 -- the caller goes on behind its call, with what the callee kept
-abbrev pub back_in : {P L F S A : Type 0} → Flow P → World L F S A → L → S → Point P L → List (Point P L) → Outcome P L F S
+abbrev pub back_in : {P L F S A : Type 0} → Flow P → Environment L F S A → L → S → Point P L → List (Point P L) → Outcome P L F S
 back_in C W l s c callers = went (record { top = behind C c l; callers = callers }) (W.kept l s)
 
 -- a call is left
-abbrev pub left_call : {P L F S A : Type 0} → Flow P → World L F S A → A → L → Option ℕ → S → List (Point P L) → Outcome P L F S
+abbrev pub left_call : {P L F S A : Type 0} → Flow P → Environment L F S A → A → L → Option ℕ → S → List (Point P L) → Outcome P L F S
 left_call C W answer l temp s [] = finished (W.finish answer l temp s)
 left_call C W answer l temp s (c ∷ callers) = if_fits (W.is_plain answer) (back_in C W (W.left l temp c.own (result_to (C.here c.at))) s c callers)
 
 -- by what stands there
-abbrev pub stop_at : {P L F S A : Type 0} → Flow P → Machine L F → World L F S A → (ℕ → P) → A → Thread P L → S → Here → Outcome P L F S
+abbrev pub stop_at : {P L F S A : Type 0} → Flow P → Machine L F → Environment L F S A → (ℕ → P) → A → Thread P L → S → Here → Outcome P L F S
 stop_at C M W code answer t s (does place a) = if_fits (M.stops a) (entered_or_served C W code answer t s place a)
 stop_at C M W code answer t s (tests place temp) = unfit
 stop_at C M W code answer t s passes = unfit
@@ -106,7 +106,7 @@ stop_at C M W code answer t s round = if_fits (W.is_plain answer) (went (record 
 stop_at C M W code answer t s (returns temp) = left_call C W answer t.top.own temp s t.callers
 
 -- what the thread stops before is done
-abbrev pub stop_event : {P L F S A : Type 0} → Flow P → Machine L F → World L F S A → (ℕ → P) → A → Thread P L → S → Outcome P L F S
+abbrev pub stop_event : {P L F S A : Type 0} → Flow P → Machine L F → Environment L F S A → (ℕ → P) → A → Thread P L → S → Outcome P L F S
 stop_event C M W code answer t s = stop_at C M W code answer t s (C.here t.top.at)
 
 -- ---- a turn: both halves
@@ -120,7 +120,7 @@ and_then (broke f) go = broke f
 and_then unfit go = unfit
 
 -- a turn
-abbrev pub turn : {P L F S A : Type 0} → Flow P → Machine L F → World L F S A → (ℕ → P) → A → Thread P L → S → Outcome P L F S
+abbrev pub turn : {P L F S A : Type 0} → Flow P → Machine L F → Environment L F S A → (ℕ → P) → A → Thread P L → S → Outcome P L F S
 turn C M W code answer t s = and_then (local_event C M W t s) (stop_event C M W code answer)
 
 -- ---- the ways of all calls of a thread
@@ -156,10 +156,10 @@ IfWent A (broke f) = Unit {0}
 IfWent A unfit = Unit {0}
 
 -- each event keeps it
-pub record KeepsWays {P L F S A : Type 0} (C : Flow P) (M : Machine L F) (W : World L F S A) (code : ℕ → P) : Type 0 where
+pub record KeepsWays {P L F S A : Type 0} (C : Flow P) (M : Machine L F) (W : Environment L F S A) (code : ℕ → P) : Type 0 where
   pub local : (t : Thread P L) (s : S) → AllCome C M code t → IfWent (AllCome C M code) (local_event C M W t s)
   pub stop : (answer : A) (t : Thread P L) (s : S) → AllCome C M code t → IfWent (AllCome C M code) (stop_event C M W code answer t s)
 
 -- in any code and world
 abbrev pub EventsKeepWays : (P L F S A : Type 0) → Type 0
-EventsKeepWays P L F S A = (C : Flow P) → Shrinks C → (M : Machine L F) (W : World L F S A) (code : ℕ → P) → KeepsWays C M W code
+EventsKeepWays P L F S A = (C : Flow P) → Shrinks C → (M : Machine L F) (W : Environment L F S A) (code : ℕ → P) → KeepsWays C M W code

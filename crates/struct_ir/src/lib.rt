@@ -30,3 +30,5 @@ pub use linear_listing::code_text;
 pub use listing::text;
 pub use placed::is_placed;
 pub use valid::is_valid;
+
+pub mod meaning_laws;

@@ -1,3 +1,4 @@
 pub mod ByPlace
 pub mod SubHeaps
 pub mod inner
+pub mod Moving

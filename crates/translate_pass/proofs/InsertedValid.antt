@@ -4,14 +4,14 @@ use Rattle.std.proofs.lemmas.Bool.{and_parts, and_from, or_right, ltb-true, lt-l
 use Rattle.std.proofs.lemmas.List.{length-map}
 use Rattle.std.specs.Prelude.{nat_lt, is_none}
 use Rattle.std.specs.List.{list_all}
-use Rattle.struct_ir.specs.Nodes.{Calc, constant, unset, null, global, literal, object, copy, convert, apply, pointer_add, pointer_sub, pointer_diff, pointer_compare, pointer_test, Place}
+use Rattle.struct_ir.specs.Nodes.{Calc, constant, unset, null, global, literal, object, copy, convert, apply, pointer_add, pointer_sub, pointer_diff, pointer_compare, pointer_test, Place, node_place}
 use Rattle.struct_ir.specs.Nodes.{Action, load, store, copy_bytes, malloc, free, print, lock, unlock, destroy, start, join, may_wait, Step, Act, set, call, step, look, safepoint, begin_object, end_object}
 use Rattle.struct_ir.specs.Nodes.{Node, plain, if_, loop, break_, next_, ret, Nodes, no_nodes, more_nodes, places_of}
 use Rattle.struct_ir.specs.Lists.{bare_place, bare_step, bare_act}
 use Rattle.struct_ir.specs.Erased.{is_kept, put, erased}
 use Rattle.struct_ir.specs.Valid.{Scope, Around, Counts, body_of, latch_of, is_below_if, are_below, is_list, is_calc, is_place, is_action, counts_of, has_counts, is_step, is_act, is_node, are_nodes}
 use Rattle.pin_flow.proofs.Strip.{by_bool}
-use Rattle.translate_pass.specs.inner.Insert.{place_through, step_through, act_through, with_look, with_looks, places_in, place_of, inserted, inserted_in}
+use Rattle.translate_pass.specs.inner.Insert.{place_through, step_through, act_through, with_look, with_looks, places_in, inserted, inserted_in}
 
 -- the same with so many slots
 abbrev pub with_slots : Scope → ℕ → Scope
@@ -181,7 +181,7 @@ module _ (x : Scope) (n : ℕ) (few : x.slots ≤ n) (s : ℕ → Option ℕ) (b
     inserted_valid w no_nodes e = refl
     inserted_valid w (more_nodes m rest) e =
         let q = and_parts (is_node x w m) (are_nodes x w rest) e in
-        looks_still w (place_of m) (places_in m) (more_nodes (inserted_in s m) (inserted s rest)) (places_valid w m q.0) (and_from _ _ (in_valid w m q.0) (inserted_valid w rest q.1))
+        looks_still w (node_place m) (places_in m) (more_nodes (inserted_in s m) (inserted s rest)) (places_valid w m q.0) (and_from _ _ (in_valid w m q.0) (inserted_valid w rest q.1))
 
     in_valid : (w : Around) (m : Node) → is_node x w m ≡ true → is_node y w (inserted_in s m) ≡ true
     in_valid w (plain p a) e = act_still a e

@@ -3,7 +3,7 @@ use Rattle.std.proofs.Common.{◌≡◌, ◌≢◌, ℕ, ◌<◌, List, [], ◌�
 use Rattle.std.proofs.lemmas.Bool.{eqb-true, eq-eqb, not-false, or_parts, or_from, or_left, or_right, or_cases, and_parts, ltb-true}
 use Rattle.std.specs.Prelude.{not, nat_lt}
 use Rattle.std.specs.List.{list_all}
-use Rattle.struct_ir.specs.Nodes.{Place, Act, set, call, step, look, safepoint, begin_object, end_object, Node, plain, if_, loop, break_, next_, ret, Nodes, no_nodes, more_nodes, places_of}
+use Rattle.struct_ir.specs.Nodes.{Place, Act, set, call, step, look, safepoint, begin_object, end_object, Node, plain, if_, loop, break_, next_, ret, Nodes, no_nodes, more_nodes, places_of, node_place}
 use Rattle.struct_ir.specs.Structured.{done, then_, structured}
 use Rattle.struct_ir.specs.Lists.{bare_place, bare_act}
 use Rattle.struct_ir.specs.Erased.{is_kept, put, erased}
@@ -18,7 +18,7 @@ use Rattle.pin_flow.proofs.Switch.{each_agree}
 use Rattle.pin_flow.proofs.Fresh.{own_agrees}
 use Rattle.pin_flow.proofs.Covers.{Serves, each_covered}
 use Rattle.pin_flow.proofs.Bases.{slot_known}
-use Rattle.translate_pass.specs.inner.Insert.{place_through, act_through, with_look, with_looks, places_in, place_of, inserted, inserted_in}
+use Rattle.translate_pass.specs.inner.Insert.{place_through, act_through, with_look, with_looks, places_in, inserted, inserted_in}
 
 -- ---- what is erased is the same
 
@@ -124,7 +124,7 @@ module _ (s : ℕ → Option ℕ) (b : ℕ) (no : s b ≡ None) where
     not_looked no_nodes e = refl
     not_looked (more_nodes n rest) e =
         let q = or_parts (some_in any_look n) (some_act any_look rest) e in
-        looks_not (place_of n) (places_in n) (more_nodes (inserted_in s n) (inserted s rest)) (or_from _ _ (not_looked_in n q.0) (not_looked rest q.1))
+        looks_not (node_place n) (places_in n) (more_nodes (inserted_in s n) (inserted s rest)) (or_from _ _ (not_looked_in n q.0) (not_looked rest q.1))
 
     not_looked_in : (n : Node) → some_in any_look n ≡ false → some_in (act_looks b) (inserted_in s n) ≡ false
     not_looked_in (plain p a) e = through_not a e
@@ -175,8 +175,8 @@ module _ (bs : List ℕ) where
     inserted_known (more_nodes n rest) h =
         let x = in_known n (λ b g. h b (or_left _ _ g)) in
         let y = inserted_known rest (λ b g. h b (or_right (some_in (accesses b) n) _ g)) in
-        looks_known (place_of n) (places_in n) (more_nodes (inserted_in (slot_if bs) n) (inserted (slot_if bs) rest)) (own_known n (λ b g. h b (or_left _ _ g)))
-        ∙ (λ i. with_looks S (place_of n) (places_in n) (more_nodes (x i) (y i)))
+        looks_known (node_place n) (places_in n) (more_nodes (inserted_in (slot_if bs) n) (inserted (slot_if bs) rest)) (own_known n (λ b g. h b (or_left _ _ g)))
+        ∙ (λ i. with_looks S (node_place n) (places_in n) (more_nodes (x i) (y i)))
 
     own_known : (n : Node) → ((b : ℕ) → some_in (accesses b) n ≡ true → IsIn bs b) → (b : ℕ) → has_base b (places_in n) ≡ true → IsIn bs b
     own_known (plain p a) h b e = h b e
@@ -225,7 +225,7 @@ module _ (slot_of : ℕ → ℕ) where
     inserted_own no_nodes e = refl
     inserted_own (more_nodes n rest) e =
         let q = or_parts (some_in any_look n) (some_act any_look rest) e in
-        looks_own (place_of n) (places_in n) (more_nodes (inserted_in T n) (inserted T rest)) (or_from _ _ (in_own n q.0) (inserted_own rest q.1))
+        looks_own (node_place n) (places_in n) (more_nodes (inserted_in T n) (inserted T rest)) (or_from _ _ (in_own n q.0) (inserted_own rest q.1))
 
     in_own : (n : Node) → some_in any_look n ≡ false → some_in lost (inserted_in T n) ≡ false
     in_own (plain p a) e = act_own a e
@@ -279,7 +279,7 @@ module _ (slot_of : ℕ → ℕ) where
       each_inserted : (ns : Nodes) (t : State) → Each Q (held c) (inserted T ns) t
       each_inserted no_nodes t = tt
       each_inserted (more_nodes n rest) t =
-          served (place_of n) (places_in n) (more_nodes (inserted_in T n) (inserted T rest)) t (λ u h k. (in_inserted n u h, each_inserted rest _))
+          served (node_place n) (places_in n) (more_nodes (inserted_in T n) (inserted T rest)) t (λ u h k. (in_inserted n u h, each_inserted rest _))
 
       in_inserted : (n : Node) (t : State) → (has_base c (places_in n) ≡ true → t ≢ bad) → EachIn Q (held c) (inserted_in T n) t
       in_inserted (plain p a) t h = λ i. h (act_base a i)

@@ -7,7 +7,8 @@ use Rattle.struct_ir.specs.Structured.{done, then_, structured}
 use Rattle.struct_ir.specs.Erased.{erased, func_erased, ir_erased}
 use Rattle.struct_ir.specs.Valid.{scope_of, outside, is_below_if, are_nodes, is_valid}
 use Rattle.pin_flow.specs.Looks.{some_act, act_looks, Covered}
-use Rattle.pin_flow.specs.Funcs.{EveryFunc, IsCovered}
+use Rattle.struct_ir.specs.Safe.{EveryFunc}
+use Rattle.pin_flow.specs.Funcs.{IsCovered}
 use Rattle.pin_flow.specs.Slots.{accesses, bases_of, slot_in, slot_if, IsIn, IsOwn, HasOwnSlots}
 use Rattle.pin_flow.proofs.Bases.{same_bases, base_in, slot_known, slots_are_few, slots_are_apart}
 use Rattle.translate_pass.specs.inner.Insert.{inserted, func_inserted, ir_inserted}

@@ -4,7 +4,8 @@ ghost use Rattle.struct_ir.specs.Erased.{ir_erased};
 ghost use Rattle.struct_ir.specs.Valid.{is_valid};
 ghost use Rattle.struct_ir.specs.Views.{place_view, step_view, node_view, nodes_view, func_view, followed};
 ghost use Rattle.struct_ir.specs.WholeViews.{ir_view};
-ghost use Rattle.pin_flow.specs.Funcs.{EveryFunc, IsCovered};
+ghost use Rattle.struct_ir.specs.Safe.{EveryFunc};
+ghost use Rattle.pin_flow.specs.Funcs.{IsCovered};
 ghost use Rattle.pin_flow.specs.Slots.{slot_if, HasOwnSlots};
 ghost use Rattle.translate_pass.specs.inner.Insert.{place_through, step_through, with_look, with_looks, places_in, inserted, with_node, func_inserted, ir_inserted};
 

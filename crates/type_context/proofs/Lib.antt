@@ -4,3 +4,5 @@ pub mod Declaring
 pub mod Marking
 pub mod Tagging
 pub mod Aligning
+pub mod Walks
+pub mod Rows

@@ -8,10 +8,10 @@ use Rattle.type_context.specs.declared.context.Context.{Context as CodeContext}
 use Rattle.type_context.specs.declared.context.MemberType.{MemberType}
 use Rattle.type_context.specs.declared.names.Library.{Library as CodeLibrary}
 use Rattle.type_context.specs.declared.names.Library.TheVariants as codes
-use Rattle.type_context.specs.declared.names.Meaning.{Meaning as CodeMeaning}
-use Rattle.type_context.specs.declared.names.Meaning.TheVariants as meanings
+use Rattle.type_context.specs.declared.names.Binding.{Binding as CodeMeaning}
+use Rattle.type_context.specs.declared.names.Binding.TheVariants as meanings
 use Rattle.c_typing.specs.Scope.{Library, printf, malloc, free, memcpy, thrd_create, thrd_join, mtx_init, mtx_lock, mtx_unlock, mtx_destroy, constant}
-use Rattle.c_typing.specs.Scope.{Meaning, global_name, local_name, function_name, library_name, Frame, Context}
+use Rattle.c_typing.specs.Scope.{Binding, global_name, local_name, function_name, library_name, Frame, Context}
 
 -- the types that those of the code stand for
 abbrev pub types_view : List CType → List Ty
@@ -36,20 +36,20 @@ abbrev pub library_entry : Bor (List ℕ) × CodeLibrary → List ℕ × Library
 library_entry e = (e.0.now, library_view e.1)
 
 -- what a name means, by what the code holds
-abbrev pub meaning_view : CodeMeaning → Meaning
-meaning_view (meanings.Global n t) = global_name n (type_view t)
-meaning_view (meanings.Local n t) = local_name n (type_view t)
-meaning_view (meanings.Function n params result) = function_name n (types_view params.items) (type_view result)
-meaning_view (meanings.Library which) = library_name (library_view which)
+abbrev pub binding_view : CodeMeaning → Binding
+binding_view (meanings.Global n t) = global_name n (type_view t)
+binding_view (meanings.Local n t) = local_name n (type_view t)
+binding_view (meanings.Function n params result) = function_name n (types_view params.items) (type_view result)
+binding_view (meanings.Library which) = library_name (library_view which)
 
 -- what was found
-abbrev pub seen : Option (Bor CodeMeaning) → Option Meaning
+abbrev pub seen : Option (Bor CodeMeaning) → Option Binding
 seen None = None
-seen (Some b) = Some (meaning_view b.now)
+seen (Some b) = Some (binding_view b.now)
 
 -- one scope: the bytes of each name, and what it means
-abbrev pub meaning_entry : Bor (List ℕ) × CodeMeaning → List ℕ × Meaning
-meaning_entry e = (e.0.now, meaning_view e.1)
+abbrev pub meaning_entry : Bor (List ℕ) × CodeMeaning → List ℕ × Binding
+meaning_entry e = (e.0.now, binding_view e.1)
 
 -- one scope: its names in order, each with what it means
 abbrev pub frame_view : List (Bor (List ℕ) × CodeMeaning) → Frame

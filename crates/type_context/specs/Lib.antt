@@ -1,2 +1,4 @@
 pub mod ContextViews
 pub mod inner
+pub mod Telling
+pub mod Rows

@@ -6,6 +6,7 @@ ghost use Rattle.std.specs.Str.{bytes_eq};
 ghost use Rattle.c_lex.specs.declared.refusal.CompileFault.TheVariants.{NoMemory};
 ghost use Rattle.c_tree.specs.TypedViews.{type_view};
 ghost use Rattle.c_typing.specs.Faults.{Gives};
+ghost use Rattle.c_tree.specs.TypedForm as forms;
 ghost use Rattle.c_typing.specs.Scope as scopes;
 ghost use Rattle.c_typing.specs.Scope.{bytes_of, or_else, found, meaning_of, is_double, fresh, declared, inside, back_to, within, fits_plain, tag_number, with_tag, is_begun, with_begun, with_struct, member_among, member_of};
 ghost use Rattle.c_typing.specs.Constants.{is_constant_name};
@@ -14,12 +15,12 @@ ghost use Rattle.c_typing.specs.Judgement.{with_literal, with_addressed, meaning
 ghost use Rattle.type_context.specs.inner.Contexts.{local_in};
 ghost use Rattle.c_tree.specs.TypedViews.{layout_view};
 ghost use Rattle.c_tree.specs.TypedLayout.{laid_out};
-ghost use Rattle.type_context.specs.ContextViews.{context_view, meaning_view, frame_view, seen, bytes_view, types_view, members_view, member_view};
+ghost use Rattle.type_context.specs.ContextViews.{context_view, binding_view, frame_view, seen, bytes_view, types_view, members_view, member_view};
 
 use crate::faults::unless;
 use crate::kinds::copy_type;
 use crate::layouts::lay_out;
-use crate::names::{Library, Meaning, copy_meaning, library_name};
+use crate::names::{Binding, Library, copy_meaning, library_name};
 use c_lex::{CompileFault, Kind};
 use c_tree::syntax::Name;
 use c_tree::typed::{CType, Layout, Literal};
@@ -31,7 +32,7 @@ use std::mem;
 const MOST_PLAIN: u64 = 1_048_576;
 
 /// One scope: what each name means that it declares.
-pub type Frame<'t> = IndexMap<&'t [u8], Meaning>;
+pub type Frame<'t> = IndexMap<&'t [u8], Binding>;
 
 /// A member of a struct: its name, and its type.
 #[derive(Drop)]
@@ -116,7 +117,7 @@ impl<'t> Context<'t> {
     }
 
     // What the innermost scope that declares a name says.
-    fn declared_as(&self, bytes: &[u8]) -> Option<&Meaning>
+    fn declared_as(&self, bytes: &[u8]) -> Option<&Binding>
         ensures { seen result ≡ or_else (lookup (bytes_eq bytes.now) (context_view self.now).inner) (found (context_view self.now).outer bytes.now) }
     {
         match look_up(&self.inner, bytes) {
@@ -126,13 +127,13 @@ impl<'t> Context<'t> {
     }
 
     /// What a name means; the library's names are declared around all else.
-    pub fn meaning_of(&self, name: Name) -> Result<Option<Meaning>, AllocError>
-        ensures { IfOk result (λ m. option_map meaning_view m ≡ meaning_of (context_view self.now) name) }
+    pub fn meaning_of(&self, name: Name) -> Result<Option<Binding>, AllocError>
+        ensures { IfOk result (λ m. option_map binding_view m ≡ meaning_of (context_view self.now) name) }
     {
         let bytes = self.bytes(name);
         match self.declared_as(bytes) {
             Some(meaning) => Ok(Some(copy_meaning(self.alloc, meaning)?)),
-            None => Ok(library_name(bytes).map(Meaning::Library)),
+            None => Ok(library_name(bytes).map(Binding::Library)),
         }
     }
 
@@ -152,8 +153,8 @@ impl<'t> Context<'t> {
     }
 
     /// Declares a name in the innermost scope, unless it has it.
-    pub fn declare(&mut self, name: Name, meaning: Meaning) -> Result<(), CompileFault>
-        ensures after { OnOk result (context_view self.new ≡ declared (context_view self.old) name (meaning_view meaning)) }
+    pub fn declare(&mut self, name: Name, meaning: Binding) -> Result<(), CompileFault>
+        ensures after { OnOk result (context_view self.new ≡ declared (context_view self.old) name (binding_view meaning)) }
         ensures memory { IfErr result (λ e. e ≡ NoMemory) }
     {
         if !self.is_double(name) {
@@ -191,7 +192,7 @@ impl<'t> Context<'t> {
     {
         match name {
             Some(name) => match self.declared_as(self.bytes(name)) {
-                Some(Meaning::Local(n, _)) => Some(*n),
+                Some(Binding::Local(n, _)) => Some(*n),
                 _ => None,
             },
             None => None,
@@ -226,7 +227,7 @@ impl<'t> Context<'t> {
 
     /// One more object of so many bytes.
     pub fn take_plain(&mut self, size: u32) -> Result<(), CompileFault>
-        ensures after { OnOk result (context_view self.new ≡ record (context_view self.old) { plain = (context_view self.old).plain + scopes.taken size }) }
+        ensures after { OnOk result (context_view self.new ≡ record (context_view self.old) { plain = (context_view self.old).plain + forms.taken size }) }
         ensures memory { IfErr result (λ e. e ≡ NoMemory) }
     {
         let all = self.plain.checked_add(taken(size));
@@ -332,7 +333,7 @@ impl<'t> Context<'t> {
     {
         let bytes = self.bytes(name);
         match self.declared_as(bytes) {
-            Some(meaning) => matches!(meaning, Meaning::Library(Library::Constant(_))),
+            Some(meaning) => matches!(meaning, Binding::Library(Library::Constant(_))),
             None => matches!(library_name(bytes), Some(Library::Constant(_))),
         }
     }
@@ -394,7 +395,7 @@ pub fn within(place: u32, count: u8, most: usize, before: usize) -> Result<(), C
 
 // The bytes that a plain object takes, with one of padding behind it at least.
 fn taken(size: u32) -> u64
-    ensures { result ≡ scopes.taken size }
+    ensures { result ≡ forms.taken size }
 {
     16 * (u64::from(size) / 16 + 1)
 }
@@ -412,14 +413,14 @@ fn empty_layout(alloc: Global) -> Layout
 }
 
 // What one scope says of a name.
-fn look_up<'a, 't>(frame: &'a Frame<'t>, bytes: &[u8]) -> Option<&'a Meaning>
+fn look_up<'a, 't>(frame: &'a Frame<'t>, bytes: &[u8]) -> Option<&'a Binding>
     ensures { seen result ≡ lookup (bytes_eq bytes.now) (frame_view frame.now.entries) }
 {
     frame.get(bytes)
 }
 
 // What the innermost of these scopes that declares the name says.
-fn look_up_all<'a, 't>(frames: &'a [Frame<'t>], bytes: &[u8]) -> Option<&'a Meaning>
+fn look_up_all<'a, 't>(frames: &'a [Frame<'t>], bytes: &[u8]) -> Option<&'a Binding>
     ensures { seen result ≡ found (map (λ f. frame_view f.entries) frames.now) bytes.now }
 {
     match frames {

@@ -1,5 +1,5 @@
-//! What stands before a node of a C program: its names, tags, structs and locals; and the first steps of each judgement.
-//! Promises upward: each call changes the context, or answers of it, as the definition of typing says.
+//! What stands before a node of a C program, as its names, tags, structs and locals; the first steps of each judgement; and what the parts of a node tell, gathered.
+//! Promises upward: each call changes the context, or answers of it, as the definition of typing says; of two refusals the first is told.
 //! Stands on c_typing's definitions, c_lex's refusals and c_tree's trees.
 #![tactic(auto)]
 
@@ -8,4 +8,5 @@ pub mod faults;
 pub mod kinds;
 pub mod layouts;
 pub mod names;
+pub mod outcomes;
 pub mod words;

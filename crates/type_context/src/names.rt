@@ -5,7 +5,7 @@ ghost use Rattle.std.specs.Map.{lookup};
 ghost use Rattle.std.specs.Str.{bytes_eq};
 ghost use Rattle.c_tree.specs.TypedViews.{type_view};
 ghost use Rattle.c_typing.specs.Scope.{library};
-ghost use Rattle.type_context.specs.ContextViews.{meaning_view, library_view, library_entry, types_view};
+ghost use Rattle.type_context.specs.ContextViews.{binding_view, library_view, library_entry, types_view};
 
 use crate::kinds::copy_type;
 use c_tree::typed::CType;
@@ -30,7 +30,7 @@ pub enum Library {
 
 /// What a name means (C11 6.2.1).
 #[derive(Debug, Drop)]
-pub enum Meaning {
+pub enum Binding {
     /// An object of file scope, by its number.
     Global(u32, CType),
     /// A local, by its number.
@@ -57,22 +57,22 @@ pub fn copy_types(alloc: Global, all: &[CType]) -> Result<Vec<CType>, AllocError
 }
 
 /// The same meaning once more.
-pub fn copy_meaning(alloc: Global, meaning: &Meaning) -> Result<Meaning, AllocError>
-    ensures { IfOk result (λ copy. meaning_view copy ≡ meaning_view meaning.now) }
+pub fn copy_meaning(alloc: Global, meaning: &Binding) -> Result<Binding, AllocError>
+    ensures { IfOk result (λ copy. binding_view copy ≡ binding_view meaning.now) }
 {
     match meaning {
-        Meaning::Global(n, t) => Ok(Meaning::Global(*n, copy_type(alloc, t)?)),
-        Meaning::Local(n, t) => Ok(Meaning::Local(*n, copy_type(alloc, t)?)),
-        Meaning::Function {
+        Binding::Global(n, t) => Ok(Binding::Global(*n, copy_type(alloc, t)?)),
+        Binding::Local(n, t) => Ok(Binding::Local(*n, copy_type(alloc, t)?)),
+        Binding::Function {
             number,
             params,
             result,
-        } => Ok(Meaning::Function {
+        } => Ok(Binding::Function {
             number: *number,
             params: copy_types(alloc, params)?,
             result: copy_type(alloc, result)?,
         }),
-        Meaning::Library(which) => Ok(Meaning::Library(*which)),
+        Binding::Library(which) => Ok(Binding::Library(*which)),
     }
 }
 

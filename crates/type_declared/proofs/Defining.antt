@@ -14,7 +14,7 @@ use Rattle.c_tree.specs.SyntaxViews.{external_view}
 use Rattle.type_declared.specs.declared.functions.Defined.{Defined}
 use Rattle.c_typing.specs.Faults.{Judged, typed, faulty, both, ◌>>=◌}
 use Rattle.c_typing.specs.Scope.{or_else}
-use Rattle.type_outcomes.specs.Telling.{both_fine}
+use Rattle.type_context.specs.Telling.{both_fine}
 use Rattle.c_typing.specs.Programs.{place_of_name, defined_name, defined_names}
 use Rattle.type_context.specs.ContextViews.{bytes_view}
 use Rattle.type_context.proofs.Tagging.{any_view}

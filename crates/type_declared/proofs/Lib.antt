@@ -1,2 +1,4 @@
 pub mod Defining
 pub mod DeclaredObjects
+pub mod TypedTrees
+pub mod FurtherLocals

@@ -1,3 +1,4 @@
 pub mod FunctionNames
 pub mod ObjectFits
 pub mod inner
+pub mod LocalViews

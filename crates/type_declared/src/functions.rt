@@ -20,8 +20,8 @@ use indexmap::IndexMap;
 use type_context::context::{Context, count, within};
 use type_context::faults::{refused, unless};
 use type_context::kinds::{has_size, is_struct_or_mutex, same_int, same_type, same_types};
-use type_context::names::{Meaning, library_name};
-use type_outcomes::outcomes::both_fine;
+use type_context::names::{Binding, library_name};
+use type_context::outcomes::both_fine;
 
 /// The functions that have a body anywhere in the file: the place of each one's name among theirs.
 #[derive(Drop)]
@@ -64,11 +64,11 @@ impl<'t> Defined<'t> {
 // ---- what a name meant before
 
 // The name of a function was one of a function before, or of nothing.
-fn once(place: u32, before: Option<&Meaning>) -> Result<(), CompileFault>
+fn once(place: u32, before: Option<&Binding>) -> Result<(), CompileFault>
     ensures { Gives (λ _. tt) result (once place (seen before.entry)) }
 {
     match before {
-        Some(Meaning::Function { .. }) | None => Ok(()),
+        Some(Binding::Function { .. }) | None => Ok(()),
         Some(_) => refused(place, Kind::DoubleName),
     }
 }
@@ -78,13 +78,13 @@ fn agrees(
     place: u32,
     params: &[CType],
     returned: &CType,
-    before: Option<&Meaning>,
+    before: Option<&Binding>,
 ) -> Result<(), CompileFault>
     ensures { Gives (λ _. tt) result (agrees place (types_view params.now) (type_view returned.now) (seen before.entry)) }
 {
     match before {
         Some(
-            Meaning::Function {
+            Binding::Function {
                 params: types,
                 result: other,
                 ..
@@ -98,14 +98,14 @@ fn agrees(
 }
 
 // Whether no function had the name.
-fn is_new(before: Option<&Meaning>) -> bool
+fn is_new(before: Option<&Binding>) -> bool
     ensures { result ≡ is_new (seen before.entry) }
 {
-    !matches!(before, Some(Meaning::Function { .. }))
+    !matches!(before, Some(Binding::Function { .. }))
 }
 
 // What a name meant before at file scope.
-fn before_name<'a>(context: &'a Context<'_>, name: Name) -> Option<&'a Meaning>
+fn before_name<'a>(context: &'a Context<'_>, name: Name) -> Option<&'a Binding>
     ensures { seen result ≡ before_name (context_view context.now) name }
 {
     context.inner.get(context.bytes(name))
@@ -231,7 +231,7 @@ pub fn declare_function(
     ensures memory { IfErr result (λ e. e ≡ NoMemory) }
 {
     name_function(context, name)?;
-    let meaning = Meaning::Function {
+    let meaning = Binding::Function {
         number: defined.place(context.bytes(name)),
         params,
         result: returned,
@@ -286,12 +286,12 @@ pub fn all_defined<'t>(
 }
 
 // Whether it is `int main(void)`.
-fn is_main(meaning: Option<&Meaning>) -> bool
+fn is_main(meaning: Option<&Binding>) -> bool
     ensures { result ≡ is_main (seen meaning.entry) }
 {
     match meaning {
         Some(
-            Meaning::Function {
+            Binding::Function {
                 params,
                 result: CType::Int(t),
                 ..

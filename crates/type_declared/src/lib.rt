@@ -1,9 +1,11 @@
-//! What declarations leave in a context: objects and functions that are declared, what a global starts with, a `for` with its header.
-//! Promises upward: each call changes the context, or answers of it, as the definition of typing says.
-//! Stands on c_typing's definitions, c_tree's trees and type_context.
+//! What declarations leave: objects, functions and the table of those that have a body; and a function's locals once its whole body is known.
+//! Promises upward: the context, the function of the typed tree, or the refusal, as the definition of typing has them.
+//! Stands on c_typing's definitions and type_context.
 #![tactic(auto)]
 
 pub mod functions;
 pub mod headers;
 pub mod initials;
+pub mod locals;
+pub mod numbering;
 pub mod objects;

@@ -18,7 +18,7 @@ use std::alloc::Global;
 use type_context::context::{Context, count};
 use type_context::kinds::copy_type;
 use type_context::layouts::size_in;
-use type_context::names::Meaning;
+use type_context::names::Binding;
 
 /// The type that a declarator declares, or int where it is at fault: no name is used before its
 /// declarator, so what it means then is nowhere seen.
@@ -51,7 +51,7 @@ pub fn declare_local(context: &mut Context<'_>, name: Name, ty: CType) -> Result
 {
     let number = count(context.locals.len())?;
     let copy = copy_type(context.alloc, &ty)?;
-    context.declare(name, Meaning::Local(number, copy))?;
+    context.declare(name, Binding::Local(number, copy))?;
     context.locals.push(ty)?;
     Ok(())
 }
@@ -92,7 +92,7 @@ pub fn declare_global(context: &mut Context<'_>, name: Name, ty: CType) -> Resul
     let number = count(context.globals.len())?;
     let size = size_of(context, &ty)?;
     let copy = copy_type(context.alloc, &ty)?;
-    context.declare(name, Meaning::Global(number, copy))?;
+    context.declare(name, Binding::Global(number, copy))?;
     context.take_plain(size)?;
     context.globals.push(ty)?;
     Ok(())

@@ -15,10 +15,10 @@ use Rattle.type_context.specs.declared.context.Context.{Context as CodeContext}
 use Rattle.type_context.specs.declared.context.MemberType.{MemberType}
 use Rattle.type_context.specs.ContextViews.{context_view, members_view}
 use Rattle.type_context.specs.inner.Outcomes.{joined}
-use Rattle.type_specifiers.specs.declared.specifiers.Part.{Part as CodePart}
-use Rattle.type_specifiers.specs.ListViews.{part_view}
-use Rattle.type_outcomes.specs.Telling.{Leaves, Tells}
-use Rattle.type_outcomes.proofs.Walks.{memory_tells, lone_tells, both_tell}
+use Rattle.type_rules.specs.declared.specifiers.Part.{Part as CodePart}
+use Rattle.type_rules.specs.SpecifierViews.{part_view}
+use Rattle.type_context.specs.Telling.{Leaves, Tells}
+use Rattle.type_context.proofs.Walks.{memory_tells, lone_tells, both_tell}
 use Rattle.type_nodes.specs.Nodes.{Finishes, types_of_members, fits_of, fitting, closing}
 use Rattle.type_nodes.proofs.Telling.{finishes}
 

@@ -21,14 +21,14 @@ use Rattle.c_typing.specs.Faults.{Judged, typed, refuse, Gives}
 use Rattle.c_typing.specs.Formats.{pieces_of}
 use Rattle.c_typing.specs.Literals.{joined_bytes}
 use Rattle.c_typing.specs.Rules.{value_of, selected, pointed, element, cast, size_number}
-use Rattle.c_typing.specs.Scope.{Context, Meaning}
+use Rattle.c_typing.specs.Scope.{Context, Binding}
 use Rattle.c_typing.specs.Judgement.{lone, judged, valued, judged_all, judged_print, judged_start, judged_started, judged_type, prefixed, name_in, text_in, node_place, combined, format_by, format_or, none_past, place_past, printed, started, starting_or, meaning_in, called_by}
 use Rattle.type_context.specs.declared.context.Context.{Context as CodeContext}
 use Rattle.type_context.specs.ContextViews.{context_view}
 use Rattle.type_context.specs.inner.Outcomes.{joined}
 use Rattle.type_rules.specs.ListViews.{exprs_view, pieces_view}
-use Rattle.type_outcomes.specs.Telling.{Tells}
-use Rattle.type_outcomes.proofs.Walks.{lone_tells, both_tell}
+use Rattle.type_context.specs.Telling.{Tells}
+use Rattle.type_context.proofs.Walks.{lone_tells, both_tell}
 use Rattle.type_nodes.specs.Nodes.{Finishes, no_call_of, started_view, choice, prefixed_by, begun_by, called_of, is_printf, is_thrd_create}
 use Rattle.type_nodes.proofs.Telling.{finishes, finishes_both, finishes_three, prefixed_value, starting_found, starting_sought, call_printf, call_thrd_create, call_other}
 
@@ -120,29 +120,29 @@ started_tells e rest c n m f a r h k is =
     subst (λ q. Tells started_view q m (judged_started (source.more_exprs e rest) c)) (sym is)
     (both_tell (λ (g : Option ℕ). g) exprs_view (starting_or (meaning_in c (name_in e)) (judged e)) (judged_all rest) c n m f a h k)
 
-pub starting_known : (o : Option Meaning) (e : source.Expr) (n : CodeContext) (f : Option ℕ) → begun_by o ≡ Some f → Tells (λ (g : Option ℕ). g) (Ok f) n (starting_or o (judged e) (context_view n))
+pub starting_known : (o : Option Binding) (e : source.Expr) (n : CodeContext) (f : Option ℕ) → begun_by o ≡ Some f → Tells (λ (g : Option ℕ). g) (Ok f) n (starting_or o (judged e) (context_view n))
 starting_known o e n f is = subst (λ q. Tells (λ (g : Option ℕ). g) (Ok f) n q) (sym (starting_found o (judged e) (context_view n) f is)) (lone_tells (λ (g : Option ℕ). g) (Ok f) n (typed f) refl)
 
-pub starting_other : (o : Option Meaning) (e : source.Expr) (c : Context) (n : CodeContext) (a : Result (Box CodeExpr Global) CompileFault) (r : Result (Option ℕ) CompileFault)
+pub starting_other : (o : Option Binding) (e : source.Expr) (c : Context) (n : CodeContext) (a : Result (Box CodeExpr Global) CompileFault) (r : Result (Option ℕ) CompileFault)
     → begun_by o ≡ None → Tells boxed_expr_view a n (judged e c) → Finishes (λ (g : Option ℕ). g) a (λ _. typed None) r → Tells (λ (g : Option ℕ). g) r n (starting_or o (judged e) c)
 starting_other o e c n a r is h f =
     subst (λ q. Tells (λ (g : Option ℕ). g) r n q) (sym (starting_sought o (judged e) c is)) (finishes boxed_expr_view (λ (g : Option ℕ). g) (judged e) (λ d x. typed None) c n a r h f)
 
 -- ---- calls
 
-pub printing : (m : Option Meaning) (callee : Name) (args : source.Exprs) (c : Context) (n : CodeContext) (r : Result (Box CodeExpr Global) CompileFault)
+pub printing : (m : Option Binding) (callee : Name) (args : source.Exprs) (c : Context) (n : CodeContext) (r : Result (Box CodeExpr Global) CompileFault)
     → is_printf m ≡ true → Tells boxed_expr_view r n (judged_print callee.from args c)
     → Tells boxed_expr_view r n (called_by m callee.from (judged_all args) (judged_print callee.from args) (judged_start callee.from args) c)
 printing m callee args c n r is h =
     subst (λ q. Tells boxed_expr_view r n q) (call_printf m callee.from (judged_all args) (judged_print callee.from args) (judged_start callee.from args) c is) h
 
-pub beginning : (m : Option Meaning) (callee : Name) (args : source.Exprs) (c : Context) (n : CodeContext) (r : Result (Box CodeExpr Global) CompileFault)
+pub beginning : (m : Option Binding) (callee : Name) (args : source.Exprs) (c : Context) (n : CodeContext) (r : Result (Box CodeExpr Global) CompileFault)
     → is_thrd_create m ≡ true → Tells boxed_expr_view r n (judged_start callee.from args c)
     → Tells boxed_expr_view r n (called_by m callee.from (judged_all args) (judged_print callee.from args) (judged_start callee.from args) c)
 beginning m callee args c n r is h =
     subst (λ q. Tells boxed_expr_view r n q) (call_thrd_create m callee.from (judged_all args) (judged_print callee.from args) (judged_start callee.from args) c is) h
 
-pub calling : (m : Option Meaning) (callee : Name) (args : source.Exprs) (c : Context) (n : CodeContext) (r : Result (Box CodeExpr Global) CompileFault)
+pub calling : (m : Option Binding) (callee : Name) (args : source.Exprs) (c : Context) (n : CodeContext) (r : Result (Box CodeExpr Global) CompileFault)
     → is_printf m ≡ false → is_thrd_create m ≡ false → Tells boxed_expr_view r n (called_of callee.from m (judged_all args c).0, (judged_all args c).1)
     → Tells boxed_expr_view r n (called_by m callee.from (judged_all args) (judged_print callee.from args) (judged_start callee.from args) c)
 calling m callee args c n r not_print not_start h =

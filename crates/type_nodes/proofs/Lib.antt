@@ -3,3 +3,6 @@ pub mod Expressions
 pub mod Types
 pub mod Counting
 pub mod Braces
+pub mod Arguments
+pub mod Formatting
+pub mod Mutexes

@@ -14,7 +14,7 @@ use Rattle.c_tree.specs.Typed.{Ty, Expr}
 use Rattle.c_tree.specs.TypedViews.{expr_view, boxed_expr_view}
 use Rattle.c_typing.specs.Faults.{Judged, typed, Gives, both, ◌>>=◌}
 use Rattle.c_typing.specs.Rules.{address}
-use Rattle.c_typing.specs.Scope.{Context, with_tag, tag_number, is_begun, with_begun, Meaning, global_name, local_name, function_name, library_name, printf, malloc, free, memcpy, thrd_create, thrd_join, mtx_init, mtx_lock, mtx_unlock, mtx_destroy, constant}
+use Rattle.c_typing.specs.Scope.{Context, with_tag, tag_number, is_begun, with_begun, Binding, global_name, local_name, function_name, library_name, printf, malloc, free, memcpy, thrd_create, thrd_join, mtx_init, mtx_lock, mtx_unlock, mtx_destroy, constant}
 use Rattle.c_typing.specs.Judgement.{Judging, in_turn, ruled, judged, valued, judged_all, judged_dims, judged_parts, judged_spec, judged_members, judged_member, judged_declarators, dimension, Part, called_by, starting_or, names_in, prefixed, addressing, with_addressed, meaning_in, opened, braced}
 use Rattle.type_context.specs.declared.context.Context.{Context as CodeContext}
 use Rattle.type_context.specs.ContextViews.{context_view}
@@ -22,11 +22,11 @@ use Rattle.type_context.proofs.Judging.{fails_part}
 use Rattle.type_context.specs.inner.Outcomes.{joined}
 use Rattle.type_context.specs.declared.context.MemberType.{MemberType}
 use Rattle.type_context.specs.ContextViews.{member_type_view}
-use Rattle.type_specifiers.specs.ListViews.{numbers_view}
-use Rattle.type_outcomes.specs.Telling.{Tells, lacks_memory}
-use Rattle.type_outcomes.specs.Rows.{state_behind, IsAppended}
-use Rattle.type_outcomes.proofs.Walks.{memory_tells, leaves_any, both_tell, both_tell_if, joined_keeps, ok_tells, err_tells}
-use Rattle.type_outcomes.proofs.Rows.{row_last, appended_tells}
+use Rattle.type_rules.specs.SpecifierViews.{numbers_view}
+use Rattle.type_context.specs.Telling.{Tells, lacks_memory}
+use Rattle.type_context.specs.Rows.{state_behind, IsAppended}
+use Rattle.type_context.proofs.Walks.{memory_tells, leaves_any, both_tell, both_tell_if, joined_keeps, ok_tells, err_tells}
+use Rattle.type_context.proofs.Rows.{row_last, appended_tells}
 use Rattle.type_nodes.specs.Nodes.{Finishes, types_of_members, args_row, dims_row, parts_row, members_row, behind_member, declarator_node, declarators_row, behind_declarator, closing, is_printf, is_thrd_create, called_of, begun_by, prefixed_by}
 
 -- ---- rules on parts
@@ -162,7 +162,7 @@ braces_tell t M c n o p number again fine v r is_n is_number is_again is_o fits 
 
 -- ---- calls
 
-pub call_printf : (m : Option Meaning) (place : ℕ) (args : Judging (List Expr)) (print start : Judging Expr) (c : Context) → is_printf m ≡ true → print c ≡ called_by m place args print start c
+pub call_printf : (m : Option Binding) (place : ℕ) (args : Judging (List Expr)) (print start : Judging Expr) (c : Context) → is_printf m ≡ true → print c ≡ called_by m place args print start c
 call_printf None place args print start c h = cc
 call_printf (Some (global_name n t)) place args print start c h = cc
 call_printf (Some (local_name n t)) place args print start c h = cc
@@ -179,7 +179,7 @@ call_printf (Some (library_name mtx_unlock)) place args print start c h = cc
 call_printf (Some (library_name mtx_destroy)) place args print start c h = cc
 call_printf (Some (library_name (constant value))) place args print start c h = cc
 
-pub call_thrd_create : (m : Option Meaning) (place : ℕ) (args : Judging (List Expr)) (print start : Judging Expr) (c : Context) → is_thrd_create m ≡ true → start c ≡ called_by m place args print start c
+pub call_thrd_create : (m : Option Binding) (place : ℕ) (args : Judging (List Expr)) (print start : Judging Expr) (c : Context) → is_thrd_create m ≡ true → start c ≡ called_by m place args print start c
 call_thrd_create None place args print start c h = cc
 call_thrd_create (Some (global_name n t)) place args print start c h = cc
 call_thrd_create (Some (local_name n t)) place args print start c h = cc
@@ -196,7 +196,7 @@ call_thrd_create (Some (library_name mtx_unlock)) place args print start c h = c
 call_thrd_create (Some (library_name mtx_destroy)) place args print start c h = cc
 call_thrd_create (Some (library_name (constant value))) place args print start c h = cc
 
-pub call_other : (m : Option Meaning) (place : ℕ) (args : Judging (List Expr)) (print start : Judging Expr) (c : Context) → is_printf m ≡ false → is_thrd_create m ≡ false
+pub call_other : (m : Option Binding) (place : ℕ) (args : Judging (List Expr)) (print start : Judging Expr) (c : Context) → is_printf m ≡ false → is_thrd_create m ≡ false
     → (called_of place m (args c).0, (args c).1) ≡ called_by m place args print start c
 call_other None place args print start c h k = refl
 call_other (Some (global_name n t)) place args print start c h k = refl
@@ -216,7 +216,7 @@ call_other (Some (library_name (constant value))) place args print start c h k =
 
 -- ---- what a thread begins with
 
-pub starting_found : (m : Option Meaning) (e : Judging Expr) (c : Context) (f : Option ℕ) → begun_by m ≡ Some f → starting_or m e c ≡ (typed f, c)
+pub starting_found : (m : Option Binding) (e : Judging Expr) (c : Context) (f : Option ℕ) → begun_by m ≡ Some f → starting_or m e c ≡ (typed f, c)
 starting_found None e c f h = cc
 starting_found (Some (global_name n t)) e c f h = cc
 starting_found (Some (local_name n t)) e c f h = cc
@@ -237,7 +237,7 @@ starting_found (Some (library_name mtx_unlock)) e c f h = let same : None ≡ f 
 starting_found (Some (library_name mtx_destroy)) e c f h = let same : None ≡ f = cc in ap (λ g. (typed g, c)) same
 starting_found (Some (library_name (constant value))) e c f h = cc
 
-pub starting_sought : (m : Option Meaning) (e : Judging Expr) (c : Context) → begun_by m ≡ None → starting_or m e c ≡ ruled e (λ d x. typed None) c
+pub starting_sought : (m : Option Binding) (e : Judging Expr) (c : Context) → begun_by m ≡ None → starting_or m e c ≡ ruled e (λ d x. typed None) c
 starting_sought None e c h = refl
 starting_sought (Some (global_name n t)) e c h = refl
 starting_sought (Some (local_name n t)) e c h = refl

@@ -14,9 +14,9 @@ use Rattle.c_tree.specs.Typed.{Ty, void, integer, pointer, Expr, type_of}
 use Rattle.c_typing.specs.Faults.{Judged, Gives, typed, refuse, both, ◌>>=◌}
 use Rattle.c_typing.specs.Types.{same_type, same_types}
 use Rattle.c_typing.specs.Rules.{tested, chosen, minus_by, plus_by, not_by, complement_by, target, address}
-use Rattle.c_typing.specs.Scope.{Context, Meaning, function_name, library_name, Library, printf, thrd_create, constant}
+use Rattle.c_typing.specs.Scope.{Context, Binding, function_name, library_name, Library, printf, thrd_create, constant}
 use Rattle.c_typing.specs.Judgement.{Judging, ruled, valued, judged, judged_spec, judged_member, judged_dims, names_of_member, dimension, member_by, Part, tag, Declarator, called, called_library, starting_by, struct_fits, closed}
-use Rattle.type_outcomes.specs.Rows.{row}
+use Rattle.type_context.specs.Rows.{row}
 use Rattle.type_context.specs.declared.context.MemberType.{MemberType}
 use Rattle.type_context.specs.ContextViews.{members_view}
 use Rattle.type_rules.specs.ListViews.{exprs_view}
@@ -41,12 +41,12 @@ Finishes view (Err e) rule r = r ≡ Err e
 -- ---- calls
 
 -- a call by what its name means
-abbrev pub is_printf : Option Meaning → Bool
+abbrev pub is_printf : Option Binding → Bool
 is_printf (Some (library_name printf)) = true
 is_printf m = false
 
 -- a call that begins a thread
-abbrev pub is_thrd_create : Option Meaning → Bool
+abbrev pub is_thrd_create : Option Binding → Bool
 is_thrd_create (Some (library_name thrd_create)) = true
 is_thrd_create m = false
 
@@ -63,7 +63,7 @@ abbrev pub no_call_of : (place : ℕ) → Kind → Judged (List Expr) → Judged
 no_call_of place kind j = both (refuse {A = Unit {0}} place kind) j >>= λ p. refuse place kind
 
 -- of a name that is none of the two, whatever it is
-abbrev pub called_of : (place : ℕ) → Option Meaning → Judged (List Expr) → Judged Expr
+abbrev pub called_of : (place : ℕ) → Option Binding → Judged (List Expr) → Judged Expr
 called_of place (Some (function_name n params result)) j = function_of place n params result j
 called_of place (Some (library_name which)) j = library_of place which j
 called_of place (Some m) j = no_call_of place TypeMismatch j
@@ -74,7 +74,7 @@ abbrev pub begins_thread : List Ty → Ty → Bool
 begins_thread params result = same_type result (integer int) && same_types params (pointer void ∷ [])
 
 -- the function that a thread begins with, by what its name means
-abbrev pub begun_by : Option Meaning → Option (Option ℕ)
+abbrev pub begun_by : Option Binding → Option (Option ℕ)
 begun_by (Some (function_name n params result)) = Some (starting_by n (begins_thread params result))
 begun_by (Some (library_name (constant value))) = None
 begun_by (Some (library_name which)) = Some None

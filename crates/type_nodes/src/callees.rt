@@ -9,14 +9,15 @@ ghost use Rattle.c_tree.specs.TypedViews.{type_view, boxed_expr_view};
 ghost use Rattle.c_typing.specs.Faults.{Judged, Gives, refuse};
 ghost use Rattle.c_typing.specs.Scope as scopes;
 ghost use Rattle.c_typing.specs.Judgement.{none_past, place_past, meaning_in, starting_by};
-ghost use Rattle.type_context.specs.ContextViews.{context_view, meaning_view, library_view, types_view};
+ghost use Rattle.type_context.specs.ContextViews.{context_view, binding_view, library_view, types_view};
 ghost use Rattle.type_context.specs.declared.context.Context.{Context as CodeContext};
 ghost use Rattle.type_rules.specs.ListViews.{exprs_view};
 ghost use Rattle.type_nodes.specs.Nodes as walking;
 ghost use Rattle.type_context.specs.inner.Outcomes.{joined};
 ghost use Rattle.type_nodes.specs.Nodes.{Finishes, no_call_of, library_of, function_of, called_of, begins_thread, begun_by};
-ghost use Rattle.type_outcomes.specs.Telling.{Tells};
+ghost use Rattle.type_context.specs.Telling.{Tells};
 
+use crate::library::called_library;
 use ak_words::IntType;
 use c_lex::{CompileFault, Kind};
 use c_tree::syntax as tree;
@@ -26,23 +27,22 @@ use std::alloc::Global;
 use type_context::context::Context;
 use type_context::faults::{both, refused};
 use type_context::kinds::{same_type, same_types};
-use type_context::names::{Library, Meaning};
-use type_library::library::called_library;
+use type_context::names::{Binding, Library};
 use type_rules::calls::called;
-use type_specifiers::places::node_place;
+use type_rules::places::node_place;
 
 /// Whether a name is `printf`.
-pub fn is_printf(meaning: &Option<Meaning>) -> bool
-    ensures { result ≡ walking.is_printf (option_map meaning_view meaning.now) }
+pub fn is_printf(meaning: &Option<Binding>) -> bool
+    ensures { result ≡ walking.is_printf (option_map binding_view meaning.now) }
 {
-    matches!(meaning, Some(Meaning::Library(Library::Printf)))
+    matches!(meaning, Some(Binding::Library(Library::Printf)))
 }
 
 /// Whether a name is `thrd_create`.
-pub fn is_thrd_create(meaning: &Option<Meaning>) -> bool
-    ensures { result ≡ walking.is_thrd_create (option_map meaning_view meaning.now) }
+pub fn is_thrd_create(meaning: &Option<Binding>) -> bool
+    ensures { result ≡ walking.is_thrd_create (option_map binding_view meaning.now) }
 {
-    matches!(meaning, Some(Meaning::Library(Library::ThrdCreate)))
+    matches!(meaning, Some(Binding::Library(Library::ThrdCreate)))
 }
 
 // The fault of a call, with those of its arguments.
@@ -101,22 +101,22 @@ fn function_called(
 pub fn called_by(
     alloc: Global,
     place: u32,
-    meaning: Option<Meaning>,
+    meaning: Option<Binding>,
     args: Result<Vec<Expr>, CompileFault>,
 ) -> Result<Box<Expr>, CompileFault>
-    ensures { (n : CodeContext) (p : Judged (List TypedExpr) × scopes.Context) → Tells exprs_view args n p → Tells boxed_expr_view result n (called_of place (option_map meaning_view meaning) p.0, p.1) }
+    ensures { (n : CodeContext) (p : Judged (List TypedExpr) × scopes.Context) → Tells exprs_view args n p → Tells boxed_expr_view result n (called_of place (option_map binding_view meaning) p.0, p.1) }
 {
     match meaning {
         Some(
-            Meaning::Function {
+            Binding::Function {
                 number,
                 params,
                 result: returned,
             },
         ) => function_called(alloc, place, number, &params, &returned, args),
-        Some(Meaning::Library(which)) => library_called(alloc, place, which, args),
-        Some(Meaning::Global(_, _)) => no_call(place, Kind::TypeMismatch, args),
-        Some(Meaning::Local(_, _)) => no_call(place, Kind::TypeMismatch, args),
+        Some(Binding::Library(which)) => library_called(alloc, place, which, args),
+        Some(Binding::Global(_, _)) => no_call(place, Kind::TypeMismatch, args),
+        Some(Binding::Local(_, _)) => no_call(place, Kind::TypeMismatch, args),
         None => no_call(place, Kind::UnknownName, args),
     }
 }
@@ -158,22 +158,22 @@ fn starting_by(
 }
 
 // What a thread begins with, by what a name means, or none, where nothing is judged to find it.
-fn begun_by(alloc: Global, meaning: Option<Meaning>) -> Result<Option<Option<u32>>, CompileFault>
-    ensures function { IfOk result (λ f. f ≡ begun_by (option_map meaning_view meaning)) }
+fn begun_by(alloc: Global, meaning: Option<Binding>) -> Result<Option<Option<u32>>, CompileFault>
+    ensures function { IfOk result (λ f. f ≡ begun_by (option_map binding_view meaning)) }
     ensures memory { IfErr result (λ e. e ≡ NoMemory) }
 {
     match meaning {
         Some(
-            Meaning::Function {
+            Binding::Function {
                 number,
                 params,
                 result: returned,
             },
         ) => starting_by(alloc, number, &params, &returned),
-        Some(Meaning::Library(Library::Constant(_))) => Ok(None),
-        Some(Meaning::Library(_)) => Ok(Some(None)),
-        Some(Meaning::Global(_, _)) => Ok(None),
-        Some(Meaning::Local(_, _)) => Ok(None),
+        Some(Binding::Library(Library::Constant(_))) => Ok(None),
+        Some(Binding::Library(_)) => Ok(Some(None)),
+        Some(Binding::Global(_, _)) => Ok(None),
+        Some(Binding::Local(_, _)) => Ok(None),
         None => Ok(None),
     }
 }

@@ -7,8 +7,9 @@ ghost use Rattle.c_typing.specs.Scope.{meaning_of};
 ghost use Rattle.c_typing.specs.Literals.{joined_bytes, place_of_parts};
 ghost use Rattle.c_typing.specs.Judgement.{named, spelled};
 ghost use Rattle.type_context.specs.ContextViews.{context_view};
-ghost use Rattle.type_outcomes.specs.Telling.{Tells};
+ghost use Rattle.type_context.specs.Telling.{Tells};
 
+use crate::literals::joined;
 use ak_words::{IntType, Num};
 use c_lex::{CompileFault, Kind};
 use c_tree::syntax::{Name, Span};
@@ -16,10 +17,9 @@ use c_tree::typed::{CType, Expr, ExprNode};
 use std::alloc::Global;
 use type_context::context::{Context, count};
 use type_context::faults::refused;
-use type_context::names::{Library, Meaning};
-use type_library::literals::joined;
+use type_context::names::{Binding, Library};
+use type_rules::places::place_of_parts;
 use type_rules::trees::made;
-use type_specifiers::places::place_of_parts;
 
 /// A name is an object or a constant.
 pub fn named(context: &Context<'_>, name: Name) -> Result<Box<Expr>, CompileFault>
@@ -27,9 +27,9 @@ pub fn named(context: &Context<'_>, name: Name) -> Result<Box<Expr>, CompileFaul
 {
     let place = name.from;
     match context.meaning_of(name)? {
-        Some(Meaning::Global(n, ty)) => made(context.alloc, place, ty, ExprNode::Global(n)),
-        Some(Meaning::Local(n, ty)) => made(context.alloc, place, ty, ExprNode::Local(n)),
-        Some(Meaning::Library(Library::Constant(value))) => number(
+        Some(Binding::Global(n, ty)) => made(context.alloc, place, ty, ExprNode::Global(n)),
+        Some(Binding::Local(n, ty)) => made(context.alloc, place, ty, ExprNode::Local(n)),
+        Some(Binding::Library(Library::Constant(value))) => number(
             context.alloc,
             place,
             Num::int(value),

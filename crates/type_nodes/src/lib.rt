@@ -1,9 +1,12 @@
-//! A node of an expression, a type or a declarator, by what its parts came to.
+//! A node of an expression, a type or a struct, by what its parts came to; string literals, formats and calls of the library.
 //! Promises upward: the first fault of the parts, or what the rule of this node gives of the parts that are typed.
-//! Stands on c_typing's definitions, type_context, type_outcomes and the rules of type_rules, type_specifiers and type_library.
+//! Stands on c_typing's definitions, on type_context and on the rules of type_rules.
 #![tactic(auto)]
 
 pub mod callees;
+pub mod formats;
 pub mod leaves;
+pub mod library;
+pub mod literals;
 pub mod operators;
 pub mod structs;

@@ -11,20 +11,20 @@ ghost use Rattle.type_context.specs.inner.Outcomes.{joined};
 ghost use Rattle.type_rules.specs.ListViews.{exprs_view, pieces_view};
 ghost use Rattle.type_nodes.specs.Nodes.{Finishes, prefixed_by, choice};
 
+use crate::formats::printed;
+use crate::library::started;
 use c_lex::{CompileFault, Kind};
 use c_tree::syntax::{BinaryOp, Name, PrefixOp};
 use c_tree::typed::{CType, Expr, Piece};
 use std::alloc::Global;
 use type_context::context::Context;
 use type_context::faults::{both, refused};
-use type_library::formats::printed;
-use type_library::library::started;
 use type_rules::casts::cast;
 use type_rules::conversions::{tested, value_of};
+use type_rules::logical::combined;
 use type_rules::members::{pointed, selected, size_number};
 use type_rules::operators::{chosen, element};
 use type_rules::unary::{address, complement, minus, not, plus, target};
-use type_specifiers::logical::combined;
 
 /// What came in a box, without the box.
 pub fn unboxed(e: Result<Box<Expr>, CompileFault>) -> Result<Expr, CompileFault>

@@ -15,8 +15,8 @@ ghost use Rattle.c_typing.specs.Scope.{bytes_of, with_tag, tag_number};
 ghost use Rattle.c_typing.specs.Judgement.{Judging, struct_fits, closed, is_again, fresh_member, object_declared, opened, specified, place_of_specs, dimension, tag};
 ghost use Rattle.type_context.specs.ContextViews.{context_view, member_type_view, members_view, types_view};
 ghost use Rattle.type_context.specs.inner.Outcomes.{joined};
-ghost use Rattle.type_specifiers.specs.ListViews.{numbers_view, part_view, parts_view, declared_view};
-ghost use Rattle.type_outcomes.specs.Telling.{Tells};
+ghost use Rattle.type_rules.specs.SpecifierViews.{numbers_view, part_view, parts_view, declared_view};
+ghost use Rattle.type_context.specs.Telling.{Tells};
 ghost use Rattle.type_nodes.specs.Nodes.{Finishes, types_of_members, sized, fits_of, fitting, closing};
 
 use c_lex::{CompileFault, Kind};
@@ -28,10 +28,10 @@ use type_context::context::{Context, MemberType, within};
 use type_context::faults::{both, unless};
 use type_context::kinds::copy_type;
 use type_context::layouts::{GREATEST_OBJECT, struct_size};
-use type_outcomes::outcomes::both_fine;
-use type_specifiers::declarators::{Declared, dimension, object_declared};
-use type_specifiers::places::place_of_specs;
-use type_specifiers::specifiers::{Part, behind_pointers, specified};
+use type_context::outcomes::both_fine;
+use type_rules::declarators::{Declared, dimension, object_declared};
+use type_rules::places::place_of_specs;
+use type_rules::specifiers::{Part, behind_pointers, specified};
 
 // The members of a struct, of which there are so many at most.
 const MOST_MEMBERS: usize = 256;

@@ -5,9 +5,8 @@ use Rattle.std.specs.declared.alloc.Global.{Global}
 use Rattle.c_tree.specs.declared.typed.Lib.{Lib as CodeLib}
 use Rattle.c_tree.specs.declared.typed.Expr.{Expr as CodeExpr}
 use Rattle.c_tree.specs.declared.typed.ExprNode.{Call, Lib, Row_of-Expr, end_of-Expr, more_of-Expr, items-the_row-Expr, the_lemmas}
-use Rattle.c_tree.specs.Typed.{at, call, lib, more_exprs}
+use Rattle.c_tree.specs.Typed.{at, call, lib, more_exprs, exprs_of}
 use Rattle.c_tree.specs.TypedViews.{type_view, lib_view, expr_node_view, expr_row_view, expr_view}
-use Rattle.c_typing.specs.Judgement.{exprs_of}
 use Rattle.type_rules.specs.ListViews.{exprs_view}
 
 row_list : (m : _) (row : Row_of-Expr m) → expr_row_view row ≡ exprs_of (map expr_view (items-the_row-Expr m row))

@@ -1,2 +1,3 @@
 pub mod ListViews
 pub mod inner
+pub mod SpecifierViews

@@ -1,10 +1,10 @@
 //! Calls (C11 6.5.2.2).
 ghost use Rattle.std.specs.Prelude.{◌≡◌, map};
-ghost use Rattle.c_tree.specs.Typed.{integer, at, call, lib};
+ghost use Rattle.c_tree.specs.Typed.{integer, at, call, lib, exprs_of};
 ghost use Rattle.c_tree.specs.TypedViews.{type_view, lib_view, expr_view, boxed_expr_view};
 ghost use Rattle.c_typing.specs.Faults.{Gives, typed};
 ghost use Rattle.c_typing.specs.Rules.{fitted, or_mismatch};
-ghost use Rattle.c_typing.specs.Judgement.{exprs_of, fitted_all, called, called_lib};
+ghost use Rattle.c_typing.specs.Judgement.{fitted_all, called, called_lib};
 ghost use Rattle.type_rules.specs.ListViews.{exprs_view};
 
 use crate::conversions::fitted;

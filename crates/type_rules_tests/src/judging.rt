@@ -10,7 +10,7 @@ ghost use Rattle.c_typing.specs.Literals.{joined_bytes};
 ghost use Rattle.c_typing.specs.Scope as scopes;
 ghost use Rattle.c_typing.specs.Scope.{at_start};
 ghost use Rattle.type_context.specs.ContextViews.{context_view};
-ghost use Rattle.type_outcomes.specs.Telling.{Tells};
+ghost use Rattle.type_context.specs.Telling.{Tells};
 ghost use Rattle.type_rules.specs.ListViews.{exprs_view};
 
 use c_lex::CompileFault;
@@ -20,9 +20,9 @@ use c_tree::typed::Expr;
 use c_types::expressions::expression;
 use std::alloc::Global;
 use type_context::context::Context;
-use type_library::formats::printed;
-use type_library::literals::format_of;
+use type_nodes::formats::printed;
 use type_nodes::leaves::named;
+use type_nodes::literals::format_of;
 use type_nodes::operators::{element_of, valued};
 
 /// An expression at the beginning of a text, as a layer above judges it.

@@ -9,19 +9,19 @@ ghost use Rattle.c_typing.specs.Judgement.{lone, object_declared, ruled, specifi
 ghost use Rattle.c_typing.specs.Numbering.{func_of};
 ghost use Rattle.c_typing.specs.Programs.{defined_names, has_main};
 ghost use Rattle.type_context.specs.ContextViews.{context_view, types_view};
-ghost use Rattle.type_outcomes.specs.Telling.{both_fine};
-ghost use Rattle.type_specifiers.specs.ListViews.{declared_view, part_view};
+ghost use Rattle.type_context.specs.Telling.{both_fine};
+ghost use Rattle.type_rules.specs.SpecifierViews.{declared_view, part_view};
 
 use c_lex::CompileFault;
 use c_tree::syntax::External;
 use c_tree::typed::{CType, Func};
 use std::alloc::{AllocError, Global};
 use type_context::context::Context;
+use type_context::outcomes::both_fine;
 use type_declared::functions::{all_defined, main_of};
-use type_locals::locals::func_of;
-use type_outcomes::outcomes::both_fine;
-use type_specifiers::declarators::{Declared, object_declared};
-use type_specifiers::specifiers::{Part, specified};
+use type_declared::locals::func_of;
+use type_rules::declarators::{Declared, object_declared};
+use type_rules::specifiers::{Part, specified};
 
 /// Three things are fine.
 pub fn three_fine(

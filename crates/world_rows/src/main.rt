@@ -9,7 +9,7 @@ mod running;
 use crate::running::run;
 use ak_trace::{Entry, how, kind};
 use ak_world::Finished;
-use c_compile::compile;
+use alaska_run::compile;
 use flat_machine::Shared;
 use std::{fs, io};
 use struct_ir::linear::Code;

@@ -5,8 +5,8 @@ use mathlib.Core.Logic.{inl, inr}
 use Rattle.std.proofs.lemmas.List.{append-nil}
 use Rattle.std.proofs.Math.ListN.{get_or-map}
 use Rattle.ak_trace.specs.declared.entry.Entry.{Entry}
-use Rattle.flat_meaning.specs.declared.endings.End.{End}
-use Rattle.flat_meaning.specs.declared.endings.End.TheVariants.{TurnLimit}
+use Rattle.ak_trace.specs.declared.endings.End.{End}
+use Rattle.ak_trace.specs.declared.endings.End.TheVariants.{TurnLimit}
 use Rattle.flat_rules.specs.Machine.{Machine}
 use Rattle.flat_rules.specs.States.{State, Place, unbegun, home, out, gone, Mood, free, asked, must, place_at, at_home, homes_of, is_out, is_wanted, none_out, pick, or_else}
 use Rattle.flat_rules.specs.Events.{most_local}

@@ -7,8 +7,8 @@ use Rattle.std.proofs.lemmas.Bool.Decides.{nat_tests}
 use Rattle.std.proofs.Math.Seq.{get_or-set_same}
 use Rattle.std.proofs.Math.ListN.{get_or-map}
 use Rattle.ak_trace.specs.declared.entry.Entry.{Entry}
-use Rattle.flat_meaning.specs.declared.endings.End.{End}
-use Rattle.flat_meaning.specs.declared.endings.End.TheVariants.{TurnLimit, AllBlocked}
+use Rattle.ak_trace.specs.declared.endings.End.{End}
+use Rattle.ak_trace.specs.declared.endings.End.TheVariants.{TurnLimit, AllBlocked}
 use Rattle.flat_rules.specs.Machine.{Machine, Acted, Turned, looked, stepped, got, got_null, made_thread, refused_thread, found_busy, wants_room, rested, ended, trapped, passed_limit, lacked_stack}
 use Rattle.flat_rules.specs.Entries.{turn_entry, out_entry}
 use Rattle.flat_rules.specs.Draws.{after_draw, drawn}

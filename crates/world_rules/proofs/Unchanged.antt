@@ -3,7 +3,7 @@ use Rattle.std.proofs.Common.{◌≡◌, ◌↔◌, ℕ, ◌==◌, Bool, true, f
 use Rattle.std.proofs.lemmas.List.{append-nil}
 use Rattle.ak_trace.specs.declared.entry.Entry.{Entry}
 use Rattle.ak_trace.specs.Log.{Log}
-use Rattle.flat_meaning.specs.declared.endings.End.{End}
+use Rattle.ak_trace.specs.declared.endings.End.{End}
 use Rattle.flat_rules.specs.Machine.{Machine}
 use Rattle.flat_rules.specs.Events.{Goes, on, back, away, goes}
 use Rattle.world_rules.specs.declared.calls.Call.{Call}

@@ -1,8 +1,8 @@
 -- What each call of a worker comes to: its reply, its entries, and the world after, but for the entries.
 use Rattle.std.specs.Prelude.{ℕ, ◌+◌, ◌-◌, ◌==◌, Bool, not, ◌&&◌, ◌||◌, min, nat_lt, nat_le, if◌then◌else◌, List, [], ◌∷◌, ◌++◌, length, map, slice_index_or, slice_set, slice_get, Option, Some, None, is_none, ⊤}
 use Rattle.ak_trace.specs.declared.entry.Entry.{Entry}
-use Rattle.flat_meaning.specs.declared.endings.End.{End}
-use Rattle.flat_meaning.specs.declared.endings.End.TheVariants.{AllBlocked, TurnLimit}
+use Rattle.ak_trace.specs.declared.endings.End.{End}
+use Rattle.ak_trace.specs.declared.endings.End.TheVariants.{AllBlocked, TurnLimit}
 use Rattle.flat_rules.specs.Machine.{Machine, Acted, Swept, Turned, found_busy, wants_room, rested, ended}
 use Rattle.flat_rules.specs.Entries.{out_entry, home_entry, turn_entry, barrier_entry, served_entry}
 use Rattle.flat_rules.specs.Draws.{after_draw}

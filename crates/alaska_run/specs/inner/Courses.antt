@@ -4,13 +4,13 @@ use Rattle.std.specs.Option.{option_map}
 use Rattle.std.specs.Arc.{arc_value}
 use Rattle.c_lex.specs.declared.refusal.Refusal.{Refusal}
 use Rattle.c_tree.specs.Typed.{Typed}
-use Rattle.c_reader.specs.Reading.{Refuses}
-use Rattle.c_compile.specs.Built.{IsBuilt}
+use Rattle.alaska_run.specs.Reading.{Refuses}
+use Rattle.alaska_run.specs.Built.{IsBuilt}
 use Rattle.struct_ir.specs.Instrs.{LinearCode}
 use Rattle.struct_ir.specs.Whole.{plain_bytes}
-use Rattle.pin_checker.specs.CheckedViews.{code_of}
+use Rattle.pin_checker.specs.CheckedViews.{program_in}
 use Rattle.turn_lock.specs.Locks.{AllPasses, first_of, passes_of}
-use Rattle.flat_meaning.specs.declared.endings.End.{End}
+use Rattle.ak_trace.specs.declared.endings.End.{End}
 use Rattle.flat_rules.specs.declared.settings.Settings.{Settings}
 use Rattle.flat_rules.specs.Rules.{rules_of}
 use Rattle.flat_rules.specs.States.{State}
@@ -67,7 +67,7 @@ pub record IsOpened (words : List (List ℕ)) (file : List ℕ → Shelved) (x :
   pub from : source_of file (wanted_of x.settings) ≡ Some source
   pub whole : IsAll source x.text.items
   pub typed : Typed
-  pub built : IsBuilt x.text.items typed (code_of x.checked) (arc_value x.code)
+  pub built : IsBuilt x.text.items typed (program_in x.checked) (arc_value x.code)
   pub ready : IsReady x
 
 -- a call that comes to no run, with this status, of these settings and this text
@@ -87,7 +87,7 @@ pub record IsOpenedOf (settings : Settings) (text : List ℕ) (x : Opened) : Typ
   pub settings_are : x.settings ≡ settings
   pub text_is : x.text.items ≡ text
   pub typed : Typed
-  pub built : IsBuilt text typed (code_of x.checked) (arc_value x.code)
+  pub built : IsBuilt text typed (program_in x.checked) (arc_value x.code)
   pub ready : IsReady x
 
 -- the text is none of the subset, and this is its refusal

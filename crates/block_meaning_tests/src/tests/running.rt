@@ -1,9 +1,9 @@
 //! Ways to run a program.
 
 use ak_words::NoMemory;
+use alaska_run::{Reading, read};
 use block_meaning::{Answer, SourceRun, Turned};
 use c_lex::CompileFault;
-use c_reader::{Reading, read};
 use std::alloc::Global;
 
 /// A run of this text that is about to begin.

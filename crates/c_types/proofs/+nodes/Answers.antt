@@ -8,9 +8,9 @@ use Rattle.c_tree.specs.TypedViews.{expr_view}
 use Rattle.c_typing.specs.Judgement.{valued, judged, judged_all, judged_spec, judged_members, judged_member, dimension, ruled, name_in, meaning_in}
 use Rattle.type_context.specs.ContextViews.{context_view, member_type_view}
 use Rattle.type_rules.specs.ListViews.{exprs_view}
-use Rattle.type_specifiers.specs.ListViews.{part_view, parts_view, parts_seen}
-use Rattle.type_outcomes.specs.Telling.{Tells}
-use Rattle.type_outcomes.proofs.Rows.{starts, pushed_next, state_next, ends}
+use Rattle.type_rules.specs.SpecifierViews.{part_view, parts_view, parts_seen}
+use Rattle.type_context.specs.Telling.{Tells}
+use Rattle.type_context.proofs.Rows.{starts, pushed_next, state_next, ends}
 use Rattle.type_nodes.specs.Nodes.{types_of_members, behind_member, declarator_node, behind_declarator, begun_by}
 use Rattle.type_nodes.proofs.Telling.{args_are, dims_are, parts_are, members_are, declarators_are, members_next, appended_keeps, braces_tell, numbers_told, keeps_second, unboxed_tells}
 use Rattle.type_nodes.proofs.Expressions.{value_tells, prefixed_tells, starting_known, starting_other}

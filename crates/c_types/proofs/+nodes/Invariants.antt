@@ -7,9 +7,9 @@ use Rattle.c_tree.specs.TypedViews.{type_view}
 use Rattle.c_typing.specs.Faults.{Judged, Gives}
 use Rattle.type_context.specs.ContextViews.{context_view}
 use Rattle.type_rules.specs.ListViews.{exprs_view}
-use Rattle.type_specifiers.specs.ListViews.{parts_view}
-use Rattle.type_outcomes.specs.Telling.{Tells, lacks_memory}
-use Rattle.type_outcomes.specs.Rows.{state_behind}
+use Rattle.type_rules.specs.SpecifierViews.{parts_view}
+use Rattle.type_context.specs.Telling.{Tells, lacks_memory}
+use Rattle.type_context.specs.Rows.{state_behind}
 use Rattle.type_nodes.specs.Nodes.{types_of_members, args_row, dims_row, parts_row, members_row, behind_member, declarators_row, behind_declarator}
 use Rattle.c_types.proofs.+nodes.Given as goal
 

@@ -2,12 +2,12 @@
 use Rattle.std.specs.Prelude.{ℕ, ◌+◌, List, [], ◌∷◌, ◌++◌, map, None, if◌then◌else◌}
 use Rattle.struct_ir.specs.Nodes.{Node, plain, if_, loop, break_, next_, ret, Nodes, no_nodes, more_nodes, Func, Ir}
 use Rattle.struct_ir.specs.Instrs.{Instr, acts, unless, jump, round_to, leave, LinearFunc, LinearCode}
-use Rattle.struct_ir.specs.Marks.{is_mark}
+use Rattle.struct_ir.specs.Marks.{is_lifetime_mark}
 
 -- how many instructions nodes take: two for an If, none for the beginning and the end of a stack object, and one for each other node
 abbrev mutual
   pub node_long : Node → ℕ
-  node_long (plain place a) = if is_mark a then 0 else 1
+  node_long (plain place a) = if is_lifetime_mark a then 0 else 1
   node_long (if_ place temp one other) = 1 + long one + 1 + long other
   node_long (loop place body latch) = long body + long latch + 1
   node_long (break_ place) = 1
@@ -21,7 +21,7 @@ abbrev mutual
 -- the instructions of nodes that stand from an index on, where Break goes on at out, and Next at next
 abbrev mutual
   pub emit_node : (at out next : ℕ) → Node → List Instr
-  emit_node at out next (plain place a) = if is_mark a then [] else (acts place a ∷ [])
+  emit_node at out next (plain place a) = if is_lifetime_mark a then [] else (acts place a ∷ [])
   emit_node at out next (if_ place temp one other) =
       let other_at = at + 1 + long one + 1 in
       unless place temp other_at ∷ (emit (at + 1) out next one ++ jump place (other_at + long other) ∷ emit other_at out next other)
@@ -38,12 +38,12 @@ abbrev mutual
   emit at out next (more_nodes n rest) = emit_node at out next n ++ emit (at + node_long n) out next rest
 
 -- the instructions of a function: its nodes', and a return at the end
-abbrev pub code_of : Nodes → List Instr
-code_of nodes = emit 0 (long nodes) (long nodes) nodes ++ leave 0 None ∷ []
+abbrev pub instrs_for : Nodes → List Instr
+instrs_for nodes = emit 0 (long nodes) (long nodes) nodes ++ leave 0 None ∷ []
 
 -- a function
 abbrev pub func_linear : Func → LinearFunc
-func_linear f = record { params = f.params; temps = f.temps; slots = f.slots; objects = f.objects; instrs = code_of f.nodes }
+func_linear f = record { params = f.params; temps = f.temps; slots = f.slots; objects = f.objects; instrs = instrs_for f.nodes }
 
 -- a program
 abbrev pub linear_of : Ir → LinearCode

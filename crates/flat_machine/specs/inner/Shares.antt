@@ -3,7 +3,7 @@ use Rattle.std.specs.Prelude.{◌≡◌, ℕ, ◌<◌, ◌≤◌, List, length}
 use Rattle.ak_trace.specs.declared.entry.Entry.{Entry}
 use Rattle.handle_table.specs.Words.{WordList}
 use Rattle.move_plan.specs.Holding.{MoveList, PinSet}
-use Rattle.defrag_move.specs.Arena.{Storage, IsConsistent}
+use Rattle.arena_meaning.specs.Arena.{Storage, IsConsistent}
 use Rattle.flat_meaning.specs.Memory.{Made}
 use Rattle.flat_machine.specs.declared.made.MadeThread.{MadeThread}
 

@@ -9,9 +9,9 @@ use Rattle.block_store.specs.declared.values.Access.{Access}
 use Rattle.block_store.specs.Cells.{size_of}
 use Rattle.handle_words.specs.Handle.{id_of}
 use Rattle.flat_store.specs.Flat.{bytes_from, first_outside, first_outside_of_both}
-use Rattle.defrag_move.specs.Changes.{without_id}
-use Rattle.flat_meaning.specs.declared.endings.TrapKind.{TrapKind}
-use Rattle.flat_meaning.specs.declared.endings.TrapKind.TheVariants as kinds
+use Rattle.arena_meaning.specs.Changes.{without_id}
+use Rattle.ak_trace.specs.declared.endings.TrapKind.{TrapKind}
+use Rattle.ak_trace.specs.declared.endings.TrapKind.TheVariants as kinds
 use Rattle.flat_meaning.specs.Accesses as actions
 use Rattle.flat_meaning.specs.Accesses.{Choice, Done, allocated, copied, freed, is_live_start, is_plain, loaded, output_room, printed, prints, stored, within, word_read}
 use Rattle.flat_meaning.specs.Actions.{acted, is_free, joined_at, joined_if, locked, may_start, printed_parts, started, unlocked}

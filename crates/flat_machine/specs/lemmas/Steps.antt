@@ -33,7 +33,7 @@ use Rattle.flat_meaning.specs.Accesses.{Choice}
 use Rattle.flat_meaning.specs.Actions.{acted, locked, started, unlocked}
 use Rattle.flat_meaning.specs.Effects as effects
 use Rattle.flat_meaning.specs.Effects.{Effect, landing, own_list_of}
-use Rattle.flat_meaning.specs.declared.endings.End.{End}
+use Rattle.ak_trace.specs.declared.endings.End.{End}
 use Rattle.flat_meaning.specs.Stages as stages
 use Rattle.flat_meaning.specs.Image.{Image, Layout}
 use Rattle.flat_meaning.specs.Local.{no_room_if, spent_if, stop_before}

@@ -2,7 +2,7 @@
 use Rattle.std.specs.Prelude.{◌≡◌, ℕ, ◌+◌, ◌<◌, List, length, slice_get, Some, false}
 use Rattle.block_store.specs.Blocks.{Block, Blocks, live, is_heap}
 use Rattle.struct_ir.specs.Nodes.{StackObject, Ir}
-use Rattle.ir_meaning.specs.Blocks.{Own, objects_of, size_of}
+use Rattle.struct_ir.specs.meaning.Blocks.{Own, objects_of, size_of}
 use Rattle.flat_meaning.specs.Image.{Layout, global_address, literal_address}
 use Rattle.flat_meaning.specs.Words.{Words, word_at, object_address}
 use Rattle.flat_meaning.specs.Names.{Name, plain, name_of}

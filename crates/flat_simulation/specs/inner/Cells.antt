@@ -5,7 +5,7 @@ use Rattle.block_store.specs.declared.values.Cell.{Cell}
 use Rattle.block_store.specs.declared.values.Cell.TheVariants.{Unknown, Byte, Part}
 use Rattle.block_store.specs.Blocks.{Block, Blocks, live}
 use Rattle.flat_store.specs.Flat.{byte_at}
-use Rattle.defrag_move.specs.Arena.{Storage}
+use Rattle.arena_meaning.specs.Arena.{Storage}
 use Rattle.flat_meaning.specs.Names.{Name, name_of, word_for, address_for}
 
 -- a byte of a pointer, whose block was made; while that lives, the pointer points into it or to its end, and the byte is one of its word

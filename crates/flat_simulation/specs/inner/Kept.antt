@@ -3,14 +3,14 @@ use Rattle.std.specs.Prelude.{◌≡◌, ◌≢◌, ℕ, List, [], Some, None, t
 use Rattle.block_store.specs.declared.values.Answer.TheVariants as answers
 use Rattle.block_store.specs.declared.values.Answer.{Answer}
 use Rattle.block_store.specs.Actions.{World}
-use Rattle.move_plan.specs.declared.moves.Move.{Move}
-use Rattle.move_plan.specs.Moving.{AreLegal}
+use Rattle.sub_heaps.specs.declared.moves.Move.{Move}
+use Rattle.sub_heaps.specs.Moving.{AreLegal}
 use Rattle.block_store.specs.Runs as runs
 use Rattle.struct_ir.specs.Nodes.{Ir}
 use Rattle.struct_ir.specs.Structured.{Position, structured}
 use Rattle.struct_ir.specs.Threads.{Thread, Outcome, went, turn}
-use Rattle.ir_meaning.specs.Blocks.{Own, Fault, blocks_machine}
-use Rattle.ir_meaning.specs.Threads.{blocks_world, code_of}
+use Rattle.struct_ir.specs.meaning.Blocks.{Own, Fault, blocks_machine}
+use Rattle.struct_ir.specs.meaning.Threads.{blocks_world, start_in}
 use Rattle.flat_meaning.specs.Image.{Limits, Image, structured_image}
 use Rattle.flat_meaning.specs.Memory.{Memory}
 use Rattle.flat_meaning.specs.Accesses.{Choice, wait}
@@ -27,7 +27,7 @@ use Rattle.flat_simulation.specs.inner.Threads.{StageStands, StateStands, TurnsA
 
 -- what comes of a turn of a thread of the source
 abbrev pub source_turn : Ir → (thread : ℕ) → Answer → Thread Position Own → World → Outcome Position Own Fault World
-source_turn p thread answer k w = turn structured (blocks_machine p) (blocks_world p thread) (code_of p) answer k w
+source_turn p thread answer k w = turn structured (blocks_machine p) (blocks_world p thread) (start_in p) answer k w
 
 module _ (p : Ir) (limits : Limits) where
   abbrev loaded : Image Position

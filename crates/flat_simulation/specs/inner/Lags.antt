@@ -5,12 +5,12 @@ use Rattle.c_tree.specs.TypedForm.{taken}
 use Rattle.handle_table.specs.declared.frame.PinSlot.{PinSlot}
 use Rattle.handle_table.specs.Table.{translated}
 use Rattle.handle_table.specs.Frame.{slot_at}
-use Rattle.defrag_move.specs.Arena.{Storage}
+use Rattle.arena_meaning.specs.Arena.{Storage}
 use Rattle.struct_ir.specs.Nodes.{Ir}
 use Rattle.struct_ir.specs.Flow.{Flow, Path}
 use Rattle.struct_ir.specs.Machine.{Point, Steps, run}
 use Rattle.struct_ir.specs.Pins.{looked, lacks_if, listing, facts}
-use Rattle.ir_meaning.specs.Blocks.{Own, Fault, blocks_machine}
+use Rattle.struct_ir.specs.meaning.Blocks.{Own, Fault, blocks_machine}
 use Rattle.flat_meaning.specs.Image.{Layout, Image}
 use Rattle.flat_meaning.specs.Words.{Words, object_address}
 use Rattle.flat_meaning.specs.Allowed.{list_at}

@@ -5,7 +5,7 @@ use Rattle.block_store.specs.Runs as runs
 use Rattle.struct_ir.specs.Nodes.{Ir}
 use Rattle.struct_ir.specs.Structured.{Position}
 use Rattle.struct_ir.specs.Threads.{Thread}
-use Rattle.ir_meaning.specs.Blocks.{Own}
+use Rattle.struct_ir.specs.meaning.Blocks.{Own}
 use Rattle.flat_meaning.specs.Image.{Limits, structured_image}
 use Rattle.flat_meaning.specs.Events.{State}
 use Rattle.flat_meaning.specs.Names.{Name, ids_in}

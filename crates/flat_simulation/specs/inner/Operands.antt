@@ -6,8 +6,8 @@ use Rattle.block_store.specs.declared.values.Value.{Value}
 use Rattle.block_store.specs.Blocks.{Block, Blocks, live}
 use Rattle.block_store.specs.Actions as source
 use Rattle.block_store.specs.Actions.{World, reads_of}
-use Rattle.defrag_move.specs.Arena.{Storage}
-use Rattle.ir_meaning.specs.Blocks.{value}
+use Rattle.arena_meaning.specs.Arena.{Storage}
+use Rattle.struct_ir.specs.meaning.Blocks.{value}
 use Rattle.flat_meaning.specs.Words.{Target}
 use Rattle.flat_meaning.specs.Names.{Name}
 use Rattle.flat_meaning.specs.Touched.{Touched}
@@ -36,7 +36,7 @@ WordsStand names blocks (v ∷ vs) [] = ⊥
 WordsStand names blocks (v ∷ vs) (w ∷ ws) = Stands names AnyBlock blocks (value v) w × WordsStand names blocks vs ws
 
 -- where an action is done or waits, what is touched is what it reaches
-abbrev pub StaysIf : List Name → Storage → List Touched → World → source.Action → source.Done → Type 0
+abbrev pub StaysIf : List Name → Storage → List Touched → World → source.SharedAction → source.Done → Type 0
 StaysIf names s touched w action (source.went v to) = StaysInBlocks names s touched to.reached
 StaysIf names s touched w action source.blocked = StaysInBlocks names s touched (reads_of w action)
 StaysIf names s touched w action source.unfit = Unit {0}

@@ -1,5 +1,5 @@
 -- Objects and table agree in what comes of actions, steps and events.
-use Rattle.defrag_move.specs.Arena.{IsConsistent}
+use Rattle.arena_meaning.specs.Arena.{IsConsistent}
 use Rattle.struct_ir.specs.Threads.{Served, serves, waits, refuses, fails, Outcome, went, ended, blocked, broke, unfit}
 use Rattle.flat_meaning.specs.Words.{Words}
 use Rattle.flat_meaning.specs.Memory.{Memory}

@@ -5,14 +5,14 @@ use Rattle.block_store.specs.Blocks.{Blocks}
 use Rattle.block_store.specs.Actions.{World}
 use Rattle.block_store.specs.Runs as runs
 use Rattle.block_store.specs.Runs.{own_at}
-use Rattle.defrag_move.specs.Arena.{Storage}
+use Rattle.arena_meaning.specs.Arena.{Storage}
 use Rattle.struct_ir.specs.Nodes.{Func, Ir}
 use Rattle.struct_ir.specs.Flow.{IsCall}
 use Rattle.struct_ir.specs.Machine.{Point}
 use Rattle.struct_ir.specs.Threads.{Thread, Outcome, went, ended, blocked, broke, unfit}
 use Rattle.struct_ir.specs.Pins.{looked, lacks, facts}
-use Rattle.ir_meaning.specs.Blocks.{Own, Fault}
-use Rattle.ir_meaning.specs.Threads.{first_own}
+use Rattle.struct_ir.specs.meaning.Blocks.{Own, Fault}
+use Rattle.struct_ir.specs.meaning.Threads.{first_own}
 use Rattle.flat_meaning.specs.Image.{Image, stack_address, objects_bytes}
 use Rattle.flat_meaning.specs.Words.{Words}
 use Rattle.flat_meaning.specs.Memory.{Memory}

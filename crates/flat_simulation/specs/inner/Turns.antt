@@ -4,7 +4,7 @@ use Rattle.block_store.specs.declared.values.BlockKind.TheVariants as block_kind
 use Rattle.block_store.specs.declared.values.Cell.TheVariants.{Unknown}
 use Rattle.block_store.specs.Blocks.{Block, Blocks, live}
 use Rattle.c_tree.specs.TypedForm.{taken}
-use Rattle.ir_meaning.specs.Blocks.{Own}
+use Rattle.struct_ir.specs.meaning.Blocks.{Own}
 use Rattle.flat_meaning.specs.Image.{Layout, stack_address}
 use Rattle.flat_meaning.specs.Words.{Words}
 use Rattle.flat_meaning.specs.Names.{Name, heap, plain, name_of, ids_in}

@@ -6,7 +6,7 @@ use Rattle.block_store.specs.declared.values.Value.TheVariants as values
 use Rattle.block_store.specs.Blocks.{Block, Blocks, live}
 use Rattle.c_tree.specs.TypedForm.{taken}
 use Rattle.flat_store.specs.Flat.{first_address}
-use Rattle.ir_meaning.specs.Blocks.{Held, value, unset, missing}
+use Rattle.struct_ir.specs.meaning.Blocks.{Held, value, unset, missing}
 use Rattle.flat_words.specs.Words.{number_word}
 use Rattle.flat_meaning.specs.Names.{Name, heap, plain, name_of, word_for, Apart}
 

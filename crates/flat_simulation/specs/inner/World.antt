@@ -3,7 +3,7 @@ use Rattle.std.specs.Prelude.{◌≡◌, ℕ, ◌+◌, ◌%◌, ◌^◌, List, S
 use Rattle.block_store.specs.declared.values.Ptr.{Ptr}
 use Rattle.block_store.specs.declared.values.Ptr.TheVariants.{Null, To}
 use Rattle.block_store.specs.Blocks.{Block, Blocks, live}
-use Rattle.defrag_move.specs.Arena.{IsConsistent, Storage}
+use Rattle.arena_meaning.specs.Arena.{IsConsistent, Storage}
 use Rattle.flat_meaning.specs.Names.{Name, name_of, address_for, NamesStand}
 use Rattle.flat_simulation.specs.inner.Cells.{MemoryStands}
 

@@ -5,9 +5,9 @@ use Rattle.block_store.specs.Blocks.{Block, Blocks, live}
 use Rattle.block_store.specs.Actions as source
 use Rattle.block_store.specs.Actions.{World}
 use Rattle.c_tree.specs.TypedForm.{taken}
-use Rattle.defrag_move.specs.Arena.{start_behind}
+use Rattle.arena_meaning.specs.Arena.{start_behind}
 use Rattle.struct_ir.specs.Nodes.{Func, Ir}
-use Rattle.ir_meaning.specs.Blocks.{value}
+use Rattle.struct_ir.specs.meaning.Blocks.{value}
 use Rattle.flat_meaning.specs.Image.{Layout, stack_address, plain_size}
 use Rattle.flat_meaning.specs.Memory.{Made, Memory}
 use Rattle.flat_meaning.specs.Accesses as words
@@ -22,13 +22,13 @@ use Rattle.flat_simulation.specs.inner.Lags.{KeepsAddresses}
 -- ---- what threads share
 
 -- a thread that was made: the same function, an argument that stands, and the same end
-pub record MadeStands (names : List Name) (blocks : Blocks) (t : source.Thread) (u : Made) : Type 0 where
+pub record MadeStands (names : List Name) (blocks : Blocks) (t : source.ThreadRecord) (u : Made) : Type 0 where
   pub function : u.function ≡ t.function
   pub argument : PointerStands names AnyBlock blocks t.argument u.argument
   pub result : ResultStands t.stage u.result
 
 -- one by one
-abbrev pub AllMadeStand : List Name → Blocks → List source.Thread → List Made → Type 0
+abbrev pub AllMadeStand : List Name → Blocks → List source.ThreadRecord → List Made → Type 0
 AllMadeStand names blocks [] [] = Unit {0}
 AllMadeStand names blocks [] (u ∷ us) = ⊥
 AllMadeStand names blocks (t ∷ ts) [] = ⊥
@@ -46,7 +46,7 @@ pub record WorldStands (y : Layout) (p : Ir) (names : List Name) (w : World) (m 
 
 -- a thread was made, the last one: of a function that there is, and with a stack
 pub record IsBorn (y : Layout) (p : Ir) (w later : World) : Type 0 where
-  pub born : source.Thread
+  pub born : source.ThreadRecord
   pub last : later.threads ≡ w.threads ++ born ∷ []
   pub func : Func
   pub there : slice_get p.funcs born.function ≡ Some func

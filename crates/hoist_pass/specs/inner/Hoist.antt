@@ -1,6 +1,6 @@
 -- Looks go before the outermost loop that doesn't assign their register, and none stands where a slot is available.
 use Rattle.std.specs.Prelude.{◌≡◌, not, ℕ, List, [], ◌∷◌, map, Option, Some, None, Bool, true, false, ◌||◌, ◌&&◌}
-use Rattle.struct_ir.specs.Nodes.{look, Node, plain, if_, loop, break_, next_, ret, Nodes, no_nodes, more_nodes, Func, Ir}
+use Rattle.struct_ir.specs.Nodes.{look, Node, plain, if_, loop, break_, next_, ret, Nodes, no_nodes, more_nodes, Func, Ir, node_place}
 use Rattle.struct_ir.specs.Structured.{done, then_, structured}
 use Rattle.struct_ir.specs.Erased.{put, erased}
 use Rattle.pin_flow.specs.Marks.{State, unreached, good, bad, end_state, head_of, flow, flow_node}
@@ -19,19 +19,10 @@ wants b (break_ place) = false
 wants b (next_ place) = false
 wants b (ret place temp) = false
 
--- the place of a node in the text
-abbrev pub place_of : Node → ℕ
-place_of (plain place a) = place
-place_of (if_ place temp one other) = place
-place_of (loop place body latch) = place
-place_of (break_ place) = place
-place_of (next_ place) = place
-place_of (ret place temp) = place
-
 abbrev mutual
   pub lifted : (slot b : ℕ) → Nodes → Nodes
   lifted slot b no_nodes = no_nodes
-  lifted slot b (more_nodes n rest) = put (wants b n) (plain (place_of n) (look slot b)) (more_nodes (lifted_in slot b n) (lifted slot b rest))
+  lifted slot b (more_nodes n rest) = put (wants b n) (plain (node_place n) (look slot b)) (more_nodes (lifted_in slot b n) (lifted slot b rest))
 
   pub lifted_in : (slot b : ℕ) → Node → Node
   lifted_in slot b (plain place a) = plain place a
@@ -49,7 +40,7 @@ lifted_within slot b (more_nodes n rest) = more_nodes (lifted_in slot b n) (lift
 -- ... and then in the row itself
 abbrev pub with_looks : (slot b : ℕ) → Nodes → Nodes
 with_looks slot b no_nodes = no_nodes
-with_looks slot b (more_nodes n rest) = put (wants b n) (plain (place_of n) (look slot b)) (more_nodes n (with_looks slot b rest))
+with_looks slot b (more_nodes n rest) = put (wants b n) (plain (node_place n) (look slot b)) (more_nodes n (with_looks slot b rest))
 
 -- a node of the row itself is such a loop
 abbrev pub wants_here : (b : ℕ) → Nodes → Bool

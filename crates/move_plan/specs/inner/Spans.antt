@@ -4,7 +4,7 @@ use Rattle.std.specs.List.{All}
 use Rattle.sub_heaps.specs.declared.objects.Object.{Object}
 use Rattle.sub_heaps.specs.ByPlace.{end_of, object_at, with_object}
 use Rattle.sub_heaps.specs.SubHeaps.{SubHeaps, LiesInOne, IsApartFrom}
-use Rattle.move_plan.specs.declared.moves.Move.{Move}
+use Rattle.sub_heaps.specs.declared.moves.Move.{Move}
 
 -- the first byte of the object that a move is of, with the move's turn
 abbrev pub origin : ℕ → Move → Object

@@ -1,6 +1,6 @@
 -- The checker's reports: of two faults the earlier one is kept.
 use Rattle.std.specs.Prelude.{ℕ, List, [], ◌∷◌, ◌++◌, Option, Some, None, is_none, Bool, true, false, ◌==◌, ◌||◌, ◌&&◌, not, if◌then◌else◌, nat_lt}
-use Rattle.struct_ir.specs.Nodes.{Place, Act, Node, plain, if_, loop, break_, next_, ret, Nodes, no_nodes, more_nodes, Func, Ir, places_of, list_of}
+use Rattle.struct_ir.specs.Nodes.{Place, Act, Node, plain, if_, loop, break_, next_, ret, Nodes, no_nodes, more_nodes, Func, Ir, places_of, list_of, node_place}
 use Rattle.struct_ir.specs.Pins.{lacks_if}
 use Rattle.struct_ir.specs.Valid.{Scope, Around, body_of, latch_of, outside, scope_of, list_at}
 use Rattle.pin_flow.specs.Marks.{Mark, State, unreached, good, bad, state_of, flow, flow_node, head_of, end_state}
@@ -10,7 +10,7 @@ use Rattle.pin_checker.specs.declared.fault.Why.{Why}
 use Rattle.pin_checker.specs.declared.fault.Why.TheVariants.{BadTemp, NoLook, StaleLook, NotPinned}
 use Rattle.pin_checker.specs.declared.fault.Fault.{Fault}
 use Rattle.pin_checker.specs.declared.pair.Pair.{Pair}
-use Rattle.pin_checker.specs.Faults.{place_of, is_sound, rank}
+use Rattle.pin_checker.specs.Faults.{is_sound, rank}
 
 -- ---- the earlier fault
 
@@ -34,7 +34,7 @@ unfoldable mutual
   pub report_invalid : Scope → Around → (before : Option (List ℕ)) → Nodes → Option Fault → Option Fault
   report_invalid x around before no_nodes best = best
   report_invalid x around before (more_nodes n rest) best =
-      report_invalid x around (list_at n) rest (report_invalid_in x around n (noted (not (is_sound x around before n rest)) (place_of n) BadTemp best))
+      report_invalid x around (list_at n) rest (report_invalid_in x around n (noted (not (is_sound x around before n rest)) (node_place n) BadTemp best))
 
   pub report_invalid_in : Scope → Around → Node → Option Fault → Option Fault
   report_invalid_in x around (plain place a) best = best

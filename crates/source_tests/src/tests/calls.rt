@@ -3,10 +3,10 @@ ghost use Rattle.std.specs.Prelude.{◌≡◌, ◌∷◌, [], IfOk};
 use ak_words::{NoMemory, Num};
 use block_store::{Ptr, Value};
 use c_tree::typed::{Lib, Piece};
-use shared_world::{Action, Printed};
-use source_calls::{called, list_of};
-use source_control::control::{Pending, Todo, Values, Wait};
-use source_control::frames::one_more;
+use source_expressions::{called, list_of};
+use source_state::control::{Pending, Todo, Values, Wait};
+use source_state::frames::one_more;
+use source_state::{Printed, SharedAction};
 use source_tree::tree::Callee;
 use std::alloc::Global;
 use std::rc::Rc;
@@ -49,7 +49,7 @@ fn printf_writes_its_numbers(rt: HostRuntime) -> Result<(), NoMemory> {
     let minus_one = Value::Num(Num::int(-1));
     let q = call_of_two(rt.alloc(), Lib::Print(pieces), minus_one, minus_one)?;
     let mut bytes = Vec::new(rt.alloc());
-    if let Pending::Act(7, Action::Print(parts), _) = &q {
+    if let Pending::Act(7, SharedAction::Print(parts), _) = &q {
         for part in parts {
             if let Printed::Bytes(all) = part {
                 bytes.extend_from_slice(all)?;

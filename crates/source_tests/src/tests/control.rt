@@ -2,7 +2,7 @@ ghost use Rattle.std.specs.Prelude.{◌≡◌, OnOk};
 
 use ak_words::{NoMemory, Num};
 use block_store::Value;
-use source_control::{Locals, Variable};
+use source_state::{Locals, Variable};
 use std::test::Fail;
 
 // A caller, proved from the contracts alone: a turn in vain leaves the locals as they were.

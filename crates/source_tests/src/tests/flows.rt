@@ -1,9 +1,9 @@
 use ak_words::{IntType, NoMemory, Num, Op, Rule};
 use block_store::{Store, Value};
 use c_tree::typed::CType;
-use source_control::control::{Flow, Pending, Use};
-use source_control::{Locals, Variable};
-use source_flow::flow::expr;
+use source_expressions::expressions::expr;
+use source_state::control::{Pending, Progress, Use};
+use source_state::{Locals, Variable};
 use source_tree::tree::{SharedExpr, SharedNode, SharedProgram, TwoForm};
 use std::alloc::Global;
 use std::rc::Rc;
@@ -42,7 +42,7 @@ fn a_local_is_used(rt: HostRuntime) -> Result<(), NoMemory> {
     let e = one_less(rt.alloc())?;
     let flow = expr(&e, rt.alloc(), &empty(rt.alloc()), &locals, &store, &k)?;
     let two = Value::Num(Num::int(2));
-    assert!(rt; matches!(&flow, Flow::Gives(v) if *v == two));
+    assert!(rt; matches!(&flow, Progress::Gives(v) if *v == two));
     Ok(())
 }
 
@@ -53,6 +53,6 @@ fn a_local_without_a_value(rt: HostRuntime) -> Result<(), NoMemory> {
     let locals = Locals::new(rt.alloc(), Vec::new(rt.alloc()));
     let e = one_less(rt.alloc())?;
     let flow = expr(&e, rt.alloc(), &empty(rt.alloc()), &locals, &store, &k)?;
-    assert!(rt; matches!(&flow, Flow::Ends(Pending::Broke(Rule::C4, 4))));
+    assert!(rt; matches!(&flow, Progress::Ends(Pending::Broke(Rule::C4, 4))));
     Ok(())
 }

@@ -2,7 +2,7 @@ ghost use Rattle.std.specs.Prelude.{◌≡◌, OnOk};
 
 use ak_words::{NoMemory, Num, Rule};
 use block_store::{BlockKind, Cell, Ptr, Store, Value};
-use kept_store::KeptStore;
+use source_state::KeptStore;
 use std::test::Fail;
 
 // A caller, proved from the contracts alone: a turn that makes a block, ends another and comes to nothing leaves the store

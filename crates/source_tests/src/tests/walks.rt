@@ -3,12 +3,10 @@ ghost use Rattle.std.specs.Prelude.{◌≡◌, OnOk};
 use ak_words::{IntType, NoMemory, Num};
 use block_store::{Store, Value};
 use c_tree::typed::CType;
-use kept_store::KeptStore;
-use source_assign::Exit;
-use source_control::control::{Pending, Todo};
-use source_control::{Locals, Variable};
+use source_state::control::{Pending, Todo};
+use source_state::{KeptStore, Locals, Variable};
+use source_statements::{Exit, finish};
 use source_tree::tree::{SharedExpr, SharedNode, SharedProgram, SharedRow, SharedStmt};
-use source_walk::finish;
 use std::alloc::Global;
 use std::rc::Rc;
 

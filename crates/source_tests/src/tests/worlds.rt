@@ -2,8 +2,7 @@ ghost use Rattle.std.specs.Prelude.{◌≡◌, IfOk, IsTrue};
 
 use ak_words::{NoMemory, Num, Rule};
 use block_store::{Answer, BlockKind, Cell, Ptr, Store, Value};
-use kept_store::KeptStore;
-use shared_world::{Action, Done, Printed, World};
+use source_state::{Done, KeptStore, Printed, SharedAction, World};
 use std::alloc::Global;
 use std::test::Fail;
 
@@ -11,7 +10,7 @@ use std::test::Fail;
 fn must_wait(world: &mut World, alloc: Global, thread: u32, at: Ptr) -> Result<bool, NoMemory>
     ensures { IfOk result (λ waits. IsTrue waits → world.new ≡ world.old) }
 {
-    let done = world.act(alloc, thread, Answer::Plain, Action::Lock(at))?;
+    let done = world.act(alloc, thread, Answer::Plain, SharedAction::Lock(at))?;
     Ok(matches!(done, Done::Blocked))
 }
 
@@ -30,17 +29,22 @@ fn two_threads(rt: HostRuntime) -> Result<(), Fail> {
     assert!(rt; !must_wait(&mut world, alloc, 1, mutex)?);
     assert!(rt; must_wait(&mut world, alloc, 0, mutex)?);
     assert_eq!(rt;
-        world.act(alloc, 0, Answer::Plain, Action::Unlock(mutex))?,
+        world.act(alloc, 0, Answer::Plain, SharedAction::Unlock(mutex))?,
         Done::Broke(Rule::C13)
     );
     let parts = vec![in alloc; Printed::Bytes(vec![in alloc; 104, 105]?)]?;
     assert_eq!(rt;
-        world.act(alloc, 0, Answer::Plain, Action::Print(parts))?,
+        world.act(alloc, 0, Answer::Plain, SharedAction::Print(parts))?,
         Done::Went(Some(Value::Num(Num::int(2))))
     );
     assert_eq!(rt; world.output.len(), 2);
     assert_eq!(rt;
-        world.act(alloc, 0, Answer::None, Action::Allocate(8, Cell::Unknown))?,
+        world.act(
+            alloc,
+            0,
+            Answer::None,
+            SharedAction::Allocate(8, Cell::Unknown)
+        )?,
         Done::Went(Some(Value::Pointer(Ptr::Null)))
     );
     Ok(())

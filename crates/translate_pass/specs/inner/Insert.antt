@@ -1,6 +1,6 @@
 -- A Look before each access, and the slot of its base in each place.
 use Rattle.std.specs.Prelude.{ℕ, List, [], ◌∷◌, map, length, Option, Some, None}
-use Rattle.struct_ir.specs.Nodes.{Place, Step, Act, set, call, step, look, safepoint, begin_object, end_object, Node, plain, if_, loop, break_, next_, ret, Nodes, no_nodes, more_nodes, places_of, Func, Ir}
+use Rattle.struct_ir.specs.Nodes.{Place, Step, Act, set, call, step, look, safepoint, begin_object, end_object, Node, plain, if_, loop, break_, next_, ret, Nodes, no_nodes, more_nodes, places_of, Func, Ir, node_place}
 use Rattle.pin_flow.specs.Slots.{slot_if, bases_of}
 
 -- the place through the slot of its base
@@ -40,20 +40,11 @@ places_in (break_ place) = []
 places_in (next_ place) = []
 places_in (ret place temp) = []
 
--- the place of a node in the text
-abbrev pub place_of : Node → ℕ
-place_of (plain place a) = place
-place_of (if_ place temp one other) = place
-place_of (loop place body latch) = place
-place_of (break_ place) = place
-place_of (next_ place) = place
-place_of (ret place temp) = place
-
 -- the code with its Looks and slots
 abbrev mutual
   pub inserted : (ℕ → Option ℕ) → Nodes → Nodes
   inserted slot_of no_nodes = no_nodes
-  inserted slot_of (more_nodes n rest) = with_looks slot_of (place_of n) (places_in n) (more_nodes (inserted_in slot_of n) (inserted slot_of rest))
+  inserted slot_of (more_nodes n rest) = with_looks slot_of (node_place n) (places_in n) (more_nodes (inserted_in slot_of n) (inserted slot_of rest))
 
   pub inserted_in : (ℕ → Option ℕ) → Node → Node
   inserted_in slot_of (plain place a) = plain place (act_through slot_of a)
@@ -65,7 +56,7 @@ abbrev mutual
 
 -- a node behind its Looks, and then the rest
 abbrev pub with_node : (ℕ → Option ℕ) → Node → Nodes → Nodes
-with_node slot_of n rest = with_looks slot_of (place_of n) (places_in n) (more_nodes (inserted_in slot_of n) rest)
+with_node slot_of n rest = with_looks slot_of (node_place n) (places_in n) (more_nodes (inserted_in slot_of n) rest)
 
 -- a function with its Looks and slots
 abbrev pub func_inserted : Func → Func

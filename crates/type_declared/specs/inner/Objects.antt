@@ -1,7 +1,6 @@
 -- Statements in blocks.
 use Rattle.std.specs.Prelude.{ℕ, List, [], ◌∷◌, ◌++◌}
-use Rattle.c_tree.specs.Typed.{Stmt, at_stmt, block}
-use Rattle.c_typing.specs.Statements.{stmts_of}
+use Rattle.c_tree.specs.Typed.{Stmt, at_stmt, block, stmts_of}
 
 -- statements and one behind them in a block, or that one alone
 abbrev pub enclosed : (place : ℕ) → List Stmt → Stmt → Stmt

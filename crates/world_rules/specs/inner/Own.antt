@@ -2,7 +2,7 @@
 use Rattle.std.proofs.Common.{◌≡◌, ℕ, ◌==◌, Bool, true, false, cond, List, [], ◌∷◌, map, ap, ◌∙◌, refl, Option, Some, None}
 use Rattle.ak_trace.specs.declared.entry.Entry.{Entry}
 use Rattle.turn_lock.specs.Histories.{of_worker}
-use Rattle.flat_meaning.specs.declared.endings.End.{End}
+use Rattle.ak_trace.specs.declared.endings.End.{End}
 use Rattle.flat_rules.specs.Machine.{Machine, Served}
 use Rattle.flat_rules.specs.Entries.{served_with, served_entry}
 use Rattle.flat_rules.specs.inner.Cases.{same_refl}

@@ -1,7 +1,7 @@
 use Rattle.std.proofs.Common.{◌≡◌, [], map, string_bytes, Some, ap, subst, ◌∙◌}
 use Rattle.std.specs.Option.{option_map}
 use Rattle.std.specs.Arc.{arc_value}
-use Rattle.pin_checker.specs.CheckedViews.{code_of}
+use Rattle.pin_checker.specs.CheckedViews.{program_in}
 use Rattle.run_edges.specs.Files.{shelved}
 use Rattle.run_edges.specs.Sinks.{channel}
 use Rattle.run_edges.specs.Writing.{Written}
@@ -23,7 +23,7 @@ returns-in-Ok-Opened-clause-headline g c =
     c.in-Ok-Opened.opened c.run_opened.result (ending_view c.end_run.result) o r
     (c.end_run.ensures.words.0 ∙ ap (λ s. Some s) r.settings)
     (ap (λ t. t.items) (c.end_run.ensures.words.1 ∙ r.text))
-    (ap (option_map code_of) (c.end_run.ensures.code.0 ∙ ap (λ z. Some z) r.checked))
+    (ap (option_map program_in) (c.end_run.ensures.code.0 ∙ ap (λ z. Some z) r.checked))
     (ap (option_map arc_value) (c.end_run.ensures.code.1 ∙ ap (λ z. Some z) r.code))
     (ap (option_map (λ k. k.entries)) c.end_run.ensures.journal)
     c.end_run.ensures.written c.journals_mean_the_source.ensures c.accesses_of_journals_stay.ensures c.read_each_text_once.ensures.one_tree
@@ -40,7 +40,7 @@ returns-in-Ok-Stopped-clause-headline g c =
     let s : IsStopped words file c.in-Ok-Stopped.stopped = subst (IsCourse words file) c.in-Ok-Stopped.field-0-is c.in-Ok-Stopped.ensures.course in
     let P : Stopped → Type 0 = λ z. Written z.status c.end_stopped.result.status [] z.line.items out note × (c.end_stopped.result.settings ≡ z.settings) × (c.end_stopped.result.text ≡ z.text) in
     let w : P c.in-Ok-Stopped.stopped = subst P c.in-Ok-Stopped.stopped-is (c.end_stopped.ensures.written, c.end_stopped.ensures.words.0, c.end_stopped.ensures.words.1) in
-    of_stopped words file out note (ending_view c.end_stopped.result) (ap (option_map code_of) c.end_stopped.ensures.code.0) (ap (option_map arc_value) c.end_stopped.ensures.code.1)
+    of_stopped words file out note (ending_view c.end_stopped.result) (ap (option_map program_in) c.end_stopped.ensures.code.0) (ap (option_map arc_value) c.end_stopped.ensures.code.1)
     (ap (option_map (λ k. k.entries)) c.end_stopped.ensures.journal) c.in-Ok-Stopped.stopped s w.1 (ap (λ t. t.items) w.2) w.0
 
 pub returns-in-Ok-Stopped-clause-causes : goal.returns-in-Ok-Stopped-clause-causes

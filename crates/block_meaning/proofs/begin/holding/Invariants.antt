@@ -1,6 +1,6 @@
 use Rattle.std.proofs.Common.{◌≡◌, ◌++◌, drop, map}
 use Rattle.c_meaning.specs.Control.{holds}
-use Rattle.source_control.specs.Variables.{variable_of}
+use Rattle.source_state.specs.Variables.{variable_of}
 use Rattle.block_meaning.proofs.begin.holding.Given as goal
 
 abbrev pub invariant-arguments : goal.invariant-arguments

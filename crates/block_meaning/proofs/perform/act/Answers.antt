@@ -1,5 +1,5 @@
 use Rattle.std.proofs.Common.{refl}
-use Rattle.shared_world.specs.declared.world.Done.TheVariants as dones
+use Rattle.source_state.specs.declared.world.Done.TheVariants as dones
 use Rattle.block_meaning.proofs.Ends.{act_went, act_blocked, act_unfit, act_broke, left_as}
 use Rattle.block_meaning.proofs.perform.act.Goals as goal
 

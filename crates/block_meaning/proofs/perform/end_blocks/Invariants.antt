@@ -1,7 +1,7 @@
 use Rattle.std.proofs.Common.{◌≡◌, drop, map}
 use Rattle.block_store.specs.Actions.{World, with_blocks}
 use Rattle.c_meaning.specs.Turns.{without_blocks}
-use Rattle.source_control.specs.Variables.{variable_of}
+use Rattle.source_state.specs.Variables.{variable_of}
 use Rattle.block_meaning.proofs.perform.end_blocks.Given as goal
 
 pub record Ends (here kept : Type 0) : Type 0 where

@@ -1,5 +1,5 @@
 use Rattle.std.proofs.Common.{rules}
-use Rattle.source_control.specs.Views.{values_of}
+use Rattle.source_state.specs.Views.{values_of}
 use Rattle.block_meaning.proofs.Ends.{entered}
 use Rattle.block_meaning.proofs.perform.enter_in.Goals as goal
 

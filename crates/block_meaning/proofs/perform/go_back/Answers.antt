@@ -1,4 +1,4 @@
-use Rattle.source_control.specs.Views.{wait_of}
+use Rattle.source_state.specs.Views.{wait_of}
 use Rattle.block_meaning.proofs.Ends.{last_returned, caller_returned}
 use Rattle.block_meaning.proofs.perform.go_back.Goals as goal
 

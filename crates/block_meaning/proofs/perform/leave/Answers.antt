@@ -1,5 +1,5 @@
 use Rattle.block_store.specs.declared.values.Answer.TheVariants as answers
-use Rattle.shared_world.specs.Worlds.{world_of}
+use Rattle.source_state.specs.Worlds.{world_of}
 use Rattle.block_meaning.specs.Threads.{rest_of}
 use Rattle.block_meaning.proofs.Ends.{left_plainly, turned_untouched}
 use Rattle.block_meaning.proofs.Reaching.{mid_world}

@@ -2,7 +2,7 @@ use Rattle.std.proofs.Common.{◌≡◌, ◌++◌, ◌-◌, length}
 use Rattle.block_store.specs.Runs.{begun}
 use Rattle.c_meaning.specs.Meaning.{program}
 use Rattle.source_tree.specs.SharedViews.{program_of}
-use Rattle.shared_world.specs.Worlds.{world_of}
+use Rattle.source_state.specs.Worlds.{world_of}
 use Rattle.block_meaning.specs.Threads.{owns_of}
 use Rattle.block_meaning.proofs.taking.begin_all.Given as goal
 

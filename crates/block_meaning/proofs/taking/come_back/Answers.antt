@@ -1,6 +1,6 @@
 use Rattle.std.proofs.Common.{refl}
 use Rattle.source_tree.specs.SharedViews.{program_of}
-use Rattle.shared_world.specs.Worlds.{world_of}
+use Rattle.source_state.specs.Worlds.{world_of}
 use Rattle.block_meaning.specs.declared.thread.Outcome.TheVariants as outcomes
 use Rattle.block_meaning.specs.Threads.{control_of, owns_of}
 use Rattle.block_meaning.proofs.Picks.{back_begun, gone_begun}

@@ -1,5 +1,5 @@
 use Rattle.std.proofs.Common.{ap}
-use Rattle.source_control.specs.declared.control.LoopParts.{LoopParts}
+use Rattle.source_state.specs.declared.control.LoopParts.{LoopParts}
 use Rattle.block_meaning.proofs.Reaching.{reach_gives, reach_lacks, reach_begins, reach_round}
 use Rattle.block_meaning.proofs.turn.reach.Goals as goal
 

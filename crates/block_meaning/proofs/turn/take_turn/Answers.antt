@@ -1,6 +1,6 @@
 use Rattle.std.proofs.Common.{ap, sym, subst, ◌∙◌}
-use Rattle.kept_store.specs.Kept.{Kept}
-use Rattle.source_control.specs.Variables.{KeptLocals}
+use Rattle.source_state.specs.Kept.{Kept}
+use Rattle.source_state.specs.Variables.{KeptLocals}
 use Rattle.block_meaning.specs.declared.thread.Outcome.{Outcome}
 use Rattle.block_meaning.specs.Threads.{turn_of, Untouched}
 use Rattle.block_meaning.proofs.Reaching.{turn_taken, mid_own, mid_world, stays_back}

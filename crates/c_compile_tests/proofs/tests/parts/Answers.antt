@@ -4,7 +4,7 @@ use Rattle.c_lex.specs.declared.refusal.CompileFault.TheVariants as faults
 use Rattle.c_lex.specs.declared.refusal.Refusal.{Refusal}
 use Rattle.c_lex.specs.declared.token.Token.{Token}
 use Rattle.c_lex.specs.Refusals.{IfRefused}
-use Rattle.c_reader.specs.Reading.{IsRead, Refuses}
+use Rattle.alaska_run.specs.Reading.{IsRead, Refuses}
 use Rattle.c_tree.specs.Typed.{Typed}
 use Rattle.c_compile_tests.proofs.tests.parts.Goals as goal
 

@@ -1,6 +1,6 @@
 use Rattle.std.proofs.Common.{sym, subst}
 use Rattle.struct_ir.specs.WholeViews.{ir_view}
-use Rattle.emit_code.specs.Emitted.{IsEmitted}
+use Rattle.struct_ir.specs.Emitted.{IsEmitted}
 use Rattle.emit_code.proofs.Emitted.{emitted}
 use Rattle.emit_code.proofs.emitting.emit_code_owned.Goals as goal
 

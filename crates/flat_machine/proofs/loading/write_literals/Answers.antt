@@ -4,7 +4,7 @@ use Rattle.c_tree.specs.TypedForm.{taken}
 use Rattle.c_tree.specs.TypedViews.{literal_view}
 use Rattle.struct_ir.specs.Instrs.{LinearCode}
 use Rattle.flat_store.specs.Flat.{with_bytes}
-use Rattle.defrag_move.specs.Arena.{Storage}
+use Rattle.arena_meaning.specs.Arena.{Storage}
 use Rattle.flat_meaning.specs.Image.{literals_written}
 use Rattle.flat_machine.proofs.Written.{length-with_bytes, next_of, next_sum, viewed}
 use Rattle.flat_machine.proofs.loading.write_literals.Goals as goal

@@ -7,7 +7,7 @@ use Rattle.struct_ir.specs.Nodes.{Global}
 use Rattle.struct_ir.specs.Views.{global_view}
 use Rattle.struct_ir.specs.Whole.{is_init_in}
 use Rattle.flat_store.specs.Flat.{with_bytes}
-use Rattle.defrag_move.specs.Arena.{Storage}
+use Rattle.arena_meaning.specs.Arena.{Storage}
 use Rattle.flat_meaning.specs.Image.{Layout, first_bytes, globals_written, literal_address}
 use Rattle.flat_threads.specs.Contexts.{layout_of}
 use Rattle.flat_machine.proofs.Written.{all_at, first_few, length-with_bytes, literals_behind, next_of, next_sum, viewed}

@@ -4,7 +4,8 @@ use Rattle.struct_ir.specs.Nodes.{Ir}
 use Rattle.struct_ir.specs.Erased.{ir_erased}
 use Rattle.struct_ir.specs.Valid.{is_valid}
 use Rattle.struct_ir.specs.WholeViews.{ir_view}
-use Rattle.pin_flow.specs.Funcs.{EveryFunc, IsCovered, IsHoisted, IsHoistedThroughout}
+use Rattle.struct_ir.specs.Safe.{EveryFunc}
+use Rattle.pin_flow.specs.Funcs.{IsCovered, IsHoisted, IsHoistedThroughout}
 use Rattle.pin_flow.specs.Slots.{HasOwnSlots}
 use Rattle.hoist_pass.specs.inner.Hoist.{ir_hoisted}
 use Rattle.hoist_pass.proofs.Programs.{every_is, func_covered, func_slots, func_is_hoisted, func_throughout, whole_valid, whole_erased}

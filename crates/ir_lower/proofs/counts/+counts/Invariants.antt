@@ -1,9 +1,10 @@
 use Rattle.std.proofs.Common.{◌≡◌, ◌+◌, ◌*◌, drop, map}
 use Rattle.std.specs.Prelude.{max}
-use Rattle.c_tree.specs.TypedViews.{expr_view, exprs_of}
+use Rattle.c_tree.specs.TypedViews.{expr_view}
 use Rattle.c_tree.proofs.typed.Expr.TheLaws.{the_size}
 use Rattle.lower_forms.specs.Counts.{count_all}
 use Rattle.ir_lower.proofs.counts.+counts.Given as goal
+use Rattle.c_tree.specs.Typed.{exprs_of}
 
 -- so far
 abbrev pub invariant-count_all-loop-e : goal.invariant-count_all-loop-e

@@ -1,9 +1,10 @@
 use Rattle.std.proofs.Common.{◌≡◌, ◌+◌, ◌*◌, drop, map}
 use Rattle.std.specs.Prelude.{max}
-use Rattle.c_tree.specs.TypedViews.{stmt_view, stmts_of}
+use Rattle.c_tree.specs.TypedViews.{stmt_view}
 use Rattle.c_tree.proofs.typed.Stmt.TheLaws.{the_size}
 use Rattle.lower_forms.specs.Counts.{greatest_row}
 use Rattle.ir_lower.proofs.counts.+greatest.Given as goal
+use Rattle.c_tree.specs.Typed.{stmts_of}
 
 -- so far
 abbrev pub invariant-greatest_row-loop-s : goal.invariant-greatest_row-loop-s

@@ -1,12 +1,13 @@
 use Rattle.std.proofs.Common.{◌≡◌, ◌+◌, ◌*◌, map, drop}
 use Rattle.std.specs.Prelude.{max}
-use Rattle.c_tree.specs.TypedViews.{expr_view, exprs_of}
+use Rattle.c_tree.specs.TypedViews.{expr_view}
 use Rattle.c_tree.proofs.typed.Expr.TheLaws.{the_size}
 use Rattle.struct_ir.specs.Nodes.{Nodes}
 use Rattle.struct_ir.specs.Views.{followed}
 use Rattle.lower_forms.specs.Forms.{args_nodes}
 use Rattle.ir_lower.specs.inner.Views.{frame_view}
 use Rattle.ir_lower.proofs.exprs.+exprs.Given as goal
+use Rattle.c_tree.specs.Typed.{exprs_of}
 
 -- so far
 abbrev pub invariant-args-loop-e : goal.invariant-args-loop-e

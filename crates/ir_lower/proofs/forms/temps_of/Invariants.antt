@@ -1,7 +1,8 @@
 use Rattle.std.proofs.Common.{◌≡◌, ◌++◌, map, drop}
-use Rattle.c_tree.specs.TypedViews.{expr_view, exprs_of}
+use Rattle.c_tree.specs.TypedViews.{expr_view}
 use Rattle.lower_forms.specs.Forms.{temps_of}
 use Rattle.ir_lower.proofs.forms.temps_of.Given as goal
+use Rattle.c_tree.specs.Typed.{exprs_of}
 
 -- so far
 abbrev pub invariant-loop-e : goal.invariant-loop-e

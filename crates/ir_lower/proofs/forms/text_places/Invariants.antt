@@ -1,8 +1,9 @@
 use Rattle.std.proofs.Common.{◌≡◌, ◌++◌, map, drop}
-use Rattle.c_tree.specs.TypedViews.{expr_view, exprs_of}
+use Rattle.c_tree.specs.TypedViews.{expr_view}
 use Rattle.struct_ir.specs.Views.{place_view}
 use Rattle.lower_forms.specs.Forms.{text_places}
 use Rattle.ir_lower.proofs.forms.text_places.Given as goal
+use Rattle.c_tree.specs.Typed.{exprs_of}
 
 -- so far
 abbrev pub invariant-loop-e : goal.invariant-loop-e

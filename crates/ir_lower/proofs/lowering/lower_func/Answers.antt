@@ -1,5 +1,5 @@
 use Rattle.std.proofs.Common.{map, [], ap, ◌∙◌, length}
-use Rattle.c_tree.specs.TypedViews.{layout_view, local_view, stmt_view, stmts_of, func_view as tree_func_view}
+use Rattle.c_tree.specs.TypedViews.{layout_view, local_view, stmt_view, func_view as tree_func_view}
 use Rattle.struct_ir.specs.Views.{object_view, followed}
 use Rattle.lower_forms.specs.Counts.{greatest_row}
 use Rattle.lower_forms.specs.Forms.{Frame, row_nodes}
@@ -7,6 +7,7 @@ use Rattle.lower_forms.specs.Programs.{homes_from, objects_of}
 use Rattle.ir_lower.specs.inner.Views.{frame_view}
 use Rattle.ir_lower.proofs.Rows.{first_is, params_fit, func_done}
 use Rattle.ir_lower.proofs.lowering.lower_func.Goals as goal
+use Rattle.c_tree.specs.Typed.{stmts_of}
 
 pub invariant_of-result : goal.invariant_of-result
 invariant_of-result c = record {

@@ -1,12 +1,13 @@
 use Rattle.std.proofs.Common.{◌≡◌, ◌+◌, ◌*◌, map, drop}
 use Rattle.std.specs.Prelude.{max}
-use Rattle.c_tree.specs.TypedViews.{stmt_view, stmts_of}
+use Rattle.c_tree.specs.TypedViews.{stmt_view}
 use Rattle.c_tree.proofs.typed.Stmt.TheLaws.{the_size}
 use Rattle.struct_ir.specs.Nodes.{Nodes}
 use Rattle.struct_ir.specs.Views.{followed}
 use Rattle.lower_forms.specs.Forms.{row_nodes}
 use Rattle.ir_lower.specs.inner.Views.{frame_view}
 use Rattle.ir_lower.proofs.stmts.+stmts.Given as goal
+use Rattle.c_tree.specs.Typed.{stmts_of}
 
 -- so far
 abbrev pub invariant-row-loop-s : goal.invariant-row-loop-s

@@ -1,8 +1,9 @@
 use Rattle.std.proofs.Common.{◌≡◌, ◌++◌, map, drop}
-use Rattle.c_tree.specs.TypedViews.{stmt_view, stmts_of}
+use Rattle.c_tree.specs.TypedViews.{stmt_view}
 use Rattle.lower_forms.specs.Forms.{objects_in}
 use Rattle.ir_lower.specs.inner.Views.{frame_view}
 use Rattle.ir_lower.proofs.stmts.objects_in.Given as goal
+use Rattle.c_tree.specs.Typed.{stmts_of}
 
 -- so far
 abbrev pub invariant-loop-s : goal.invariant-loop-s

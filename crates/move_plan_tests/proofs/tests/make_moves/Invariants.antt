@@ -1,6 +1,6 @@
 use Rattle.std.proofs.Common.{◌≡◌, drop}
 use Rattle.move_plan.specs.Holding.{is_pinned}
-use Rattle.move_plan.specs.Moving.{AreLegal, after_moves}
+use Rattle.sub_heaps.specs.Moving.{AreLegal, after_moves}
 use Rattle.move_plan_tests.proofs.tests.make_moves.Given as goal
 
 -- the moves that are left are legal, and lead to where all lead

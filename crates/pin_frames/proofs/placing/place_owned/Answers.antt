@@ -6,7 +6,8 @@ use Rattle.struct_ir.specs.Erased.{ir_erased}
 use Rattle.struct_ir.specs.Placed.{all_due}
 use Rattle.struct_ir.specs.Valid.{is_valid, are_placed}
 use Rattle.struct_ir.specs.WholeViews.{ir_view}
-use Rattle.pin_flow.specs.Funcs.{EveryFunc, IsCovered, IsExact, IsHoisted, IsHoistedThroughout, IsPinSafe}
+use Rattle.struct_ir.specs.Safe.{EveryFunc, IsPinSafe}
+use Rattle.pin_flow.specs.Funcs.{IsCovered, IsExact, IsHoisted, IsHoistedThroughout}
 use Rattle.pin_flow.specs.Slots.{HasOwnSlots}
 use Rattle.pin_frames.specs.inner.Place.{ir_placed}
 use Rattle.pin_frames.proofs.Programs.{IsNamed, every_is, every_both, every_named, every_stands, every_due, func_exact, func_hoisted, func_safe, func_slots, whole_erased, whole_valid}

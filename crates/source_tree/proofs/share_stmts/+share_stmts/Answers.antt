@@ -1,8 +1,9 @@
 use Rattle.std.proofs.Common.{◌∙◌, ap, map, Result, Ok, Err, IfOk, arith}
 use Rattle.std.proofs.lemmas.List.{take_all}
-use Rattle.c_tree.specs.TypedViews.{stmt_view, stmts_of}
+use Rattle.c_tree.specs.TypedViews.{stmt_view}
 use Rattle.source_tree.proofs.Views.{these_row}
 use Rattle.source_tree.proofs.share_stmts.+share_stmts.Goals as goal
+use Rattle.c_tree.specs.Typed.{stmts_of}
 
 if_ok_map : {A B : Type 0} (P Q : A → Type 0) (r : Result A B) → ((x : A) → P x → Q x) → IfOk r P → IfOk r Q
 if_ok_map P Q (Ok x) f h = f x h

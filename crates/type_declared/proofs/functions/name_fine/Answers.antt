@@ -4,7 +4,7 @@ use Rattle.c_tree.specs.SyntaxViews.{body_view}
 use Rattle.c_typing.specs.Faults.{Judged, Gives}
 use Rattle.c_typing.specs.Programs.{not_library, once, before_name, first_time, is_new, one_body}
 use Rattle.type_context.specs.ContextViews.{context_view}
-use Rattle.type_outcomes.specs.Telling.{both_fine}
+use Rattle.type_context.specs.Telling.{both_fine}
 use Rattle.type_declared.proofs.Defining.{fine_pairs}
 use Rattle.type_declared.proofs.functions.name_fine.Goals as goal
 

@@ -1,7 +1,7 @@
 use Rattle.std.proofs.Common.{◌≡◌, [], ◌∷◌, ◌++◌, map, ap, sym, ◌∙◌, ◌==◌}
-use Rattle.c_tree.specs.Typed.{at_stmt, block}
-use Rattle.c_tree.specs.TypedViews.{stmt_view, stmts_of}
-use Rattle.type_locals.proofs.TypedTrees.{block_view}
+use Rattle.c_tree.specs.Typed.{at_stmt, block, stmts_of}
+use Rattle.c_tree.specs.TypedViews.{stmt_view}
+use Rattle.type_declared.proofs.TypedTrees.{block_view}
 use Rattle.type_declared.proofs.DeclaredObjects.{enclosed_is}
 use Rattle.type_declared.proofs.headers.enclosed.Goals as goal
 

@@ -3,7 +3,7 @@ use Rattle.c_tree.specs.TypedViews.{boxed_expr_view}
 use Rattle.c_typing.specs.Scope.{meaning_of}
 use Rattle.c_typing.specs.Judgement.{named}
 use Rattle.type_context.specs.ContextViews.{context_view}
-use Rattle.type_outcomes.proofs.Walks.{lone_tells}
+use Rattle.type_context.proofs.Walks.{lone_tells}
 use Rattle.type_nodes.proofs.Expressions.{value_tells, index_tells}
 use Rattle.type_rules_tests.proofs.judging.element_named.Goals as goal
 

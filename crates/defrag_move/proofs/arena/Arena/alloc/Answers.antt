@@ -1,7 +1,7 @@
 use Rattle.std.proofs.Common.{ap, ◌∙◌}
 use Rattle.sub_heaps.specs.SubHeaps.{rounded}
-use Rattle.defrag_move.specs.Arena.{Storage}
-use Rattle.defrag_move.specs.Changes.{with_new}
+use Rattle.arena_meaning.specs.Arena.{Storage}
+use Rattle.arena_meaning.specs.Changes.{with_new}
 use Rattle.defrag_move.proofs.Named.{fewer}
 use Rattle.defrag_move.proofs.Steps.{IsConsistent-placed, given_back, placed_is}
 use Rattle.defrag_move.proofs.arena.Arena.alloc.Goals as goal

@@ -1,7 +1,7 @@
 use Rattle.std.proofs.Common.{sym, ap, ◌∙◌, subst, arith}
 use Rattle.move_plan.specs.Holding.{is_pinned}
-use Rattle.defrag_move.specs.Arena.{IsConsistent, Storage}
-use Rattle.defrag_move.specs.Moves.{KeepsObjects}
+use Rattle.arena_meaning.specs.Arena.{IsConsistent, Storage}
+use Rattle.arena_meaning.specs.Moves.{KeepsObjects}
 use Rattle.defrag_move.proofs.Kept.{IsConsistent-after_plan, heaps_after, keeps_all}
 use Rattle.defrag_move.proofs.Turns.{arrived, next_allowed, next_legal, next_same, not_past}
 use Rattle.defrag_move.proofs.arena.Arena.apply.Goals as goal

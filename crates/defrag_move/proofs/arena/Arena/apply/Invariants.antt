@@ -1,7 +1,7 @@
 use Rattle.std.proofs.Common.{◌≡◌, drop}
 use Rattle.move_plan.specs.Holding.{is_pinned}
-use Rattle.move_plan.specs.Moving.{AreLegal}
-use Rattle.defrag_move.specs.Moves.{after_plan}
+use Rattle.sub_heaps.specs.Moving.{AreLegal}
+use Rattle.arena_meaning.specs.Moves.{after_plan}
 use Rattle.defrag_move.proofs.arena.Arena.apply.Given as goal
 
 -- the moves that are left are legal, and lead where all of them do

@@ -1,6 +1,6 @@
 use Rattle.std.proofs.Common.{◌≡◌, ◌↔◌, Some, IsOk, IfErr, subst}
 use Rattle.flat_store.specs.Flat.{HasBytes, first_outside_of_both}
-use Rattle.defrag_move.specs.Arena.{Storage}
+use Rattle.arena_meaning.specs.Arena.{Storage}
 use Rattle.defrag_move.proofs.arena.Arena.copy.Goals as goal
 
 pub returns-clause-within : goal.returns-clause-within

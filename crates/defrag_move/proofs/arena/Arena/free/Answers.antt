@@ -2,8 +2,8 @@ use Rattle.std.proofs.Common.{◌≡◌, Some, refl, sym, ap, ◌∙◌, subst, 
 use Rattle.std.specs.Option.{option_map}
 use Rattle.handle_words.specs.Handle.{id_of}
 use Rattle.handle_table.specs.Table.{IsInUse}
-use Rattle.defrag_move.specs.Arena.{Storage, object_of}
-use Rattle.defrag_move.specs.Changes.{without_id}
+use Rattle.arena_meaning.specs.Arena.{Storage, object_of}
+use Rattle.arena_meaning.specs.Changes.{without_id}
 use Rattle.defrag_move.proofs.Steps.{IsConsistent-freed, freed_storage, starts_there}
 use Rattle.defrag_move.proofs.arena.Arena.free.Goals as goal
 

@@ -1,8 +1,8 @@
 use Rattle.std.proofs.Common.{◌≡◌, sym, ap, ◌∙◌, arith}
 use Rattle.std.specs.FinSet as set
 use Rattle.std.proofs.lemmas.List.{drop_all}
-use Rattle.defrag_move.specs.Arena.{places_named}
-use Rattle.defrag_move.specs.Changes.{with_places}
+use Rattle.arena_meaning.specs.Arena.{places_named}
+use Rattle.arena_meaning.specs.Changes.{with_places}
 use Rattle.defrag_move.proofs.Places.{members-with_places, place_room}
 use Rattle.defrag_move.proofs.arena.Arena.pins_of.Goals as goal
 

@@ -1,6 +1,6 @@
 use Rattle.std.proofs.Common.{◌≡◌, drop}
-use Rattle.defrag_move.specs.Arena.{places_named}
-use Rattle.defrag_move.specs.Changes.{with_places}
+use Rattle.arena_meaning.specs.Arena.{places_named}
+use Rattle.arena_meaning.specs.Changes.{with_places}
 use Rattle.defrag_move.proofs.arena.Arena.pins_of.Given as goal
 
 -- the set with the places that the words which are left name is the whole one

@@ -1,7 +1,7 @@
 use Rattle.std.proofs.Common.{◌≡◌, ◌-◌, Some, None, sym, ◌∙◌, subst, arith}
 use Rattle.std.specs.Option.{option_map}
 use Rattle.std.proofs.lemmas.Bool.{false≢true}
-use Rattle.defrag_move.specs.Arena.{Storage, object_of}
+use Rattle.arena_meaning.specs.Arena.{Storage, object_of}
 use Rattle.defrag_move.proofs.Named.{looked-above, looked-below, place-looked, place-unused}
 use Rattle.defrag_move.proofs.arena.Arena.place_of.Goals as goal
 

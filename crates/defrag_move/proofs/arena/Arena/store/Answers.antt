@@ -1,6 +1,6 @@
 use Rattle.std.proofs.Common.{◌↔◌, IsOk, subst}
 use Rattle.flat_store.specs.Flat.{HasBytes}
-use Rattle.defrag_move.specs.Arena.{Storage}
+use Rattle.arena_meaning.specs.Arena.{Storage}
 use Rattle.defrag_move.proofs.arena.Arena.store.Goals as goal
 
 pub returns-clause-within : goal.returns-clause-within

@@ -1,6 +1,6 @@
 use Rattle.std.proofs.Common.{List, ℕ, None, refl, ◌∙◌}
 use Rattle.flat_store.specs.Flat.{bytes_from, first_outside_of_both}
-use Rattle.flat_meaning.specs.declared.endings.TrapKind.TheVariants as kinds
+use Rattle.ak_trace.specs.declared.endings.TrapKind.TheVariants as kinds
 use Rattle.flat_meaning.specs.Accesses.{copied}
 use Rattle.flat_threads.specs.Targets.{target_view}
 use Rattle.flat_machine.specs.contracts.shared.Shared.{the_view}

@@ -3,7 +3,7 @@ use Rattle.std.specs.Prelude.{slice_get}
 use Rattle.flat_store.specs.Flat.{first_outside}
 use Rattle.flat_store.specs.Word.{low_bytes}
 use Rattle.flat_store.proofs.Firsts.{none_outside}
-use Rattle.flat_meaning.specs.declared.endings.TrapKind.TheVariants as kinds
+use Rattle.ak_trace.specs.declared.endings.TrapKind.TheVariants as kinds
 use Rattle.flat_meaning.specs.Accesses.{Done}
 use Rattle.flat_meaning.specs.Actions.{joined_if}
 use Rattle.flat_threads.specs.Targets.{target_view}

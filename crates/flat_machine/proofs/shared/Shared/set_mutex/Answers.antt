@@ -2,7 +2,7 @@ use Rattle.std.proofs.Common.{None, refl, ◌∙◌}
 use Rattle.flat_store.specs.Flat.{first_outside}
 use Rattle.flat_store.specs.Word.{low_bytes}
 use Rattle.flat_store.proofs.Firsts.{none_outside}
-use Rattle.flat_meaning.specs.declared.endings.TrapKind.TheVariants as kinds
+use Rattle.ak_trace.specs.declared.endings.TrapKind.TheVariants as kinds
 use Rattle.flat_meaning.specs.Accesses.{went, within}
 use Rattle.flat_meaning.specs.Memory.{written}
 use Rattle.flat_machine.specs.contracts.shared.Shared.{the_view}

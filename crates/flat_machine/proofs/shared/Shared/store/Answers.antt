@@ -3,7 +3,7 @@ use Rattle.flat_store.specs.Flat.{first_outside}
 use Rattle.flat_store.specs.Word.{low_bytes}
 use Rattle.flat_store.proofs.Firsts.{none_outside}
 use Rattle.block_store.specs.Cells.{size_of}
-use Rattle.flat_meaning.specs.declared.endings.TrapKind.TheVariants as kinds
+use Rattle.ak_trace.specs.declared.endings.TrapKind.TheVariants as kinds
 use Rattle.flat_meaning.specs.Accesses.{stored}
 use Rattle.flat_threads.specs.Targets.{target_view}
 use Rattle.flat_machine.specs.contracts.shared.Shared.{the_view}

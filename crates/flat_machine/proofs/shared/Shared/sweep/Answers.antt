@@ -5,12 +5,12 @@ use Rattle.std.specs.Ordering.{nat_cmp}
 use Rattle.std.proofs.lemmas.List.{length-map}
 use Rattle.sub_heaps.specs.SubHeaps.{SubHeaps, IsSound, extent_of}
 use Rattle.move_plan.specs.Holding.{PinSet, MoveList, is_pinned}
-use Rattle.move_plan.specs.Moving.{after_moves}
+use Rattle.sub_heaps.specs.Moving.{after_moves}
 use Rattle.move_plan.specs.Sliding.{IsSlide}
 use Rattle.move_plan.specs.Stretches.{room_of}
 use Rattle.handle_table.specs.Words.{WordList}
-use Rattle.defrag_move.specs.Arena.{Storage}
-use Rattle.defrag_move.specs.Moves.{after_plan}
+use Rattle.arena_meaning.specs.Arena.{Storage}
+use Rattle.arena_meaning.specs.Moves.{after_plan}
 use Rattle.defrag_move.proofs.Places.{len-places_named}
 use Rattle.flat_machine.specs.Shares.{Shared}
 use Rattle.flat_machine.specs.Sweeping.{counted}

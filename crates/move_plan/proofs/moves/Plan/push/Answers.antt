@@ -1,7 +1,7 @@
 use Rattle.std.proofs.Common.{◌≡◌, ◌<◌, List, [], ◌∷◌, ◌++◌, length, sym, ap, subst, ◌∙◌, arith, length-append}
 use Rattle.sub_heaps.specs.declared.objects.Object.{Object}
 use Rattle.sub_heaps.specs.ByPlace.{with_object}
-use Rattle.move_plan.specs.declared.moves.Move.{Move}
+use Rattle.sub_heaps.specs.declared.moves.Move.{Move}
 use Rattle.move_plan.specs.Holding.{MoveList}
 use Rattle.move_plan.specs.inner.Spans.{AreSorted, origin, target, origins_of, targets_of}
 use Rattle.move_plan.proofs.Spans.{AreSorted-spans, length-spans, origins_push, targets_push}

@@ -1,0 +1,10 @@
+use Rattle.c_tree.specs.TypedViews.{type_view, stmt_view}
+use Rattle.type_context.proofs.Walks.{lone_tells}
+use Rattle.c_types.specs.inner.Nodes.{returned_none}
+use Rattle.c_types.proofs.parts.returned.Goals as goal
+
+pub returns-in-Some : goal.returns-in-Some
+returns-in-Some c = rw c.in-Some.is c.returned_value.ensures
+
+pub returns-in-None : goal.returns-in-None
+returns-in-None c = rw c.in-None.is (lone_tells stmt_view c.returned_nothing.result c.args.context.now (returned_none c.args.place (type_view c.args.t.now)) c.returned_nothing.ensures)

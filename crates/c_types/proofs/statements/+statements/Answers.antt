@@ -1,0 +1,233 @@
+use Rattle.std.proofs.Common.{true, [], ◌∷◌, map, Option, ap, sym, ◌∙◌, arith}
+use Rattle.std.specs.Option.{option_map}
+use Rattle.std.specs.Prelude.{Box, Vec}
+use Rattle.std.specs.declared.alloc.Global.{Global}
+use Rattle.c_tree.specs.declared.typed.Expr.{Expr as CodeExpr}
+use Rattle.c_tree.specs.declared.typed.Stmt.{Stmt as CodeStmt}
+use Rattle.c_tree.specs.Syntax.{stmts_of}
+use Rattle.c_tree.specs.SyntaxViews as source
+use Rattle.c_tree.specs.Typed.{at_stmt, block, if_, if_else, while_, for_}
+use Rattle.c_tree.specs.TypedViews.{type_view, boxed_expr_view, stmt_view, boxed_stmt_view}
+use Rattle.c_typing.specs.Faults.{typed}
+use Rattle.c_typing.specs.Judgement.{in_turn}
+use Rattle.c_tree.specs.Typed as typed_trees
+use Rattle.c_typing.specs.Statements.{condition, scoped, only, one_of, headed, judged_first, judged_condition, judged_step, judged_stmt, judged_stmts}
+use Rattle.type_context.specs.ContextViews.{context_view}
+use Rattle.type_context.specs.inner.Outcomes.{joined}
+use Rattle.type_context.proofs.Walks.{ok_tells}
+use Rattle.type_context.proofs.Rows.{starts}
+use Rattle.c_types.specs.Gathering.{each}
+use Rattle.c_types.specs.inner.Nodes.{block_of, for_inside, for_of}
+use Rattle.c_types.proofs.Steps.{err_passes, one_rules, two_pass, two_rule, memory_passes, scope_tells, three_told, four_told}
+use Rattle.c_types.proofs.StatementsAround.{stmts_around, for_around}
+use Rattle.c_types.proofs.StatementRows.{several_more, at_end}
+use Rattle.c_types.proofs.StatementNodes.{entered}
+use Rattle.c_types.proofs.Arms as arms
+use Rattle.c_types.proofs.statements.+statements.Goals as goal
+
+-- one statement
+pub one-returns-in_err-all : goal.one-returns-in_err-all
+one-returns-in_err-all t c =
+    err_passes (each stmt_view) boxed_stmt_view (judged_stmt (type_view c.args.t.now) c.args.in_loop (source.stmt_view c.args.s.now)) (λ d ss. typed (only ss)) (context_view c.args.context.now) c.stmt.new.context c.stmt.result c.in_err-all.field-0.0 c.from_residual.result
+    c.stmt.ensures c.in_err-all.was c.from_residual.ensures.1
+
+pub one-returns : goal.one-returns
+one-returns t c =
+    one_rules (each stmt_view) boxed_stmt_view (judged_stmt (type_view c.args.t.now) c.args.in_loop (source.stmt_view c.args.s.now)) (λ d ss. typed (only ss)) (context_view c.args.context.now) c.stmt.new.context c.stmt.result c.in_ok-all.all _
+    c.stmt.ensures c.in_ok-all.was (ap typed (sym (ap stmt_view c.in_ok-new.ensures.ok ∙ c.only.ensures)))
+
+-- a block
+pub block-returns-in_err-enter : goal.block-returns-in_err-enter
+block-returns-in_err-enter t c =
+    memory_passes (each stmt_view) c.from_residual.result c.in_err-enter.field-0.0 c.enter.new.self (block_of c.args.place (type_view c.args.t.now) c.args.in_loop (stmts_of (map source.stmt_view c.args.items.now)) (context_view c.args.context.now))
+    c.in_err-enter.ensures.memory c.from_residual.ensures.1
+
+pub block-returns-in_err-items : goal.block-returns-in_err-items
+block-returns-in_err-items t c =
+    let ss = stmts_of (map source.stmt_view c.args.items.now) in
+    err_passes (each stmt_view) (each stmt_view) (scoped (judged_stmts (type_view c.args.t.now) c.args.in_loop ss)) (λ d xs. typed (at_stmt c.args.place (block (typed_trees.stmts_of xs)) ∷ [])) (context_view c.args.context.now)
+    c.leave.new.self c.stmts-items.result c.in_err-items.field-0.0 c.from_residual-in_err-items.result
+    (scope_tells (each stmt_view) (judged_stmts (type_view c.args.t.now) c.args.in_loop ss) (context_view c.args.context.now) c.enter.new.self c.stmts-items.new.context c.leave.new.self c.stmts-items.result
+    (entered c.enter.new.self (context_view c.args.context.now) c.new.result.entries c.in_ok-enter.ensures.after c.new.ensures.empty) c.stmts-items.ensures (stmts_around (type_view c.args.t.now) c.args.in_loop ss) c.leave.ensures.around)
+    c.in_err-items.was c.from_residual-in_err-items.ensures.1
+
+pub block-returns : goal.block-returns
+block-returns t c =
+    let ss = stmts_of (map source.stmt_view c.args.items.now) in
+    one_rules (each stmt_view) (each stmt_view) (scoped (judged_stmts (type_view c.args.t.now) c.args.in_loop ss)) (λ d xs. typed (at_stmt c.args.place (block (typed_trees.stmts_of xs)) ∷ [])) (context_view c.args.context.now)
+    c.leave.new.self c.stmts-items.result c.in_ok-items.items c.block_made.result
+    (scope_tells (each stmt_view) (judged_stmts (type_view c.args.t.now) c.args.in_loop ss) (context_view c.args.context.now) c.enter.new.self c.stmts-items.new.context c.leave.new.self c.stmts-items.result
+    (entered c.enter.new.self (context_view c.args.context.now) c.new.result.entries c.in_ok-enter.ensures.after c.new.ensures.empty) c.stmts-items.ensures (stmts_around (type_view c.args.t.now) c.args.in_loop ss) c.leave.ensures.around)
+    c.in_ok-items.was c.block_made.ensures
+
+-- an if
+pub if_then-returns-in_err-test : goal.if_then-returns-in_err-test
+if_then-returns-in_err-test t c =
+    two_pass boxed_expr_view boxed_stmt_view (each stmt_view) (condition c.args.place (source.expr_view c.args.e.now)) (one_of (judged_stmt (type_view c.args.t.now) c.args.in_loop (source.stmt_view c.args.s.now))) (λ d p. typed (at_stmt c.args.place (if_ p.0 p.1) ∷ [])) (context_view c.args.context.now)
+    c.condition-test.new.context c.one-then.new.context c.condition-test.result c.one-then.result c.both.result c.in_err-test.field-0.0 c.from_residual.result
+    c.condition-test.ensures c.one-then.ensures c.both.ensures c.in_err-test.was c.from_residual.ensures.1
+
+pub if_then-returns : goal.if_then-returns
+if_then-returns t c =
+    two_rule boxed_expr_view boxed_stmt_view (each stmt_view) (condition c.args.place (source.expr_view c.args.e.now)) (one_of (judged_stmt (type_view c.args.t.now) c.args.in_loop (source.stmt_view c.args.s.now))) (λ d p. typed (at_stmt c.args.place (if_ p.0 p.1) ∷ [])) (context_view c.args.context.now)
+    c.condition-test.new.context c.one-then.new.context c.condition-test.result c.one-then.result c.both.result (c.in_ok-test.test, c.in_ok-test.then) c.if_made.result
+    c.condition-test.ensures c.one-then.ensures c.both.ensures c.in_ok-test.was c.if_made.ensures
+
+-- an if with an else
+pub if_else-returns-in_err-test : goal.if_else-returns-in_err-test
+if_else-returns-in_err-test t c =
+    let j = condition c.args.place (source.expr_view c.args.e.now) in
+    let s = one_of (judged_stmt (type_view c.args.t.now) c.args.in_loop (source.stmt_view c.args.s.now)) in
+    let o = one_of (judged_stmt (type_view c.args.t.now) c.args.in_loop (source.stmt_view c.args.o.now)) in
+    err_passes (λ (z : Box CodeExpr Global × (Box CodeStmt Global × Box CodeStmt Global)). (boxed_expr_view z.0, (boxed_stmt_view z.1.0, boxed_stmt_view z.1.1))) (each stmt_view) (in_turn j (in_turn s o)) (λ d p. typed (at_stmt c.args.place (if_else p.0 p.1.0 p.1.1) ∷ [])) (context_view c.args.context.now)
+    c.one-otherwise.new.context (joined c.condition-test.result (joined c.one-then.result c.one-otherwise.result)) c.in_err-test.field-0.0 c.from_residual.result
+    (three_told boxed_expr_view boxed_stmt_view boxed_stmt_view j s o (context_view c.args.context.now) c.condition-test.new.context c.one-then.new.context c.one-otherwise.new.context c.condition-test.result c.one-then.result c.one-otherwise.result
+    c.condition-test.ensures c.one-then.ensures c.one-otherwise.ensures)
+    (sym (c.both-2.ensures ∙ ap (joined c.condition-test.result) c.both.ensures) ∙ c.in_err-test.was) c.from_residual.ensures.1
+
+pub if_else-returns : goal.if_else-returns
+if_else-returns t c =
+    let j = condition c.args.place (source.expr_view c.args.e.now) in
+    let s = one_of (judged_stmt (type_view c.args.t.now) c.args.in_loop (source.stmt_view c.args.s.now)) in
+    let o = one_of (judged_stmt (type_view c.args.t.now) c.args.in_loop (source.stmt_view c.args.o.now)) in
+    ok_tells (λ (z : Box CodeExpr Global × (Box CodeStmt Global × Box CodeStmt Global)). (boxed_expr_view z.0, (boxed_stmt_view z.1.0, boxed_stmt_view z.1.1))) (each stmt_view) (in_turn j (in_turn s o)) (λ d p. typed (at_stmt c.args.place (if_else p.0 p.1.0 p.1.1) ∷ [])) (context_view c.args.context.now)
+    c.one-otherwise.new.context (joined c.condition-test.result (joined c.one-then.result c.one-otherwise.result)) (c.in_ok-test.test, (c.in_ok-test.then, c.in_ok-test.otherwise)) c.if_else_made.result
+    (three_told boxed_expr_view boxed_stmt_view boxed_stmt_view j s o (context_view c.args.context.now) c.condition-test.new.context c.one-then.new.context c.one-otherwise.new.context c.condition-test.result c.one-then.result c.one-otherwise.result
+    c.condition-test.ensures c.one-then.ensures c.one-otherwise.ensures)
+    (sym (c.both-2.ensures ∙ ap (joined c.condition-test.result) c.both.ensures) ∙ c.in_ok-test.was) c.if_else_made.ensures
+
+-- a while
+pub while_loop-returns-in_err-test : goal.while_loop-returns-in_err-test
+while_loop-returns-in_err-test t c =
+    two_pass boxed_expr_view boxed_stmt_view (each stmt_view) (condition c.args.place (source.expr_view c.args.e.now)) (one_of (judged_stmt (type_view c.args.t.now) true (source.stmt_view c.args.s.now))) (λ d p. typed (at_stmt c.args.place (while_ p.0 p.1) ∷ [])) (context_view c.args.context.now)
+    c.condition-test.new.context c.one-body.new.context c.condition-test.result c.one-body.result c.both.result c.in_err-test.field-0.0 c.from_residual.result
+    c.condition-test.ensures c.one-body.ensures c.both.ensures c.in_err-test.was c.from_residual.ensures.1
+
+pub while_loop-returns : goal.while_loop-returns
+while_loop-returns t c =
+    two_rule boxed_expr_view boxed_stmt_view (each stmt_view) (condition c.args.place (source.expr_view c.args.e.now)) (one_of (judged_stmt (type_view c.args.t.now) true (source.stmt_view c.args.s.now))) (λ d p. typed (at_stmt c.args.place (while_ p.0 p.1) ∷ [])) (context_view c.args.context.now)
+    c.condition-test.new.context c.one-body.new.context c.condition-test.result c.one-body.result c.both.result (c.in_ok-test.test, c.in_ok-test.body) c.while_made.result
+    c.condition-test.ensures c.one-body.ensures c.both.ensures c.in_ok-test.was c.while_made.ensures
+
+-- a for
+pub for_inside-returns-in_err-header : goal.for_inside-returns-in_err-header
+for_inside-returns-in_err-header t c =
+    let place = c.args.place in
+    let j = judged_first place (source.for_first_view c.args.head.now) in
+    let k = judged_condition place (option_map source.expr_view c.args.e.now) in
+    let l = judged_step place (option_map source.simple_view c.args.last.now) in
+    let m = one_of (judged_stmt (type_view c.args.t.now) true (source.stmt_view c.args.s.now)) in
+    err_passes (λ (z : Vec CodeStmt Global × (Option (Box CodeExpr Global) × (Box CodeStmt Global × Box CodeStmt Global))). (each stmt_view z.0, (option_map boxed_expr_view z.1.0, (boxed_stmt_view z.1.1.0, boxed_stmt_view z.1.1.1)))) boxed_stmt_view (in_turn j (in_turn k (in_turn l m)))
+    (λ d p. typed (headed place p.0 (λ f. at_stmt place (for_ f p.1.0 p.1.1.0 p.1.1.1)))) (context_view c.args.context.now)
+    c.one-body.new.context (joined c.first-header.result (joined c.for_condition-test.result (joined c.for_step-step.result c.one-body.result))) c.in_err-header.field-0.0 c.from_residual.result
+    (four_told (each stmt_view) (option_map boxed_expr_view) boxed_stmt_view boxed_stmt_view j k l m (context_view c.args.context.now) c.first-header.new.context c.for_condition-test.new.context c.for_step-step.new.context c.one-body.new.context
+    c.first-header.result c.for_condition-test.result c.for_step-step.result c.one-body.result c.first-header.ensures c.for_condition-test.ensures c.for_step-step.ensures c.one-body.ensures)
+    (sym (c.both-3.ensures ∙ ap (joined c.first-header.result) (c.both-2.ensures ∙ ap (joined c.for_condition-test.result) c.both.ensures)) ∙ c.in_err-header.was) c.from_residual.ensures.1
+
+pub for_inside-returns : goal.for_inside-returns
+for_inside-returns t c =
+    let place = c.args.place in
+    let j = judged_first place (source.for_first_view c.args.head.now) in
+    let k = judged_condition place (option_map source.expr_view c.args.e.now) in
+    let l = judged_step place (option_map source.simple_view c.args.last.now) in
+    let m = one_of (judged_stmt (type_view c.args.t.now) true (source.stmt_view c.args.s.now)) in
+    ok_tells (λ (z : Vec CodeStmt Global × (Option (Box CodeExpr Global) × (Box CodeStmt Global × Box CodeStmt Global))). (each stmt_view z.0, (option_map boxed_expr_view z.1.0, (boxed_stmt_view z.1.1.0, boxed_stmt_view z.1.1.1)))) boxed_stmt_view (in_turn j (in_turn k (in_turn l m)))
+    (λ d p. typed (headed place p.0 (λ f. at_stmt place (for_ f p.1.0 p.1.1.0 p.1.1.1)))) (context_view c.args.context.now)
+    c.one-body.new.context (joined c.first-header.result (joined c.for_condition-test.result (joined c.for_step-step.result c.one-body.result)))
+    (c.in_ok-header.header, (c.in_ok-header.test, (c.in_ok-header.step, c.in_ok-header.body))) c.for_made.result
+    (four_told (each stmt_view) (option_map boxed_expr_view) boxed_stmt_view boxed_stmt_view j k l m (context_view c.args.context.now) c.first-header.new.context c.for_condition-test.new.context c.for_step-step.new.context c.one-body.new.context
+    c.first-header.result c.for_condition-test.result c.for_step-step.result c.one-body.result c.first-header.ensures c.for_condition-test.ensures c.for_step-step.ensures c.one-body.ensures)
+    (sym (c.both-3.ensures ∙ ap (joined c.first-header.result) (c.both-2.ensures ∙ ap (joined c.for_condition-test.result) c.both.ensures)) ∙ c.in_ok-header.was) c.for_made.ensures
+
+pub for_loop-returns-in_err-enter : goal.for_loop-returns-in_err-enter
+for_loop-returns-in_err-enter t c =
+    memory_passes (each stmt_view) c.from_residual.result c.in_err-enter.field-0.0 c.enter.new.self
+    (for_of c.args.place (type_view c.args.t.now) (source.for_first_view c.args.head.now) (option_map source.expr_view c.args.e.now) (option_map source.simple_view c.args.last.now) (source.stmt_view c.args.s.now) (context_view c.args.context.now))
+    c.in_err-enter.ensures.memory c.from_residual.ensures.1
+
+pub for_loop-returns-in_err-whole : goal.for_loop-returns-in_err-whole
+for_loop-returns-in_err-whole t c =
+    let first = source.for_first_view c.args.head.now in
+    let e = option_map source.expr_view c.args.e.now in
+    let last = option_map source.simple_view c.args.last.now in
+    let s = source.stmt_view c.args.s.now in
+    let r = type_view c.args.t.now in
+    err_passes boxed_stmt_view (each stmt_view) (scoped (for_inside c.args.place r first e last s)) (λ d x. typed (x ∷ [])) (context_view c.args.context.now)
+    c.leave.new.self c.for_inside-whole.result c.in_err-whole.field-0.0 c.from_residual-in_err-whole.result
+    (scope_tells boxed_stmt_view (for_inside c.args.place r first e last s) (context_view c.args.context.now) c.enter.new.self c.for_inside-whole.new.context c.leave.new.self c.for_inside-whole.result
+    (entered c.enter.new.self (context_view c.args.context.now) c.new.result.entries c.in_ok-enter.ensures.after c.new.ensures.empty) c.for_inside-whole.ensures (for_around r c.args.place first e last s) c.leave.ensures.around)
+    c.in_err-whole.was c.from_residual-in_err-whole.ensures.1
+
+pub for_loop-returns : goal.for_loop-returns
+for_loop-returns t c =
+    let first = source.for_first_view c.args.head.now in
+    let e = option_map source.expr_view c.args.e.now in
+    let last = option_map source.simple_view c.args.last.now in
+    let s = source.stmt_view c.args.s.now in
+    let r = type_view c.args.t.now in
+    one_rules boxed_stmt_view (each stmt_view) (scoped (for_inside c.args.place r first e last s)) (λ d x. typed (x ∷ [])) (context_view c.args.context.now)
+    c.leave.new.self c.for_inside-whole.result c.in_ok-whole.whole c.alone.result
+    (scope_tells boxed_stmt_view (for_inside c.args.place r first e last s) (context_view c.args.context.now) c.enter.new.self c.for_inside-whole.new.context c.leave.new.self c.for_inside-whole.result
+    (entered c.enter.new.self (context_view c.args.context.now) c.new.result.entries c.in_ok-enter.ensures.after c.new.ensures.empty) c.for_inside-whole.ensures (for_around r c.args.place first e last s) c.leave.ensures.around)
+    c.in_ok-whole.was (rw c.into_inner.ensures at c.alone.ensures)
+
+-- a statement, by what it is
+pub stmt-returns-in-Block : goal.stmt-returns-in-Block
+stmt-returns-in-Block t c =
+    arms.block_told c.args.s.now c.in-Block.place c.in-Block.items c.deref.result.now (type_view c.args.t.now) c.args.in_loop (context_view c.args.context.now) c.block.new.context c.block.result c.in-Block.is c.deref.ensures.value c.block.ensures
+
+pub stmt-returns-in-Declare : goal.stmt-returns-in-Declare
+stmt-returns-in-Declare t c =
+    arms.declare_told c.args.s.now c.in-Declare.d (type_view c.args.t.now) c.args.in_loop (context_view c.args.context.now) c.declaration.new.context c.declaration.result c.in-Declare.is c.declaration.ensures
+
+pub stmt-returns-in-Empty : goal.stmt-returns-in-Empty
+stmt-returns-in-Empty t c =
+    arms.empty_told c.args.s.now c.in-Empty.place (type_view c.args.t.now) c.args.in_loop c.args.context.now c.nothing.result c.alone.result c.in-Empty.is c.nothing.ensures c.alone.ensures
+
+pub stmt-returns-in-None : goal.stmt-returns-in-None
+stmt-returns-in-None t c =
+    arms.if_then_told c.args.s.now c.in-If.place c.in-If.condition c.in-If.then c.in-If.otherwise c.deref-in-None.result.now (type_view c.args.t.now) c.args.in_loop (context_view c.args.context.now) c.if_then.new.context c.if_then.result
+    c.in-If.is c.in-None.is c.deref-in-None.ensures c.if_then.ensures
+
+pub stmt-returns-in-Some : goal.stmt-returns-in-Some
+stmt-returns-in-Some t c =
+    arms.if_else_told c.args.s.now c.in-If.place c.in-If.condition c.in-If.then c.in-If.otherwise c.in-Some.other c.deref-in-Some.result.now c.deref-in-Some-2.result.now (type_view c.args.t.now) c.args.in_loop (context_view c.args.context.now) c.if_else.new.context c.if_else.result
+    c.in-If.is c.in-Some.is c.deref-in-Some.ensures c.deref-in-Some-2.ensures c.if_else.ensures
+
+pub stmt-returns-in-While : goal.stmt-returns-in-While
+stmt-returns-in-While t c =
+    arms.while_told c.args.s.now c.in-While.place c.in-While.condition c.in-While.body c.deref-in-While.result.now (type_view c.args.t.now) c.args.in_loop (context_view c.args.context.now) c.while_loop.new.context c.while_loop.result
+    c.in-While.is c.deref-in-While.ensures c.while_loop.ensures
+
+pub stmt-returns-in-For : goal.stmt-returns-in-For
+stmt-returns-in-For t c =
+    arms.for_told c.args.s.now c.in-For.place c.in-For.first c.in-For.condition c.in-For.step c.in-For.body c.deref-in-For.result.now (type_view c.args.t.now) c.args.in_loop (context_view c.args.context.now) c.for_loop.new.context c.for_loop.result
+    c.in-For.is c.deref-in-For.ensures c.for_loop.ensures
+
+pub stmt-returns-in-Break : goal.stmt-returns-in-Break
+stmt-returns-in-Break t c = arms.break_told c.args.s.now c.in-Break.place (type_view c.args.t.now) c.args.in_loop c.args.context.now c.jump.result c.in-Break.is c.jump.ensures
+
+pub stmt-returns-in-Continue : goal.stmt-returns-in-Continue
+stmt-returns-in-Continue t c = arms.continue_told c.args.s.now c.in-Continue.place (type_view c.args.t.now) c.args.in_loop c.args.context.now c.jump-in-Continue.result c.in-Continue.is c.jump-in-Continue.ensures
+
+pub stmt-returns-in-Return : goal.stmt-returns-in-Return
+stmt-returns-in-Return t c =
+    arms.return_told c.args.s.now c.in-Return.place c.in-Return.value (type_view c.args.t.now) c.args.in_loop (context_view c.args.context.now) c.return_of.new.context c.return_of.result c.in-Return.is c.return_of.ensures
+
+pub stmt-returns-in-Simple : goal.stmt-returns-in-Simple
+stmt-returns-in-Simple t c =
+    arms.simple_told c.args.s.now c.in-Simple.s (type_view c.args.t.now) c.args.in_loop (context_view c.args.context.now) c.first_simple.new.context c.first_simple.result c.in-Simple.is c.first_simple.ensures
+
+-- the items of a body
+pub stmts-items-init : goal.stmts-items-init
+stmts-items-init t c = starts stmt_view c.new.result c.args.context.now c.new.ensures.items
+
+pub stmts-items-preserved : goal.stmts-items-preserved
+stmts-items-preserved t c =
+    several_more stmt_view source.stmt_view (type_view c.args.t.now) c.args.in_loop c.args.items.now c.items.s-index c.s-item.result (context_view c.args.context.now) c.items.context c.stmt-next.new.context c.items.all c.stmt-next.result c.appended-all.result
+    (omega arith) c.s-item.is c.items.invariant c.stmt-next.ensures c.appended-all.ensures
+
+pub stmts-returns : goal.stmts-returns
+stmts-returns t c =
+    at_end stmt_view source.stmt_view (λ xs. judged_stmts (type_view c.args.t.now) c.args.in_loop (stmts_of xs)) c.args.items.now c.items.s-index (context_view c.args.context.now) c.items.context c.items.all
+    (omega arith) c.items.invariant

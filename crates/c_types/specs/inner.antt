@@ -1,0 +1,5 @@
+pub mod Nodes
+pub mod Gathering
+pub mod Parts
+pub mod Functions
+pub mod Files

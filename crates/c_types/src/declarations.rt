@@ -1,0 +1,157 @@
+//! Declarations of locals, judged where they stand (C11 6.7).
+ghost use Rattle.std.specs.Prelude.{length, map, IfOk, IfErr, ◌≡◌};
+ghost use Rattle.std.specs.Option.{option_map};
+ghost use Rattle.c_lex.specs.declared.refusal.CompileFault.TheVariants.{NoMemory};
+ghost use Rattle.c_tree.specs.SyntaxViews as source;
+ghost use Rattle.c_tree.specs.Typed.{Ty};
+ghost use Rattle.c_tree.specs.TypedViews.{type_view, boxed_expr_view, stmt_view};
+ghost use Rattle.c_typing.specs.Faults.{Judged, Gives};
+ghost use Rattle.c_typing.specs.Statements.{judged_init, judged_local, judged_locals, judged_declaration};
+ghost use Rattle.type_context.specs.ContextViews.{context_view};
+ghost use Rattle.type_context.specs.Telling.{Tells};
+ghost use Rattle.c_types.specs.Gathering.{each};
+ghost use Rattle.c_types.specs.Objects.{object_of};
+ghost use Rattle.c_types.specs.inner.Nodes.{initial_of, initialiser, fine_local, fine_view};
+
+use crate::declarators::{declarator, specifiers};
+use crate::expressions::value;
+use c_lex::CompileFault;
+use c_tree::syntax as tree;
+use c_tree::syntax::Name;
+use c_tree::typed::{CType, Expr, Stmt, StmtNode};
+use std::alloc::Global;
+use type_context::context::{Context, count, within};
+use type_context::faults::both;
+use type_context::outcomes::{again, pushed};
+use type_declared::headers::unboxed;
+use type_declared::objects::{declare_local, or_int};
+use type_rules::assignments::initialised;
+use type_rules::declarators::object_declared;
+
+/// A function's locals and parameters, of which there are so many at most.
+pub const MOST_LOCALS: usize = 1024;
+
+/// The type of an object that a declarator declares, behind specifiers.
+pub fn object_of(
+    context: &mut Context<'_>,
+    base: &Result<CType, CompileFault>,
+    d: &tree::Declarator,
+) -> Result<CType, CompileFault>
+    ensures { (j : Judged Ty) → Gives type_view base.now j → Tells type_view result context.new (object_of j (source.declarator_view d.now) (context_view context.old)) }
+{
+    let base = again(context.alloc, base);
+    let declarator = declarator(context, d);
+    let (base, declarator) = both(base, declarator)?;
+    object_declared(context, base, &declarator)
+}
+
+// An initialiser that is there, at the declarator's name.
+fn initialiser(
+    context: &mut Context<'_>,
+    place: u32,
+    t: &Result<CType, CompileFault>,
+    e: &tree::Expr,
+) -> Result<Option<Box<Expr>>, CompileFault>
+    ensures { (j : Judged Ty) → Gives type_view t.now j → Tells (option_map boxed_expr_view) result context.new (initialiser place j (source.expr_view e.now) (context_view context.old)) }
+{
+    let t = again(context.alloc, t);
+    let value = value(context, e);
+    let (t, value) = both(t, value)?;
+    initial(context.alloc, place, &t, value)
+}
+
+// The value of an initialiser.
+#[tactic(auto, using(type_context::proofs::Judging::fails_part))]
+fn initial(
+    alloc: Global,
+    place: u32,
+    t: &CType,
+    value: Box<Expr>,
+) -> Result<Option<Box<Expr>>, CompileFault>
+    ensures { Gives (option_map boxed_expr_view) result (initial_of place (type_view t.now) (boxed_expr_view value)) }
+{
+    let value = initialised(alloc, place, t, value)?;
+    Ok(Some(value))
+}
+
+// An initialiser, or none.
+fn init(
+    context: &mut Context<'_>,
+    place: u32,
+    t: &Result<CType, CompileFault>,
+    e: &Option<tree::Expr>,
+) -> Result<Option<Box<Expr>>, CompileFault>
+    ensures { (j : Judged Ty) → Gives type_view t.now j → Tells (option_map boxed_expr_view) result context.new (judged_init place j (option_map source.expr_view e.now) (context_view context.old)) }
+{
+    match e {
+        Some(e) => initialiser(context, place, t, e),
+        None => Ok(None),
+    }
+}
+
+// What is judged at a local's name, whatever its type is.
+fn fine_local(context: &Context<'_>, name: Name) -> Result<((), ()), CompileFault>
+    ensures { Gives fine_view result (fine_local name (context_view context.now)) }
+{
+    let few = within(name.from, 5, MOST_LOCALS, context.locals.len());
+    both(context.fresh(name), few)
+}
+
+// The number of the next local.
+fn local_number(context: &Context<'_>) -> Result<u32, CompileFault>
+    ensures number { IfOk result (λ n. n ≡ length (context_view context.now).locals) }
+    ensures memory { IfErr result (λ e. e ≡ NoMemory) }
+{
+    count(context.locals.len())
+}
+
+// A local, which is in scope directly behind its declarator.
+fn local(
+    context: &mut Context<'_>,
+    base: &Result<CType, CompileFault>,
+    x: &tree::InitDeclarator,
+) -> Result<Stmt, CompileFault>
+    ensures { (j : Judged Ty) → Gives type_view base.now j → Tells stmt_view result context.new (judged_local j (source.init_declarator_view x.now) (context_view context.old)) }
+{
+    let name = x.declarator.name;
+    let t = object_of(context, base, &x.declarator);
+    let fine = fine_local(context, name);
+    let number = local_number(context)?;
+    let declared = or_int(context.alloc, &t)?;
+    declare_local(context, name, declared)?;
+    let init = init(context, name.from, &t, &x.value);
+    let (_, init) = both(both(fine, t), init)?;
+    Ok(Stmt {
+        place: name.from,
+        node: StmtNode::Declare(number, unboxed(init)),
+    })
+}
+
+// Locals that are declared together.
+fn locals(
+    context: &mut Context<'_>,
+    base: &Result<CType, CompileFault>,
+    xs: &[tree::InitDeclarator],
+) -> Result<Vec<Stmt>, CompileFault>
+    ensures { (j : Judged Ty) → Gives type_view base.now j → Tells (each stmt_view) result context.new (judged_locals j (map source.init_declarator_view xs.now) (context_view context.old)) }
+{
+    let mut all = Ok(Vec::new(context.alloc));
+    'declarators: for x in xs {
+        let next = local(context, base, x);
+        all = pushed(all, next);
+    }
+    all
+}
+
+/// A declaration: a statement for each declarator.
+pub(crate) fn declaration(
+    context: &mut Context<'_>,
+    d: &tree::Declaration,
+) -> Result<Vec<Stmt>, CompileFault>
+    ensures { Tells (each stmt_view) result context.new (judged_declaration (source.declaration_view d.now) (context_view context.old)) }
+{
+    let base = specifiers(context, &d.specs);
+    let all = locals(context, &base, &d.declarators);
+    let (_, all) = both(base, all)?;
+    Ok(all)
+}

@@ -1,0 +1,240 @@
+//! Functions, judged where they stand (C11 6.7.6.3, 6.9.1).
+ghost use Rattle.std.specs.Prelude.{◌≡◌, ℕ, List, map, Some, IfOk, IfErr};
+ghost use Rattle.std.specs.Option.{option_map};
+ghost use Rattle.c_lex.specs.declared.refusal.CompileFault.TheVariants.{NoMemory};
+ghost use Rattle.c_tree.specs.SyntaxViews as source;
+ghost use Rattle.c_tree.specs.Typed.{Ty};
+ghost use Rattle.c_tree.specs.TypedViews.{type_view, stmt_view, func_view};
+ghost use Rattle.c_typing.specs.Faults.{Judged, Gives, mapped};
+ghost use Rattle.c_typing.specs.Numbering as numbers;
+ghost use Rattle.c_typing.specs.Programs.{types_or, judged_body, judged_function};
+ghost use Rattle.type_context.specs.ContextViews.{context_view, types_view, frame_view};
+ghost use Rattle.type_declared.specs.FunctionNames.{IsDefined};
+ghost use Rattle.type_declared.specs.LocalViews.{param_view};
+ghost use Rattle.type_context.specs.Telling.{Tells};
+ghost use Rattle.c_types.specs.Gathering.{each};
+ghost use Rattle.c_types.specs.inner.Functions.{fine_view, result_of, types_fine, head_fine, IsHead, func_made, whole_body, body_of};
+
+use crate::outcomes::outcome;
+use crate::parameters::param_list;
+use crate::statements::stmts;
+use c_lex::CompileFault;
+use c_tree::syntax as tree;
+use c_tree::syntax::{Block, Name, Pointer};
+use c_tree::typed::{CType, Func, Stmt};
+use indexmap::IndexMap;
+use std::alloc::Global;
+use type_context::context::{Context, Frame};
+use type_context::faults::both;
+use type_context::kinds::copy_type;
+use type_context::outcomes::again;
+use type_declared::functions::{
+    Defined, add_body, declare_function, name_fine, result_type, type_fine,
+};
+use type_declared::locals::{Param, func_of};
+use type_declared::objects::or_int;
+use type_rules::specifiers::behind_pointers;
+
+// What a function returns.
+#[tactic(auto, using(type_context::proofs::Judging::fails_part))]
+fn result_of(
+    alloc: Global,
+    place: u32,
+    base: Result<CType, CompileFault>,
+    pointers: &[Pointer],
+) -> Result<CType, CompileFault>
+    ensures { (j : Judged Ty) → Gives type_view base j → Gives type_view result (result_of place pointers.now j) }
+{
+    let named = base?;
+    let behind = behind_pointers(alloc, named, pointers)?;
+    result_type(place, behind)
+}
+
+// The types of parameters, or none where one is at fault.
+fn types_or(
+    alloc: Global,
+    params: &Result<Vec<Param>, CompileFault>,
+) -> Result<Vec<CType>, CompileFault>
+    ensures types { (j : Judged (List numbers.Param)) → Gives (each param_view) params.now j → IfOk result (λ ts. types_view ts.items ≡ types_or j) }
+    ensures memory { IfErr result (λ e. e ≡ NoMemory) }
+{
+    match params {
+        Ok(params) => types_of(alloc, params),
+        Err(CompileFault::Refused(_)) => Ok(Vec::new(alloc)),
+        Err(CompileFault::NoMemory) => Err(CompileFault::NoMemory),
+    }
+}
+
+// The types of parameters.
+fn types_of(alloc: Global, params: &[Param]) -> Result<Vec<CType>, CompileFault>
+    ensures types { IfOk result (λ ts. types_view ts.items ≡ map (λ (p : numbers.Param). p.ty) (map param_view params.now)) }
+    ensures memory { IfErr result (λ e. e ≡ NoMemory) }
+{
+    let mut all = Vec::new(alloc);
+    'params: for p in params {
+        all.push(copy_type(alloc, &p.ty)?)?;
+    }
+    Ok(all)
+}
+
+// ---- what is judged at a function's name
+
+// The parameters and the result, judged by what the name meant before.
+fn types_fine(
+    context: &Context<'_>,
+    name: Name,
+    params: &Result<Vec<Param>, CompileFault>,
+    returned: &Result<CType, CompileFault>,
+) -> Result<(), CompileFault>
+    ensures { (j : Judged (List numbers.Param)) (k : Judged Ty) → Gives (each param_view) params.now j → Gives type_view returned.now k → Gives (λ _. tt) result (types_fine (context_view context.now) name j k) }
+{
+    let types = typed_params(context.alloc, params);
+    let returned = again(context.alloc, returned);
+    let (types, returned) = both(types, returned)?;
+    type_fine(context, name, &types, &returned)
+}
+
+// The types of parameters that are typed.
+fn typed_params(
+    alloc: Global,
+    params: &Result<Vec<Param>, CompileFault>,
+) -> Result<Vec<CType>, CompileFault>
+    ensures { (j : Judged (List numbers.Param)) → Gives (each param_view) params.now j → Gives (each type_view) result (mapped (map (λ (p : numbers.Param). p.ty)) j) }
+{
+    match params {
+        Ok(params) => types_of(alloc, params),
+        Err(fault) => Err(*fault),
+    }
+}
+
+// All that is judged there.
+fn head_fine(
+    context: &Context<'_>,
+    defined: &Defined<'_>,
+    name: Name,
+    body: &Option<Block>,
+    params: &Result<Vec<Param>, CompileFault>,
+    returned: &Result<CType, CompileFault>,
+) -> Result<((), ()), CompileFault>
+    ensures { (names : List (List ℕ)) (j : Judged (List numbers.Param)) (k : Judged Ty) → IsDefined names defined.now → Gives (each param_view) params.now j → Gives type_view returned.now k → Gives fine_view result (head_fine (context_view context.now) names name (option_map source.body_view body.now) j k) }
+{
+    let types = types_fine(context, name, params, returned);
+    both(name_fine(context, defined, name, body), types)
+}
+
+// ---- parameters and bodies
+
+/// The parameters of a function, and what their scope declares.
+#[derive(Drop)]
+struct Head<'t> {
+    params: Result<Vec<Param>, CompileFault>,
+    scope: Frame<'t>,
+}
+
+// The parameters, in a scope of their own.
+fn found_head<'t>(context: &mut Context<'t>, all: &[tree::Param]) -> Result<Head<'t>, CompileFault>
+    ensures found { IfOk result (λ h. IsHead h context.new (map source.param_view all.now) (context_view context.old)) }
+    ensures memory { IfErr result (λ e. e ≡ NoMemory) }
+{
+    context.locals = Vec::new(context.alloc);
+    context.addressed = Vec::new(context.alloc);
+    context.enter(IndexMap::new(context.alloc))?;
+    let params = outcome(param_list(context, all))?;
+    let scope = context.leave();
+    Ok(Head { params, scope })
+}
+
+// A function, once its body is known.
+fn func_made(
+    context: &Context<'_>,
+    params: &[Param],
+    returned: CType,
+    items: Vec<Stmt>,
+) -> Result<Vec<Func>, CompileFault>
+    ensures { Gives (each func_view) result (func_made (context_view context.now) (map param_view params.now) (type_view returned) (each stmt_view items)) }
+{
+    let func = func_of(
+        context.alloc,
+        params,
+        &context.locals,
+        &context.addressed,
+        returned,
+        items,
+    )?;
+    let mut all = Vec::new(context.alloc);
+    all.push(func)?;
+    Ok(all)
+}
+
+// A body, in the scope of the parameters.
+fn body_within(
+    context: &mut Context<'_>,
+    params: Result<Vec<Param>, CompileFault>,
+    returned: Result<CType, CompileFault>,
+    body: &Block,
+) -> Result<Vec<Func>, CompileFault>
+    ensures { (j : Judged (List numbers.Param)) (k : Judged Ty) → Gives (each param_view) params j → Gives type_view returned k → Tells (each func_view) result context.new (judged_body j k (Some (source.body_view body.now)) (context_view context.old)) }
+{
+    let t = or_int(context.alloc, &returned)?;
+    let items = stmts(context, &t, false, &body.items);
+    let ((params, returned), items) = both(both(params, returned), items)?;
+    func_made(context, &params, returned, items)
+}
+
+// A body, and what is left behind it.
+fn whole_body<'t>(
+    context: &mut Context<'t>,
+    head: Head<'t>,
+    returned: Result<CType, CompileFault>,
+    name: Name,
+    body: &Block,
+) -> Result<Vec<Func>, CompileFault>
+    ensures { (j : Judged (List numbers.Param)) (k : Judged Ty) → Gives (each param_view) head.entry.params j → Gives type_view returned k → Tells (each func_view) result context.new (whole_body (frame_view head.entry.scope.entries) j k name (source.body_view body.now) (context_view context.old)) }
+{
+    let Head { params, scope } = head;
+    context.enter(scope)?;
+    let func = body_within(context, params, returned, body);
+    context.leave();
+    add_body(context, name)?;
+    func
+}
+
+// A body, or none.
+fn body_of<'t>(
+    context: &mut Context<'t>,
+    head: Head<'t>,
+    returned: Result<CType, CompileFault>,
+    name: Name,
+    body: &Option<Block>,
+) -> Result<Vec<Func>, CompileFault>
+    ensures { (j : Judged (List numbers.Param)) (k : Judged Ty) → Gives (each param_view) head.entry.params j → Gives type_view returned k → Tells (each func_view) result context.new (body_of (frame_view head.entry.scope.entries) j k name (option_map source.body_view body.now) (context_view context.old)) }
+{
+    match body {
+        Some(body) => whole_body(context, head, returned, name, body),
+        None => Ok(Vec::new(context.alloc)),
+    }
+}
+
+/// A function's declaration or definition: its name is in scope behind its declarator.
+pub(crate) fn function(
+    context: &mut Context<'_>,
+    defined: &Defined<'_>,
+    base: &Result<CType, CompileFault>,
+    pointers: &[Pointer],
+    name: Name,
+    params: &[tree::Param],
+    body: &Option<Block>,
+) -> Result<Vec<Func>, CompileFault>
+    ensures { (names : List (List ℕ)) (j : Judged Ty) → IsDefined names defined.now → Gives type_view base.now j → Tells (each func_view) result context.new (judged_function names j pointers.now name (map source.param_view params.now) (option_map source.body_view body.now) (context_view context.old)) }
+{
+    let base = again(context.alloc, base);
+    let returned = outcome(result_of(context.alloc, name.from, base, pointers))?;
+    let head = found_head(context, params)?;
+    let fine = head_fine(context, defined, name, body, &head.params, &returned);
+    let types = types_or(context.alloc, &head.params)?;
+    let declared = or_int(context.alloc, &returned)?;
+    declare_function(context, defined, name, types, declared)?;
+    let funcs = body_of(context, head, returned, name, body);
+    let (_, funcs) = both(fine, funcs)?;
+    Ok(funcs)
+}

@@ -1,0 +1,186 @@
+//! A whole file (C11 6.9).
+ghost use Rattle.std.specs.Prelude.{◌≡◌, ℕ, List, [], map};
+ghost use Rattle.std.specs.Option.{option_map};
+ghost use Rattle.c_tree.specs.SyntaxViews as source;
+ghost use Rattle.c_tree.specs.Typed.{Ty};
+ghost use Rattle.c_tree.specs.TypedViews.{type_view, global_view, func_view, typed_view};
+ghost use Rattle.c_typing.specs.Faults.{Judged, Gives};
+ghost use Rattle.c_typing.specs.Programs.{judged_rest, judged_external, judged_externals, judged_file};
+ghost use Rattle.type_context.specs.ContextViews.{context_view};
+ghost use Rattle.type_context.specs.inner.Outcomes as outcomes;
+ghost use Rattle.type_declared.specs.FunctionNames.{IsDefined};
+ghost use Rattle.type_context.specs.Telling.{Tells};
+ghost use Rattle.c_types.specs.Gathering.{each};
+ghost use Rattle.c_types.specs.inner.Files.{made_view, IsMade, functions_of, globals_of, whole_file};
+
+use crate::declarators::specifiers;
+use crate::definitions::function;
+use crate::globals::globals;
+use c_lex::CompileFault;
+use c_tree::syntax as tree;
+use c_tree::syntax::{Block, External, InitDeclarator, Name, Pointer, Program, Rest};
+use c_tree::typed::{CType, Func, GlobalVar, Typed};
+use std::alloc::Global;
+use std::mem;
+use type_context::context::Context;
+use type_context::faults::both;
+use type_declared::functions::{Defined, all_defined, main_of};
+
+/// What an external declaration makes.
+#[derive(Drop)]
+pub struct Made {
+    pub globals: Vec<GlobalVar>,
+    pub funcs: Vec<Func>,
+}
+
+// Globals, and nothing else.
+fn made_globals(alloc: Global, globals: Vec<GlobalVar>) -> Made
+    ensures { made_view result ≡ record { globals = each global_view globals; funcs = [] } }
+{
+    Made {
+        globals,
+        funcs: Vec::new(alloc),
+    }
+}
+
+// Functions, and nothing else.
+fn made_funcs(alloc: Global, funcs: Vec<Func>) -> Made
+    ensures { made_view result ≡ record { globals = []; funcs = each func_view funcs } }
+{
+    Made {
+        globals: Vec::new(alloc),
+        funcs,
+    }
+}
+
+// Nothing.
+fn made_nothing(alloc: Global) -> Made
+    ensures { made_view result ≡ record { globals = []; funcs = [] } }
+{
+    Made {
+        globals: Vec::new(alloc),
+        funcs: Vec::new(alloc),
+    }
+}
+
+// A function, and nothing else.
+fn function_alone(
+    context: &mut Context<'_>,
+    defined: &Defined<'_>,
+    base: &Result<CType, CompileFault>,
+    pointers: &[Pointer],
+    name: Name,
+    params: &[tree::Param],
+    body: &Option<Block>,
+) -> Result<Made, CompileFault>
+    ensures { (names : List (List ℕ)) (j : Judged Ty) → IsDefined names defined.now → Gives type_view base.now j → Tells made_view result context.new (functions_of names j pointers.now name (map source.param_view params.now) (option_map source.body_view body.now) (context_view context.old)) }
+{
+    let funcs = function(context, defined, base, pointers, name, params, body)?;
+    Ok(made_funcs(context.alloc, funcs))
+}
+
+// Globals, and nothing else.
+fn globals_alone(
+    context: &mut Context<'_>,
+    base: &Result<CType, CompileFault>,
+    declarators: &[InitDeclarator],
+) -> Result<Made, CompileFault>
+    ensures { (j : Judged Ty) → Gives type_view base.now j → Tells made_view result context.new (globals_of j (map source.init_declarator_view declarators.now) (context_view context.old)) }
+{
+    let all = globals(context, base, declarators)?;
+    Ok(made_globals(context.alloc, all))
+}
+
+// What stands behind specifiers.
+fn rest(
+    context: &mut Context<'_>,
+    defined: &Defined<'_>,
+    base: &Result<CType, CompileFault>,
+    x: &Rest,
+) -> Result<Made, CompileFault>
+    ensures { (names : List (List ℕ)) (j : Judged Ty) → IsDefined names defined.now → Gives type_view base.now j → Tells made_view result context.new (judged_rest names j (source.rest_view x.now) (context_view context.old)) }
+{
+    match x {
+        Rest::Nothing => Ok(made_nothing(context.alloc)),
+        Rest::Function {
+            pointers,
+            name,
+            params,
+            body,
+        } => function_alone(context, defined, base, pointers, *name, params, body),
+        Rest::Variables(declarators) => globals_alone(context, base, declarators),
+    }
+}
+
+// An external declaration.
+fn external(
+    context: &mut Context<'_>,
+    defined: &Defined<'_>,
+    x: &External,
+) -> Result<Made, CompileFault>
+    ensures { (names : List (List ℕ)) → IsDefined names defined.now → Tells made_view result context.new (judged_external names (source.external_view x.now) (context_view context.old)) }
+{
+    let base = specifiers(context, &x.specs);
+    let made = rest(context, defined, &base, &x.rest);
+    let (_, made) = both(base, made)?;
+    Ok(made)
+}
+
+// What two parts of a file make, one behind the other.
+fn joined(
+    all: Result<Made, CompileFault>,
+    next: Result<Made, CompileFault>,
+) -> Result<Made, CompileFault>
+    ensures { IsMade (outcomes.joined all next) result }
+{
+    let (mut all, mut next) = both(all, next)?;
+    all.globals.append(&mut next.globals)?;
+    all.funcs.append(&mut next.funcs)?;
+    Ok(all)
+}
+
+// The external declarations of a file.
+fn externals(
+    context: &mut Context<'_>,
+    defined: &Defined<'_>,
+    xs: &[External],
+) -> Result<Made, CompileFault>
+    ensures { (names : List (List ℕ)) → IsDefined names defined.now → Tells made_view result context.new (judged_externals names (map source.external_view xs.now) (context_view context.old)) }
+{
+    let mut all = Ok(made_nothing(context.alloc));
+    'externals: for x in xs {
+        let next = external(context, defined, x);
+        all = joined(all, next);
+    }
+    all
+}
+
+// A file, judged from its first declaration on in this context.
+fn whole_file(context: &mut Context<'_>, file: &Program) -> Result<Typed, CompileFault>
+    ensures { Gives typed_view result (whole_file (source.view file.now) (context_view context.old)) }
+{
+    let defined = all_defined(context, &file.externals)?;
+    let made = externals(context, &defined, &file.externals);
+    let main = main_of(context, &defined);
+    let (made, main) = both(made, main)?;
+    Ok(Typed {
+        structs: mem::replace(&mut context.structs, Vec::new(context.alloc)),
+        globals: made.globals,
+        literals: mem::replace(&mut context.literals, Vec::new(context.alloc)),
+        funcs: made.funcs,
+        main,
+    })
+}
+
+/// The typed tree of a file, or the first of all its faults: at the least place, and there the one
+/// of the least number.
+///
+/// # Errors
+///
+/// `Refused` where a rule of the language is broken, and `NoMemory`.
+pub fn check(alloc: Global, text: &[u8], file: &Program) -> Result<Typed, CompileFault>
+    ensures { Gives typed_view result (judged_file text.now (source.view file.now)) }
+{
+    let mut context = Context::at_start(alloc, text);
+    whole_file(&mut context, file)
+}

@@ -1,0 +1,189 @@
+//! The parts of statements (C11 6.8.4, 6.8.5, 6.8.6).
+ghost use Rattle.std.specs.Prelude.{◌∷◌, [], Some};
+ghost use Rattle.std.specs.Option.{option_map};
+ghost use Rattle.c_tree.specs.SyntaxViews as source;
+ghost use Rattle.c_tree.specs.TypedViews.{type_view, boxed_expr_view, stmt_view, boxed_stmt_view, stmt_node_view};
+ghost use Rattle.c_typing.specs.Faults.{Gives, typed};
+ghost use Rattle.c_typing.specs.Judgement.{ruled};
+ghost use Rattle.c_typing.specs.Statements as rules;
+ghost use Rattle.c_typing.specs.Statements.{judged_simple, returned, judged_first, judged_condition, judged_step};
+ghost use Rattle.type_context.specs.ContextViews.{context_view};
+ghost use Rattle.type_context.specs.Telling.{Tells};
+ghost use Rattle.c_types.specs.Gathering.{each};
+ghost use Rattle.c_types.specs.inner.Nodes.{returned_none, returned_value, jump_of};
+
+use crate::declarations::declaration;
+use crate::expressions::value;
+use crate::simples::simple;
+use c_lex::{CompileFault, Kind};
+use c_tree::syntax as tree;
+use c_tree::typed::{CType, Expr, Stmt, StmtNode};
+use std::alloc::Global;
+use type_context::context::Context;
+use type_context::faults::unless;
+use type_context::kinds::is_void;
+use type_declared::headers::nothing;
+use type_rules::assignments::returned_by;
+use type_rules::conversions::tested;
+
+// One statement.
+pub(crate) fn alone(alloc: Global, s: Stmt) -> Result<Vec<Stmt>, CompileFault>
+    ensures { Gives (each stmt_view) result (typed (stmt_view s ∷ [])) }
+{
+    let mut all = Vec::new(alloc);
+    all.push(s)?;
+    Ok(all)
+}
+
+// A condition, at the place of a word.
+pub(crate) fn condition(
+    context: &mut Context<'_>,
+    place: u32,
+    e: &tree::Expr,
+) -> Result<Box<Expr>, CompileFault>
+    ensures { Tells boxed_expr_view result context.new (rules.condition place (source.expr_view e.now) (context_view context.old)) }
+{
+    let e = value(context, e)?;
+    tested(context.alloc, place, e)
+}
+
+// What a function returns that returns something.
+fn returned_value(
+    context: &mut Context<'_>,
+    place: u32,
+    t: &CType,
+    e: &tree::Expr,
+) -> Result<Stmt, CompileFault>
+    ensures { Tells stmt_view result context.new (returned_value place (type_view t.now) (source.expr_view e.now) (context_view context.old)) }
+{
+    let e = value(context, e)?;
+    returned_by(context.alloc, place, t, e)
+}
+
+// A `return` with no value.
+#[tactic(auto, using(type_context::proofs::Judging::fails_part))]
+fn returned_nothing(place: u32, t: &CType) -> Result<Stmt, CompileFault>
+    ensures { Gives stmt_view result (returned_none place (type_view t.now)) }
+{
+    unless(place, Kind::TypeMismatch, is_void(t))?;
+    Ok(Stmt {
+        place,
+        node: StmtNode::Return(None),
+    })
+}
+
+/// What a function returns, at the word.
+fn returned(
+    context: &mut Context<'_>,
+    place: u32,
+    t: &CType,
+    value: &Option<tree::Expr>,
+) -> Result<Stmt, CompileFault>
+    ensures { Tells stmt_view result context.new (returned place (type_view t.now) (option_map source.expr_view value.now) (context_view context.old)) }
+{
+    match value {
+        Some(e) => returned_value(context, place, t, e),
+        None => returned_nothing(place, t),
+    }
+}
+
+// A `break` or a `continue`, which stands in a loop.
+pub(crate) fn jump(
+    alloc: Global,
+    place: u32,
+    in_loop: bool,
+    node: StmtNode,
+) -> Result<Vec<Stmt>, CompileFault>
+    ensures { Gives (each stmt_view) result (jump_of place in_loop (stmt_node_view node)) }
+{
+    let all = alone(alloc, Stmt { place, node })?;
+    unless(place, Kind::TypeMismatch, in_loop)?;
+    Ok(all)
+}
+
+// What stands first in a `for`, where it is no declaration.
+pub(crate) fn first_simple(
+    context: &mut Context<'_>,
+    s: &tree::Simple,
+) -> Result<Vec<Stmt>, CompileFault>
+    ensures { Tells (each stmt_view) result context.new (ruled (judged_simple (source.simple_view s.now)) (λ c x. typed (x ∷ [])) (context_view context.old)) }
+{
+    let s = simple(context, s)?;
+    alone(context.alloc, s)
+}
+
+// What stands first in a `for`.
+pub(crate) fn first(
+    context: &mut Context<'_>,
+    place: u32,
+    first: &tree::ForFirst,
+) -> Result<Vec<Stmt>, CompileFault>
+    ensures { Tells (each stmt_view) result context.new (judged_first place (source.for_first_view first.now) (context_view context.old)) }
+{
+    match first {
+        tree::ForFirst::Declare(d) => declaration(context, d),
+        tree::ForFirst::Simple(s) => first_simple(context, s),
+        tree::ForFirst::Nothing => Ok(Vec::new(context.alloc)),
+    }
+}
+
+// The condition of a `for` that has one.
+fn some_condition(
+    context: &mut Context<'_>,
+    place: u32,
+    e: &tree::Expr,
+) -> Result<Option<Box<Expr>>, CompileFault>
+    ensures { Tells (option_map boxed_expr_view) result context.new (ruled (rules.condition place (source.expr_view e.now)) (λ c x. typed (Some x)) (context_view context.old)) }
+{
+    let e = condition(context, place, e)?;
+    Ok(Some(e))
+}
+
+// The condition of a `for`, if it has one.
+pub(crate) fn for_condition(
+    context: &mut Context<'_>,
+    place: u32,
+    e: &Option<tree::Expr>,
+) -> Result<Option<Box<Expr>>, CompileFault>
+    ensures { Tells (option_map boxed_expr_view) result context.new (judged_condition place (option_map source.expr_view e.now) (context_view context.old)) }
+{
+    match e {
+        Some(e) => some_condition(context, place, e),
+        None => Ok(None),
+    }
+}
+
+// The step of a `for` that has one.
+fn some_step(context: &mut Context<'_>, s: &tree::Simple) -> Result<Box<Stmt>, CompileFault>
+    ensures { Tells boxed_stmt_view result context.new (judged_simple (source.simple_view s.now) (context_view context.old)) }
+{
+    let s = simple(context, s)?;
+    Ok(Box::new(context.alloc, s)?)
+}
+
+// The step of a `for`.
+pub(crate) fn for_step(
+    context: &mut Context<'_>,
+    place: u32,
+    s: &Option<tree::Simple>,
+) -> Result<Box<Stmt>, CompileFault>
+    ensures { Tells boxed_stmt_view result context.new (judged_step place (option_map source.simple_view s.now) (context_view context.old)) }
+{
+    match s {
+        Some(s) => some_step(context, s),
+        None => Ok(Box::new(context.alloc, nothing(place))?),
+    }
+}
+
+// A `return`.
+pub(crate) fn return_of(
+    context: &mut Context<'_>,
+    t: &CType,
+    place: u32,
+    value: &Option<tree::Expr>,
+) -> Result<Vec<Stmt>, CompileFault>
+    ensures { Tells (each stmt_view) result context.new (ruled (returned place (type_view t.now) (option_map source.expr_view value.now)) (λ d x. typed (x ∷ [])) (context_view context.old)) }
+{
+    let s = returned(context, place, t, value)?;
+    alone(context.alloc, s)
+}

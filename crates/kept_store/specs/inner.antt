@@ -1,2 +1,0 @@
--- What only bodies use.
-pub mod Back

@@ -1,4 +1,0 @@
-pub mod Plain
-pub mod Dropped
-pub mod Tails
-pub mod Sides

@@ -1,3 +1,0 @@
-pub mod Gather
-pub mod Pieces
-pub mod LibraryCalls

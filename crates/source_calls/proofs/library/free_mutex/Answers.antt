@@ -1,5 +1,0 @@
-use Rattle.source_values.proofs.Sizes.{number_at}
-use Rattle.source_calls.proofs.library.free_mutex.Goals as goal
-
-pub returns : goal.returns
-returns c = number_at _ _ _ _ c.wrapping.ensures c.unsigned_long.ensures

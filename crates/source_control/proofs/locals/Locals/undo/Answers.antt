@@ -1,9 +1,0 @@
-use Rattle.std.proofs.Common.{◌∙◌, ap, map, rules}
-use Rattle.source_control.specs.Variables.{variable_of}
-use Rattle.source_control.proofs.Back.{popped_back}
-use Rattle.source_control.proofs.locals.Locals.undo.Goals as goal
-
-pub back-preserved : goal.back-preserved
-back-preserved c =
-    ap (map variable_of) (popped_back c.back.self-inside.log.items c.pop.new.self.items c.in-Some.old c.back.self-inside.variables.items c.take_back.new.variables.items (search rules) c.take_back.ensures)
-    ∙ c.back.invariant

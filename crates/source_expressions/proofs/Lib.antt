@@ -1,0 +1,6 @@
+pub mod AtOnce
+pub mod Forms
+pub mod Parts
+pub mod Gather
+pub mod Pieces
+pub mod LibraryCalls

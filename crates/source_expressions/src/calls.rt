@@ -1,0 +1,190 @@
+//! What a call does once its arguments are there.
+
+ghost use Rattle.std.specs.Prelude.{◌≡◌, IfOk};
+ghost use Rattle.std.specs.Option.{option_map};
+ghost use Rattle.c_tree.specs.Typed as tree;
+ghost use Rattle.c_tree.specs.TypedViews.{lib_view};
+ghost use Rattle.c_meaning.specs.Library as library;
+ghost use Rattle.source_state.specs.Worlds.{action_of};
+ghost use Rattle.source_state.specs.Views.{callee_of, values_of, wait_of};
+ghost use Rattle.source_expressions.specs.Ends.{Calls};
+
+use crate::printing::printed;
+use ak_words::{IntType, NoMemory, Num};
+use block_store::{Cell, Value};
+use c_tree::typed::Lib;
+use source_state::SharedAction;
+use source_state::control::{Pending, Then, Values, Wait};
+use source_state::frames::same_wait;
+use source_tree::tree::Callee;
+use std::alloc::Global;
+use std::rc::Rc;
+
+/// A list of values in order.
+pub fn list_of(alloc: Global, values: &Values) -> Result<Vec<Value>, NoMemory>
+    ensures { IfOk result (λ list. list.items ≡ values_of values.now) }
+{
+    match values {
+        Values::None => Ok(Vec::new(alloc)),
+        Values::More(v, before) => {
+            let mut list = list_of(alloc, before)?;
+            list.push(*v)?;
+            Ok(list)
+        }
+    }
+}
+
+// `malloc`
+fn allocation(args: &[Value]) -> Option<SharedAction>
+    ensures { option_map action_of result ≡ library.action_of tree.malloc args.now }
+{
+    match args {
+        [size] => match *size {
+            Value::Num(n) => Some(SharedAction::Allocate(n.value.unsigned_abs(), Cell::Unknown)),
+            Value::Pointer(_) => None,
+        },
+        _ => None,
+    }
+}
+
+// `free`
+fn freeing(args: &[Value]) -> Option<SharedAction>
+    ensures { option_map action_of result ≡ library.action_of tree.free args.now }
+{
+    match args {
+        [Value::Pointer(p)] => Some(SharedAction::Free(*p)),
+        _ => None,
+    }
+}
+
+// `memcpy`
+fn copying(args: &[Value]) -> Option<SharedAction>
+    ensures { option_map action_of result ≡ library.action_of tree.copy args.now }
+{
+    match args {
+        [to, from, n] => match (*to, *from, *n) {
+            (Value::Pointer(to), Value::Pointer(from), Value::Num(n)) => {
+                Some(SharedAction::Copy(to, from, n.value.unsigned_abs(), 1, false))
+            }
+            (_, _, _) => None,
+        },
+        _ => None,
+    }
+}
+
+// `thrd_create`
+fn starting(function: u32, args: &[Value]) -> Option<SharedAction>
+    ensures { option_map action_of result ≡ library.action_of (tree.start function) args.now }
+{
+    match args {
+        [Value::Pointer(to), Value::Pointer(argument)] => Some(SharedAction::Start(
+            *to, function, *argument,
+        )),
+        _ => None,
+    }
+}
+
+// `thrd_join`
+fn joining(args: &[Value]) -> Option<SharedAction>
+    ensures { option_map action_of result ≡ library.action_of tree.join args.now }
+{
+    match args {
+        [thread, to] => match (*thread, *to) {
+            (Value::Num(thread), Value::Pointer(to)) => {
+                Some(SharedAction::Join(thread.value.unsigned_abs(), to))
+            }
+            (_, _) => None,
+        },
+        _ => None,
+    }
+}
+
+// `mtx_init`
+fn initialising(args: &[Value]) -> Option<SharedAction>
+    ensures { option_map action_of result ≡ library.action_of tree.mutex_init args.now }
+{
+    match args {
+        [Value::Pointer(p)] => Some(SharedAction::Store(*p, free_mutex())),
+        _ => None,
+    }
+}
+
+// `mtx_lock`
+fn locking(args: &[Value]) -> Option<SharedAction>
+    ensures { option_map action_of result ≡ library.action_of tree.mutex_lock args.now }
+{
+    match args {
+        [Value::Pointer(p)] => Some(SharedAction::Lock(*p)),
+        _ => None,
+    }
+}
+
+// `mtx_unlock`
+fn unlocking(args: &[Value]) -> Option<SharedAction>
+    ensures { option_map action_of result ≡ library.action_of tree.mutex_unlock args.now }
+{
+    match args {
+        [Value::Pointer(p)] => Some(SharedAction::Unlock(*p)),
+        _ => None,
+    }
+}
+
+// `mtx_destroy`
+fn destroying(args: &[Value]) -> Option<SharedAction>
+    ensures { option_map action_of result ≡ library.action_of tree.mutex_destroy args.now }
+{
+    match args {
+        [Value::Pointer(p)] => Some(SharedAction::Destroy(*p)),
+        _ => None,
+    }
+}
+
+// The zero bytes of a free mutex.
+fn free_mutex() -> Value
+    ensures { result ≡ library.free_mutex }
+{
+    Value::Num(Num::wrapping(IntType::unsigned_long(), 0))
+}
+
+// What a call of the library does.
+fn action(alloc: Global, lib: &Lib, args: &[Value]) -> Result<Option<SharedAction>, NoMemory>
+    ensures { IfOk result (λ action. option_map action_of action ≡ library.action_of (lib_view lib.now) args.now) }
+{
+    match lib {
+        Lib::Print(pieces) => Ok(Some(SharedAction::Print(printed(alloc, pieces, args)?))),
+        Lib::Malloc => Ok(allocation(args)),
+        Lib::Free => Ok(freeing(args)),
+        Lib::Copy => Ok(copying(args)),
+        Lib::Start(function) => Ok(starting(*function, args)),
+        Lib::Join => Ok(joining(args)),
+        Lib::MutexInit => Ok(initialising(args)),
+        Lib::MutexLock => Ok(locking(args)),
+        Lib::MutexUnlock => Ok(unlocking(args)),
+        Lib::MutexDestroy => Ok(destroying(args)),
+    }
+}
+
+/// A call whose arguments are there: a function is entered, or the library's action is done.
+pub fn called(
+    alloc: Global,
+    place: u32,
+    callee: &Rc<Callee>,
+    before: &Rc<Values>,
+    wait: &Wait,
+) -> Result<Pending, NoMemory>
+    ensures { IfOk result (λ q. Calls place (callee_of callee.now.value) (values_of before.now.value) (wait_of wait.now) q) }
+{
+    match &**callee {
+        Callee::Function(number) => Ok(Pending::Enter(*number, before.clone()?, same_wait(wait)?)),
+        Callee::Library(lib) => {
+            let args = list_of(alloc, before)?;
+            match action(alloc, lib, &args)? {
+                None => Ok(Pending::Unfit),
+                Some(action) => {
+                    let then = Then::Returns(callee.clone()?, before.clone()?, same_wait(wait)?);
+                    Ok(Pending::Act(place, action, then))
+                }
+            }
+        }
+    }
+}

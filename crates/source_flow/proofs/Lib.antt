@@ -1,3 +1,0 @@
-pub mod AtOnce
-pub mod Forms
-pub mod Parts

@@ -1,0 +1,4 @@
+pub mod Back
+pub mod Broken
+pub mod Texts
+pub mod LocalsBack

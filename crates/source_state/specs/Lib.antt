@@ -1,0 +1,5 @@
+pub mod Kept
+pub mod inner
+pub mod Worlds
+pub mod Variables
+pub mod Views

@@ -1,4 +1,0 @@
-pub mod Names
-pub mod Sizes
-pub mod Walking
-pub mod Resuming

@@ -1,2 +1,0 @@
-pub mod TypedTrees
-pub mod FurtherLocals

@@ -1,2 +1,0 @@
-pub mod LocalViews
-pub mod inner

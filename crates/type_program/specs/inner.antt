@@ -1,4 +1,0 @@
-pub mod Gathering
-pub mod Parts
-pub mod Functions
-pub mod Files

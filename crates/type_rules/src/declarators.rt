@@ -1,0 +1,99 @@
+//! Objects that are declared: their types, and the sizes of arrays (C11 6.7.6).
+ghost use Rattle.std.specs.Prelude.{◌≡◌};
+ghost use Rattle.c_tree.specs.SyntaxViews as sources;
+ghost use Rattle.c_tree.specs.TypedViews.{type_view, expr_view};
+ghost use Rattle.c_typing.specs.Faults.{Gives, typed};
+ghost use Rattle.c_typing.specs.Types.{arrays_of};
+ghost use Rattle.c_typing.specs.Judgement.{declared_type, dimension_by, dimension, object_type, object_declared};
+ghost use Rattle.type_context.specs.ContextViews.{context_view};
+ghost use Rattle.type_rules.specs.SpecifierViews.{declared_view};
+
+use crate::constants::constant_value;
+use crate::places::node_place;
+use crate::specifiers::behind_pointers;
+use ak_words::Num;
+use c_lex::{CompileFault, Kind};
+use c_tree::syntax;
+use c_tree::syntax::{Name, Pointer};
+use c_tree::typed::{CType, Expr};
+use std::alloc::Global;
+use type_context::context::Context;
+use type_context::faults::{refused, unless};
+use type_context::kinds::has_size;
+use type_context::layouts::{GREATEST_OBJECT, is_small};
+
+/// A declarator, once its sizes are known.
+#[derive(Drop)]
+pub struct Declared<'a> {
+    pub name: Name,
+    pub pointers: &'a [Pointer],
+    pub sizes: Vec<u32>,
+}
+
+// Arrays of these sizes, the outermost first: at most 64, since no declarator has more stars and
+// dimensions.
+fn arrays_of(alloc: Global, t: CType, sizes: &[u32]) -> Result<CType, CompileFault>
+    ensures { Gives type_view result (typed (arrays_of (type_view t) sizes.now)) }
+{
+    match sizes {
+        [] => Ok(t),
+        [size, inner @ ..] => {
+            let element = arrays_of(alloc, t, inner)?;
+            Ok(CType::Array(Box::new(alloc, element)?, *size))
+        }
+    }
+}
+
+// The type that a declarator makes of another.
+fn declared_type(alloc: Global, t: CType, d: &Declared<'_>) -> Result<CType, CompileFault>
+    ensures { Gives type_view result (typed (declared_type (type_view t) (declared_view d.now).pointers (declared_view d.now).sizes)) }
+{
+    let t = behind_pointers(alloc, t, d.pointers)?;
+    arrays_of(alloc, t, &d.sizes)
+}
+
+/// An object has a size, and at most the greatest object's.
+#[tactic(auto, using(type_context::proofs::Judging::fails_part))]
+pub fn object_type(context: &Context<'_>, place: u32, t: CType) -> Result<CType, CompileFault>
+    ensures { Gives type_view result (object_type (context_view context.now) place (type_view t)) }
+{
+    let fine = has_size(&context.structs, &t) && is_small(&context.structs, &t);
+    unless(place, Kind::BadSize, fine)?;
+    Ok(t)
+}
+
+/// The type of an object that a declarator declares.
+#[tactic(auto, using(type_context::proofs::Judging::fails_part))]
+pub fn object_declared(
+    context: &Context<'_>,
+    t: CType,
+    d: &Declared<'_>,
+) -> Result<CType, CompileFault>
+    ensures { Gives type_view result (object_declared (context_view context.now) (type_view t) (declared_view d.now)) }
+{
+    let t = declared_type(context.alloc, t, d)?;
+    object_type(context, d.name.from, t)
+}
+
+// The size of an array, by its value: from 1 to the greatest object's size.
+fn dimension_by(place: u32, value: Option<Num>) -> Result<u32, CompileFault>
+    ensures { Gives (λ n. n) result (dimension_by place value) }
+{
+    match value {
+        Some(n) => {
+            if 1 <= n.value && n.value <= i128::from(GREATEST_OBJECT) {
+                Ok(n.value as u32)
+            } else {
+                refused(place, Kind::BadSize)
+            }
+        }
+        None => refused(place, Kind::BadSize),
+    }
+}
+
+/// The size of an array: an integer constant expression, at its own place (C11 6.7.6.2).
+pub fn dimension(context: &Context<'_>, e: &syntax::Expr, typed: &Expr) -> Result<u32, CompileFault>
+    ensures { Gives (λ n. n) result (dimension (sources.expr_view e.now) (context_view context.now) (expr_view typed.now)) }
+{
+    dimension_by(node_place(e), constant_value(context, e, typed))
+}

@@ -1,0 +1,86 @@
+//! The types that specifiers and pointers name (C11 6.7.2, 6.7.6.1).
+ghost use Rattle.std.specs.Prelude.{◌≡◌, map, IfOk};
+ghost use Rattle.std.specs.Option.{option_map};
+ghost use Rattle.c_tree.specs.TypedViews.{type_view};
+ghost use Rattle.c_typing.specs.Faults.{Gives, typed};
+ghost use Rattle.c_typing.specs.Types.{behind_pointers};
+ghost use Rattle.c_typing.specs.Judgement.{words_of, tags_of, type_by, specified};
+ghost use Rattle.type_rules.specs.SpecifierViews.{part_view};
+
+use c_lex::{CompileFault, Kind};
+use c_tree::syntax::{Pointer, TypeWord};
+use c_tree::typed::CType;
+use std::alloc::{AllocError, Global};
+use type_context::faults::refused;
+use type_context::words::{named_by, says_nothing};
+
+/// A word among specifiers, or the struct of a number.
+#[derive(Clone, Copy, Debug)]
+pub enum Part {
+    Word(TypeWord),
+    Tag(u32),
+}
+
+// The words that say something of the type.
+fn words_of(alloc: Global, parts: &[Part]) -> Result<Vec<TypeWord>, AllocError>
+    ensures { IfOk result (λ words. words.items ≡ words_of (map part_view parts.now)) }
+{
+    let mut words = Vec::new(alloc);
+    'parts: for part in parts {
+        if let Part::Word(word) = part {
+            if !says_nothing(*word) {
+                words.push(*word)?;
+            }
+        }
+    }
+    Ok(words)
+}
+
+// The numbers of the structs.
+fn tags_of(alloc: Global, parts: &[Part]) -> Result<Vec<u32>, AllocError>
+    ensures { IfOk result (λ tags. tags.items ≡ tags_of (map part_view parts.now)) }
+{
+    let mut tags = Vec::new(alloc);
+    'parts: for part in parts {
+        if let Part::Tag(number) = part {
+            tags.push(*number)?;
+        }
+    }
+    Ok(tags)
+}
+
+// The type that structs and words name, if they name one.
+fn type_by(tags: &[u32], words: &[TypeWord]) -> Option<CType>
+    ensures { option_map type_view result ≡ type_by tags.now words.now }
+{
+    match (tags, words) {
+        ([], words) => named_by(words),
+        ([number], []) => Some(CType::Struct(*number)),
+        _ => None,
+    }
+}
+
+/// The type that specifiers name (C11 6.7.2 p2).
+pub fn specified(alloc: Global, place: u32, parts: &[Part]) -> Result<CType, CompileFault>
+    ensures { Gives type_view result (specified place (map part_view parts.now)) }
+{
+    let tags = tags_of(alloc, parts)?;
+    let words = words_of(alloc, parts)?;
+    match type_by(&tags, &words) {
+        Some(t) => Ok(t),
+        None => refused(place, Kind::TypeMismatch),
+    }
+}
+
+/// A pointer for each star; `const` and `restrict` say nothing of the type (C11 6.7.6.1).
+pub fn behind_pointers(alloc: Global, t: CType, pointers: &[Pointer]) -> Result<CType, CompileFault>
+    ensures { Gives type_view result (typed (behind_pointers (type_view t) pointers.now)) }
+{
+    let mut t = t;
+    'pointers: for pointer in pointers {
+        if *pointer == Pointer::Star {
+            t = CType::Pointer(Box::new(alloc, t)?);
+        }
+    }
+    Ok(t)
+}

@@ -1,2 +1,0 @@
-pub mod ListViews
-pub mod inner
