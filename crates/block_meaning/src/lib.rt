@@ -1,7 +1,7 @@
 //! The interpreter of the source: what a C program does, turn by turn, over named blocks.
 //! Promises upward: each turn of a thread answers and leaves what the meaning of the source says, and one that comes to nothing leaves all as it was.
 //! A turn makes at most as many blocks as a function has declarations, and one.
-//! Stands on c_meaning's definitions, on source_walk for what a turn does before its action, and on shared_world for the actions.
+//! Stands on c_meaning's definitions, on source_statements for what a turn does before its action, and on source_state for the actions.
 #![tactic(auto)]
 
 mod begin;

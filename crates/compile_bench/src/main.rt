@@ -1,7 +1,7 @@
 //! Measures the compiler: a C text is read, lowered, and made the machine's code.
 //! Promises nothing upward: it is a program. What it prints on standard output is the same at each run of one text, and the times go to
 //! standard error.
-//! Stands on c_reader, ir_lower and compile_passes, and on ak_io for the file.
+//! Stands on alaska_run's `read`, ir_lower and compile_passes, and on ak_io for the file.
 #![tactic(auto)]
 
 ghost use Rattle.std.specs.Prelude.{◌≤◌, length};

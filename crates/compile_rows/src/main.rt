@@ -1,6 +1,6 @@
 //! Prints the code of C texts: of some its outline, each loop, Look, safepoint, call and allocation in order, and of others both listings whole.
 //! Promises nothing upward: it is a program, whose output is held against what was worked out by hand.
-//! Stands on c_reader, ir_lower, struct_ir and compile_passes.
+//! Stands on alaska_run's `read`, ir_lower, struct_ir and compile_passes.
 #![tactic(auto)]
 
 ghost use Rattle.std.specs.Prelude.{◌≤◌, length};

@@ -1,6 +1,6 @@
 //! Tables of texts of C, read from files: each text is accepted, or refused where it is marked and for the reason that its table tells.
 //! Promises nothing upward: it is a program, whose output counts the texts of which that is so, and shows the others.
-//! Stands on c_lex, c_grammar's laws, c_parse and type_program.
+//! Stands on c_lex, c_grammar's laws, c_parse and c_types.
 #![tactic(auto)]
 
 mod group;

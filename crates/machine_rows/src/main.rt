@@ -1,6 +1,6 @@
 //! Runs C texts on the machine: one thread after the other, each until it waits, and barriers where no thread is ready.
 //! Promises nothing upward: it is a program, whose output is held against what was worked out by hand.
-//! Stands on c_compile and flat_machine.
+//! Stands on alaska_run's `compile` and flat_machine.
 #![tactic(auto)]
 
 mod alone;

@@ -1,6 +1,6 @@
 //! Measures the interpreter of the source: thread 0 of a C text, run alone as far as it comes.
 //! Promises nothing upward: it is a program. What it prints on standard output is the same at each run of one text, and the time goes to standard error.
-//! Stands on c_reader, which reads the text, on block_meaning, and on ak_io for the file.
+//! Stands on alaska_run, whose `read` reads the text, on block_meaning, and on ak_io for the file.
 #![tactic(auto)]
 
 use ak_io::{FileShelf, ReadEnd, Shelf};

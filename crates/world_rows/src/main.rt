@@ -1,6 +1,6 @@
 //! Runs a C text in a world of two passes that take the calls by turns, on one thread.
 //! Promises nothing upward: it is a program, whose output is held against what was worked out by hand.
-//! Stands on c_compile, flat_machine and ak_world.
+//! Stands on alaska_run's `compile`, flat_machine and ak_world.
 #![tactic(auto)]
 
 mod driving;
