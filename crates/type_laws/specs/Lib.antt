@@ -1,1 +1,2 @@
 pub mod Grammatical
+pub mod TypedSizes
