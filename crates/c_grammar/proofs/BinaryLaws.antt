@@ -16,7 +16,7 @@ use Rattle.c_grammar.specs.Grammar.{mark_of_binary, height}
 use Rattle.c_grammar.specs.inner.Readers.{allowed, take_turn, take, Sort, deep}
 use Rattle.c_grammar.specs.inner.Tokens.{counted_tok, mark_of_kind, at_place, op_of_mark, of_height, binary_of_mark, binary_of, is_some, is_binary}
 use Rattle.c_grammar.proofs.Steadiness.{take_steady}
-use Rattle.c_grammar.proofs.Lawful.{Class, SoundAt, Complete, Limited, sort_of_sign, Lawful, none_begun, starts, Checks}
+use Rattle.c_grammar.proofs.Lawful.{Class, SoundAt, Complete, Limited, sort_of_sign, Lawful, missed_begun, missed_none, starts, Checks}
 use Rattle.c_grammar.proofs.TokenLaws.{Room, deep_at, marked}
 
 -- ---- one token, of those for which a condition holds
@@ -43,7 +43,7 @@ allowed_sound d k next sign Q some q check h c a t ts s f (Some x) e = record { 
 
 take_sound : {A : Type 0} (d : ℕ) (k : ℕ → Count) (next : ℕ → ℕ) (sign : A → Sign) (Q : A → Type 0) (some : A) (q : Q some) (class : Token → Option A) (check : ℕ → Option Kind) → TellsSome sign Q class → Checks d k check → (c : ℕ) (t : Token) (ts : List Token)
     → (o : Option A) → class t ≡ o → SoundAt (some_class d k next sign Q some q) c (t ∷ ts) (take_turn check next c t ts o)
-take_sound d k next sign Q some q class check tells h c t ts None e = none_begun (some_class d k next sign Q some q) c (t ∷ ts)
+take_sound d k next sign Q some q class check tells h c t ts None e = missed_begun (some_class d k next sign Q some q) c t ts _ refl (check c) (h c (sign some))
 take_sound d k next sign Q some q class check tells h c t ts (Some a) e = let b = tells.back t a e in allowed_sound d k next sign Q some q check h c a t ts b.0 b.1 (check c) refl
 
 take_complete : {A : Type 0} (d : ℕ) (k : ℕ → Count) (next : ℕ → ℕ) (sign : A → Sign) (Q : A → Type 0) (some : A) (q : Q some) (first : Sort → Bool) (class : Token → Option A) (check : ℕ → Option Kind) → TellsSome sign Q class → Checks d k check
@@ -65,7 +65,7 @@ take_limited d k next sign Q some q class check tells h c a is (t ∷ ts) x n (s
 pub some_token : {A : Type 0} (d : ℕ) (k : ℕ → Count) (next : ℕ → ℕ) (sign : A → Sign) (Q : A → Type 0) (some : A) (q : Q some) (first : Sort → Bool) (class : Token → Option A) (check : ℕ → Option Kind) → TellsSome sign Q class → Checks d k check
     → ((a : A) → Q a → first (sort_of_sign (sign a)) ≡ true) → Lawful (some_class d k next sign Q some q) (starts first) (take class check next)
 some_token d k next sign Q some q first class check tells h f = record {
-  sound = λ c. elim [ [] ↦ none_begun (some_class d k next sign Q some q) c [] | t ∷ ts ↦ take_sound d k next sign Q some q class check tells h c t ts (class t) refl ];
+  sound = λ c. elim [ [] ↦ missed_none (some_class d k next sign Q some q) c (check c) | t ∷ ts ↦ take_sound d k next sign Q some q class check tells h c t ts (class t) refl ];
   steady = take_steady class check next;
   complete = take_complete d k next sign Q some q first class check tells h;
   limited = take_limited d k next sign Q some q class check tells h;

@@ -1,5 +1,5 @@
 -- The law of casts. A bracket opens a group or the type of a cast: the token behind it tells which.
-use Rattle.std.proofs.Common.{◌≡◌, ℕ, suc, ◌+◌, ◌≤◌, List, [], ◌∷◌, Option, Some, None, Bool, true, false, refl, sym, ap, subst, ◌∙◌, inl, inr, ◌⊎◌, arith}
+use Rattle.std.proofs.Common.{◌≡◌, ℕ, suc, ◌+◌, ◌≤◌, List, [], ◌∷◌, Bool, true, false, refl, sym, ap, subst, ◌∙◌, inl, inr, ◌⊎◌, arith, nat_lt}
 use Rattle.std.specs.Prelude.{◌||◌}
 use Rattle.c_lex.specs.declared.token.Mark.TheVariants as marks
 use Rattle.c_lex.specs.declared.token.Token.{Token}
@@ -8,12 +8,13 @@ use Rattle.c_tree.specs.declared.syntax.TypeWord.TheVariants as types
 use Rattle.c_tree.specs.Syntax.{Expr, null, group, cast, index, member, arrow, binary, conditional, TypeName, type_name, word, no_specs, more_specs}
 use Rattle.c_grammar.specs.Leaves.{Sign, mark_at, IsSpelt, Leaf, at}
 use Rattle.c_grammar.specs.Grammar.{counted, rank, IsExpr, IsType}
+use Rattle.c_grammar.specs.inner.Readers.{Why, unexpected, sunk, past}
 use Rattle.c_grammar.specs.inner.Tokens.{is_mark, begins_type, begins_expr}
 use Rattle.c_grammar.specs.inner.Reading.{Level, UnaryStart, Primary, Paren, Prefix, Sizeof, unary_start, paren_rest, cast_by, casted}
 use Rattle.c_grammar.proofs.Runs.{Within, Met, Over, Stopped}
 use Rattle.c_grammar.proofs.Lawful.{Class, Info, sort_of_sign, HeadIn, Headed, Lawful, both, before}
 use Rattle.c_grammar.proofs.Joints.{Makes, tree, known, narrow}
-use Rattle.c_grammar.proofs.TokenLaws.{Room, plain_class, mark_sign, mark_place_sign, mark_lawful, mark_place_lawful}
+use Rattle.c_grammar.proofs.TokenLaws.{Room, plain_class, mark_sign, mark_place_sign, mark_lawful, mark_place_lawful, shallow}
 use Rattle.c_grammar.proofs.TreeClasses.{none_less, goes_postfix, postfix_info, expr_class, type_class, LevelLawful}
 use Rattle.c_grammar.proofs.MoreJoints.{joined, either_lawful}
 use Rattle.c_grammar.proofs.Respelling.{retold, Respells, respelt, Picks, picked}
@@ -112,18 +113,19 @@ within_head : (d : ℕ) (s t : Sign) (ls : List Leaf) → ((x : Token) → IsSpe
 within_head d s t ls h [] z w = w
 within_head d s t ls h (x ∷ ts) z w = (h x w.0, w.1, w.2)
 
-met_head : (d : ℕ) (s t : Sign) (ls : List Leaf) → ((x : Token) → IsSpelt s x → IsSpelt t x) → (ts : List Token) (n : ℕ) → Met (at d s ∷ ls) ts n → Met (at d t ∷ ls) ts n
-met_head d s t ls h [] n m = m
-met_head d s t ls h (x ∷ ts) n (inl e) = inl e
-met_head d s t ls h (x ∷ ts) n (inr m) = inr (h x m.0, m.1, m.2)
+met_head : (b : Bool) (d : ℕ) (s t : Sign) (ls : List Leaf) → ((x : Token) → IsSpelt s x → IsSpelt t x) → (ts : List Token) (n : ℕ) → Met b (at d s ∷ ls) ts n → Met b (at d t ∷ ls) ts n
+met_head b d s t ls h [] n m = m
+met_head b d s t ls h (x ∷ ts) n (inl e) = inl e
+met_head b d s t ls h (x ∷ ts) n (inr m) = inr (h x m.0, m.1, m.2)
 
 over_head : (d : ℕ) (s t : Sign) (ls : List Leaf) → ((x : Token) → IsSpelt s x → IsSpelt t x) → (ts : List Token) (k : Kind) (n : ℕ) → Over (at d s ∷ ls) ts k n → Over (at d t ∷ ls) ts k n
 over_head d s t ls h [] k n o = o
 over_head d s t ls h (x ∷ ts) k n o = (h x o.0, o.1)
 
-stopped_head : (d : ℕ) (s t : Sign) (ls : List Leaf) → ((x : Token) → IsSpelt s x → IsSpelt t x) → (ts : List Token) (w : Option Kind) (n : ℕ) → Stopped (at d s ∷ ls) ts w n → Stopped (at d t ∷ ls) ts w n
-stopped_head d s t ls h ts None n m = met_head d s t ls h ts n m
-stopped_head d s t ls h ts (Some k) n o = over_head d s t ls h ts k n o
+stopped_head : (d : ℕ) (s t : Sign) (ls : List Leaf) → ((x : Token) → IsSpelt s x → IsSpelt t x) → (ts : List Token) (w : Why) (n : ℕ) → Stopped (at d s ∷ ls) ts w n → Stopped (at d t ∷ ls) ts w n
+stopped_head d s t ls h ts unexpected n m = met_head false d s t ls h ts n m
+stopped_head d s t ls h ts sunk n m = met_head true d s t ls h ts n m
+stopped_head d s t ls h ts (past k) n o = over_head d s t ls h ts k n o
 
 -- the bracket at a place is that of a tree that stands there
 opening_there : (place : ℕ) (e : Expr) → StandsAt place e → (x : Token) → IsSpelt (mark_at place marks.OpenParen) x → IsSpelt (opening e) x
@@ -177,8 +179,8 @@ abbrev cast_info : UnaryStart → Info
 cast_info Paren = bracket_info
 cast_info s = start_info s
 
-cast_picks : (b : Bool) (d : ℕ) → Picks (expr_class b d 2) postfix_info unary_start (Begins b 2) cast_info is_start
-cast_picks b d = record {
+cast_picks : (b : Bool) (d : ℕ) → nat_lt 128 d ≡ false → Picks (expr_class b d 2) postfix_info unary_start (Begins b 2) cast_info is_start
+cast_picks b d s = record {
   is = start_is;
   fits = λ s e f. (f.0, f.1);
   which = λ e f. (start_of e, (f.0, f.1, refl));
@@ -186,6 +188,7 @@ cast_picks b d = record {
   some = elim [ Primary ↦ refl | Paren ↦ refl | Prefix ↦ refl | Sizeof ↦ refl ];
   first = elim [ Primary ↦ refl | Paren ↦ refl | Prefix ↦ refl | Sizeof ↦ refl ];
   goes = elim [ Primary ↦ refl | Paren ↦ refl | Prefix ↦ refl | Sizeof ↦ refl ];
+  shallow = λ c. record { tree = null 0; fits = (none_less 2, tt); shallow = s };
 }
 
 begins_more : (b : Bool) (s : UnaryStart) (e : Expr) → Begins b 1 s e → Begins b 2 s e
@@ -207,4 +210,4 @@ cast_part b d deeper inner e l Paren =
 -- cast
 pub casted_lawful : (b : Bool) (d deeper : ℕ) (inner : Level) → Room d (suc deeper) → LevelLawful b (d + 1) inner → Lawful (expr_class b d 2) postfix_info (casted (suc deeper) deeper inner)
 unfolding casted
-casted_lawful b d deeper inner e l = picked (expr_class b d 2) postfix_info unary_start (Begins b 2) cast_info is_start (cast_picks b d) (some_begin b 2 one_two) (cast_by (suc deeper) deeper inner) (cast_part b d deeper inner e l)
+casted_lawful b d deeper inner e l = picked (expr_class b d 2) postfix_info unary_start (Begins b 2) cast_info is_start (cast_picks b d (shallow d deeper e)) (some_begin b 2 one_two) (cast_by (suc deeper) deeper inner) (cast_part b d deeper inner e l)

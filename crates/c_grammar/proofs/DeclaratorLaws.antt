@@ -14,7 +14,7 @@ use Rattle.c_grammar.specs.inner.Reading.{Level, is_name, dim, dims, declarator_
 use Rattle.c_grammar.proofs.Lawful.{Class, Info, Lawful, starts, both, before}
 use Rattle.c_grammar.proofs.Joints.{Makes, tree, known, full_class, full_lawful, narrow, empty_info, nothing_lawful}
 use Rattle.c_grammar.proofs.Loops.{Link, base, Linked, chained, built_from, all_before}
-use Rattle.c_grammar.proofs.TokenLaws.{Room, plain_class, derived_class, mark_sign, name_lawful, mark_lawful, derived_mark_lawful}
+use Rattle.c_grammar.proofs.TokenLaws.{Room, plain_class, derived_class, mark_sign, name_lawful, mark_lawful, derived_mark_lawful, shallow}
 use Rattle.c_grammar.proofs.TreeClasses.{expr_class, LevelLawful}
 use Rattle.c_grammar.proofs.MoreJoints.{joined, Forms, formed}
 use Rattle.c_grammar.proofs.ArgumentLaws.{rank_most, listed}
@@ -173,7 +173,7 @@ pub declared_lawful : (b : Bool) (d n : ℕ) (inner : Level) → Room d (suc n) 
 unfolding declared
 declared_lawful b d n inner e l =
     let behind = behind_lawful b d n inner e l in
-    known (formed (before (pointers_lawful d (suc n) e) (λ ps f. behind ps) refl (λ ps. (behind ps).steady)) (declarator_class b d) _ (declared_forms b d)) (record { first = refl; goes = refl; empty = refl })
+    known (formed (before (pointers_lawful d (suc n) e (shallow d n e)) (λ ps f. behind ps) refl (λ ps. (behind ps).steady)) (declarator_class b d) _ (declared_forms b d)) (record { first = refl; goes = refl; empty = refl })
 
 -- ---- declarators behind specifiers
 
@@ -204,4 +204,4 @@ pub bare_declared_lawful : (b : Bool) (d n : ℕ) (inner : Level) → Room d (su
 unfolding bare_declared
 bare_declared_lawful b d n inner e l =
     let behind = behind_lawful b d n inner e l in
-    known (formed (before (bare_lawful d (suc n) e) (λ ps f. behind ps) refl (λ ps. (behind ps).steady)) (bare_declarator_class b d) _ (bare_forms b d)) (record { first = refl; goes = refl; empty = refl })
+    known (formed (before (bare_lawful d (suc n) e (shallow d n e)) (λ ps f. behind ps) refl (λ ps. (behind ps).steady)) (bare_declarator_class b d) _ (bare_forms b d)) (record { first = refl; goes = refl; empty = refl })

@@ -9,7 +9,7 @@ use Rattle.c_lex.specs.declared.refusal.Kind.{Kind}
 use Rattle.c_tree.specs.Syntax.{Stmt, empty}
 use Rattle.c_grammar.specs.Leaves.{some_word, Leaf, at}
 use Rattle.c_grammar.specs.Grammar.{on_stmt, IsStmt, is_open}
-use Rattle.c_grammar.specs.inner.Readers.{stop, spent, Got, Reading, got, Reads, ◌>>=◌, Sort, sort, ◌&◌, made, maybe_by, maybe}
+use Rattle.c_grammar.specs.inner.Readers.{past, stop, spent, Got, Reading, got, Reads, ◌>>=◌, Sort, sort, ◌&◌, made, maybe_by, maybe, unexpected}
 use Rattle.c_grammar.specs.inner.Tokens.{tok, word_is, is_word}
 use Rattle.c_grammar.proofs.Sorts.{apart, are_apart}
 use Rattle.c_grammar.proofs.Runs.{Within, Over, within_append, within_split, stopped_more, stopped_behind, over_split}
@@ -168,7 +168,7 @@ behind_test d n r l s c ts rest f w false closed = record { fits = (f, tt); coun
 
 behind_sound : (d n : ℕ) → Room d n → {inner : Reads Stmt} → StmtLawful (d + 1) inner → (s : Stmt) (c : ℕ) (ts rest : List Token) → IsStmt false s → Within (on_stmt (d + 1) s) ts rest → (ElseBehind rest → is_open s ≡ false)
     → SoundAt (branches_class d) c ts (maybe (is_word words.Else) (else_reader n inner) c rest >>= λ b. got (s, b.tree) b.count b.rest)
-behind_sound d n r l s c ts [] f w closed = record { tree = (s, None); fits = (f, tt); stops = stopped_behind (on_stmt (d + 1) s) [] ts [] None 0 w refl }
+behind_sound d n r l s c ts [] f w closed = record { tree = (s, None); fits = (f, tt); stops = stopped_behind (on_stmt (d + 1) s) [] ts [] unexpected 0 w refl }
 behind_sound d n r l s c ts (t ∷ rest) f w closed = behind_test d n r l s c ts (t ∷ rest) f w (is_word words.Else (sort t)) closed
 
 branches_sound : (d n : ℕ) → Room d n → {inner : Reads Stmt} → StmtLawful (d + 1) inner → (c : ℕ) (ts : List Token) → (o : Reading Stmt) → inner c ts ≡ o → SoundAt (stmt_class false (d + 1)) c ts o
@@ -208,7 +208,7 @@ branches_complete d n r l c s (Some t) f g ts z w h =
     rw (first, second) refl
 
 branches_limited : (d n : ℕ) → Room d n → {inner : Reads Stmt} → StmtLawful (d + 1) inner → (c : ℕ) (s : Stmt) (o : Option Stmt) → IsStmt false s → ElseFits s o → (ts : List Token) (k : Kind) (i : ℕ) → Over (on_stmt (d + 1) s ++ (option_class (else_class d)).leaves c o) ts k i
-    → branches n inner c ts ≡ Err (stop (Some k) i)
+    → branches n inner c ts ≡ Err (stop (past k) i)
 branches_limited d n r l c s None f g ts k i o =
     let parts : Over (on_stmt (d + 1) s) ts k i = subst (λ (ls : List Leaf). Over ls ts k i) (append-nil (on_stmt (d + 1) s)) o in
     rw (l.law.limited c s f ts k i parts) refl

@@ -1,7 +1,8 @@
 -- The laws of a whole file, of any lawful reader of files: what is read is the one file that is spelled so, and what is refused is refused
 -- at the first token up to which no file begins so, or the first that is over a limit.
-use Rattle.std.proofs.Common.{◌≡◌, ℕ, zero, suc, ◌+◌, ◌<◌, ◌≤◌, List, [], ◌∷◌, ◌++◌, length, Option, Some, None, Result, Ok, Err, refl, sym, ap, subst, ◌∙◌, inl, inr, ◌⊎◌, arith}
+use Rattle.std.proofs.Common.{◌≡◌, ℕ, zero, suc, ◌+◌, ◌<◌, ◌≤◌, List, [], ◌∷◌, ◌++◌, length, Option, Some, None, Result, Ok, Err, Bool, refl, sym, ap, subst, ◌∙◌, inl, inr, ◌⊎◌, arith}
 use Rattle.std.proofs.lemmas.List.{length-append}
+use Rattle.std.specs.Prelude.{nat_lt}
 use Rattle.std.specs.List.{AllByRecursion}
 use Rattle.c_lex.specs.declared.token.TokenKind.TheVariants as kinds
 use Rattle.c_lex.specs.declared.token.Token.{Token}
@@ -9,9 +10,10 @@ use Rattle.c_lex.specs.declared.refusal.Kind.{Kind}
 use Rattle.c_tree.specs.Syntax.{File}
 use Rattle.c_grammar.specs.Leaves.{Sign, name_at, int_at, char_at, text_at, word_at, some_word, mark_at, some_mark, the_end, IsSpelt, Leaf, over, Spelt, Begins, BeginsWithin}
 use Rattle.c_grammar.specs.Grammar.{leaves, IsFile}
-use Rattle.c_grammar.specs.inner.Readers.{Fault, stop, spent, Reading, got, Reads, ◌>>=◌}
+use Rattle.c_grammar.specs.inner.Readers.{Why, unexpected, past, Fault, stop, spent, Reading, got, Reads, ◌>>=◌}
 use Rattle.c_grammar.proofs.Runs.{Within, Met, Over}
 use Rattle.c_grammar.proofs.Steadiness.{Left, Stays}
+use Rattle.c_grammar.proofs.Sinking.{Sinks}
 use Rattle.c_grammar.proofs.Lawful.{Class, Info, Lawful}
 
 -- ---- leaves that tokens spell, with no limit
@@ -59,11 +61,36 @@ spelt_within (l ∷ ls) (t ∷ ts) s a = (s.0, a.0, spelt_within ls ts s.1 a.1)
 
 -- ---- the first tokens
 
-pub met_begins : (ls : List Leaf) (front rest : List Token) (n : ℕ) → Met ls (front ++ rest) n → n ≤ length rest → BeginsWithin ls front
-met_begins ls [] rest n m le = tt
-met_begins [] (t ∷ front) rest n m le = absurd (omega (arith, length-append front rest, m))
-met_begins (l ∷ ls) (t ∷ front) rest n (inl e) le = absurd (omega (arith, length-append front rest, e))
-met_begins (l ∷ ls) (t ∷ front) rest n (inr m) le = (m.0, m.1, met_begins ls front rest n m.2 le)
+pub met_begins : (b : Bool) (ls : List Leaf) (front rest : List Token) (n : ℕ) → Met b ls (front ++ rest) n → n ≤ length rest → BeginsWithin ls front
+met_begins b ls [] rest n m le = tt
+met_begins b [] (t ∷ front) rest n m le = absurd m
+met_begins b (l ∷ ls) (t ∷ front) rest n (inl e) le = absurd (omega (arith, length-append front rest, e.0))
+met_begins b (l ∷ ls) (t ∷ front) rest n (inr m) le = (m.0, m.1, met_begins b ls front rest n m.2 le)
+
+-- a leaf stands behind the first tokens, which lies too deep or doesn't
+pub record MetAt (b : Bool) (ls : List Leaf) (front : List Token) : Type 0 where
+  pub before : List Leaf
+  pub leaf : Leaf
+  pub behind : List Leaf
+  pub is : ls ≡ before ++ leaf ∷ behind
+  pub spelt : Spelt before front
+  pub level : nat_lt 128 leaf.level ≡ b
+
+met_shorter : (b : Bool) (ls : List Leaf) (ts : List Token) (n : ℕ) → length ts < n → Met b ls ts n → ⊥
+met_shorter b ls [] n lt m = omega (arith, m)
+met_shorter b [] (t ∷ ts) n lt m = m
+met_shorter b (l ∷ ls) (t ∷ ts) n lt (inl e) = absurd (omega (arith, e.0))
+met_shorter b (l ∷ ls) (t ∷ ts) n lt (inr m) = met_shorter b ls ts n (omega arith) m.2
+
+pub met_at : (b : Bool) (ls : List Leaf) (front : List Token) (t : Token) (behind : List Token) → Met b ls (front ++ t ∷ behind) (length (t ∷ behind)) → MetAt b ls front
+met_at b [] [] t behind m = absurd m
+met_at b [] (x ∷ front) t behind m = absurd m
+met_at b (l ∷ ls) [] t behind (inl e) = record { before = []; leaf = l; behind = ls; is = refl; spelt = tt; level = e.1 }
+met_at b (l ∷ ls) [] t behind (inr m) = absurd (met_shorter b ls behind (length (t ∷ behind)) (omega arith) m.2)
+met_at b (l ∷ ls) (x ∷ front) t behind (inl e) = absurd (omega (arith, length-append front (t ∷ behind), e.0))
+met_at b (l ∷ ls) (x ∷ front) t behind (inr m) =
+    let c = met_at b ls front t behind m.2 in
+    record { before = l ∷ c.before; leaf = c.leaf; behind = c.behind; is = ap (λ (y : List Leaf). l ∷ y) c.is; spelt = (m.0, c.spelt); level = c.level }
 
 pub within_begins : (ls : List Leaf) (front rest z : List Token) → Within ls (front ++ rest) z → length z ≤ length rest → BeginsWithin ls front
 within_begins ls [] rest z w le = tt
@@ -115,7 +142,7 @@ token_for_spelt (some_mark m) = refl
 token_for_spelt the_end = refl
 
 -- each list of leaves has tokens
-tokens_of : (ls : List Leaf) → (ts : List Token) × Spelt ls ts
+pub tokens_of : (ls : List Leaf) → (ts : List Token) × Spelt ls ts
 tokens_of [] = ([], tt)
 tokens_of (l ∷ ls) = let m = tokens_of ls in (token_for l.sign ∷ m.0, (token_for_spelt l.sign, m.1))
 
@@ -165,6 +192,15 @@ over_cut (l ∷ ls) (x ∷ front) t behind k (s, inr m) =
     let c = over_cut ls front t behind k m.1 in
     record { before = l ∷ c.before; leaf = c.leaf; behind = c.behind; is = ap (λ (y : List Leaf). l ∷ y) c.is; spelt = (s, c.spelt); within = (m.0, c.within); fault = c.fault }
 
+-- where the leaves are cut already
+pub over_here : (before : List Leaf) (leaf : Leaf) (more : List Leaf) (front : List Token) (t : Token) (behind : List Token) (k : Kind) → Spelt before front → Over (before ++ leaf ∷ more) (front ++ t ∷ behind) k (length (t ∷ behind)) → over leaf ≡ Some k
+over_here [] leaf more [] t behind k s (p, inl e) = e.0
+over_here [] leaf more [] t behind k s (p, inr m) = absurd (over_shorter more behind k (length (t ∷ behind)) (omega arith) m.1)
+over_here [] leaf more (x ∷ front) t behind k s o = absurd s
+over_here (l ∷ before) leaf more [] t behind k s o = absurd s
+over_here (l ∷ before) leaf more (x ∷ front) t behind k s (p, inl e) = absurd (omega (arith, length-append front (t ∷ behind), e.1))
+over_here (l ∷ before) leaf more (x ∷ front) t behind k s (p, inr m) = over_here before leaf more front t behind k s.1 m.1
+
 pub over_join : (before : List Leaf) (leaf : Leaf) (more : List Leaf) (front : List Token) (t : Token) (behind : List Token) (k : Kind) → Spelt (before ++ leaf ∷ []) (front ++ t ∷ []) → AllByRecursion (λ l. over l ≡ None) before → over leaf ≡ Some k
     → Over (before ++ leaf ∷ more) (front ++ t ∷ behind) k (length (t ∷ behind))
 over_join [] leaf more [] t behind k s w e = (s.0, inl (e, refl))
@@ -189,7 +225,7 @@ file_class = record {
 -- a file, and nothing behind it
 abbrev pub nothing_more : File → List Token → Result File Fault
 nothing_more f [] = Ok f
-nothing_more f (t ∷ ts) = Err (stop None (length (t ∷ ts)))
+nothing_more f (t ∷ ts) = Err (stop unexpected (length (t ∷ ts)))
 
 abbrev pub file_of : Reads File → List Token → Result File Fault
 file_of r ts = r 0 ts >>= λ x. nothing_more x.tree x.rest
@@ -200,6 +236,8 @@ pub record ReadsFiles (r : Reads File) : Type 0 where
   pub law : Lawful file_class info r
   -- a file is read where nothing is behind it
   pub whole : (f : File) → IsFile f → (ts : List Token) → Within (leaves f) ts [] → r 0 ts ≡ got f 0 []
+  -- where a token is refused since all that may stand there is too deep, so is any other
+  pub sinks : Sinks r
   -- tokens that end with an end are all of a file, if they begin one
   pub ended : (f : File) → IsFile f → (front : List Token) (e : Token) → e.kind ≡ kinds.End → BeginsWithin (leaves f) (front ++ e ∷ []) → Within (leaves f) (front ++ e ∷ []) []
 
@@ -213,12 +251,12 @@ read_on r h f is ts z w =
     subst P (h.whole f is ts w) stays
 
 -- tokens of a file are not refused for what they are
-pub spelt_read : (r : Reads File) → ReadsFiles r → (f : File) → IsFile f → (ts : List Token) (n : ℕ) → Outcome (leaves f) ts n → (r 0 ts ≡ got f 0 []) ⊎ ((k : Kind) × (m : ℕ) × (r 0 ts ≡ Err (stop (Some k) m)) × (m ≤ n))
+pub spelt_read : (r : Reads File) → ReadsFiles r → (f : File) → IsFile f → (ts : List Token) (n : ℕ) → Outcome (leaves f) ts n → (r 0 ts ≡ got f 0 []) ⊎ ((k : Kind) × (m : ℕ) × (r 0 ts ≡ Err (stop (past k) m)) × (m ≤ n))
 spelt_read r h f is ts n (inl w) = inl (h.whole f is ts w)
 spelt_read r h f is ts n (inr o) = inr (o.0, o.1, h.law.limited 0 f is ts o.0 o.1 o.2, o.3)
 
 -- what is refused inside the tokens is refused there whatever follows them
-pub stuck : {A : Type 0} (y w : List Token) (o o' o'' : Reading A) → Stays y o o' → Stays w o o'' → (v : Option Kind) (n : ℕ) → length y < n → o' ≡ Err (stop v n) → (m : ℕ) × (n ≡ suc m + length y) × (o'' ≡ Err (stop v (suc m + length w)))
+pub stuck : {A : Type 0} (y w : List Token) (o o' o'' : Reading A) → Stays y o o' → Stays w o o'' → (v : Why) (n : ℕ) → length y < n → o' ≡ Err (stop v n) → (m : ℕ) × (n ≡ suc m + length y) × (o'' ≡ Err (stop v (suc m + length w)))
 stuck y w (Ok x) o' o'' s t v n lt e = absurd cc
 stuck {A = A} y w (Err (stop u zero)) o' o'' s t v n lt e =
     let P : Reading A → Type 0 = Left (length y) in
@@ -228,5 +266,5 @@ stuck y w (Err (stop u (suc m))) o' o'' s t v n lt e =
     let same : Err (stop u (suc m + length y)) ≡ Err (stop v n) = sym s ∙ e in
     let kind : u ≡ v = cc in
     let left : suc m + length y ≡ n = cc in
-    (m, sym left, t ∙ ap (λ (x : Option Kind). Err (stop x (suc m + length w))) kind)
+    (m, sym left, t ∙ ap (λ (x : Why). Err (stop x (suc m + length w))) kind)
 stuck y w (Err spent) o' o'' s t v n lt e = absurd cc

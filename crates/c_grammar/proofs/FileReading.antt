@@ -1,15 +1,14 @@
 -- The reader of files reads files: its laws, and those of the grammar that follow.
-use Rattle.std.proofs.Common.{◌≡◌, ℕ, List, [], ◌∷◌, ◌++◌, length, Option, Result, Ok, Err, true, false, refl, sym, ap, subst, ◌∙◌, inl, inr, ◌⊎◌, arith}
+use Rattle.std.proofs.Common.{◌≡◌, ℕ, ◌-◌, List, [], ◌∷◌, ◌++◌, length, Result, Ok, Err, true, false, refl, sym, ap, subst, ◌∙◌, inl, inr, ◌⊎◌, arith}
 use Rattle.std.proofs.lemmas.List.{length-append}
 use Rattle.c_lex.specs.declared.token.Token.{Token}
-use Rattle.c_lex.specs.declared.refusal.Kind.{Kind}
 use Rattle.c_lex.specs.declared.refusal.Refusal.{Refusal}
 use Rattle.c_tree.specs.Syntax.{File}
 use Rattle.c_grammar.specs.Language.{Parses, RefusesTokens}
 use Rattle.c_grammar.specs.Laws.{SpellOneFile, ParseOrRefuse, RefuseOnce, EachIsJudged}
-use Rattle.c_grammar.specs.inner.Readers.{Fault, stop, spent, Reading, ◌>>=◌}
-use Rattle.c_grammar.specs.inner.Reading.{file}
-use Rattle.c_grammar.proofs.Steadiness.{Left}
+use Rattle.c_grammar.specs.inner.Readers.{Why, Fault, stop, spent, Reading, ◌>>=◌}
+use Rattle.c_grammar.specs.inner.Reading.{stmt_at, file}
+use Rattle.c_grammar.proofs.Steadiness.{Left, Takes}
 use Rattle.c_grammar.proofs.FileLaws.{nothing_more, file_of, ReadsFiles}
 use Rattle.c_grammar.proofs.Verdicts.{kind_by, EndWithEnd, refuses, parses}
 use Rattle.c_grammar.proofs.GrammarLaws.{spell_one_file, parse_or_refuse, refuse_once, refusal_at}
@@ -21,6 +20,10 @@ use Rattle.c_grammar.proofs.ParamLaws.{params_lawful}
 use Rattle.c_grammar.proofs.BodyLaws.{body_lawful}
 use Rattle.c_grammar.proofs.RestLaws.{rest_lawful}
 use Rattle.c_grammar.proofs.ExternalLaws.{external_lawful}
+use Rattle.c_grammar.proofs.Loops.{lawful_takes}
+use Rattle.c_grammar.proofs.TokenLaws.{Room}
+use Rattle.c_grammar.proofs.StmtLaws.{stmt_lawful}
+use Rattle.c_grammar.proofs.SinkingFiles.{StmtsTake}
 use Rattle.c_grammar.proofs.WholeLaws.{file_reads}
 
 -- what statements take of expressions and declarations
@@ -31,11 +34,18 @@ parts = record {
   declarations = declaration_lawful (level_laws false);
 }
 
+-- each statement takes a token
+stmts_take : StmtsTake 128
+stmts_take n le = by_room (129 - n) (omega arith)
+  where
+    by_room : (d : ℕ) → Room d n → Takes (stmt_at n)
+    by_room d r = lawful_takes (stmt_lawful parts n d r).law refl
+
 pub reads_files : ReadsFiles file
 reads_files =
     let params = params_lawful (level_laws false 127 2 refl) in
     let rest = rest_lawful (level_laws true 129 0 refl) (level_laws true 128 1 refl) params (body_lawful parts) in
-    file_reads (external_lawful (level_laws true 128 1 refl) rest)
+    file_reads stmts_take (external_lawful (level_laws true 128 1 refl) rest)
 
 -- ---- what the reader says
 
@@ -51,7 +61,7 @@ same_token (x ∷ f) [] t u a b e l = absurd (omega (arith, ap length e, length-
 same_token (x ∷ f) (y ∷ g) t u a b e l = let rest : f ++ t ∷ a ≡ g ++ u ∷ b = cc in same_token f g t u a b rest l
 
 -- what it refuses is refused at the token where so many are left
-pub file_refuses : (ts : List Token) → EndWithEnd ts → (w : Option Kind) (n : ℕ) → file_of file ts ≡ Err (stop w n) → (front : List Token) (t : Token) (behind : List Token) → ts ≡ front ++ t ∷ behind → length (t ∷ behind) ≡ n
+pub file_refuses : (ts : List Token) → EndWithEnd ts → (w : Why) (n : ℕ) → file_of file ts ≡ Err (stop w n) → (front : List Token) (t : Token) (behind : List Token) → ts ≡ front ++ t ∷ behind → length (t ∷ behind) ≡ n
     → RefusesTokens ts (record { place = t.from; kind = kind_by w t })
 file_refuses ts h w n e front t behind is many =
     let a = refuses file reads_files ts h w n e in

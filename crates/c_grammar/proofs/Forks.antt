@@ -1,9 +1,9 @@
 -- More joints that keep the laws: the same trees said otherwise, trees whose leaves are asked for more loosely, and one of two parts.
-use Rattle.std.proofs.Common.{◌≡◌, ℕ, List, Option, Some, Ok, Err, Bool, true, false, refl, sym, ap, subst, ◌∙◌}
+use Rattle.std.proofs.Common.{◌≡◌, ℕ, List, Some, Ok, Err, Bool, true, false, refl, sym, ap, subst, ◌∙◌}
 use Rattle.c_lex.specs.declared.token.Token.{Token}
 use Rattle.c_lex.specs.declared.refusal.Kind.{Kind}
 use Rattle.c_grammar.specs.Leaves.{Leaf}
-use Rattle.c_grammar.specs.inner.Readers.{stop, spent, Reading, got, Reads, ◌>>=◌, Sort, made}
+use Rattle.c_grammar.specs.inner.Readers.{Why, past, stop, spent, Reading, got, Reads, ◌>>=◌, Sort, made}
 use Rattle.c_grammar.specs.inner.Reading.{either_by, either}
 use Rattle.c_grammar.proofs.Sorts.{apart, are_apart, inside, is_inside}
 use Rattle.c_grammar.proofs.Runs.{Within, Over, Stopped}
@@ -37,7 +37,7 @@ pub record Respells (C D : Class) (f : C.Tree → D.Tree) : Type 0 where
   pub fits : (a : C.Tree) → C.Is a → D.Is (f a)
   pub after : (c : ℕ) (a : C.Tree) → C.Is a → D.after c (f a) ≡ C.after c a
   pub within : (c : ℕ) (a : C.Tree) → C.Is a → (ts z : List Token) → Within (C.leaves c a) ts z → Within (D.leaves c (f a)) ts z
-  pub stopped : (c : ℕ) (a : C.Tree) → C.Is a → (ts : List Token) (w : Option Kind) (n : ℕ) → Stopped (C.leaves c a) ts w n → Stopped (D.leaves c (f a)) ts w n
+  pub stopped : (c : ℕ) (a : C.Tree) → C.Is a → (ts : List Token) (w : Why) (n : ℕ) → Stopped (C.leaves c a) ts w n → Stopped (D.leaves c (f a)) ts w n
   pub back_within : (c : ℕ) (b : D.Tree) → D.Is b → (ts z : List Token) → Within (D.leaves c b) ts z → (a : C.Tree) × C.Is a × (f a ≡ b) × Within (C.leaves c a) ts z
   pub back_over : (c : ℕ) (b : D.Tree) → D.Is b → (ts : List Token) (k : Kind) (n : ℕ) → Over (D.leaves c b) ts k n → (a : C.Tree) × C.Is a × (f a ≡ b) × Over (C.leaves c a) ts k n
 
@@ -57,7 +57,7 @@ respelt_sound C D f m c ts (Err spent) b = tt
 respelt_complete : (C D : Class) (I : Info) (f : C.Tree → D.Tree) (r : Reads C.Tree) → Respells C D f → Lawful C I r → (c : ℕ) (a : C.Tree) → C.Is a → (ts z : List Token) → Within (C.leaves c a) ts z → Follows I.goes z → made f r c ts ≡ got (f a) (D.after c (f a)) z
 respelt_complete C D I f r m l c a is ts z w g = rw (l.complete c a is ts z w g, m.after c a is) refl
 
-respelt_limited : (C D : Class) (I : Info) (f : C.Tree → D.Tree) (r : Reads C.Tree) → Lawful C I r → (c : ℕ) (a : C.Tree) → C.Is a → (ts : List Token) (k : Kind) (n : ℕ) → Over (C.leaves c a) ts k n → made f r c ts ≡ Err (stop (Some k) n)
+respelt_limited : (C D : Class) (I : Info) (f : C.Tree → D.Tree) (r : Reads C.Tree) → Lawful C I r → (c : ℕ) (a : C.Tree) → C.Is a → (ts : List Token) (k : Kind) (n : ℕ) → Over (C.leaves c a) ts k n → made f r c ts ≡ Err (stop (past k) n)
 respelt_limited C D I f r l c a is ts k n o = rw (l.limited c a is ts k n o) refl
 
 pub respelt : {C : Class} {I : Info} {r : Reads C.Tree} → Lawful C I r → (D : Class) (f : C.Tree → D.Tree) → Respells C D f → Headed D I → Lawful D I (made f r)
@@ -173,5 +173,6 @@ forked D I J K start Yes No h y p n q {r = r} {s = s} l m =
       first = fork_first I J K h.first_yes h.first_no;
       goes = fork_goes I J K h.goes_yes h.goes_no;
       empty = fork_empty I J K h.some h.empty;
+      shallow = λ x e. absurd (cc e);
     })
     (fork_some D Yes No y p n q) (either_by r s) (fork_part D J K Yes No y p n q r s l m)

@@ -1,5 +1,5 @@
 -- The laws of the grammar, from any lawful reader of files.
-use Rattle.std.proofs.Common.{◌≡◌, ℕ, List, [], ◌∷◌, ◌++◌, length, Option, Some, None, Ok, Err, refl, sym, ap, subst, ◌∙◌, inl, inr, ◌⊎◌, arith}
+use Rattle.std.proofs.Common.{◌≡◌, ℕ, List, [], ◌∷◌, ◌++◌, length, Ok, Err, refl, sym, ap, subst, ◌∙◌, inl, inr, ◌⊎◌, arith}
 use Rattle.std.proofs.lemmas.List.{length-append}
 use Rattle.c_lex.specs.declared.token.Token.{Token}
 use Rattle.c_lex.specs.declared.refusal.Kind.{Kind}
@@ -9,10 +9,10 @@ use Rattle.c_grammar.specs.Leaves.{Leaf}
 use Rattle.c_grammar.specs.Grammar.{leaves}
 use Rattle.c_grammar.specs.Language.{Parses, IsUnexpected, IsOver, RefusesTokens}
 use Rattle.c_grammar.specs.Laws.{SpellOneFile, ParseOrRefuse, RefuseOnce}
-use Rattle.c_grammar.specs.inner.Readers.{stop, Reads}
-use Rattle.c_grammar.proofs.Runs.{Over}
+use Rattle.c_grammar.specs.inner.Readers.{Why, past, stop, Reads}
+use Rattle.c_grammar.proofs.Runs.{Over, refused_by}
 use Rattle.c_grammar.proofs.FileLaws.{spelt_within, over_join, file_of, ReadsFiles}
-use Rattle.c_grammar.proofs.Verdicts.{unexpected_judged, over_judged, same_fault, kind_by, RefusedAt, parses}
+use Rattle.c_grammar.proofs.Verdicts.{unexpected_judged, over_judged, same_fault, kind_by, RefusedAt, parses, is_kind}
 
 -- what is a file is read
 file_judged : (r : Reads File) → ReadsFiles r → (ts : List Token) (f : File) → Parses ts f → file_of r ts ≡ Ok f
@@ -26,7 +26,7 @@ spell_one_file r h ts f g fits s w is t =
 
 -- what is refused is so by the reader
 pub record Judgement (r : Reads File) (ts : List Token) (x : Refusal) : Type 0 where
-  pub why : Option Kind
+  pub why : Why
   pub front : List Token
   pub token : Token
   pub behind : List Token
@@ -35,7 +35,7 @@ pub record Judgement (r : Reads File) (ts : List Token) (x : Refusal) : Type 0 w
   pub kind : x.kind ≡ kind_by why token
   pub read : file_of r ts ≡ Err (stop why (length (token ∷ behind)))
 
-refused_over : (r : Reads File) → ReadsFiles r → (front : List Token) (t : Token) (behind : List Token) (k : Kind) → IsOver front t k → file_of r (front ++ t ∷ behind) ≡ Err (stop (Some k) (length (t ∷ behind)))
+refused_over : (r : Reads File) → ReadsFiles r → (front : List Token) (t : Token) (behind : List Token) (k : Kind) → IsOver front t k → file_of r (front ++ t ∷ behind) ≡ Err (stop (past k) (length (t ∷ behind)))
 refused_over r h front t behind k o =
     let P : List Leaf → Type 0 = λ ls. Over ls (front ++ t ∷ behind) k (length (t ∷ behind)) in
     over_judged r h o.file o.fits (front ++ t ∷ behind) k (length (t ∷ behind)) (subst P (sym o.is) (over_join o.before o.leaf o.behind front t behind k o.spelt o.within o.fault))
@@ -44,18 +44,18 @@ judgement : (r : Reads File) → ReadsFiles r → (ts : List Token) (x : Refusal
 judgement r h ts x f = by_cause f.cause
   where
     by_cause : IsUnexpected f.front f.token x.kind ⊎ IsOver f.front f.token x.kind → Judgement r ts x
-    by_cause (inl u) = record {
-      why = None;
+    by_cause (inl u) = let j = unexpected_judged r h f.front f.token f.behind f.before u.no_file in record {
+      why = refused_by j.0;
       front = f.front;
       token = f.token;
       behind = f.behind;
       is = f.is;
       place = f.place;
-      kind = u.kind;
-      read = ap (file_of r) f.is ∙ unexpected_judged r h f.front f.token f.behind f.before u.no_file;
+      kind = is_kind j.0 f.front f.token x.kind j.2 u.kind;
+      read = ap (file_of r) f.is ∙ j.1;
     }
     by_cause (inr o) = record {
-      why = Some x.kind;
+      why = past x.kind;
       front = f.front;
       token = f.token;
       behind = f.behind;
@@ -87,9 +87,9 @@ refuse_once r h ts x y a b =
     let j = judgement r h ts y b in
     let same = same_fault File i.why j.why (length (i.token ∷ i.behind)) (length (j.token ∷ j.behind)) (sym i.read ∙ j.read) in
     let token : i.token ≡ j.token = same_token i.front j.front i.token j.token i.behind j.behind (sym i.is ∙ j.is) (omega (arith, same.1)) in
-    let kinds : kind_by i.why i.token ≡ kind_by j.why j.token = ap (λ (w : Option Kind). kind_by w i.token) same.0 ∙ ap (kind_by j.why) token in
+    let kinds : kind_by i.why i.token ≡ kind_by j.why j.token = ap (λ (w : Why). kind_by w i.token) same.0 ∙ ap (kind_by j.why) token in
     same_refusal x y (sym i.place ∙ ap (λ (t : Token). t.from) token ∙ j.place) (i.kind ∙ kinds ∙ sym j.kind)
 
 -- the refusal of the token where reading stopped
-pub refusal_at : (ts : List Token) (w : Option Kind) (n : ℕ) → (a : RefusedAt ts w n) → RefusesTokens ts (record { place = a.token.from; kind = kind_by w a.token })
+pub refusal_at : (ts : List Token) (w : Why) (n : ℕ) → (a : RefusedAt ts w n) → RefusesTokens ts (record { place = a.token.from; kind = kind_by w a.token })
 refusal_at ts w n a = record { front = a.front; token = a.token; behind = a.behind; is = a.is; place = refl; before = a.before; cause = a.cause }

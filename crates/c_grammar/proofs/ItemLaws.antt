@@ -1,22 +1,21 @@
 -- The laws of what stands around statements: a condition, what a for begins with, the items of a body.
-use Rattle.std.proofs.Common.{◌≡◌, ℕ, ◌+◌, List, [], ◌∷◌, ◌++◌, Option, Some, Bool, true, false, refl, sym, ap}
+use Rattle.std.proofs.Common.{◌≡◌, ℕ, ◌+◌, List, [], ◌∷◌, ◌++◌, Bool, true, false, refl, sym, ap, inl, inr, ◌⊎◌}
 use Rattle.std.specs.List.{AllByRecursion}
 use Rattle.c_lex.specs.declared.token.Word.TheVariants as words
 use Rattle.c_lex.specs.declared.token.Mark.TheVariants as marks
 use Rattle.c_tree.specs.Syntax.{Expr, null, Declaration, eval, ForFirst, first_declare, first_simple, first_nothing, Stmt, block, declare, empty, if_then, if_else, while, for, break, continue, return, simple, stmts_of}
 use Rattle.c_grammar.specs.Leaves.{mark_at, some_mark, Leaf, at}
 use Rattle.c_grammar.specs.Grammar.{on_each, IsDeclaration, IsSimple, IsFirst, on_bracketed, IsExpr, on_stmt, on_stmts, IsStmt, AreItems}
-use Rattle.c_grammar.specs.inner.Readers.{Reads, Sort, ◌&◌, made}
+use Rattle.c_grammar.specs.inner.Readers.{Reads, ◌&◌, made}
 use Rattle.c_grammar.specs.inner.Tokens.{tok, mark_is, is_mark, is_word, begins_type, begins_simple}
-use Rattle.c_grammar.specs.inner.Reading.{either, declaration, simply, condition, FirstStart, Declared, Empty, Simply, first_start, first_by, first, begins_item, items}
-use Rattle.c_grammar.proofs.Sorts.{is_inside}
+use Rattle.c_grammar.specs.inner.Reading.{either, declaration, simply, condition, first, begins_item, items}
 use Rattle.c_grammar.proofs.Lawful.{Class, Info, Lawful, starts, both}
-use Rattle.c_grammar.proofs.Joints.{Makes, tree, known, full_class, full_lawful, narrow, chosen}
+use Rattle.c_grammar.proofs.Joints.{Makes, tree, known, full_class, full_lawful, narrow}
 use Rattle.c_grammar.proofs.Loops.{row_class, row_lawful}
 use Rattle.c_grammar.proofs.TokenLaws.{Room, plain_class, mark_sign, mark_place_sign, mark_lawful, mark_place_lawful}
 use Rattle.c_grammar.proofs.TreeClasses.{expr_class}
 use Rattle.c_grammar.proofs.Forks.{by_which, Forks, forked}
-use Rattle.c_grammar.proofs.MoreJoints.{joined, flat_after, each_spelt}
+use Rattle.c_grammar.proofs.MoreJoints.{joined, either_lawful, flat_after, each_spelt}
 use Rattle.c_grammar.proofs.StatementClasses.{declaration_class, simple_class, first_class, begins_first, stmt_class, stmt_info, items_class, Parts}
 use Rattle.c_grammar.proofs.ArgumentLaws.{rank_most}
 use Rattle.c_grammar.proofs.DeepStatements.{simply_lawful}
@@ -42,72 +41,40 @@ condition_lawful p n d r =
 
 -- ---- what a for begins with
 
-abbrev WhichFirst : FirstStart → ForFirst → Type 0
-WhichFirst Declared (first_declare x) = IsDeclaration false x
-WhichFirst Simply (first_simple s) = IsSimple s
-WhichFirst Empty first_nothing = Unit {0}
-WhichFirst _ _ = ⊥
+abbrev IsDeclared : ForFirst → Type 0
+IsDeclared (first_declare x) = IsDeclaration false x
+IsDeclared _ = ⊥
 
-abbrev first_infos : FirstStart → Info
-first_infos Declared = starts begins_type
-first_infos Empty = starts (is_mark marks.Semicolon)
-first_infos Simply = starts begins_simple
+abbrev IsNothing : ForFirst → Type 0
+IsNothing first_nothing = Unit {0}
+IsNothing _ = ⊥
 
-abbrev is_start : FirstStart → Option FirstStart → Bool
-is_start Declared (Some Declared) = true
-is_start Empty (Some Empty) = true
-is_start Simply (Some Simply) = true
-is_start _ _ = false
+abbrev IsFirstSimple : ForFirst → Type 0
+IsFirstSimple (first_simple s) = IsSimple s
+IsFirstSimple _ = ⊥
 
-start_is : (s : FirstStart) (o : Option FirstStart) → is_start s o ≡ true → o ≡ Some s
-start_is Declared (Some Declared) e = refl
-start_is Empty (Some Empty) e = refl
-start_is Simply (Some Simply) e = refl
-start_is _ _ e = absurd cc
+-- nothing, or a simple statement
+abbrev IsShort : ForFirst → Type 0
+IsShort (first_declare x) = ⊥
+IsShort (first_simple s) = IsSimple s
+IsShort first_nothing = Unit {0}
 
-first_told : (s : FirstStart) (x : Sort) → (first_infos s).first x ≡ true → first_start x ≡ Some s
-first_told Declared x h = start_is Declared (first_start x) (is_inside begins_type (λ x. is_start Declared (first_start x)) refl x h)
-first_told Empty x h = start_is Empty (first_start x) (is_inside (is_mark marks.Semicolon) (λ x. is_start Empty (first_start x)) refl x h)
-first_told Simply x h = start_is Simply (first_start x) (is_inside begins_simple (λ x. is_start Simply (first_start x)) refl x h)
+abbrev some_declared : ForFirst
+some_declared = first_declare (declaration_class 0).some
 
-first_left : (s : FirstStart) → (first_infos s).empty ≡ true → (x : Sort) → false ≡ false → first_start x ≡ Some s
-first_left Declared h x f = absurd cc
-first_left Empty h x f = absurd cc
-first_left Simply h x f = absurd cc
+abbrev declared_class : ℕ → Class
+declared_class d = narrow (first_class d) IsDeclared some_declared (declaration_class 0).some_is
 
-first_first : (s : FirstStart) (x : Sort) → (first_infos s).first x ≡ true → begins_first x ≡ true
-first_first s x h = rw (first_told s x h) refl
+abbrev nothing_class : ℕ → Class
+nothing_class d = narrow (first_class d) IsNothing first_nothing tt
 
-first_goes : (s : FirstStart) (x : Sort) → false ≡ false → (first_infos s).goes x ≡ false
-first_goes Declared x f = refl
-first_goes Empty x f = refl
-first_goes Simply x f = refl
+abbrev first_simple_class : ℕ → Class
+first_simple_class d = narrow (first_class d) IsFirstSimple (first_simple (eval (null 0))) tt
 
-first_empty : (s : FirstStart) → (first_infos s).empty ≡ true → false ≡ true
-first_empty Declared h = h
-first_empty Empty h = h
-first_empty Simply h = h
+abbrev short_class : ℕ → Class
+short_class d = narrow (first_class d) IsShort first_nothing tt
 
-first_fits : (s : FirstStart) (a : ForFirst) → WhichFirst s a → IsFirst a
-first_fits Declared (first_declare x) f = f
-first_fits Simply (first_simple s) f = f
-first_fits Empty first_nothing f = tt
-first_fits _ _ f = absurd f
-
-first_which : (a : ForFirst) → IsFirst a → (s : FirstStart) × WhichFirst s a
-first_which (first_declare x) f = (Declared, f)
-first_which (first_simple s) f = (Simply, f)
-first_which first_nothing f = (Empty, tt)
-
-abbrev some_first : (s : FirstStart) → (a : ForFirst) × WhichFirst s a
-some_first Declared = (first_declare (declaration_class 0).some, (declaration_class 0).some_is)
-some_first Empty = (first_nothing, tt)
-some_first Simply = (first_simple (eval (null 0)), tt)
-
-abbrev first_part_class : ℕ → FirstStart → Class
-first_part_class d s = narrow (first_class d) (WhichFirst s) (some_first s).0 (some_first s).1
-
-declared_makes : (d : ℕ) → Makes (declaration_class d) (first_part_class d Declared) first_declare
+declared_makes : (d : ℕ) → Makes (declaration_class d) (declared_class d) first_declare
 declared_makes d = record {
   fits = λ a f. f;
   spelt = λ c a. refl;
@@ -115,7 +82,7 @@ declared_makes d = record {
   back = elim [ first_declare x ↦ λ f. (x, f, refl) | first_simple s ↦ λ f. absurd f | first_nothing ↦ λ f. absurd f ];
 }
 
-empty_makes : (d : ℕ) → Makes (plain_class d (mark_sign marks.Semicolon) tt) (first_part_class d Empty) (λ _. first_nothing)
+empty_makes : (d : ℕ) → Makes (plain_class d (mark_sign marks.Semicolon) tt) (nothing_class d) (λ _. first_nothing)
 empty_makes d = record {
   fits = λ a f. tt;
   spelt = λ c a. refl;
@@ -123,7 +90,7 @@ empty_makes d = record {
   back = elim [ first_declare x ↦ λ f. absurd f | first_simple s ↦ λ f. absurd f | first_nothing ↦ λ f. (tt, tt, refl) ];
 }
 
-simply_makes : (d : ℕ) → Makes (both (simple_class d) (λ _. plain_class d (mark_sign marks.Semicolon) tt)) (first_part_class d Simply) (λ (s, _). first_simple s)
+simply_makes : (d : ℕ) → Makes (both (simple_class d) (λ _. plain_class d (mark_sign marks.Semicolon) tt)) (first_simple_class d) (λ (s, _). first_simple s)
 simply_makes d = record {
   fits = λ a f. f.0;
   spelt = λ c a. refl;
@@ -135,25 +102,45 @@ simply_makes d = record {
 pub ended_lawful : Parts → (n d : ℕ) → Room d n → Lawful (both (simple_class d) (λ _. plain_class d (mark_sign marks.Semicolon) tt)) (starts begins_simple) (simply n & tok n (mark_is marks.Semicolon))
 ended_lawful p n d r = known (joined (simply_lawful p n d r) (mark_lawful d n r marks.Semicolon) refl) (record { first = refl; goes = refl; empty = refl })
 
-first_part : Parts → (n d : ℕ) → Room d n → (s : FirstStart) → Lawful (first_part_class d s) (first_infos s) (first_by n s)
-first_part p n d r Declared = tree (p.declarations n d r) (first_part_class d Declared) first_declare (declared_makes d)
-first_part p n d r Empty = tree (mark_lawful d n r marks.Semicolon) (first_part_class d Empty) (λ _. first_nothing) (empty_makes d)
-first_part p n d r Simply = tree (ended_lawful p n d r) (first_part_class d Simply) (λ (s, _). first_simple s) (simply_makes d)
+nothing_fits : (a : ForFirst) → IsNothing a → IsShort a
+nothing_fits (first_declare x) f = f
+nothing_fits (first_simple s) f = absurd f
+nothing_fits first_nothing f = tt
+
+simple_fits : (a : ForFirst) → IsFirstSimple a → IsShort a
+simple_fits (first_declare x) f = f
+simple_fits (first_simple s) f = f
+simple_fits first_nothing f = tt
+
+which_short : (a : ForFirst) → IsShort a → IsNothing a ⊎ IsFirstSimple a
+which_short (first_declare x) f = absurd f
+which_short (first_simple s) f = inr f
+which_short first_nothing f = inl tt
+
+declared_fits : (a : ForFirst) → IsDeclared a → IsFirst a
+declared_fits (first_declare x) f = f
+declared_fits (first_simple s) f = absurd f
+declared_fits first_nothing f = tt
+
+short_fits : (a : ForFirst) → IsShort a → IsFirst a
+short_fits (first_declare x) f = absurd f
+short_fits (first_simple s) f = f
+short_fits first_nothing f = tt
+
+which_first : (a : ForFirst) → IsFirst a → IsDeclared a ⊎ IsShort a
+which_first (first_declare x) f = inl f
+which_first (first_simple s) f = inr f
+which_first first_nothing f = inr tt
 
 pub first_lawful : Parts → (n d : ℕ) → Room d n → Lawful (first_class d) (starts begins_first) (first n)
 unfolding first
 first_lawful p n d r =
-    chosen (first_class d) (starts begins_first) first_start WhichFirst first_infos
-    (record {
-      fits = first_fits;
-      which = first_which;
-      told = first_told;
-      left = first_left;
-      first = first_first;
-      goes = first_goes;
-      empty = first_empty;
-    })
-    some_first (first_by n) (first_part p n d r)
+    let declared = tree (p.declarations n d r) (declared_class d) first_declare (declared_makes d) in
+    let none = tree (mark_lawful d n r marks.Semicolon) (nothing_class d) (λ _. first_nothing) (empty_makes d) in
+    let simples = tree (ended_lawful p n d r) (first_simple_class d) (λ (s, _). first_simple s) (simply_makes d) in
+    let short = either_lawful (short_class d) IsNothing IsFirstSimple first_nothing (first_simple (eval (null 0))) tt tt none simples (is_mark marks.Semicolon) refl refl refl nothing_fits simple_fits which_short in
+    let all = either_lawful (first_class d) IsDeclared IsShort some_declared first_nothing (declaration_class 0).some_is tt declared short begins_type refl refl refl declared_fits short_fits which_first in
+    known all (record { first = refl; goes = refl; empty = refl })
 
 -- ---- the items of a body
 

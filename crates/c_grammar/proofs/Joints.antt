@@ -1,14 +1,15 @@
 -- Ways to join readers that keep the five laws: trees made of parts, full expressions, choices, and what lies too deep.
 use Rattle.std.proofs.Common.{◌≡◌, ℕ, List, [], ◌∷◌, Option, Some, None, Ok, Err, Bool, true, false, refl, sym, subst, ◌∙◌, inl, inr}
+use Rattle.std.specs.Prelude.{nat_lt}
 use Rattle.c_lex.specs.declared.token.Token.{Token}
 use Rattle.c_lex.specs.declared.refusal.Kind.{Kind}
-use Rattle.c_lex.specs.declared.refusal.Kind.TheVariants.{TooDeep}
-use Rattle.c_grammar.specs.Leaves.{IsSpelt, Leaf, over}
-use Rattle.c_grammar.specs.inner.Readers.{stop, spent, Reading, got, Reads, ◌>>=◌, Sort, sort, nothing, made, full, choice_turn, choice, refused, too_deep}
+use Rattle.c_lex.specs.declared.refusal.Kind.TheVariants.{TooDeep, TooMany}
+use Rattle.c_grammar.specs.Leaves.{IsSpelt, Count, uncounted, operator, derivation, Leaf, if_so, first_of, beyond, over}
+use Rattle.c_grammar.specs.inner.Readers.{unexpected, sunk, past, stop, spent, Reading, got, Reads, ◌>>=◌, Sort, sort, nothing, made, full, choice_turn, choice, refused, too_deep}
 use Rattle.c_grammar.proofs.Sorts.{inside, is_inside}
 use Rattle.c_grammar.proofs.Runs.{Within, Over}
 use Rattle.c_grammar.proofs.Steadiness.{too_deep_steady, nothing_steady, made_steady, full_steady, choice_steady}
-use Rattle.c_grammar.proofs.Lawful.{Class, Info, SoundAt, Sound, Follows, sort_of_sign, spelt_sort, HeadIn, Lawful, none_begun}
+use Rattle.c_grammar.proofs.Lawful.{Class, Info, SoundAt, Sound, Follows, sort_of_sign, spelt_sort, HeadIn, Lawful, none_begun, Opens, first_begun}
 
 -- ---- the trees that the parts make
 
@@ -39,7 +40,7 @@ made_complete C D I f r m l c a is ts z w g =
     rw (l.complete c a is ts z parts g, m.after c a) refl
 
 made_limited : (C D : Class) (I : Info) (f : C.Tree → D.Tree) (r : Reads C.Tree) → Makes C D f → Lawful C I r → (c : ℕ) (a : C.Tree) → C.Is a → (ts : List Token) (k : Kind) (n : ℕ) → Over (D.leaves c (f a)) ts k n
-    → made f r c ts ≡ Err (stop (Some k) n)
+    → made f r c ts ≡ Err (stop (past k) n)
 made_limited C D I f r m l c a is ts k n o =
     let parts : Over (C.leaves c a) ts k n = subst (λ (x : List Leaf). Over x ts k n) (m.spelt c a) o in
     rw (l.limited c a is ts k n parts) refl
@@ -53,7 +54,7 @@ tree {C = C} {I = I} {r = r} l D f m = record {
       let P : D.Tree → Type 0 = λ x. Within (D.leaves c x) ts z → made f r c ts ≡ got x (D.after c x) z in
       subst P a.2 (λ v. made_complete C D I f r m l c a.0 a.1 ts z v g) w;
   limited = λ c b is ts k n o. let a = m.back b is in
-      let P : D.Tree → Type 0 = λ x. Over (D.leaves c x) ts k n → made f r c ts ≡ Err (stop (Some k) n) in
+      let P : D.Tree → Type 0 = λ x. Over (D.leaves c x) ts k n → made f r c ts ≡ Err (stop (past k) n) in
       subst P a.2 (λ v. made_limited C D I f r m l c a.0 a.1 ts k n v) o;
   headed = λ c b is. let a = m.back b is in
       let P : D.Tree → Type 0 = λ x. HeadIn I (D.leaves c x) in
@@ -148,6 +149,12 @@ nothing_lawful D a none same = record {
 
 -- ---- choices
 
+-- a tree of the class has a first leaf, which isn't too deep
+pub record Open (D : Class) (c : ℕ) : Type 0 where
+  pub tree : D.Tree
+  pub fits : D.Is tree
+  pub shallow : Opens false (D.leaves c tree)
+
 -- the parts of a choice are the trees of the class, told apart by their first tokens
 pub record Chosen {S : Type 0} (D : Class) (I : Info) (start : Sort → Option S) (Which : S → D.Tree → Type 0) (J : S → Info) : Type 0 where
   pub fits : (s : S) (a : D.Tree) → Which s a → D.Is a
@@ -159,15 +166,17 @@ pub record Chosen {S : Type 0} (D : Class) (I : Info) (start : Sort → Option S
   pub first : (s : S) (x : Sort) → (J s).first x ≡ true → I.first x ≡ true
   pub goes : (s : S) (x : Sort) → I.goes x ≡ false → (J s).goes x ≡ false
   pub empty : (s : S) → (J s).empty ≡ true → I.empty ≡ true
+  -- where a token may begin no part, some part isn't too deep
+  pub shallow : (x : Sort) → start x ≡ None → (c : ℕ) → Open D c
 
 part_sound : (D : Class) (Q : D.Tree → Type 0) (a : D.Tree) (q : Q a) → ((x : D.Tree) → Q x → D.Is x) → (c : ℕ) (ts : List Token) (o : Reading D.Tree) → SoundAt (narrow D Q a q) c ts o → SoundAt D c ts o
 part_sound D Q a q f c ts (Ok x) t = record { fits = f x.tree t.fits; count = t.count; parts = t.parts }
 part_sound D Q a q f c ts (Err (stop w n)) b = record { tree = b.tree; fits = f b.tree b.fits; stops = b.stops }
 part_sound D Q a q f c ts (Err spent) b = tt
 
-choice_sound : {S : Type 0} (D : Class) (part : S → Reads D.Tree) → ((s : S) → Sound D (part s)) → (c : ℕ) (t : Token) (ts : List Token) (o : Option S) → SoundAt D c (t ∷ ts) (choice_turn part c t ts o)
-choice_sound D part h c t ts None = none_begun D c (t ∷ ts)
-choice_sound D part h c t ts (Some s) = h s c (t ∷ ts)
+choice_sound : {S : Type 0} (D : Class) (part : S → Reads D.Tree) → ((s : S) → Sound D (part s)) → (c : ℕ) (t : Token) (ts : List Token) (o : Option S) → (o ≡ None → Open D c) → SoundAt D c (t ∷ ts) (choice_turn part c t ts o)
+choice_sound D part h c t ts None f = let a = f refl in first_begun D c t ts false a.tree a.fits a.shallow
+choice_sound D part h c t ts (Some s) f = h s c (t ∷ ts)
 
 -- the part of a tree is told by the tokens that it is and what is behind it
 told_by : {S : Type 0} (D : Class) (I : Info) (start : Sort → Option S) (Which : S → D.Tree → Type 0) (J : S → Info) → Chosen D I start Which J → (part : S → Reads D.Tree) (s : S) (ls : List Leaf) → HeadIn (J s) ls → (c : ℕ) (ts z : List Token)
@@ -201,7 +210,7 @@ pub chosen : {S : Type 0} (D : Class) (I : Info) (start : Sort → Option S) (Wh
 chosen D I start Which J h some part l =
     let sounds : (s : _) → Sound D (part s) = λ s c ts. part_sound D (Which s) (some s).0 (some s).1 (h.fits s) c ts (part s c ts) ((l s).sound c ts) in
     record {
-      sound = λ c. elim [ [] ↦ none_begun D c [] | t ∷ ts ↦ choice_sound D part sounds c t ts (start (sort t)) ];
+      sound = λ c. elim [ [] ↦ none_begun D c unexpected (inl refl) | t ∷ ts ↦ choice_sound D part sounds c t ts (start (sort t)) (λ e. h.shallow (sort t) e c) ];
       steady = choice_steady start part (λ s. (l s).steady);
       complete = λ c a is ts z w g. let s = h.which a is in
           told_by D I start Which J h part s.0 (D.leaves c a) ((l s.0).headed c a s.1) c ts z w g
@@ -219,13 +228,30 @@ pub record TooDeepFor (C : Class) (start : Sort → Bool) : Type 0 where
   pub deep : (c : ℕ) (a : C.Tree) → C.Is a → (l : Leaf) × (ls : List Leaf) × (C.leaves c a ≡ l ∷ ls) × (over l ≡ Some TooDeep) × (start (sort_of_sign l.sign) ≡ true)
   pub begins : (c : ℕ) (t : Token) → start (sort t) ≡ true → (a : C.Tree) × C.Is a × ((l : Leaf) × (ls : List Leaf) × (C.leaves c a ≡ l ∷ ls) × (over l ≡ Some TooDeep) × IsSpelt l.sign t)
 
+-- what is over that limit is of such a level
+many_not : (b : Bool) (n : ℕ) → if_so b (TooMany n) ≡ Some TooDeep → ⊥
+many_not true n e = absurd cc
+many_not false n e = absurd cc
+
+pub beyond_not : (c : Count) → beyond c ≡ Some TooDeep → ⊥
+beyond_not uncounted e = absurd cc
+beyond_not (operator n) e = many_not (nat_lt 256 n) 8 e
+beyond_not (derivation n) e = many_not (nat_lt 64 n) 14 e
+
+level_at : (b : Bool) (c : Count) → first_of (if_so b TooDeep) (beyond c) ≡ Some TooDeep → b ≡ true
+level_at true c e = refl
+level_at false c e = absurd (beyond_not c e)
+
+pub level_over : (l : Leaf) → over l ≡ Some TooDeep → nat_lt 128 l.level ≡ true
+level_over l e = level_at (nat_lt 128 l.level) l.count e
+
 refused_sound : (C : Class) (start : Sort → Bool) → TooDeepFor C start → (c : ℕ) (t : Token) (ts : List Token) (b : Bool) → start (sort t) ≡ b → SoundAt C c (t ∷ ts) (refused t ts b)
 refused_sound C start h c t ts true e = let b = h.begins c t e in record {
   tree = b.0;
   fits = b.1;
   stops = rw (b.2.2) (b.2.4, inl (b.2.3, refl));
 }
-refused_sound C start h c t ts false e = none_begun C c (t ∷ ts)
+refused_sound C start h c t ts false e = let d = h.deep c C.some C.some_is in first_begun C c t ts true C.some C.some_is (rw (d.2) (level_over d.0 d.3))
 
 none_over : (a : Option Kind) (k : Kind) → a ≡ Some k → a ≡ None → ⊥
 none_over None k e f = absurd cc
@@ -238,7 +264,7 @@ deep_within l ls e (t ∷ ts) z w = none_over (over l) TooDeep e w.1
 same_kind : (a : Option Kind) (j k : Kind) → a ≡ Some j → a ≡ Some k → k ≡ j
 same_kind a j k e f = let g : Some k ≡ Some j = sym f ∙ e in cc
 
-deep_over : {A : Type 0} (start : Sort → Bool) (l : Leaf) (ls : List Leaf) → over l ≡ Some TooDeep → start (sort_of_sign l.sign) ≡ true → (c : ℕ) (ts : List Token) (k : Kind) (n : ℕ) → Over (l ∷ ls) ts k n → too_deep {A = A} start c ts ≡ Err (stop (Some k) n)
+deep_over : {A : Type 0} (start : Sort → Bool) (l : Leaf) (ls : List Leaf) → over l ≡ Some TooDeep → start (sort_of_sign l.sign) ≡ true → (c : ℕ) (ts : List Token) (k : Kind) (n : ℕ) → Over (l ∷ ls) ts k n → too_deep {A = A} start c ts ≡ Err (stop (past k) n)
 deep_over start l ls e s c [] k n o = absurd o
 deep_over start l ls e s c (t ∷ ts) k n (sp, inl h) = rw (spelt_sort l.sign t sp, s, same_kind (over l) TooDeep k e h.0, ← h.1) refl
 deep_over start l ls e s c (t ∷ ts) k n (sp, inr h) = absurd (none_over (over l) TooDeep e h.0)
@@ -248,7 +274,7 @@ deep_info start goes = record { first = start; goes = goes; empty = false }
 
 pub too_deep_lawful : (C : Class) (start goes : Sort → Bool) → TooDeepFor C start → Lawful C (record { first = start; goes = goes; empty = false }) (too_deep start)
 too_deep_lawful C start goes h = record {
-  sound = λ c. elim [ [] ↦ none_begun C c [] | t ∷ ts ↦ refused_sound C start h c t ts (start (sort t)) refl ];
+  sound = λ c. elim [ [] ↦ none_begun C c sunk (inr refl) | t ∷ ts ↦ refused_sound C start h c t ts (start (sort t)) refl ];
   steady = too_deep_steady start;
   complete = λ c a is ts z w g. let d = h.deep c a is in
       absurd (deep_within d.0 d.1 d.3 ts z (subst (λ (x : List Leaf). Within x ts z) d.2 w));

@@ -1,12 +1,13 @@
 -- The five laws of a reader together, and ways to join readers that keep them.
-use Rattle.std.proofs.Common.{◌≡◌, ℕ, List, [], ◌∷◌, ◌++◌, length, Option, Some, None, Ok, Err, Bool, true, false, refl, sym, ap, subst, ◌∙◌, inl, inr}
-use Rattle.std.specs.Prelude.{◌&&◌, ◌||◌}
+use Rattle.std.proofs.Common.{◌≡◌, ℕ, List, [], ◌∷◌, ◌++◌, length, Option, Some, None, Ok, Err, Bool, true, false, refl, sym, ap, subst, ◌∙◌, inl, inr, ◌⊎◌}
+use Rattle.std.specs.Prelude.{◌&&◌, ◌||◌, nat_lt}
 use Rattle.c_lex.specs.declared.token.Token.{Token}
 use Rattle.c_lex.specs.declared.refusal.Kind.{Kind}
-use Rattle.c_grammar.specs.Leaves.{Sign, name_at, int_at, char_at, text_at, word_at, some_word, mark_at, some_mark, the_end, IsSpelt, Count, Leaf, over}
-use Rattle.c_grammar.specs.inner.Readers.{stop, spent, Got, Reading, got, Reads, ◌>>=◌, Sort, a_name, an_int, a_char, a_text, a_word, a_mark, an_end, sort_of_kind, sort, allowed, take_turn, take, ◌▸◌}
+use Rattle.c_lex.specs.declared.refusal.Kind.TheVariants.{TooDeep, TooMany}
+use Rattle.c_grammar.specs.Leaves.{Sign, name_at, int_at, char_at, text_at, word_at, some_word, mark_at, some_mark, the_end, IsSpelt, Count, uncounted, operator, derivation, Leaf, if_so, first_of, beyond, over}
+use Rattle.c_grammar.specs.inner.Readers.{Why, past, stop, spent, Got, Reading, got, Reads, ◌>>=◌, Sort, a_name, an_int, a_char, a_text, a_word, a_mark, an_end, sort_of_kind, sort, allowed, missed, take_turn, take, ◌▸◌, unexpected, sunk}
 use Rattle.c_grammar.proofs.Sorts.{apart, are_apart}
-use Rattle.c_grammar.proofs.Runs.{Within, Over, Stopped, met_none, within_append, within_split, stopped_more, stopped_behind, over_split}
+use Rattle.c_grammar.proofs.Runs.{Within, Over, Stopped, refused_by, stopped_none, stopped_first, within_append, within_split, stopped_more, stopped_behind, over_split}
 use Rattle.c_grammar.proofs.Steadiness.{Steady, take_steady, both_steady}
 
 -- ---- the trees of a part of the grammar, of which there is one at least
@@ -34,7 +35,7 @@ pub record Took (C : Class) (c : ℕ) (ts : List Token) (x : Got C.Tree) : Type 
   pub count : x.count ≡ C.after c x.tree
   pub parts : Within (C.leaves c x.tree) ts x.rest
 
-pub record Begun (C : Class) (c : ℕ) (ts : List Token) (w : Option Kind) (n : ℕ) : Type 0 where
+pub record Begun (C : Class) (c : ℕ) (ts : List Token) (w : Why) (n : ℕ) : Type 0 where
   pub tree : C.Tree
   pub fits : C.Is tree
   pub stops : Stopped (C.leaves c tree) ts w n
@@ -57,7 +58,7 @@ abbrev pub Complete : (C : Class) → Info → Reads C.Tree → Type 0
 Complete C I r = (c : ℕ) (a : C.Tree) → C.Is a → (ts z : List Token) → Within (C.leaves c a) ts z → Follows I.goes z → r c ts ≡ got a (C.after c a) z
 
 abbrev pub Limited : (C : Class) → Reads C.Tree → Type 0
-Limited C r = (c : ℕ) (a : C.Tree) → C.Is a → (ts : List Token) (k : Kind) (n : ℕ) → Over (C.leaves c a) ts k n → r c ts ≡ Err (stop (Some k) n)
+Limited C r = (c : ℕ) (a : C.Tree) → C.Is a → (ts : List Token) (k : Kind) (n : ℕ) → Over (C.leaves c a) ts k n → r c ts ≡ Err (stop (past k) n)
 
 -- ---- the first leaf
 
@@ -99,9 +100,22 @@ pub record Lawful (C : Class) (I : Info) (r : Reads C.Tree) : Type 0 where
   pub limited : Limited C r
   pub headed : Headed C I
 
--- any tokens may come where a tree may
-pub none_begun : (C : Class) (c : ℕ) (ts : List Token) → Begun C c ts None (length ts)
-none_begun C c ts = record { tree = C.some; fits = C.some_is; stops = met_none (C.leaves c C.some) ts }
+-- where there are no tokens a tree may come
+pub none_begun : (C : Class) (c : ℕ) (w : Why) → (w ≡ unexpected) ⊎ (w ≡ sunk) → Begun C c [] w 0
+none_begun C c w e = record { tree = C.some; fits = C.some_is; stops = stopped_none (C.leaves c C.some) w e }
+
+-- the first of the leaves, if there is one, lies too deep or doesn't
+abbrev pub Opens : Bool → List Leaf → Type 0
+Opens b [] = ⊥
+Opens b (l ∷ ls) = nat_lt 128 l.level ≡ b
+
+-- any token may come where a tree with a leaf may
+pub first_begun : (C : Class) (c : ℕ) (t : Token) (ts : List Token) (b : Bool) (a : C.Tree) → C.Is a → Opens b (C.leaves c a) → Begun C c (t ∷ ts) (refused_by b) (length (t ∷ ts))
+first_begun C c t ts b a is o = record { tree = a; fits = is; stops = by_leaves (C.leaves c a) o }
+  where
+    by_leaves : (ls : List Leaf) → Opens b ls → Stopped ls (t ∷ ts) (refused_by b) (length (t ∷ ts))
+    by_leaves [] o = absurd o
+    by_leaves (l ∷ ls) o = stopped_first l ls t ts b o
 
 -- ---- one token
 
@@ -129,6 +143,33 @@ pub record Tells {A : Type 0} (sign : A → Sign) (class : Token → Option A) :
 abbrev pub Checks : ℕ → (ℕ → Count) → (ℕ → Option Kind) → Type 0
 Checks d k check = (c : ℕ) (s : Sign) → over (record { level = d; count = k c; sign = s }) ≡ check c
 
+-- why a token is refused that isn't in the class, from the level of one that is
+missed_many : (b : Bool) (n : ℕ) → missed (if_so b (TooMany n)) ≡ unexpected
+missed_many true n = refl
+missed_many false n = refl
+
+missed_beyond : (c : Count) → missed (beyond c) ≡ unexpected
+missed_beyond uncounted = refl
+missed_beyond (operator n) = missed_many (nat_lt 256 n) 8
+missed_beyond (derivation n) = missed_many (nat_lt 64 n) 14
+
+missed_at : (b : Bool) (c : Count) → missed (first_of (if_so b TooDeep) (beyond c)) ≡ refused_by b
+missed_at true c = refl
+missed_at false c = missed_beyond c
+
+is_missed : (o : Option Kind) → (missed o ≡ unexpected) ⊎ (missed o ≡ sunk)
+is_missed (Some TooDeep) = inr refl
+is_missed _ = inl refl
+
+-- a token that isn't the one of the class, and none
+pub missed_begun : (C : Class) (c : ℕ) (t : Token) (ts : List Token) (l : Leaf) → C.leaves c C.some ≡ l ∷ [] → (o : Option Kind) → over l ≡ o → Begun C c (t ∷ ts) (missed o) (length (t ∷ ts))
+missed_begun C c t ts l h o e =
+    let deep = nat_lt 128 l.level in
+    subst (λ (w : Why). Begun C c (t ∷ ts) w (length (t ∷ ts))) (sym (missed_at deep l.count) ∙ ap missed e) (first_begun C c t ts deep C.some C.some_is (rw h refl))
+
+pub missed_none : (C : Class) (c : ℕ) (o : Option Kind) → Begun C c [] (missed o) 0
+missed_none C c o = none_begun C c (missed o) (is_missed o)
+
 allowed_sound : {A : Type 0} (d : ℕ) (k : ℕ → Count) (next : ℕ → ℕ) (sign : A → Sign) (some : A) (check : ℕ → Option Kind) → Checks d k check → (c : ℕ) (a : A) (t : Token) (ts : List Token) → IsSpelt (sign a) t
     → (o : Option Kind) → check c ≡ o → SoundAt (token_class d k next sign some) c (t ∷ ts) (allowed a (next c) t ts o)
 allowed_sound d k next sign some check h c a t ts s None e = record { fits = tt; count = refl; parts = (s, h c (sign a) ∙ e, refl) }
@@ -136,7 +177,7 @@ allowed_sound d k next sign some check h c a t ts s (Some x) e = record { tree =
 
 take_sound : {A : Type 0} (d : ℕ) (k : ℕ → Count) (next : ℕ → ℕ) (sign : A → Sign) (some : A) (class : Token → Option A) (check : ℕ → Option Kind) → Tells sign class → Checks d k check → (c : ℕ) (t : Token) (ts : List Token)
     → (o : Option A) → class t ≡ o → SoundAt (token_class d k next sign some) c (t ∷ ts) (take_turn check next c t ts o)
-take_sound d k next sign some class check tells h c t ts None e = none_begun (token_class d k next sign some) c (t ∷ ts)
+take_sound d k next sign some class check tells h c t ts None e = missed_begun (token_class d k next sign some) c t ts _ refl (check c) (h c (sign some))
 take_sound d k next sign some class check tells h c t ts (Some a) e = allowed_sound d k next sign some check h c a t ts (tells.back t a e) (check c) refl
 
 take_complete : {A : Type 0} (d : ℕ) (k : ℕ → Count) (next : ℕ → ℕ) (sign : A → Sign) (some : A) (first : Sort → Bool) (class : Token → Option A) (check : ℕ → Option Kind) → Tells sign class → Checks d k check
@@ -158,7 +199,7 @@ take_limited d k next sign some class check tells h c a is (t ∷ ts) x n (s, in
 pub token : {A : Type 0} (d : ℕ) (k : ℕ → Count) (next : ℕ → ℕ) (sign : A → Sign) (some : A) (first : Sort → Bool) (class : Token → Option A) (check : ℕ → Option Kind) → Tells sign class → Checks d k check → ((a : A) → first (sort_of_sign (sign a)) ≡ true)
     → Lawful (token_class d k next sign some) (starts first) (take class check next)
 token d k next sign some first class check tells h f = record {
-  sound = λ c. elim [ [] ↦ none_begun (token_class d k next sign some) c [] | t ∷ ts ↦ take_sound d k next sign some class check tells h c t ts (class t) refl ];
+  sound = λ c. elim [ [] ↦ missed_none (token_class d k next sign some) c (check c) | t ∷ ts ↦ take_sound d k next sign some class check tells h c t ts (class t) refl ];
   steady = take_steady class check next;
   complete = take_complete d k next sign some first class check tells h;
   limited = take_limited d k next sign some class check tells h;

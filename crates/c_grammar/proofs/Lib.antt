@@ -4,6 +4,7 @@ mod Steadiness
 mod Lawful
 mod Joints
 mod Loops
+mod Sinking
 pub mod FileLaws
 pub mod Verdicts
 pub mod GrammarLaws
@@ -41,6 +42,8 @@ mod ParamLaws
 mod BodyLaws
 mod RestLaws
 mod ExternalLaws
+mod SinkingParts
+mod SinkingFiles
 mod EndLaws
 mod NoEnds
 mod WholeLaws

@@ -6,7 +6,7 @@ use Rattle.std.specs.List.{AllByRecursion}
 use Rattle.c_lex.specs.declared.token.Token.{Token}
 use Rattle.c_lex.specs.declared.refusal.Kind.{Kind}
 use Rattle.c_grammar.specs.Leaves.{Leaf}
-use Rattle.c_grammar.specs.inner.Readers.{stop, spent, Got, Reading, got, Reads, ◌>>=◌, Sort, sort, nothing, made, maybe_by, maybe, Turn, again, last, turn_next, turns, link_by, link_turn, links, chain, pushed, row, row_from}
+use Rattle.c_grammar.specs.inner.Readers.{past, stop, spent, Got, Reading, got, Reads, ◌>>=◌, Sort, sort, nothing, made, maybe_by, maybe, Turn, again, last, turn_next, turns, link_by, link_turn, links, chain, pushed, row, row_from, unexpected}
 use Rattle.c_grammar.proofs.Sorts.{apart, are_apart, inside, is_inside}
 use Rattle.c_grammar.proofs.Runs.{Within, Met, Over, within_append, within_split, within_shorter, stopped_behind, over_split}
 use Rattle.c_grammar.proofs.Steadiness.{Takes, chain_steady, link_turn_advances, repeat_goes, repeat_ends, repeat_fails}
@@ -89,15 +89,15 @@ link_by_sound : (D : Class) (L : Link D.Tree) (Base : D.Tree → Type 0) (join :
 link_by_sound D L Base join start I J h link l c whole a ts w true = link_sound D L Base join start I J h c whole a ts w (link a (D.after c a) ts) ((l a).sound (D.after c a) ts)
 link_by_sound D L Base join start I J h link l c whole a ts w false = record { fits = w.fits; count = refl; parts = w.parts }
 
--- the tokens stop behind a tree
-none_behind : (D : Class) (c : ℕ) (whole : List Token) (a : D.Tree) (ts : List Token) → At D c whole a ts → Begun D c whole None (length ts)
-none_behind D c whole a ts w =
-    let P : List Leaf → Type 0 = λ x. Met x whole (length ts) in
-    record { tree = a; fits = w.fits; stops = subst P (append-nil (D.leaves c a)) (stopped_behind (D.leaves c a) [] whole ts None (length ts) w.parts refl) }
+-- behind a tree there are no more tokens
+none_behind : (D : Class) (c : ℕ) (whole : List Token) (a : D.Tree) → At D c whole a [] → Begun D c whole unexpected 0
+none_behind D c whole a w =
+    let P : List Leaf → Type 0 = λ x. Met false x whole 0 in
+    record { tree = a; fits = w.fits; stops = subst P (append-nil (D.leaves c a)) (stopped_behind (D.leaves c a) [] whole [] unexpected 0 w.parts refl) }
 
 link_turn_sound : (D : Class) (L : Link D.Tree) (Base : D.Tree → Type 0) (join : D.Tree → L.Tree → D.Tree) (start : Sort → Bool) (I J : Info) → Linked D L Base join start I J → (link : D.Tree → Reads L.Tree) → ((a : D.Tree) → Lawful (link_class L a) J (link a))
     → (c : ℕ) (whole : List Token) (a : D.Tree) (ts : List Token) → At D c whole a ts → SoundTurn D c whole (link_turn start link join a (D.after c a) ts)
-link_turn_sound D L Base join start I J h link l c whole a [] w = none_behind D c whole a [] w
+link_turn_sound D L Base join start I J h link l c whole a [] w = none_behind D c whole a w
 link_turn_sound D L Base join start I J h link l c whole a (t ∷ ts) w = link_by_sound D L Base join start I J h link l c whole a (t ∷ ts) w (start (sort t))
 
 turns_sound_at : (D : Class) (c : ℕ) (whole : List Token) (go : D.Tree → Reads D.Tree) → ((a : D.Tree) (ts : List Token) → At D c whole a ts → SoundAt D c whole (go a (D.after c a) ts)) → (o : Reading (Turn D.Tree)) → SoundTurn D c whole o
@@ -219,7 +219,7 @@ comes D L Base a q join start I J h r l link m c b (step b' a' x built fits e) t
 
 chain_limited : (D : Class) (L : Link D.Tree) (Base : D.Tree → Type 0) (a : D.Tree) (q : Base a) (join : D.Tree → L.Tree → D.Tree) (start : Sort → Bool) (I J : Info) → Linked D L Base join start I J → (r : Reads D.Tree) → Lawful (narrow D Base a q) I r
     → (link : D.Tree → Reads L.Tree) → ((a : D.Tree) → Lawful (link_class L a) J (link a)) → (c : ℕ) (b : D.Tree) → Built Base (λ a x. D.Is a × L.Is a x) join b → (ts : List Token) (k : Kind) (n : ℕ) → Over (D.leaves c b) ts k n
-    → chain r start link join c ts ≡ Err (stop (Some k) n)
+    → chain r start link join c ts ≡ Err (stop (past k) n)
 chain_limited D L Base a q join start I J h r l link m c b (base b' is) ts k n o = rw (l.limited c b is ts k n o) refl
 chain_limited D L Base a q join start I J h r l link m c b (step b' a' x built fits e) ts k n o =
     let parts : Over (D.leaves c a' ++ L.leaves a' (D.after c a') x) ts k n = subst (λ (ls : List Leaf). Over ls ts k n) (ap (D.leaves c) (sym e) ∙ h.spelt c a' x fits.0) o in
@@ -228,9 +228,9 @@ chain_limited D L Base a q join start I J h r l link m c b (step b' a' x built f
       | inr s ↦
           let begins = begins_over D L Base join start I J h (L.leaves a' (D.after c a') x) ((m a').headed (D.after c a') x fits.1) s.0 k n s.2 in
           let first = comes D L Base a q join start I J h r l link m c a' built ts s.0 s.1 (link_behind I J start s.0 begins) in
-          let read : link a' (D.after c a') s.0 ≡ Err (stop (Some k) n) = (m a').limited (D.after c a') x fits.1 s.0 k n s.2 in
-          let turn : link_turn start link join a' (D.after c a') s.0 ≡ Err (stop (Some k) n) = link_goes I J start link join a' (D.after c a') s.0 begins ∙ rw read refl in
-          first ∙ repeat_fails (link_turn start link join) a' (D.after c a') s.0 (stop (Some k) n) turn
+          let read : link a' (D.after c a') s.0 ≡ Err (stop (past k) n) = (m a').limited (D.after c a') x fits.1 s.0 k n s.2 in
+          let turn : link_turn start link join a' (D.after c a') s.0 ≡ Err (stop (past k) n) = link_goes I J start link join a' (D.after c a') s.0 begins ∙ rw read refl in
+          first ∙ repeat_fails (link_turn start link join) a' (D.after c a') s.0 (stop (past k) n) turn
     ]
 
 -- ---- the first leaf
@@ -541,5 +541,6 @@ maybe_lawful {C = C} {J = J} {r = r} l start told some =
       first = maybe_first J;
       goes = maybe_goes start J;
       empty = λ b e. refl;
+      shallow = λ x e. absurd (cc e);
     })
     (some_there C) (maybe_by r) (maybe_part l)

@@ -6,7 +6,7 @@ use Rattle.c_lex.specs.declared.token.Token.{Token}
 use Rattle.c_lex.specs.declared.refusal.Kind.{Kind}
 use Rattle.c_grammar.specs.Leaves.{Leaf, at, some_mark}
 use Rattle.c_grammar.specs.Grammar.{on_more, on_commas, on_each}
-use Rattle.c_grammar.specs.inner.Readers.{stop, spent, Reading, got, Reads, ◌>>=◌, Sort, ◌&◌, made}
+use Rattle.c_grammar.specs.inner.Readers.{past, stop, spent, Reading, got, Reads, ◌>>=◌, Sort, ◌&◌, made}
 use Rattle.c_grammar.specs.inner.Tokens.{is_mark}
 use Rattle.c_grammar.specs.inner.Reading.{commas, either_by, either}
 use Rattle.c_grammar.proofs.Sorts.{apart, are_apart, inside, is_inside}
@@ -50,7 +50,7 @@ formed_complete C D I f r m l c a is ts z w g =
     rw (l.complete c a is ts z parts g, m.after c a is) refl
 
 formed_limited : (C D : Class) (I : Info) (f : C.Tree → D.Tree) (r : Reads C.Tree) → Forms C D f → Lawful C I r → (c : ℕ) (a : C.Tree) → C.Is a → (ts : List Token) (k : Kind) (n : ℕ) → Over (D.leaves c (f a)) ts k n
-    → made f r c ts ≡ Err (stop (Some k) n)
+    → made f r c ts ≡ Err (stop (past k) n)
 formed_limited C D I f r m l c a is ts k n o =
     let parts : Over (C.leaves c a) ts k n = subst (λ (x : List Leaf). Over x ts k n) (m.spelt c a is) o in
     rw (l.limited c a is ts k n parts) refl
@@ -63,7 +63,7 @@ formed {C = C} {I = I} {r = r} l D f m = record {
       let P : D.Tree → Type 0 = λ x. Within (D.leaves c x) ts z → made f r c ts ≡ got x (D.after c x) z in
       subst P a.2 (λ v. formed_complete C D I f r m l c a.0 a.1 ts z v g) w;
   limited = λ c b is ts k n o. let a = m.back b is in
-      let P : D.Tree → Type 0 = λ x. Over (D.leaves c x) ts k n → made f r c ts ≡ Err (stop (Some k) n) in
+      let P : D.Tree → Type 0 = λ x. Over (D.leaves c x) ts k n → made f r c ts ≡ Err (stop (past k) n) in
       subst P a.2 (λ v. formed_limited C D I f r m l c a.0 a.1 ts k n v) o;
   headed = λ c b is. let a = m.back b is in
       let P : D.Tree → Type 0 = λ x. HeadIn I (D.leaves c x) in
@@ -151,6 +151,7 @@ either_lawful D P Q a b p q {I = I} {K = K} {r = r} {v = v} l m start told away 
       first = one_first I K;
       goes = one_goes start I K;
       empty = one_empty I K some;
+      shallow = λ x e. absurd (cc e);
     })
     (one_some P Q a b p q) (either_by r v) (one_part D P Q a b p q I K r v l m)
 

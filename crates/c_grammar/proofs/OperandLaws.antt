@@ -1,5 +1,5 @@
 -- The laws of a primary that isn't in brackets.
-use Rattle.std.proofs.Common.{◌≡◌, ℕ, suc, ◌+◌, List, [], ◌∷◌, map, Option, Some, None, Bool, true, false, refl, sym, ap, subst, arith, pos}
+use Rattle.std.proofs.Common.{◌≡◌, ℕ, suc, ◌+◌, List, [], ◌∷◌, map, Option, Some, None, Bool, true, false, refl, sym, ap, subst, arith, pos, nat_lt}
 use Rattle.std.specs.Prelude.{◌||◌}
 use Rattle.std.specs.List.{AllByRecursion}
 use Rattle.ak_words.specs.declared.number.Num.{Num}
@@ -18,7 +18,7 @@ use Rattle.c_grammar.specs.inner.Reading.{is_name, Level, named, name_or_call, t
 use Rattle.c_grammar.proofs.Lawful.{Class, Info, Lawful, both, starts}
 use Rattle.c_grammar.proofs.Joints.{Makes, tree, known, narrow}
 use Rattle.c_grammar.proofs.Loops.{Rows, from_class, row_leaves, from_leaves, FromIs, option_class, maybe_lawful, row_from_lawful}
-use Rattle.c_grammar.proofs.TokenLaws.{Room, plain_class, int_sign, char_sign, word_place_sign, is_int, is_char, name_lawful, text_lawful, int_lawful, char_lawful, word_place_lawful}
+use Rattle.c_grammar.proofs.TokenLaws.{Room, plain_class, int_sign, char_sign, word_place_sign, is_int, is_char, name_lawful, text_lawful, int_lawful, char_lawful, word_place_lawful, shallow}
 use Rattle.c_grammar.proofs.TreeClasses.{none_less, goes_postfix, expr_class, LevelLawful}
 use Rattle.c_grammar.proofs.MoreJoints.{joined, Forms, formed, flat_after}
 use Rattle.c_grammar.proofs.Respelling.{Picks, picked}
@@ -237,8 +237,8 @@ which_kind b (binary place op a e) f = absurd (omega (arith, f.0))
 which_kind b (conditional place a t e) f = absurd (omega (arith, f.0))
 which_kind b _ f = absurd cc
 
-operand_picks : (b : Bool) (d : ℕ) → Picks (operand_class b d) operand_info operand_start (WhichOperand b) kind_info is_kind
-operand_picks b d = record {
+operand_picks : (b : Bool) (d : ℕ) → nat_lt 128 d ≡ false → Picks (operand_class b d) operand_info operand_start (WhichOperand b) kind_info is_kind
+operand_picks b d s = record {
   is = kind_is;
   fits = kind_fits b;
   which = which_kind b;
@@ -246,6 +246,7 @@ operand_picks b d = record {
   some = elim [ Named ↦ refl | AnInt ↦ refl | AChar ↦ refl | Texts ↦ refl | NullWord ↦ refl ];
   first = elim [ Named ↦ refl | AnInt ↦ refl | AChar ↦ refl | Texts ↦ refl | NullWord ↦ refl ];
   goes = elim [ Named ↦ refl | AnInt ↦ refl | AChar ↦ refl | Texts ↦ refl | NullWord ↦ refl ];
+  shallow = λ c. record { tree = null 0; fits = kind_fits b NullWord (null 0) (some_operand b NullWord).1; shallow = s };
 }
 
 operand_part : (b : Bool) (d deeper : ℕ) (inner : Level) → Room d (suc deeper) → LevelLawful b (d + 1) inner → (s : Operand) → Lawful (kind_class b d s) (kind_info s) (operand_by (suc deeper) deeper inner s)
@@ -258,7 +259,7 @@ operand_part b d deeper inner e l NullWord = tree (word_place_lawful d (suc deep
 -- a primary that isn't in brackets
 pub operand_lawful : (b : Bool) (d deeper : ℕ) (inner : Level) → Room d (suc deeper) → LevelLawful b (d + 1) inner → Lawful (operand_class b d) operand_info (operand (suc deeper) deeper inner)
 unfolding operand
-operand_lawful b d deeper inner e l = picked (operand_class b d) operand_info operand_start (WhichOperand b) kind_info is_kind (operand_picks b d) (some_operand b) (operand_by (suc deeper) deeper inner) (operand_part b d deeper inner e l)
+operand_lawful b d deeper inner e l = picked (operand_class b d) operand_info operand_start (WhichOperand b) kind_info is_kind (operand_picks b d (shallow d deeper e)) (some_operand b) (operand_by (suc deeper) deeper inner) (operand_part b d deeper inner e l)
 
 -- ---- with the postfix operators behind it
 

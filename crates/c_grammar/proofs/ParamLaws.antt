@@ -15,7 +15,7 @@ use Rattle.c_grammar.specs.inner.Reading.{level_at, param_dim_by, param_dim, is_
 use Rattle.c_grammar.proofs.Lawful.{Class, Info, Lawful, starts, both, before}
 use Rattle.c_grammar.proofs.Joints.{Makes, tree, known, full_class, full_lawful, empty_info, nothing_lawful}
 use Rattle.c_grammar.proofs.Loops.{Link, base, Linked, chained, built_from, all_pushed, all_before, option_class, maybe_lawful, from_class}
-use Rattle.c_grammar.proofs.TokenLaws.{Room, plain_class, derived_class, mark_sign, mark_place_sign, name_lawful, mark_lawful, derived_place_lawful}
+use Rattle.c_grammar.proofs.TokenLaws.{Room, plain_class, derived_class, mark_sign, mark_place_sign, name_lawful, mark_lawful, derived_place_lawful, shallow}
 use Rattle.c_grammar.proofs.TreeClasses.{expr_class, LevelLawful}
 use Rattle.c_grammar.proofs.MoreJoints.{joined, either_lawful, comma_rows, commas_lawful, flat_after, some_spelt, commas_spelt}
 use Rattle.c_grammar.proofs.SpecLaws.{no_name, specs_class, specs_lawful, specs_some, some_specs, goes_specs}
@@ -181,7 +181,7 @@ pub param_lawful : (d n : ℕ) → Room d (suc n) → LevelLawful false (d + 1) 
 unfolding param
 param_lawful d n e l =
     let behind = param_behind_lawful d n e l in
-    let more = before (bare_lawful d (suc n) e) (λ ps f. behind ps) refl (λ ps. (behind ps).steady) in
+    let more = before (bare_lawful d (suc n) e (shallow d n e)) (λ ps f. behind ps) refl (λ ps. (behind ps).steady) in
     known (tree (joined (specs_lawful false d n (level_at false n) e l) more refl) (param_class d) _ (param_makes d)) (record { first = refl; goes = refl; empty = refl })
 
 -- ---- parameters between brackets, of a function at file scope

@@ -1,5 +1,5 @@
 -- The laws of what stands before a declared name: stars, const and restrict (C11 6.7.6.1), and of the names of types (C11 6.7.7).
-use Rattle.std.proofs.Common.{◌≡◌, ℕ, suc, ◌+◌, List, [], ◌∷◌, ◌++◌, Some, None, Ok, Err, Bool, true, false, refl, sym, ap, ◌∙◌, inl, inr}
+use Rattle.std.proofs.Common.{◌≡◌, ℕ, suc, ◌+◌, List, [], ◌∷◌, ◌++◌, Some, Ok, Err, Bool, true, false, refl, sym, ap, ◌∙◌, inl, inr, nat_lt}
 use Rattle.std.specs.Prelude.{◌||◌}
 use denote.Enum.Bare.{sameb, same_true}
 use Rattle.c_lex.specs.declared.token.Token.{Token}
@@ -15,16 +15,16 @@ use Rattle.c_tree.specs.declared.syntax.Pointer.TheVariants.{Star, Const, Restri
 use Rattle.c_tree.specs.Syntax.{Spec, Specs, specs_of, type_name}
 use Rattle.c_grammar.specs.Leaves.{Leaf, some_word, IsSpelt}
 use Rattle.c_grammar.specs.Grammar.{on_pointers, stars, StartsBare, HasSpecs, AreSpecs}
-use Rattle.c_grammar.specs.inner.Readers.{stop, spent, Reading, Reads, Sort, a_word, a_mark, sort, nothing, choice_turn, choice, pushed}
+use Rattle.c_grammar.specs.inner.Readers.{unexpected, past, stop, spent, Reading, Reads, Sort, a_word, a_mark, sort, nothing, choice_turn, choice, pushed, sunk}
 use Rattle.c_grammar.specs.inner.Tokens.{is_mark, is_word, is_pointer}
 use Rattle.c_grammar.specs.inner.Reading.{Level, pointer_start, pointer_by, pointers, unless, bare_pointers, type_named}
 use Rattle.c_grammar.proofs.Sorts.{are_apart, is_inside}
 use Rattle.c_grammar.proofs.Runs.{Within, Met, Over}
 use Rattle.c_grammar.proofs.Steadiness.{choice_steady}
-use Rattle.c_grammar.proofs.Lawful.{Class, Info, Begun, SoundAt, Follows, spelt_sort, HeadIn, Lawful, none_begun, starts, both}
+use Rattle.c_grammar.proofs.Lawful.{Class, Info, Begun, SoundAt, Follows, spelt_sort, HeadIn, Lawful, none_begun, starts, both, first_begun}
 use Rattle.c_grammar.proofs.Joints.{Makes, tree, known, narrow, empty_info, chosen, nothing_lawful}
 use Rattle.c_grammar.proofs.Loops.{Link, base, Linked, chained, built_from}
-use Rattle.c_grammar.proofs.TokenLaws.{Room, word_lawful, derived_mark_lawful}
+use Rattle.c_grammar.proofs.TokenLaws.{Room, word_lawful, derived_mark_lawful, shallow}
 use Rattle.c_grammar.proofs.TreeClasses.{LevelLawful, type_class, type_info}
 use Rattle.c_grammar.proofs.MoreJoints.{either_false, joined, flat_after}
 use Rattle.c_grammar.proofs.SpecLaws.{specs_class, specs_lawful, specs_row, row_specs, specs_list, list_specs, specs_spelt}
@@ -77,8 +77,8 @@ pointer_part d n k e Star = tree (derived_mark_lawful d n k e marks.Star) (only_
 pointer_part d n k e Const = tree (word_lawful d n e words.Const) (only_pointer d k Const) _ (record { fits = λ a f. refl; spelt = λ c a. refl; after = λ c a. refl; back = λ b f. (tt, tt, f) })
 pointer_part d n k e Restrict = tree (word_lawful d n e words.Restrict) (only_pointer d k Restrict) _ (record { fits = λ a f. refl; spelt = λ c a. refl; after = λ c a. refl; back = λ b f. (tt, tt, f) })
 
-pointer_lawful : (d n k : ℕ) → Room d n → Lawful (pointer_class d k) (starts is_pointer) (choice pointer_start (pointer_by n k))
-pointer_lawful d n k e = chosen (pointer_class d k) (starts is_pointer) pointer_start (λ p q. p ≡ q) pointer_part_info
+pointer_lawful : (d n k : ℕ) → Room d n → nat_lt 128 d ≡ false → Lawful (pointer_class d k) (starts is_pointer) (choice pointer_start (pointer_by n k))
+pointer_lawful d n k e s = chosen (pointer_class d k) (starts is_pointer) pointer_start (λ p q. p ≡ q) pointer_part_info
     (record {
       fits = λ p a f. tt;
       which = λ a f. (a, refl);
@@ -87,6 +87,7 @@ pointer_lawful d n k e = chosen (pointer_class d k) (starts is_pointer) pointer_
       first = pointer_first;
       goes = λ p x f. pointer_goes p x;
       empty = λ p h. absurd (pointer_some p h);
+      shallow = λ x h c. record { tree = Star; fits = tt; shallow = s };
     })
     (λ p. (p, refl)) (pointer_by n k) (pointer_part d n k e)
 
@@ -128,12 +129,12 @@ abbrev pub pointers_info : Info
 pointers_info = record { first = is_pointer; goes = is_pointer; empty = true }
 
 -- { "*" | "const" | "restrict" }
-pub pointers_lawful : (d n : ℕ) → Room d n → Lawful (pointers_class d) pointers_info (pointers n)
+pub pointers_lawful : (d n : ℕ) → Room d n → nat_lt 128 d ≡ false → Lawful (pointers_class d) pointers_info (pointers n)
 unfolding pointers
-pointers_lawful d n e =
+pointers_lawful d n e s =
     let none = nothing_lawful (pointers_class d) [] (λ c. refl) (λ c. refl) in
     known (chained (pointers_class d) (pointer_link d) (λ x. [] ≡ x) [] refl pushed is_pointer empty_info (starts is_pointer) (pointers_linked d) (nothing []) none
-    (λ front. choice pointer_start (pointer_by n (stars 0 front))) (λ front. pointer_lawful d n (stars 0 front) e)) (record { first = refl; goes = refl; empty = refl })
+    (λ front. choice pointer_start (pointer_by n (stars 0 front))) (λ front. pointer_lawful d n (stars 0 front) e s)) (record { first = refl; goes = refl; empty = refl })
 
 -- ---- behind specifiers, to which each const would belong
 
@@ -158,14 +159,14 @@ starts_bare d t ts rest f (Star ∷ ps) w = tt
 starts_bare d t ts rest f (Restrict ∷ ps) w = tt
 starts_bare d t ts rest f (Const ∷ ps) w = no_const t f w.0
 
-bare_met : (d c : ℕ) (t : Token) (ts : List Token) (n : ℕ) → is_word words.Const (sort t) ≡ false → (ps : List Pointer) → Met (on_pointers d 0 ps) (t ∷ ts) n → Begun (bare_class d) c (t ∷ ts) None n
-bare_met d c t ts n f [] m = record { tree = []; fits = tt; stops = m }
-bare_met d c t ts n f (Star ∷ ps) m = record { tree = Star ∷ ps; fits = tt; stops = m }
-bare_met d c t ts n f (Restrict ∷ ps) m = record { tree = Restrict ∷ ps; fits = tt; stops = m }
-bare_met d c t ts n f (Const ∷ ps) (inl e) = record { tree = []; fits = tt; stops = e }
-bare_met d c t ts n f (Const ∷ ps) (inr m) = absurd (no_const t f m.0)
+bare_met : (b : Bool) (d : ℕ) (t : Token) (ts : List Token) (n : ℕ) → is_word words.Const (sort t) ≡ false → (ps : List Pointer) → Met b (on_pointers d 0 ps) (t ∷ ts) n → (qs : List Pointer) × StartsBare qs × Met b (on_pointers d 0 qs) (t ∷ ts) n
+bare_met b d t ts n f [] m = absurd m
+bare_met b d t ts n f (Star ∷ ps) m = (Star ∷ ps, tt, m)
+bare_met b d t ts n f (Restrict ∷ ps) m = (Restrict ∷ ps, tt, m)
+bare_met b d t ts n f (Const ∷ ps) (inl e) = (Star ∷ [], tt, inl e)
+bare_met b d t ts n f (Const ∷ ps) (inr m) = absurd (no_const t f m.0)
 
-bare_over : (d c : ℕ) (t : Token) (ts : List Token) (k : Kind) (n : ℕ) → is_word words.Const (sort t) ≡ false → (ps : List Pointer) → Over (on_pointers d 0 ps) (t ∷ ts) k n → Begun (bare_class d) c (t ∷ ts) (Some k) n
+bare_over : (d c : ℕ) (t : Token) (ts : List Token) (k : Kind) (n : ℕ) → is_word words.Const (sort t) ≡ false → (ps : List Pointer) → Over (on_pointers d 0 ps) (t ∷ ts) k n → Begun (bare_class d) c (t ∷ ts) (past k) n
 bare_over d c t ts k n f [] o = absurd o
 bare_over d c t ts k n f (Star ∷ ps) o = record { tree = Star ∷ ps; fits = tt; stops = o }
 bare_over d c t ts k n f (Restrict ∷ ps) o = record { tree = Restrict ∷ ps; fits = tt; stops = o }
@@ -173,13 +174,14 @@ bare_over d c t ts k n f (Const ∷ ps) o = absurd (no_const t f o.0)
 
 bare_sound : (d c : ℕ) (t : Token) (ts : List Token) → is_word words.Const (sort t) ≡ false → (o : Reading (List Pointer)) → SoundAt (pointers_class d) c (t ∷ ts) o → SoundAt (bare_class d) c (t ∷ ts) o
 bare_sound d c t ts f (Ok x) s = record { fits = starts_bare d t ts x.rest f x.tree s.parts; count = s.count; parts = s.parts }
-bare_sound d c t ts f (Err (stop None n)) b = bare_met d c t ts n f b.tree b.stops
-bare_sound d c t ts f (Err (stop (Some k) n)) b = bare_over d c t ts k n f b.tree b.stops
+bare_sound d c t ts f (Err (stop unexpected n)) b = let m = bare_met false d t ts n f b.tree b.stops in record { tree = m.0; fits = m.1; stops = m.2 }
+bare_sound d c t ts f (Err (stop sunk n)) b = let m = bare_met true d t ts n f b.tree b.stops in record { tree = m.0; fits = m.1; stops = m.2 }
+bare_sound d c t ts f (Err (stop (past k) n)) b = bare_over d c t ts k n f b.tree b.stops
 bare_sound d c t ts f (Err spent) b = tt
 
-bare_turn_sound : (d n : ℕ) → Room d n → (c : ℕ) (t : Token) (ts : List Token) (b : Bool) → is_word words.Const (sort t) ≡ b → SoundAt (bare_class d) c (t ∷ ts) (choice_turn (λ _. pointers n) c t ts (unless b))
-bare_turn_sound d n e c t ts true f = none_begun (bare_class d) c (t ∷ ts)
-bare_turn_sound d n e c t ts false f = bare_sound d c t ts f (pointers n c (t ∷ ts)) ((pointers_lawful d n e).sound c (t ∷ ts))
+bare_turn_sound : (d n : ℕ) → Room d n → nat_lt 128 d ≡ false → (c : ℕ) (t : Token) (ts : List Token) (b : Bool) → is_word words.Const (sort t) ≡ b → SoundAt (bare_class d) c (t ∷ ts) (choice_turn (λ _. pointers n) c t ts (unless b))
+bare_turn_sound d n e s c t ts true f = first_begun (bare_class d) c t ts false (Star ∷ []) tt s
+bare_turn_sound d n e s c t ts false f = bare_sound d c t ts f (pointers n c (t ∷ ts)) ((pointers_lawful d n e s).sound c (t ∷ ts))
 
 -- what isn't of a pointer is no const
 behind_bare : (s : Sort) → is_pointer s ≡ false → is_word words.Const s ≡ false
@@ -210,12 +212,12 @@ bare_head d (Star ∷ ps) f = refl
 bare_head d (Restrict ∷ ps) f = refl
 bare_head d (Const ∷ ps) f = absurd f
 
-pub bare_lawful : (d n : ℕ) → Room d n → Lawful (bare_class d) bare_info (bare_pointers n)
+pub bare_lawful : (d n : ℕ) → Room d n → nat_lt 128 d ≡ false → Lawful (bare_class d) bare_info (bare_pointers n)
 unfolding bare_pointers
-bare_lawful d n e =
-    let l = pointers_lawful d n e in
+bare_lawful d n e s =
+    let l = pointers_lawful d n e s in
     record {
-      sound = λ c. elim [ [] ↦ none_begun (bare_class d) c [] | t ∷ ts ↦ bare_turn_sound d n e c t ts (is_word words.Const (sort t)) refl ];
+      sound = λ c. elim [ [] ↦ none_begun (bare_class d) c unexpected (inl refl) | t ∷ ts ↦ bare_turn_sound d n e s c t ts (is_word words.Const (sort t)) refl ];
       steady = choice_steady (λ s. unless (is_word words.Const s)) (λ _. pointers n) (λ _. l.steady);
       complete = λ c ps is ts z w f. bare_told n (on_pointers d 0 ps) (bare_head d ps is) c ts z w f ∙ l.complete c ps tt ts z w f;
       limited = λ c ps is ts k m o. bare_told_over n (on_pointers d 0 ps) (bare_head d ps is) c ts k m o ∙ l.limited c ps tt ts k m o;
@@ -244,4 +246,4 @@ type_makes b d = record {
 pub type_lawful : (b : Bool) (d n : ℕ) (inner : Level) → Room d (suc n) → LevelLawful b (d + 1) inner → Lawful (type_class b d) type_info (type_named b (suc n) n inner)
 unfolding type_named
 type_lawful b d n inner e l =
-    known (tree (joined (specs_lawful b d n inner e l) (bare_lawful d (suc n) e) refl) (type_class b d) _ (type_makes b d)) (record { first = refl; goes = refl; empty = refl })
+    known (tree (joined (specs_lawful b d n inner e l) (bare_lawful d (suc n) e (shallow d n e)) refl) (type_class b d) _ (type_makes b d)) (record { first = refl; goes = refl; empty = refl })

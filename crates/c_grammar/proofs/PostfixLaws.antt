@@ -1,5 +1,5 @@
 -- The laws of postfix operators: of each, and of those behind a primary.
-use Rattle.std.proofs.Common.{◌≡◌, ℕ, suc, ◌+◌, ◌≤◌, List, [], ◌∷◌, ◌++◌, Option, Some, Bool, true, false, refl, arith, append_assoc}
+use Rattle.std.proofs.Common.{◌≡◌, ℕ, suc, ◌+◌, ◌≤◌, List, [], ◌∷◌, ◌++◌, Option, Some, Bool, true, false, refl, arith, append_assoc, nat_lt}
 use Rattle.c_lex.specs.declared.token.Mark.TheVariants as marks
 use Rattle.c_tree.specs.declared.syntax.Name.{Name}
 use Rattle.c_tree.specs.Syntax.{Expr, name, call, int, char, text, null, group, prefix, sizeof_type, sizeof_expr, cast, index, member, arrow, binary, conditional}
@@ -12,7 +12,7 @@ use Rattle.c_grammar.proofs.Sorts.{apart}
 use Rattle.c_grammar.proofs.Lawful.{Class, Info, Lawful, both}
 use Rattle.c_grammar.proofs.Joints.{Makes, tree, known, narrow}
 use Rattle.c_grammar.proofs.Loops.{Link, Built, base, step, Linked, chain_info, chained}
-use Rattle.c_grammar.proofs.TokenLaws.{Room, plain_class, counted_class, mark_sign, mark_place_sign, name_lawful, mark_lawful, post_mark_lawful}
+use Rattle.c_grammar.proofs.TokenLaws.{Room, plain_class, counted_class, mark_sign, mark_place_sign, name_lawful, mark_lawful, post_mark_lawful, shallow}
 use Rattle.c_grammar.proofs.TreeClasses.{none_less, expr_class, LevelLawful}
 use Rattle.c_grammar.proofs.MoreJoints.{joined}
 use Rattle.c_grammar.proofs.Respelling.{Picks, picked}
@@ -85,8 +85,8 @@ post_is Dot (Some Dot) e = refl
 post_is Arrow (Some Arrow) e = refl
 post_is _ _ e = absurd cc
 
-post_picks : (b : Bool) (d : ℕ) → Picks (post_class b d) post_info post_start (WhichPost b) one_post is_post
-post_picks b d = record {
+post_picks : (b : Bool) (d : ℕ) → nat_lt 128 d ≡ false → Picks (post_class b d) post_info post_start (WhichPost b) one_post is_post
+post_picks b d s = record {
   is = post_is;
   fits = λ s x f. f.0;
   which = λ x f. (start_of_post x, (f, refl));
@@ -94,6 +94,7 @@ post_picks b d = record {
   some = λ s. refl;
   first = elim [ Bracket ↦ refl | Dot ↦ refl | Arrow ↦ refl ];
   goes = elim [ Bracket ↦ refl | Dot ↦ refl | Arrow ↦ refl ];
+  shallow = λ c. record { tree = a_member 0 some_name; fits = tt; shallow = s };
 }
 
 abbrev which_class : Bool → ℕ → PostStart → Class
@@ -150,7 +151,7 @@ post_part b d deeper inner e l Arrow =
 -- "[" expr "]" | "." NAME | "->" NAME
 pub post_lawful : (b : Bool) (d deeper : ℕ) (inner : Level) → Room d (suc deeper) → LevelLawful b (d + 1) inner → Lawful (post_class b d) post_info (post (suc deeper) deeper inner)
 unfolding post
-post_lawful b d deeper inner e l = picked (post_class b d) post_info post_start (WhichPost b) one_post is_post (post_picks b d) (some_post b) (post_by (suc deeper) deeper inner) (post_part b d deeper inner e l)
+post_lawful b d deeper inner e l = picked (post_class b d) post_info post_start (WhichPost b) one_post is_post (post_picks b d (shallow d deeper e)) (some_post b) (post_by (suc deeper) deeper inner) (post_part b d deeper inner e l)
 
 -- ---- postfix operators behind a primary
 

@@ -3,12 +3,12 @@
 use Rattle.std.proofs.Common.{◌≡◌, ℕ, List, Option, Some, Ok, Err, Bool, true, false, refl, sym, ap, subst, ◌∙◌}
 use Rattle.c_lex.specs.declared.token.Token.{Token}
 use Rattle.c_lex.specs.declared.refusal.Kind.{Kind}
-use Rattle.c_grammar.specs.inner.Readers.{stop, spent, Reading, got, Reads, ◌>>=◌, Sort, made, choice}
+use Rattle.c_grammar.specs.inner.Readers.{Why, past, stop, spent, Reading, got, Reads, ◌>>=◌, Sort, made, choice}
 use Rattle.c_grammar.proofs.Sorts.{inside, is_inside}
 use Rattle.c_grammar.proofs.Runs.{Within, Over, Stopped}
 use Rattle.c_grammar.proofs.Steadiness.{made_steady}
 use Rattle.c_grammar.proofs.Lawful.{Class, Info, SoundAt, Follows, Headed, Lawful}
-use Rattle.c_grammar.proofs.Joints.{narrow, Chosen, chosen}
+use Rattle.c_grammar.proofs.Joints.{narrow, Chosen, chosen, Open}
 
 -- ---- the same trees, said otherwise
 
@@ -36,7 +36,7 @@ pub record Respells (C D : Class) (f : C.Tree → D.Tree) : Type 0 where
   pub fits : (a : C.Tree) → C.Is a → D.Is (f a)
   pub after : (c : ℕ) (a : C.Tree) → C.Is a → D.after c (f a) ≡ C.after c a
   pub within : (c : ℕ) (a : C.Tree) → C.Is a → (ts z : List Token) → Within (C.leaves c a) ts z → Within (D.leaves c (f a)) ts z
-  pub stopped : (c : ℕ) (a : C.Tree) → C.Is a → (ts : List Token) (w : Option Kind) (n : ℕ) → Stopped (C.leaves c a) ts w n → Stopped (D.leaves c (f a)) ts w n
+  pub stopped : (c : ℕ) (a : C.Tree) → C.Is a → (ts : List Token) (w : Why) (n : ℕ) → Stopped (C.leaves c a) ts w n → Stopped (D.leaves c (f a)) ts w n
   pub back_within : (c : ℕ) (b : D.Tree) → D.Is b → (ts z : List Token) → Within (D.leaves c b) ts z → (a : C.Tree) × C.Is a × (f a ≡ b) × Within (C.leaves c a) ts z
   pub back_over : (c : ℕ) (b : D.Tree) → D.Is b → (ts : List Token) (k : Kind) (n : ℕ) → Over (D.leaves c b) ts k n → (a : C.Tree) × C.Is a × (f a ≡ b) × Over (C.leaves c a) ts k n
 
@@ -56,7 +56,7 @@ respelt_sound C D f m c ts (Err spent) b = tt
 respelt_complete : (C D : Class) (I : Info) (f : C.Tree → D.Tree) (r : Reads C.Tree) → Respells C D f → Lawful C I r → (c : ℕ) (a : C.Tree) → C.Is a → (ts z : List Token) → Within (C.leaves c a) ts z → Follows I.goes z → made f r c ts ≡ got (f a) (D.after c (f a)) z
 respelt_complete C D I f r m l c a is ts z w g = rw (l.complete c a is ts z w g, m.after c a is) refl
 
-respelt_limited : (C D : Class) (I : Info) (f : C.Tree → D.Tree) (r : Reads C.Tree) → Lawful C I r → (c : ℕ) (a : C.Tree) → C.Is a → (ts : List Token) (k : Kind) (n : ℕ) → Over (C.leaves c a) ts k n → made f r c ts ≡ Err (stop (Some k) n)
+respelt_limited : (C D : Class) (I : Info) (f : C.Tree → D.Tree) (r : Reads C.Tree) → Lawful C I r → (c : ℕ) (a : C.Tree) → C.Is a → (ts : List Token) (k : Kind) (n : ℕ) → Over (C.leaves c a) ts k n → made f r c ts ≡ Err (stop (past k) n)
 respelt_limited C D I f r l c a is ts k n o = rw (l.limited c a is ts k n o) refl
 
 pub respelt : {C : Class} {I : Info} {r : Reads C.Tree} → Lawful C I r → (D : Class) (f : C.Tree → D.Tree) → Respells C D f → Headed D I → Lawful D I (made f r)
@@ -80,6 +80,8 @@ pub record Picks {S : Type 0} (D : Class) (I : Info) (start : Sort → Option S)
   pub some : (s : S) → (J s).empty ≡ false
   pub first : (s : S) → inside (J s).first I.first ≡ true
   pub goes : (s : S) → inside (J s).goes I.goes ≡ true
+  -- and some part isn't too deep
+  pub shallow : (c : ℕ) → Open D c
 
 not_inside : (p q : Bool) → (p ≡ true → q ≡ true) → q ≡ false → p ≡ false
 not_inside true q h f = absurd (cc (h refl, f))
@@ -94,6 +96,7 @@ picks_chosen D I start Which J is_the h = record {
   first = λ s x e. is_inside (J s).first I.first (h.first s) x e;
   goes = λ s x f. not_inside ((J s).goes x) (I.goes x) (is_inside (J s).goes I.goes (h.goes s) x) f;
   empty = λ s e. absurd (cc (e, h.some s));
+  shallow = λ x e c. h.shallow c;
 }
 
 pub picked : {S : Type 0} (D : Class) (I : Info) (start : Sort → Option S) (Which : S → D.Tree → Type 0) (J : S → Info) (is_the : S → Option S → Bool) → Picks D I start Which J is_the → (some : (s : S) → (a : D.Tree) × Which s a) → (part : S → Reads D.Tree)

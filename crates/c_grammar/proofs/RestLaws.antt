@@ -264,7 +264,7 @@ unfolding external_rest
 rest_lawful l m q b =
     let named = named_lawful l m q b in
     let behind = λ (ps : List Pointer). before (name_lawful 0 129 refl) (λ n f. named ps n) refl (λ n. (named ps n).steady) in
-    let declared = formed (before (bare_lawful 0 129 refl) (λ ps f. behind ps) refl (λ ps. (behind ps).steady)) declared_class (λ (_, (_, r)). r) rest_forms in
+    let declared = formed (before (bare_lawful 0 129 refl refl) (λ ps f. behind ps) refl (λ ps. (behind ps).steady)) declared_class (λ (_, (_, r)). r) rest_forms in
     let none = tree (mark_lawful 0 129 refl marks.Semicolon) nothing_class (λ _. nothing) nothing_makes in
     known (either_lawful rest_class (λ r. nothing ≡ r) IsDeclared nothing declared_class.some refl declared_class.some_is none declared (is_mark marks.Semicolon) refl refl refl nothing_fits declared_fits which_rest)
     (record { first = refl; goes = refl; empty = refl })

@@ -1,5 +1,5 @@
 -- The law of simple statements: a step before its operand, or an expression with what is behind it.
-use Rattle.std.proofs.Common.{◌≡◌, ℕ, suc, ◌+◌, ◌≤◌, List, [], ◌∷◌, ◌++◌, Option, Some, None, Ok, Err, Bool, true, false, refl, sym, subst, arith, not}
+use Rattle.std.proofs.Common.{◌≡◌, ℕ, suc, ◌+◌, ◌≤◌, List, [], ◌∷◌, ◌++◌, Option, Some, None, Ok, Err, Bool, true, false, refl, sym, subst, arith, not, nat_lt}
 use Rattle.std.specs.Prelude.{◌||◌, ◌==◌}
 use Rattle.std.proofs.lemmas.Bool.{eqb-true, eq-eqb}
 use Rattle.std.proofs.lemmas.List.{append-nil}
@@ -16,7 +16,7 @@ use Rattle.c_grammar.proofs.Sorts.{inside, is_inside}
 use Rattle.c_grammar.proofs.Lawful.{Class, Info, Lawful, starts, both, both_info}
 use Rattle.c_grammar.proofs.Lawful as laws
 use Rattle.c_grammar.proofs.Joints.{Makes, tree, known, full_class, full_lawful, empty_info, narrow, nothing_lawful, chosen}
-use Rattle.c_grammar.proofs.TokenLaws.{Room, plain_class, marked, is_assign, step_lawful, assign_lawful}
+use Rattle.c_grammar.proofs.TokenLaws.{Room, plain_class, marked, is_assign, step_lawful, assign_lawful, shallow}
 use Rattle.c_grammar.proofs.TreeClasses.{none_less, goes_expr, expr_info, postfix_info, expr_class, LevelLawful}
 use Rattle.c_grammar.proofs.ArgumentLaws.{rank_most}
 use Rattle.c_grammar.proofs.Forks.{alike, by_which, Forks, forked}
@@ -179,8 +179,8 @@ tail_part d n r here l e Stepped = step_tail_lawful d n r here e
 tail_part d n r here l e Assigned = value_lawful d n r here l e
 tail_part d n r here l e Nothing = none_lawful d n here e
 
-postfix_tail : (d n : ℕ) → Room d n → (here : Level) → LevelLawful false d here → (e : Expr) → (rank e == 0) ≡ true → Lawful (tail_class d e) tail_info (choice (tail_start true) (tail_by n here))
-postfix_tail d n r here l e p =
+postfix_tail : (d n : ℕ) → Room d n → nat_lt 128 d ≡ false → (here : Level) → LevelLawful false d here → (e : Expr) → (rank e == 0) ≡ true → Lawful (tail_class d e) tail_info (choice (tail_start true) (tail_by n here))
+postfix_tail d n r w here l e p =
     chosen (tail_class d e) tail_info (tail_start true) WhichTail tail_infos
     (record {
       fits = tail_fits e p;
@@ -190,6 +190,7 @@ postfix_tail d n r here l e p =
       first = tail_first;
       goes = tail_goes;
       empty = λ s h. refl;
+      shallow = λ x h c. record { tree = a_value 0 assigns.Plain (null 0); fits = tt; shallow = w };
     })
     some_tail (tail_by n here) (tail_part d n r here l e)
 
@@ -275,8 +276,8 @@ plain_same : (n : ℕ) (here : Level) (c : ℕ) (ts : List Token) → choice pla
 plain_same n here c [] = refl
 plain_same n here c (t ∷ ts) = plain_same_at n here c t ts (sort t)
 
-plain_tail : (d n : ℕ) → Room d n → (here : Level) → LevelLawful false d here → (e : Expr) → (rank e == 0) ≡ false → Lawful (tail_class d e) tail_info (choice (tail_start false) (tail_by n here))
-plain_tail d n r here l e p =
+plain_tail : (d n : ℕ) → Room d n → nat_lt 128 d ≡ false → (here : Level) → LevelLawful false d here → (e : Expr) → (rank e == 0) ≡ false → Lawful (tail_class d e) tail_info (choice (tail_start false) (tail_by n here))
+plain_tail d n r w here l e p =
     alike (chosen (tail_class d e) tail_info plain_start WhichPlain plain_infos
     (record {
       fits = plain_fits e;
@@ -286,15 +287,16 @@ plain_tail d n r here l e p =
       first = plain_first;
       goes = plain_goes;
       empty = λ s h. refl;
+      shallow = λ x h c. record { tree = a_value 0 assigns.Plain (null 0); fits = tt; shallow = w };
     })
     some_plain (plain_by n here) (plain_part d n r here l e)) (choice (tail_start false) (tail_by n here)) (plain_same n here)
 
-tail_by_rank : (d n : ℕ) → Room d n → (here : Level) → LevelLawful false d here → (e : Expr) → (b : Bool) → (rank e == 0) ≡ b → Lawful (tail_class d e) tail_info (choice (tail_start b) (tail_by n here))
-tail_by_rank d n r here l e true p = postfix_tail d n r here l e p
-tail_by_rank d n r here l e false p = plain_tail d n r here l e p
+tail_by_rank : (d n : ℕ) → Room d n → nat_lt 128 d ≡ false → (here : Level) → LevelLawful false d here → (e : Expr) → (b : Bool) → (rank e == 0) ≡ b → Lawful (tail_class d e) tail_info (choice (tail_start b) (tail_by n here))
+tail_by_rank d n r w here l e true p = postfix_tail d n r w here l e p
+tail_by_rank d n r w here l e false p = plain_tail d n r w here l e p
 
-tail_lawful : (d n : ℕ) → Room d n → (here : Level) → LevelLawful false d here → (e : Expr) → Lawful (tail_class d e) tail_info (simple_tail n here e)
-tail_lawful d n r here l e = tail_by_rank d n r here l e (rank e == 0) refl
+tail_lawful : (d n : ℕ) → Room d n → nat_lt 128 d ≡ false → (here : Level) → LevelLawful false d here → (e : Expr) → Lawful (tail_class d e) tail_info (simple_tail n here e)
+tail_lawful d n r w here l e = tail_by_rank d n r w here l e (rank e == 0) refl
 
 -- ---- an expression, and what is behind it
 
@@ -372,10 +374,10 @@ full_makes d = record {
   back = λ b f. (b, f, refl);
 }
 
-behind_lawful : (d n : ℕ) → Room d n → (here : Level) → LevelLawful false d here
+behind_lawful : (d n : ℕ) → Room d n → nat_lt 128 d ≡ false → (here : Level) → LevelLawful false d here
     → Lawful (narrow (simple_class d) IsBehind (eval (null 0)) tt) (both_info expr_info tail_info) (full (made (λ (e, t). simple_of e t) (here.expr ▸ simple_tail n here)))
-behind_lawful d n r here l =
-    let tails = tail_lawful d n r here l in
+behind_lawful d n r w here l =
+    let tails = tail_lawful d n r w here l in
     let parts = laws.before l.expr (λ e _. tails e) refl (λ e. (tails e).steady) in
     let all = full_lawful (tree parts (bare_class d) (λ (e, t). simple_of e t) (behind_makes d)) in
     let reader = full (made (λ (e, t). simple_of e t) (here.expr ▸ simple_tail n here)) in
@@ -445,4 +447,4 @@ unfolding simply
 simply_there p n d r =
     forked (simple_class d) simple_info (both_info (starts is_step) postfix_info) (both_info expr_info tail_info) is_step IsBefore IsBehind (simple_forks d) (before 0 steps.Increment (null 0)) (none_less 1, tt) (eval (null 0)) tt
     (before_lawful d (suc n) r (level_at false n) (p.levels n (d + 1) (deeper_room d n r)))
-    (behind_lawful d (suc n) r (level_at false (suc n)) (p.levels (suc n) d r))
+    (behind_lawful d (suc n) r (shallow d n r) (level_at false (suc n)) (p.levels (suc n) d r))

@@ -1,5 +1,5 @@
 -- The law of what stands behind sizeof: a type in brackets or a unary expression, told by the token behind a bracket.
-use Rattle.std.proofs.Common.{◌≡◌, ℕ, suc, ◌+◌, ◌≤◌, List, [], ◌∷◌, ◌++◌, Option, Some, None, Bool, true, false, refl, sym, ◌∙◌, inl, inr, ◌⊎◌, arith}
+use Rattle.std.proofs.Common.{◌≡◌, ℕ, suc, ◌+◌, ◌≤◌, List, [], ◌∷◌, ◌++◌, Option, Some, None, Bool, true, false, refl, sym, ◌∙◌, inl, inr, ◌⊎◌, arith, nat_lt}
 use Rattle.c_lex.specs.declared.token.Mark.TheVariants as marks
 use Rattle.c_lex.specs.declared.token.Token.{Token}
 use Rattle.c_tree.specs.declared.syntax.TypeWord.TheVariants as type_words
@@ -12,7 +12,7 @@ use Rattle.c_grammar.specs.inner.Reading.{Sized, a_type, an_expr, Level, either_
 use Rattle.c_grammar.proofs.Sorts.{is_inside}
 use Rattle.c_grammar.proofs.Lawful.{Class, Info, Lawful, both}
 use Rattle.c_grammar.proofs.Joints.{Makes, tree, known, narrow}
-use Rattle.c_grammar.proofs.TokenLaws.{Room, plain_class, mark_sign, mark_lawful}
+use Rattle.c_grammar.proofs.TokenLaws.{Room, plain_class, mark_sign, mark_lawful, shallow}
 use Rattle.c_grammar.proofs.TreeClasses.{none_less, goes_postfix, postfix_info, on_sized, counted_sized, IsSized, sized_class, type_class, LevelLawful}
 use Rattle.c_grammar.proofs.MoreJoints.{joined, Forms, formed, either_lawful}
 use Rattle.c_grammar.proofs.Respelling.{alike, Picks, picked}
@@ -146,8 +146,8 @@ sized_part b d deeper inner e l Paren =
     let all = joined (mark_lawful (d + 1) deeper r marks.OpenParen) rest refl in
     known (formed all (sized_kind b d Paren) (λ (_, s). s) (sized_forms b d)) (record { first = refl; goes = refl; empty = refl })
 
-sized_picks : (b : Bool) (d : ℕ) → Picks (sized_class b d) postfix_info unary_start (WhichSized b) sized_info is_start
-sized_picks b d = record {
+sized_picks : (b : Bool) (d : ℕ) → nat_lt 128 d ≡ false → Picks (sized_class b d) postfix_info unary_start (WhichSized b) sized_info is_start
+sized_picks b d s = record {
   is = start_is;
   fits = λ s x f. f.0;
   which = λ x f. (start_of_sized x, (f, refl));
@@ -155,6 +155,7 @@ sized_picks b d = record {
   some = elim [ Primary ↦ refl | Paren ↦ refl | Prefix ↦ refl | Sizeof ↦ refl ];
   first = elim [ Primary ↦ refl | Paren ↦ refl | Prefix ↦ refl | Sizeof ↦ refl ];
   goes = elim [ Primary ↦ refl | Paren ↦ refl | Prefix ↦ refl | Sizeof ↦ refl ];
+  shallow = λ c. record { tree = an_expr (null 0); fits = (none_less 1, tt); shallow = s };
 }
 
 -- a bracket, and nothing else, is told to begin what a bracket begins
@@ -186,5 +187,5 @@ sized_same room deeper inner c (t ∷ ts) = sized_turn room deeper inner c t ts 
 -- "(" specs ptr ")" | unary, behind sizeof
 pub sized_lawful : (b : Bool) (d deeper : ℕ) (inner : Level) → Room d (suc deeper) → LevelLawful b (d + 1) inner → Lawful (sized_class b d) postfix_info (sized (suc deeper) deeper inner)
 sized_lawful b d deeper inner e l =
-    let by_first = picked (sized_class b d) postfix_info unary_start (WhichSized b) sized_info is_start (sized_picks b d) (some_sized b) (sized_by (suc deeper) deeper inner) (sized_part b d deeper inner e l) in
+    let by_first = picked (sized_class b d) postfix_info unary_start (WhichSized b) sized_info is_start (sized_picks b d (shallow d deeper e)) (some_sized b) (sized_by (suc deeper) deeper inner) (sized_part b d deeper inner e l) in
     alike by_first (sized (suc deeper) deeper inner) (sized_same (suc deeper) deeper inner)

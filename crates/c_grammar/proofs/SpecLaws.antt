@@ -18,7 +18,7 @@ use Rattle.c_grammar.specs.inner.Reading.{Level, SpecStart, TypeWords, StructWor
 use Rattle.c_grammar.proofs.Lawful.{Class, Info, Lawful, starts, both}
 use Rattle.c_grammar.proofs.Joints.{Makes, tree, known, narrow, chosen, nothing_lawful}
 use Rattle.c_grammar.proofs.Loops.{row_leaves, from_leaves, FromIs, Rows, from_class, row_from_lawful, OptionIs, option_class, maybe_lawful}
-use Rattle.c_grammar.proofs.TokenLaws.{Room, plain_class, word_place_sign, word_place_lawful, name_lawful, mark_lawful, mark_sign, is_type_word, type_word_sign, type_word_lawful}
+use Rattle.c_grammar.proofs.TokenLaws.{Room, plain_class, word_place_sign, word_place_lawful, name_lawful, mark_lawful, mark_sign, is_type_word, type_word_sign, type_word_lawful, shallow}
 use Rattle.c_grammar.proofs.Sorts.{is_inside}
 use Rattle.c_grammar.proofs.TreeClasses.{member_class, member_info, LevelLawful}
 use Rattle.c_grammar.proofs.MoreJoints.{joined, flat_after}
@@ -232,6 +232,7 @@ spec_lawful b d n inner e l = chosen (spec_class b d) spec_info spec_start (Whic
       first = spec_first;
       goes = spec_goes;
       empty = λ s h. absurd (spec_some s h);
+      shallow = λ x h c. record { tree = word 0 types.Int; fits = tt; shallow = shallow d n e };
     })
     (some_spec b) (spec_by b (suc n) n inner) (spec_part b d n inner e l)
 

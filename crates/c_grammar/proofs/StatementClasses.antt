@@ -9,8 +9,8 @@ use Rattle.c_tree.specs.Syntax.{null, word, declarator, no_exprs, Declaration, S
 use Rattle.c_grammar.specs.Leaves.{mark_at, some_mark, at}
 use Rattle.c_grammar.specs.Grammar.{on_each, on_declaration, IsDeclaration, on_simple, on_first, on_stmt, IsSimple, IsFirst, IsStmt}
 use Rattle.c_grammar.specs.inner.Readers.{Sort}
-use Rattle.c_grammar.specs.inner.Tokens.{is_some, is_word, begins_type, begins_expr, begins_simple}
-use Rattle.c_grammar.specs.inner.Reading.{level_at, declaration, first_start, begins_stmt, is_step}
+use Rattle.c_grammar.specs.inner.Tokens.{is_word, begins_type, begins_expr, begins_simple, is_mark}
+use Rattle.c_grammar.specs.inner.Reading.{level_at, declaration, begins_stmt, is_step}
 use Rattle.c_grammar.proofs.Lawful.{Class, Info, Lawful, starts}
 use Rattle.c_grammar.proofs.Joints.{TooDeepFor}
 use Rattle.c_grammar.proofs.TokenLaws.{Room, is_assign}
@@ -58,7 +58,7 @@ first_class d = record {
 }
 
 abbrev pub begins_first : Sort → Bool
-begins_first s = is_some (first_start s)
+begins_first s = begins_type s || (is_mark marks.Semicolon s || begins_simple s)
 
 -- statements, or the items of a body where b says so
 abbrev pub stmt_class : Bool → ℕ → Class

@@ -4,7 +4,7 @@ use Rattle.std.proofs.lemmas.List.{length-append}
 use Rattle.c_lex.specs.declared.token.Token.{Token}
 use Rattle.c_lex.specs.declared.refusal.Kind.{Kind}
 use Rattle.c_lex.specs.declared.refusal.Kind.TheVariants.{TooDeep}
-use Rattle.c_grammar.specs.inner.Readers.{Fault, stop, spent, Got, Reading, got, Reads, ◌>>=◌, Sort, sort, allowed, take_turn, take, nothing, ◌▸◌, made, full, choice_turn, choice, maybe_by, maybe, refused, too_deep, Turn, again, last, turn_next, turns, repeat, link_by, link_turn, links, chain}
+use Rattle.c_grammar.specs.inner.Readers.{Why, unexpected, sunk, past, missed, Fault, stop, spent, Got, Reading, got, Reads, ◌>>=◌, Sort, sort, allowed, take_turn, take, nothing, ◌▸◌, made, full, choice_turn, choice, maybe_by, maybe, refused, too_deep, Turn, again, last, turn_next, turns, repeat, link_by, link_turn, links, chain}
 
 -- no more than m tokens are left, and the turns of no loop are spent
 abbrev pub Left : {A : Type 0} → ℕ → Reading A → Type 0
@@ -62,15 +62,15 @@ bind_same (Err (stop w n)) f g h = refl
 bind_same (Err spent) f g h = refl
 
 -- by the first token, where nothing is read from none
-pub by_first : {A : Type 0} (r : Reads A) → ((c : ℕ) → r c [] ≡ Err (stop None 0)) → ((c : ℕ) (t : Token) (ts : List Token) → Left (length (t ∷ ts)) (r c (t ∷ ts)))
+pub by_first : {A : Type 0} (r : Reads A) (w : ℕ → Why) → ((c : ℕ) → r c [] ≡ Err (stop (w c) 0)) → ((c : ℕ) (t : Token) (ts : List Token) → Left (length (t ∷ ts)) (r c (t ∷ ts)))
     → ((c : ℕ) (t : Token) (ts z : List Token) → Stays z (r c (t ∷ ts)) (r c (t ∷ (ts ++ z)))) → Steady r
-by_first {A = A} r e h k =
+by_first {A = A} r w e h k =
     let shrinks : (c : ℕ) (ts : List Token) → Left (length ts) (r c ts) = λ c. elim [ [] ↦ rw (e c) (omega arith) | t ∷ ts ↦ h c t ts ] in
     let stays : (c : ℕ) (ts z : List Token) → Stays z (r c ts) (r c (ts ++ z)) = λ c. elim [ [] ↦ λ z. rw (e c) (shrinks c z) | t ∷ ts ↦ λ z. k c t ts z ] in
     record { shrinks = shrinks; stays = stays }
 
 -- a refused token stays refused
-refused_stays : {A : Type 0} (w : Option Kind) (t : Token) (ts z : List Token) → Stays {A = A} z (Err (stop w (length (t ∷ ts)))) (Err (stop w (length (t ∷ (ts ++ z)))))
+refused_stays : {A : Type 0} (w : Why) (t : Token) (ts z : List Token) → Stays {A = A} z (Err (stop w (length (t ∷ ts)))) (Err (stop w (length (t ∷ (ts ++ z)))))
 refused_stays w t ts z = ap (λ (n : ℕ). Err (stop w n)) (omega (arith, length-append ts z))
 
 -- ---- one token
@@ -85,27 +85,27 @@ take_left check next c t ts (Some a) = allowed_left a (next c) t ts (check c)
 
 allowed_stays : {A : Type 0} (a : A) (c : ℕ) (t : Token) (ts z : List Token) (o : Option Kind) → Stays z (allowed a c t ts o) (allowed a c t (ts ++ z) o)
 allowed_stays a c t ts z None = refl
-allowed_stays a c t ts z (Some k) = refused_stays (Some k) t ts z
+allowed_stays a c t ts z (Some k) = refused_stays (past k) t ts z
 
 take_stays : {A : Type 0} (check : ℕ → Option Kind) (next : ℕ → ℕ) (c : ℕ) (t : Token) (ts z : List Token) (o : Option A) → Stays z (take_turn check next c t ts o) (take_turn check next c t (ts ++ z) o)
-take_stays check next c t ts z None = refused_stays None t ts z
+take_stays check next c t ts z None = refused_stays (missed (check c)) t ts z
 take_stays check next c t ts z (Some a) = allowed_stays a (next c) t ts z (check c)
 
 -- one token of a class
 pub take_steady : {A : Type 0} (class : Token → Option A) (check : ℕ → Option Kind) (next : ℕ → ℕ) → Steady (take class check next)
-take_steady class check next = by_first (take class check next) (λ c. refl) (λ c t ts. take_left check next c t ts (class t)) (λ c t ts z. take_stays check next c t ts z (class t))
+take_steady class check next = by_first (take class check next) (λ c. missed (check c)) (λ c. refl) (λ c t ts. take_left check next c t ts (class t)) (λ c t ts z. take_stays check next c t ts z (class t))
 
 refused_left : (A : Type 0) (t : Token) (ts : List Token) (b : Bool) → Left {A = A} (length (t ∷ ts)) (refused t ts b)
 refused_left A t ts true = omega arith
 refused_left A t ts false = omega arith
 
 refused_same : (A : Type 0) (t : Token) (ts z : List Token) (b : Bool) → Stays {A = A} z (refused t ts b) (refused t (ts ++ z) b)
-refused_same A t ts z true = refused_stays (Some TooDeep) t ts z
-refused_same A t ts z false = refused_stays None t ts z
+refused_same A t ts z true = refused_stays (past TooDeep) t ts z
+refused_same A t ts z false = refused_stays sunk t ts z
 
 -- what lies too deep
 pub too_deep_steady : {A : Type 0} (start : Sort → Bool) → Steady {A = A} (too_deep start)
-too_deep_steady {A = A} start = by_first (too_deep {A = A} start) (λ c. refl) (λ c t ts. refused_left A t ts (start (sort t))) (λ c t ts z. refused_same A t ts z (start (sort t)))
+too_deep_steady {A = A} start = by_first (too_deep {A = A} start) (λ c. sunk) (λ c. refl) (λ c t ts. refused_left A t ts (start (sort t))) (λ c t ts z. refused_same A t ts z (start (sort t)))
 
 -- ---- parts joined
 
@@ -153,12 +153,12 @@ choice_left part h c t ts (Some x) = (h x).shrinks c (t ∷ ts)
 
 choice_stays : {S A : Type 0} (part : S → Reads A) → ((x : S) → Steady (part x)) → (c : ℕ) (t : Token) (ts z : List Token) (o : Option S)
     → Stays z (choice_turn part c t ts o) (choice_turn part c t (ts ++ z) o)
-choice_stays part h c t ts z None = refused_stays None t ts z
+choice_stays part h c t ts z None = refused_stays unexpected t ts z
 choice_stays part h c t ts z (Some x) = (h x).stays c (t ∷ ts) z
 
 -- one of several parts
 pub choice_steady : {S A : Type 0} (start : Sort → Option S) (part : S → Reads A) → ((x : S) → Steady (part x)) → Steady (choice start part)
-choice_steady start part h = by_first (choice start part) (λ c. refl) (λ c t ts. choice_left part h c t ts (start (sort t))) (λ c t ts z. choice_stays part h c t ts z (start (sort t)))
+choice_steady start part h = by_first (choice start part) (λ c. unexpected) (λ c. refl) (λ c t ts. choice_left part h c t ts (start (sort t))) (λ c t ts z. choice_stays part h c t ts z (start (sort t)))
 
 maybe_by_steady : {A : Type 0} (r : Reads A) → Steady r → (b : Bool) → Steady (maybe_by r b)
 maybe_by_steady r s true = made_steady Some r s
@@ -183,7 +183,7 @@ next_left go m h (again a) c ts lt = h a c ts (lt a refl)
 next_left go m h (last a) c ts lt = omega arith
 
 -- what a turn gives that goes on
-goes_on : {A : Type 0} (x : Got (Turn A)) (a : A) → x.tree ≡ again a → Ok x ≡ got (again a) x.count x.rest
+pub goes_on : {A : Type 0} (x : Got (Turn A)) (a : A) → x.tree ≡ again a → Ok x ≡ got (again a) x.count x.rest
 goes_on x a e = ap (λ (t : Turn _). got t x.count x.rest) e
 
 turns_shrinks : {A : Type 0} (turn : A → Reads (Turn A)) → ((a : A) → Steady (turn a)) → ((a : A) → Advances (turn a)) → (n : ℕ) (a : A) (c : ℕ) (ts : List Token) → length ts < n → Left (length ts) (turns turn n a c ts)

@@ -12,7 +12,7 @@ use Rattle.c_grammar.specs.inner.Reading.{level_at, simply, condition, items, if
 use Rattle.c_grammar.proofs.Runs.{Within}
 use Rattle.c_grammar.proofs.Lawful.{spelt_sort, HeadIn}
 use Rattle.c_grammar.proofs.Joints.{chosen, too_deep_lawful}
-use Rattle.c_grammar.proofs.TokenLaws.{Room, word_place_lawful}
+use Rattle.c_grammar.proofs.TokenLaws.{Room, word_place_lawful, shallow}
 use Rattle.c_grammar.proofs.MoreJoints.{joined}
 use Rattle.c_grammar.proofs.StatementClasses.{stmt_class, stmt_info, Parts}
 use Rattle.c_grammar.proofs.SimpleLaws.{deeper_room}
@@ -124,7 +124,7 @@ stmt_closed p n d r {inner = inner} l c a q ts z w f =
 
 stmt_there : Parts → (n d : ℕ) → Room d (suc n) → {inner : Reads Stmt} → StmtLawful (d + 1) inner → StmtLawful d (choice stmt_start (stmt_by (suc n) n inner))
 stmt_there p n d r {inner = inner} l = record {
-  law = chosen (stmt_class false d) stmt_info stmt_start WhichStmt stmt_infos (stmt_chosen d) some_stmt (stmt_by (suc n) n inner) (stmt_part p n d r l);
+  law = chosen (stmt_class false d) stmt_info stmt_start WhichStmt stmt_infos (stmt_chosen d (shallow d n r)) some_stmt (stmt_by (suc n) n inner) (stmt_part p n d r l);
   greedy = choice_leaves (λ s. is_open s ≡ false) stmt_start (stmt_by (suc n) n inner) (part_leaves n (d + 1) l);
   closed = stmt_closed p n d r l;
 }

@@ -1,5 +1,5 @@
 -- The laws of the kinds of statements, of a level with room, from those of the statements a level deeper.
-use Rattle.std.proofs.Common.{◌≡◌, ℕ, suc, ◌+◌, List, [], ◌∷◌, ◌++◌, Option, Some, None, Bool, true, false, refl, sym, ap, append_assoc}
+use Rattle.std.proofs.Common.{◌≡◌, ℕ, suc, ◌+◌, List, [], ◌∷◌, ◌++◌, Option, Some, None, Bool, true, false, refl, sym, ap, append_assoc, nat_lt}
 use Rattle.std.specs.List.{AllByRecursion}
 use Rattle.std.proofs.lemmas.List.{append-nil}
 use Rattle.c_lex.specs.declared.token.Word.{Word}
@@ -158,8 +158,8 @@ stmt_goes AContinue x f = refl
 stmt_goes AReturn x f = refl
 stmt_goes ASimple x f = refl
 
-pub stmt_chosen : (d : ℕ) → Chosen (stmt_class false d) stmt_info stmt_start WhichStmt stmt_infos
-stmt_chosen d = record {
+pub stmt_chosen : (d : ℕ) → nat_lt 128 d ≡ false → Chosen (stmt_class false d) stmt_info stmt_start WhichStmt stmt_infos
+stmt_chosen d e = record {
   fits = which_fits;
   which = which_stmt;
   told = stmt_told;
@@ -167,6 +167,7 @@ stmt_chosen d = record {
   first = λ s x h. rw (stmt_told s x h) refl;
   goes = stmt_goes;
   empty = λ s h. absurd (cc (h, none_empty s));
+  shallow = λ x h c. record { tree = empty 0; fits = tt; shallow = e };
 }
 
 -- ---- short statements

@@ -46,6 +46,10 @@ pub deep_at : (d n : ℕ) → Room d n → if_so (nat_lt 128 d) TooDeep ≡ deep
 deep_at d zero e = let is : d ≡ 129 = omega arith in rw is refl
 deep_at d (suc n) e = rw (le-ltb 128 d (omega arith)) refl
 
+-- a level with room isn't too deep
+pub shallow : (d n : ℕ) → Room d (suc n) → nat_lt 128 d ≡ false
+shallow d n e = le-ltb 128 d (omega arith)
+
 first_none : (o : Option Kind) → first_of o None ≡ o
 first_none None = refl
 first_none (Some k) = refl

@@ -1,6 +1,6 @@
 -- The laws of unary expressions, of casts, and of what stands behind sizeof. A bracket opens a group or the type of a cast: the token
 -- behind it tells which.
-use Rattle.std.proofs.Common.{◌≡◌, ℕ, suc, ◌+◌, ◌≤◌, List, [], ◌∷◌, ◌++◌, Option, Some, Bool, true, false, refl, ap, ◌∙◌, arith}
+use Rattle.std.proofs.Common.{◌≡◌, ℕ, suc, ◌+◌, ◌≤◌, List, [], ◌∷◌, ◌++◌, Option, Some, Bool, true, false, refl, ap, ◌∙◌, arith, nat_lt}
 use Rattle.c_lex.specs.declared.token.Word.TheVariants as words
 use Rattle.c_lex.specs.declared.token.Mark.TheVariants as marks
 use Rattle.c_tree.specs.declared.syntax.PrefixOp.{PrefixOp}
@@ -12,7 +12,7 @@ use Rattle.c_grammar.specs.inner.Tokens.{is_mark, is_word}
 use Rattle.c_grammar.specs.inner.Reading.{Sized, a_type, an_expr, Level, an_index, a_member, an_arrow, begins_post, UnaryStart, Primary, Paren, Prefix, Sizeof, unary_start, sizeof_by, unary_by, unary}
 use Rattle.c_grammar.proofs.Lawful.{Class, Info, Lawful, both}
 use Rattle.c_grammar.proofs.Joints.{Makes, tree, known, narrow}
-use Rattle.c_grammar.proofs.TokenLaws.{Room, plain_class, mark_sign, word_place_sign, marked, is_prefix, mark_lawful, word_place_lawful, prefix_lawful}
+use Rattle.c_grammar.proofs.TokenLaws.{Room, plain_class, mark_sign, word_place_sign, marked, is_prefix, mark_lawful, word_place_lawful, prefix_lawful, shallow}
 use Rattle.c_grammar.proofs.TreeClasses.{none_less, goes_postfix, postfix_info, expr_class, on_sized, counted_sized, IsSized, sized_class, LevelLawful}
 use Rattle.c_grammar.proofs.MoreJoints.{joined, Forms, formed}
 use Rattle.c_grammar.proofs.Respelling.{retold, Picks, picked}
@@ -125,8 +125,8 @@ start_is Prefix (Some Prefix) e = refl
 start_is Sizeof (Some Sizeof) e = refl
 start_is _ _ e = absurd cc
 
-pub begin_picks : (b : Bool) (d k : ℕ) → Picks (expr_class b d k) postfix_info unary_start (Begins b k) start_info is_start
-begin_picks b d k = record {
+pub begin_picks : (b : Bool) (d k : ℕ) → nat_lt 128 d ≡ false → Picks (expr_class b d k) postfix_info unary_start (Begins b k) start_info is_start
+begin_picks b d k s = record {
   is = start_is;
   fits = λ s e f. (f.0, f.1);
   which = λ e f. (start_of e, (f.0, f.1, refl));
@@ -134,6 +134,7 @@ begin_picks b d k = record {
   some = elim [ Primary ↦ refl | Paren ↦ refl | Prefix ↦ refl | Sizeof ↦ refl ];
   first = elim [ Primary ↦ refl | Paren ↦ refl | Prefix ↦ refl | Sizeof ↦ refl ];
   goes = elim [ Primary ↦ refl | Paren ↦ refl | Prefix ↦ refl | Sizeof ↦ refl ];
+  shallow = λ c. record { tree = null 0; fits = (none_less k, tt); shallow = s };
 }
 
 group_forms : (b : Bool) (d : ℕ) → Forms (both (plain_class (d + 1) (mark_sign marks.OpenParen) tt) (λ _. group_class b d)) (begin_class b d 1 one_one Paren) (λ (_, e). e)
@@ -219,4 +220,4 @@ unary_part b d deeper inner e l Sizeof =
 -- unary
 pub unary_lawful : (b : Bool) (d deeper : ℕ) (inner : Level) → Room d (suc deeper) → LevelLawful b (d + 1) inner → Lawful (expr_class b d 1) postfix_info (unary (suc deeper) deeper inner)
 unfolding unary
-unary_lawful b d deeper inner e l = picked (expr_class b d 1) postfix_info unary_start (Begins b 1) start_info is_start (begin_picks b d 1) (some_begin b 1 one_one) (unary_by (suc deeper) deeper inner) (unary_part b d deeper inner e l)
+unary_lawful b d deeper inner e l = picked (expr_class b d 1) postfix_info unary_start (Begins b 1) start_info is_start (begin_picks b d 1 (shallow d deeper e)) (some_begin b 1 one_one) (unary_by (suc deeper) deeper inner) (unary_part b d deeper inner e l)

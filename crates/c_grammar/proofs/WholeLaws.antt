@@ -14,6 +14,8 @@ use Rattle.c_grammar.proofs.TokenLaws.{is_end}
 use Rattle.c_grammar.proofs.FileLaws.{ReadsFiles}
 use Rattle.c_grammar.proofs.MoreJoints.{flat_after}
 use Rattle.c_grammar.proofs.ExternalLaws.{external_class, externals_class, externals_lawful, begins_file, file_spelt, file_lawful}
+use Rattle.c_grammar.proofs.Loops.{lawful_takes}
+use Rattle.c_grammar.proofs.SinkingFiles.{StmtsTake, file_sinks}
 use Rattle.c_grammar.proofs.EndLaws.{NoEnd}
 use Rattle.c_grammar.proofs.NoEnds.{no_end_externals}
 
@@ -49,10 +51,11 @@ ended_at (l ∷ ls) f [] e k b = absurd (not_end (sort_of_sign l.sign) (sym (spe
 ended_at (l ∷ ls) f (t ∷ front) e k b = (b.0, b.1, ended_at ls f.1 front e k b.2)
 
 -- the reader of files
-pub file_reads : Lawful external_class (starts begins_external) external → ReadsFiles file
-file_reads l = record {
+pub file_reads : StmtsTake 128 → Lawful external_class (starts begins_external) external → ReadsFiles file
+file_reads k l = record {
   info = starts begins_file;
   law = file_lawful l;
   whole = whole l;
+  sinks = file_sinks k (lawful_takes l refl);
   ended = λ f is front e k b. ended_at _ (no_end_externals f.externals) front e k b;
 }

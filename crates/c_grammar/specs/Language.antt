@@ -1,5 +1,5 @@
 -- What it is for tokens to be a file of the language, and where they cease to be one.
-use Rattle.std.specs.Prelude.{◌≡◌, ◌⊎◌, List, [], ◌∷◌, ◌++◌, Some, None}
+use Rattle.std.specs.Prelude.{◌≡◌, ◌<◌, ◌⊎◌, List, [], ◌∷◌, ◌++◌, Some, None}
 use Rattle.std.specs.List.{AllByRecursion}
 use Rattle.c_lex.specs.declared.token.Word.{Word}
 use Rattle.c_lex.specs.declared.token.Word.TheVariants as words
@@ -9,7 +9,7 @@ use Rattle.c_lex.specs.declared.token.TokenKind.TheVariants as kinds
 use Rattle.c_lex.specs.declared.token.Token.{Token}
 use Rattle.c_lex.specs.declared.refusal.Refusal.{Refusal}
 use Rattle.c_lex.specs.declared.refusal.Kind.{Kind}
-use Rattle.c_lex.specs.declared.refusal.Kind.TheVariants.{UnexpectedToken, OutsideSubset}
+use Rattle.c_lex.specs.declared.refusal.Kind.TheVariants.{UnexpectedToken, TooDeep, OutsideSubset}
 use Rattle.c_tree.specs.Syntax.{File}
 use Rattle.c_grammar.specs.Leaves.{Leaf, over, Spelt, Begins, BeginsWithin}
 use Rattle.c_grammar.specs.Grammar.{leaves, IsFile}
@@ -67,9 +67,33 @@ BeginsFile front = (f : File) × IsFile f × Begins (leaves f) front
 abbrev pub BeginsFileWithin : List Token → Type 0
 BeginsFileWithin front = (f : File) × IsFile f × BeginsWithin (leaves f) front
 
+-- what may stand behind these tokens: the leaf that follows them in a file that begins with them
+pub record Next (front : List Token) : Type 0 where
+  pub file : File
+  pub fits : IsFile file
+  pub before : List Leaf
+  pub leaf : Leaf
+  pub behind : List Leaf
+  pub is : leaves file ≡ before ++ leaf ∷ behind
+  pub spelt : Spelt before front
+
+-- something may stand behind these tokens, and whatever may lies deeper than 128 levels
+pub record AllTooDeep (front : List Token) : Type 0 where
+  pub some : Next front
+  pub each : (n : Next front) → 128 < n.leaf.level
+
+-- where whatever may stand there lies too deep, that is told before a feature that is left out
+abbrev pub or_too_deep : Kind → Kind
+or_too_deep (OutsideSubset f) = TooDeep
+or_too_deep k = k
+
+-- how a token is refused that may not stand behind these tokens
+abbrev pub IsRefusalBehind : List Token → Token → Kind → Type 0
+IsRefusalBehind front t k = (AllTooDeep front × (k ≡ or_too_deep (refusal_of t.kind))) ⊎ ((AllTooDeep front → ⊥) × (k ≡ refusal_of t.kind))
+
 -- with the token behind them the tokens begin no file
 pub record IsUnexpected (front : List Token) (t : Token) (k : Kind) : Type 0 where
-  pub kind : k ≡ refusal_of t.kind
+  pub kind : IsRefusalBehind front t k
   pub no_file : BeginsFile (front ++ t ∷ []) → ⊥
 
 -- with the token behind them the tokens begin a file, in which the token is the first over a limit

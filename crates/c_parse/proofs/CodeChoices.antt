@@ -21,6 +21,7 @@ chosen_stops start part c ts s e h f = subst (Fails e) (sym (chooses start part 
 pub made_stops : {A B : Type 0} (f : A → B) (r : Reads A) (c : ℕ) (ts : List Token) (e : Stop) → Fails e (r c ts) → Fails e (made f r c ts)
 made_stops f r c ts stops.NoMemory h = tt
 made_stops f r c ts (stops.Unexpected left) h = rw h refl
+made_stops f r c ts (stops.Sunk left) h = rw h refl
 made_stops f r c ts (stops.Over kind left) h = rw h refl
 
 -- what is made of the part that the next token chooses

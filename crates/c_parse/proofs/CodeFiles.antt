@@ -1,13 +1,12 @@
 -- What the reader of files, and nothing behind, says of tokens.
-use Rattle.std.proofs.Common.{◌≡◌, ℕ, ◌-◌, ◌<◌, ◌≤◌, List, [], ◌∷◌, length, get_or, Option, Ok, Err, sym, ap, subst, ◌∙◌, arith}
+use Rattle.std.proofs.Common.{◌≡◌, ℕ, ◌-◌, ◌<◌, ◌≤◌, List, [], ◌∷◌, length, get_or, Ok, Err, sym, ap, subst, ◌∙◌, arith}
 use Rattle.std.proofs.lemmas.List.{length-append}
 use Rattle.std.proofs.Math.Seq.{get_or-append_seam}
 use Rattle.c_lex.specs.declared.token.Token.{Token}
-use Rattle.c_lex.specs.declared.refusal.Kind.{Kind}
 use Rattle.c_tree.specs.Syntax.{File}
 use Rattle.c_grammar.specs.Language.{Parses, RefusesTokens}
 use Rattle.c_grammar.specs.Laws.{EndOnce}
-use Rattle.c_grammar.specs.inner.Readers.{Fault, stop, Reading, got, ◌>>=◌}
+use Rattle.c_grammar.specs.inner.Readers.{Why, Fault, stop, Reading, got, ◌>>=◌}
 use Rattle.c_grammar.specs.inner.Reading.{file}
 use Rattle.c_parse.specs.inner.Parts.{nothing_behind, whole_file}
 use Rattle.c_grammar.proofs.FileLaws.{nothing_more}
@@ -36,13 +35,13 @@ pub whole_parses : (ts : List Token) (f : File) (c : ℕ) (us : List Token) → 
 whole_parses ts f c us e = file_parses ts f (read_is (file 0 ts) f c us e)
 
 -- the refused token is one of them
-pub whole_within : (ts : List Token) → EndOnce ts → (w : Option Kind) (n : ℕ) → whole_file 0 ts ≡ Err (stop w n) → (0 < n) × (n ≤ length ts)
+pub whole_within : (ts : List Token) → EndOnce ts → (w : Why) (n : ℕ) → whole_file 0 ts ≡ Err (stop w n) → (0 < n) × (n ≤ length ts)
 whole_within ts h w n e =
     let a = refuses file reads_files ts (h.0, h.1, h.2, h.3) w n (read_fails (file 0 ts) (stop w n) e) in
     (omega (arith, a.many), omega (arith, ap length a.is, length-append a.front (a.token ∷ a.behind), a.many))
 
 -- and it stands where so many are left
-pub whole_refuses : (ts : List Token) → EndOnce ts → (w : Option Kind) (n : ℕ) → whole_file 0 ts ≡ Err (stop w n) → (d : Token)
+pub whole_refuses : (ts : List Token) → EndOnce ts → (w : Why) (n : ℕ) → whole_file 0 ts ≡ Err (stop w n) → (d : Token)
     → RefusesTokens ts (record { place = (get_or ts (length ts - n) d).from; kind = kind_by w (get_or ts (length ts - n) d) })
 whole_refuses ts h w n e d =
     let a = refuses file reads_files ts (h.0, h.1, h.2, h.3) w n (read_fails (file 0 ts) (stop w n) e) in

@@ -1,11 +1,11 @@
 -- The levels, by the room that the code counts.
-use Rattle.std.proofs.Common.{◌≡◌, ℕ, zero, suc, ◌-◌, ◌<◌, List, [], ◌∷◌, length, Some, None, Err, Bool, true, false, refl, sym, ap, subst, ◌∙◌, arith}
+use Rattle.std.proofs.Common.{◌≡◌, ℕ, zero, suc, ◌-◌, ◌<◌, List, [], ◌∷◌, length, Err, Bool, true, false, refl, sym, ap, subst, ◌∙◌, arith}
 use Rattle.c_lex.specs.declared.token.Token.{Token}
 use Rattle.c_lex.specs.declared.refusal.Kind.TheVariants.{TooDeep}
 use Rattle.c_tree.specs.Syntax.{Expr, TypeName, Member}
 use Rattle.c_parse.specs.declared.parser.Stop.{Stop}
 use Rattle.c_parse.specs.declared.parser.Stop.TheVariants as stops
-use Rattle.c_grammar.specs.inner.Readers.{Fault, stop, Reads, Sort, sort, refused, too_deep}
+use Rattle.c_grammar.specs.inner.Readers.{sunk, past, Fault, stop, Reads, Sort, sort, refused, too_deep}
 use Rattle.c_grammar.specs.inner.Tokens.{begins_type, begins_expr}
 use Rattle.c_grammar.specs.inner.Reading.{Level, Sized, level_by, no_level, level_at, expr, casted, unary, sized, type_named, membered}
 use Rattle.c_parse.specs.inner.Moves.{Fails}
@@ -48,14 +48,15 @@ member_at b room h = ap (λ (l : Level). l.member) (level_is b room h) ∙ ap (�
 err_any : (A B : Type 0) (e : Stop) (f : Fault) → Fails {A = A} e (Err f) → Fails {A = B} e (Err f)
 err_any A B stops.NoMemory f h = tt
 err_any A B (stops.Unexpected left) f h = cc
+err_any A B (stops.Sunk left) f h = cc
 err_any A B (stops.Over kind left) f h = cc
 
 refused_any : (A B : Type 0) (t : Token) (ts : List Token) (b : Bool) (e : Stop) → Fails {A = A} e (refused t ts b) → Fails {A = B} e (refused t ts b)
-refused_any A B t ts true e h = err_any A B e (stop (Some TooDeep) (length (t ∷ ts))) h
-refused_any A B t ts false e h = err_any A B e (stop None (length (t ∷ ts))) h
+refused_any A B t ts true e h = err_any A B e (stop (past TooDeep) (length (t ∷ ts))) h
+refused_any A B t ts false e h = err_any A B e (stop sunk (length (t ∷ ts))) h
 
 deep_any : (A B : Type 0) (start : Sort → Bool) (c : ℕ) (ts : List Token) (e : Stop) → Fails {A = A} e (too_deep start c ts) → Fails {A = B} e (too_deep start c ts)
-deep_any A B start c [] e h = err_any A B e (stop None 0) h
+deep_any A B start c [] e h = err_any A B e (stop sunk 0) h
 deep_any A B start c (t ∷ ts) e h = refused_any A B t ts (start (sort t)) e h
 
 level_zero : (b : Bool) (room : ℕ) → room ≡ 0 → level_at b room ≡ no_level

@@ -1,7 +1,7 @@
 -- How the code's steps and loops follow the readers'.
 use Rattle.std.proofs.Common.{◌≡◌, ℕ, zero, suc, ◌<◌, ◌≤◌, List, [], ◌∷◌, length, Option, Some, None, Ok, Err, Bool, true, false, refl, sym, ap, ◌∙◌, arith}
 use Rattle.c_lex.specs.declared.token.Token.{Token}
-use Rattle.c_grammar.specs.inner.Readers.{Fault, stop, Reading, got, Reads, ◌>>=◌, Sort, sort, ◌▸◌, ◌&◌, made, choice_turn, choice, Turn, again, turn_next, turns, link_by, link_turn, links, chain}
+use Rattle.c_grammar.specs.inner.Readers.{unexpected, sunk, past, Fault, stop, Reading, got, Reads, ◌>>=◌, Sort, sort, ◌▸◌, ◌&◌, made, choice_turn, choice, Turn, again, turn_next, turns, link_by, link_turn, links, chain}
 use Rattle.c_parse.specs.declared.parser.Stop.{Stop}
 use Rattle.c_parse.specs.declared.parser.Stop.TheVariants as stops
 use Rattle.c_parse.specs.inner.Moves.{Fails, peek_turn, peek, ahead}
@@ -83,8 +83,9 @@ link_fails start link join whole a c ts f g p q =
 -- a fault that is passed on
 pub passes : {A B : Type 0} (e : Stop) (r : Reading A) (q : Reading B) → ((f : Fault) → r ≡ Err f → q ≡ Err f) → Fails e r → Fails e q
 passes stops.NoMemory r q h f = tt
-passes (stops.Unexpected left) r q h f = h (stop None left) f
-passes (stops.Over kind left) r q h f = h (stop (Some kind) left) f
+passes (stops.Unexpected left) r q h f = h (stop unexpected left) f
+passes (stops.Sunk left) r q h f = h (stop sunk left) f
+passes (stops.Over kind left) r q h f = h (stop (past kind) left) f
 
 pub choice_stops : {S A : Type 0} (start : Sort → Option S) (part : S → Reads A) (c : ℕ) (ts : List Token) (e : Stop) → Fails e (peek start c ts) → Fails e (choice start part c ts)
 choice_stops start part c ts e = passes e (peek start c ts) (choice start part c ts) (choice_fails start part c ts)

@@ -1,7 +1,7 @@
 -- What the parts of a production read, joined.
 use Rattle.std.proofs.Common.{◌≡◌, ℕ, zero, suc, ◌-◌, ◌<◌, List, [], ◌∷◌, Some, Result, Ok, Err, Bool, true, refl, sym, ap, subst, ◌∙◌, arith}
 use Rattle.c_lex.specs.declared.token.Token.{Token}
-use Rattle.c_lex.specs.declared.token.Mark.TheVariants.{CloseParen, Semicolon, Comma}
+use Rattle.c_lex.specs.declared.token.Mark.TheVariants.{OpenParen, CloseParen, Semicolon, Comma}
 use Rattle.c_tree.specs.declared.syntax.Pointer.{Pointer}
 use Rattle.c_tree.specs.Syntax.{Expr, group, binary, TypeName, type_name, Spec, Member, members_of, Declarator, specs_of, declarators_of}
 use Rattle.c_parse.specs.declared.parser.Parser.{Parser}
@@ -9,16 +9,18 @@ use Rattle.c_parse.specs.declared.parser.Stop.{Stop}
 use Rattle.c_parse.specs.declared.parser.Stop.TheVariants as stops
 use Rattle.c_grammar.specs.inner.Readers.{Reading, got, Reads, ◌&◌, made, nothing, pushed, chain, links}
 use Rattle.c_grammar.specs.inner.Tokens.{tok, counted_tok, mark_is, is_mark, binary_of, is_binary, begins_type, begins_expr}
-use Rattle.c_grammar.specs.inner.Reading.{Level, level_at, commas, either_by, either, spec, post, posted, begins_post, group_rest, ladder, specs, bare_pointers, type_named, pointers, bare_declared, declarator_behind, declared, membered}
-use Rattle.c_parse.specs.inner.Moves.{Moves, ahead}
-use Rattle.c_parse.proofs.CodeLoops.{Going, begins_behind, behind_reads, chooses}
-use Rattle.c_parse.proofs.CodeLevels.{type_name_at, member_at}
+use Rattle.c_grammar.specs.inner.Reading.{Sized, a_type, an_expr, sized, unary, Level, level_at, commas, either_by, either, spec, post, posted, begins_post, group_rest, ladder, specs, bare_pointers, type_named, pointers, bare_declared, declarator_behind, declared, membered}
+use Rattle.c_parse.specs.inner.Moves.{Fails, Moves, ahead}
+use Rattle.c_parse.proofs.CodeLoops.{Going, begins_behind, behind_reads, chooses, behind_stops, second_stops}
+use Rattle.c_parse.proofs.CodeChoices.{chosen_stops, made_stops}
+use Rattle.c_parse.proofs.CodeLevels.{sized_at, type_name_at, member_at}
 
 -- the rest of a reader is read elsewhere
 pub then_moves : {A B : Type 0} (view : A → B) (r q : Reads B) (old mid new : Parser) (result : Result A Stop) → r old.count old.rest.now ≡ q mid.count mid.rest.now → Moves view q mid new result → Moves view r old new result
 then_moves view r q old mid new (Ok a) e m = e ∙ m
 then_moves view r q old mid new (Err stops.NoMemory) e m = tt
 then_moves view r q old mid new (Err (stops.Unexpected left)) e m = e ∙ m
+then_moves view r q old mid new (Err (stops.Sunk left)) e m = e ∙ m
 then_moves view r q old mid new (Err (stops.Over kind left)) e m = e ∙ m
 
 pub group_reads : (room deeper : ℕ) (inner : Level) (c : ℕ) (ts : List Token) (e : Expr) (d : ℕ) (us : List Token) (f : ℕ) (vs : List Token) (first : Expr) → inner.expr c ts ≡ got e d us → tok deeper (mark_is CloseParen) d us ≡ got tt f vs → first ≡ group e
@@ -70,3 +72,18 @@ exprs_begin deeper inner c ts e d us o p =
     let P : Reading (List Expr) → Type 0 = λ whole. Going (is_mark Comma) (λ _. made (λ (_, a). a) (tok deeper (mark_is Comma) & inner.expr)) pushed whole (e ∷ []) d us in
     subst P (sym (chooses (λ s. Some (begins_expr s)) (either_by (commas deeper inner.expr inner.expr) (nothing [])) c ts true o))
     (begins_behind (made (λ a. a ∷ []) inner.expr) (is_mark Comma) (λ _. made (λ (_, a). a) (tok deeper (mark_is Comma) & inner.expr)) pushed c ts (e ∷ []) d us (rw p refl))
+
+-- a type behind sizeof, without its closing bracket
+pub sized_stops : (b : Bool) (room : ℕ) → 0 < room → (c : ℕ) (ts : List Token) (d : ℕ) (us : List Token) (t : TypeName) (f : ℕ) (vs : List Token) (e : Stop) → ahead (is_mark OpenParen) c ts ≡ got true c ts → tok (room - 1) (mark_is OpenParen) c ts ≡ got tt d us
+    → ahead begins_type d us ≡ got true d us → (level_at b (room - 1)).type_name d us ≡ got t f vs → Fails e (tok (room - 1) (mark_is CloseParen) f vs) → Fails e ((level_at b room).sized c ts)
+unfolding sized
+sized_stops b room h c ts d us t f vs e open_ p type_ q stopped =
+    let inner = level_at b (room - 1) in
+    let bracket = tok (room - 1) (mark_is OpenParen) in
+    let close = tok (room - 1) (mark_is CloseParen) in
+    let types = made (λ (x, _). a_type x) (inner.type_name & close) in
+    let groups = made an_expr (group_rest room (room - 1) inner) in
+    let rest = either begins_type types groups in
+    let here = chosen_stops (λ s. Some (begins_type s)) (either_by types groups) d us true e type_ (made_stops (λ (x, _). a_type x) (inner.type_name & close) d us e (second_stops inner.type_name close d us t f vs e q stopped)) in
+    subst (λ (r : Reads Sized). Fails e (r c ts)) (sym (sized_at b room h))
+    (chosen_stops (λ s. Some (is_mark OpenParen s)) (either_by (made (λ (_, s). s) (bracket & rest)) (made an_expr (unary room (room - 1) inner))) c ts true e open_ (behind_stops bracket (λ _. rest) c ts tt d us e p here))

@@ -1,13 +1,13 @@
 //! What the first of the tokens is.
 
 ghost use Rattle.std.specs.Prelude.{◌≡◌};
-ghost use Rattle.c_grammar.specs.inner.Tokens.{name_of, int_of, char_of, text_of, word_is, mark_is, word_place, mark_place, prefix_of, step_of, assign_of, type_word_of, storage_of, end_of};
+ghost use Rattle.c_grammar.specs.inner.Tokens.{name_of, int_of, char_of, text_of, word_is, mark_is, word_place, mark_place, prefix_of, step_of, assign_of, binary_of, type_word_of, storage_of, end_of};
 ghost use Rattle.c_parse.specs.inner.Heads.{first_as};
 
 use crate::classes;
 use ak_words::Num;
 use c_lex::{Mark, Token, TokenKind, Word};
-use c_tree::syntax::{AssignOp, Name, PrefixOp, Span, StepOp, Storage, TypeWord};
+use c_tree::syntax::{AssignOp, BinaryOp, Name, PrefixOp, Span, StepOp, Storage, TypeWord};
 
 /// The mark, if it stands first.
 pub fn mark(tokens: &[Token], mark: Mark) -> Option<()>
@@ -175,6 +175,22 @@ pub fn assign_op(tokens: &[Token]) -> Option<(u32, AssignOp)>
         return None;
     };
     match classes::assign_of(found) {
+        Some(found) => Some((token.from, found)),
+        None => None,
+    }
+}
+
+/// A binary operator of the height, and its place.
+pub fn binary_op(tokens: &[Token], of: u32) -> Option<(u32, BinaryOp)>
+    ensures { result ≡ first_as (binary_of of) tokens.now }
+{
+    let [token, ..] = tokens else {
+        return None;
+    };
+    let TokenKind::Mark(found) = token.kind else {
+        return None;
+    };
+    match classes::binary_of(of, found) {
         Some(found) => Some((token.from, found)),
         None => None,
     }

@@ -11,6 +11,8 @@ use std::alloc::{AllocError, AllocFailed, Global};
 pub enum Stop {
     /// A token that may not stand here: so many tokens are left, it among them.
     Unexpected(usize),
+    /// A token that may not stand here, nor any other that isn't too deep: so many tokens are left, it among them.
+    Sunk(usize),
     /// A token that is over a limit, and which: so many tokens are left, it among them.
     Over(Kind, usize),
     /// Want of memory.

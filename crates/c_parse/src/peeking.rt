@@ -185,7 +185,7 @@ impl Parser<'_> {
     {
         match self.rest {
             [token, ..] if begins_expr(token.kind) => self.too_deep(),
-            _ => self.unexpected(),
+            _ => self.sunk(),
         }
     }
 
@@ -195,7 +195,7 @@ impl Parser<'_> {
     {
         match self.rest {
             [token, ..] if begins_type(token.kind) => self.too_deep(),
-            _ => self.unexpected(),
+            _ => self.sunk(),
         }
     }
 

@@ -5,22 +5,40 @@ ghost use Rattle.c_lex.specs.declared.refusal.Kind.TheVariants.{TooDeep};
 ghost use Rattle.c_grammar.specs.Leaves.{operator, derivation, beyond, first_of};
 ghost use Rattle.c_grammar.specs.inner.Readers.{deep};
 
-use crate::classes::binary_of;
 use crate::heads;
 use crate::parser::{Parser, Stop};
 use ak_words::Num;
-use c_lex::{Kind, Mark, TokenKind, Word};
+use c_lex::{Kind, Mark, Word};
 use c_tree::syntax::{AssignOp, BinaryOp, Name, PrefixOp, Span, StepOp, Storage, TypeWord};
 
 // Refusals.
 impl Parser<'_> {
-    ghost use Rattle.c_parse.specs.inner.Moves.{Checks};
+    ghost use Rattle.std.specs.Prelude.{Err};
+    ghost use Rattle.c_parse.specs.inner.Moves.{Fails, Checks};
+    ghost use Rattle.c_grammar.specs.inner.Readers.{missed, stop};
 
     /// The refusal of the next token.
     pub fn unexpected(&self) -> Stop
         ensures { result ≡ Stop.Unexpected (length self.now.rest.now) }
     {
         Stop::Unexpected(self.rest.len())
+    }
+
+    /// The refusal of the next token, where any that isn't too deep is refused too.
+    pub fn sunk(&self) -> Stop
+        ensures { result ≡ Stop.Sunk (length self.now.rest.now) }
+    {
+        Stop::Sunk(self.rest.len())
+    }
+
+    /// The refusal of the next token, which isn't the one wanted here, at the level that leaves so much room.
+    pub fn missed(&self, room: u32) -> Stop
+        ensures { Fails {A = Unit {0}} result (Err (stop (missed (deep room)) (length self.now.rest.now))) }
+    {
+        match room {
+            0 => self.sunk(),
+            _ => self.unexpected(),
+        }
     }
 
     /// The refusal of the next token, which lies too deep.
@@ -77,10 +95,10 @@ impl Parser<'_> {
         ensures takes { Takes self.old self.new result }
     {
         let Some(value) = found else {
-            return Err(self.unexpected());
+            return Err(self.missed(room));
         };
         let [_, rest @ ..] = self.rest else {
-            return Err(self.unexpected());
+            return Err(self.missed(room));
         };
         self.within(room)?;
         self.rest = rest;
@@ -129,13 +147,12 @@ impl Parser<'_> {
         ensures takes { Takes self.old self.new result }
         ensures few { IfOk result (λ _. before < 64) }
     {
-        let [token, rest @ ..] = self.rest else {
-            return Err(self.unexpected());
+        let Some(()) = heads::mark(self.rest, mark) else {
+            return Err(self.missed(room));
         };
-        match token.kind {
-            TokenKind::Mark(found) if found == mark => {}
-            _ => return Err(self.unexpected()),
-        }
+        let [_, rest @ ..] = self.rest else {
+            return Err(self.missed(room));
+        };
         self.within_derivations(before, room)?;
         self.rest = rest;
         Ok(())
@@ -147,16 +164,15 @@ impl Parser<'_> {
         ensures takes { Takes self.old self.new result }
         ensures few { IfOk result (λ _. before < 64) }
     {
-        let [token, rest @ ..] = self.rest else {
-            return Err(self.unexpected());
+        let Some(place) = heads::mark_place(self.rest, mark) else {
+            return Err(self.missed(room));
         };
-        match token.kind {
-            TokenKind::Mark(found) if found == mark => {}
-            _ => return Err(self.unexpected()),
-        }
+        let [_, rest @ ..] = self.rest else {
+            return Err(self.missed(room));
+        };
         self.within_derivations(before, room)?;
         self.rest = rest;
-        Ok(token.from)
+        Ok(place)
     }
 
     /// The place of a mark that is an operator.
@@ -164,17 +180,16 @@ impl Parser<'_> {
         ensures reads { Moves (λ a. a) (counted_tok room (mark_place mark)) self.old self.new result }
         ensures takes { Takes self.old self.new result }
     {
-        let [token, rest @ ..] = self.rest else {
-            return Err(self.unexpected());
+        let Some(place) = heads::mark_place(self.rest, mark) else {
+            return Err(self.missed(room));
         };
-        match token.kind {
-            TokenKind::Mark(found) if found == mark => {}
-            _ => return Err(self.unexpected()),
-        }
+        let [_, rest @ ..] = self.rest else {
+            return Err(self.missed(room));
+        };
         self.within_operators(room)?;
         self.count += 1;
         self.rest = rest;
-        Ok(token.from)
+        Ok(place)
     }
 
     /// `NAME`
@@ -272,18 +287,15 @@ impl Parser<'_> {
         ensures reads { Moves (λ a. a) (counted_tok room (binary_of of)) self.old self.new result }
         ensures takes { Takes self.old self.new result }
     {
-        let [token, rest @ ..] = self.rest else {
-            return Err(self.unexpected());
+        let Some(found) = heads::binary_op(self.rest, of) else {
+            return Err(self.missed(room));
         };
-        let TokenKind::Mark(mark) = token.kind else {
-            return Err(self.unexpected());
-        };
-        let Some(op) = binary_of(of, mark) else {
-            return Err(self.unexpected());
+        let [_, rest @ ..] = self.rest else {
+            return Err(self.missed(room));
         };
         self.within_operators(room)?;
         self.count += 1;
         self.rest = rest;
-        Ok((token.from, op))
+        Ok(found)
     }
 }

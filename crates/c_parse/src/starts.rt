@@ -18,14 +18,6 @@ pub enum TailStart {
     Nothing,
 }
 
-/// What stands first between the brackets of a `for`.
-#[derive(Clone, Copy)]
-pub enum FirstStart {
-    Declaration,
-    Nothing,
-    Simple,
-}
-
 /// What a statement begins with.
 #[derive(Clone, Copy)]
 pub enum StmtStart {
@@ -63,8 +55,8 @@ impl Parser<'_> {
     ghost use Rattle.c_parse.specs.inner.Moves.{Moves, Fails, peek, ahead};
     ghost use Rattle.c_grammar.specs.inner.Readers.{too_deep};
     ghost use Rattle.c_grammar.specs.inner.Tokens.{begins_simple};
-    ghost use Rattle.c_grammar.specs.inner.Reading.{tail_start, first_start, begins_stmt, begins_item, begins_external};
-    ghost use Rattle.c_parse.specs.inner.Parts.{tail_view, first_view};
+    ghost use Rattle.c_grammar.specs.inner.Reading.{tail_start, begins_stmt, begins_item, begins_external};
+    ghost use Rattle.c_parse.specs.inner.Parts.{tail_view};
 
     /// What is next behind an expression, which is a postfix or not.
     pub fn tail_start(&self, postfix: bool) -> Result<TailStart, Stop>
@@ -83,23 +75,6 @@ impl Parser<'_> {
             return Err(self.unexpected());
         }
         Ok(TailStart::Step)
-    }
-
-    /// What is next between the brackets of a `for`.
-    pub fn first_start(&self) -> Result<FirstStart, Stop>
-        ensures { Moves first_view (peek first_start) self.now self.now result }
-    {
-        let kind = self.next()?;
-        if begins_type(kind) {
-            return Ok(FirstStart::Declaration);
-        }
-        if let TokenKind::Mark(Mark::Semicolon) = kind {
-            return Ok(FirstStart::Nothing);
-        }
-        if !begins_simple(kind) {
-            return Err(self.unexpected());
-        }
-        Ok(FirstStart::Simple)
     }
 
     /// Which statement is next.
@@ -138,7 +113,7 @@ impl Parser<'_> {
     {
         match self.rest {
             [token, ..] if begins_simple(token.kind) => self.too_deep(),
-            _ => self.unexpected(),
+            _ => self.sunk(),
         }
     }
 
@@ -148,7 +123,7 @@ impl Parser<'_> {
     {
         match self.rest {
             [token, ..] if stmt_of(token.kind).is_some() => self.too_deep(),
-            _ => self.unexpected(),
+            _ => self.sunk(),
         }
     }
 }

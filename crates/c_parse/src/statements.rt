@@ -11,7 +11,7 @@ use crate::building::{
     for_of, if_of, put_inner, return_of, simple_of, while_of,
 };
 use crate::parser::{Parser, Stop};
-use crate::starts::{FirstStart, StmtStart, TailStart};
+use crate::starts::{StmtStart, TailStart};
 use c_lex::{Mark, Word};
 use c_tree::syntax::{Block, Expr, ForFirst, Simple, Stmt};
 
@@ -36,7 +36,7 @@ impl Parser<'_> {
     ghost use Rattle.c_grammar.specs.inner.Tokens.{begins_simple};
     ghost use Rattle.c_parse.specs.inner.Moves.{Moves, Takes, Keeps};
     ghost use Rattle.c_grammar.specs.inner.Reading.{level_at, simply, simple_of, simple_tail, condition, first};
-    ghost use Rattle.c_parse.specs.inner.Parts.{behind, assigned, simple_first_at};
+    ghost use Rattle.c_parse.specs.inner.Parts.{behind, assigned, simple_first_at, short_first_at};
 
     /// `assign expr | "++" | "--"` behind an expression, or nothing.
     #[tactic(auto, using(crate::proofs::CodeLoops::chooses, crate::proofs::CodeLoops::choice_fails))]
@@ -122,23 +122,30 @@ impl Parser<'_> {
         first_simple(self.alloc, simple)
     }
 
+    /// `[ simple ] ";"`, first between the brackets of a `for`.
+    #[tactic(auto, using(crate::proofs::CodeLoops::chooses, crate::proofs::CodeLoops::choice_fails))]
+    fn short_first(&mut self, room: u32) -> Result<Box<ForFirst>, Stop>
+        ensures reads { Moves boxed_first_view (short_first_at room) self.old self.new result }
+        ensures takes { Takes self.old self.new result }
+    {
+        if !self.is_next(Mark::Semicolon)? {
+            return self.simple_first(room);
+        }
+        self.expected(Mark::Semicolon, room)?;
+        first_nothing(self.alloc)
+    }
+
     /// `decl | [ simple ] ";"`, first between the brackets of a `for`.
     #[tactic(auto, unfolding(c_grammar::specs::inner::Reading::first), using(crate::proofs::CodeLoops::chooses, crate::proofs::CodeLoops::choice_fails))]
     fn first(&mut self, room: u32) -> Result<Box<ForFirst>, Stop>
         ensures reads { Moves boxed_first_view (first room) self.old self.new result }
         ensures takes { Takes self.old self.new result }
     {
-        match self.first_start()? {
-            FirstStart::Declaration => {
-                let declaration = self.declaration(room)?;
-                first_declare(self.alloc, declaration)
-            }
-            FirstStart::Nothing => {
-                self.expected(Mark::Semicolon, room)?;
-                first_nothing(self.alloc)
-            }
-            FirstStart::Simple => self.simple_first(room),
+        if !self.is_type_next()? {
+            return self.short_first(room);
         }
+        let declaration = self.declaration(room)?;
+        first_declare(self.alloc, declaration)
     }
 }
 

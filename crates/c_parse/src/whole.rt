@@ -4,7 +4,7 @@ ghost use Rattle.std.specs.Prelude.{◌≡◌, IfOk};
 ghost use Rattle.c_lex.specs.Refusals.{IfRefused};
 ghost use Rattle.c_tree.specs.SyntaxViews.{view};
 ghost use Rattle.c_grammar.specs.Laws.{EndOnce};
-ghost use Rattle.c_grammar.specs.Language.{refusal_of_word, refusal_of, Parses, RefusesTokens};
+ghost use Rattle.c_grammar.specs.Language.{refusal_of_word, refusal_of, or_too_deep, Parses, RefusesTokens};
 
 use crate::parser::{Parser, Stop};
 use c_lex::{CompileFault, Kind, Mark, Refusal, Token, TokenKind, Word};
@@ -48,6 +48,16 @@ fn refusal_of(kind: TokenKind) -> Kind
     }
 }
 
+/// Where whatever may stand lies too deep, that is told before a feature that is left out.
+fn or_too_deep(kind: Kind) -> Kind
+    ensures { result ≡ or_too_deep kind }
+{
+    match kind {
+        Kind::OutsideSubset(_) => Kind::TooDeep,
+        _ => kind,
+    }
+}
+
 /// The file of the grammar that the tokens of a text are, or the refusal of the first token that is none of a file's.
 ///
 /// The tokens end with their one `End`, as those that `c_lex::lex` gives do.
@@ -70,6 +80,13 @@ pub fn parse(alloc: Global, tokens: &[Token]) -> Result<Program, CompileFault>
             Err(CompileFault::Refused(Refusal {
                 place: token.from,
                 kind: refusal_of(token.kind),
+            }))
+        }
+        Err(Stop::Sunk(left)) => {
+            let token = tokens[tokens.len() - left];
+            Err(CompileFault::Refused(Refusal {
+                place: token.from,
+                kind: or_too_deep(refusal_of(token.kind)),
             }))
         }
         Err(Stop::Over(kind, left)) => {

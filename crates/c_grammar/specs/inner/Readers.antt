@@ -8,10 +8,15 @@ use Rattle.c_lex.specs.declared.token.Token.{Token}
 use Rattle.c_lex.specs.declared.refusal.Kind.{Kind}
 use Rattle.c_lex.specs.declared.refusal.Kind.TheVariants.{TooDeep}
 
--- why reading gives nothing: a token may not stand there, or is over a limit, where so many are left, it among them; or the
--- turns given to a loop are spent
+-- why a token is refused: it may not stand there; it may not, and each that may lies too deep; or it is past a limit
+pub data Why : Type 0 where
+  unexpected : Why
+  sunk : Why
+  past : (k : Kind) → Why
+
+-- why reading gives nothing: a token is refused, where so many are left, it among them; or the turns given to a loop are spent
 pub data Fault : Type 0 where
-  stop : (why : Option Kind) (left : ℕ) → Fault
+  stop : (why : Why) (left : ℕ) → Fault
   spent : Fault
 
 -- what was read, the operators of the full expression up to its end, and the tokens behind it
@@ -69,16 +74,21 @@ sort t = sort_of_kind t.kind
 -- a token that is over a limit is refused
 abbrev pub allowed : {A : Type 0} → A → ℕ → Token → List Token → Option Kind → Reading A
 allowed a c t ts None = got a c ts
-allowed a c t ts (Some k) = Err (stop (Some k) (length (t ∷ ts)))
+allowed a c t ts (Some k) = Err (stop (past k) (length (t ∷ ts)))
+
+-- why a token that isn't in the class is refused, where this is said of one that is
+abbrev pub missed : Option Kind → Why
+missed (Some TooDeep) = sunk
+missed _ = unexpected
 
 -- the next token as what it is in the class, unless it is over a limit; a token that isn't in the class may not stand there
 abbrev pub take_turn : {A : Type 0} → (ℕ → Option Kind) → (ℕ → ℕ) → ℕ → Token → List Token → Option A → Reading A
-take_turn check next c t ts None = Err (stop None (length (t ∷ ts)))
+take_turn check next c t ts None = Err (stop (missed (check c)) (length (t ∷ ts)))
 take_turn check next c t ts (Some a) = allowed a (next c) t ts (check c)
 
 -- one token of a class, unless it is over a limit
 abbrev pub take : {A : Type 0} → (Token → Option A) → (ℕ → Option Kind) → (ℕ → ℕ) → Reads A
-take class check next c [] = Err (stop None 0)
+take class check next c [] = Err (stop (missed (check c)) 0)
 take class check next c (t ∷ ts) = take_turn check next c t ts (class t)
 
 -- no room is left for what is nested deeper
@@ -119,12 +129,12 @@ full r c ts = do
 
 -- the part that the next token begins; a token that begins none may not stand there
 abbrev pub choice_turn : {S A : Type 0} → (S → Reads A) → ℕ → Token → List Token → Option S → Reading A
-choice_turn part c t ts None = Err (stop None (length (t ∷ ts)))
+choice_turn part c t ts None = Err (stop unexpected (length (t ∷ ts)))
 choice_turn part c t ts (Some s) = part s c (t ∷ ts)
 
 -- one of several parts, told by the token that begins it
 abbrev pub choice : {S A : Type 0} → (Sort → Option S) → (S → Reads A) → Reads A
-choice start part c [] = Err (stop None 0)
+choice start part c [] = Err (stop unexpected 0)
 choice start part c (t ∷ ts) = choice_turn part c t ts (start (sort t))
 
 -- the part where it stands, and nothing where it doesn't
@@ -136,14 +146,14 @@ maybe_by r false = nothing None
 abbrev pub maybe : {A : Type 0} → (Sort → Bool) → Reads A → Reads (Option A)
 maybe start r = choice (λ s. Some (start s)) (maybe_by r)
 
--- the token is refused: as too deep where it would begin the part, and else because it may not stand there
+-- the token is refused: as too deep where it would begin the part, and else because it may not stand there, nor any that isn't too deep
 abbrev pub refused : {A : Type 0} → Token → List Token → Bool → Reading A
-refused t ts true = Err (stop (Some TooDeep) (length (t ∷ ts)))
-refused t ts false = Err (stop None (length (t ∷ ts)))
+refused t ts true = Err (stop (past TooDeep) (length (t ∷ ts)))
+refused t ts false = Err (stop sunk (length (t ∷ ts)))
 
 -- what would begin here lies too deep
 abbrev pub too_deep : {A : Type 0} → (Sort → Bool) → Reads A
-too_deep start c [] = Err (stop None 0)
+too_deep start c [] = Err (stop sunk 0)
 too_deep start c (t ∷ ts) = refused t ts (start (sort t))
 
 -- ---- loops

@@ -436,32 +436,11 @@ simply (suc deeper) = either is_step
 unfoldable pub condition : ℕ → Reads Expr
 condition deeper = made (λ (_, (e, _)). e) (tok deeper (mark_is marks.OpenParen) & full (level_at false deeper).expr & tok deeper (mark_is marks.CloseParen))
 
--- what stands first between the brackets of a for: a declaration, nothing, or a simple statement
-pub data FirstStart : Type 0 where
-  Declared : FirstStart
-  Empty : FirstStart
-  Simply : FirstStart
-
--- which of these it is: a declaration where a type begins, nothing at a semicolon, a simple statement where one begins
-abbrev pub if_first : Bool → Bool → Bool → Option FirstStart
-if_first true b c = Some Declared
-if_first false true c = Some Empty
-if_first false false true = Some Simply
-if_first false false false = None
-
--- what the token begins there, if it begins one of these
-abbrev pub first_start : Sort → Option FirstStart
-first_start s = if_first (begins_type s) (is_mark marks.Semicolon s) (begins_simple s)
-
--- what begins so between the brackets of a for, with its semicolon (C11 6.8.5.3)
-abbrev pub first_by : ℕ → FirstStart → Reads ForFirst
-first_by room Declared = made first_declare (declaration room)
-first_by room Empty = made (λ _. first_nothing) (tok room (mark_is marks.Semicolon))
-first_by room Simply = made (λ (s, _). first_simple s) (simply room & tok room (mark_is marks.Semicolon))
-
--- decl | [ simple ] ";"
+-- decl | [ simple ] ";", first between the brackets of a for (C11 6.8.5.3)
 unfoldable pub first : ℕ → Reads ForFirst
-first room = choice first_start (first_by room)
+first room = either begins_type (made first_declare (declaration room))
+    (either (is_mark marks.Semicolon) (made (λ _. first_nothing) (tok room (mark_is marks.Semicolon)))
+    (made (λ (s, _). first_simple s) (simply room & tok room (mark_is marks.Semicolon))))
 
 -- what a statement begins with
 pub data StmtStart : Type 0 where

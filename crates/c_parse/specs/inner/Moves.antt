@@ -5,13 +5,14 @@ use Rattle.c_lex.specs.declared.refusal.Kind.{Kind}
 use Rattle.c_parse.specs.declared.parser.Parser.{Parser}
 use Rattle.c_parse.specs.declared.parser.Stop.{Stop}
 use Rattle.c_parse.specs.declared.parser.Stop.TheVariants as stops
-use Rattle.c_grammar.specs.inner.Readers.{stop, Reading, got, Reads, Sort, sort}
+use Rattle.c_grammar.specs.inner.Readers.{unexpected, sunk, past, stop, Reading, got, Reads, Sort, sort}
 
 -- what the code gives up with is the fault of reading, unless memory ran out
 abbrev pub Fails : {A : Type 0} → Stop → Reading A → Type 0
 Fails stops.NoMemory read = Unit {0}
-Fails (stops.Unexpected left) read = read ≡ Err (stop None left)
-Fails (stops.Over kind left) read = read ≡ Err (stop (Some kind) left)
+Fails (stops.Unexpected left) read = read ≡ Err (stop unexpected left)
+Fails (stops.Sunk left) read = read ≡ Err (stop sunk left)
+Fails (stops.Over kind left) read = read ≡ Err (stop (past kind) left)
 
 -- the parser reads what the reader reads from its tokens, with its count of operators, and leaves what the reader leaves, unless
 -- memory ran out
@@ -26,12 +27,12 @@ Takes old new (Err e) = Unit {0}
 
 -- what the next token begins, with all tokens left; a token that begins nothing may not stand there
 abbrev pub peek_turn : {S : Type 0} → ℕ → Token → List Token → Option S → Reading S
-peek_turn c t ts None = Err (stop None (length (t ∷ ts)))
+peek_turn c t ts None = Err (stop unexpected (length (t ∷ ts)))
 peek_turn c t ts (Some s) = got s c (t ∷ ts)
 
 -- what the next token begins, which is left
 abbrev pub peek : {S : Type 0} → (Sort → Option S) → Reads S
-peek start c [] = Err (stop None 0)
+peek start c [] = Err (stop unexpected 0)
 peek start c (t ∷ ts) = peek_turn c t ts (start (sort t))
 
 -- whether the next token is of a set
@@ -43,6 +44,7 @@ abbrev pub Checks : Option Kind → Parser → Result (Unit {0}) Stop → Type 0
 Checks over now (Ok u) = over ≡ None
 Checks over now (Err stops.NoMemory) = ⊥
 Checks over now (Err (stops.Unexpected left)) = ⊥
+Checks over now (Err (stops.Sunk left)) = ⊥
 Checks over now (Err (stops.Over kind left)) = (over ≡ Some kind) × (left ≡ length now.rest.now)
 
 -- what is read takes no token back

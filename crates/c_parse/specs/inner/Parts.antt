@@ -1,5 +1,5 @@
 -- Parts of productions, each of which the code reads by a function of its own, and what it chooses by.
-use Rattle.std.specs.Prelude.{ℕ, ◌+◌, length, List, [], ◌∷◌, Option, None, Err, Bool, true, false, map}
+use Rattle.std.specs.Prelude.{ℕ, ◌+◌, length, List, [], ◌∷◌, Option, Err, Bool, true, false, map}
 use Rattle.std.specs.Option.{option_map}
 use Rattle.c_lex.specs.declared.token.Token.{Token}
 use Rattle.c_lex.specs.declared.token.Word.TheVariants as words
@@ -8,17 +8,15 @@ use Rattle.c_tree.specs.declared.syntax.Block.{Block}
 use Rattle.c_tree.specs.declared.syntax.Name.{Name}
 use Rattle.c_tree.specs.declared.syntax.Pointer.{Pointer}
 use Rattle.c_tree.specs.declared.syntax.Storage.{Storage}
-use Rattle.c_tree.specs.Syntax.{Expr, InitDeclarator, Declaration, ParamDim, Param, Simple, before, ForFirst, first_simple, Stmt, declare, empty, break, continue, return, simple, declarator, exprs_of, Rest, function, variables, External, File}
+use Rattle.c_tree.specs.Syntax.{Expr, InitDeclarator, Declaration, ParamDim, Param, Simple, before, ForFirst, first_simple, first_nothing, Stmt, declare, empty, break, continue, return, simple, declarator, exprs_of, Rest, function, variables, External, File}
 use Rattle.c_tree.specs.SyntaxViews.{boxed_expr_view, stmt_view}
 use Rattle.c_parse.specs.declared.building.ForHead.{ForHead}
 use Rattle.c_parse.specs.declared.starts.TailStart.{TailStart}
 use Rattle.c_parse.specs.declared.starts.TailStart.TheVariants as tails
-use Rattle.c_parse.specs.declared.starts.FirstStart.{FirstStart}
-use Rattle.c_parse.specs.declared.starts.FirstStart.TheVariants as firsts
 use Rattle.c_parse.specs.declared.starts.StmtStart.{StmtStart}
 use Rattle.c_parse.specs.declared.starts.StmtStart.TheVariants as stmts
 use Rattle.c_grammar.specs.Grammar.{stars}
-use Rattle.c_grammar.specs.inner.Readers.{Reading, stop, got, Reads, ◌>>=◌, nothing, ◌▸◌, ◌&◌, made, full, maybe, links, chain, pushed, row}
+use Rattle.c_grammar.specs.inner.Readers.{Reading, unexpected, stop, got, Reads, ◌>>=◌, nothing, ◌▸◌, ◌&◌, made, full, maybe, links, chain, pushed, row}
 use Rattle.c_grammar.specs.inner.Tokens.{tok, mark_is, word_is, mark_place, word_place, name_of, step_of, storage_of, is_mark, is_word, begins_type, begins_expr, begins_simple, is_storage}
 use Rattle.c_grammar.specs.inner.Reading.{level_at, commas, either, specs, dims, init_by, bare_pointers, declared, bare_declared, value, initialised, declaration, simple_of, simple_tail, is_step, simply, first, stmt_at, begins_item, is_name, param_dim, param, params, body, named_rest, begins_external, external, file}
 use Rattle.c_grammar.specs.inner.Reading as reading
@@ -68,6 +66,10 @@ simple_by room deeper = either is_step
 -- simple ";", first between the brackets of a for
 abbrev pub simple_first_at : ℕ → Reads ForFirst
 simple_first_at room = made (λ (s, _). first_simple s) (simply room & tok room (mark_is marks.Semicolon))
+
+-- [ simple ] ";", first in them
+abbrev pub short_first_at : ℕ → Reads ForFirst
+short_first_at room = either (is_mark marks.Semicolon) (made (λ _. first_nothing) (tok room (mark_is marks.Semicolon))) (simple_first_at room)
 
 -- [ expr ] ";", second between the brackets of a for
 abbrev pub for_condition : ℕ → Reads (Option Expr)
@@ -129,12 +131,6 @@ abbrev pub tail_view : TailStart → reading.TailStart
 tail_view tails.Step = reading.Stepped
 tail_view tails.Assign = reading.Assigned
 tail_view tails.Nothing = reading.Nothing
-
--- what stands first between the brackets of a for: the code's answer, as the readers have it
-abbrev pub first_view : FirstStart → reading.FirstStart
-first_view firsts.Declaration = reading.Declared
-first_view firsts.Nothing = reading.Empty
-first_view firsts.Simple = reading.Simply
 
 -- which statement is next: the code's answer, as the readers have it
 abbrev pub stmt_start_view : StmtStart → reading.StmtStart
@@ -198,7 +194,7 @@ external_row = row begins_external external
 -- a file, and nothing behind it
 abbrev pub nothing_behind : File → ℕ → List Token → Reading File
 nothing_behind f c [] = got f c []
-nothing_behind f c (t ∷ ts) = Err (stop None (length (t ∷ ts)))
+nothing_behind f c (t ∷ ts) = Err (stop unexpected (length (t ∷ ts)))
 
 -- one file, which takes all of the tokens
 abbrev pub whole_file : Reads File

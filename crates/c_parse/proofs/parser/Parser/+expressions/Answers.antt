@@ -7,7 +7,7 @@ use Rattle.c_grammar.specs.inner.Readers.{◌&◌, made, links, pushed}
 use Rattle.c_grammar.specs.inner.Tokens.{tok, counted_tok, mark_is, is_mark, binary_of, begins_type}
 use Rattle.c_grammar.specs.inner.Reading.{level_at, group_rest, post, posted, begins_post, casted, ladder, declared, bare_declared, dim, dims}
 use Rattle.c_parse.proofs.CodeLoops.{begins, ends, end_stops, link_stops, joined_stops, front_stops, pair_stops, behind_stops, second_stops, goes, goes_joined, behind_reads, pair_reads, begins_behind}
-use Rattle.c_parse.proofs.CodeReads.{bare_declared_reads, specs_begins, exprs_begin, ladder_begins, declared_reads, group_reads, then_moves, type_name_reads, member_reads}
+use Rattle.c_parse.proofs.CodeReads.{bare_declared_reads, specs_begins, exprs_begin, ladder_begins, declared_reads, group_reads, then_moves, type_name_reads, member_reads, sized_stops}
 use Rattle.c_parse.proofs.parser.Parser.+expressions.Goals as goal
 
 pub exprs-exprs-preserved : goal.exprs-exprs-preserved
@@ -252,3 +252,10 @@ posted-posts-init t c = record {
   going = begins begins_post (λ _. post c.args.room (c.args.room - 1) (level_at c.args.braces (c.args.room - 1))) posted (boxed_expr_view c.args.first) c.args.self.now.count c.args.self.now.rest.now;
   keeps = omega arith;
 }
+
+pub sized-returns-in_err-expected-2-clause-reads : goal.sized-returns-in_err-expected-2-clause-reads
+sized-returns-in_err-expected-2-clause-reads t c =
+    let open_ = rw c.if-not-branch.false at c.in_ok-is_next.ensures in
+    let typed = rw c.if-not-branch-2.false at c.in_ok-is_type_next.ensures in
+    let p = err_from_is_err_and c.from_residual-in_err-expected-2.result c.from_residual-in_err-expected-2.ensures.1 in
+    rw (p.1, p.2) (sized_stops c.args.braces c.args.room (omega (arith, c.if-room-eq0.false)) c.args.self.now.count c.args.self.now.rest.now _ _ _ _ _ _ open_ c.in_ok-expected.ensures.reads typed c.in_ok-of.ensures.reads c.in_err-expected-2.ensures.reads)
