@@ -35,8 +35,8 @@ use Rattle.type_declared.specs.declared.locals.Param.{Param as CodeParam}
 use Rattle.type_declared.specs.LocalViews.{param_view}
 use Rattle.c_types.specs.Gathering.{each}
 use Rattle.c_types.proofs.Steps.{object_fine, err_finish}
-use Rattle.c_types.specs.inner.Gathering.{IsOutcome}
-use Rattle.c_types.specs.inner.Parts.{param_object, param_fine, param_fine_view, param_behind}
+use Rattle.c_types.specs.inner.Gathering.{IsOutcome, fine_view}
+use Rattle.c_types.specs.inner.Parts.{param_object, param_fine, param_behind}
 use Rattle.c_types.proofs.FileRows.{is_outermost, sizes_row, outermost_behind}
 use Rattle.c_types.proofs.Known.{known_left, known_gives}
 
@@ -135,7 +135,7 @@ param_told view p c n m s t r h is behind =
 pub param_ok : (p : source.Param) (J : Judged Ty) (c : Context) (m n : CodeContext) (t : Result CType CompileFault) (f : Result (Unit {0} × (Unit {0} × Unit {0})) CompileFault) (s : CType)
     (q : Result ((Unit {0} × (Unit {0} × Unit {0})) × CType) CompileFault) (x : (Unit {0} × (Unit {0} × Unit {0})) × CType) (r : Result CodeParam CompileFault)
     → Tells type_view t m (param_object (param_place p) J p c)
-    → Gives param_fine_view f (param_fine (param_place p) p.name (context_view m))
+    → Gives fine_view f (param_fine (param_place p) p.name (context_view m))
     → ((j : Judged Ty) → Gives type_view t j → type_view s ≡ or_int j)
     → context_view n ≡ with_param (context_view m) p.name (type_view s)
     → q ≡ joined f t → q ≡ Ok x
@@ -143,9 +143,9 @@ pub param_ok : (p : source.Param) (J : Judged Ty) (c : Context) (m n : CodeConte
     → Tells param_view r n (param_behind p J c)
 param_ok p J c m n t f s q x r h g w l is ok made =
     let O = param_object (param_place p) J p in
-    ok_finishes (λ (z : (Unit {0} × (Unit {0} × Unit {0})) × CType). (param_fine_view z.0, type_view z.1)) param_view (λ z. typed (record { place = param_place p; ty = z.1 }))
+    ok_finishes (λ (z : (Unit {0} × (Unit {0} × Unit {0})) × CType). (fine_view z.0, type_view z.1)) param_view (λ z. typed (record { place = param_place p; ty = z.1 }))
     (both (param_fine (param_place p) p.name (O c).1) (O c).0, with_param (O c).1 p.name (or_int (O c).0)) n (joined f t) x r
-    (object_fine param_fine_view O (λ d j. param_fine (param_place p) p.name d) (λ d t. with_param d p.name t) c m n t f s h (λ j y. g) w l) (sym is ∙ ok) made
+    (object_fine fine_view O (λ d j. param_fine (param_place p) p.name d) (λ d t. with_param d p.name t) c m n t f s h (λ j y. g) w l) (sym is ∙ ok) made
 
 -- a parameter of a place and a type
 abbrev pub param_at : ℕ → Ty → Judged Param
@@ -155,16 +155,16 @@ param_at place t = typed (record { place = place; ty = t })
 pub param_err : (p : source.Param) (J : Judged Ty) (c : Context) (m n : CodeContext) (t : Result CType CompileFault) (f : Result (Unit {0} × (Unit {0} × Unit {0})) CompileFault) (s : CType)
     (q : Result ((Unit {0} × (Unit {0} × Unit {0})) × CType) CompileFault) (e : CompileFault) (r : Result CodeParam CompileFault)
     → Tells type_view t m (param_object (param_place p) J p c)
-    → Gives param_fine_view f (param_fine (param_place p) p.name (context_view m))
+    → Gives fine_view f (param_fine (param_place p) p.name (context_view m))
     → ((j : Judged Ty) → Gives type_view t j → type_view s ≡ or_int j)
     → context_view n ≡ with_param (context_view m) p.name (type_view s)
     → q ≡ joined f t → q ≡ Err e → IsErrAnd r (λ d. d ≡ e)
     → Tells param_view r n (param_behind p J c)
 param_err p J c m n t f s q e r h g w l is err back =
     let O = param_object (param_place p) J p in
-    err_finish (λ (z : (Unit {0} × (Unit {0} × Unit {0})) × CType). (param_fine_view z.0, type_view z.1)) param_view (λ z. typed (record { place = param_place p; ty = z.1 }))
+    err_finish (λ (z : (Unit {0} × (Unit {0} × Unit {0})) × CType). (fine_view z.0, type_view z.1)) param_view (λ z. typed (record { place = param_place p; ty = z.1 }))
     (both (param_fine (param_place p) p.name (O c).1) (O c).0, with_param (O c).1 p.name (or_int (O c).0)) n (joined f t) q e r
-    (object_fine param_fine_view O (λ d j. param_fine (param_place p) p.name d) (λ d t. with_param d p.name t) c m n t f s h (λ j y. g) w l) is err back
+    (object_fine fine_view O (λ d j. param_fine (param_place p) p.name d) (λ d t. with_param d p.name t) c m n t f s h (λ j y. g) w l) is err back
 
 -- typed forms that are equal are of equals
 pub same_typed : {A : Type 0} (x y : A) → typed x ≡ typed y → x ≡ y

@@ -29,7 +29,8 @@ use Rattle.type_context.proofs.Walks.{memory_tells, known_tells, both_tell}
 use Rattle.c_types.specs.Gathering.{each}
 use Rattle.c_types.proofs.StatementsAround.{stmts_around}
 use Rattle.c_types.specs.declared.definitions.Head.{Head}
-use Rattle.c_types.specs.inner.Functions.{fine_view, result_of, head_fine, before_params, IsHead, whole_body, body_of}
+use Rattle.c_types.specs.inner.Functions.{result_of, head_fine, before_params, IsHead, whole_body, body_of}
+use Rattle.c_types.specs.inner.Gathering.{fine_view}
 
 -- ---- parameters
 

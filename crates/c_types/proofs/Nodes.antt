@@ -29,8 +29,8 @@ use Rattle.c_typing.specs.Literals.{joined_bytes, place_of_parts}
 use Rattle.c_typing.specs.Types.{behind_pointers}
 use Rattle.c_typing.specs.Scope.{Context, meaning_of}
 use Rattle.c_typing.specs.Rules.{selected, pointed, element, cast, size_number}
-use Rattle.c_typing.specs.Statements.{judged_declarator}
-use Rattle.c_typing.specs.Judgement.{judged, valued, judged_type, judged_specs, judged_spec, judged_members, judged_member, judged_declarators, judged_dims, names_in, names_of_member, named, spelled, prefixed, name_in, combined, braced, word}
+use Rattle.c_typing.specs.Statements.{judged_declarator, name_of}
+use Rattle.c_typing.specs.Judgement.{judged, valued, judged_type, judged_specs, judged_spec, judged_members, judged_member, judged_declarators, judged_dims, names_in, names_of_member, named, spelled, prefixed, name_in, braced, word}
 use Rattle.type_context.specs.declared.context.Context.{Context as CodeContext}
 use Rattle.type_context.specs.ContextViews.{context_view}
 use Rattle.type_context.specs.inner.Outcomes.{joined}
@@ -40,7 +40,7 @@ use Rattle.type_rules.specs.SpecifierViews.{numbers_view, part_view, declared_vi
 use Rattle.type_context.specs.declared.context.MemberType.{MemberType}
 use Rattle.type_context.specs.Telling.{Tells}
 use Rattle.type_context.proofs.Walks.{lone_tells}
-use Rattle.type_nodes.specs.Nodes.{Finishes, types_of_members, sized, name_of, behind_declarator, choice}
+use Rattle.type_nodes.specs.Nodes.{Finishes, types_of_members, sized, behind_declarator}
 use Rattle.type_nodes.proofs.Expressions as tellings
 use Rattle.type_nodes.proofs.Types as types
 use Rattle.c_types.proofs.Views as views
@@ -168,33 +168,28 @@ pub index_told : (x : Tree) (place : ℕ) (b : Box Tree Global) (b2 : Box Tree G
 index_told x place b b2 y z c n m a d r is is_y is_z h k f =
     as_seen x (source.index place (seen y) (seen z)) c m r (ap seen is ∙ views.index_seen place b b2 ∙ ap (λ (w : Tree). source.index place (seen w) (seen b2.value)) (sym is_y) ∙ ap (λ (w : Tree). source.index place (seen y) (seen w)) (sym is_z)) (tellings.index_tells place (seen y) (seen z) c n m a d r h k f)
 
-pub binary_told : (x : Tree) (place : ℕ) (op : BinaryOp) (b : Box Tree Global) (b2 : Box Tree Global) (y : Tree) (z : Tree) (c : Context) (n : CodeContext) (m : CodeContext) (a : Result (Box CodeExpr Global) CompileFault) (d : Result (Box CodeExpr Global) CompileFault) (r : Result (Box CodeExpr Global) CompileFault)
+pub binary_told : (x : Tree) (place : ℕ) (op : BinaryOp) (b : Box Tree Global) (b2 : Box Tree Global) (y : Tree) (z : Tree) (c : Context) (n : CodeContext) (r : Result (Box CodeExpr Global) CompileFault)
     → x ≡ codes.Binary place op b b2
     → y ≡ b.value
     → z ≡ b2.value
-    → Tells boxed_expr_view a n (valued (judged (seen y)) c)
-    → Tells boxed_expr_view d m (valued (judged (seen z)) (context_view n))
-    → Finishes boxed_expr_view (joined a d) (λ p. combined (context_view m) place op (boxed_expr_view p.0) (boxed_expr_view p.1)) r
-    → Tells boxed_expr_view r m (judged (seen x) c)
-binary_told x place op b b2 y z c n m a d r is is_y is_z h k f =
-    as_seen x (source.binary place op (seen y) (seen z)) c m r (ap seen is ∙ views.binary_seen place op b b2 ∙ ap (λ (w : Tree). source.binary place op (seen w) (seen b2.value)) (sym is_y) ∙ ap (λ (w : Tree). source.binary place op (seen y) (seen w)) (sym is_z)) (tellings.binary_tells place op (seen y) (seen z) c n m a d r h k f)
+    → Tells boxed_expr_view r n (judged (source.binary place op (seen y) (seen z)) c)
+    → Tells boxed_expr_view r n (judged (seen x) c)
+binary_told x place op b b2 y z c n r is is_y is_z h =
+    as_seen x (source.binary place op (seen y) (seen z)) c n r (ap seen is ∙ views.binary_seen place op b b2 ∙ ap (λ (w : Tree). source.binary place op (seen w) (seen b2.value)) (sym is_y) ∙ ap (λ (w : Tree). source.binary place op (seen y) (seen w)) (sym is_z)) h
 
-pub conditional_told : (x : Tree) (place : ℕ) (b : Box Tree Global) (b2 : Box Tree Global) (b3 : Box Tree Global) (y : Tree) (z : Tree) (w : Tree) (c : Context) (n : CodeContext) (m : CodeContext) (o : CodeContext) (a : Result (Box CodeExpr Global) CompileFault) (d : Result (Box CodeExpr Global) CompileFault) (e : Result (Box CodeExpr Global) CompileFault) (r : Result (Box CodeExpr Global) CompileFault)
+pub conditional_told : (x : Tree) (place : ℕ) (b : Box Tree Global) (b2 : Box Tree Global) (b3 : Box Tree Global) (y : Tree) (z : Tree) (w : Tree) (c : Context) (n : CodeContext) (r : Result (Box CodeExpr Global) CompileFault)
     → x ≡ codes.Conditional place b b2 b3
     → y ≡ b.value
     → z ≡ b2.value
     → w ≡ b3.value
-    → Tells boxed_expr_view a n (valued (judged (seen y)) c)
-    → Tells boxed_expr_view d m (valued (judged (seen z)) (context_view n))
-    → Tells boxed_expr_view e o (valued (judged (seen w)) (context_view m))
-    → Finishes boxed_expr_view (joined a (joined d e)) (λ p. choice place (boxed_expr_view p.0) (boxed_expr_view p.1.0) (boxed_expr_view p.1.1)) r
-    → Tells boxed_expr_view r o (judged (seen x) c)
-conditional_told x place b b2 b3 y z w c n m o a d e r is is_y is_z is_w h k l f =
+    → Tells boxed_expr_view r n (judged (source.conditional place (seen y) (seen z) (seen w)) c)
+    → Tells boxed_expr_view r n (judged (seen x) c)
+conditional_told x place b b2 b3 y z w c n r is is_y is_z is_w h =
     let is_all = ap seen is ∙ views.conditional_seen place b b2 b3
     ∙ ap (λ (q : Tree). source.conditional place (seen q) (seen b2.value) (seen b3.value)) (sym is_y)
     ∙ ap (λ (q : Tree). source.conditional place (seen y) (seen q) (seen b3.value)) (sym is_z)
     ∙ ap (λ (q : Tree). source.conditional place (seen y) (seen z) (seen q)) (sym is_w) in
-    as_seen x (source.conditional place (seen y) (seen z) (seen w)) c o r is_all (tellings.conditional_tells place (seen y) (seen z) (seen w) c n m o a d e r h k l f)
+    as_seen x (source.conditional place (seen y) (seen z) (seen w)) c n r is_all h
 
 -- ---- specifiers
 

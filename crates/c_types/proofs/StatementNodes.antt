@@ -9,7 +9,7 @@ use Rattle.c_tree.specs.declared.syntax.Name.{Name}
 use Rattle.c_tree.specs.declared.syntax.Declarator.{Declarator as CodeDeclarator}
 use Rattle.c_tree.specs.declared.syntax.Expr.TheFolds.{fold_out-Declarator}
 use Rattle.c_tree.specs.SyntaxViews.{declarator_view, expr_layer, spec_layer, declarator_layer, member_layer, type_name_layer}
-use Rattle.c_tree.specs.Typed.{Ty, Stmt, more_stmts, at_stmt, declare, stmts_of}
+use Rattle.c_tree.specs.Typed.{Ty, at_stmt, declare}
 use Rattle.c_tree.specs.TypedViews as views
 use Rattle.c_tree.specs.TypedViews.{type_view, boxed_expr_view, stmt_view}
 use Rattle.c_tree.specs.declared.typed.CType.{CType}
@@ -26,17 +26,13 @@ use Rattle.type_context.specs.Telling.{Leaves, Tells, lacks_memory}
 use Rattle.std.specs.Result.{IsErrAnd}
 use Rattle.type_context.proofs.Walks.{joined_keeps, ok_finishes}
 use Rattle.c_types.specs.Objects.{object_of}
-use Rattle.c_types.specs.inner.Nodes.{fine_local, fine_view}
+use Rattle.c_types.specs.inner.Nodes.{fine_local}
+use Rattle.c_types.specs.inner.Gathering.{fine_view}
 use Rattle.c_types.proofs.Steps.{declared_parts, object_parts, err_finish}
 
 -- into an empty scope
 pub entered : (m : CodeContext) (c : Context) (es : List (Bor (List ℕ) × CodeMeaning)) → context_view m ≡ record (inside c) { inner = frame_view es } → es ≡ [] → context_view m ≡ inside c
 entered m c es h none = h ∙ ap (λ fs. record (inside c) { inner = frame_view fs }) none
-
--- the two lists of statements in a row are one
-pub same_stmts : (ss : List Stmt) → stmts_of ss ≡ stmts_of ss
-same_stmts [] = refl
-same_stmts (s ∷ ss) = ap (more_stmts s) (same_stmts ss)
 
 -- the name that a declarator of the code declares
 pub declared_name : (d : CodeDeclarator) → name_of (declarator_view d) ≡ d.name

@@ -39,11 +39,6 @@ fails_passes view r e j h p =
     let q = err_from_is_err_and r p in
     subst (λ s. Gives view s j) (sym (q.1 ∙ ap Err q.2)) h
 
--- a rule on one part that is typed
-pub one_rules : {A B C D : Type 0} (va : A → C) (vr : B → D) (J : Judging C) (rule : Context → C → Judged D) (c : Context) (n : CodeContext) (a : Result A CompileFault) (x : A) (r : Result B CompileFault)
-    → Tells va a n (J c) → a ≡ Ok x → Gives vr r (rule (context_view n) (va x)) → Tells vr r n (ruled J rule c)
-one_rules va vr J rule c n a x r h is g = ok_tells va vr J rule c n a x r h is g
-
 -- the same value of another type
 pub ok_again : {A B C : Type 0} (va : A → C) (vr : B → C) (p : Judged C × Context) (n : CodeContext) (a : Result A CompileFault) (x : A) (y : B) → Tells va a n p → a ≡ Ok x → vr y ≡ va x → Tells vr (Ok y) n p
 ok_again va vr p n a x y h is same =

@@ -8,20 +8,21 @@ ghost use Rattle.c_tree.specs.TypedViews.{type_view, boxed_expr_view, stmt_view}
 ghost use Rattle.c_typing.specs.Faults.{Judged, Gives};
 ghost use Rattle.c_typing.specs.Statements.{judged_init, judged_local, judged_locals, judged_declaration};
 ghost use Rattle.type_context.specs.ContextViews.{context_view};
-ghost use Rattle.type_context.specs.Telling.{Tells};
+ghost use Rattle.type_context.specs.Telling.{Tells, Says};
 ghost use Rattle.c_types.specs.Gathering.{each};
 ghost use Rattle.c_types.specs.Objects.{object_of};
-ghost use Rattle.c_types.specs.inner.Nodes.{initial_of, initialiser, fine_local, fine_view};
+ghost use Rattle.c_types.specs.inner.Nodes.{initial_of, initialiser, fine_local};
+ghost use Rattle.c_types.specs.inner.Gathering.{fine_view};
 
 use crate::declarators::{declarator, specifiers};
 use crate::expressions::value;
-use c_lex::CompileFault;
+use c_lex::{CompileFault, Refusal};
 use c_tree::syntax as tree;
 use c_tree::syntax::Name;
 use c_tree::typed::{CType, Expr, Stmt, StmtNode};
 use std::alloc::Global;
 use type_context::context::{Context, count, within};
-use type_context::faults::both;
+use type_context::faults::{as_fault, both, both_or_refusal};
 use type_context::outcomes::{again, pushed};
 use type_declared::headers::unboxed;
 use type_declared::objects::{declare_local, or_int};
@@ -90,11 +91,11 @@ fn init(
 }
 
 // What is judged at a local's name, whatever its type is.
-fn fine_local(context: &Context<'_>, name: Name) -> Result<((), ()), CompileFault>
-    ensures { Gives fine_view result (fine_local name (context_view context.now)) }
+fn fine_local(context: &Context<'_>, name: Name) -> Result<((), ()), Refusal>
+    ensures { Says fine_view result (fine_local name (context_view context.now)) }
 {
     let few = within(name.from, 5, MOST_LOCALS, context.locals.len());
-    both(context.fresh(name), few)
+    both_or_refusal(context.fresh(name), few)
 }
 
 // The number of the next local.
@@ -115,7 +116,7 @@ fn local(
 {
     let name = x.declarator.name;
     let t = object_of(context, base, &x.declarator);
-    let fine = fine_local(context, name);
+    let fine = as_fault(fine_local(context, name));
     let number = local_number(context)?;
     let declared = or_int(context.alloc, &t)?;
     declare_local(context, name, declared)?;

@@ -19,6 +19,7 @@ use c_tree::syntax as tree;
 use c_tree::syntax::Name;
 use c_tree::typed::CType;
 use type_context::context::{Context, MemberType};
+use type_context::faults::as_fault;
 use type_context::outcomes::{again, appended, pushed};
 use type_nodes::structs::{
     closed, declared, fresh_member, member_object, member_type, member_types, named_tag, opened,
@@ -79,7 +80,7 @@ fn braces(context: &mut Context<'_>, tag: Name, all: &[tree::Member]) -> Result<
     ensures { Tells part_view result context.new (braced tag (judged_members [] (trees.members_row (map source.member_view all.now))) (context_view context.old)) }
 {
     let number = named_tag(context, tag)?;
-    let opened = opened(context, tag, number);
+    let opened = as_fault(opened(context, tag, number));
     let again = context.is_begun(number);
     context.begin(number)?;
     let members = members(context, all);
@@ -131,7 +132,7 @@ fn declarators<'t>(
 {
     let mut all = Ok(Vec::new(context.alloc));
     'declarators: for d in declarators {
-        let fresh = fresh_member(context, before, d.name);
+        let fresh = as_fault(fresh_member(context, before, d.name));
         let sizes = dimensions(context, &d.dims);
         let base = again(context.alloc, base);
         let ty = member_object(context, base, d, sizes);

@@ -13,7 +13,8 @@ ghost use Rattle.type_declared.specs.FunctionNames.{IsDefined};
 ghost use Rattle.type_declared.specs.LocalViews.{param_view};
 ghost use Rattle.type_context.specs.Telling.{Tells};
 ghost use Rattle.c_types.specs.Gathering.{each};
-ghost use Rattle.c_types.specs.inner.Functions.{fine_view, result_of, types_fine, head_fine, IsHead, func_made, whole_body, body_of};
+ghost use Rattle.c_types.specs.inner.Functions.{result_of, types_fine, head_fine, IsHead, func_made, whole_body, body_of};
+ghost use Rattle.c_types.specs.inner.Gathering.{fine_view};
 
 use crate::outcomes::outcome;
 use crate::parameters::param_list;
@@ -25,7 +26,7 @@ use c_tree::typed::{CType, Func, Stmt};
 use indexmap::IndexMap;
 use std::alloc::Global;
 use type_context::context::{Context, Frame};
-use type_context::faults::both;
+use type_context::faults::{as_fault, both};
 use type_context::kinds::copy_type;
 use type_context::outcomes::again;
 use type_declared::functions::{
@@ -47,7 +48,7 @@ fn result_of(
 {
     let named = base?;
     let behind = behind_pointers(alloc, named, pointers)?;
-    result_type(place, behind)
+    as_fault(result_type(place, behind))
 }
 
 // The types of parameters, or none where one is at fault.
@@ -91,7 +92,7 @@ fn types_fine(
     let types = typed_params(context.alloc, params);
     let returned = again(context.alloc, returned);
     let (types, returned) = both(types, returned)?;
-    type_fine(context, name, &types, &returned)
+    as_fault(type_fine(context, name, &types, &returned))
 }
 
 // The types of parameters that are typed.
@@ -119,7 +120,8 @@ fn head_fine(
     ensures { (names : List (List ℕ)) (j : Judged (List numbers.Param)) (k : Judged Ty) → IsDefined names defined.now → Gives (each param_view) params.now j → Gives type_view returned.now k → Gives fine_view result (head_fine (context_view context.now) names name (option_map source.body_view body.now) j k) }
 {
     let types = types_fine(context, name, params, returned);
-    both(name_fine(context, defined, name, body), types)
+    let named = as_fault(name_fine(context, defined, name, body));
+    both(named, types)
 }
 
 // ---- parameters and bodies

@@ -11,7 +11,8 @@ ghost use Rattle.type_context.specs.ContextViews.{context_view};
 ghost use Rattle.type_context.specs.Telling.{Tells};
 ghost use Rattle.c_types.specs.Gathering.{each};
 ghost use Rattle.c_types.specs.Objects.{object_of};
-ghost use Rattle.c_types.specs.inner.Parts.{param_fine_view, global_fine, global_start};
+ghost use Rattle.c_types.specs.inner.Parts.{global_fine, global_start};
+ghost use Rattle.c_types.specs.inner.Gathering.{fine_view};
 
 use crate::declarations::object_of;
 use crate::expressions::value;
@@ -20,7 +21,7 @@ use c_tree::syntax as tree;
 use c_tree::syntax::Name;
 use c_tree::typed::{CType, Expr, GlobalVar, Init};
 use type_context::context::{Context, within};
-use type_context::faults::both;
+use type_context::faults::{as_fault, both};
 use type_context::outcomes::{again, pushed};
 use type_declared::initials::{is_null_word, literal_of, number_at, started_with, string_at};
 use type_declared::objects::{declare_global, global_fits, or_int};
@@ -64,7 +65,7 @@ fn global_start(
     let t = again(context.alloc, t);
     let value = value(context, e);
     let (t, value) = both(t, value)?;
-    started_with(place, init_at(context, &t, e, &value))
+    as_fault(started_with(place, init_at(context, &t, e, &value)))
 }
 
 // An initialiser of a global, or none.
@@ -88,11 +89,11 @@ fn global_fine(
     name: Name,
     t: &Result<CType, CompileFault>,
 ) -> Result<((), ((), ())), CompileFault>
-    ensures { (j : Judged Ty) → Gives type_view t.now j → Gives param_fine_view result (global_fine name (context_view context.now) j) }
+    ensures { (j : Judged Ty) → Gives type_view t.now j → Gives fine_view result (global_fine name (context_view context.now) j) }
 {
-    let few = within(name.from, 2, MOST_GLOBALS, context.globals.len());
+    let few = as_fault(within(name.from, 2, MOST_GLOBALS, context.globals.len()));
     let room = both(few, global_fits(context, name.from, t));
-    both(context.fresh(name), room)
+    both(as_fault(context.fresh(name)), room)
 }
 
 // A global, at its name; it is in scope directly behind its declarator.

@@ -9,20 +9,21 @@ ghost use Rattle.c_typing.specs.Judgement.{object_type};
 ghost use Rattle.c_typing.specs.Programs.{judged_size, judged_sizes, known, adjusted, param_type, param_place, judged_param, judged_params, is_bare, void_by, judged_param_list};
 ghost use Rattle.type_context.specs.ContextViews.{context_view};
 ghost use Rattle.type_declared.specs.LocalViews.{param_view};
-ghost use Rattle.type_context.specs.Telling.{Tells, lacks_memory};
+ghost use Rattle.type_context.specs.Telling.{Tells, Says, lacks_memory};
 ghost use Rattle.c_types.specs.Gathering.{each};
-ghost use Rattle.c_types.specs.inner.Parts.{is_none_by, sizes_view, some_size, lacking, adjusted_param, param_object, param_fine, param_fine_view, param_behind};
+ghost use Rattle.c_types.specs.inner.Parts.{is_none_by, sizes_view, some_size, lacking, adjusted_param, param_object, param_fine, param_behind};
+ghost use Rattle.c_types.specs.inner.Gathering.{fine_view};
 
 use crate::declarations::MOST_LOCALS;
 use crate::declarators::{array_size, specifiers};
 use crate::outcomes::outcome;
-use c_lex::{CompileFault, Kind};
+use c_lex::{CompileFault, Kind, Refusal};
 use c_tree::syntax as tree;
 use c_tree::syntax::{Name, Pointer};
 use c_tree::typed::CType;
 use std::alloc::{AllocError, Global};
 use type_context::context::{Context, within};
-use type_context::faults::{both, refused};
+use type_context::faults::{as_fault, both, both_or_refusal};
 use type_context::kinds::is_void;
 use type_context::outcomes::pushed;
 use type_declared::functions::param_type;
@@ -52,18 +53,21 @@ fn size(
 {
     match &d.size {
         Some(e) => some_size(context, e),
-        None => lacking(outermost, d.place),
+        None => as_fault(lacking(outermost, d.place)),
     }
 }
 
 // A size that lacks.
-fn lacking(outermost: bool, place: u32) -> Result<Option<u32>, CompileFault>
-    ensures { Gives (λ n. n) result (lacking outermost place) }
+fn lacking(outermost: bool, place: u32) -> Result<Option<u32>, Refusal>
+    ensures { Says (λ n. n) result (lacking outermost place) }
 {
     if outermost {
         Ok(None)
     } else {
-        refused(place, Kind::BadSize)
+        Err(Refusal {
+            place,
+            kind: Kind::BadSize,
+        })
     }
 }
 
@@ -151,7 +155,7 @@ fn adjusted_param(
 {
     let behind = behind_pointers(context.alloc, base, pointers)?;
     let whole = adjusted(context, place, behind, sizes)?;
-    param_type(context, place, whole)
+    as_fault(param_type(context, place, whole))
 }
 
 // The type of a parameter, behind its specifiers.
@@ -186,15 +190,15 @@ fn param_fine(
     context: &Context<'_>,
     place: u32,
     name: Option<Name>,
-) -> Result<((), ((), ())), CompileFault>
-    ensures { Gives param_fine_view result (param_fine place name (context_view context.now)) }
+) -> Result<((), ((), ())), Refusal>
+    ensures { Says fine_view result (param_fine place name (context_view context.now)) }
 {
     let count = context.locals.len();
-    let few = both(
+    let few = both_or_refusal(
         within(place, 6, 16, count),
         within(place, 5, MOST_LOCALS, count),
     );
-    both(fresh_if(context, name), few)
+    both_or_refusal(fresh_if(context, name), few)
 }
 
 // A parameter, behind its specifiers.
@@ -207,7 +211,7 @@ fn param_behind(
 {
     let place = param_place(p);
     let t = param_object(context, place, base, p);
-    let fine = param_fine(context, place, p.name);
+    let fine = as_fault(param_fine(context, place, p.name));
     let declared = or_int(context.alloc, &t)?;
     declare_param(context, p.name, declared)?;
     let (_, ty) = both(fine, t)?;

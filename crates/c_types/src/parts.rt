@@ -8,19 +8,19 @@ ghost use Rattle.c_typing.specs.Judgement.{ruled};
 ghost use Rattle.c_typing.specs.Statements as rules;
 ghost use Rattle.c_typing.specs.Statements.{judged_simple, returned, judged_first, judged_condition, judged_step};
 ghost use Rattle.type_context.specs.ContextViews.{context_view};
-ghost use Rattle.type_context.specs.Telling.{Tells};
+ghost use Rattle.type_context.specs.Telling.{Tells, Says};
 ghost use Rattle.c_types.specs.Gathering.{each};
 ghost use Rattle.c_types.specs.inner.Nodes.{returned_none, returned_value, jump_of};
 
 use crate::declarations::declaration;
 use crate::expressions::value;
 use crate::simples::simple;
-use c_lex::{CompileFault, Kind};
+use c_lex::{CompileFault, Kind, Refusal};
 use c_tree::syntax as tree;
 use c_tree::typed::{CType, Expr, Stmt, StmtNode};
 use std::alloc::Global;
 use type_context::context::Context;
-use type_context::faults::unless;
+use type_context::faults::{as_fault, unless};
 use type_context::kinds::is_void;
 use type_declared::headers::nothing;
 use type_rules::assignments::returned_by;
@@ -61,9 +61,9 @@ fn returned_value(
 }
 
 // A `return` with no value.
-#[tactic(auto, using(type_context::proofs::Judging::fails_part))]
-fn returned_nothing(place: u32, t: &CType) -> Result<Stmt, CompileFault>
-    ensures { Gives stmt_view result (returned_none place (type_view t.now)) }
+#[tactic(auto, using(type_context::proofs::Judging::refused_part))]
+fn returned_nothing(place: u32, t: &CType) -> Result<Stmt, Refusal>
+    ensures { Says stmt_view result (returned_none place (type_view t.now)) }
 {
     unless(place, Kind::TypeMismatch, is_void(t))?;
     Ok(Stmt {
@@ -83,7 +83,7 @@ fn returned(
 {
     match value {
         Some(e) => returned_value(context, place, t, e),
-        None => returned_nothing(place, t),
+        None => as_fault(returned_nothing(place, t)),
     }
 }
 
@@ -97,7 +97,7 @@ pub(crate) fn jump(
     ensures { Gives (each stmt_view) result (jump_of place in_loop (stmt_node_view node)) }
 {
     let all = alone(alloc, Stmt { place, node })?;
-    unless(place, Kind::TypeMismatch, in_loop)?;
+    as_fault(unless(place, Kind::TypeMismatch, in_loop))?;
     Ok(all)
 }
 

@@ -6,6 +6,7 @@ use Rattle.c_lex.specs.declared.refusal.CompileFault.{CompileFault}
 use Rattle.c_lex.specs.declared.refusal.CompileFault.TheVariants.{Refused, NoMemory}
 use Rattle.c_typing.specs.Faults.{Judged, typed, faulty, Fails, Gives, ◌>>=◌, both, earlier, least}
 use Rattle.type_context.specs.inner.Outcomes.{joined}
+use Rattle.type_context.specs.Telling.{as_fault, Says}
 
 -- what fails where there is a typed form lacks memory, and may fail anywhere
 pub fails_typed : {A B : Type 0} (y : A) (j : Judged B) (e : CompileFault) → Fails e (typed y) → Fails e j
@@ -17,6 +18,14 @@ pub fails_part : {A B : Type 0} (j : Judged A) (f : A → Judged B) (e : Compile
 fails_part j f NoMemory h = tt
 fails_part (typed x) f (Refused r) h = cc
 fails_part (faulty s ss) f (Refused r) h = h
+
+-- the refusal at a part is that at the node
+pub refused_part : {A B : Type 0} (j : Judged A) (f : A → Judged B) (r : Refusal) → Fails (Refused r) j → Fails (Refused r) (j >>= f)
+refused_part j f r h = fails_part j f (Refused r) h
+
+-- what was said is given where memory might have run out
+pub fault_gives : {A B : Type 0} (view : A → B) (r : Result A Refusal) (f : Result A CompileFault) (j : Judged B) → f ≡ as_fault r → Says view r j → Gives view f j
+fault_gives view r f j is h = subst (λ x. Gives view x j) (sym is) h
 
 earlier_assoc : (a b c : Refusal) → earlier (earlier a b) c ≡ earlier a (earlier b c)
 unfolding earlier

@@ -82,7 +82,7 @@ appended_tells view (Err e) (Err (Refused s)) J c m h is =
 pub starts : {A B : Type 0} (view : A → B) (v : Vec A Global) (n : CodeContext) → v.items ≡ [] → Tells (λ (w : Vec A Global). map view w.items) (Ok v) n (typed [], context_view n)
 starts view v n none = known_tells (λ (w : Vec _ Global). map view w.items) (Ok v) n (typed []) (context_view n) (ap typed (sym (ap (map view) none))) refl
 
-one_more : {X Y : Type 0} (v : Y → X) (xs : List Y) (i : ℕ) (y : Y) → i < length xs → y ≡ get_or xs i y → map v (take (i + 1) xs) ≡ map v (take i xs) ++ v y ∷ []
+pub one_more : {X Y : Type 0} (v : Y → X) (xs : List Y) (i : ℕ) (y : Y) → i < length xs → y ≡ get_or xs i y → map v (take (i + 1) xs) ≡ map v (take i xs) ++ v y ∷ []
 one_more v xs i y lt is = ap (map v) (take_more xs i y lt ∙ ap (λ z. take i xs ++ z ∷ []) (sym is)) ∙ map-append v (take i xs) (y ∷ [])
 
 module _ {S X Y A B : Type 0} (view : A → B) (node : S → X → Judging B) (next : S → X → S) (s : S) (v : Y → X) where

@@ -5,7 +5,6 @@ ghost use Rattle.std.specs.Map.{lookup};
 ghost use Rattle.std.specs.Str.{bytes_eq};
 ghost use Rattle.c_lex.specs.declared.refusal.CompileFault.TheVariants.{NoMemory};
 ghost use Rattle.c_tree.specs.TypedViews.{type_view};
-ghost use Rattle.c_typing.specs.Faults.{Gives};
 ghost use Rattle.c_tree.specs.TypedForm as forms;
 ghost use Rattle.c_typing.specs.Scope as scopes;
 ghost use Rattle.c_typing.specs.Scope.{bytes_of, or_else, found, meaning_of, is_double, fresh, declared, inside, back_to, within, fits_plain, tag_number, with_tag, is_begun, with_begun, with_struct, member_among, member_of};
@@ -13,6 +12,7 @@ ghost use Rattle.c_typing.specs.Constants.{is_constant_name};
 ghost use Rattle.c_tree.specs.Typed.{Ty};
 ghost use Rattle.c_typing.specs.Judgement.{with_literal, with_addressed, meaning_in};
 ghost use Rattle.type_context.specs.inner.Contexts.{local_in};
+ghost use Rattle.type_context.specs.Telling.{Says};
 ghost use Rattle.c_tree.specs.TypedViews.{layout_view};
 ghost use Rattle.c_tree.specs.TypedLayout.{laid_out};
 ghost use Rattle.type_context.specs.ContextViews.{context_view, binding_view, frame_view, seen, bytes_view, types_view, members_view, member_view};
@@ -21,7 +21,7 @@ use crate::faults::unless;
 use crate::kinds::copy_type;
 use crate::layouts::lay_out;
 use crate::names::{Binding, Library, copy_meaning, library_name};
-use c_lex::{CompileFault, Kind};
+use c_lex::{CompileFault, Kind, Refusal};
 use c_tree::syntax::Name;
 use c_tree::typed::{CType, Layout, Literal};
 use indexmap::{IndexMap, IndexSet};
@@ -146,8 +146,8 @@ impl<'t> Context<'t> {
     }
 
     /// Whether a name may be declared in the innermost scope.
-    pub fn fresh(&self, name: Name) -> Result<(), CompileFault>
-        ensures { Gives (λ _. tt) result (fresh (context_view self.now) name) }
+    pub fn fresh(&self, name: Name) -> Result<(), Refusal>
+        ensures { Says (λ _. tt) result (fresh (context_view self.now) name) }
     {
         unless(name.from, Kind::DoubleName, !self.is_double(name))
     }
@@ -214,8 +214,8 @@ impl<'t> Context<'t> {
     // ---- literals, and the bytes of plain objects
 
     /// Whether an object of so many bytes more fits.
-    pub fn fits_plain(&self, place: u32, size: u32) -> Result<(), CompileFault>
-        ensures { Gives (λ _. tt) result (fits_plain (context_view self.now) place size) }
+    pub fn fits_plain(&self, place: u32, size: u32) -> Result<(), Refusal>
+        ensures { Says (λ _. tt) result (fits_plain (context_view self.now) place size) }
     {
         let all = self.plain.checked_add(taken(size));
         unless(
@@ -387,8 +387,8 @@ pub fn count(length: usize) -> Result<u32, CompileFault>
 }
 
 /// Whether fewer than so many were there before.
-pub fn within(place: u32, count: u8, most: usize, before: usize) -> Result<(), CompileFault>
-    ensures { Gives (λ _. tt) result (within place count most before) }
+pub fn within(place: u32, count: u8, most: usize, before: usize) -> Result<(), Refusal>
+    ensures { Says (λ _. tt) result (within place count most before) }
 {
     unless(place, Kind::TooMany(count), before < most)
 }

@@ -1,8 +1,9 @@
 //! Refusals: which of two is named, and the outcomes of two parts.
 ghost use Rattle.std.specs.Prelude.{◌≡◌, Err};
 ghost use Rattle.c_lex.specs.declared.refusal.CompileFault.TheVariants.{Refused};
-ghost use Rattle.c_typing.specs.Faults.{Gives, number, comes_before, earlier, unless};
+ghost use Rattle.c_typing.specs.Faults.{number, comes_before, earlier, unless};
 ghost use Rattle.type_context.specs.inner.Outcomes.{joined};
+ghost use Rattle.type_context.specs.Telling.{as_fault, Says};
 
 use c_lex::{CompileFault, Kind, Refusal};
 
@@ -62,6 +63,22 @@ pub fn both<A: Drop, B: Drop>(
     }
 }
 
+/// Both parts, where neither takes memory.
+#[tactic(auto, unfolding(crate::specs::inner::Outcomes::joined))]
+pub fn both_or_refusal<A: Drop, B: Drop>(
+    a: Result<A, Refusal>,
+    b: Result<B, Refusal>,
+) -> Result<(A, B), Refusal>
+    ensures { as_fault result ≡ joined (as_fault a) (as_fault b) }
+{
+    match (a, b) {
+        (Ok(a), Ok(b)) => Ok((a, b)),
+        (Ok(_), Err(r)) => Err(r),
+        (Err(r), Ok(_)) => Err(r),
+        (Err(r), Err(s)) => Err(earlier(r, s)),
+    }
+}
+
 /// A refusal at a place.
 pub fn refused<T>(place: u32, kind: Kind) -> Result<T, CompileFault>
     ensures { result ≡ Err (Refused (record { place = place; kind = kind })) }
@@ -70,8 +87,22 @@ pub fn refused<T>(place: u32, kind: Kind) -> Result<T, CompileFault>
 }
 
 /// Nothing is wrong, or one thing is.
-pub fn unless(place: u32, kind: Kind, fine: bool) -> Result<(), CompileFault>
-    ensures { Gives (λ _. tt) result (unless place kind fine) }
+pub fn unless(place: u32, kind: Kind, fine: bool) -> Result<(), Refusal>
+    ensures { Says (λ _. tt) result (unless place kind fine) }
 {
-    if fine { Ok(()) } else { refused(place, kind) }
+    if fine {
+        Ok(())
+    } else {
+        Err(Refusal { place, kind })
+    }
+}
+
+/// What a function that takes no memory returned, where memory may run out too.
+pub fn as_fault<T>(r: Result<T, Refusal>) -> Result<T, CompileFault>
+    ensures { result ≡ as_fault r }
+{
+    match r {
+        Ok(x) => Ok(x),
+        Err(r) => Err(CompileFault::Refused(r)),
+    }
 }

@@ -3,23 +3,20 @@ ghost use Rattle.c_tree.specs.Typed.{Ty};
 ghost use Rattle.c_tree.specs.TypedViews.{type_view};
 ghost use Rattle.c_typing.specs.Faults.{Judged, Gives};
 ghost use Rattle.type_context.specs.inner.Outcomes.{joined};
-ghost use Rattle.type_context.specs.Telling.{both_fine};
+ghost use Rattle.type_context.specs.Telling.{Says, both_fine};
 ghost use Rattle.type_context.specs.Rows.{IsPushed, IsAppended};
 
-use crate::faults::both;
+use crate::faults::{both, both_or_refusal};
 use crate::kinds::copy_type;
-use c_lex::CompileFault;
+use c_lex::{CompileFault, Refusal};
 use c_tree::typed::CType;
 use std::alloc::Global;
 
 /// Whether two things are fine.
-pub fn both_fine(
-    a: Result<(), CompileFault>,
-    b: Result<(), CompileFault>,
-) -> Result<(), CompileFault>
-    ensures { (j k : Judged (Unit {0})) → Gives (λ _. tt) a j → Gives (λ _. tt) b k → Gives (λ _. tt) result (both_fine j k) }
+pub fn both_fine(a: Result<(), Refusal>, b: Result<(), Refusal>) -> Result<(), Refusal>
+    ensures { (j k : Judged (Unit {0})) → Says (λ _. tt) a j → Says (λ _. tt) b k → Says (λ _. tt) result (both_fine j k) }
 {
-    both(a, b)?;
+    both_or_refusal(a, b)?;
     Ok(())
 }
 

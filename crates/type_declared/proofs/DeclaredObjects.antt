@@ -5,7 +5,7 @@ use Rattle.ak_words.specs.IntType.{int}
 use Rattle.c_lex.specs.declared.refusal.Refusal.{Refusal}
 use Rattle.c_lex.specs.declared.refusal.CompileFault.{CompileFault}
 use Rattle.c_tree.specs.declared.typed.Stmt.{Stmt as CodeStmt}
-use Rattle.c_tree.specs.Typed.{Ty, integer, Stmt, at_stmt, block, more_stmts, stmts_of}
+use Rattle.c_tree.specs.Typed.{Ty, integer, Stmt, at_stmt, block, stmts_of}
 use Rattle.c_tree.specs.TypedViews.{stmt_view}
 use Rattle.c_tree.specs.TypedViews as views
 use Rattle.c_typing.specs.Faults.{Judged, typed, faulty, first, Gives, ◌>>=◌}
@@ -43,12 +43,8 @@ headed_pop place all rest x whole inside loop is made h =
     ∙ ap (λ l. headed place l loop) (sym (ap (map stmt_view) is ∙ map-append stmt_view rest (x ∷ [])))
 
 -- a block of statements that are there
-rows_same : (ss : List Stmt) → stmts_of ss ≡ stmts_of ss
-rows_same [] = refl
-rows_same (s ∷ ss) = ap (more_stmts s) (rows_same ss)
-
 pub enclosed_is : (place : ℕ) (before : List CodeStmt) (last : CodeStmt) → (length before == 0) ≡ false
     → at_stmt place (block (stmts_of (map stmt_view (before ++ last ∷ [])))) ≡ enclosed place (map stmt_view before) (stmt_view last)
 enclosed_is place [] last h = cc
 enclosed_is place (x ∷ xs) last h =
-    ap (λ l. at_stmt place (block l)) (rows_same (map stmt_view ((x ∷ xs) ++ last ∷ [])) ∙ ap stmts_of (map-append stmt_view (x ∷ xs) (last ∷ [])))
+    ap (λ l. at_stmt place (block (stmts_of l))) (map-append stmt_view (x ∷ xs) (last ∷ []))

@@ -10,15 +10,16 @@ ghost use Rattle.c_tree.specs.TypedViews.{type_view};
 ghost use Rattle.c_typing.specs.Faults.{Gives};
 ghost use Rattle.c_typing.specs.Programs.{place_of_name, defined_name, defined_names, once, agrees, is_new, first_time, one_body, before_name, not_library, name_fine, result_type, with_name, with_function, with_body, is_main, has_main, param_type};
 ghost use Rattle.type_context.specs.ContextViews.{context_view, types_view, seen};
+ghost use Rattle.type_context.specs.Telling.{Says};
 ghost use Rattle.type_declared.specs.FunctionNames.{IsDefined, named_if};
 
 use ak_words::IntType;
-use c_lex::{CompileFault, Kind};
+use c_lex::{CompileFault, Kind, Refusal};
 use c_tree::syntax::{Block, External, Name, Rest};
 use c_tree::typed::CType;
 use indexmap::IndexMap;
 use type_context::context::{Context, count, within};
-use type_context::faults::{refused, unless};
+use type_context::faults::{as_fault, unless};
 use type_context::kinds::{has_size, is_struct_or_mutex, same_int, same_type, same_types};
 use type_context::names::{Binding, library_name};
 use type_context::outcomes::both_fine;
@@ -64,12 +65,15 @@ impl<'t> Defined<'t> {
 // ---- what a name meant before
 
 // The name of a function was one of a function before, or of nothing.
-fn once(place: u32, before: Option<&Binding>) -> Result<(), CompileFault>
-    ensures { Gives (λ _. tt) result (once place (seen before.entry)) }
+fn once(place: u32, before: Option<&Binding>) -> Result<(), Refusal>
+    ensures { Says (λ _. tt) result (once place (seen before.entry)) }
 {
     match before {
         Some(Binding::Function { .. }) | None => Ok(()),
-        Some(_) => refused(place, Kind::DoubleName),
+        Some(_) => Err(Refusal {
+            place,
+            kind: Kind::DoubleName,
+        }),
     }
 }
 
@@ -79,8 +83,8 @@ fn agrees(
     params: &[CType],
     returned: &CType,
     before: Option<&Binding>,
-) -> Result<(), CompileFault>
-    ensures { Gives (λ _. tt) result (agrees place (types_view params.now) (type_view returned.now) (seen before.entry)) }
+) -> Result<(), Refusal>
+    ensures { Says (λ _. tt) result (agrees place (types_view params.now) (type_view returned.now) (seen before.entry)) }
 {
     match before {
         Some(
@@ -119,8 +123,8 @@ fn first_time(
     defined: &Defined<'_>,
     name: Name,
     new: bool,
-) -> Result<(), CompileFault>
-    ensures { (names : List (List ℕ)) → IsDefined names defined.now → Gives (λ _. tt) result (first_time (context_view context.now) names name new) }
+) -> Result<(), Refusal>
+    ensures { (names : List (List ℕ)) → IsDefined names defined.now → Says (λ _. tt) result (first_time (context_view context.now) names name new) }
 {
     if !new {
         return Ok(());
@@ -141,8 +145,8 @@ fn has_body(context: &Context<'_>, bytes: &[u8]) -> bool
 }
 
 // A function has one body.
-fn one_body(context: &Context<'_>, name: Name, body: &Option<Block>) -> Result<(), CompileFault>
-    ensures { Gives (λ _. tt) result (one_body (context_view context.now) name (option_map source.body_view body.now)) }
+fn one_body(context: &Context<'_>, name: Name, body: &Option<Block>) -> Result<(), Refusal>
+    ensures { Says (λ _. tt) result (one_body (context_view context.now) name (option_map source.body_view body.now)) }
 {
     match body {
         Some(_) => {
@@ -154,8 +158,8 @@ fn one_body(context: &Context<'_>, name: Name, body: &Option<Block>) -> Result<(
 }
 
 // A function's name is none of the library.
-fn not_library(context: &Context<'_>, name: Name) -> Result<(), CompileFault>
-    ensures { Gives (λ _. tt) result (not_library (context_view context.now) name) }
+fn not_library(context: &Context<'_>, name: Name) -> Result<(), Refusal>
+    ensures { Says (λ _. tt) result (not_library (context_view context.now) name) }
 {
     let is_free = library_name(context.bytes(name)).is_none();
     unless(name.from, Kind::DoubleName, is_free)
@@ -167,8 +171,8 @@ pub fn name_fine(
     defined: &Defined<'_>,
     name: Name,
     body: &Option<Block>,
-) -> Result<(), CompileFault>
-    ensures { (names : List (List ℕ)) → IsDefined names defined.now → Gives (λ _. tt) result (name_fine (context_view context.now) names name (option_map source.body_view body.now)) }
+) -> Result<(), Refusal>
+    ensures { (names : List (List ℕ)) → IsDefined names defined.now → Says (λ _. tt) result (name_fine (context_view context.now) names name (option_map source.body_view body.now)) }
 {
     let before = before_name(context, name);
     let free = both_fine(not_library(context, name), once(name.from, before));
@@ -182,25 +186,25 @@ pub fn type_fine(
     name: Name,
     params: &[CType],
     returned: &CType,
-) -> Result<(), CompileFault>
-    ensures { Gives (λ _. tt) result (agrees name.from (types_view params.now) (type_view returned.now) (before_name (context_view context.now) name)) }
+) -> Result<(), Refusal>
+    ensures { Says (λ _. tt) result (agrees name.from (types_view params.now) (type_view returned.now) (before_name (context_view context.now) name)) }
 {
     agrees(name.from, params, returned, before_name(context, name))
 }
 
 /// A function returns no struct, no mutex and no array.
-#[tactic(auto, using(type_context::proofs::Judging::fails_part))]
-pub fn result_type(place: u32, t: CType) -> Result<CType, CompileFault>
-    ensures { Gives type_view result (result_type place (type_view t)) }
+#[tactic(auto, using(type_context::proofs::Judging::refused_part))]
+pub fn result_type(place: u32, t: CType) -> Result<CType, Refusal>
+    ensures { Says type_view result (result_type place (type_view t)) }
 {
     unless(place, Kind::OutsideSubset(13), !is_struct_or_mutex(&t))?;
     Ok(t)
 }
 
 /// A parameter's type has a size, and is no struct and no mutex.
-#[tactic(auto, using(type_context::proofs::Judging::fails_part))]
-pub fn param_type(context: &Context<'_>, place: u32, t: CType) -> Result<CType, CompileFault>
-    ensures { Gives type_view result (param_type (context_view context.now) place (type_view t)) }
+#[tactic(auto, using(type_context::proofs::Judging::refused_part))]
+pub fn param_type(context: &Context<'_>, place: u32, t: CType) -> Result<CType, Refusal>
+    ensures { Says type_view result (param_type (context_view context.now) place (type_view t)) }
 {
     unless(place, Kind::BadSize, has_size(&context.structs, &t))?;
     unless(place, Kind::OutsideSubset(13), !is_struct_or_mutex(&t))?;
@@ -314,10 +318,7 @@ pub fn main_of(context: &Context<'_>, defined: &Defined<'_>) -> Result<u32, Comp
 {
     let end = count(context.text.len())?;
     let name: &[u8] = b"main";
-    unless(
-        end,
-        Kind::UnknownName,
-        main_is_there(context, defined, name),
-    )?;
+    let is_there = main_is_there(context, defined, name);
+    as_fault(unless(end, Kind::UnknownName, is_there))?;
     Ok(defined.place(name))
 }

@@ -4,14 +4,13 @@ ghost use Rattle.std.specs.Option.{option_map};
 ghost use Rattle.c_tree.specs.SyntaxViews as source;
 ghost use Rattle.c_tree.specs.Typed.{node_of};
 ghost use Rattle.c_tree.specs.TypedViews.{type_view, expr_view, init_view};
-ghost use Rattle.c_typing.specs.Faults.{Gives};
 ghost use Rattle.c_typing.specs.Programs.{is_null_word, literal_of, number_at, string_at, started_with};
+ghost use Rattle.type_context.specs.Telling.{Says};
 
 use ak_words::{IntType, Num};
-use c_lex::{CompileFault, Kind};
+use c_lex::{Kind, Refusal};
 use c_tree::syntax as tree;
 use c_tree::typed::{CType, Expr, ExprNode, Init};
-use type_context::faults::refused;
 use type_context::kinds::same_int;
 
 /// Whether an expression is `NULL`, in brackets or not.
@@ -56,11 +55,14 @@ pub fn string_at(t: &CType, n: Option<u32>) -> Option<Init>
 }
 
 /// What a global starts with, at its name.
-pub fn started_with(place: u32, init: Option<Init>) -> Result<Init, CompileFault>
-    ensures { Gives init_view result (started_with place (option_map init_view init)) }
+pub fn started_with(place: u32, init: Option<Init>) -> Result<Init, Refusal>
+    ensures { Says init_view result (started_with place (option_map init_view init)) }
 {
     match init {
         Some(init) => Ok(init),
-        None => refused(place, Kind::TypeMismatch),
+        None => Err(Refusal {
+            place,
+            kind: Kind::TypeMismatch,
+        }),
     }
 }

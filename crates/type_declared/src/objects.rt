@@ -8,14 +8,16 @@ ghost use Rattle.c_typing.specs.Faults.{Judged, Gives};
 ghost use Rattle.c_typing.specs.Statements.{or_int, with_local};
 ghost use Rattle.c_typing.specs.Programs.{with_param, with_global, fresh_if};
 ghost use Rattle.type_context.specs.ContextViews.{context_view};
+ghost use Rattle.type_context.specs.Telling.{Says};
 ghost use Rattle.type_declared.specs.ObjectFits.{fits_of};
 
 use ak_words::IntType;
-use c_lex::CompileFault;
+use c_lex::{CompileFault, Refusal};
 use c_tree::syntax::Name;
 use c_tree::typed::CType;
 use std::alloc::Global;
 use type_context::context::{Context, count};
+use type_context::faults::as_fault;
 use type_context::kinds::copy_type;
 use type_context::layouts::size_in;
 use type_context::names::Binding;
@@ -75,8 +77,8 @@ pub fn declare_param(
 }
 
 /// A parameter's name is declared once.
-pub fn fresh_if(context: &Context<'_>, name: Option<Name>) -> Result<(), CompileFault>
-    ensures { Gives (λ _. tt) result (fresh_if (context_view context.now) name) }
+pub fn fresh_if(context: &Context<'_>, name: Option<Name>) -> Result<(), Refusal>
+    ensures { Says (λ _. tt) result (fresh_if (context_view context.now) name) }
 {
     match name {
         Some(name) => context.fresh(name),
@@ -98,7 +100,9 @@ pub fn declare_global(context: &mut Context<'_>, name: Name, ty: CType) -> Resul
     Ok(())
 }
 
-/// Whether a global of the type fits among the plain objects, where it has one.
+/// Whether a global of the type fits among the plain objects, where it has one. That a type's size
+/// is a number of 32 bits is known of judged types alone: where it isn't, the answer would be want
+/// of memory.
 pub fn global_fits(
     context: &Context<'_>,
     place: u32,
@@ -109,7 +113,7 @@ pub fn global_fits(
     match t {
         Ok(t) => {
             let size = size_of(context, t)?;
-            context.fits_plain(place, size)
+            as_fault(context.fits_plain(place, size))
         }
         Err(fault) => Err(*fault),
     }

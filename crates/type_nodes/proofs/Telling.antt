@@ -1,6 +1,6 @@
 -- The forms in which the code walks over nodes.
 use Rattle.std.proofs.Common.{◌≡◌, ℕ, ◌+◌, ◌-◌, ◌<◌, ◌≤◌, length, map, get_or, take, drop, arith, true, false, Bool, List, [], ◌∷◌, ◌++◌, Option, Some, None, Result, Ok, Err, refl, ap, sym, subst, ◌∙◌, append_assoc, append-nil}
-use Rattle.std.proofs.lemmas.List.{take_all, take_more, map-append}
+use Rattle.std.proofs.lemmas.List.{take_all}
 use Rattle.std.specs.Prelude.{Vec, Box}
 use Rattle.std.specs.declared.alloc.Global.{Global}
 use Rattle.c_lex.specs.declared.refusal.CompileFault.{CompileFault}
@@ -26,7 +26,7 @@ use Rattle.type_rules.specs.SpecifierViews.{numbers_view}
 use Rattle.type_context.specs.Telling.{Tells, lacks_memory}
 use Rattle.type_context.specs.Rows.{state_behind, IsAppended}
 use Rattle.type_context.proofs.Walks.{memory_tells, leaves_any, both_tell, both_tell_if, joined_keeps, ok_tells, err_tells}
-use Rattle.type_context.proofs.Rows.{row_last, appended_tells}
+use Rattle.type_context.proofs.Rows.{row_last, appended_tells, one_more}
 use Rattle.type_nodes.specs.Nodes.{Finishes, types_of_members, args_row, dims_row, parts_row, members_row, behind_member, declarator_node, declarators_row, behind_declarator, closing, is_printf, is_thrd_create, called_of, begun_by, prefixed_by}
 
 -- ---- rules on parts
@@ -111,9 +111,6 @@ names_behind before [] = sym (append-nil before)
 names_behind before (source.declarator pointers n dims ∷ ds) = names_behind (before ++ n ∷ []) ds ∙ append_assoc before (n ∷ []) (names_in (source.declarators_of ds))
 
 -- ---- members, one behind the other
-
-one_more : {X Y : Type 0} (v : Y → X) (xs : List Y) (i : ℕ) (y : Y) → i < length xs → y ≡ get_or xs i y → map v (take (i + 1) xs) ≡ map v (take i xs) ++ v y ∷ []
-one_more v xs i y lt is = ap (map v) (take_more xs i y lt ∙ ap (λ z. take i xs ++ z ∷ []) (sym is)) ∙ map-append v (take i xs) (y ∷ [])
 
 -- members that are declared together, behind others
 pub members_next : {Y : Type 0} (v : Y → source.Member) (before : List Name) (xs : List Y) (i : ℕ) (y : Y) (c : Context)

@@ -16,6 +16,7 @@ use Rattle.c_typing.specs.Types.{same_type, same_types}
 use Rattle.c_typing.specs.Rules.{tested, chosen, minus_by, plus_by, not_by, complement_by, target, address}
 use Rattle.c_typing.specs.Scope.{Context, Binding, function_name, library_name, Library, printf, thrd_create, constant}
 use Rattle.c_typing.specs.Judgement.{Judging, ruled, valued, judged, judged_spec, judged_member, judged_dims, names_of_member, dimension, member_by, Part, tag, Declarator, called, called_library, starting_by, struct_fits, closed}
+use Rattle.c_typing.specs.Statements.{name_of}
 use Rattle.type_context.specs.Rows.{row}
 use Rattle.type_context.specs.declared.context.MemberType.{MemberType}
 use Rattle.type_context.specs.ContextViews.{members_view}
@@ -116,10 +117,6 @@ closing place number opened again members c =
 -- a declarator of these sizes
 abbrev pub sized : source.Declarator → List ℕ → Declarator
 sized (source.declarator pointers n dims) sizes = record { name = n; pointers = pointers; sizes = sizes }
-
--- the name that a declarator declares
-abbrev pub name_of : source.Declarator → Name
-name_of (source.declarator pointers n dims) = n
 
 -- ---- rows
 

@@ -6,7 +6,7 @@ ghost use Rattle.c_tree.specs.Syntax as trees;
 ghost use Rattle.c_tree.specs.SyntaxViews as source;
 ghost use Rattle.c_tree.specs.Typed.{Expr as TypedExpr};
 ghost use Rattle.c_tree.specs.TypedViews.{type_view, boxed_expr_view};
-ghost use Rattle.c_typing.specs.Faults.{Judged, Gives, refuse};
+ghost use Rattle.c_typing.specs.Faults.{Judged, refuse};
 ghost use Rattle.c_typing.specs.Scope as scopes;
 ghost use Rattle.c_typing.specs.Judgement.{none_past, place_past, meaning_in, starting_by};
 ghost use Rattle.type_context.specs.ContextViews.{context_view, binding_view, library_view, types_view};
@@ -15,11 +15,11 @@ ghost use Rattle.type_rules.specs.ListViews.{exprs_view};
 ghost use Rattle.type_nodes.specs.Nodes as walking;
 ghost use Rattle.type_context.specs.inner.Outcomes.{joined};
 ghost use Rattle.type_nodes.specs.Nodes.{Finishes, no_call_of, library_of, function_of, called_of, begins_thread, begun_by};
-ghost use Rattle.type_context.specs.Telling.{Tells};
+ghost use Rattle.type_context.specs.Telling.{Tells, Says};
 
 use crate::library::called_library;
 use ak_words::IntType;
-use c_lex::{CompileFault, Kind};
+use c_lex::{CompileFault, Kind, Refusal};
 use c_tree::syntax as tree;
 use c_tree::syntax::Name;
 use c_tree::typed::{CType, Expr};
@@ -122,13 +122,17 @@ pub fn called_by(
 }
 
 /// Whether at most 16 arguments stand behind a format.
-pub fn few_enough(rest: &[tree::Expr]) -> Result<(), CompileFault>
-    ensures { Gives (λ _. tt) result (none_past 7 (place_past 16 (trees.exprs_of (map source.expr_view rest.now)))) }
+pub fn few_enough(rest: &[tree::Expr]) -> Result<(), Refusal>
+    ensures { Says (λ _. tt) result (none_past 7 (place_past 16 (trees.exprs_of (map source.expr_view rest.now)))) }
 {
     if rest.len() <= 16 {
         return Ok(());
     }
-    refused(node_place(&rest[16]), Kind::TooMany(7))
+    let place = node_place(&rest[16]);
+    Err(Refusal {
+        place,
+        kind: Kind::TooMany(7),
+    })
 }
 
 // Whether a function is `int f(void *)`.

@@ -8,15 +8,16 @@ ghost use Rattle.c_typing.specs.Faults.{Gives, Fails};
 ghost use Rattle.c_typing.specs.Rules.{or_mismatch};
 ghost use Rattle.c_typing.specs.Formats.{Conversion, before_pieces, conversion_at, pieces_from, pieces_of, number_for, text_for, argument_for, arguments_for};
 ghost use Rattle.c_typing.specs.Judgement.{format_by, printed};
+ghost use Rattle.type_context.specs.Telling.{Says};
 ghost use Rattle.type_rules.specs.ListViews.{exprs_view, pieces_view};
 ghost use Rattle.type_nodes.specs.inner.Formatting.{spelled_view, row_view, measured, found_view, is_bytes, so_far};
 
 use ak_words::{IntType, promote};
-use c_lex::{CompileFault, Kind};
+use c_lex::{CompileFault, Kind, Refusal};
 use c_tree::typed::{CType, Expr, Lib, Piece};
 use std::alloc::{AllocError, Global};
 use std::mem;
-use type_context::faults::refused;
+use type_context::faults::{as_fault, refused};
 use type_rules::calls::library_call;
 use type_rules::conversions::converted;
 
@@ -210,21 +211,22 @@ fn number_for(alloc: Global, place: u32, bits: u8, e: Box<Expr>) -> Result<Box<E
 }
 
 // A pointer to char, signed or not.
-fn text_for(place: u32, e: Box<Expr>) -> Result<Box<Expr>, CompileFault>
-    ensures { Gives boxed_expr_view result (or_mismatch place (text_for (type_view e.value.ty) (boxed_expr_view e))) }
+fn text_for(place: u32, e: Box<Expr>) -> Result<Box<Expr>, Refusal>
+    ensures { Says boxed_expr_view result (or_mismatch place (text_for (type_view e.value.ty) (boxed_expr_view e))) }
 {
+    let kind = Kind::TypeMismatch;
     let CType::Pointer(target) = &e.ty else {
-        return refused(place, Kind::TypeMismatch);
+        return Err(Refusal { place, kind });
     };
     match &**target {
         CType::Int(t) => {
             if t.bits == 8 {
                 Ok(e)
             } else {
-                refused(place, Kind::TypeMismatch)
+                Err(Refusal { place, kind })
             }
         }
-        _ => refused(place, Kind::TypeMismatch),
+        _ => Err(Refusal { place, kind }),
     }
 }
 
@@ -243,7 +245,7 @@ fn argument_for(
         Piece::Unsigned(bits) => number_for(alloc, place, *bits, e),
         Piece::Hex(bits) => number_for(alloc, place, *bits, e),
         Piece::Char => number_for(alloc, place, 32, e),
-        Piece::Text => text_for(place, e),
+        Piece::Text => as_fault(text_for(place, e)),
     }
 }
 

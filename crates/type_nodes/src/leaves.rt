@@ -16,7 +16,7 @@ use c_tree::syntax::{Name, Span};
 use c_tree::typed::{CType, Expr, ExprNode};
 use std::alloc::Global;
 use type_context::context::{Context, count};
-use type_context::faults::refused;
+use type_context::faults::{as_fault, refused};
 use type_context::names::{Binding, Library};
 use type_rules::places::place_of_parts;
 use type_rules::trees::made;
@@ -52,7 +52,7 @@ fn spelled(context: &mut Context<'_>, place: u32, bytes: Vec<u8>) -> Result<Box<
     ensures { Tells boxed_expr_view result context.new (spelled place bytes.items (context_view context.old)) }
 {
     let length = count(bytes.len())?;
-    let fits = context.fits_plain(place, length);
+    let fits = as_fault(context.fits_plain(place, length));
     let number = context.add_literal(bytes)?;
     let element = Box::new(context.alloc, CType::Int(IntType::char()))?;
     fits?;

@@ -7,14 +7,15 @@ ghost use Rattle.c_typing.specs.Faults.{Judged, Gives, typed, both};
 ghost use Rattle.c_typing.specs.Scope as library;
 ghost use Rattle.c_typing.specs.Judgement.{called_lib, started, plain_kind, init_by, called_library};
 ghost use Rattle.type_context.specs.ContextViews.{library_view};
+ghost use Rattle.type_context.specs.Telling.{Says};
 ghost use Rattle.type_rules.specs.ListViews.{exprs_view};
 ghost use Rattle.type_nodes.specs.inner.Calls.{call_and_kind_view};
 
 use ak_words::IntType;
-use c_lex::{CompileFault, Kind};
+use c_lex::{CompileFault, Kind, Refusal};
 use c_tree::typed::{CType, Expr, Lib};
 use std::alloc::Global;
-use type_context::faults::{both, refused, unless};
+use type_context::faults::{as_fault, both, refused, unless};
 use type_context::names::Library;
 use type_rules::calls::{called_lib, fitted_all, library_call};
 use type_rules::conversions::is_zero;
@@ -60,8 +61,8 @@ pub fn started(
 }
 
 // The kind of a mutex is the constant 0, which is no operand.
-fn plain_kind(e: Expr) -> Result<(), CompileFault>
-    ensures { Gives (λ _. tt) result (plain_kind (expr_view e)) }
+fn plain_kind(e: Expr) -> Result<(), Refusal>
+    ensures { Says (λ _. tt) result (plain_kind (expr_view e)) }
 {
     unless(e.place, Kind::OutsideSubset(14), is_zero(&e))
 }
@@ -87,7 +88,7 @@ fn init_by(alloc: Global, place: u32, mut args: Vec<Expr>) -> Result<Box<Expr>, 
     let Some(kind) = args.pop() else {
         return refused(place, Kind::TypeMismatch);
     };
-    let plain = plain_kind(kind);
+    let plain = as_fault(plain_kind(kind));
     let returned = CType::Int(IntType::int());
     let call = on_mutex(alloc, place, Lib::MutexInit, returned, args);
     let (call, ()) = call_and_kind(call, plain)?;

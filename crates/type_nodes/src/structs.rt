@@ -16,16 +16,16 @@ ghost use Rattle.c_typing.specs.Judgement.{Judging, struct_fits, closed, is_agai
 ghost use Rattle.type_context.specs.ContextViews.{context_view, member_type_view, members_view, types_view};
 ghost use Rattle.type_context.specs.inner.Outcomes.{joined};
 ghost use Rattle.type_rules.specs.SpecifierViews.{numbers_view, part_view, parts_view, declared_view};
-ghost use Rattle.type_context.specs.Telling.{Tells};
+ghost use Rattle.type_context.specs.Telling.{Tells, Says};
 ghost use Rattle.type_nodes.specs.Nodes.{Finishes, types_of_members, sized, fits_of, fitting, closing};
 
-use c_lex::{CompileFault, Kind};
+use c_lex::{CompileFault, Kind, Refusal};
 use c_tree::syntax as tree;
 use c_tree::syntax::{Name, Pointer};
 use c_tree::typed::{CType, Expr};
 use std::alloc::{AllocError, Global};
 use type_context::context::{Context, MemberType, within};
-use type_context::faults::{both, unless};
+use type_context::faults::{as_fault, both, unless};
 use type_context::kinds::copy_type;
 use type_context::layouts::{GREATEST_OBJECT, struct_size};
 use type_context::outcomes::both_fine;
@@ -47,8 +47,8 @@ pub fn named_tag(context: &mut Context<'_>, tag: Name) -> Result<u32, CompileFau
 }
 
 /// A tag's braces: once, and 256 of them at most.
-pub fn opened(context: &Context<'_>, tag: Name, number: u32) -> Result<(), CompileFault>
-    ensures { number ≡ tag_number (context_view context.now) tag → Gives (λ _. tt) result (opened (context_view context.now) tag) }
+pub fn opened(context: &Context<'_>, tag: Name, number: u32) -> Result<(), Refusal>
+    ensures { number ≡ tag_number (context_view context.now) tag → Says (λ _. tt) result (opened (context_view context.now) tag) }
 {
     let once = unless(tag.from, Kind::DoubleName, !context.is_begun(number));
     both_fine(once, within(tag.from, 3, 256, context.begun.len()))
@@ -70,8 +70,8 @@ fn is_again(context: &Context<'_>, before: &[Name], name: Name) -> bool
 }
 
 /// A member's name is declared once in its struct, and there are 256 at most.
-pub fn fresh_member(context: &Context<'_>, before: &[Name], name: Name) -> Result<(), CompileFault>
-    ensures { Gives (λ _. tt) result (fresh_member (context_view context.now) before.now name) }
+pub fn fresh_member(context: &Context<'_>, before: &[Name], name: Name) -> Result<(), Refusal>
+    ensures { Says (λ _. tt) result (fresh_member (context_view context.now) before.now name) }
 {
     let again = is_again(context, before, name);
     let once = unless(name.from, Kind::DoubleName, !again);
@@ -95,7 +95,7 @@ fn fits(context: &Context<'_>, place: u32, all: &[MemberType<'_>]) -> Result<(),
 {
     let types = types_of(context.alloc, all)?;
     let size = struct_size(&context.structs, &types)?;
-    unless(place, Kind::BadSize, size <= GREATEST_OBJECT)
+    as_fault(unless(place, Kind::BadSize, size <= GREATEST_OBJECT))
 }
 
 // A struct is declared with these members, if they fit, unless it was begun before.
@@ -249,5 +249,5 @@ pub fn size_of_dimension(
     ensures { Finishes (λ n. n) typed (λ x. dimension (source.expr_view e.now) (context_view context.now) (boxed_expr_view x)) result }
 {
     let typed = typed?;
-    dimension(context, e, &typed)
+    as_fault(dimension(context, e, &typed))
 }

@@ -6,23 +6,24 @@ ghost use Rattle.c_tree.specs.TypedViews.{type_view, expr_view, stmt_view, boxed
 ghost use Rattle.c_typing.specs.Faults.{Gives, typed};
 ghost use Rattle.c_typing.specs.Statements.{assignable, assigned, moves, updates, updated, step_op, stepped, assign_op, assigned_by, initialised, returned_by};
 ghost use Rattle.type_context.specs.ContextViews.{context_view};
+ghost use Rattle.type_context.specs.Telling.{Says};
 
 use crate::conversions::{fitted, value_of};
 use crate::trees::made;
 use crate::unary::is_lvalue;
 use ak_words::{IntType, Num, Op};
-use c_lex::{CompileFault, Kind};
+use c_lex::{CompileFault, Kind, Refusal};
 use c_tree::syntax::{AssignOp, StepOp};
 use c_tree::typed::{CType, Expr, ExprNode, Stmt, StmtNode};
 use std::alloc::Global;
 use type_context::context::Context;
-use type_context::faults::{refused, unless};
+use type_context::faults::{as_fault, unless};
 use type_context::kinds::{has_size, is_array, is_declared, is_scalar, is_void};
 
 // Whether it may be assigned: it is an object, no array, and no struct that isn't complete there.
-#[tactic(auto, using(type_context::proofs::Judging::fails_part))]
-fn assignable(context: &Context<'_>, place: u32, e: &Expr) -> Result<(), CompileFault>
-    ensures { Gives (λ _. tt) result (assignable (context_view context.now) place (expr_view e.now)) }
+#[tactic(auto, using(type_context::proofs::Judging::refused_part))]
+fn assignable(context: &Context<'_>, place: u32, e: &Expr) -> Result<(), Refusal>
+    ensures { Says (λ _. tt) result (assignable (context_view context.now) place (expr_view e.now)) }
 {
     let fine = if is_array(&e.ty) { false } else { is_lvalue(e) };
     unless(place, Kind::NotAnLvalue, fine)?;
@@ -40,7 +41,7 @@ fn assigned(
 ) -> Result<Stmt, CompileFault>
     ensures { Gives stmt_view result (assigned (context_view context.now) place (boxed_expr_view left) (boxed_expr_view right)) }
 {
-    assignable(context, place, &left)?;
+    as_fault(assignable(context, place, &left))?;
     let right = value_of(context.alloc, right)?;
     let right = fitted(context.alloc, place, &left.ty, right)?;
     Ok(Stmt {
@@ -57,15 +58,9 @@ fn moves(op: Op) -> bool
 }
 
 // What a compound assignment takes: two numbers, or a pointer and a number (C11 6.5.16.2).
-#[tactic(auto, using(type_context::proofs::Judging::fails_part))]
-fn updates(
-    context: &Context<'_>,
-    place: u32,
-    op: Op,
-    s: &CType,
-    t: &CType,
-) -> Result<(), CompileFault>
-    ensures { Gives (λ _. tt) result (updates (context_view context.now) place op (type_view s.now) (type_view t.now)) }
+#[tactic(auto, using(type_context::proofs::Judging::refused_part))]
+fn updates(context: &Context<'_>, place: u32, op: Op, s: &CType, t: &CType) -> Result<(), Refusal>
+    ensures { Says (λ _. tt) result (updates (context_view context.now) place op (type_view s.now) (type_view t.now)) }
 {
     match (s, t) {
         (CType::Int(_), CType::Int(_)) => Ok(()),
@@ -73,7 +68,10 @@ fn updates(
             unless(place, Kind::TypeMismatch, moves(op))?;
             unless(place, Kind::BadSize, has_size(&context.structs, target))
         }
-        _ => refused(place, Kind::TypeMismatch),
+        _ => Err(Refusal {
+            place,
+            kind: Kind::TypeMismatch,
+        }),
     }
 }
 
@@ -88,8 +86,8 @@ fn updated(
 ) -> Result<Stmt, CompileFault>
     ensures { Gives stmt_view result (updated (context_view context.now) place op (boxed_expr_view left) (boxed_expr_view right)) }
 {
-    assignable(context, place, &left)?;
-    updates(context, place, op, &left.ty, &right.ty)?;
+    as_fault(assignable(context, place, &left))?;
+    as_fault(updates(context, place, op, &left.ty, &right.ty))?;
     Ok(Stmt {
         place,
         node: StmtNode::Update(Box::into_inner(left), op, Box::into_inner(right)),
@@ -179,7 +177,7 @@ pub fn initialised(
 ) -> Result<Box<Expr>, CompileFault>
     ensures { Gives boxed_expr_view result (initialised place (type_view t.now) (boxed_expr_view value)) }
 {
-    unless(place, Kind::TypeMismatch, is_scalar(t))?;
+    as_fault(unless(place, Kind::TypeMismatch, is_scalar(t)))?;
     fitted(alloc, place, t, value)
 }
 
@@ -193,7 +191,7 @@ pub fn returned_by(
 ) -> Result<Stmt, CompileFault>
     ensures { Gives stmt_view result (returned_by place (type_view returned.now) (boxed_expr_view value)) }
 {
-    unless(place, Kind::TypeMismatch, !is_void(returned))?;
+    as_fault(unless(place, Kind::TypeMismatch, !is_void(returned)))?;
     let value = fitted(alloc, place, returned, value)?;
     Ok(Stmt {
         place,

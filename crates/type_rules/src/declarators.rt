@@ -6,19 +6,20 @@ ghost use Rattle.c_typing.specs.Faults.{Gives, typed};
 ghost use Rattle.c_typing.specs.Types.{arrays_of};
 ghost use Rattle.c_typing.specs.Judgement.{declared_type, dimension_by, dimension, object_type, object_declared};
 ghost use Rattle.type_context.specs.ContextViews.{context_view};
+ghost use Rattle.type_context.specs.Telling.{Says};
 ghost use Rattle.type_rules.specs.SpecifierViews.{declared_view};
 
 use crate::constants::constant_value;
 use crate::places::node_place;
 use crate::specifiers::behind_pointers;
 use ak_words::Num;
-use c_lex::{CompileFault, Kind};
+use c_lex::{CompileFault, Kind, Refusal};
 use c_tree::syntax;
 use c_tree::syntax::{Name, Pointer};
 use c_tree::typed::{CType, Expr};
 use std::alloc::Global;
 use type_context::context::Context;
-use type_context::faults::{refused, unless};
+use type_context::faults::{as_fault, unless};
 use type_context::kinds::has_size;
 use type_context::layouts::{GREATEST_OBJECT, is_small};
 
@@ -53,9 +54,9 @@ fn declared_type(alloc: Global, t: CType, d: &Declared<'_>) -> Result<CType, Com
 }
 
 /// An object has a size, and at most the greatest object's.
-#[tactic(auto, using(type_context::proofs::Judging::fails_part))]
-pub fn object_type(context: &Context<'_>, place: u32, t: CType) -> Result<CType, CompileFault>
-    ensures { Gives type_view result (object_type (context_view context.now) place (type_view t)) }
+#[tactic(auto, using(type_context::proofs::Judging::refused_part))]
+pub fn object_type(context: &Context<'_>, place: u32, t: CType) -> Result<CType, Refusal>
+    ensures { Says type_view result (object_type (context_view context.now) place (type_view t)) }
 {
     let fine = has_size(&context.structs, &t) && is_small(&context.structs, &t);
     unless(place, Kind::BadSize, fine)?;
@@ -72,28 +73,29 @@ pub fn object_declared(
     ensures { Gives type_view result (object_declared (context_view context.now) (type_view t) (declared_view d.now)) }
 {
     let t = declared_type(context.alloc, t, d)?;
-    object_type(context, d.name.from, t)
+    as_fault(object_type(context, d.name.from, t))
 }
 
 // The size of an array, by its value: from 1 to the greatest object's size.
-fn dimension_by(place: u32, value: Option<Num>) -> Result<u32, CompileFault>
-    ensures { Gives (λ n. n) result (dimension_by place value) }
+fn dimension_by(place: u32, value: Option<Num>) -> Result<u32, Refusal>
+    ensures { Says (λ n. n) result (dimension_by place value) }
 {
+    let kind = Kind::BadSize;
     match value {
         Some(n) => {
             if 1 <= n.value && n.value <= i128::from(GREATEST_OBJECT) {
                 Ok(n.value as u32)
             } else {
-                refused(place, Kind::BadSize)
+                Err(Refusal { place, kind })
             }
         }
-        None => refused(place, Kind::BadSize),
+        None => Err(Refusal { place, kind }),
     }
 }
 
 /// The size of an array: an integer constant expression, at its own place (C11 6.7.6.2).
-pub fn dimension(context: &Context<'_>, e: &syntax::Expr, typed: &Expr) -> Result<u32, CompileFault>
-    ensures { Gives (λ n. n) result (dimension (sources.expr_view e.now) (context_view context.now) (expr_view typed.now)) }
+pub fn dimension(context: &Context<'_>, e: &syntax::Expr, typed: &Expr) -> Result<u32, Refusal>
+    ensures { Says (λ n. n) result (dimension (sources.expr_view e.now) (context_view context.now) (expr_view typed.now)) }
 {
     dimension_by(node_place(e), constant_value(context, e, typed))
 }

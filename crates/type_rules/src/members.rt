@@ -12,7 +12,7 @@ use c_lex::{CompileFault, Kind};
 use c_tree::syntax::Name;
 use c_tree::typed::{CType, Expr, ExprNode};
 use type_context::context::Context;
-use type_context::faults::{refused, unless};
+use type_context::faults::{as_fault, refused, unless};
 use type_context::kinds::has_size;
 use type_context::layouts::size_in;
 
@@ -54,7 +54,7 @@ pub fn pointed(
 pub fn size_number(context: &Context<'_>, place: u32, t: &CType) -> Result<Box<Expr>, CompileFault>
     ensures { Gives boxed_expr_view result (size_number (context_view context.now) place (type_view t.now)) }
 {
-    unless(place, Kind::BadSize, has_size(&context.structs, t))?;
+    as_fault(unless(place, Kind::BadSize, has_size(&context.structs, t)))?;
     let Some(size) = size_in(&context.structs, t) else {
         return Err(CompileFault::NoMemory);
     };

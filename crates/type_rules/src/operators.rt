@@ -5,6 +5,7 @@ ghost use Rattle.ak_words.specs.Op.{result_type};
 ghost use Rattle.c_tree.specs.Typed.{at, integer, pointer_diff};
 ghost use Rattle.c_tree.specs.TypedViews.{type_view, boxed_expr_view};
 ghost use Rattle.type_context.specs.ContextViews.{context_view};
+ghost use Rattle.type_context.specs.Telling.{Says};
 ghost use Rattle.c_typing.specs.Faults.{Gives, typed};
 ghost use Rattle.c_typing.specs.Rules.{numbers, operands, arithmetic, shifted, sized, moved_up, moved_down, sum, difference, compared, equality, order, shift, on_numbers, operated, element, chosen_by, chosen};
 ghost use Rattle.type_rules.specs.inner.Operands.{operands_view};
@@ -13,11 +14,11 @@ use crate::conversions::{converted, is_zero, null_for};
 use crate::trees::made;
 use crate::unary::target;
 use ak_words::{IntType, Op, common, promote};
-use c_lex::{CompileFault, Kind};
+use c_lex::{CompileFault, Kind, Refusal};
 use c_tree::typed::{CType, Expr, ExprNode};
 use std::alloc::Global;
 use type_context::context::Context;
-use type_context::faults::{refused, unless};
+use type_context::faults::{as_fault, refused, unless};
 use type_context::kinds::{copy_type, has_size, is_void, same_type};
 
 /// What two operands are.
@@ -121,8 +122,8 @@ fn compared(
 }
 
 // Whether a pointer leads to elements that have a size, and so can be counted (C11 6.5.6 p2).
-fn sized(context: &Context<'_>, place: u32, target: &CType) -> Result<(), CompileFault>
-    ensures { Gives (λ _. tt) result (sized (context_view context.now) place (type_view target.now)) }
+fn sized(context: &Context<'_>, place: u32, target: &CType) -> Result<(), Refusal>
+    ensures { Says (λ _. tt) result (sized (context_view context.now) place (type_view target.now)) }
 {
     unless(place, Kind::BadSize, has_size(&context.structs, target))
 }
@@ -139,7 +140,7 @@ fn moved_up(
     ensures { Gives boxed_expr_view result (moved_up (context_view context.now) place (type_view target.now) (boxed_expr_view a) (boxed_expr_view b)) }
 {
     let alloc = context.alloc;
-    sized(context, place, target)?;
+    as_fault(sized(context, place, target))?;
     let target = copy_type(alloc, target)?;
     made(
         alloc,
@@ -161,7 +162,7 @@ fn moved_down(
     ensures { Gives boxed_expr_view result (moved_down (context_view context.now) place (type_view target.now) (boxed_expr_view p) (boxed_expr_view n)) }
 {
     let alloc = context.alloc;
-    sized(context, place, target)?;
+    as_fault(sized(context, place, target))?;
     let target = copy_type(alloc, target)?;
     made(
         alloc,
@@ -224,8 +225,8 @@ pub fn difference(
             moved_down(context, place, &target, a, b)
         }
         Operands::Pointers(s, t) => {
-            unless(place, Kind::TypeMismatch, same_type(s, t))?;
-            sized(context, place, s)?;
+            as_fault(unless(place, Kind::TypeMismatch, same_type(s, t)))?;
+            as_fault(sized(context, place, s))?;
             between(context.alloc, place, a, b)
         }
         _ => refused(place, Kind::TypeMismatch),

@@ -9,10 +9,10 @@ ghost use Rattle.c_typing.specs.Judgement.{lone, object_declared, ruled, specifi
 ghost use Rattle.c_typing.specs.Numbering.{func_of};
 ghost use Rattle.c_typing.specs.Programs.{defined_names, has_main};
 ghost use Rattle.type_context.specs.ContextViews.{context_view, types_view};
-ghost use Rattle.type_context.specs.Telling.{both_fine};
+ghost use Rattle.type_context.specs.Telling.{Says, both_fine};
 ghost use Rattle.type_rules.specs.SpecifierViews.{declared_view, part_view};
 
-use c_lex::CompileFault;
+use c_lex::{CompileFault, Refusal};
 use c_tree::syntax::External;
 use c_tree::typed::{CType, Func};
 use std::alloc::{AllocError, Global};
@@ -25,11 +25,11 @@ use type_rules::specifiers::{Part, specified};
 
 /// Three things are fine.
 pub fn three_fine(
-    a: Result<(), CompileFault>,
-    b: Result<(), CompileFault>,
-    c: Result<(), CompileFault>,
-) -> Result<(), CompileFault>
-    ensures { (j k l : Judged (Unit {0})) → Gives (λ _. tt) a j → Gives (λ _. tt) b k → Gives (λ _. tt) c l → Gives (λ _. tt) result (both_fine (both_fine j k) l) }
+    a: Result<(), Refusal>,
+    b: Result<(), Refusal>,
+    c: Result<(), Refusal>,
+) -> Result<(), Refusal>
+    ensures { (j k l : Judged (Unit {0})) → Says (λ _. tt) a j → Says (λ _. tt) b k → Says (λ _. tt) c l → Says (λ _. tt) result (both_fine (both_fine j k) l) }
 {
     both_fine(both_fine(a, b), c)
 }

@@ -10,10 +10,11 @@ use Rattle.type_context.specs.ContextViews.{context_view, member_type_view}
 use Rattle.type_rules.specs.ListViews.{exprs_view}
 use Rattle.type_rules.specs.SpecifierViews.{part_view, parts_view, parts_seen}
 use Rattle.type_context.specs.Telling.{Tells}
+use Rattle.type_context.proofs.Judging.{fault_gives}
 use Rattle.type_context.proofs.Rows.{starts, pushed_next, state_next, ends}
 use Rattle.type_nodes.specs.Nodes.{types_of_members, behind_member, declarator_node, behind_declarator, begun_by}
 use Rattle.type_nodes.proofs.Telling.{args_are, dims_are, parts_are, members_are, declarators_are, members_next, appended_keeps, braces_tell, numbers_told, keeps_second, unboxed_tells}
-use Rattle.type_nodes.proofs.Expressions.{value_tells, prefixed_tells, starting_known, starting_other}
+use Rattle.type_nodes.proofs.Expressions.{value_tells, prefixed_tells, binary_tells, conditional_tells, starting_known, starting_other}
 use Rattle.type_nodes.proofs.Types as types
 use Rattle.c_types.proofs.Sizes.{most_rest}
 use Rattle.c_types.proofs.Views as views
@@ -84,14 +85,24 @@ expressions::expression-returns-in-Index t c =
 
 pub expressions::expression-returns-in-Binary : goal.expressions::expression-returns-in-Binary
 expressions::expression-returns-in-Binary t c =
-    nodes.binary_told c.args.e.now c.in-Binary.place c.in-Binary.op c.in-Binary.left c.in-Binary.right c.deref-in-Binary.result.now c.deref-in-Binary-2.result.now (context_view c.args.context.now) c.value-left.new.context c.value-right.new.context c.value-left.result c.value-right.result c.combination.result
-    c.in-Binary.is c.deref-in-Binary.ensures c.deref-in-Binary-2.ensures c.value-left.ensures c.value-right.ensures c.combination.ensures
+    nodes.binary_told c.args.e.now c.in-Binary.place c.in-Binary.op c.in-Binary.left c.in-Binary.right c.deref-in-Binary.result.now c.deref-in-Binary-2.result.now (context_view c.args.context.now) c.binary.new.context c.binary.result
+    c.in-Binary.is c.deref-in-Binary.ensures c.deref-in-Binary-2.ensures c.binary.ensures
 
 pub expressions::expression-returns-in-Conditional : goal.expressions::expression-returns-in-Conditional
 expressions::expression-returns-in-Conditional t c =
     nodes.conditional_told c.args.e.now c.in-Conditional.place c.in-Conditional.condition c.in-Conditional.then c.in-Conditional.otherwise c.deref-in-Conditional.result.now c.deref-in-Conditional-2.result.now c.deref-in-Conditional-3.result.now (context_view c.args.context.now)
+    c.conditional.new.context c.conditional.result c.in-Conditional.is c.deref-in-Conditional.ensures c.deref-in-Conditional-2.ensures c.deref-in-Conditional-3.ensures c.conditional.ensures
+
+pub expressions::binary-returns : goal.expressions::binary-returns
+expressions::binary-returns t c =
+    binary_tells c.args.place c.args.op (sources.expr_view c.args.left.now) (sources.expr_view c.args.right.now) (context_view c.args.context.now) c.value-left.new.context c.value-right.new.context c.value-left.result c.value-right.result c.combination.result
+    c.value-left.ensures c.value-right.ensures c.combination.ensures
+
+pub expressions::conditional-returns : goal.expressions::conditional-returns
+expressions::conditional-returns t c =
+    conditional_tells c.args.place (sources.expr_view c.args.condition.now) (sources.expr_view c.args.then.now) (sources.expr_view c.args.otherwise.now) (context_view c.args.context.now)
     c.value-condition.new.context c.value-then.new.context c.value-otherwise.new.context c.value-condition.result c.value-then.result c.value-otherwise.result c.choice_of.result
-    c.in-Conditional.is c.deref-in-Conditional.ensures c.deref-in-Conditional-2.ensures c.deref-in-Conditional-3.ensures c.value-condition.ensures c.value-then.ensures c.value-otherwise.ensures c.choice_of.ensures
+    c.value-condition.ensures c.value-then.ensures c.value-otherwise.ensures c.choice_of.ensures
 
 pub expressions::value-returns : goal.expressions::value-returns
 expressions::value-returns t c =
@@ -181,8 +192,8 @@ declarators::part-returns-in-StructBody t c =
 
 pub declarators::braces-returns : goal.declarators::braces-returns
 declarators::braces-returns t c =
-    braces_tell c.args.tag (judged_members [] (source.members_row (map sources.member_view c.args.all.now))) (context_view c.args.context.now) c.named_tag.new.context c.begin.new.self c.closed.new.context c.in_ok-number.number c.is_begun-again.result c.opened-opened.result part_view c.closed.result
-    c.in_ok-number.ensures.after c.in_ok-number.ensures.number c.is_begun-again.ensures c.in_ok-begin.ensures.after c.opened-opened.ensures
+    braces_tell c.args.tag (judged_members [] (source.members_row (map sources.member_view c.args.all.now))) (context_view c.args.context.now) c.named_tag.new.context c.begin.new.self c.closed.new.context c.in_ok-number.number c.is_begun-again.result c.as_fault-opened.result part_view c.closed.result
+    c.in_ok-number.ensures.after c.in_ok-number.ensures.number c.is_begun-again.ensures c.in_ok-begin.ensures.after (λ is. fault_gives (λ (u : Unit {0}). tt) _ _ _ c.as_fault-opened.ensures (c.opened.ensures is))
     (λ j h. c.closed.ensures j (judged_members [] (source.members_row (map sources.member_view c.args.all.now))) (context_view c.begin.new.self) h c.members-members.ensures)
 
 pub declarators::member-returns-clause-judged : goal.declarators::member-returns-clause-judged
@@ -214,7 +225,7 @@ declarators::array_size-returns t c =
 
 pub expressions::print-returns : goal.expressions::print-returns
 expressions::print-returns t c =
-    print_some c.args.place c.args.args.now c.first-item.result (take (length c.args.args.now - 1) (drop 1 c.args.args.now)) c.args.context.now _ _ _ _ _ _ (omega arith) c.first-item.is refl c.few_enough-few.ensures c.format-format.ensures c.arguments-rest.ensures c.print_of.ensures
+    print_some c.args.place c.args.args.now c.first-item.result (take (length c.args.args.now - 1) (drop 1 c.args.args.now)) c.args.context.now _ _ _ _ _ _ (omega arith) c.first-item.is refl (fault_gives (λ (u : Unit {0}). tt) _ _ _ c.as_fault-few.ensures c.few_enough.ensures) c.format-format.ensures c.arguments-rest.ensures c.print_of.ensures
 
 pub expressions::start-returns : goal.expressions::start-returns
 expressions::start-returns t c =
@@ -273,8 +284,8 @@ declarators::declarators-declarators-preserved t c =
           c.declarators.all c.member_type.result c.pushed-all.result c.declarators.context c.dimensions-sizes.new.context (c.declarators.invariant.told j h) (omega arith) c.d-item.is
           (λ fine. subst (λ (b : List Name). Tells member_type_view c.member_type.result c.dimensions-sizes.new.context (declarator_node j b (sources.declarator_view c.d-item.result) (context_view c.declarators.context))) c.declarators.invariant.names
           (types.declarator_tells j c.declarators.before.items (sources.declarator_view c.d-item.result) c.d-item.result.name (source.exprs_of (map sources.expr_view c.d-item.result.dims.items)) c.d-item.result.pointers.items c.declarators.context c.dimensions-sizes.new.context
-          c.fresh_member-fresh.result c.again-base.result c.dimensions-sizes.result c.member_object-ty.result c.member_type.result (views.declarator_seen c.d-item.result)
-          (rw c.deref.ensures.value at c.fresh_member-fresh.ensures) (c.again-base.ensures j h) (rw c.deref-in-declarators.ensures.value at c.dimensions-sizes.ensures) c.member_object-ty.ensures c.member_type.ensures))
+          c.as_fault-fresh.result c.again-base.result c.dimensions-sizes.result c.member_object-ty.result c.member_type.result (views.declarator_seen c.d-item.result)
+          (fault_gives (λ (u : Unit {0}). tt) _ _ _ c.as_fault-fresh.ensures (rw c.deref.ensures.value at c.fresh_member.ensures)) (c.again-base.ensures j h) (rw c.deref-in-declarators.ensures.value at c.dimensions-sizes.ensures) c.member_object-ty.ensures c.member_type.ensures))
           c.pushed-all.ensures;
       names = c.in_ok-push.ensures.items
           ∙ nodes.declarator_behind c.declarators.before.items c.d-item.result

@@ -16,10 +16,6 @@ use Rattle.type_declared.specs.LocalViews.{param_view}
 use Rattle.c_types.specs.declared.definitions.Head.{Head}
 use Rattle.c_types.specs.Gathering.{each}
 
--- two things that are fine
-abbrev pub fine_view : Unit {0} × Unit {0} → Unit {0} × Unit {0}
-fine_view p = (tt, tt)
-
 -- what a function returns
 abbrev pub result_of : (place : ℕ) → List Pointer → Judged Ty → Judged Ty
 result_of place pointers j = j >>= λ t. result_type place (behind_pointers t pointers)

@@ -36,10 +36,6 @@ initialiser place t e = ruled (in_turn (lone t) (valued (judged e))) (λ d p. in
 abbrev pub fine_local : Name → Context → Judged (Unit {0} × Unit {0})
 fine_local n c = both (fresh c n) (within n.from 5 most_locals (length c.locals))
 
--- two things that are fine
-abbrev pub fine_view : Unit {0} × Unit {0} → Unit {0} × Unit {0}
-fine_view p = (tt, tt)
-
 -- a return with a value
 abbrev pub returned_value : (place : ℕ) → Ty → source.Expr → Judging Stmt
 returned_value place t e = ruled (valued (judged e)) (λ c x. returned_by place t x)

@@ -39,10 +39,6 @@ param_object place base p = ruled (in_turn (lone base) (judged_sizes true p.dims
 abbrev pub param_fine : (place : ℕ) → Option Name → Context → Judged (Unit {0} × (Unit {0} × Unit {0}))
 param_fine place name c = both (fresh_if c name) (both (within place 6 16 (length c.locals)) (within place 5 most_locals (length c.locals)))
 
--- three things that are fine
-abbrev pub param_fine_view : Unit {0} × (Unit {0} × Unit {0}) → Unit {0} × (Unit {0} × Unit {0})
-param_fine_view p = (tt, (tt, tt))
-
 -- a parameter, behind its specifiers
 abbrev pub param_behind : source.Param → Judged Ty → Judging Param
 param_behind p base c =

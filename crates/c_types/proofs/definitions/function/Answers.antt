@@ -14,7 +14,8 @@ use Rattle.type_context.specs.Telling.{Tells}
 use Rattle.type_context.proofs.Walks.{ok_finishes}
 use Rattle.c_types.specs.Gathering.{each}
 use Rattle.c_types.proofs.Steps.{memory_passes, err_finish}
-use Rattle.c_types.specs.inner.Functions.{fine_view, result_of}
+use Rattle.c_types.specs.inner.Functions.{result_of}
+use Rattle.c_types.specs.inner.Gathering.{fine_view}
 use Rattle.c_types.proofs.Known.{known_gives}
 use Rattle.c_types.proofs.Functions.{function_parts, function_is, function_told}
 use Rattle.c_types.proofs.definitions.function.Goals as goal

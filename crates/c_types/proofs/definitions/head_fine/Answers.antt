@@ -4,8 +4,9 @@ use Rattle.c_tree.specs.SyntaxViews as source
 use Rattle.c_typing.specs.Faults.{Gives}
 use Rattle.c_typing.specs.Programs.{name_fine}
 use Rattle.type_context.specs.ContextViews.{context_view}
-use Rattle.type_context.proofs.Judging.{gives_both}
-use Rattle.c_types.specs.inner.Functions.{fine_view, types_fine, head_fine}
+use Rattle.type_context.proofs.Judging.{gives_both, fault_gives}
+use Rattle.c_types.specs.inner.Functions.{types_fine, head_fine}
+use Rattle.c_types.specs.inner.Gathering.{fine_view}
 use Rattle.c_types.proofs.definitions.head_fine.Goals as goal
 
 pub returns : goal.returns
@@ -14,4 +15,4 @@ returns c = λ names j k is g h.
     let d = context_view c.args.context.now in
     let body = option_map source.body_view c.args.body.now in
     subst (λ r. Gives fine_view r (head_fine d names c.args.name body j k)) (sym c.both.ensures)
-    (gives_both unit unit c.name_fine.result c.types_fine-types.result (name_fine d names c.args.name body) (types_fine d c.args.name j k) (c.name_fine.ensures names is) (c.types_fine-types.ensures j k g h))
+    (gives_both unit unit c.as_fault-named.result c.types_fine-types.result (name_fine d names c.args.name body) (types_fine d c.args.name j k) (fault_gives unit _ _ _ c.as_fault-named.ensures (c.name_fine.ensures names is)) (c.types_fine-types.ensures j k g h))

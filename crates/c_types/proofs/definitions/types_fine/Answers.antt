@@ -6,7 +6,7 @@ use Rattle.c_typing.specs.Faults.{Judged, Gives, Fails, mapped}
 use Rattle.c_typing.specs.Numbering.{Param}
 use Rattle.c_typing.specs.Programs.{agrees, before_name}
 use Rattle.type_context.specs.ContextViews.{context_view}
-use Rattle.type_context.proofs.Judging.{both_fails, both_then}
+use Rattle.type_context.proofs.Judging.{both_fails, both_then, fault_gives}
 use Rattle.c_types.specs.Gathering.{each}
 use Rattle.c_types.proofs.Functions.{mapped_both}
 use Rattle.c_types.proofs.definitions.types_fine.Goals as goal
@@ -28,5 +28,5 @@ returns c = λ j k g h.
     let f = map (λ (p : Param). p.ty) in
     let unit = λ (u : Unit {0}). tt in
     let rule : List Ty × Ty → Judged (Unit {0}) = λ p. agrees n.from p.0 p.1 (before_name d n) in
-    subst (Gives unit c.type_fine.result) (mapped_both f j k rule)
-    (both_then (each type_view) type_view unit c.typed_params-types.result c.again-returned.result (mapped f j) k rule (c.in_ok-types.types, c.in_ok-types.returned) c.type_fine.result (c.typed_params-types.ensures j g) (c.again-returned.ensures k h) (sym c.both.ensures ∙ c.in_ok-types.was) (rw c.deref.ensures.value at c.type_fine.ensures))
+    subst (Gives unit c.as_fault.result) (mapped_both f j k rule)
+    (both_then (each type_view) type_view unit c.typed_params-types.result c.again-returned.result (mapped f j) k rule (c.in_ok-types.types, c.in_ok-types.returned) c.as_fault.result (c.typed_params-types.ensures j g) (c.again-returned.ensures k h) (sym c.both.ensures ∙ c.in_ok-types.was) (fault_gives unit _ _ _ c.as_fault.ensures (rw c.deref.ensures.value at c.type_fine.ensures)))

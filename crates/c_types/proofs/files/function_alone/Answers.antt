@@ -6,7 +6,8 @@ use Rattle.c_typing.specs.Faults.{typed}
 use Rattle.c_typing.specs.Programs.{judged_function}
 use Rattle.type_context.specs.ContextViews.{context_view}
 use Rattle.c_types.specs.Gathering.{each}
-use Rattle.c_types.proofs.Steps.{err_passes, one_rules}
+use Rattle.type_context.proofs.Walks.{ok_tells}
+use Rattle.c_types.proofs.Steps.{err_passes}
 use Rattle.c_types.specs.inner.Files.{made_view}
 use Rattle.c_types.proofs.files.function_alone.Goals as goal
 
@@ -17,5 +18,5 @@ returns-in_err-funcs c = λ names j is g.
 
 pub returns : goal.returns
 returns c = λ names j is g.
-    one_rules (each func_view) made_view (judged_function names j c.args.pointers.now c.args.name (map source.param_view c.args.params.now) (option_map source.body_view c.args.body.now)) (λ d fs. typed (record { globals = []; funcs = fs })) (context_view c.args.context.now)
+    ok_tells (each func_view) made_view (judged_function names j c.args.pointers.now c.args.name (map source.param_view c.args.params.now) (option_map source.body_view c.args.body.now)) (λ d fs. typed (record { globals = []; funcs = fs })) (context_view c.args.context.now)
     c.function.new.context c.function.result c.in_ok-funcs.funcs _ (c.function.ensures names j is g) c.in_ok-funcs.was (ap typed (sym c.made_funcs.ensures))

@@ -5,7 +5,8 @@ use Rattle.c_typing.specs.Faults.{typed}
 use Rattle.c_typing.specs.Programs.{judged_globals}
 use Rattle.type_context.specs.ContextViews.{context_view}
 use Rattle.c_types.specs.Gathering.{each}
-use Rattle.c_types.proofs.Steps.{err_passes, one_rules}
+use Rattle.type_context.proofs.Walks.{ok_tells}
+use Rattle.c_types.proofs.Steps.{err_passes}
 use Rattle.c_types.specs.inner.Files.{made_view}
 use Rattle.c_types.proofs.files.globals_alone.Goals as goal
 
@@ -16,5 +17,5 @@ returns-in_err-all c = λ j g.
 
 pub returns : goal.returns
 returns c = λ j g.
-    one_rules (each global_view) made_view (judged_globals j (map source.init_declarator_view c.args.declarators.now)) (λ d gs. typed (record { globals = gs; funcs = [] })) (context_view c.args.context.now)
+    ok_tells (each global_view) made_view (judged_globals j (map source.init_declarator_view c.args.declarators.now)) (λ d gs. typed (record { globals = gs; funcs = [] })) (context_view c.args.context.now)
     c.globals.new.context c.globals.result c.in_ok-all.all _ (c.globals.ensures j g) c.in_ok-all.was (ap typed (sym c.made_globals.ensures))

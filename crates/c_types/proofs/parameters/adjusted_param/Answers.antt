@@ -5,7 +5,7 @@ use Rattle.c_typing.specs.Faults.{Gives, Fails, ◌>>=◌}
 use Rattle.c_typing.specs.Types.{behind_pointers}
 use Rattle.c_typing.specs.Programs.{adjusted, param_type}
 use Rattle.type_context.specs.ContextViews.{context_view}
-use Rattle.type_context.proofs.Judging.{fails_typed, fails_part}
+use Rattle.type_context.proofs.Judging.{fails_typed, fails_part, fault_gives}
 use Rattle.c_types.specs.inner.Parts.{adjusted_param}
 use Rattle.c_types.proofs.FileParts.{same_typed}
 use Rattle.c_types.proofs.parameters.adjusted_param.Goals as goal
@@ -30,5 +30,5 @@ returns c =
     let d = context_view c.args.context.now in
     let t = behind_pointers (type_view c.args.base) c.args.pointers.now in
     let same = same_typed t (type_view c.in_ok-behind.behind) c.in_ok-behind.ensures in
-    subst (λ s. Gives type_view c.param_type.result (adjusted d c.args.place s c.args.sizes.now >>= param_type d c.args.place)) (sym same)
-    (subst (λ j. Gives type_view c.param_type.result (j >>= param_type d c.args.place)) (sym c.in_ok-whole.ensures) c.param_type.ensures)
+    subst (λ s. Gives type_view c.as_fault.result (adjusted d c.args.place s c.args.sizes.now >>= param_type d c.args.place)) (sym same)
+    (subst (λ j. Gives type_view c.as_fault.result (j >>= param_type d c.args.place)) (sym c.in_ok-whole.ensures) (fault_gives type_view _ _ _ c.as_fault.ensures c.param_type.ensures))

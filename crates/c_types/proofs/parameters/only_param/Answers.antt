@@ -8,9 +8,9 @@ use Rattle.c_typing.specs.Programs.{judged_param, judged_param_list}
 use Rattle.type_context.specs.ContextViews.{context_view}
 use Rattle.type_declared.specs.LocalViews.{param_view}
 use Rattle.type_context.specs.Telling.{Tells, lacks_memory}
-use Rattle.type_context.proofs.Walks.{known_tells}
+use Rattle.type_context.proofs.Walks.{known_tells, ok_tells}
 use Rattle.c_types.specs.Gathering.{each}
-use Rattle.c_types.proofs.Steps.{memory_passes, err_passes, one_rules}
+use Rattle.c_types.proofs.Steps.{memory_passes, err_passes}
 use Rattle.c_types.specs.inner.Parts.{is_none_by}
 use Rattle.c_types.proofs.Known.{known_left, known_gives}
 use Rattle.c_types.proofs.FileParts.{param_told, only_is, none_is}
@@ -49,5 +49,5 @@ returns c =
     let told : Tells type_view c.specifiers.result c.specifiers.new.context base = rw c.deref.ensures.value at c.specifiers.ensures in
     let is : is_none_by p base.0 ≡ false = sym (c.is_none.ensures base.0 (ap lacks_memory c.in_ok-base.ensures.0 ∙ c.in_ok-base.ensures.1) (known_gives type_view c.specifiers.result c.in_ok-base.base base.0 c.in_ok-base.ensures told.gives)) ∙ c.if-is_none.false in
     subst (Tells (each param_view) c.alone.result c.param_behind.new.context) (sym (only_is p d is))
-    (one_rules param_view (each param_view) (judged_param p) (λ e x. typed (x ∷ [])) d c.param_behind.new.context c.param_behind.result c.in_ok-p.p c.alone.result
+    (ok_tells param_view (each param_view) (judged_param p) (λ e x. typed (x ∷ [])) d c.param_behind.new.context c.param_behind.result c.in_ok-p.p c.alone.result
     (param_told param_view p d c.specifiers.new.context c.param_behind.new.context c.specifiers.result c.in_ok-base.base c.param_behind.result told c.in_ok-base.ensures c.param_behind.ensures) c.in_ok-p.was c.alone.ensures)

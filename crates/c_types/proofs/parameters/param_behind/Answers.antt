@@ -3,6 +3,8 @@ use Rattle.c_tree.specs.SyntaxViews as source
 use Rattle.c_tree.specs.TypedViews.{type_view}
 use Rattle.type_context.specs.ContextViews.{context_view}
 use Rattle.type_declared.specs.LocalViews.{param_view}
+use Rattle.type_context.proofs.Judging.{fault_gives}
+use Rattle.c_types.specs.inner.Gathering.{fine_view}
 use Rattle.c_types.proofs.Steps.{memory_passes}
 use Rattle.c_types.specs.inner.Parts.{param_behind}
 use Rattle.c_types.proofs.FileParts.{param_ok, param_err, param_at}
@@ -21,12 +23,12 @@ returns-in_err-declare_param c = λ j h.
 pub returns-in_err-ty : goal.returns-in_err-ty
 returns-in_err-ty c = λ j h.
     let p = source.param_view c.args.p.now in
-    param_err p j (context_view c.args.context.now) c.param_object-t.new.context c.declare_param.new.context c.param_object-t.result c.param_fine-fine.result c.in_ok-declared.declared c.both.result c.in_err-ty.field-0.0 c.from_residual-in_err-ty.result
-    (rw c.param_place-place.ensures at (c.param_object-t.ensures j h)) (rw c.param_place-place.ensures at c.param_fine-fine.ensures) c.in_ok-declared.ensures.declared c.in_ok-declare_param.ensures.after c.both.ensures c.in_err-ty.was c.from_residual-in_err-ty.ensures.1
+    param_err p j (context_view c.args.context.now) c.param_object-t.new.context c.declare_param.new.context c.param_object-t.result c.as_fault-fine.result c.in_ok-declared.declared c.both.result c.in_err-ty.field-0.0 c.from_residual-in_err-ty.result
+    (rw c.param_place-place.ensures at (c.param_object-t.ensures j h)) (fault_gives fine_view _ _ _ c.as_fault-fine.ensures (rw c.param_place-place.ensures at c.param_fine.ensures)) c.in_ok-declared.ensures.declared c.in_ok-declare_param.ensures.after c.both.ensures c.in_err-ty.was c.from_residual-in_err-ty.ensures.1
 
 pub returns : goal.returns
 returns c = λ j h.
     let p = source.param_view c.args.p.now in
-    param_ok p j (context_view c.args.context.now) c.param_object-t.new.context c.declare_param.new.context c.param_object-t.result c.param_fine-fine.result c.in_ok-declared.declared c.both.result (c.in_ok-ty.field-0-0, c.in_ok-ty.ty) _
-    (rw c.param_place-place.ensures at (c.param_object-t.ensures j h)) (rw c.param_place-place.ensures at c.param_fine-fine.ensures) c.in_ok-declared.ensures.declared c.in_ok-declare_param.ensures.after c.both.ensures c.in_ok-ty.was
+    param_ok p j (context_view c.args.context.now) c.param_object-t.new.context c.declare_param.new.context c.param_object-t.result c.as_fault-fine.result c.in_ok-declared.declared c.both.result (c.in_ok-ty.field-0-0, c.in_ok-ty.ty) _
+    (rw c.param_place-place.ensures at (c.param_object-t.ensures j h)) (fault_gives fine_view _ _ _ c.as_fault-fine.ensures (rw c.param_place-place.ensures at c.param_fine.ensures)) c.in_ok-declared.ensures.declared c.in_ok-declare_param.ensures.after c.both.ensures c.in_ok-ty.was
     (ap (λ (k : ℕ). param_at k (type_view c.in_ok-ty.ty)) (sym c.param_place-place.ensures))

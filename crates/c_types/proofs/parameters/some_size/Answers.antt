@@ -3,7 +3,8 @@ use Rattle.c_tree.specs.SyntaxViews as source
 use Rattle.c_typing.specs.Faults.{typed}
 use Rattle.c_typing.specs.Judgement.{ruled, valued, judged, dimension}
 use Rattle.type_context.specs.ContextViews.{context_view}
-use Rattle.c_types.proofs.Steps.{err_passes, one_rules}
+use Rattle.type_context.proofs.Walks.{ok_tells}
+use Rattle.c_types.proofs.Steps.{err_passes}
 use Rattle.c_types.proofs.parameters.some_size.Goals as goal
 
 pub returns-in_err-n : goal.returns-in_err-n
@@ -15,5 +16,5 @@ returns-in_err-n c =
 pub returns : goal.returns
 returns c =
     let e = source.expr_view c.args.e.now in
-    one_rules (λ (x : ℕ). x) (λ (x : Option ℕ). x) (ruled (valued (judged e)) (dimension e)) (λ d n. typed (Some n)) (context_view c.args.context.now) c.array_size.new.context c.array_size.result c.in_ok-n.n _
+    ok_tells (λ (x : ℕ). x) (λ (x : Option ℕ). x) (ruled (valued (judged e)) (dimension e)) (λ d n. typed (Some n)) (context_view c.args.context.now) c.array_size.new.context c.array_size.result c.in_ok-n.n _
     c.array_size.ensures c.in_ok-n.was refl

@@ -3,7 +3,8 @@ use Rattle.c_tree.specs.TypedViews.{boxed_expr_view}
 use Rattle.c_typing.specs.Judgement.{judged, valued}
 use Rattle.c_typing.specs.Rules.{tested}
 use Rattle.type_context.specs.ContextViews.{context_view}
-use Rattle.c_types.proofs.Steps.{err_passes, one_rules}
+use Rattle.type_context.proofs.Walks.{ok_tells}
+use Rattle.c_types.proofs.Steps.{err_passes}
 use Rattle.c_types.proofs.parts.condition.Goals as goal
 
 pub returns-in_err-e : goal.returns-in_err-e
@@ -13,5 +14,5 @@ returns-in_err-e c =
 
 pub returns : goal.returns
 returns c =
-    one_rules boxed_expr_view boxed_expr_view (valued (judged (source.expr_view c.args.e.now))) (λ d x. tested c.args.place x) (context_view c.args.context.now) c.value.new.context c.value.result c.in_ok-e.e c.tested.result
+    ok_tells boxed_expr_view boxed_expr_view (valued (judged (source.expr_view c.args.e.now))) (λ d x. tested c.args.place x) (context_view c.args.context.now) c.value.new.context c.value.result c.in_ok-e.e c.tested.result
     c.value.ensures c.in_ok-e.was c.tested.ensures

@@ -5,7 +5,8 @@ use Rattle.c_typing.specs.Faults.{typed}
 use Rattle.c_typing.specs.Statements.{judged_simple}
 use Rattle.c_types.specs.Gathering.{each}
 use Rattle.type_context.specs.ContextViews.{context_view}
-use Rattle.c_types.proofs.Steps.{err_passes, one_rules}
+use Rattle.type_context.proofs.Walks.{ok_tells}
+use Rattle.c_types.proofs.Steps.{err_passes}
 use Rattle.c_types.proofs.parts.first_simple.Goals as goal
 
 pub returns-in_err-s : goal.returns-in_err-s
@@ -15,5 +16,5 @@ returns-in_err-s c =
 
 pub returns : goal.returns
 returns c =
-    one_rules stmt_view (each stmt_view) (judged_simple (source.simple_view c.args.s.now)) (λ d x. typed (x ∷ [])) (context_view c.args.context.now) c.simple.new.context c.simple.result c.in_ok-s.s c.alone.result
+    ok_tells stmt_view (each stmt_view) (judged_simple (source.simple_view c.args.s.now)) (λ d x. typed (x ∷ [])) (context_view c.args.context.now) c.simple.new.context c.simple.result c.in_ok-s.s c.alone.result
     c.simple.ensures c.in_ok-s.was c.alone.ensures

@@ -6,7 +6,8 @@ use Rattle.c_typing.specs.Faults.{typed}
 use Rattle.c_typing.specs.Statements.{returned}
 use Rattle.c_types.specs.Gathering.{each}
 use Rattle.type_context.specs.ContextViews.{context_view}
-use Rattle.c_types.proofs.Steps.{err_passes, one_rules}
+use Rattle.type_context.proofs.Walks.{ok_tells}
+use Rattle.c_types.proofs.Steps.{err_passes}
 use Rattle.c_types.proofs.parts.return_of.Goals as goal
 
 pub returns-in_err-s : goal.returns-in_err-s
@@ -16,5 +17,5 @@ returns-in_err-s c =
 
 pub returns : goal.returns
 returns c =
-    one_rules stmt_view (each stmt_view) (returned c.args.place (type_view c.args.t.now) (option_map source.expr_view c.args.value.now)) (λ d x. typed (x ∷ [])) (context_view c.args.context.now) c.returned.new.context c.returned.result c.in_ok-s.s c.alone.result
+    ok_tells stmt_view (each stmt_view) (returned c.args.place (type_view c.args.t.now) (option_map source.expr_view c.args.value.now)) (λ d x. typed (x ∷ [])) (context_view c.args.context.now) c.returned.new.context c.returned.result c.in_ok-s.s c.alone.result
     c.returned.ensures c.in_ok-s.was c.alone.ensures

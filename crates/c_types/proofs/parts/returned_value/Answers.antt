@@ -3,7 +3,8 @@ use Rattle.c_tree.specs.TypedViews.{type_view, boxed_expr_view, stmt_view}
 use Rattle.c_typing.specs.Judgement.{judged, valued}
 use Rattle.c_typing.specs.Statements.{returned_by}
 use Rattle.type_context.specs.ContextViews.{context_view}
-use Rattle.c_types.proofs.Steps.{err_passes, one_rules}
+use Rattle.type_context.proofs.Walks.{ok_tells}
+use Rattle.c_types.proofs.Steps.{err_passes}
 use Rattle.c_types.proofs.parts.returned_value.Goals as goal
 
 pub returns-in_err-e : goal.returns-in_err-e
@@ -13,5 +14,5 @@ returns-in_err-e c =
 
 pub returns : goal.returns
 returns c =
-    one_rules boxed_expr_view stmt_view (valued (judged (source.expr_view c.args.e.now))) (λ d x. returned_by c.args.place (type_view c.args.t.now) x) (context_view c.args.context.now) c.value.new.context c.value.result c.in_ok-e.e c.returned_by.result
+    ok_tells boxed_expr_view stmt_view (valued (judged (source.expr_view c.args.e.now))) (λ d x. returned_by c.args.place (type_view c.args.t.now) x) (context_view c.args.context.now) c.value.new.context c.value.result c.in_ok-e.e c.returned_by.result
     c.value.ensures c.in_ok-e.was c.returned_by.ensures

@@ -5,7 +5,8 @@ use Rattle.c_tree.specs.TypedViews.{boxed_expr_view}
 use Rattle.c_typing.specs.Faults.{typed}
 use Rattle.c_typing.specs.Statements.{condition}
 use Rattle.type_context.specs.ContextViews.{context_view}
-use Rattle.c_types.proofs.Steps.{err_passes, one_rules}
+use Rattle.type_context.proofs.Walks.{ok_tells}
+use Rattle.c_types.proofs.Steps.{err_passes}
 use Rattle.c_types.proofs.parts.some_condition.Goals as goal
 
 pub returns-in_err-e : goal.returns-in_err-e
@@ -15,5 +16,5 @@ returns-in_err-e c =
 
 pub returns : goal.returns
 returns c =
-    one_rules boxed_expr_view (option_map boxed_expr_view) (condition c.args.place (source.expr_view c.args.e.now)) (λ d x. typed (Some x)) (context_view c.args.context.now) c.condition.new.context c.condition.result c.in_ok-e.e _
+    ok_tells boxed_expr_view (option_map boxed_expr_view) (condition c.args.place (source.expr_view c.args.e.now)) (λ d x. typed (Some x)) (context_view c.args.context.now) c.condition.new.context c.condition.result c.in_ok-e.e _
     c.condition.ensures c.in_ok-e.was refl

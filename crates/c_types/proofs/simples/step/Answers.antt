@@ -3,7 +3,8 @@ use Rattle.c_tree.specs.TypedViews.{boxed_expr_view, stmt_view}
 use Rattle.c_typing.specs.Judgement.{judged}
 use Rattle.c_typing.specs.Statements.{stepped}
 use Rattle.type_context.specs.ContextViews.{context_view}
-use Rattle.c_types.proofs.Steps.{err_passes, one_rules}
+use Rattle.type_context.proofs.Walks.{ok_tells}
+use Rattle.c_types.proofs.Steps.{err_passes}
 use Rattle.c_types.proofs.simples.step.Goals as goal
 
 pub returns-in_err-target : goal.returns-in_err-target
@@ -13,5 +14,5 @@ returns-in_err-target c =
 
 pub returns : goal.returns
 returns c =
-    one_rules boxed_expr_view stmt_view (judged (source.expr_view c.args.target.now)) (λ d x. stepped d c.args.place c.args.op x) (context_view c.args.context.now) c.expression.new.context c.expression.result c.in_ok-target.target c.stepped.result
+    ok_tells boxed_expr_view stmt_view (judged (source.expr_view c.args.target.now)) (λ d x. stepped d c.args.place c.args.op x) (context_view c.args.context.now) c.expression.new.context c.expression.result c.in_ok-target.target c.stepped.result
     c.expression.ensures c.in_ok-target.was c.stepped.ensures

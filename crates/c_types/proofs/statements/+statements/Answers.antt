@@ -18,7 +18,7 @@ use Rattle.type_context.proofs.Walks.{ok_tells}
 use Rattle.type_context.proofs.Rows.{starts}
 use Rattle.c_types.specs.Gathering.{each}
 use Rattle.c_types.specs.inner.Nodes.{block_of, for_inside, for_of}
-use Rattle.c_types.proofs.Steps.{err_passes, one_rules, two_pass, two_rule, memory_passes, scope_tells, three_told, four_told}
+use Rattle.c_types.proofs.Steps.{err_passes, two_pass, two_rule, memory_passes, scope_tells, three_told, four_told}
 use Rattle.c_types.proofs.StatementsAround.{stmts_around, for_around}
 use Rattle.c_types.proofs.StatementRows.{several_more, at_end}
 use Rattle.c_types.proofs.StatementNodes.{entered}
@@ -33,7 +33,7 @@ one-returns-in_err-all t c =
 
 pub one-returns : goal.one-returns
 one-returns t c =
-    one_rules (each stmt_view) boxed_stmt_view (judged_stmt (type_view c.args.t.now) c.args.in_loop (source.stmt_view c.args.s.now)) (λ d ss. typed (only ss)) (context_view c.args.context.now) c.stmt.new.context c.stmt.result c.in_ok-all.all _
+    ok_tells (each stmt_view) boxed_stmt_view (judged_stmt (type_view c.args.t.now) c.args.in_loop (source.stmt_view c.args.s.now)) (λ d ss. typed (only ss)) (context_view c.args.context.now) c.stmt.new.context c.stmt.result c.in_ok-all.all _
     c.stmt.ensures c.in_ok-all.was (ap typed (sym (ap stmt_view c.in_ok-new.ensures.ok ∙ c.only.ensures)))
 
 -- a block
@@ -54,7 +54,7 @@ block-returns-in_err-items t c =
 pub block-returns : goal.block-returns
 block-returns t c =
     let ss = stmts_of (map source.stmt_view c.args.items.now) in
-    one_rules (each stmt_view) (each stmt_view) (scoped (judged_stmts (type_view c.args.t.now) c.args.in_loop ss)) (λ d xs. typed (at_stmt c.args.place (block (typed_trees.stmts_of xs)) ∷ [])) (context_view c.args.context.now)
+    ok_tells (each stmt_view) (each stmt_view) (scoped (judged_stmts (type_view c.args.t.now) c.args.in_loop ss)) (λ d xs. typed (at_stmt c.args.place (block (typed_trees.stmts_of xs)) ∷ [])) (context_view c.args.context.now)
     c.leave.new.self c.stmts-items.result c.in_ok-items.items c.block_made.result
     (scope_tells (each stmt_view) (judged_stmts (type_view c.args.t.now) c.args.in_loop ss) (context_view c.args.context.now) c.enter.new.self c.stmts-items.new.context c.leave.new.self c.stmts-items.result
     (entered c.enter.new.self (context_view c.args.context.now) c.new.result.entries c.in_ok-enter.ensures.after c.new.ensures.empty) c.stmts-items.ensures (stmts_around (type_view c.args.t.now) c.args.in_loop ss) c.leave.ensures.around)
@@ -165,7 +165,7 @@ for_loop-returns t c =
     let last = option_map source.simple_view c.args.last.now in
     let s = source.stmt_view c.args.s.now in
     let r = type_view c.args.t.now in
-    one_rules boxed_stmt_view (each stmt_view) (scoped (for_inside c.args.place r first e last s)) (λ d x. typed (x ∷ [])) (context_view c.args.context.now)
+    ok_tells boxed_stmt_view (each stmt_view) (scoped (for_inside c.args.place r first e last s)) (λ d x. typed (x ∷ [])) (context_view c.args.context.now)
     c.leave.new.self c.for_inside-whole.result c.in_ok-whole.whole c.alone.result
     (scope_tells boxed_stmt_view (for_inside c.args.place r first e last s) (context_view c.args.context.now) c.enter.new.self c.for_inside-whole.new.context c.leave.new.self c.for_inside-whole.result
     (entered c.enter.new.self (context_view c.args.context.now) c.new.result.entries c.in_ok-enter.ensures.after c.new.ensures.empty) c.for_inside-whole.ensures (for_around r c.args.place first e last s) c.leave.ensures.around)

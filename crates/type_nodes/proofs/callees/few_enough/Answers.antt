@@ -7,4 +7,4 @@ pub returns-then-rest-le16 : goal.returns-then-rest-le16
 returns-then-rest-le16 c = none_behind expr_view 16 c.args.rest.now (omega arith)
 
 pub returns : goal.returns
-returns c = too_many _ _ _ _ c.refused.ensures c.node_place.ensures (one_behind expr_view 16 c.args.rest.now _ (omega arith) c.index-rest-16.is)
+returns c = too_many _ _ _ c.node_place-place.ensures (one_behind expr_view 16 c.args.rest.now _ (omega arith) c.index-rest-16.is)
