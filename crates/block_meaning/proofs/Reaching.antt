@@ -22,11 +22,10 @@ use Rattle.source_state.specs.declared.control.Todo.{Todo}
 use Rattle.source_state.specs.declared.control.Use.{Use}
 use Rattle.source_state.specs.Views.{todo_of, use_of, loop_of, stmt_or_nothing}
 use Rattle.source_expressions.specs.Ends.{here_at, ends}
-use Rattle.source_expressions.specs.Flow.{now_in}
+use Rattle.source_expressions.specs.Progress.{now_in}
 use Rattle.source_statements.specs.declared.exit.Exit.{Exit}
 use Rattle.source_statements.specs.declared.exit.Exit.TheVariants as exits
-use Rattle.source_statements.specs.Assigning.{exit, ExitsAs}
-use Rattle.source_statements.specs.Walks.{Finishes, GivesTo}
+use Rattle.source_statements.specs.Exits.{exit, ExitsAs, Finishes, GivesTo}
 use Rattle.source_statements.proofs.Names.{name_todo}
 use Rattle.source_state.specs.Kept.{Kept}
 use Rattle.source_state.specs.declared.world.World.{World}

@@ -14,7 +14,7 @@ use Rattle.source_tree.specs.declared.tree.SharedProgram.{SharedProgram}
 use Rattle.source_state.specs.declared.control.Pending.{Pending}
 use Rattle.source_state.specs.Views.{todo_of, use_of, loop_of, wait_of}
 use Rattle.source_expressions.specs.Ends.{Rest, here_at, ends}
-use Rattle.source_expressions.specs.Flow.{now_in}
+use Rattle.source_expressions.specs.Progress.{now_in}
 use Rattle.block_meaning.specs.declared.thread.At.{At}
 use Rattle.block_meaning.specs.declared.thread.At.TheVariants as ats
 use Rattle.block_meaning.specs.declared.thread.Caller.{Caller}

@@ -10,7 +10,6 @@ pub mod Verdicts
 pub mod GrammarLaws
 mod TokenLaws
 mod BinaryLaws
-pub mod RowsProof
 mod MoreJoints
 mod Forks
 mod Respelling
@@ -48,3 +47,4 @@ mod EndLaws
 mod NoEnds
 mod WholeLaws
 pub mod FileReading
+pub mod RowsProof

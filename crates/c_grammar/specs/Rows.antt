@@ -1,10 +1,13 @@
 -- The tokens of small files, with their levels and counts, worked out by hand: the definitions, put to the test. The trees are
 -- those of the texts.
-use Rattle.std.specs.Prelude.{◌≡◌, ℕ, pos, List, [], ◌∷◌, Some, None}
+use Rattle.std.specs.Prelude.{◌≡◌, ℕ, zero, suc, ◌+◌, pos, List, [], ◌∷◌, Some, None}
 use Rattle.ak_words.specs.declared.operation.Op.TheVariants as ops
 use Rattle.ak_words.specs.IntType.{int}
 use Rattle.ak_words.specs.Num.{num}
-use Rattle.c_lex.specs.declared.refusal.Kind.TheVariants.{TooDeep, TooMany}
+use Rattle.c_lex.specs.declared.refusal.Kind.TheVariants.{UnexpectedToken, TooDeep, OutsideSubset, TooMany}
+use Rattle.c_lex.specs.declared.token.TokenKind.{TokenKind}
+use Rattle.c_lex.specs.declared.token.TokenKind.TheVariants as kinds
+use Rattle.c_lex.specs.declared.token.Token.{Token}
 use Rattle.c_lex.specs.declared.token.Mark.TheVariants as marks
 use Rattle.c_lex.specs.declared.token.Word.TheVariants as reserved
 use Rattle.c_tree.specs.declared.syntax.Name.{Name}
@@ -16,6 +19,7 @@ use Rattle.c_tree.specs.declared.syntax.AssignOp.TheVariants as assigns
 use Rattle.c_tree.specs.Syntax as source
 use Rattle.c_grammar.specs.Leaves.{name_at, int_at, word_at, mark_at, some_mark, the_end, Leaf, at, operator_at, derivation_at, over}
 use Rattle.c_grammar.specs.Grammar.{leaves}
+use Rattle.c_grammar.specs.Language.{RefusesTokens}
 
 -- where a name stands
 abbrev name : ℕ → ℕ → Name
@@ -48,7 +52,22 @@ statement_leaves = at 0 (word_at 0 reserved.Struct) ∷ at 0 (name_at (name 7 8)
     ∷ at 2 (name_at (name 36 37)) ∷ operator_at 2 1 (mark_at 37 marks.Arrow) ∷ at 2 (name_at (name 39 40)) ∷ at 2 (mark_at 40 marks.Assign)
     ∷ at 2 (int_at 41 (num int (pos 1))) ∷ at 2 (some_mark marks.Semicolon) ∷ at 1 (some_mark marks.CloseBrace) ∷ at 0 the_end ∷ []
 
--- both files have these tokens, and each limit allows its last and refuses the next
+-- ---- refusals
+
+-- a token of one byte
+abbrev pub token_at : ℕ → TokenKind → Token
+token_at place kind = record { kind = kind; from = place; to = place + 1 }
+
+-- so many signs ~, the last of them right before the place
+abbrev pub tildes : ℕ → ℕ → List Token → List Token
+tildes zero place behind = behind
+tildes (suc n) place behind = token_at place (kinds.Mark marks.Tilde) ∷ tildes n (place + 1) behind
+
+-- int a = ~~~X, with so many signs ~, where X is a token of the kind
+abbrev pub under : ℕ → TokenKind → List Token
+under n kind = token_at 0 (kinds.Word reserved.Int) ∷ token_at 1 kinds.Name ∷ token_at 2 (kinds.Mark marks.Assign) ∷ tildes n 3 (token_at (n + 3) kind ∷ token_at (n + 4) kinds.End ∷ [])
+
+-- both files have these tokens, each limit allows its last and refuses the next, and a token that may stand nowhere is told by what may
 pub record Rows : Type 0 where
   pub expression : leaves expression_tree ≡ expression_leaves
   pub statement : leaves statement_tree ≡ statement_leaves
@@ -59,3 +78,7 @@ pub record Rows : Type 0 where
   pub too_many_operators : over (operator_at 128 257 the_end) ≡ Some (TooMany 8)
   pub derivations : over (derivation_at 0 64 the_end) ≡ None
   pub too_many_derivations : over (derivation_at 0 65 the_end) ≡ Some (TooMany 14)
+  -- the operand of the 129th ~ is too deep, whatever it is: a feature that is left out isn't told there, but an unexpected token is
+  pub sunk : RefusesTokens (under 129 (kinds.Word reserved.Float)) (record { place = 132; kind = TooDeep })
+  pub not_sunk : RefusesTokens (under 128 (kinds.Word reserved.Float)) (record { place = 131; kind = OutsideSubset 2 })
+  pub unexpected : RefusesTokens (under 129 (kinds.Mark marks.Semicolon)) (record { place = 132; kind = UnexpectedToken })

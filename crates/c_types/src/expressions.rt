@@ -12,7 +12,7 @@ ghost use Rattle.type_nodes.specs.Nodes.{started_view};
 use crate::declarators::type_name;
 use c_lex::{CompileFault, Kind};
 use c_tree::syntax as tree;
-use c_tree::syntax::{BinaryOp, Name, PrefixOp};
+use c_tree::syntax::{Name, PrefixOp};
 use c_tree::typed::{Expr, Piece};
 use type_context::context::Context;
 use type_context::faults::{as_fault, both, refused};
@@ -79,47 +79,23 @@ pub fn expression(context: &mut Context<'_>, e: &tree::Expr) -> Result<Box<Expr>
             op,
             left,
             right,
-        } => binary(context, *place, *op, left, right),
+        } => {
+            let left = value(context, left);
+            let right = value(context, right);
+            combination(context, *place, *op, left, right)
+        }
         tree::Expr::Conditional {
             place,
             condition,
             then,
             otherwise,
-        } => conditional(context, *place, condition, then, otherwise),
+        } => {
+            let condition = value(context, condition);
+            let then = value(context, then);
+            let otherwise = value(context, otherwise);
+            choice_of(context.alloc, *place, condition, then, otherwise)
+        }
     }
-}
-
-// An operator between two operands, the left one first (C11 6.5.5 to 6.5.14).
-#[cycle(nodes)]
-fn binary(
-    context: &mut Context<'_>,
-    place: u32,
-    op: BinaryOp,
-    left: &tree::Expr,
-    right: &tree::Expr,
-) -> Result<Box<Expr>, CompileFault>
-    ensures { Tells boxed_expr_view result context.new (judged (trees.binary place op (source.expr_view left.now) (source.expr_view right.now)) (context_view context.old)) }
-{
-    let left = value(context, left);
-    let right = value(context, right);
-    combination(context, place, op, left, right)
-}
-
-// A condition, and what is chosen by it (C11 6.5.15).
-#[cycle(nodes)]
-fn conditional(
-    context: &mut Context<'_>,
-    place: u32,
-    condition: &tree::Expr,
-    then: &tree::Expr,
-    otherwise: &tree::Expr,
-) -> Result<Box<Expr>, CompileFault>
-    ensures { Tells boxed_expr_view result context.new (judged (trees.conditional place (source.expr_view condition.now) (source.expr_view then.now) (source.expr_view otherwise.now)) (context_view context.old)) }
-{
-    let condition = value(context, condition);
-    let then = value(context, then);
-    let otherwise = value(context, otherwise);
-    choice_of(context.alloc, place, condition, then, otherwise)
 }
 
 /// The value of an expression: of an array a pointer to its first element (C11 6.3.2.1 p3).

@@ -1,5 +1,5 @@
 -- Code with its Looks hoisted is valid, if the code before was.
-use Rattle.std.proofs.Common.{◌≡◌, ℕ, zero, suc, ◌<◌, List, [], ◌∷◌, ◌++◌, length, true, ◌&&◌, ◌⊎◌, inl, inr, if◌then◌else◌, refl, arith}
+use Rattle.std.proofs.Common.{◌≡◌, ℕ, ◌<◌, List, [], ◌∷◌, length, true, ◌&&◌, inl, inr, refl, arith}
 use Rattle.std.proofs.lemmas.Bool.{and_parts, and_from, lt-ltb}
 use Rattle.std.specs.Prelude.{nat_lt}
 use Rattle.struct_ir.specs.Nodes.{look, Node, plain, if_, loop, break_, next_, ret, Nodes, no_nodes, more_nodes, node_place}
@@ -7,8 +7,7 @@ use Rattle.struct_ir.specs.Erased.{put}
 use Rattle.struct_ir.specs.Valid.{Scope, Around, body_of, latch_of, is_node, are_nodes}
 use Rattle.pin_flow.specs.Marks.{State, bad, flow_node}
 use Rattle.pin_flow.specs.Held.{held}
-use Rattle.pin_flow.specs.Looks.{some_act}
-use Rattle.pin_flow.specs.Slots.{accesses, bases_below, slot_in, IsIn}
+use Rattle.pin_flow.specs.Slots.{slot_in, IsIn}
 use Rattle.pin_flow.proofs.Bases.{slots_are_few}
 use Rattle.pin_flow.proofs.Strip.{by_bool}
 use Rattle.hoist_pass.specs.inner.Hoist.{wants, lifted, lifted_in, needs, dropped, dropped_in, hoisted_one, hoisted}
@@ -73,18 +72,3 @@ module _ (x : Scope) (bs : List ℕ) (few : x.slots ≡ length bs) (below : (b :
       let known : nat_lt b x.temps ≡ true = lt-ltb b x.temps (below b i) in
       let one = dropped_valid x b w (lifted (slot_in bs b) b ns) bad (lifted_valid x (slot_in bs b) b fits known w ns e) in
       hoisted_valid some (λ c j. h c (inr j)) w (hoisted_one (slot_in bs b) b ns) one
-
--- ---- bases are registers
-
-in_split : (xs : List ℕ) (b c : ℕ) → IsIn (xs ++ (c ∷ [])) b → IsIn xs b ⊎ (b ≡ c)
-in_split [] b c (inl e) = inr e
-in_split [] b c (inr i) = absurd i
-in_split (x ∷ xs) b c (inl e) = inl (inl e)
-in_split (x ∷ xs) b c (inr i) = elim (in_split xs b c i) [ inl j ↦ inl (inr j) | inr e ↦ inr e ]
-
-pub base_below : (n : ℕ) (ns : Nodes) (b : ℕ) → IsIn (bases_below n ns) b → b < n
-base_below zero ns b i = absurd i
-base_below (suc n) ns b i =
-    by_bool (λ k. IsIn (if k then bases_below n ns ++ (n ∷ []) else bases_below n ns) b → b < suc n) (some_act (accesses n) ns)
-    (λ g j. elim (in_split (bases_below n ns) b n j) [ inl k ↦ (let h = base_below n ns b k in omega arith) | inr e ↦ omega arith ])
-    (λ g j. let h = base_below n ns b j in omega arith) i

@@ -1,18 +1,19 @@
 -- Programs with their Looks hoisted.
 use Rattle.std.proofs.lemmas.List.{drop_all}
 use Rattle.std.proofs.Common.{◌≡◌, ℕ, ◌≤◌, List, [], ◌∷◌, map, drop, length, Option, Bool, true, inl, inr, refl, sym, ap, subst, ◌∙◌}
-use Rattle.std.proofs.lemmas.Bool.{and_parts, and_from}
-use Rattle.std.specs.List.{AllByRecursion, list_all}
+use Rattle.std.specs.List.{AllByRecursion}
 use Rattle.struct_ir.specs.Nodes.{Func, Ir, Nodes}
 use Rattle.struct_ir.specs.Erased.{erased, func_erased, ir_erased}
 use Rattle.struct_ir.specs.Valid.{scope_of, outside, are_nodes, is_valid}
 use Rattle.struct_ir.specs.Safe.{EveryFunc}
 use Rattle.pin_flow.specs.Funcs.{IsCovered, IsHoisted, IsHoistedThroughout}
 use Rattle.pin_flow.specs.Slots.{bases_of, slot_in, slot_if, IsIn, IsOwn, HasOwnSlots}
+use Rattle.pin_flow.proofs.Registers.{base_below}
+use Rattle.pin_flow.proofs.EachFunc.{all_true, true_all}
 use Rattle.pin_flow.proofs.Bases.{same_bases, slots_are_apart, slot_known}
 use Rattle.hoist_pass.specs.inner.Hoist.{hoisted, hoisted_one, hoisted_for, hoisted_each, func_hoisted, ir_hoisted, HoistIsRight}
 use Rattle.hoist_pass.proofs.Hoisted.{hoisting_is_right, all_erased}
-use Rattle.hoist_pass.proofs.HoistedValid.{hoisted_valid, base_below}
+use Rattle.hoist_pass.proofs.HoistedValid.{hoisted_valid}
 
 -- each base has its slot
 hoisted_known : (bs : List ℕ) (some : List ℕ) → ((b : ℕ) → IsIn some b → IsIn bs b) → (ns : Nodes) → hoisted_each (slot_if bs) some ns ≡ hoisted (slot_in bs) some ns
@@ -62,14 +63,6 @@ pub every_is : (P Q R : Func → Type 0) → ((f : Func) → P f → Q f → R (
 every_is P Q R each x p q = all_are P Q R each x.funcs p q
 
 -- ---- valid code
-
-all_true : (test : Func → Bool) (fs : List Func) → AllByRecursion (λ f. test f ≡ true) fs → list_all test fs ≡ true
-all_true test [] h = refl
-all_true test (f ∷ fs) h = and_from _ _ h.0 (all_true test fs h.1)
-
-true_all : (test : Func → Bool) (fs : List Func) → list_all test fs ≡ true → AllByRecursion (λ f. test f ≡ true) fs
-true_all test [] e = tt
-true_all test (f ∷ fs) e = let p = and_parts (test f) (list_all test fs) e in (p.0, true_all test fs p.1)
 
 params_same : (fs : List Func) → map (λ (g : Func). g.params) (map func_hoisted fs) ≡ map (λ (g : Func). g.params) fs
 params_same [] = refl

@@ -21,7 +21,8 @@ use Rattle.pin_checker.specs.declared.fault.Fault.{Fault}
 use Rattle.pin_checker.specs.declared.pair.Pair.{Pair}
 use Rattle.pin_checker.specs.Faults.{is_sound, Invalid, InvalidIn, fails, fails_through, Unsafe, rank, FailsAmong}
 use Rattle.pin_checker.specs.inner.Reports.{Search, noted, is_bad, is_good, has_bare, for_other, for_none, for_stale, for_lacking, for_bare, report, report_node, report_all, report_invalid, report_invalid_in, pairs_of, report_pair, report_pairs, report_func, report_funcs}
-use Rattle.pin_checker.proofs.Facts.{suits, is_looked, is_pinned, suits_answer, looked_answer, pinned_answer, filled_for_fair, filled_fair, pinned_fair}
+use Rattle.pin_flow.proofs.Pinned.{is_pinned, pinned_answer, pinned_fair}
+use Rattle.pin_checker.proofs.Facts.{suits, is_looked, suits_answer, looked_answer, filled_for_fair, filled_fair}
 use Rattle.pin_checker.proofs.Order.{made, earlier_one}
 use Rattle.pin_checker.proofs.Sound.{own_is}
 

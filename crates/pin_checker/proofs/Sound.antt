@@ -19,7 +19,8 @@ use Rattle.pin_checker.specs.declared.fault.Why.TheVariants.{BadTemp, NoLook, St
 use Rattle.pin_checker.specs.declared.fault.Fault.{Fault}
 use Rattle.pin_checker.specs.Faults.{fails, fails_through, Unsafe, FailsAmong}
 use Rattle.pin_checker.specs.inner.Reports.{Search, is_bad, is_good, has_bare, for_other, for_none, for_stale, for_lacking, for_bare, pairs_of, report_func, report_funcs}
-use Rattle.pin_checker.proofs.Facts.{suits, is_looked, is_pinned, suits_answer, looked_answer, pinned_answer, filled_for_fair, filled_fair, pinned_fair}
+use Rattle.pin_flow.proofs.Pinned.{is_pinned, pinned_answer, pinned_fair}
+use Rattle.pin_checker.proofs.Facts.{suits, is_looked, suits_answer, looked_answer, filled_for_fair, filled_fair}
 use Rattle.pin_checker.proofs.Order.{made, AtMost}
 use Rattle.pin_checker.proofs.Least.{Quiet, QuietAll, QuietPair, QuietFunc, func_least, placed_at}
 use Rattle.pin_checker.proofs.Pairs.{pair, IsListed, all_listed}

@@ -4,11 +4,11 @@ use Rattle.std.specs.Prelude.{not}
 use Rattle.std.proofs.lemmas.Bool.{and_parts, and_from}
 use Rattle.struct_ir.specs.Nodes.{Act, Node, plain, if_, loop, break_, next_, ret, Nodes, no_nodes, more_nodes, list_of}
 use Rattle.struct_ir.specs.Pins.{lacks_if}
-use Rattle.pin_flow.specs.Marks.{Mark, State, unreached, good, bad, state_of, after, Ways, end_state, round_of, head_of, flow, flow_node}
+use Rattle.pin_flow.specs.Marks.{Mark, State, unreached, good, bad, after, Ways, end_state, round_of, head_of, flow, flow_node}
 use Rattle.pin_flow.specs.Looks.{act_looks, act_assigns, looks_into}
 use Rattle.pin_flow.specs.Held.{filled, filled_for, fresh, pinned}
 use Rattle.pin_flow.specs.Live.{uses}
-use Rattle.pin_flow.proofs.Order.{rank, Below, join_mono, either_mono, in_turn_mono, turned_mono, at_mono, end_mono}
+use Rattle.pin_flow.proofs.Order.{rank, of_mono, Below, join_mono, either_mono, in_turn_mono, turned_mono, at_mono, end_mono}
 use Rattle.pin_checker.specs.declared.fault.Fault.{Fault}
 use Rattle.pin_checker.specs.declared.fault.Why.{Why}
 use Rattle.pin_checker.specs.declared.pair.Pair.{Pair}
@@ -20,20 +20,14 @@ IsStronger m m' = (a : Act) (v v' : Bool) → (v ≡ true → v' ≡ true) → m
 
 -- ---- states by a stronger mark are no better
 
-of_leads : (v w : Bool) → (v ≡ true → w ≡ true) → rank (state_of w) ≤ rank (state_of v)
-of_leads true true h = omega arith
-of_leads true false h = absurd (let e : false ≡ true = h refl in cc)
-of_leads false true h = omega arith
-of_leads false false h = omega arith
-
 after_leads : (f g : Bool → Bool) → ((v v' : Bool) → (v ≡ true → v' ≡ true) → f v ≡ true → g v' ≡ true) → (t u : State) → rank t ≤ rank u → rank (after g t) ≤ rank (after f u)
 after_leads f g h unreached u le = omega arith
 after_leads f g h good unreached le = absurd (omega arith)
-after_leads f g h good good le = of_leads (f true) (g true) (h true true (λ e. e))
-after_leads f g h good bad le = of_leads (f false) (g true) (h false true (λ e. refl))
+after_leads f g h good good le = of_mono (f true) (g true) (h true true (λ e. e))
+after_leads f g h good bad le = of_mono (f false) (g true) (h false true (λ e. refl))
 after_leads f g h bad unreached le = absurd (omega arith)
 after_leads f g h bad good le = absurd (omega arith)
-after_leads f g h bad bad le = of_leads (f false) (g false) (h false false (λ e. e))
+after_leads f g h bad bad le = of_mono (f false) (g false) (h false false (λ e. e))
 
 -- from a state that is no worse, the first leads to states that are no worse
 abbrev pub IsUnder : (State → Ways) → (State → Ways) → Type 0

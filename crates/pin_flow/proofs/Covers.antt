@@ -29,7 +29,7 @@ serves_down slot b a bad unreached le s i = absurd (omega arith)
 serves_down slot b a bad good le s i = absurd (omega arith)
 serves_down slot b a bad bad le s i = s i
 
-some_same : (s r : ℕ) → Some s ≡ Some r → s ≡ r
+pub some_same : (s r : ℕ) → Some s ≡ Some r → s ≡ r
 some_same s r e = cc
 
 pub covered_each : (ns : Nodes) → Covered structured (then_ ns done) → (s c : ℕ) → Each (Serves s c) (fresh s c) ns bad

@@ -18,3 +18,6 @@ pub mod MarkedRows
 pub mod Bases
 pub mod MadeEach
 pub mod InPlace
+pub mod Registers
+pub mod Pinned
+pub mod EachFunc

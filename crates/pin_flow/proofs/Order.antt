@@ -28,7 +28,7 @@ pub record Below (o o' : Ways) : Type 0 where
   pub broken : rank o.broken ≤ rank o'.broken
   pub next : rank o.next ≤ rank o'.next
 
-of_mono : (v w : Bool) → (v ≡ true → w ≡ true) → rank (state_of w) ≤ rank (state_of v)
+pub of_mono : (v w : Bool) → (v ≡ true → w ≡ true) → rank (state_of w) ≤ rank (state_of v)
 of_mono true true h = omega arith
 of_mono true false h = absurd (let e : false ≡ true = h refl in cc)
 of_mono false true h = omega arith

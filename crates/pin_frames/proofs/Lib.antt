@@ -1,5 +1,4 @@
 pub mod Backwards
-pub mod Below
 pub mod Due
 pub mod Exact
 pub mod FreeRows

@@ -4,12 +4,12 @@ use Rattle.std.specs.Prelude.{not}
 use Rattle.std.specs.Global.{Vec}
 use Rattle.struct_ir.specs.declared.code.Node.{Node as CodeNode}
 use Rattle.struct_ir.specs.declared.code.NodeKind.TheViews as views
-use Rattle.struct_ir.specs.declared.code.NodeKind.{NodeKind}
 use Rattle.struct_ir.specs.Nodes.{Node, Nodes, plain, if_, loop, break_, next_, ret}
-use Rattle.struct_ir.specs.Views.{kind_view, node_view, nodes_view}
+use Rattle.struct_ir.specs.Views.{node_view, nodes_view}
 use Rattle.struct_ir.proofs.Views.{if_is, loop_is}
 use Rattle.pin_flow.specs.Live.{Live, lives, live, live_node, head_live, latch_live, uses}
 use Rattle.pin_flow.specs.Views.{act_is, looks_slot}
+use Rattle.pin_flow.proofs.FlowRows.{is_plain}
 
 pub live_start : (slot b : ℕ) (l : Live) → l.on ≡ live slot b (nodes_view []) l
 unfolding live
@@ -42,18 +42,7 @@ pub latch_from : (slot b : ℕ) (body latch : Nodes) (on top end : Bool) (m : Li
 unfolding latch_live
 latch_from slot b body latch on top end m te me e = e ∙ (ap (live slot b latch) me ∙ (λ i. live slot b latch (lives (te i) on (te i))))
 
-abbrev pub is_act : Node → Bool
-is_act (plain p a) = true
-is_act (if_ p x one other) = false
-is_act (loop p body latch) = false
-is_act (break_ p) = false
-is_act (next_ p) = false
-is_act (ret p x) = false
-
-pub act_of : (n : CodeNode) (k : NodeKind) → n.kind ≡ k → is_act (kind_view n.place k) ≡ true → is_act (node_view n) ≡ true
-act_of n k e l = ap (λ x. is_act (kind_view n.place x)) e ∙ l
-
-pub live_act_at : (slot b : ℕ) (n : Node) (l : Live) → is_act n ≡ true → (act_is (uses slot b) n || (not (looks_slot slot n) && l.on)) ≡ live_node slot b n l
+pub live_act_at : (slot b : ℕ) (n : Node) (l : Live) → is_plain n ≡ true → (act_is (uses slot b) n || (not (looks_slot slot n) && l.on)) ≡ live_node slot b n l
 unfolding live
 live_act_at slot b (plain p a) l e = refl
 live_act_at slot b (if_ p x one other) l e = absurd (let h : false ≡ true = e in cc)

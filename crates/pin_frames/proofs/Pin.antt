@@ -1,12 +1,11 @@
 -- What a path says of lists too, as a mark, against what it says of Looks and assignments alone.
-use Rattle.std.proofs.Common.{◌≡◌, ◌≢◌, inl, inr, ℕ, ◌≤◌, List, [], ◌∷◌, Option, Some, None, Bool, true, false, ◌==◌, ◌||◌, ◌&&◌, if◌then◌else◌, refl, sym, ap, subst, ◌∙◌, arith}
-use Rattle.std.proofs.lemmas.Bool.{eqb-true, and_parts, or_left, or_right, both_ways, cases_lt}
+use Rattle.std.proofs.Common.{◌≡◌, ◌≢◌, inl, inr, ℕ, ◌≤◌, Bool, true, false, ◌==◌, ◌||◌, ◌&&◌, if◌then◌else◌, refl, sym, ap, subst, ◌∙◌, arith}
+use Rattle.std.proofs.lemmas.Bool.{or_left, or_right, both_ways, cases_lt}
 use Rattle.std.specs.Prelude.{not, max}
 use Rattle.struct_ir.specs.Nodes.{Act, set, call, step, look, safepoint, begin_object, end_object, Node, plain, if_, loop, break_, next_, ret, Nodes, no_nodes, more_nodes, own_list, list_of}
-use Rattle.struct_ir.specs.Flow.{Flow, Here, does, tests, passes, round, returns}
 use Rattle.struct_ir.specs.Structured.{Position, then_, in_body, in_latch}
-use Rattle.struct_ir.specs.Pins.{Fact, unlooked, looked, lacks, lacks_if, assigning, listing, doing, passing, facts}
-use Rattle.pin_flow.specs.Marks.{Mark, IsFair, marked, answer, State, unreached, good, bad, join, state_of, after, at, Ways, round_of, head_of, end_state, flow, flow_node, Each, EachIn}
+use Rattle.struct_ir.specs.Pins.{lacks, lacks_if}
+use Rattle.pin_flow.specs.Marks.{Mark, State, unreached, good, bad, join, state_of, after, at, Ways, round_of, head_of, end_state, flow, flow_node, Each, EachIn}
 use Rattle.pin_flow.specs.Looks.{is_to, looks_into}
 use Rattle.pin_flow.specs.Held.{fresh, pinned}
 use Rattle.pin_flow.specs.Live.{uses, Live, live_act, live, live_node, head_live, latch_live, live_at}
@@ -16,82 +15,6 @@ use Rattle.pin_flow.proofs.Covers.{Serves}
 use Rattle.pin_flow.proofs.Live.{among_has, loop_live}
 use Rattle.pin_flow.proofs.Live as lively
 use Rattle.pin_flow.proofs.At.{EachAt, EachAtIn}
-
-abbrev is_pinned : ℕ → Fact → Bool
-is_pinned b unlooked = false
-is_pinned b (looked base stale lacked) = (base == b) && (not stale && not lacked)
-
-pub pinned_fact : (b : ℕ) (f : Fact) → is_pinned b f ≡ true → f ≡ looked b false false
-pinned_fact b unlooked e = absurd cc
-pinned_fact b (looked base true lacked) e = absurd (let p = and_parts (base == b) false e in let x : false ≡ true = p.1 in cc)
-pinned_fact b (looked base false true) e = absurd (let p = and_parts (base == b) false e in let x : false ≡ true = p.1 in cc)
-pinned_fact b (looked base false false) e = ap (λ x. looked x false false) (eqb-true base b ((and_parts (base == b) true e).0))
-
-never : (x : Bool) → false ≡ (not x && false)
-never true = refl
-never false = refl
-
-pin_assigned : (b to : ℕ) (f : Fact) → is_pinned b (assigning (Some to) f) ≡ (not (b == to) && is_pinned b f)
-pin_assigned b to unlooked = never (b == to)
-pin_assigned b to (looked base stale lacked) = by_bool (λ x. (x && (not (stale || (base == to)) && not lacked)) ≡ (not (b == to) && (x && (not stale && not lacked)))) (base == b)
-    (λ e. let same : base ≡ b = eqb-true base b e in rw same (of_bools stale (b == to) lacked))
-    (λ e. never (b == to))
-  where
-    of_bools : (x y z : Bool) → (not (x || y) && not z) ≡ (not y && (not x && not z))
-    of_bools true true z = refl
-    of_bools true false z = refl
-    of_bools false true z = refl
-    of_bools false false z = refl
-
-pin_to : (b : ℕ) (to : Option ℕ) (f : Fact) → is_pinned b (assigning to f) ≡ (not (is_to b to) && is_pinned b f)
-pin_to b None f = refl
-pin_to b (Some to) f = pin_assigned b to f
-
-pin_listed : (b : ℕ) (out : Bool) (f : Fact) → is_pinned b (listing out f) ≡ (not out && is_pinned b f)
-pin_listed b out unlooked = never out
-pin_listed b out (looked base stale lacked) = of_bools (base == b) (not stale) lacked out
-  where
-    of_bools : (w x y z : Bool) → (w && (x && not (y || z))) ≡ (not z && (w && (x && not y)))
-    of_bools true true true true = refl
-    of_bools true true true false = refl
-    of_bools true true false z = by_bool (λ z. not z ≡ (not z && true)) z (λ e. refl) (λ e. refl)
-    of_bools true false y z = never z
-    of_bools false x y z = never z
-
-pin_done : (slot b : ℕ) (a : Act) (f : Fact) → is_pinned b (doing slot a f) ≡ pinned slot b a (is_pinned b f)
-pin_done slot b (set to calc) f = pin_to b (Some to) f
-pin_done slot b (call c) f = pin_to b c.to (listing (lacks slot c.slots) f) ∙ ap (λ y. not (is_to b c.to) && y) (pin_listed b (lacks slot c.slots) f)
-pin_done slot b (step x) f = pin_to b x.to (listing (lacks_if slot (own_list x)) f) ∙ ap (λ y. not (is_to b x.to) && y) (pin_listed b (lacks_if slot (own_list x)) f)
-pin_done slot b (look s base) f = by_bool (λ x. is_pinned b (if x then looked base false false else f) ≡ (if x then base == b else is_pinned b f)) (s == slot)
-    (λ e. by_bool (λ x. (x && true) ≡ x) (base == b) (λ e. refl) (λ e. refl)) (λ e. refl)
-pin_done slot b (safepoint slots) f = pin_listed b (lacks slot slots) f
-pin_done slot b (begin_object i) f = refl
-pin_done slot b (end_object i) f = refl
-
-pin_passed : (slot b : ℕ) (h : Here) (f : Fact) → is_pinned b (passing slot h f) ≡ marked (pinned slot b) h (is_pinned b f)
-pin_passed slot b (does p a) f = pin_done slot b a f
-pin_passed slot b (tests p x) f = refl
-pin_passed slot b passes f = refl
-pin_passed slot b round f = refl
-pin_passed slot b (returns x) f = refl
-
-pub pin_answer : {P : Type 0} (C : Flow P) (slot b : ℕ) (w : List P) → is_pinned b (facts C slot w) ≡ answer C (pinned slot b) w
-pin_answer C slot b [] = refl
-pin_answer C slot b (k ∷ w) = pin_passed slot b (C.here k) (facts C slot w) ∙ ap (marked (pinned slot b) (C.here k)) (pin_answer C slot b w)
-
-pin_no : (x y : Bool) → (not x && (not y && false)) ≡ true → ⊥
-pin_no true y e = absurd (let z : false ≡ true = e in cc)
-pin_no false true e = absurd (let z : false ≡ true = e in cc)
-pin_no false false e = absurd (let z : false ≡ true = e in cc)
-
-pub pin_fair : (slot b : ℕ) → IsFair (pinned slot b)
-pin_fair slot b (set to calc) e = absurd (pin_no (b == to) false e)
-pin_fair slot b (call c) e = absurd (pin_no (is_to b c.to) (lacks slot c.slots) e)
-pin_fair slot b (step x) e = absurd (pin_no (is_to b x.to) (lacks_if slot (own_list x)) e)
-pin_fair slot b (look s base) e = by_bool (λ x. (if x then base == b else false) ≡ true → (if x then base == b else true) ≡ true) (s == slot) (λ g e. e) (λ g e. refl) e
-pin_fair slot b (safepoint slots) e = absurd (pin_no false (lacks slot slots) e)
-pin_fair slot b (begin_object i) e = refl
-pin_fair slot b (end_object i) e = refl
 
 -- ---- where an access comes later, lists take nothing away
 

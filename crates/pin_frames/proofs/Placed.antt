@@ -18,13 +18,14 @@ use Rattle.pin_flow.proofs.Real.{Seen}
 use Rattle.pin_flow.proofs.Strip.{by_bool}
 use Rattle.pin_flow.proofs.Switch.{each_agree, each_weaker, each_always}
 use Rattle.pin_flow.proofs.Fresh.{fresh_answer, held_answer, fresh_fair, held_fair, own_agrees}
-use Rattle.pin_flow.proofs.Covers.{Serves, serves_down, covered_each, all_owned, not_bad_yes}
+use Rattle.pin_flow.proofs.Covers.{Serves, serves_down, covered_each, all_owned, not_bad_yes, some_same}
 use Rattle.pin_flow.proofs.Covers as covers
 use Rattle.pin_flow.proofs.Live.{has_among, among_has, live_is_used, used_is_live, all_told}
 use Rattle.pin_flow.proofs.At.{EachAt, each_of, every_at, every_both, every_all, some_finds, at_agree}
 use Rattle.pin_frames.proofs.Listed.{uses_listing, erase_listed, some_listed, each_listed}
 use Rattle.pin_frames.proofs.Exact.{IsListed, each_exact, IsTheirs, every_theirs}
-use Rattle.pin_frames.proofs.Pin.{pin_answer, pin_fair, pinned_fact, Lists, each_pin}
+use Rattle.pin_flow.proofs.Pinned.{pinned_answer, pinned_fair, pinned_fact}
+use Rattle.pin_frames.proofs.Pin.{Lists, each_pin}
 use Rattle.pin_frames.proofs.Stand.{stands_placed}
 use Rattle.pin_frames.proofs.Seat.{sat, erase_seated, some_seated, each_seated}
 
@@ -66,9 +67,6 @@ pinned_list s (look s' base) P p f = p
 pinned_list s (safepoint slots) P p f = p
 pinned_list s (begin_object i) P p f = p
 pinned_list s (end_object i) P p f = p
-
-some_same : (s r : ℕ) → Some s ≡ Some r → s ≡ r
-some_same s r e = cc
 
 not_bad : (t : State) → is_bad t ≡ false → t ≢ bad
 not_bad unreached e = λ h. absurd cc
@@ -270,11 +268,11 @@ module _ (slot_of : ℕ → ℕ) (apart : AreApart slot_of) (bs : List ℕ) (ns 
           let s = slot_of x.base in
           let named : x.slot ≡ Some s = all_owned slot_of (places_of act) x ((and_parts _ _ (covers.act_own slot_of out out_own w k path p act at)).1) i in
           let u : Uses s x.base act = (x, i, refl, named) in
-          let yes = each_holds (Serves s x.base) (pinned s x.base) (pin_fair s x.base) (serves_down s x.base) out (each_pinned x.base) w k path p act at u in
+          let yes = each_holds (Serves s x.base) (pinned s x.base) (pinned_fair s x.base) (serves_down s x.base) out (each_pinned x.base) w k path p act at u in
           record {
             slot = s;
             named = named;
-            looked_for = pinned_fact x.base (facts structured s w) (pin_answer structured s x.base w ∙ not_bad_yes _ yes);
+            looked_for = pinned_fact x.base (facts structured s w) (pinned_answer structured s x.base w ∙ not_bad_yes _ yes);
             held = each_holds (Holds x.base) (held x.base) (held_fair x.base) (λ a t u le q. q) out (each_holding x.base) w k path p act at (among_has s x.base act u);
           };
     }

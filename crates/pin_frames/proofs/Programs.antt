@@ -28,7 +28,7 @@ use Rattle.pin_frames.proofs.Due.{due_row, due_listed}
 use Rattle.pin_frames.proofs.Hoists.{looks_listing, hoisted_cleared, hoisted_placed}
 use Rattle.pin_frames.proofs.OneByOne.{cleared_is, each_is_placed}
 use Rattle.pin_frames.proofs.Placed as placing
-use Rattle.pin_frames.proofs.Below.{some_below}
+use Rattle.pin_flow.proofs.Registers.{some_below}
 use Rattle.pin_frames.proofs.Valid.{bases_once, valid_listed, valid_seated}
 
 pub each_end : (s : ℕ → Option ℕ) (bs : List ℕ) (i : ℕ) (out all : Nodes) → length bs ≤ i → listed_each s (drop i bs) out ≡ all → out ≡ all

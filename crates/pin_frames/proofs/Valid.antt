@@ -1,5 +1,5 @@
 -- Code with safepoints and lists is valid where the code without them is.
-use Rattle.std.proofs.Common.{◌≡◌, ℕ, zero, suc, ◌<◌, List, [], ◌∷◌, ◌++◌, length, Bool, true, ◌==◌, ◌||◌, ◌&&◌, if◌then◌else◌, ◌⊎◌, inl, inr, refl, sym, subst, arith}
+use Rattle.std.proofs.Common.{◌≡◌, ℕ, zero, suc, ◌<◌, List, [], ◌∷◌, ◌++◌, length, Bool, true, ◌==◌, ◌||◌, ◌&&◌, if◌then◌else◌, inl, inr, refl, sym, subst, arith}
 use Rattle.std.proofs.lemmas.Bool.{and_from, and_parts, lt-ltb}
 use Rattle.struct_ir.specs.Nodes.{Act, set, call, step, look, safepoint, begin_object, end_object, may_wait, Node, plain, if_, loop, break_, next_, ret, Nodes, no_nodes, more_nodes}
 use Rattle.std.specs.List.{list_all}
@@ -9,6 +9,7 @@ use Rattle.pin_flow.specs.Marks.{State}
 use Rattle.pin_flow.specs.Looks.{some_act}
 use Rattle.pin_flow.specs.Live.{Live, live_act, body_lives, latch_lives}
 use Rattle.pin_flow.specs.Slots.{accesses, bases_below, IsIn, AreApart}
+use Rattle.pin_flow.proofs.Registers.{in_parts, base_below}
 use Rattle.pin_flow.proofs.Strip.{by_bool}
 use Rattle.pin_frames.specs.inner.Place.{stop, act_seats, seats, seated, seated_in, wanted, act_listing, list_for, heads, turns, on_states, rest_lives, listed, listed_in}
 use Rattle.pin_frames.proofs.Exact.{list_only}
@@ -19,25 +20,12 @@ abbrev pub AreOnce : List ℕ → Type 0
 AreOnce [] = Unit {0}
 AreOnce (b ∷ bs) = (IsIn bs b → ⊥) × AreOnce bs
 
-in_parts : (bs : List ℕ) (c b : ℕ) → IsIn (bs ++ (c ∷ [])) b → (b ≡ c) ⊎ IsIn bs b
-in_parts [] c b (inl e) = inl e
-in_parts [] c b (inr i) = absurd i
-in_parts (x ∷ bs) c b (inl e) = inr (inl e)
-in_parts (x ∷ bs) c b (inr i) = elim (in_parts bs c b i) [ inl e ↦ inl e | inr j ↦ inr (inr j) ]
-
 once_more : (bs : List ℕ) (c : ℕ) → AreOnce bs → (IsIn bs c → ⊥) → AreOnce (bs ++ (c ∷ []))
 once_more [] c o h = ((λ i. i), tt)
 once_more (b ∷ bs) c o h = (
   (λ i. elim (in_parts bs c b i) [ inl e ↦ h (inl (sym e)) | inr j ↦ o.0 j ]),
   once_more bs c o.1 (λ i. h (inr i)),
 )
-
-base_below : (n : ℕ) (ns : Nodes) (b : ℕ) → IsIn (bases_below n ns) b → b < n
-base_below zero ns b i = absurd i
-base_below (suc n) ns b i =
-    by_bool (λ x. IsIn (if x then bases_below n ns ++ (n ∷ []) else bases_below n ns) b → b < suc n) (some_act (accesses n) ns)
-    (λ e i. elim (in_parts (bases_below n ns) n b i) [ inl g ↦ omega (arith, g) | inr j ↦ (let h = base_below n ns b j in omega (arith, h)) ])
-    (λ e i. let h = base_below n ns b i in omega (arith, h)) i
 
 pub bases_once : (n : ℕ) (ns : Nodes) → AreOnce (bases_below n ns)
 bases_once zero ns = tt

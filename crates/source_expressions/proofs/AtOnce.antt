@@ -11,7 +11,7 @@ use Rattle.source_tree.specs.declared.tree.SharedProgram.{SharedProgram}
 use Rattle.source_state.specs.declared.control.Progress.{Progress}
 use Rattle.source_state.specs.declared.control.Progress.TheVariants as flows
 use Rattle.source_expressions.specs.Ends.{here_at}
-use Rattle.source_expressions.specs.Flow.{Flows, FlowsSecond, now_in, progress, done_with}
+use Rattle.source_expressions.specs.Progress.{Flows, FlowsSecond, now_in, progress, done_with}
 
 done_flow : (h : TurnContext) (w : WayOfUse) (x : Now) (place : ℕ) (answer : Result Value Rule) → on_ok place (λ v. w.go v x) answer ≡ progress h w x (done_with place answer)
 done_flow h w x place (Ok v) = refl

@@ -17,7 +17,7 @@ use Rattle.source_tree.specs.declared.tree.Callee.{Callee}
 use Rattle.source_tree.specs.declared.tree.Callee.TheVariants as callees
 use Rattle.source_tree.specs.SharedViews.{address_of_form, one_of_form, two_of_form, either_of, call_of}
 use Rattle.source_state.specs.Views.{callee_of}
-use Rattle.source_expressions.specs.Flow.{binary_for, unary_for}
+use Rattle.source_expressions.specs.inner.Operations.{binary_for, unary_for}
 
 pub run_address : (h : TurnContext) (place : ℕ) (ty : tree.Ty) (form : AddressForm) (e : tree.Expr) (w : WayOfUse) (x : Now) → run_node h place ty (address_of_form form e) w x ≡ run_place h e w x
 run_address h place ty addresses.Of e w x = refl

@@ -14,7 +14,8 @@ use Rattle.source_tree.specs.SharedViews.{program_of, two_of_form, either_of}
 use Rattle.source_state.specs.declared.control.Progress.{Progress}
 use Rattle.source_state.specs.declared.control.Progress.TheVariants as flows
 use Rattle.source_expressions.specs.Ends.{here_at}
-use Rattle.source_expressions.specs.Flow.{Flows, FlowsLeft, FlowsSecond, FlowsTest, FlowsTested, now_in, progress, binary_for}
+use Rattle.source_expressions.specs.Progress.{Flows, FlowsSecond, FlowsTest, now_in, progress}
+use Rattle.source_expressions.specs.inner.Operations.{FlowsLeft, FlowsTested, binary_for}
 use Rattle.source_expressions.proofs.Forms.{run_two, run_either}
 
 -- an expression by another name, or under another

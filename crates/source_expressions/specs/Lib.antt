@@ -1,3 +1,3 @@
-pub mod Flow
+pub mod Progress
 pub mod Ends
 pub mod inner

@@ -13,7 +13,9 @@ ghost use Rattle.source_values.specs.Operations.{unary_of, binary_of};
 ghost use Rattle.source_state.specs.declared.control.Progress.TheVariants as flows;
 ghost use Rattle.source_state.specs.Variables.{variable_of};
 ghost use Rattle.source_state.specs.Views.{use_of, wait_of, values_of, callee_of};
-ghost use Rattle.source_expressions.specs.Flow.{Flows, FlowsPlace, FlowsRead, FlowsLeft, FlowsSecond, FlowsOnly, FlowsTest, FlowsTested, FlowsCall, FlowsWanted, FlowsVariable, FindsVariable, Reads, done_with, binary_for, unary_for, block_pointer};
+ghost use Rattle.source_expressions.specs.Progress.{Flows, FlowsPlace, FlowsSecond, FlowsTest, FlowsCall, Reads, done_with};
+ghost use Rattle.source_expressions.specs.inner.Operations.{FlowsLeft, FlowsOnly, FlowsTested, FlowsWanted, binary_for, unary_for};
+ghost use Rattle.source_expressions.specs.inner.Objects.{FlowsRead, FlowsVariable, FindsVariable, block_pointer};
 
 use crate::called;
 use ak_words::{NoMemory, Num, Rule};

@@ -14,7 +14,7 @@ use Rattle.source_tree.specs.declared.tree.Callee.{Callee}
 use Rattle.source_tree.specs.declared.tree.Callee.TheVariants as callees
 use Rattle.source_tree.specs.SharedViews.{address_of_form, one_of_form, two_of_form, either_of, call_of}
 use Rattle.source_state.specs.Views.{callee_of}
-use Rattle.source_statements.specs.Assigning.{voids}
+use Rattle.source_statements.specs.inner.Stores.{voids}
 
 pub dropped_address : (h : TurnContext) (place : ℕ) (ty : tree.Ty) (form : AddressForm) (e : tree.Expr) (w : Way) (x : Now) → run_dropped_node h place ty (address_of_form form e) w x ≡ run_node h place ty (address_of_form form e) (nowhere_way w) x
 dropped_address h place ty addresses.Of e w x = refl

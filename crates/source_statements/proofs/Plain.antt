@@ -14,7 +14,7 @@ use Rattle.source_tree.specs.declared.tree.Callee.{Callee}
 use Rattle.source_tree.specs.declared.tree.Callee.TheVariants as callees
 use Rattle.source_tree.specs.SharedViews.{address_of_form, one_of_form, two_of_form, either_of, call_of}
 use Rattle.source_expressions.specs.Ends.{Rest, here_at}
-use Rattle.source_statements.specs.Assigning.{plain_if, plain_number, assigns_by, updates_by}
+use Rattle.source_statements.specs.inner.Numbers.{plain_if, plain_number, assigns_by, updates_by}
 
 -- ---- the code's forms
 

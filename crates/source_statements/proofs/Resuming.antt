@@ -20,11 +20,12 @@ use Rattle.source_state.specs.declared.control.Progress.TheVariants as flows
 use Rattle.source_state.specs.declared.control.Pending.{Pending}
 use Rattle.source_state.specs.declared.control.Pending.TheVariants as pendings
 use Rattle.source_expressions.specs.Ends.{here_at, ends}
-use Rattle.source_expressions.specs.Flow.{now_in, progress, done_with, Flows, FlowsSecond, FlowsTest, FlowsCall, Reads}
+use Rattle.source_expressions.specs.Progress.{now_in, progress, done_with, Flows, FlowsSecond, FlowsTest, FlowsCall, Reads}
 use Rattle.source_statements.specs.declared.exit.Exit.{Exit}
 use Rattle.source_statements.specs.declared.exit.Exit.TheVariants as exits
-use Rattle.source_statements.specs.Assigning.{ExitsAs, Stores, Copies, ReadsUpdated, StoresUpdated, exit}
-use Rattle.source_statements.specs.Walks.{Passes, Finishes, FlowsOn, GivesTo, Continues}
+use Rattle.source_statements.specs.Exits.{ExitsAs, exit, Finishes, GivesTo}
+use Rattle.source_statements.specs.inner.Stores.{Stores, Copies, ReadsUpdated, StoresUpdated}
+use Rattle.source_statements.specs.inner.Behind.{Passes, FlowsOn, Continues}
 use Rattle.source_statements.proofs.Names.{name_todo, name_use}
 
 -- ---- what is left to do

@@ -6,9 +6,10 @@ use Rattle.c_meaning.specs.Control as control
 use Rattle.c_meaning.specs.Turns.{run, run_place, local_way, update_left_way, update_local_way, assigns, assigns_object, updates}
 use Rattle.source_tree.specs.declared.tree.SharedProgram.{SharedProgram}
 use Rattle.source_expressions.specs.Ends.{here_at}
-use Rattle.source_expressions.specs.Flow.{now_in}
+use Rattle.source_expressions.specs.Progress.{now_in}
 use Rattle.source_statements.specs.declared.exit.Exit.{Exit}
-use Rattle.source_statements.specs.Assigning.{ExitsAs, plain_number, assigns_by, updates_by}
+use Rattle.source_statements.specs.Exits.{ExitsAs}
+use Rattle.source_statements.specs.inner.Numbers.{plain_number, assigns_by, updates_by}
 use Rattle.source_statements.proofs.Plain.{assigned, changed}
 
 -- an assignment to a local without a block

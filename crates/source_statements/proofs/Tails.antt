@@ -15,10 +15,12 @@ use Rattle.source_state.specs.declared.control.Progress.{Progress}
 use Rattle.source_state.specs.declared.control.Progress.TheVariants as flows
 use Rattle.source_state.specs.declared.control.Pending.{Pending}
 use Rattle.source_expressions.specs.Ends.{Rest, here_at}
-use Rattle.source_expressions.specs.Flow.{Flows, FlowsPlace, now_in}
+use Rattle.source_expressions.specs.Progress.{Flows, FlowsPlace, now_in}
 use Rattle.source_statements.specs.declared.exit.Exit.{Exit}
 use Rattle.source_statements.specs.declared.exit.Exit.TheVariants as exits
-use Rattle.source_statements.specs.Assigning.{ExitsAs, Comes, Names, Stores, Copies, ReadsUpdated, local_in, exit, voids}
+use Rattle.source_statements.specs.Exits.{ExitsAs, exit}
+use Rattle.source_statements.specs.Locals.{Comes, Names, local_in}
+use Rattle.source_statements.specs.inner.Stores.{Stores, Copies, ReadsUpdated, voids}
 use Rattle.source_tree.specs.declared.tree.OneForm.{OneForm}
 use Rattle.source_tree.specs.SharedViews.{one_of_form}
 use Rattle.source_statements.proofs.Plain.{assigned}

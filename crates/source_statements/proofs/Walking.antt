@@ -23,13 +23,15 @@ use Rattle.source_state.specs.declared.control.Progress.TheVariants as flows
 use Rattle.source_state.specs.declared.control.Pending.{Pending}
 use Rattle.source_state.specs.declared.control.Pending.TheVariants as pendings
 use Rattle.source_expressions.specs.Ends.{Rest, here_at, ends}
-use Rattle.source_expressions.specs.Flow.{Flows, now_in}
+use Rattle.source_expressions.specs.Progress.{Flows, now_in}
 use Rattle.source_statements.specs.declared.exit.Exit.{Exit}
 use Rattle.source_statements.specs.declared.exit.Exit.TheVariants as exits
-use Rattle.source_statements.specs.Assigning.{ExitsAs, Comes, exit}
+use Rattle.source_statements.specs.Exits.{ExitsAs, exit}
+use Rattle.source_statements.specs.Locals.{Comes}
 use Rattle.source_statements.specs.declared.statements.Tested.{Tested}
 use Rattle.source_statements.specs.declared.statements.Tested.TheVariants as tests
-use Rattle.source_statements.specs.Walks.{Tests, test_way, tested, Passes, EndsRound, RowGoes}
+use Rattle.source_statements.specs.inner.Conditions.{Tests, test_way, tested}
+use Rattle.source_statements.specs.inner.Behind.{Passes, EndsRound, RowGoes}
 use Rattle.source_statements.proofs.Tails.{gives_exit}
 
 -- the same piece in other words

@@ -1,2 +1,3 @@
-pub mod Walks
-pub mod Assigning
+pub mod Exits
+pub mod Locals
+pub mod inner

@@ -7,7 +7,9 @@ ghost use Rattle.c_meaning.specs.Control as control;
 ghost use Rattle.c_meaning.specs.Turns as turns;
 ghost use Rattle.source_tree.specs.SharedViews.{expr_of};
 ghost use Rattle.source_state.specs.Views.{todo_of, updating_of};
-ghost use Rattle.source_statements.specs.Assigning.{ExitsAs, Stores, Copies, ReadsUpdated, plain_number, voids};
+ghost use Rattle.source_statements.specs.Exits.{ExitsAs};
+ghost use Rattle.source_statements.specs.inner.Numbers.{plain_number};
+ghost use Rattle.source_statements.specs.inner.Stores.{Stores, Copies, ReadsUpdated, voids};
 
 use crate::behind_assignments;
 use crate::exit::Exit;
@@ -36,7 +38,7 @@ pub fn assign_local(
     ensures exits { IfOk result (λ g. (function : ℕ) → ExitsAs (λ h w. turns.run h (expr_of e.now.value) (turns.local_way number w)) program.now function (todo_of k.now.value) locals.old.now store.now.now locals.new.now store.now.now g) }
     ensures locals { OnOk result (locals.new.kept ≡ locals.old.kept) }
 {
-    let after = uses::to_local(alloc, number, k)?;
+    let after = behind_assignments::to_local(alloc, number, k)?;
     let flow = expr(e, alloc, program, locals, store.store(), &after)?;
     match flow {
         Progress::Ends(q) => Ok(Exit::Ends(q)),
@@ -69,7 +71,7 @@ pub fn assign_place(
 ) -> Result<Exit, NoMemory>
     ensures { IfOk result (λ g. (function : ℕ) → ExitsAs (λ h w. turns.run h (expr_of e.now.value) (turns.place_way h place to w)) program.now function (todo_of k.now.value) locals.now.now store.now.now locals.now.now store.now.now g) }
 {
-    let after = uses::to_place(alloc, place, to, k)?;
+    let after = behind_assignments::to_place(alloc, place, to, k)?;
     let flow = expr(e, alloc, program, locals, store.store(), &after)?;
     match flow {
         Progress::Ends(q) => Ok(Exit::Ends(q)),
@@ -118,7 +120,7 @@ pub fn assign_struct(
 ) -> Result<Exit, NoMemory>
     ensures { IfOk result (λ g. (function : ℕ) → ExitsAs (λ h w. turns.run_place h (expr_of right.now.value) (turns.struct_right_way h at (type_view ty.now.value) to w)) program.now function (todo_of k.now.value) locals.now.now store.now.now locals.now.now store.now.now g) }
 {
-    let after = uses::struct_right(alloc, at, ty, to, k)?;
+    let after = behind_assignments::struct_right(alloc, at, ty, to, k)?;
     let flow = place(right, alloc, program, locals, store.store(), &after)?;
     match flow {
         Progress::Ends(q) => Ok(Exit::Ends(q)),
@@ -141,7 +143,7 @@ fn assign_whole(
 ) -> Result<Exit, NoMemory>
     ensures { IfOk result (λ g. (function : ℕ) → ExitsAs (λ h w. turns.run_place h (expr_of left.now) (turns.struct_left_way h (place_of (expr_of left.now)) (type_of (expr_of left.now)) (expr_of right.now.value) w)) program.now function (todo_of k.now.value) locals.now.now store.now.now locals.now.now store.now.now g) }
 {
-    let after = uses::struct_left(alloc, left.place, &left.ty, right, k)?;
+    let after = behind_assignments::struct_left(alloc, left.place, &left.ty, right, k)?;
     let flow = place(left, alloc, program, locals, store.store(), &after)?;
     match flow {
         Progress::Ends(q) => Ok(Exit::Ends(q)),
@@ -165,7 +167,7 @@ fn assign_scalar(
 ) -> Result<Exit, NoMemory>
     ensures { IfOk result (λ g. (function : ℕ) → ExitsAs (λ h w. turns.run_place h (expr_of left.now) (turns.left_way h (place_of (expr_of left.now)) (expr_of right.now.value) w)) program.now function (todo_of k.now.value) locals.now.now store.now.now locals.now.now store.now.now g) }
 {
-    let after = uses::left_place(alloc, left.place, right, k)?;
+    let after = behind_assignments::left_place(alloc, left.place, right, k)?;
     let flow = place(left, alloc, program, locals, store.store(), &after)?;
     match flow {
         Progress::Ends(q) => Ok(Exit::Ends(q)),
@@ -252,7 +254,7 @@ pub fn update_right(
 ) -> Result<Pending, NoMemory>
     ensures { IfOk result (λ q. ReadsUpdated (updating_of u.now.value) at by (todo_of k.now.value) q) }
 {
-    let after = uses::update_read(alloc, u, at, by, k)?;
+    let after = behind_assignments::update_read(alloc, u, at, by, k)?;
     let action = SharedAction::Load(pointer_in(at), access_of_type(&u.ty));
     Ok(Pending::Act(u.place, action, Then::Gives(u.place, after)))
 }
@@ -270,7 +272,7 @@ pub fn update_left(
 ) -> Result<Exit, NoMemory>
     ensures { IfOk result (λ g. (function : ℕ) → ExitsAs (λ h w. turns.run h (expr_of right.now.value) (turns.update_right_way h (updating_of u.now.value) at w)) program.now function (todo_of k.now.value) locals.now.now store.now.now locals.now.now store.now.now g) }
 {
-    let after = uses::update_right(alloc, u, at, k)?;
+    let after = behind_assignments::update_right(alloc, u, at, k)?;
     let flow = expr(right, alloc, program, locals, store.store(), &after)?;
     match flow {
         Progress::Ends(q) => Ok(Exit::Ends(q)),
@@ -320,7 +322,7 @@ fn update_local(
     ensures exits { IfOk result (λ g. (function : ℕ) → ExitsAs (λ h w. turns.run h (expr_of right.now.value) (turns.update_local_way h (updating_of u.now.value) number w)) program.now function (todo_of k.now.value) locals.old.now store.now.now locals.new.now store.now.now g) }
     ensures locals { OnOk result (locals.new.kept ≡ locals.old.kept) }
 {
-    let after = uses::update_local(alloc, u, number, k)?;
+    let after = behind_assignments::update_local(alloc, u, number, k)?;
     let flow = expr(right, alloc, program, locals, store.store(), &after)?;
     match flow {
         Progress::Ends(q) => Ok(Exit::Ends(q)),
@@ -341,7 +343,7 @@ fn update_object(
 ) -> Result<Exit, NoMemory>
     ensures { IfOk result (λ g. (function : ℕ) → ExitsAs (λ h w. turns.run_place h (expr_of left.now) (turns.update_left_way h (updating_of u.now.value) (expr_of right.now.value) w)) program.now function (todo_of k.now.value) locals.now.now store.now.now locals.now.now store.now.now g) }
 {
-    let after = uses::update_left(alloc, u, right, k)?;
+    let after = behind_assignments::update_left(alloc, u, right, k)?;
     let flow = place(left, alloc, program, locals, store.store(), &after)?;
     match flow {
         Progress::Ends(q) => Ok(Exit::Ends(q)),

@@ -6,7 +6,7 @@ ghost use Rattle.c_meaning.specs.Control as control;
 ghost use Rattle.c_meaning.specs.Turns.{declared, declared_by};
 ghost use Rattle.source_tree.specs.SharedViews.{expr_of, stmt_of, row_of, row_from};
 ghost use Rattle.source_state.specs.Views.{loop_of, todo_of, use_of};
-ghost use Rattle.source_statements.specs.Walks.{EndsRound};
+ghost use Rattle.source_statements.specs.inner.Behind.{EndsRound};
 
 use ak_words::NoMemory;
 use source_state::control::{LoopParts, Pending, Todo, Use};

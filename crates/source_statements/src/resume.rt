@@ -6,8 +6,8 @@ ghost use Rattle.c_meaning.specs.Turns as turns;
 ghost use Rattle.source_tree.specs.SharedViews.{row_from};
 ghost use Rattle.source_state.specs.Views.{todo_of, loop_of};
 ghost use Rattle.source_expressions.specs.Ends.{ends};
-ghost use Rattle.source_statements.specs.Assigning.{exit};
-ghost use Rattle.source_statements.specs.Walks.{Finishes, Passes};
+ghost use Rattle.source_statements.specs.Exits.{exit, Finishes};
+ghost use Rattle.source_statements.specs.inner.Behind.{Passes};
 
 use crate::Exit;
 use crate::statements::{after_body, after_first, after_step, close_first, close_row, row};

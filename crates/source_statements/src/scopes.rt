@@ -6,7 +6,8 @@ ghost use Rattle.c_tree.specs.TypedViews.{local_view};
 ghost use Rattle.c_meaning.specs.Turns.{is_block, ended_local, ended_locals, made_local, declared_local, declared, declared_by};
 ghost use Rattle.source_tree.specs.SharedViews.{row_of, stmt_of};
 ghost use Rattle.source_expressions.specs.Ends.{Rest, here_at};
-ghost use Rattle.source_statements.specs.Assigning.{local_in, size_in_program, Comes, Names};
+ghost use Rattle.source_statements.specs.Locals.{local_in, Comes, Names};
+ghost use Rattle.source_statements.specs.inner.Numbers.{size_in_program};
 
 use ak_words::NoMemory;
 use block_store::{BlockKind, Cell};

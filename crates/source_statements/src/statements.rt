@@ -8,8 +8,9 @@ ghost use Rattle.c_meaning.specs.Turns as turns;
 ghost use Rattle.source_tree.specs.declared.tree.SharedProgram.{SharedProgram};
 ghost use Rattle.source_tree.specs.SharedViews.{expr_of, optional_expr_of, stmt_of, row_of, row_from};
 ghost use Rattle.source_state.specs.Views.{todo_of, use_of, loop_of, stmt_or_nothing};
-ghost use Rattle.source_statements.specs.Assigning.{ExitsAs};
-ghost use Rattle.source_statements.specs.Walks.{Passes, Tests};
+ghost use Rattle.source_statements.specs.Exits.{ExitsAs};
+ghost use Rattle.source_statements.specs.inner.Conditions.{Tests};
+ghost use Rattle.source_statements.specs.inner.Behind.{Passes};
 
 use crate::assignments::{assign, drop_value, initialise, update};
 use crate::scopes::{declare_local, end_first, end_row};
@@ -195,7 +196,7 @@ fn block(
     ensures locals { OnOk result (locals.new.kept ≡ locals.old.kept) }
     ensures store { OnOk result (store.new.kept ≡ store.old.kept) }
 {
-    let inside = inside::row_end(alloc, all, k)?;
+    let inside = behind_statements::row_end(alloc, all, k)?;
     let left = row(all, alloc, program, function, locals, store, 0, &inside)?;
     close_row(left, all, locals, store)
 }
@@ -404,7 +405,7 @@ fn for_each(
     let again = step.clone()?;
     let or = Some(again);
     let l = parts_of(alloc, place, c, &or, body)?;
-    let outside = inside::for_end(alloc, first, k)?;
+    let outside = behind_statements::for_end(alloc, first, k)?;
     let left = run_for(
         first, body, alloc, program, function, locals, store, &or, &l, &outside,
     )?;
@@ -429,7 +430,7 @@ fn run_for(
     ensures locals { OnOk result (locals.new.kept ≡ locals.old.kept) }
     ensures store { OnOk result (store.new.kept ≡ store.old.kept) }
 {
-    let inside = inside::first_end(alloc, l, k)?;
+    let inside = behind_statements::first_end(alloc, l, k)?;
     let left = stmt(first, alloc, program, function, locals, store, &inside)?;
     after_first(
         left, body, alloc, program, function, locals, store, step, l, k,
@@ -503,7 +504,7 @@ fn tested_round(
     ensures locals { OnOk result (locals.new.kept ≡ locals.old.kept) }
     ensures store { OnOk result (store.new.kept ≡ store.old.kept) }
 {
-    let after = inside::condition_end(alloc, c, l, k)?;
+    let after = behind_statements::condition_end(alloc, c, l, k)?;
     let tested = test(c, alloc, program, locals, store, &after)?;
     match tested {
         Tested::Ends(q) => Ok(Exit::Ends(q)),
@@ -534,7 +535,7 @@ pub fn enter_body(
     ensures locals { OnOk result (locals.new.kept ≡ locals.old.kept) }
     ensures store { OnOk result (store.new.kept ≡ store.old.kept) }
 {
-    let inside = inside::body_end(alloc, l, k)?;
+    let inside = behind_statements::body_end(alloc, l, k)?;
     let left = stmt(body, alloc, program, function, locals, store, &inside)?;
     after_body(left, alloc, program, function, locals, store, step, l, k)
 }
@@ -582,7 +583,7 @@ fn last(
 {
     match step {
         None => {
-            let over = inside::round_end(l, k)?;
+            let over = behind_statements::round_end(l, k)?;
             Ok(Exit::Ends(over))
         }
         Some(s) => last_some(s, alloc, program, function, locals, store, l, k),
@@ -605,7 +606,7 @@ fn last_some(
     ensures locals { OnOk result (locals.new.kept ≡ locals.old.kept) }
     ensures store { OnOk result (store.new.kept ≡ store.old.kept) }
 {
-    let inside = inside::step_end(alloc, l, k)?;
+    let inside = behind_statements::step_end(alloc, l, k)?;
     let left = stmt(s, alloc, program, function, locals, store, &inside)?;
     after_step(left, l, k)
 }
@@ -616,11 +617,11 @@ pub fn after_step(left: Exit, l: &Rc<LoopParts>, k: &Rc<Todo>) -> Result<Exit, N
 {
     match left {
         Exit::End => {
-            let end_over = inside::round_end(l, k)?;
+            let end_over = behind_statements::round_end(l, k)?;
             Ok(Exit::Ends(end_over))
         }
         Exit::Next => {
-            let next_over = inside::round_end(l, k)?;
+            let next_over = behind_statements::round_end(l, k)?;
             Ok(Exit::Ends(next_over))
         }
         Exit::Break => Ok(Exit::End),
@@ -646,7 +647,7 @@ pub fn row(
 {
     let mut at = from;
     'row: while at < all.stmts.len() {
-        let after = inside::row_rest(alloc, all, at + 1, k)?;
+        let after = behind_statements::row_rest(alloc, all, at + 1, k)?;
         let left = stmt(
             &all.stmts[at],
             alloc,

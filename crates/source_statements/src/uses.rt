@@ -8,9 +8,10 @@ ghost use Rattle.source_tree.specs.declared.tree.SharedProgram.{SharedProgram};
 ghost use Rattle.source_tree.specs.SharedViews.{expr_of, args_of, stmt_of};
 ghost use Rattle.source_values.specs.Operations.{unary_of, binary_of};
 ghost use Rattle.source_state.specs.Views.{todo_of, use_of, loop_of, stmt_or_nothing, updating_of, callee_of, values_of, wait_of};
-ghost use Rattle.source_expressions.specs.Flow.{FlowsCall};
-ghost use Rattle.source_statements.specs.Assigning.{ExitsAs, StoresUpdated};
-ghost use Rattle.source_statements.specs.Walks.{Continues, Finishes, FlowsOn, GivesTo};
+ghost use Rattle.source_expressions.specs.Progress.{FlowsCall};
+ghost use Rattle.source_statements.specs.Exits.{ExitsAs, Finishes, GivesTo};
+ghost use Rattle.source_statements.specs.inner.Stores.{StoresUpdated};
+ghost use Rattle.source_statements.specs.inner.Behind.{Continues, FlowsOn};
 
 use crate::Exit;
 use crate::assignments::{

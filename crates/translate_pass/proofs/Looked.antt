@@ -1,14 +1,12 @@
 -- Inserting is right.
-use Rattle.std.proofs.Common.{◌≡◌, ◌≢◌, ℕ, ◌<◌, List, [], ◌∷◌, map, Option, Some, None, Bool, true, false, ◌==◌, ◌||◌, ◌⊎◌, inl, inr, if◌then◌else◌, refl, sym, ap, subst, ◌∙◌}
-use Rattle.std.proofs.lemmas.Bool.{eqb-true, eq-eqb, not-false, or_parts, or_from, or_left, or_right, or_cases, and_parts, ltb-true}
-use Rattle.std.specs.Prelude.{not, nat_lt}
-use Rattle.std.specs.List.{list_all}
+use Rattle.std.proofs.Common.{◌≡◌, ◌≢◌, ℕ, List, [], ◌∷◌, map, Option, Some, None, Bool, true, false, ◌==◌, ◌||◌, ◌⊎◌, inl, inr, if◌then◌else◌, refl, sym, ap, ◌∙◌}
+use Rattle.std.proofs.lemmas.Bool.{eqb-true, eq-eqb, not-false, or_parts, or_from, or_left, or_right, or_cases}
+use Rattle.std.specs.Prelude.{not}
 use Rattle.struct_ir.specs.Nodes.{Place, Act, set, call, step, look, safepoint, begin_object, end_object, Node, plain, if_, loop, break_, next_, ret, Nodes, no_nodes, more_nodes, places_of, node_place}
 use Rattle.struct_ir.specs.Structured.{done, then_, structured}
 use Rattle.struct_ir.specs.Lists.{bare_place, bare_act}
 use Rattle.struct_ir.specs.Erased.{is_kept, put, erased}
 use Rattle.struct_ir.specs.Pins.{Among}
-use Rattle.struct_ir.specs.Valid.{Scope, Around, body_of, latch_of, is_place, is_node, are_nodes}
 use Rattle.pin_flow.specs.Marks.{State, unreached, good, bad, state_of, after, flow, Each, EachIn}
 use Rattle.pin_flow.specs.Looks.{some_act, some_in, act_looks, Covered, Uses}
 use Rattle.pin_flow.specs.Held.{held, fresh}
@@ -294,43 +292,3 @@ module _ (slot_of : ℕ → ℕ) where
       let out = inserted T ns in
       let o = inserted_own ns e in
       each_covered slot_of out o (λ c. each_agree (held c) (fresh (slot_of c) c) lost (λ a e v. own_agrees slot_of apart c a (not-false _ e) v) (Serves (slot_of c) c) out o bad (each_inserted c ns bad))
-
--- ---- in valid code each base is a register
-
-module _ (b : ℕ) where
-  base_below : (x : Scope) (list : List Place) → list_all (is_place x) list ≡ true → has_base b list ≡ true → b < x.temps
-  base_below x [] e h = absurd (let z : false ≡ true = h in cc)
-  base_below x (a ∷ rest) e h =
-      let p = and_parts (is_place x a) (list_all (is_place x) rest) e in
-      elim (or_cases (a.base == b) (has_base b rest) h) [
-        | inl g ↦ (let q = and_parts (nat_lt a.base x.temps) _ p.0 in subst (λ y. y < x.temps) (eqb-true a.base b g) (ltb-true a.base x.temps q.0))
-        | inr g ↦ base_below x rest p.1 g
-      ]
-
-  act_below : (x : Scope) (a : Act) → Rattle.struct_ir.specs.Valid.is_act x a ≡ true → accesses b a ≡ true → b < x.temps
-  act_below x (set to calc) e h = absurd (let z : false ≡ true = h in cc)
-  act_below x (call c) e h = absurd (let z : false ≡ true = h in cc)
-  act_below x (step s) e h = base_below x s.places ((and_parts _ _ ((and_parts _ _ e).0)).0) h
-  act_below x (look slot base) e h = absurd (let z : false ≡ true = h in cc)
-  act_below x (safepoint slots) e h = absurd (let z : false ≡ true = h in cc)
-  act_below x (begin_object i) e h = absurd (let z : false ≡ true = h in cc)
-  act_below x (end_object i) e h = absurd (let z : false ≡ true = h in cc)
-
-  mutual
-    pub some_below : (x : Scope) (w : Around) (ns : Nodes) → are_nodes x w ns ≡ true → some_act (accesses b) ns ≡ true → b < x.temps
-    some_below x w no_nodes e h = absurd (let z : false ≡ true = h in cc)
-    some_below x w (more_nodes n rest) e h =
-        let p = and_parts (is_node x w n) (are_nodes x w rest) e in
-        elim (or_cases (some_in (accesses b) n) (some_act (accesses b) rest) h) [ inl g ↦ in_below x w n p.0 g | inr g ↦ some_below x w rest p.1 g ]
-
-    in_below : (x : Scope) (w : Around) (n : Node) → is_node x w n ≡ true → some_in (accesses b) n ≡ true → b < x.temps
-    in_below x w (plain p a) e h = act_below x a e h
-    in_below x w (if_ p t one other) e h =
-        let q = and_parts (are_nodes x w one) (are_nodes x w other) ((and_parts _ _ e).1) in
-        elim (or_cases (some_act (accesses b) one) (some_act (accesses b) other) h) [ inl g ↦ some_below x w one q.0 g | inr g ↦ some_below x w other q.1 g ]
-    in_below x w (loop p body latch) e h =
-        let q = and_parts (are_nodes x body_of body) (are_nodes x latch_of latch) e in
-        elim (or_cases (some_act (accesses b) body) (some_act (accesses b) latch) h) [ inl g ↦ some_below x body_of body q.0 g | inr g ↦ some_below x latch_of latch q.1 g ]
-    in_below x w (break_ p) e h = absurd (let z : false ≡ true = h in cc)
-    in_below x w (next_ p) e h = absurd (let z : false ≡ true = h in cc)
-    in_below x w (ret p t) e h = absurd (let z : false ≡ true = h in cc)

@@ -1,6 +1,6 @@
 -- Programs with Looks.
-use Rattle.std.proofs.Common.{◌≡◌, ℕ, List, [], ◌∷◌, map, length, Some, Bool, true, false, inl, inr, refl, sym, ap, subst, arith}
-use Rattle.std.proofs.lemmas.Bool.{and_parts, and_from, both_ways, lt-ltb}
+use Rattle.std.proofs.Common.{◌≡◌, ℕ, List, [], ◌∷◌, map, length, Some, true, false, inl, inr, refl, sym, ap, subst, arith}
+use Rattle.std.proofs.lemmas.Bool.{and_parts, both_ways, lt-ltb}
 use Rattle.std.specs.List.{AllByRecursion, list_all}
 use Rattle.struct_ir.specs.Nodes.{Func, Ir, Nodes}
 use Rattle.struct_ir.specs.Structured.{done, then_, structured}
@@ -13,7 +13,9 @@ use Rattle.pin_flow.specs.Slots.{accesses, bases_of, slot_in, slot_if, IsIn, IsO
 use Rattle.pin_flow.proofs.Bases.{same_bases, base_in, slot_known, slots_are_few, slots_are_apart}
 use Rattle.translate_pass.specs.inner.Insert.{inserted, func_inserted, ir_inserted}
 use Rattle.translate_pass.proofs.InsertedValid.{with_slots, erased_valid, inserted_valid}
-use Rattle.translate_pass.proofs.Looked.{erase_inserted, any_look, no_look_erased, not_looked, slot_or, inserted_known, inserted_own, inserted_covered, some_below}
+use Rattle.translate_pass.proofs.Looked.{erase_inserted, any_look, no_look_erased, not_looked, slot_or, inserted_known, inserted_own, inserted_covered}
+use Rattle.pin_flow.proofs.Registers.{some_below}
+use Rattle.pin_flow.proofs.EachFunc.{all_true}
 
 -- what is so of each function with its Looks, if it is valid and without Looks before
 pub all_are : (R : Func → Type 0) (x : Ir) → ((f : Func) → are_nodes (scope_of x f) outside f.nodes ≡ true → func_erased f ≡ f → R (func_inserted f)) → (fs : List Func)
@@ -72,10 +74,6 @@ module _ (x : Ir) (f : Func) (valid : are_nodes (scope_of x f) outside f.nodes �
   }
 
 -- ---- valid code
-
-all_true : (test : Func → Bool) (fs : List Func) → AllByRecursion (λ f. test f ≡ true) fs → list_all test fs ≡ true
-all_true test [] h = refl
-all_true test (f ∷ fs) h = and_from _ _ h.0 (all_true test fs h.1)
 
 -- each slot is one of those of the bases
 slot_below : (bs : List ℕ) (b : ℕ) → is_below_if (length bs) (slot_if bs b) ≡ true

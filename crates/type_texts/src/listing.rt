@@ -4,8 +4,8 @@ ghost use Rattle.std.specs.Prelude.{◌≤◌, length};
 
 use crate::stmts::write_stmts;
 use crate::types::{write_bytes, write_type};
-use c_lex::CompileFault;
 use alaska_run::read;
+use c_lex::CompileFault;
 use c_tree::typed::{Func, GlobalVar, Init, Layout, Literal, Local, Typed};
 use std::alloc::{AllocError, Global};
 use std::io;

@@ -6,7 +6,7 @@ use block_meaning::Turned;
 use std::test::Fail;
 
 #[test]
-fn they_are_broken(rt: HostRuntime) -> Result<(), Fail> {
+fn rules_of_values_and_pointers_are_broken(rt: HostRuntime) -> Result<(), Fail> {
     for (text, rule, place) in [
         (
             b"int main(void){int x=2147483647;return x+1;}".as_slice(),
@@ -32,8 +32,17 @@ fn they_are_broken(rt: HostRuntime) -> Result<(), Fail> {
             35,
         ),
         (b"int a;int b;int main(void){return &a<&b;}", Rule::C8, 36),
+    ] {
+        assert_eq!(rt; end_of(rt.alloc(), text)?, Some(Turned::Broke(rule, place)));
+    }
+    Ok(())
+}
+
+#[test]
+fn rules_of_lifetimes_and_calls_are_broken(rt: HostRuntime) -> Result<(), Fail> {
+    for (text, rule, place) in [
         (
-            b"int main(void){int *p=malloc(4);free(p);return p==NULL;}",
+            b"int main(void){int *p=malloc(4);free(p);return p==NULL;}".as_slice(),
             Rule::C9,
             48,
         ),

@@ -85,24 +85,18 @@ expressions::expression-returns-in-Index t c =
 
 pub expressions::expression-returns-in-Binary : goal.expressions::expression-returns-in-Binary
 expressions::expression-returns-in-Binary t c =
-    nodes.binary_told c.args.e.now c.in-Binary.place c.in-Binary.op c.in-Binary.left c.in-Binary.right c.deref-in-Binary.result.now c.deref-in-Binary-2.result.now (context_view c.args.context.now) c.binary.new.context c.binary.result
-    c.in-Binary.is c.deref-in-Binary.ensures c.deref-in-Binary-2.ensures c.binary.ensures
+    nodes.binary_told c.args.e.now c.in-Binary.place c.in-Binary.op c.in-Binary.left c.in-Binary.right c.deref-in-Binary.result.now c.deref-in-Binary-2.result.now (context_view c.args.context.now) c.value-right.new.context c.combination.result
+    c.in-Binary.is c.deref-in-Binary.ensures c.deref-in-Binary-2.ensures
+    (binary_tells c.in-Binary.place c.in-Binary.op (sources.expr_view c.deref-in-Binary.result.now) (sources.expr_view c.deref-in-Binary-2.result.now) (context_view c.args.context.now) c.value-left.new.context c.value-right.new.context c.value-left.result c.value-right.result c.combination.result
+    c.value-left.ensures c.value-right.ensures c.combination.ensures)
 
 pub expressions::expression-returns-in-Conditional : goal.expressions::expression-returns-in-Conditional
 expressions::expression-returns-in-Conditional t c =
     nodes.conditional_told c.args.e.now c.in-Conditional.place c.in-Conditional.condition c.in-Conditional.then c.in-Conditional.otherwise c.deref-in-Conditional.result.now c.deref-in-Conditional-2.result.now c.deref-in-Conditional-3.result.now (context_view c.args.context.now)
-    c.conditional.new.context c.conditional.result c.in-Conditional.is c.deref-in-Conditional.ensures c.deref-in-Conditional-2.ensures c.deref-in-Conditional-3.ensures c.conditional.ensures
-
-pub expressions::binary-returns : goal.expressions::binary-returns
-expressions::binary-returns t c =
-    binary_tells c.args.place c.args.op (sources.expr_view c.args.left.now) (sources.expr_view c.args.right.now) (context_view c.args.context.now) c.value-left.new.context c.value-right.new.context c.value-left.result c.value-right.result c.combination.result
-    c.value-left.ensures c.value-right.ensures c.combination.ensures
-
-pub expressions::conditional-returns : goal.expressions::conditional-returns
-expressions::conditional-returns t c =
-    conditional_tells c.args.place (sources.expr_view c.args.condition.now) (sources.expr_view c.args.then.now) (sources.expr_view c.args.otherwise.now) (context_view c.args.context.now)
+    c.value-otherwise.new.context c.choice_of.result c.in-Conditional.is c.deref-in-Conditional.ensures c.deref-in-Conditional-2.ensures c.deref-in-Conditional-3.ensures
+    (conditional_tells c.in-Conditional.place (sources.expr_view c.deref-in-Conditional.result.now) (sources.expr_view c.deref-in-Conditional-2.result.now) (sources.expr_view c.deref-in-Conditional-3.result.now) (context_view c.args.context.now)
     c.value-condition.new.context c.value-then.new.context c.value-otherwise.new.context c.value-condition.result c.value-then.result c.value-otherwise.result c.choice_of.result
-    c.value-condition.ensures c.value-then.ensures c.value-otherwise.ensures c.choice_of.ensures
+    c.value-condition.ensures c.value-then.ensures c.value-otherwise.ensures c.choice_of.ensures)
 
 pub expressions::value-returns : goal.expressions::value-returns
 expressions::value-returns t c =

@@ -3,7 +3,8 @@ use Rattle.struct_ir.specs.Views.{kind_view, node_view, nodes_view}
 use Rattle.pin_flow.specs.Live.{live, live_node}
 use Rattle.pin_frames.specs.Views.{lives_view}
 use Rattle.pin_frames.proofs.Backwards.{step_back, size_back, if_size, loop_size}
-use Rattle.pin_frames.proofs.LiveRows.{live_start, live_more, live_if, live_loop, is_act, act_of, live_act_at}
+use Rattle.pin_flow.proofs.FlowRows.{is_plain, plain_of}
+use Rattle.pin_frames.proofs.LiveRows.{live_start, live_more, live_if, live_loop, live_act_at}
 use Rattle.pin_frames.proofs.lives.+lives.Goals as goal
 
 pub live_row-row-init : goal.live_row-row-init
@@ -67,19 +68,19 @@ live_node-returns-in-Ret t c = ap (λ k. live_node c.args.slot c.args.b (kind_vi
 
 pub live_node-returns-in-Set : goal.live_node-returns-in-Set
 live_node-returns-in-Set t c =
-    let l : is_act (node_view c.args.n.now) ≡ true = elim c.in-Set.is [
-      | inl (x, y, e) ↦ act_of c.args.n.now _ e refl
-      | inr (inl (x, e)) ↦ act_of c.args.n.now _ e refl
-      | inr (inr (inl (x, e))) ↦ act_of c.args.n.now _ e refl
-      | inr (inr (inr (x, y, e))) ↦ act_of c.args.n.now _ e refl
+    let l : is_plain (node_view c.args.n.now) ≡ true = elim c.in-Set.is [
+      | inl (x, y, e) ↦ plain_of c.args.n.now _ e refl
+      | inr (inl (x, e)) ↦ plain_of c.args.n.now _ e refl
+      | inr (inr (inl (x, e))) ↦ plain_of c.args.n.now _ e refl
+      | inr (inr (inr (x, y, e))) ↦ plain_of c.args.n.now _ e refl
     ] in
     c.act_live-in-Set.ensures ∙ live_act_at c.args.slot c.args.b (node_view c.args.n.now) (lives_view c.args.after) l
 
 pub live_node-returns-in-Safepoint : goal.live_node-returns-in-Safepoint
 live_node-returns-in-Safepoint t c =
-    let l : is_act (node_view c.args.n.now) ≡ true = elim c.in-Safepoint.is [
-      | inl (x, e) ↦ act_of c.args.n.now _ e refl
-      | inr (inl (x, e)) ↦ act_of c.args.n.now _ e refl
-      | inr (inr (x, e)) ↦ act_of c.args.n.now _ e refl
+    let l : is_plain (node_view c.args.n.now) ≡ true = elim c.in-Safepoint.is [
+      | inl (x, e) ↦ plain_of c.args.n.now _ e refl
+      | inr (inl (x, e)) ↦ plain_of c.args.n.now _ e refl
+      | inr (inr (x, e)) ↦ plain_of c.args.n.now _ e refl
     ] in
     c.act_live.ensures ∙ live_act_at c.args.slot c.args.b (node_view c.args.n.now) (lives_view c.args.after) l

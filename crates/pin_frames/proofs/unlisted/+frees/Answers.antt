@@ -4,7 +4,8 @@ use Rattle.struct_ir.specs.Views.{kind_view, node_view, nodes_view}
 use Rattle.pin_flow.specs.Live.{live, live_node, head_live}
 use Rattle.pin_frames.specs.Views.{lives_view}
 use Rattle.pin_frames.proofs.Backwards.{step_back, size_back, if_size, loop_size}
-use Rattle.pin_frames.proofs.LiveRows.{live_start, live_more, live_if, live_head, latch_from, is_act, act_of, live_act_at}
+use Rattle.pin_flow.proofs.FlowRows.{is_plain, plain_of}
+use Rattle.pin_frames.proofs.LiveRows.{live_start, live_more, live_if, live_head, latch_from, live_act_at}
 use Rattle.pin_frames.proofs.FreeRows.{IsFree, free_more, if_free, loop_free}
 use Rattle.pin_frames.proofs.unlisted.+frees.Goals as goal
 
@@ -92,19 +93,19 @@ free_node-returns-in-Ret-clause-live t c = ap (λ k. live_node c.args.slot c.arg
 
 pub free_node-returns-in-Set-clause-live : goal.free_node-returns-in-Set-clause-live
 free_node-returns-in-Set-clause-live t c =
-    let l : is_act (node_view c.args.n.now) ≡ true = elim c.in-Set.is [
-      | inl (x, y, e) ↦ act_of c.args.n.now _ e refl
-      | inr (inl (x, e)) ↦ act_of c.args.n.now _ e refl
-      | inr (inr (inl (x, e))) ↦ act_of c.args.n.now _ e refl
-      | inr (inr (inr (x, y, e))) ↦ act_of c.args.n.now _ e refl
+    let l : is_plain (node_view c.args.n.now) ≡ true = elim c.in-Set.is [
+      | inl (x, y, e) ↦ plain_of c.args.n.now _ e refl
+      | inr (inl (x, e)) ↦ plain_of c.args.n.now _ e refl
+      | inr (inr (inl (x, e))) ↦ plain_of c.args.n.now _ e refl
+      | inr (inr (inr (x, y, e))) ↦ plain_of c.args.n.now _ e refl
     ] in
     IfSome_then c.free_alone-in-Set.result c.free_alone-in-Set.ensures.live (λ on e. e ∙ live_act_at c.args.slot c.args.b (node_view c.args.n.now) (lives_view c.args.after) l)
 
 pub free_node-returns-in-Safepoint-clause-live : goal.free_node-returns-in-Safepoint-clause-live
 free_node-returns-in-Safepoint-clause-live t c =
-    let l : is_act (node_view c.args.n.now) ≡ true = elim c.in-Safepoint.is [
-      | inl (x, e) ↦ act_of c.args.n.now _ e refl
-      | inr (inl (x, e)) ↦ act_of c.args.n.now _ e refl
-      | inr (inr (x, e)) ↦ act_of c.args.n.now _ e refl
+    let l : is_plain (node_view c.args.n.now) ≡ true = elim c.in-Safepoint.is [
+      | inl (x, e) ↦ plain_of c.args.n.now _ e refl
+      | inr (inl (x, e)) ↦ plain_of c.args.n.now _ e refl
+      | inr (inr (x, e)) ↦ plain_of c.args.n.now _ e refl
     ] in
     IfSome_then c.free_alone.result c.free_alone.ensures.live (λ on e. e ∙ live_act_at c.args.slot c.args.b (node_view c.args.n.now) (lives_view c.args.after) l)

@@ -7,7 +7,7 @@ use Rattle.source_tree.specs.SharedViews.{expr_of, node_of}
 use Rattle.source_tree.specs.declared.tree.SharedExpr.{SharedExpr}
 use Rattle.source_state.specs.Views.{use_of}
 use Rattle.source_expressions.proofs.AtOnce.{second_there}
-use Rattle.source_expressions.specs.Flow.{FlowsLeft, FlowsTested}
+use Rattle.source_expressions.specs.inner.Operations.{FlowsLeft, FlowsTested}
 use Rattle.source_expressions.proofs.Parts.{flows_at, flows_two, left_given, flows_either, tested_given, flows_choice}
 use Rattle.source_expressions.proofs.expressions.+eval.Goals as goal
 

@@ -2,7 +2,7 @@ use Rattle.std.proofs.Common.{◌≡◌, drop}
 use Rattle.block_store.specs.Actions as actions
 use Rattle.c_meaning.specs.Turns.{ended_locals, declared}
 use Rattle.source_tree.specs.SharedViews.{these, row_of}
-use Rattle.source_expressions.specs.Flow.{now_in}
+use Rattle.source_expressions.specs.Progress.{now_in}
 use Rattle.source_statements.proofs.scopes.end_row.Given as goal
 
 pub record Ends (here locals store : Type 0) : Type 0 where

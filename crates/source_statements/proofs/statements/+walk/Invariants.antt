@@ -1,7 +1,7 @@
 use Rattle.std.proofs.Common.{◌≡◌, ◌+◌, ◌-◌, ◌*◌, length}
 use Rattle.source_tree.specs.SharedViews.{row_of, row_from}
 use Rattle.source_state.specs.Views.{todo_of}
-use Rattle.source_statements.specs.Walks.{RowGoes}
+use Rattle.source_statements.specs.inner.Behind.{RowGoes}
 use Rattle.source_statements.proofs.Sizes.{row_size, shared_size, step_size}
 use Rattle.source_statements.proofs.statements.+walk.Given as goal
 

@@ -1,46 +1,18 @@
--- How far conditions, rows and work lists get in a turn.
-use Rattle.std.specs.Prelude.{ℕ, ◌≡◌, Bool, List}
+-- How far what is left to do gets: behind a statement, a value, a round, and in a row.
+use Rattle.std.specs.Prelude.{ℕ, ◌≡◌, List}
 use Rattle.block_store.specs.declared.values.Value.{Value}
 use Rattle.block_store.specs.Actions as actions
 use Rattle.block_store.specs.Blocks.{Blocks}
-use Rattle.block_store.specs.Runs.{Turn}
 use Rattle.c_tree.specs.Typed as tree
 use Rattle.c_meaning.specs.Control as control
 use Rattle.c_meaning.specs.Turns as turns
-use Rattle.c_meaning.specs.Values.{truth_of}
 use Rattle.source_tree.specs.declared.tree.SharedProgram.{SharedProgram}
-use Rattle.source_state.specs.declared.control.Progress.{Progress}
 use Rattle.source_state.specs.declared.control.Pending.{Pending}
 use Rattle.source_expressions.specs.Ends.{Rest, here_at, ends}
-use Rattle.source_expressions.specs.Flow.{now_in, progress}
-use Rattle.source_statements.specs.Assigning.{exit}
+use Rattle.source_expressions.specs.Progress.{now_in, progress}
 use Rattle.source_statements.specs.declared.exit.Exit.{Exit}
-use Rattle.source_statements.specs.declared.statements.Tested.{Tested}
-use Rattle.source_statements.specs.declared.statements.Tested.TheVariants as tests
-
--- what follows a condition: another rest of the turn for true and false
-abbrev pub test_way : (place : ℕ) → control.Use → (Bool → turns.Does) → turns.WayOfUse
-test_way place k go = record { k = k; go = λ v x. turns.on_ok place (λ b. go b x) (truth_of x.world.blocks v) }
-
--- a condition that holds or doesn't goes on, and else the turn ends
-abbrev pub tested : turns.TurnContext → (Bool → turns.Does) → turns.Now → Tested → Turn control.Control
-tested h go x (tests.Holds b) = go b x
-tested h go x (tests.Ends q) = ends h q x
-
--- a condition gets so far, under this name of what follows it (C11 6.8.4.1, 6.8.5)
-pub record Tests (p : SharedProgram) (locals : List control.Variable) (blocks : Blocks) (e : tree.Expr) (k : control.Use) (t : Tested) : Type 0 where
-  pub goes : (function : ℕ) (r : Rest) (go : Bool → turns.Does) (x : actions.World) →
-      turns.run (here_at p function r) e (test_way (tree.place_of e) k go) (now_in locals blocks x) ≡ tested (here_at p function r) go (now_in locals blocks x) t
-
--- what is left to do behind a statement that was left so comes to what ends the turn
-pub record Finishes (p : SharedProgram) (function : ℕ) (k : control.Todo) (e : Exit) (locals : List control.Variable) (blocks : Blocks) (new_locals : List control.Variable) (new_blocks : Blocks) (q : Pending) : Type 0 where
-  pub goes : (r : Rest) (x : actions.World) →
-      exit (here_at p function r) (turns.way_of (here_at p function r) k) (now_in locals blocks x) e ≡ ends (here_at p function r) q (now_in new_locals new_blocks x)
-
--- what uses a value comes to what ends the turn
-pub record GivesTo (p : SharedProgram) (function : ℕ) (k : control.Use) (v : Value) (locals : List control.Variable) (blocks : Blocks) (new_locals : List control.Variable) (new_blocks : Blocks) (q : Pending) : Type 0 where
-  pub goes : (r : Rest) (x : actions.World) →
-      (turns.use_of (here_at p function r) k).go v (now_in locals blocks x) ≡ ends (here_at p function r) q (now_in new_locals new_blocks x)
+use Rattle.source_state.specs.declared.control.Progress.{Progress}
+use Rattle.source_statements.specs.Exits.{exit}
 
 -- behind what was left like this more is left to do before the rest: it comes to what what was left like that comes to
 pub record Passes (more : turns.TurnContext → turns.Way → turns.Way) (p : SharedProgram) (function : ℕ) (k : control.Todo) (e : Exit) (locals : List control.Variable) (blocks : Blocks) (new_locals : List control.Variable) (new_blocks : Blocks) (g : Exit) : Type 0 where

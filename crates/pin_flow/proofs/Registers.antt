@@ -1,27 +1,45 @@
--- Accesses of valid code have registers of their function as bases.
-use Rattle.std.proofs.Common.{◌≡◌, ℕ, ◌<◌, List, [], ◌∷◌, true, false, ◌==◌, inl, inr, subst}
+-- The bases of a function's accesses are registers of the function.
+use Rattle.std.proofs.Common.{◌≡◌, ℕ, zero, suc, ◌<◌, List, [], ◌∷◌, ◌++◌, true, false, ◌==◌, ◌⊎◌, inl, inr, if◌then◌else◌, subst, arith}
 use Rattle.std.proofs.lemmas.Bool.{and_parts, or_cases, eqb-true, ltb-true}
 use Rattle.std.specs.Prelude.{nat_lt}
 use Rattle.std.specs.List.{list_all}
 use Rattle.struct_ir.specs.Nodes.{Place, Act, set, call, step, look, safepoint, begin_object, end_object, Node, plain, if_, loop, break_, next_, ret, Nodes, no_nodes, more_nodes}
 use Rattle.struct_ir.specs.Valid.{Scope, Around, body_of, latch_of, is_place, is_node, are_nodes}
 use Rattle.pin_flow.specs.Looks.{some_act, some_in}
-use Rattle.pin_flow.specs.Slots.{has_base, accesses}
+use Rattle.pin_flow.specs.Slots.{has_base, accesses, bases_below, IsIn}
+use Rattle.pin_flow.proofs.Strip.{by_bool}
+
+-- ---- the bases that are listed are below the number of registers
+
+pub in_parts : (bs : List ℕ) (c b : ℕ) → IsIn (bs ++ (c ∷ [])) b → (b ≡ c) ⊎ IsIn bs b
+in_parts [] c b (inl e) = inl e
+in_parts [] c b (inr i) = absurd i
+in_parts (x ∷ bs) c b (inl e) = inr (inl e)
+in_parts (x ∷ bs) c b (inr i) = elim (in_parts bs c b i) [ inl e ↦ inl e | inr j ↦ inr (inr j) ]
+
+pub base_below : (n : ℕ) (ns : Nodes) (b : ℕ) → IsIn (bases_below n ns) b → b < n
+base_below zero ns b i = absurd i
+base_below (suc n) ns b i =
+    by_bool (λ x. IsIn (if x then bases_below n ns ++ (n ∷ []) else bases_below n ns) b → b < suc n) (some_act (accesses n) ns)
+    (λ e i. elim (in_parts (bases_below n ns) n b i) [ inl g ↦ omega (arith, g) | inr j ↦ (let h = base_below n ns b j in omega (arith, h)) ])
+    (λ e i. let h = base_below n ns b i in omega (arith, h)) i
+
+-- ---- in valid code the base of each access is a register
 
 module _ (b : ℕ) where
-  base_below : (x : Scope) (list : List Place) → list_all (is_place x) list ≡ true → has_base b list ≡ true → b < x.temps
-  base_below x [] e h = absurd (let z : false ≡ true = h in cc)
-  base_below x (a ∷ rest) e h =
+  place_below : (x : Scope) (list : List Place) → list_all (is_place x) list ≡ true → has_base b list ≡ true → b < x.temps
+  place_below x [] e h = absurd (let z : false ≡ true = h in cc)
+  place_below x (a ∷ rest) e h =
       let p = and_parts (is_place x a) (list_all (is_place x) rest) e in
       elim (or_cases (a.base == b) (has_base b rest) h) [
         | inl g ↦ (let q = and_parts (nat_lt a.base x.temps) _ p.0 in subst (λ y. y < x.temps) (eqb-true a.base b g) (ltb-true a.base x.temps q.0))
-        | inr g ↦ base_below x rest p.1 g
+        | inr g ↦ place_below x rest p.1 g
       ]
 
   act_below : (x : Scope) (a : Act) → Rattle.struct_ir.specs.Valid.is_act x a ≡ true → accesses b a ≡ true → b < x.temps
   act_below x (set to calc) e h = absurd (let z : false ≡ true = h in cc)
   act_below x (call c) e h = absurd (let z : false ≡ true = h in cc)
-  act_below x (step s) e h = base_below x s.places ((and_parts _ _ ((and_parts _ _ e).0)).0) h
+  act_below x (step s) e h = place_below x s.places ((and_parts _ _ ((and_parts _ _ e).0)).0) h
   act_below x (look slot base) e h = absurd (let z : false ≡ true = h in cc)
   act_below x (safepoint slots) e h = absurd (let z : false ≡ true = h in cc)
   act_below x (begin_object i) e h = absurd (let z : false ≡ true = h in cc)

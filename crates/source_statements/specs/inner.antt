@@ -1,0 +1,5 @@
+-- What only bodies use.
+pub mod Behind
+pub mod Conditions
+pub mod Numbers
+pub mod Stores
