@@ -12,7 +12,7 @@ use Rattle.c_tree.specs.declared.syntax.Pointer.{Pointer}
 use Rattle.c_tree.specs.Syntax as source
 use Rattle.c_tree.specs.Typed.{Ty, Layout, Local, GlobalVar, Func, Typed, Stmt, stmts_of}
 use Rattle.c_tree.specs.TypedLayout.{greatest_object}
-use Rattle.c_tree.specs.TypedForm.{IsScalar, IsResult, IsLocal, Inside, AreWell, IsNth, Signature, signature_of, context_of, IsFunc}
+use Rattle.c_tree.specs.TypedForm.{IsScalar, IsResult, IsLocal, AreWell, Signature, signature_of, IsFunc}
 use Rattle.c_tree.specs.TypedForm as form
 use Rattle.c_typing.specs.Faults.{Judged, typed, both, ◌>>=◌}
 use Rattle.c_typing.specs.Scope.{Binding, global_name, local_name, function_name, library_name, Frame, Context, bytes_of, or_else, found, is_double, declared, back_to}
