@@ -10,10 +10,11 @@ use crate::perform::perform;
 use crate::thread::{At, Outcome, Own};
 use ak_words::{NoMemory, Rule};
 use block_store::Answer;
+use source_assignments::Exit;
 use source_state::control::Pending;
 use source_state::{KeptStore, Locals, World};
 use source_statements::statements::rounds;
-use source_statements::{Exit, finish, give};
+use source_statements::{finish, give};
 use source_tree::tree::SharedProgram;
 use std::alloc::Global;
 
