@@ -18,7 +18,7 @@ use Rattle.source_expressions.specs.Ends.{Rest, here_at}
 use Rattle.source_expressions.specs.Progress.{Flows, FlowsPlace, now_in}
 use Rattle.source_assignments.specs.declared.exit.Exit.{Exit}
 use Rattle.source_assignments.specs.declared.exit.Exit.TheVariants as exits
-use Rattle.source_assignments.specs.Locals.{Comes, Names, local_in}
+use Rattle.source_assignments.specs.Locals.{Comes}
 use Rattle.source_tree.specs.declared.tree.OneForm.{OneForm}
 use Rattle.source_tree.specs.SharedViews.{one_of_form}
 use Rattle.source_assignments.proofs.Plain.{assigned}
@@ -26,6 +26,7 @@ use Rattle.source_assignments.proofs.Dropped.{drops_as, as_value, as_object, dro
 use Rattle.source_assignments.specs.Exits.{ExitsAs, exit}
 use Rattle.source_assignments.specs.inner.Conversions.{voids}
 use Rattle.source_assignments.specs.Stores.{Stores, Copies, ReadsUpdated}
+use Rattle.source_assignments.specs.inner.Numbers.{Names, local_in}
 
 pub when_true : {A : Type 0} (b : Bool) (x y : A) → b ≡ true → (if b then x else y) ≡ x
 when_true b x y e = rw e refl

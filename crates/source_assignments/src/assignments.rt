@@ -26,8 +26,8 @@ use source_values::{access_of_type, align_of, is_scalar, is_struct, size_of, upd
 use std::alloc::Global;
 use std::rc::Rc;
 
-/// The value of an expression is put into a local.
-pub fn assign_local(
+// The value of an expression is put into a local.
+fn assign_local(
     e: &Rc<SharedExpr>,
     alloc: Global,
     program: &SharedProgram,

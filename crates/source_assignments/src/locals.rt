@@ -5,8 +5,8 @@ ghost use Rattle.std.specs.Option.{option_map, option_copied};
 ghost use Rattle.c_tree.specs.TypedViews.{local_view};
 ghost use Rattle.c_meaning.specs.Turns.{is_block, ended_local, made_local, declared_local};
 ghost use Rattle.source_expressions.specs.Ends.{Rest, here_at};
-ghost use Rattle.source_assignments.specs.Locals.{local_in, Comes, Names};
-ghost use Rattle.source_assignments.specs.inner.Numbers.{size_in_program};
+ghost use Rattle.source_assignments.specs.Locals.{Comes};
+ghost use Rattle.source_assignments.specs.inner.Numbers.{size_in_program, local_in, Names};
 
 use ak_words::NoMemory;
 use block_store::{BlockKind, Cell};
@@ -15,8 +15,8 @@ use source_state::{KeptStore, Locals, Variable};
 use source_tree::tree::SharedProgram;
 use source_values::size_of;
 
-/// The local of a number, as its function declares it.
-pub fn declared_as(program: &SharedProgram, function: u32, number: u32) -> Option<&Local>
+// The local of a number, as its function declares it.
+fn declared_as(program: &SharedProgram, function: u32, number: u32) -> Option<&Local>
     ensures { option_map local_view (option_copied result) ≡ local_in program.now function number }
 {
     match program.funcs.get(function as usize) {
@@ -26,7 +26,7 @@ pub fn declared_as(program: &SharedProgram, function: u32, number: u32) -> Optio
 }
 
 /// Whether a local is a block.
-pub fn is_block(program: &SharedProgram, function: u32, number: u32) -> bool
+pub(crate) fn is_block(program: &SharedProgram, function: u32, number: u32) -> bool
     ensures { result ≡ is_block (local_in program.now function number) }
 {
     match declared_as(program, function, number) {
@@ -59,7 +59,7 @@ pub fn end_local(locals: &mut Locals, store: &mut KeptStore, number: u32) -> Res
 }
 
 /// A local gets a block of its own, whose name is given.
-pub fn make_local(
+pub(crate) fn make_local(
     program: &SharedProgram,
     function: u32,
     locals: &mut Locals,

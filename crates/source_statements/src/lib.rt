@@ -5,9 +5,10 @@
 
 mod behind_statements;
 mod resume;
-pub mod scopes;
-pub mod statements;
+mod scopes;
+mod statements;
 mod uses;
 
 pub use resume::finish;
+pub use statements::rounds;
 pub use uses::give;

@@ -1,12 +1,22 @@
 -- Locals by their numbers.
-use Rattle.std.specs.Prelude.{ℕ, Bool, true, false, Option, Some, None}
+use Rattle.std.specs.Prelude.{ℕ, ◌≡◌, Bool, true, false, List, length, slice_get, Option, Some, None}
+use Rattle.block_store.specs.Actions as actions
+use Rattle.block_store.specs.Blocks.{Blocks}
 use Rattle.c_tree.specs.Typed as tree
 use Rattle.c_tree.specs.TypedLayout.{size_in}
 use Rattle.c_meaning.specs.Control as control
 use Rattle.c_meaning.specs.Turns as turns
 use Rattle.source_tree.specs.declared.tree.SharedProgram.{SharedProgram}
 use Rattle.source_tree.specs.SharedViews.{program_of}
-use Rattle.source_assignments.specs.Locals.{local_in}
+use Rattle.source_expressions.specs.Progress.{now_in}
+
+-- the local of a number of a function of the program
+abbrev pub local_in : SharedProgram → (function number : ℕ) → Option tree.Local
+local_in p function number = turns.declared_in (slice_get (program_of p).funcs function) number
+
+-- the name of the next block after a change
+pub record Names (block : ℕ) (f : turns.Now → turns.Now) (locals : List control.Variable) (blocks : Blocks) : Type 0 where
+  pub names : (x : actions.World) → block ≡ length (f (now_in locals blocks x)).world.blocks
 
 -- the size of a local in bytes
 abbrev pub size_in_program : SharedProgram → Option tree.Local → ℕ
