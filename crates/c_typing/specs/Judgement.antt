@@ -48,12 +48,12 @@ ruled a rule c = let x = a c in (x.0 >>= rule x.1, x.1)
 
 -- ---- names and literals
 
--- a name is an object or a constant; a function's name is called only, or begins a thread (6.5.1)
+-- a name of the library where an expression stands: a constant is its number; a function of the library is called only
 abbrev pub named_by_library : ℕ → Library → Judged Expr
 named_by_library place (constant value) = typed (at place (integer int) (num int value))
 named_by_library place which = refuse place (OutsideSubset 12)
 
--- a name where an expression stands, by what it means
+-- a name where an expression stands, by what it means: an object or a constant; a function's name is called only, or begins a thread (6.5.1)
 abbrev pub named : ℕ → Option Binding → Judged Expr
 named place (Some (global_name n t)) = typed (at place t (global n))
 named place (Some (local_name n t)) = typed (at place t (local n))
@@ -180,7 +180,7 @@ abbrev pub format_or : Option (List Span) → (place : ℕ) → Judging Expr →
 format_or (Some parts) place e c = (format_by place (pieces_of (joined_bytes c.text parts)), c)
 format_or None place e c = ruled e (λ d x. refuse place (OutsideSubset 15)) c
 
--- at most 16 arguments behind it
+-- the place of the first argument past so many, if there is one
 abbrev pub place_past : (most : ℕ) → source.Exprs → Option ℕ
 place_past most source.no_exprs = None
 place_past zero (source.more_exprs e rest) = Some (node_place e)
@@ -230,7 +230,7 @@ started_by place (Some f) None = refuse place TypeMismatch
 abbrev pub started : (place : ℕ) → (before : List Expr) → Option ℕ → (behind : List Expr) → Judged Expr
 started place before f behind = started_by place f (fitted_all (pointer (integer unsigned_long) ∷ pointer void ∷ []) (before ++ behind))
 
--- mtx_init, at its name: the mutex, and the constant 0 as its kind, which is no operand
+-- the kind of a mutex is the constant 0, which is no operand (this project's profile)
 abbrev pub plain_kind : Expr → Judged (Unit {0})
 plain_kind e = unless (place_of e) (OutsideSubset 14) (is_zero (node_of e))
 

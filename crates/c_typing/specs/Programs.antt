@@ -197,12 +197,12 @@ judged_param_list ps c = judged_params ps c
 
 -- ---- functions (6.9.1)
 
--- the names of the functions that have a body, in the order of the text: a function's number is its place among them
+-- the name that an external declaration gives a body, if it does
 abbrev pub defined_name : List ℕ → source.Rest → List (List ℕ)
 defined_name text (source.function pointers n params (Some body)) = bytes_of text n ∷ []
 defined_name text rest = []
 
--- the names of the functions of a file that have a body, in the order of the text
+-- the names of the functions of a file that have a body, in the order of the text: a function's number is its place among them
 abbrev pub defined_names : List ℕ → List source.External → List (List ℕ)
 defined_names text [] = []
 defined_names text (x ∷ xs) = defined_name text x.rest ++ defined_names text xs
@@ -235,7 +235,7 @@ first_time c names n false = typed tt
 first_time c names n true =
     both (unless n.from UnknownName (list_any (bytes_eq (bytes_of c.text n)) names)) (within n.from 1 8192 (length c.functions)) >>= λ u. typed tt
 
--- and has one body (6.9 p3)
+-- a function has one body (6.9 p3)
 abbrev pub one_body : Context → Name → Option source.Body → Judged (Unit {0})
 one_body c n None = typed tt
 one_body c n (Some body) = unless n.from DoubleName (not (list_any (bytes_eq (bytes_of c.text n)) c.bodies))
@@ -357,12 +357,12 @@ abbrev pub judged_externals : (names : List (List ℕ)) → List source.External
 judged_externals names [] c = (typed (record { globals = []; funcs = [] }), c)
 judged_externals names (x ∷ xs) c = ruled (in_turn (judged_external names x) (judged_externals names xs)) (λ d p. typed (joined p.0 p.1)) c
 
--- there is `int main(void)`, with a body; else its name is unknown at the text's end (5.1.2.2.1, this project's profile)
+-- a function `int main(void)` (5.1.2.2.1)
 abbrev pub is_main : Option Binding → Bool
 is_main (Some (function_name n [] (integer t))) = same_int t int
 is_main m = false
 
--- the number of main, if the file has it
+-- the number of main, which has a body; else its name is unknown at the text's end (5.1.2.2.1, this project's profile)
 abbrev pub has_main : Context → (names : List (List ℕ)) → Judged ℕ
 has_main c names =
     unless (length c.text) UnknownName (is_main (lookup (bytes_eq (codes "main")) c.inner) && list_any (bytes_eq (codes "main")) names)
