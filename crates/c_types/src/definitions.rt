@@ -20,6 +20,7 @@ use crate::outcomes::outcome;
 use crate::parameters::param_list;
 use crate::statements::stmts;
 use c_lex::CompileFault;
+use c_tree::copies::copy_type;
 use c_tree::syntax as tree;
 use c_tree::syntax::{Block, Name, Pointer};
 use c_tree::typed::{CType, Func, Stmt};
@@ -27,7 +28,6 @@ use indexmap::IndexMap;
 use std::alloc::Global;
 use type_context::context::{Context, Frame};
 use type_context::faults::{as_fault, both};
-use c_tree::copies::copy_type;
 use type_context::outcomes::again;
 use type_declared::functions::{
     Defined, add_body, declare_function, name_fine, result_type, type_fine,

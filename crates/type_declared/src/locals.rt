@@ -8,10 +8,10 @@ ghost use Rattle.type_declared.specs.LocalViews.{param_view, params_view};
 ghost use Rattle.type_declared.specs.inner.Numbers.{further_view, furthers_view, param_local, further_local, locals_view, table_from, copy_of, followed};
 
 use crate::numbering::Numbers;
+use c_tree::copies::copy_type;
 use c_tree::typed::{CType, Expr, ExprNode, Func, Local, Stmt, StmtNode};
 use indexmap::IndexSet;
 use std::alloc::{AllocError, Global};
-use c_tree::copies::copy_type;
 
 /// A parameter of a function: the place of its name, and its type.
 #[derive(Debug, Drop)]

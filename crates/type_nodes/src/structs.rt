@@ -20,13 +20,13 @@ ghost use Rattle.type_context.specs.Telling.{Tells, Says};
 ghost use Rattle.type_nodes.specs.Nodes.{Finishes, types_of_members, sized, fits_of, fitting, closing};
 
 use c_lex::{CompileFault, Kind, Refusal};
+use c_tree::copies::copy_type;
 use c_tree::syntax as tree;
 use c_tree::syntax::{Name, Pointer};
 use c_tree::typed::{CType, Expr};
 use std::alloc::{AllocError, Global};
 use type_context::context::{Context, MemberType, within};
 use type_context::faults::{as_fault, both, unless};
-use c_tree::copies::copy_type;
 use type_context::layouts::{GREATEST_OBJECT, struct_size};
 use type_context::outcomes::both_fine;
 use type_rules::declarators::{Declared, dimension, object_declared};

@@ -10,10 +10,10 @@ ghost use Rattle.type_rules.specs.ListViews.{exprs_view};
 use crate::conversions::fitted;
 use crate::trees::made;
 use c_lex::{CompileFault, Kind};
+use c_tree::copies::copy_type;
 use c_tree::typed::{CType, Expr, ExprNode, Lib};
 use std::alloc::Global;
 use type_context::faults::refused;
-use c_tree::copies::copy_type;
 
 // An argument of a list, fitted to its parameter.
 fn fitted_argument(alloc: Global, place: u32, t: &CType, e: Expr) -> Result<Expr, CompileFault>

@@ -15,12 +15,12 @@ use crate::trees::made;
 use crate::unary::target;
 use ak_words::{IntType, Op, common, promote};
 use c_lex::{CompileFault, Kind, Refusal};
+use c_tree::copies::copy_type;
 use c_tree::typed::{CType, Expr, ExprNode};
 use std::alloc::Global;
 use type_context::context::Context;
 use type_context::faults::{as_fault, refused, unless};
 use type_context::kinds::{has_size, is_void, same_type};
-use c_tree::copies::copy_type;
 
 /// What two operands are.
 #[derive(Clone, Copy)]

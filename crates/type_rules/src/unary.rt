@@ -10,10 +10,10 @@ use crate::conversions::converted;
 use crate::trees::made;
 use ak_words::{IntType, Num, Op, promote};
 use c_lex::{CompileFault, Kind};
+use c_tree::copies::copy_type;
 use c_tree::typed::{CType, Expr, ExprNode};
 use std::alloc::Global;
 use type_context::faults::refused;
-use c_tree::copies::copy_type;
 
 /// Whether it designates an object (C11 6.3.2.1 p1).
 pub fn is_lvalue(e: &Expr) -> bool
