@@ -1,52 +1,28 @@
--- What a row becomes by a call, by a block and by a loop.
-use Rattle.std.proofs.Common.{◌≡◌, ℕ, zero, suc, ◌+◌, ◌<◌, ◌≤◌, Bool, true, false, arith, length, List, [], ◌∷◌, ◌++◌, map, Some, None, refl, ap, sym, ◌∙◌}
+-- What a row becomes by a block and by a loop, and a function by its rows.
+use Rattle.std.proofs.Common.{◌≡◌, ℕ, zero, suc, ◌+◌, ◌<◌, ◌≤◌, Bool, true, false, arith, length, List, [], ◌∷◌, ◌++◌, map, Some, refl, ap, sym, ◌∙◌}
 use Rattle.std.specs.Global.{Vec}
 use Rattle.c_tree.specs.declared.typed.Expr.{Expr}
-use Rattle.c_tree.specs.declared.typed.ExprNode.TheViews as expr_views
-use Rattle.c_tree.specs.declared.typed.Lib.{Lib}
 use Rattle.c_tree.specs.declared.typed.Stmt.{Stmt}
 use Rattle.c_tree.specs.declared.typed.StmtNode.{StmtNode}
 use Rattle.c_tree.specs.declared.typed.StmtNode.TheViews as stmt_views
 use Rattle.c_tree.specs.Typed as tree
 use Rattle.lower_forms.specs.Counts.{greatest_row}
-use Rattle.c_tree.specs.TypedViews.{type_view, expr_view, expr_node_view, lib_view, stmt_view, stmt_node_view}
+use Rattle.c_tree.specs.TypedViews.{expr_view, stmt_view, stmt_node_view}
 use Rattle.struct_ir.specs.declared.code.Node.{Node}
-use Rattle.struct_ir.specs.Nodes.{Nodes, no_nodes, more_nodes, break_, ret, StackObject, copy}
+use Rattle.struct_ir.specs.Nodes.{Nodes, no_nodes, more_nodes, break_, ret, StackObject}
 use Rattle.struct_ir.specs.Views.{nodes_view, followed}
 use Rattle.struct_ir.proofs.Views.{followed_none}
-use Rattle.lower_forms.specs.Forms.{Frame, first_temp, branches, sets, sets_int, calls, temps_of, lib_nodes, expr_nodes, value_nodes, args_nodes, dropped_nodes, dropped_value, ends, objects_in, test_nodes, form_nodes, row_nodes}
+use Rattle.lower_forms.specs.Forms.{Frame, first_temp, branches, sets_int, expr_nodes, ends, objects_in, test_nodes, form_nodes, row_nodes}
 use Rattle.lower_forms.specs.Programs.{homes_from, next_home, objects_of, frame_of, registers_of, last_nodes, func_lowered}
-use Rattle.ir_lower.proofs.Views.{call_view, lib_call_view, block_view}
-use Rattle.c_tree.specs.Typed.{exprs_of, stmts_of}
+use Rattle.ir_lower.proofs.Views.{block_view}
+use Rattle.c_tree.specs.Typed.{stmts_of}
 
-module _ (F : Frame) where
-  pub call_done : (e : Expr) (fn : ℕ) (v : Vec Expr) (t : ℕ) (o0 o1 : List Node) (d : List Expr) → e.node ≡ expr_views.Call fn v → d ≡ v.items
-      → ((r : Nodes) → followed o1 r ≡ followed o0 (args_nodes F (exprs_of (map expr_view d)) t (calls e.place (Some t) fn (temps_of (exprs_of (map expr_view d)) t) (sets e.place t (copy t) r))))
-      → (r : Nodes) → followed o1 r ≡ followed o0 (expr_nodes F (expr_view e) t r)
-  call_done e fn v t o0 o1 d is i h r =
-      h r ∙ ap (λ l. followed o0 (args_nodes F (exprs_of (map expr_view l)) t (calls e.place (Some t) fn (temps_of (exprs_of (map expr_view l)) t) (sets e.place t (copy t) r)))) i
-      ∙ ap (λ n. followed o0 (value_nodes F e.place (type_view e.ty) n t r)) (sym (ap expr_node_view is ∙ call_view fn v))
-
-  pub call_dropped : (e : Expr) (fn : ℕ) (v : Vec Expr) (t : ℕ) (o0 o1 : List Node) (d : List Expr) → e.node ≡ expr_views.Call fn v → d ≡ v.items
-      → ((r : Nodes) → followed o1 r ≡ followed o0 (args_nodes F (exprs_of (map expr_view d)) t (calls e.place None fn (temps_of (exprs_of (map expr_view d)) t) r)))
-      → (r : Nodes) → followed o1 r ≡ followed o0 (dropped_nodes F (expr_view e) t r)
-  call_dropped e fn v t o0 o1 d is i h r =
-      h r ∙ ap (λ l. followed o0 (args_nodes F (exprs_of (map expr_view l)) t (calls e.place None fn (temps_of (exprs_of (map expr_view l)) t) r))) i
-      ∙ ap (λ n. followed o0 (dropped_value F e.place (type_view e.ty) n t r)) (sym (ap expr_node_view is ∙ call_view fn v))
-
-  pub lib_done : (e : Expr) (lib : Lib) (v : Vec Expr) (t : ℕ) (o0 o1 : List Node) (d : List Expr) → e.node ≡ expr_views.Lib lib v → d ≡ v.items
-      → ((r : Nodes) → followed o1 r ≡ followed o0 (args_nodes F (exprs_of (map expr_view d)) t (lib_nodes e.place (lib_view lib) (exprs_of (map expr_view d)) t r)))
-      → (r : Nodes) → followed o1 r ≡ followed o0 (expr_nodes F (expr_view e) t r)
-  lib_done e lib v t o0 o1 d is i h r =
-      h r ∙ ap (λ l. followed o0 (args_nodes F (exprs_of (map expr_view l)) t (lib_nodes e.place (lib_view lib) (exprs_of (map expr_view l)) t r))) i
-      ∙ ap (λ n. followed o0 (value_nodes F e.place (type_view e.ty) n t r)) (sym (ap expr_node_view is ∙ lib_call_view lib v))
-
-  pub block_done : (place : ℕ) (node : StmtNode) (v : Vec Stmt) (left : List ℕ) (o0 o1 : List Node) (d : List Stmt) → node ≡ stmt_views.Block v → d ≡ v.items
-      → ((r : Nodes) → followed o1 r ≡ followed o0 (row_nodes F (stmts_of (map stmt_view d)) (objects_in F (stmts_of (map stmt_view d)) ++ left) (ends place (objects_in F (stmts_of (map stmt_view d))) r)))
-      → (r : Nodes) → followed o1 r ≡ followed o0 (form_nodes F place (stmt_node_view node) left r)
-  block_done place node v left o0 o1 d is e h r =
-      h r ∙ ap (λ l. followed o0 (row_nodes F (stmts_of (map stmt_view l)) (objects_in F (stmts_of (map stmt_view l)) ++ left) (ends place (objects_in F (stmts_of (map stmt_view l))) r))) e
-      ∙ ap (λ n. followed o0 (form_nodes F place n left r)) (sym (ap stmt_node_view is ∙ block_view v))
+pub block_done : (F : Frame) (place : ℕ) (node : StmtNode) (v : Vec Stmt) (left : List ℕ) (o0 o1 : List Node) (d : List Stmt) → node ≡ stmt_views.Block v → d ≡ v.items
+    → ((r : Nodes) → followed o1 r ≡ followed o0 (row_nodes F (stmts_of (map stmt_view d)) (objects_in F (stmts_of (map stmt_view d)) ++ left) (ends place (objects_in F (stmts_of (map stmt_view d))) r)))
+    → (r : Nodes) → followed o1 r ≡ followed o0 (form_nodes F place (stmt_node_view node) left r)
+block_done F place node v left o0 o1 d is e h r =
+    h r ∙ ap (λ l. followed o0 (row_nodes F (stmts_of (map stmt_view l)) (objects_in F (stmts_of (map stmt_view l)) ++ left) (ends place (objects_in F (stmts_of (map stmt_view l))) r))) e
+    ∙ ap (λ n. followed o0 (form_nodes F place n left r)) (sym (ap stmt_node_view is ∙ block_view v))
 
 -- the condition of a loop
 pub tests_done : (F : Frame) (e : Expr) (t : ℕ) (o0 o1 o2 one other : List Node) → t ≡ first_temp F → one ≡ [] → nodes_view other ≡ more_nodes (break_ e.place) no_nodes

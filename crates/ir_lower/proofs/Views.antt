@@ -1,37 +1,20 @@
--- The views of rows, and rows that are made.
-use Rattle.std.proofs.Common.{◌≡◌, ℕ, List, map, Result, Ok, Err, OnOk, IfOk, refl, sym, ap, ◌∙◌, rules}
+-- The views of blocks, and the counts of rows.
+use Rattle.std.proofs.Common.{◌≡◌, ℕ, List, map, refl, sym, ap, ◌∙◌, rules}
 use Rattle.std.specs.Global.{Vec}
 use Rattle.c_tree.specs.declared.typed.Expr.{Expr}
-use Rattle.c_tree.specs.declared.typed.ExprNode.{ExprNode, Row_of-Expr, end_of-Expr, more_of-Expr, items-the_row-Expr, items_hidden-the_row-Expr-0}
+use Rattle.c_tree.specs.declared.typed.ExprNode.{ExprNode}
 use Rattle.c_tree.specs.declared.typed.ExprNode.TheViews as expr_views
 use Rattle.c_tree.specs.declared.typed.Lib.{Lib}
 use Rattle.c_tree.specs.declared.typed.Stmt.{Stmt}
 use Rattle.c_tree.specs.declared.typed.StmtNode.{StmtNode, Row_of-Stmt, end_of-Stmt, more_of-Stmt, items-the_row-Stmt, items_hidden-the_row-Stmt-0}
 use Rattle.c_tree.specs.declared.typed.StmtNode.TheViews as stmt_views
 use Rattle.c_tree.specs.Typed as trees
-use Rattle.c_tree.specs.TypedViews.{type_view, expr_view, expr_node_view, expr_row_view, lib_view, stmt_view, stmt_node_view, stmt_row_view}
-use Rattle.lower_forms.specs.Counts.{count_parts, count_all, greatest_in, greatest_row}
 use Rattle.c_tree.specs.Typed.{exprs_of, stmts_of}
+use Rattle.c_tree.specs.TypedViews.{expr_view, expr_node_view, stmt_view, stmt_node_view, stmt_row_view}
+use Rattle.lower_forms.specs.Counts.{count_parts, count_all, greatest_in, greatest_row}
+use Rattle.lower_expressions.proofs.Views.{call_view, lib_call_view}
 
-pub on_ok_map : {A B : Type 0} (P Q : Type 0) (r : Result A B) → (P → Q) → OnOk r P → OnOk r Q
-on_ok_map P Q (Ok x) f h = f h
-on_ok_map P Q (Err e) f h = tt
-
-pub if_ok_map : {A B : Type 0} (P Q : A → Type 0) (r : Result A B) → ((x : A) → P x → Q x) → IfOk r P → IfOk r Q
-if_ok_map P Q (Ok x) f h = f x h
-if_ok_map P Q (Err e) f h = h
-
-pub args_view : (n : _) (k : Row_of-Expr n) → expr_row_view k ≡ exprs_of (map expr_view (items-the_row-Expr n k))
-args_view _ end_of-Expr = refl
-args_view _ (more_of-Expr place ty node rest) = ap (trees.more_exprs (trees.at place (type_view ty) (expr_node_view node))) (args_view _ rest)
-
-pub call_view : (f : ℕ) (v : Vec Expr) → expr_node_view (expr_views.Call f v) ≡ trees.call f (exprs_of (map expr_view v.items))
-call_view f v = search (rules, items_hidden-the_row-Expr-0, args_view)
-
-pub lib_call_view : (lib : Lib) (v : Vec Expr) → expr_node_view (expr_views.Lib lib v) ≡ trees.lib (lib_view lib) (exprs_of (map expr_view v.items))
-lib_call_view lib v = search (rules, items_hidden-the_row-Expr-0, args_view)
-
-pub row_view : (n : _) (k : Row_of-Stmt n) → stmt_row_view k ≡ stmts_of (map stmt_view (items-the_row-Stmt n k))
+row_view : (n : _) (k : Row_of-Stmt n) → stmt_row_view k ≡ stmts_of (map stmt_view (items-the_row-Stmt n k))
 row_view _ end_of-Stmt = refl
 row_view _ (more_of-Stmt place node rest) = ap (trees.more_stmts (trees.at_stmt place (stmt_node_view node))) (row_view _ rest)
 

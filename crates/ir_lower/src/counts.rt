@@ -5,9 +5,9 @@ ghost use Rattle.c_tree.specs.TypedViews.{expr_view, expr_node_view, optional_ex
 ghost use Rattle.lower_forms.specs.Counts.{count, count_parts, count_all, count_if, greatest, greatest_in, greatest_row};
 ghost use Rattle.c_tree.specs.Typed.{exprs_of, stmts_of};
 
-use crate::nodes::after;
 use ak_words::NoMemory;
 use c_tree::typed::{Expr, ExprNode, Stmt, StmtNode};
+use lower_expressions::nodes::after;
 
 /// The sum of two counts.
 pub fn sum(a: u32, b: u32) -> Result<u32, NoMemory>

@@ -4,14 +4,7 @@
 #![tactic(auto)]
 
 mod counts;
-mod exprs;
-mod forms;
-mod frame;
-mod homes;
 mod lowering;
-mod nodes;
-mod operators;
-mod stmts;
-mod types;
+mod statements;
 
 pub use lowering::lower;

@@ -4,7 +4,7 @@ use Rattle.struct_ir.specs.Views.{object_view, followed}
 use Rattle.lower_forms.specs.Counts.{greatest_row}
 use Rattle.lower_forms.specs.Forms.{Frame, row_nodes}
 use Rattle.lower_forms.specs.Programs.{homes_from, objects_of}
-use Rattle.ir_lower.specs.inner.Views.{frame_view}
+use Rattle.lower_expressions.specs.FrameViews.{frame_view}
 use Rattle.ir_lower.proofs.Rows.{first_is, params_fit, func_done}
 use Rattle.ir_lower.proofs.lowering.lower_func.Goals as goal
 use Rattle.c_tree.specs.Typed.{stmts_of}

@@ -1,9 +1,0 @@
-use Rattle.std.proofs.Common.{ap, ◌∙◌}
-use Rattle.struct_ir.specs.Nodes.{more_nodes}
-use Rattle.struct_ir.specs.Views.{followed}
-use Rattle.struct_ir.proofs.Views.{if_view}
-use Rattle.ir_lower.proofs.Views.{on_ok_map}
-use Rattle.ir_lower.proofs.nodes.branches.Goals as goal
-
-pub returns : goal.returns
-returns c = on_ok_map _ _ c.put.result (λ h rest. h rest ∙ ap (λ n. followed c.args.out.now.items (more_nodes n rest)) (if_view c.args.place c.args.temp c.args.one c.args.other)) c.put.ensures

@@ -1,0 +1,487 @@
+//! Statements.
+
+ghost use Rattle.std.specs.Prelude.{◌≡◌, ◌++◌, [], IfOk, OnOk, map, Some};
+ghost use Rattle.c_tree.specs.TypedViews.{expr_view, optional_expr_view, stmt_view};
+ghost use Rattle.struct_ir.specs.Nodes.{Nodes, no_nodes, more_nodes, loop};
+ghost use Rattle.struct_ir.specs.Views.{place_view, nodes_view, followed};
+ghost use Rattle.lower_forms.specs.Forms.{branches, expr_nodes, declared_home, ends, objects_by, objects_in, store_nodes, copy_nodes, object_assign, assign_nodes, update_register, update_at, update_object, update_nodes, test_nodes, declare_nodes, return_nodes, stmt_nodes, row_nodes};
+ghost use Rattle.lower_expressions.specs.FrameViews.{frame_view};
+ghost use Rattle.c_tree.specs.Typed.{stmts_of};
+
+use ak_words::{NoMemory, Op};
+use c_tree::typed::{Expr, Stmt, StmtNode};
+use lower_expressions::expressions::{dropped, expr, place};
+use lower_expressions::forms::{computes, initialises, loads_at, stores, struct_nodes};
+use lower_expressions::frame::Frame;
+use lower_expressions::nodes::{after, begins, branches, ends, put, rounds, sets};
+use lower_expressions::types::is_struct;
+use std::alloc::Global;
+use struct_ir::{Calc, Node, NodeKind, Place};
+
+// A number or a pointer is stored.
+fn store(
+    alloc: Global,
+    f: &Frame,
+    left: &Expr,
+    right: &Expr,
+    t: u32,
+    out: &mut Vec<Node>,
+) -> Result<(), NoMemory>
+    ensures { OnOk result ((rest : Nodes) → followed out.new.items rest ≡ followed out.old.items (store_nodes (frame_view f.now) (expr_view left.now) (expr_view right.now) t rest)) }
+{
+    let r = place(alloc, left, f, t, out)?;
+    let u = r.behind(t)?;
+    expr(alloc, right, f, u, out)?;
+    stores(alloc, out, left.place, &left.ty, r.place(t)?, u)
+}
+
+// A struct is assigned.
+fn copy(
+    alloc: Global,
+    f: &Frame,
+    left: &Expr,
+    right: &Expr,
+    t: u32,
+    out: &mut Vec<Node>,
+) -> Result<(), NoMemory>
+    ensures { OnOk result ((rest : Nodes) → followed out.new.items rest ≡ followed out.old.items (copy_nodes (frame_view f.now) (expr_view left.now) (expr_view right.now) t rest)) }
+{
+    let to = place(alloc, left, f, t, out)?;
+    let u = to.behind(t)?;
+    let from = place(alloc, right, f, u, out)?;
+    let w = from.behind(u)?;
+    let target = to.place(t)?;
+    let source = from.place(u)?;
+    struct_nodes(
+        alloc, out, left.place, f.structs, &left.ty, target, source, w,
+    )
+}
+
+fn assign_object(
+    alloc: Global,
+    f: &Frame,
+    left: &Expr,
+    right: &Expr,
+    t: u32,
+    out: &mut Vec<Node>,
+) -> Result<(), NoMemory>
+    ensures { OnOk result ((rest : Nodes) → followed out.new.items rest ≡ followed out.old.items (object_assign (frame_view f.now) (expr_view left.now) (expr_view right.now) t rest)) }
+{
+    if is_struct(&left.ty) {
+        copy(alloc, f, left, right, t, out)
+    } else {
+        store(alloc, f, left, right, t, out)
+    }
+}
+
+// An assignment, by the register that it sets, if it sets one.
+fn assign(
+    alloc: Global,
+    f: &Frame,
+    at: u32,
+    own: Option<u32>,
+    left: &Expr,
+    right: &Expr,
+    out: &mut Vec<Node>,
+) -> Result<(), NoMemory>
+    ensures { OnOk result ((rest : Nodes) → followed out.new.items rest ≡ followed out.old.items (assign_nodes (frame_view f.now) at own (expr_view left.now) (expr_view right.now) f.now.first_temp rest)) }
+{
+    let t = f.first_temp;
+    match own {
+        None => assign_object(alloc, f, left, right, t, out),
+        Some(number) => {
+            expr(alloc, right, f, t, out)?;
+            sets(out, at, number, Calc::Copy(t))
+        }
+    }
+}
+
+// A compound assignment to a local in a register.
+fn update_own(
+    alloc: Global,
+    f: &Frame,
+    at: u32,
+    number: u32,
+    op: Op,
+    left: &Expr,
+    right: &Expr,
+    t: u32,
+    out: &mut Vec<Node>,
+) -> Result<(), NoMemory>
+    ensures { OnOk result ((rest : Nodes) → followed out.new.items rest ≡ followed out.old.items (update_register (frame_view f.now) at number op (expr_view left.now) (expr_view right.now) t rest)) }
+{
+    expr(alloc, right, f, t, out)?;
+    let x = after(t)?;
+    sets(out, left.place, x, Calc::Copy(number))?;
+    computes(out, f.structs, at, op, &left.ty, &right.ty, x, t, number)
+}
+
+// A compound assignment to what is at a place, where `u` holds the right operand.
+fn update_at(
+    alloc: Global,
+    f: &Frame,
+    at: u32,
+    u: u32,
+    op: Op,
+    to: Place,
+    left: &Expr,
+    right: &Expr,
+    out: &mut Vec<Node>,
+) -> Result<(), NoMemory>
+    ensures { OnOk result ((rest : Nodes) → followed out.new.items rest ≡ followed out.old.items (update_at (frame_view f.now) at u op (place_view to) (expr_view left.now) (expr_view right.now) rest)) }
+{
+    let x = after(u)?;
+    loads_at(alloc, out, left.place, &left.ty, to, x)?;
+    computes(out, f.structs, at, op, &left.ty, &right.ty, x, u, u)?;
+    stores(alloc, out, left.place, &left.ty, to, u)
+}
+
+// A compound assignment to an object.
+fn update_object(
+    alloc: Global,
+    f: &Frame,
+    at: u32,
+    op: Op,
+    left: &Expr,
+    right: &Expr,
+    t: u32,
+    out: &mut Vec<Node>,
+) -> Result<(), NoMemory>
+    ensures { OnOk result ((rest : Nodes) → followed out.new.items rest ≡ followed out.old.items (update_object (frame_view f.now) at op (expr_view left.now) (expr_view right.now) t rest)) }
+{
+    let r = place(alloc, left, f, t, out)?;
+    let u = r.behind(t)?;
+    expr(alloc, right, f, u, out)?;
+    update_at(alloc, f, at, u, op, r.place(t)?, left, right, out)
+}
+
+// A compound assignment, by the register that it sets, if it sets one.
+fn update(
+    alloc: Global,
+    f: &Frame,
+    at: u32,
+    op: Op,
+    own: Option<u32>,
+    left: &Expr,
+    right: &Expr,
+    out: &mut Vec<Node>,
+) -> Result<(), NoMemory>
+    ensures { OnOk result ((rest : Nodes) → followed out.new.items rest ≡ followed out.old.items (update_nodes (frame_view f.now) at op own (expr_view left.now) (expr_view right.now) f.now.first_temp rest)) }
+{
+    let t = f.first_temp;
+    match own {
+        None => update_object(alloc, f, at, op, left, right, t, out),
+        Some(number) => update_own(alloc, f, at, number, op, left, right, t, out),
+    }
+}
+
+// The condition of a loop, if it has one.
+#[tactic(auto, using(struct_ir::proofs::Views::followed_none))]
+fn test(alloc: Global, f: &Frame, e: &Option<Expr>, out: &mut Vec<Node>) -> Result<(), NoMemory>
+    ensures { OnOk result ((rest : Nodes) → followed out.new.items rest ≡ followed out.old.items (test_nodes (frame_view f.now) (optional_expr_view e.now) rest)) }
+{
+    match e {
+        None => Ok(()),
+        Some(e) => tests(alloc, f, e, out),
+    }
+}
+
+// The condition of a loop.
+#[tactic(auto, using(struct_ir::proofs::Views::followed_none))]
+fn tests(alloc: Global, f: &Frame, e: &Expr, out: &mut Vec<Node>) -> Result<(), NoMemory>
+    ensures { OnOk result ((rest : Nodes) → followed out.new.items rest ≡ followed out.old.items (test_nodes (frame_view f.now) (Some (expr_view e.now)) rest)) }
+{
+    expr(alloc, e, f, f.first_temp, out)?;
+    let mut no = Vec::new(alloc);
+    put(&mut no, e.place, NodeKind::Break)?;
+    branches(out, e.place, f.first_temp, Vec::new(alloc), no)
+}
+
+// A declaration, without a first value or with one.
+fn declares(
+    alloc: Global,
+    f: &Frame,
+    at: u32,
+    number: u32,
+    init: &Option<Expr>,
+    out: &mut Vec<Node>,
+) -> Result<(), NoMemory>
+    ensures { OnOk result ((rest : Nodes) → followed out.new.items rest ≡ followed out.old.items (declare_nodes (frame_view f.now) at number (optional_expr_view init.now) rest)) }
+{
+    let home = f.home(number);
+    begins(out, at, number, home)?;
+    match init {
+        None => Ok(()),
+        Some(e) => {
+            let t = f.first_temp;
+            expr(alloc, e, f, t, out)?;
+            initialises(alloc, out, at, home, number, t, &e.ty)
+        }
+    }
+}
+
+// A return, without a value or with one.
+fn returns(
+    alloc: Global,
+    f: &Frame,
+    at: u32,
+    value: &Option<Expr>,
+    out: &mut Vec<Node>,
+) -> Result<(), NoMemory>
+    ensures { OnOk result ((rest : Nodes) → followed out.new.items rest ≡ followed out.old.items (return_nodes (frame_view f.now) at (optional_expr_view value.now) rest)) }
+{
+    match value {
+        None => put(out, at, NodeKind::Ret(None)),
+        Some(e) => {
+            expr(alloc, e, f, f.first_temp, out)?;
+            put(out, at, NodeKind::Ret(Some(f.first_temp)))
+        }
+    }
+}
+
+// The stack object of the local that a statement declares, if it declares one that has one.
+fn declared_home(f: &Frame, s: &Stmt) -> Option<u32>
+    ensures { result ≡ declared_home (frame_view f.now) (stmt_view s.now) }
+{
+    match &s.node {
+        StmtNode::Declare(number, _) => f.home(*number),
+        _ => None,
+    }
+}
+
+// The stack objects of the locals that the statements of a block declare.
+fn objects_in(alloc: Global, f: &Frame, all: &[Stmt]) -> Result<Vec<u32>, NoMemory>
+    ensures { IfOk result (λ v. v.items ≡ objects_in (frame_view f.now) (stmts_of (map stmt_view all.now))) }
+{
+    let mut objects = Vec::new(alloc);
+    for s in all {
+        if let Some(object) = declared_home(f, s) {
+            objects.push(object)?;
+        }
+    }
+    Ok(objects)
+}
+
+// The stack object of the local that the first clause of a loop declares.
+fn ends_of(f: &Frame, s: &Stmt, at: u32, out: &mut Vec<Node>) -> Result<(), NoMemory>
+    ensures { OnOk result ((rest : Nodes) → followed out.new.items rest ≡ followed out.old.items (ends at (objects_by (frame_view f.now) (stmt_view s.now) []) rest)) }
+{
+    match declared_home(f, s) {
+        None => Ok(()),
+        Some(object) => put(out, at, NodeKind::End(object)),
+    }
+}
+
+fn joined(alloc: Global, own: &[u32], left: &[u32]) -> Result<Vec<u32>, NoMemory>
+    ensures { IfOk result (λ v. v.items ≡ own.now ++ left.now) }
+{
+    let mut all = own.to_vec(alloc)?;
+    all.extend_from_slice(left)?;
+    Ok(all)
+}
+
+// A statement is executed; `left` are the stack objects that end where a break or a continue
+// leaves what declares them.
+#[cycle(stmts)]
+fn stmt(
+    alloc: Global,
+    s: &Stmt,
+    f: &Frame,
+    left: &[u32],
+    out: &mut Vec<Node>,
+) -> Result<(), NoMemory>
+    ensures { OnOk result ((rest : Nodes) → followed out.new.items rest ≡ followed out.old.items (stmt_nodes (frame_view f.now) (stmt_view s.now) left.now rest)) }
+{
+    match &s.node {
+        StmtNode::Block(body) => block(alloc, body, s.place, f, left, out),
+        StmtNode::Declare(n, init) => declares(alloc, f, s.place, *n, init, out),
+        StmtNode::If(e, one, None) => if_alone(alloc, one, e, f, left, out),
+        StmtNode::If(e, one, Some(other)) => if_else(alloc, one, other, e, f, left, out),
+        StmtNode::While(e, body) => while_loop(alloc, body, s.place, e, f, out),
+        StmtNode::For(first, e, step, body) => {
+            for_loop(alloc, first, body, step, s.place, e, f, left, out)
+        }
+        StmtNode::Break => {
+            ends(out, s.place, left)?;
+            put(out, s.place, NodeKind::Break)
+        }
+        StmtNode::Continue => {
+            ends(out, s.place, left)?;
+            put(out, s.place, NodeKind::Next)
+        }
+        StmtNode::Return(value) => returns(alloc, f, s.place, value, out),
+        StmtNode::Assign(a, b) => {
+            let own = f.own_register(&a.node);
+            assign(alloc, f, s.place, own, a, b, out)
+        }
+        StmtNode::Update(a, op, b) => {
+            let own = f.own_register(&a.node);
+            update(alloc, f, s.place, *op, own, a, b, out)
+        }
+        StmtNode::Eval(e) => dropped(alloc, e, f, f.first_temp, out),
+        StmtNode::Empty => Ok(()),
+    }
+}
+
+// A block: its objects end behind it.
+#[cycle(stmts)]
+fn block(
+    alloc: Global,
+    body: &[Stmt],
+    at: u32,
+    f: &Frame,
+    left: &[u32],
+    out: &mut Vec<Node>,
+) -> Result<(), NoMemory>
+    ensures { OnOk result ((rest : Nodes) → followed out.new.items rest ≡ followed out.old.items (row_nodes (frame_view f.now) (stmts_of (map stmt_view body.now)) (objects_in (frame_view f.now) (stmts_of (map stmt_view body.now)) ++ left.now) (ends at (objects_in (frame_view f.now) (stmts_of (map stmt_view body.now))) rest))) }
+{
+    let own = objects_in(alloc, f, body)?;
+    let inner = joined(alloc, &own, left)?;
+    row(alloc, body, f, &inner, out)?;
+    ends(out, at, &own)
+}
+
+// An if without an else.
+#[cycle(stmts)]
+fn if_alone(
+    alloc: Global,
+    one: &Stmt,
+    e: &Expr,
+    f: &Frame,
+    left: &[u32],
+    out: &mut Vec<Node>,
+) -> Result<(), NoMemory>
+    ensures { OnOk result ((rest : Nodes) → followed out.new.items rest ≡ followed out.old.items (expr_nodes (frame_view f.now) (expr_view e.now) f.now.first_temp (branches e.now.place f.now.first_temp (stmt_nodes (frame_view f.now) (stmt_view one.now) left.now no_nodes) no_nodes rest))) }
+{
+    expr(alloc, e, f, f.first_temp, out)?;
+    let yes = row_of(alloc, one, f, left)?;
+    branches(out, e.place, f.first_temp, yes, Vec::new(alloc))
+}
+
+// An if with an else.
+#[cycle(stmts)]
+fn if_else(
+    alloc: Global,
+    one: &Stmt,
+    other: &Stmt,
+    e: &Expr,
+    f: &Frame,
+    left: &[u32],
+    out: &mut Vec<Node>,
+) -> Result<(), NoMemory>
+    ensures { OnOk result ((rest : Nodes) → followed out.new.items rest ≡ followed out.old.items (expr_nodes (frame_view f.now) (expr_view e.now) f.now.first_temp (branches e.now.place f.now.first_temp (stmt_nodes (frame_view f.now) (stmt_view one.now) left.now no_nodes) (stmt_nodes (frame_view f.now) (stmt_view other.now) left.now no_nodes) rest))) }
+{
+    expr(alloc, e, f, f.first_temp, out)?;
+    let yes = row_of(alloc, one, f, left)?;
+    let no = row_of(alloc, other, f, left)?;
+    branches(out, e.place, f.first_temp, yes, no)
+}
+
+#[cycle(stmts)]
+fn while_loop(
+    alloc: Global,
+    body: &Stmt,
+    at: u32,
+    e: &Expr,
+    f: &Frame,
+    out: &mut Vec<Node>,
+) -> Result<(), NoMemory>
+    ensures { OnOk result ((rest : Nodes) → followed out.new.items rest ≡ followed out.old.items (more_nodes (loop at (test_nodes (frame_view f.now) (Some (expr_view e.now)) (stmt_nodes (frame_view f.now) (stmt_view body.now) [] no_nodes)) no_nodes) rest)) }
+{
+    let round = while_round(alloc, body, f, e)?;
+    rounds(out, at, round, Vec::new(alloc))
+}
+
+// A for: its first clause, its rounds, and the end of the object that the first clause declares.
+#[cycle(stmts)]
+fn for_loop(
+    alloc: Global,
+    first: &Stmt,
+    body: &Stmt,
+    step: &Stmt,
+    at: u32,
+    e: &Option<Expr>,
+    f: &Frame,
+    left: &[u32],
+    out: &mut Vec<Node>,
+) -> Result<(), NoMemory>
+    ensures { OnOk result ((rest : Nodes) → followed out.new.items rest ≡ followed out.old.items (stmt_nodes (frame_view f.now) (stmt_view first.now) left.now (more_nodes (loop at (test_nodes (frame_view f.now) (optional_expr_view e.now) (stmt_nodes (frame_view f.now) (stmt_view body.now) [] no_nodes)) (stmt_nodes (frame_view f.now) (stmt_view step.now) [] no_nodes)) (ends at (objects_by (frame_view f.now) (stmt_view first.now) []) rest)))) }
+{
+    stmt(alloc, first, f, left, out)?;
+    for_rounds(alloc, body, step, at, e, f, out)?;
+    ends_of(f, first, at, out)
+}
+
+// The rounds of a for.
+#[cycle(stmts)]
+fn for_rounds(
+    alloc: Global,
+    body: &Stmt,
+    step: &Stmt,
+    at: u32,
+    e: &Option<Expr>,
+    f: &Frame,
+    out: &mut Vec<Node>,
+) -> Result<(), NoMemory>
+    ensures { OnOk result ((rest : Nodes) → followed out.new.items rest ≡ followed out.old.items (more_nodes (loop at (test_nodes (frame_view f.now) (optional_expr_view e.now) (stmt_nodes (frame_view f.now) (stmt_view body.now) [] no_nodes)) (stmt_nodes (frame_view f.now) (stmt_view step.now) [] no_nodes)) rest)) }
+{
+    let round = for_round(alloc, body, f, e)?;
+    let last = row_of(alloc, step, f, &[])?;
+    rounds(out, at, round, last)
+}
+
+// A row of a statement alone.
+#[cycle(stmts)]
+#[tactic(auto, using(struct_ir::proofs::Views::followed_none))]
+fn row_of(alloc: Global, s: &Stmt, f: &Frame, left: &[u32]) -> Result<Vec<Node>, NoMemory>
+    ensures { IfOk result (λ row. nodes_view row.items ≡ stmt_nodes (frame_view f.now) (stmt_view s.now) left.now no_nodes) }
+{
+    let mut row = Vec::new(alloc);
+    stmt(alloc, s, f, left, &mut row)?;
+    Ok(row)
+}
+
+// A round of a while: the condition and the body.
+#[cycle(stmts)]
+#[tactic(auto, using(struct_ir::proofs::Views::followed_none))]
+fn while_round(alloc: Global, body: &Stmt, f: &Frame, e: &Expr) -> Result<Vec<Node>, NoMemory>
+    ensures { IfOk result (λ row. nodes_view row.items ≡ test_nodes (frame_view f.now) (Some (expr_view e.now)) (stmt_nodes (frame_view f.now) (stmt_view body.now) [] no_nodes)) }
+{
+    let mut row = Vec::new(alloc);
+    tests(alloc, f, e, &mut row)?;
+    stmt(alloc, body, f, &[], &mut row)?;
+    Ok(row)
+}
+
+// A round of a for: the condition, if there is one, and the body.
+#[cycle(stmts)]
+#[tactic(auto, using(struct_ir::proofs::Views::followed_none))]
+fn for_round(alloc: Global, body: &Stmt, f: &Frame, e: &Option<Expr>) -> Result<Vec<Node>, NoMemory>
+    ensures { IfOk result (λ row. nodes_view row.items ≡ test_nodes (frame_view f.now) (optional_expr_view e.now) (stmt_nodes (frame_view f.now) (stmt_view body.now) [] no_nodes)) }
+{
+    let mut row = Vec::new(alloc);
+    test(alloc, f, e, &mut row)?;
+    stmt(alloc, body, f, &[], &mut row)?;
+    Ok(row)
+}
+
+/// The statements of a block, in order.
+///
+/// # Errors
+///
+/// Only want of memory.
+#[cycle(stmts)]
+pub fn row(
+    alloc: Global,
+    all: &[Stmt],
+    f: &Frame,
+    left: &[u32],
+    out: &mut Vec<Node>,
+) -> Result<(), NoMemory>
+    ensures { OnOk result ((rest : Nodes) → followed out.new.items rest ≡ followed out.old.items (row_nodes (frame_view f.now) (stmts_of (map stmt_view all.now)) left.now rest)) }
+{
+    for s in all {
+        stmt(alloc, s, f, left, out)?;
+    }
+    Ok(())
+}
