@@ -10,7 +10,7 @@ use Rattle.c_tree.specs.TypedLayout.{laid_out, greatest_object}
 use Rattle.c_tree.specs.Typed.{Ty}
 use Rattle.c_typing.specs.Faults.{Judged, typed, faulty, Fails, Gives, unless, both, ◌>>=◌}
 use Rattle.c_typing.specs.Scope.{Context, with_struct}
-use Rattle.c_typing.specs.Judgement.{Judging, lone, tag, struct_fits, closed}
+use Rattle.c_typing.specs.Judgement.{Judging, lone, tag, struct_fits, fitting, closed, closing}
 use Rattle.type_context.specs.declared.context.Context.{Context as CodeContext}
 use Rattle.type_context.specs.declared.context.MemberType.{MemberType}
 use Rattle.type_context.specs.ContextViews.{context_view, members_view}
@@ -19,10 +19,19 @@ use Rattle.type_rules.specs.declared.specifiers.Part.{Part as CodePart}
 use Rattle.type_rules.specs.SpecifierViews.{part_view}
 use Rattle.type_context.specs.Telling.{Leaves, Tells}
 use Rattle.type_context.proofs.Walks.{memory_tells, lone_tells, both_tell}
-use Rattle.type_nodes.specs.Nodes.{Finishes, types_of_members, fits_of, fitting, closing}
+use Rattle.type_nodes.specs.Nodes.{Finishes, types_of_members}
+use Rattle.type_nodes.specs.inner.Members.{is_fine, stands_fine}
 use Rattle.type_nodes.proofs.Telling.{finishes}
 
 -- ---- whether they fit
+
+-- that members fit, without what they are
+abbrev pub fits_of : Context → (place : ℕ) → List (List ℕ × Ty) → Judged (Unit {0})
+fits_of c place all = is_fine (struct_fits c place all)
+
+-- the same, and what is left behind them
+abbrev pub fitting_of : (place number : ℕ) → (again : Bool) → Judging (List (List ℕ × Ty)) → Judging (Unit {0})
+fitting_of place number again members = stands_fine (fitting place number again members)
 
 fits_if : (b : Bool) (place : ℕ) (all : List (List ℕ × Ty)) → ((unless place BadSize b >>= λ u. typed all) >>= λ ms. typed (tt {0})) ≡ typed (tt {0}) → (unless place BadSize b >>= λ u. typed all) ≡ typed all
 fits_if true place all h = refl
@@ -70,7 +79,7 @@ declared_tells number place again n m all (Err e) is h after memory =
 -- ---- members that are judged
 
 pub fitting_err : (place number : ℕ) (again : Bool) (J : Judging (List (List ℕ × Ty))) (c : Context) (n : CodeContext) (a : Result (Vec MemberType Global) CompileFault) (e : CompileFault)
-    → Tells types_of_members a n (J c) → a ≡ Err e → Tells {A = Unit {0}} (λ (u : Unit {0}). tt) (Err e) n (fitting place number again J c)
+    → Tells types_of_members a n (J c) → a ≡ Err e → Tells {A = Unit {0}} (λ (u : Unit {0}). tt) (Err e) n (fitting_of place number again J c)
 fitting_err place number again J c n a e h is =
     let here : Tells types_of_members (Err e) n (J c) = subst (λ b. Tells types_of_members b n (J c)) is h in
     at_fault (J c).0 (J c).1 e here.gives here.leaves
@@ -84,7 +93,7 @@ fitting_err place number again J c n a e h is =
 pub fitting_ok : (place number : ℕ) (again : Bool) (J : Judging (List (List ℕ × Ty))) (c : Context) (m n : CodeContext) (a : Result (Vec MemberType Global) CompileFault) (all : Vec MemberType Global) (r : Result (Unit {0}) CompileFault)
     → Tells types_of_members a m (J c) → a ≡ Ok all
     → Tells (λ (u : Unit {0}). tt) r n (fits_of (context_view m) place (members_view all.items), if again then context_view m else closed (context_view m) number (struct_fits (context_view m) place (members_view all.items)))
-    → Tells (λ (u : Unit {0}). tt) r n (fitting place number again J c)
+    → Tells (λ (u : Unit {0}). tt) r n (fitting_of place number again J c)
 fitting_ok place number again J c m n a all r h is told =
     let here : Tells types_of_members (Ok all) m (J c) = subst (λ b. Tells types_of_members b m (J c)) is h in
     let at_d = subst (λ d. Tells (λ (u : Unit {0}). tt) r n (fits_of d place (members_view all.items), if again then d else closed d number (struct_fits d place (members_view all.items)))) here.leaves told in
@@ -100,9 +109,9 @@ without_members x (faulty r rs) (typed ms) = refl
 without_members x (faulty r rs) (faulty s ss) = refl
 
 pub closing_tells : (place number : ℕ) (again : Bool) (j : Judged (Unit {0})) (J : Judging (List (List ℕ × Ty))) (c : Context) (m n : CodeContext) (o f : Result (Unit {0}) CompileFault) (r : Result CodePart CompileFault)
-    → Gives (λ (u : Unit {0}). tt) o j → Tells (λ (u : Unit {0}). tt) f n (fitting place number again J c) → Finishes part_view (joined o f) (λ _. typed (tag number)) r
+    → Gives (λ (u : Unit {0}). tt) o j → Tells (λ (u : Unit {0}). tt) f n (fitting_of place number again J c) → Finishes part_view (joined o f) (λ _. typed (tag number)) r
     → Tells part_view r n (closing place number j again J c)
 closing_tells place number again j J c m n o f r h k g =
-    let two = both_tell (λ (u : Unit {0}). u) (λ (u : Unit {0}). u) (lone j) (λ d. fitting place number again J c) (context_view m) m n o f (lone_tells (λ (u : Unit {0}). u) o m j h) k in
-    let told = finishes (λ (p : Unit {0} × Unit {0}). (p.0, p.1)) part_view (λ d. (both j (fitting place number again J c).0, (fitting place number again J c).1)) (λ d p. typed (tag number)) c n (joined o f) r two g in
-    subst (λ x. Tells part_view r n (x, (fitting place number again J c).1)) (without_members (tag number) j ((J c).0 >>= struct_fits (J c).1 place)) told
+    let two = both_tell (λ (u : Unit {0}). u) (λ (u : Unit {0}). u) (lone j) (λ d. fitting_of place number again J c) (context_view m) m n o f (lone_tells (λ (u : Unit {0}). u) o m j h) k in
+    let told = finishes (λ (p : Unit {0} × Unit {0}). (p.0, p.1)) part_view (λ d. (both j (fitting_of place number again J c).0, (fitting_of place number again J c).1)) (λ d p. typed (tag number)) c n (joined o f) r two g in
+    subst (λ x. Tells part_view r n (x, (fitting place number again J c).1)) (without_members (tag number) j (fitting place number again J c).0) told

@@ -17,19 +17,19 @@ use Rattle.c_tree.specs.declared.typed.Piece.{Piece as CodePiece}
 use Rattle.c_tree.specs.Syntax as source
 use Rattle.c_tree.specs.Typed.{Expr, type_of}
 use Rattle.c_tree.specs.TypedViews.{type_view, boxed_expr_view}
-use Rattle.c_typing.specs.Faults.{Judged, typed, refuse, Gives}
+use Rattle.c_typing.specs.Faults.{typed, refuse, Gives}
 use Rattle.c_typing.specs.Formats.{pieces_of}
 use Rattle.c_typing.specs.Literals.{joined_bytes}
 use Rattle.c_typing.specs.Rules.{value_of, selected, pointed, element, cast, size_number}
 use Rattle.c_typing.specs.Scope.{Context, Binding}
-use Rattle.c_typing.specs.Judgement.{lone, judged, valued, judged_all, judged_print, judged_start, judged_started, judged_type, prefixed, name_in, text_in, node_place, combined, format_by, format_or, none_past, place_past, printed, started, starting_or, meaning_in, called_by}
+use Rattle.c_typing.specs.Judgement.{Judging, lone, prefixed_by, choice, begun_by, no_call, called_as, judged, valued, judged_all, judged_print, judged_start, judged_started, judged_type, prefixed, name_in, text_in, node_place, combined, format_by, format_or, none_past, place_past, printed, started, starting_or, meaning_in, called_by}
 use Rattle.type_context.specs.declared.context.Context.{Context as CodeContext}
 use Rattle.type_context.specs.ContextViews.{context_view}
 use Rattle.type_context.specs.inner.Outcomes.{joined}
 use Rattle.type_rules.specs.ListViews.{exprs_view, pieces_view}
 use Rattle.type_context.specs.Telling.{Tells}
 use Rattle.type_context.proofs.Walks.{lone_tells, both_tell}
-use Rattle.type_nodes.specs.Nodes.{Finishes, no_call_of, started_view, choice, prefixed_by, begun_by, called_of, is_printf, is_thrd_create}
+use Rattle.type_nodes.specs.Nodes.{Finishes, started_view, is_printf, is_thrd_create}
 use Rattle.type_nodes.proofs.Telling.{finishes, finishes_both, finishes_three, prefixed_value, starting_found, starting_sought, call_printf, call_thrd_create, call_other}
 
 -- ---- one part
@@ -143,15 +143,15 @@ beginning m callee args c n r is h =
     subst (λ q. Tells boxed_expr_view r n q) (call_thrd_create m callee.from (judged_all args) (judged_print callee.from args) (judged_start callee.from args) c is) h
 
 pub calling : (m : Option Binding) (callee : Name) (args : source.Exprs) (c : Context) (n : CodeContext) (r : Result (Box CodeExpr Global) CompileFault)
-    → is_printf m ≡ false → is_thrd_create m ≡ false → Tells boxed_expr_view r n (called_of callee.from m (judged_all args c).0, (judged_all args c).1)
+    → is_printf m ≡ false → is_thrd_create m ≡ false → Tells boxed_expr_view r n (called_as m callee.from (judged_all args) c)
     → Tells boxed_expr_view r n (called_by m callee.from (judged_all args) (judged_print callee.from args) (judged_start callee.from args) c)
 calling m callee args c n r not_print not_start h =
     subst (λ q. Tells boxed_expr_view r n q) (call_other m callee.from (judged_all args) (judged_print callee.from args) (judged_start callee.from args) c not_print not_start) h
 
 -- a call of what can't be called
-pub no_call_tells : (place : ℕ) (kind : Kind) (args : Result (Vec CodeExpr Global) CompileFault) (n : CodeContext) (p : Judged (List Expr) × Context) (r : Result (Box CodeExpr Global) CompileFault)
-    → Tells exprs_view args n p → Finishes boxed_expr_view (joined {A = Unit {0}} (Err (Refused (record { place = place; kind = kind }))) args) (λ _. refuse place kind) r
-    → Tells boxed_expr_view r n (no_call_of place kind p.0, p.1)
-no_call_tells place kind args n p r =
-    finishes_both (λ (u : Unit {0}). u) exprs_view boxed_expr_view (lone (refuse place kind)) (λ d. p) (λ d q. refuse place kind) (context_view n) n n (Err (Refused (record { place = place; kind = kind }))) args r
+pub no_call_tells : (place : ℕ) (kind : Kind) (args : Result (Vec CodeExpr Global) CompileFault) (n : CodeContext) (J : Judging (List Expr)) (c : Context) (r : Result (Box CodeExpr Global) CompileFault)
+    → Tells exprs_view args n (J c) → Finishes boxed_expr_view (joined {A = Unit {0}} (Err (Refused (record { place = place; kind = kind }))) args) (λ _. refuse place kind) r
+    → Tells boxed_expr_view r n (no_call place kind J c)
+no_call_tells place kind args n J c r =
+    finishes_both (λ (u : Unit {0}). u) exprs_view boxed_expr_view (lone (refuse place kind)) (λ d. J c) (λ d q. refuse place kind) (context_view n) n n (Err (Refused (record { place = place; kind = kind }))) args r
     (lone_tells (λ (u : Unit {0}). u) (Err (Refused (record { place = place; kind = kind }))) n (refuse place kind) refl)

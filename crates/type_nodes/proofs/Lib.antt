@@ -1,4 +1,5 @@
 pub mod Telling
+pub mod Rows
 pub mod Expressions
 pub mod Types
 pub mod Counting

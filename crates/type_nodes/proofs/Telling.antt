@@ -1,33 +1,28 @@
 -- The forms in which the code walks over nodes.
-use Rattle.std.proofs.Common.{◌≡◌, ℕ, ◌+◌, ◌-◌, ◌<◌, ◌≤◌, length, map, get_or, take, drop, arith, true, false, Bool, List, [], ◌∷◌, ◌++◌, Option, Some, None, Result, Ok, Err, refl, ap, sym, subst, ◌∙◌, append_assoc, append-nil}
+use Rattle.std.proofs.Common.{◌≡◌, ℕ, ◌-◌, ◌<◌, ◌≤◌, length, map, get_or, take, drop, arith, true, false, Bool, List, [], ◌∷◌, Option, Some, None, Result, Ok, Err, refl, ap, sym, subst, ◌∙◌}
 use Rattle.std.proofs.lemmas.List.{take_all}
 use Rattle.std.specs.Prelude.{Vec, Box}
 use Rattle.std.specs.declared.alloc.Global.{Global}
 use Rattle.c_lex.specs.declared.refusal.CompileFault.{CompileFault}
 use Rattle.c_lex.specs.declared.refusal.CompileFault.TheVariants.{Refused, NoMemory}
 use Rattle.c_tree.specs.declared.syntax.Name.{Name}
-use Rattle.c_tree.specs.Syntax as source
 use Rattle.c_tree.specs.declared.syntax.PrefixOp.{PrefixOp}
 use Rattle.c_tree.specs.declared.syntax.PrefixOp.TheVariants as prefixes
 use Rattle.c_tree.specs.declared.typed.Expr.{Expr as CodeExpr}
 use Rattle.c_tree.specs.Typed.{Ty, Expr}
 use Rattle.c_tree.specs.TypedViews.{expr_view, boxed_expr_view}
-use Rattle.c_typing.specs.Faults.{Judged, typed, Gives, both, ◌>>=◌}
+use Rattle.c_typing.specs.Faults.{Judged, typed, Gives, ◌>>=◌}
 use Rattle.c_typing.specs.Rules.{address}
 use Rattle.c_typing.specs.Scope.{Context, with_tag, tag_number, is_begun, with_begun, Binding, global_name, local_name, function_name, library_name, printf, malloc, free, memcpy, thrd_create, thrd_join, mtx_init, mtx_lock, mtx_unlock, mtx_destroy, constant}
-use Rattle.c_typing.specs.Judgement.{Judging, in_turn, ruled, judged, valued, judged_all, judged_dims, judged_parts, judged_spec, judged_members, judged_member, judged_declarators, dimension, Part, called_by, starting_or, names_in, prefixed, addressing, with_addressed, meaning_in, opened, braced}
+use Rattle.c_typing.specs.Judgement.{Judging, in_turn, ruled, valued, Part, begun_by, begun_or, starting_or, called_as, called_by, prefixed_by, prefixed, addressing, with_addressed, meaning_in, opened, closing, braced}
 use Rattle.type_context.specs.declared.context.Context.{Context as CodeContext}
 use Rattle.type_context.specs.ContextViews.{context_view}
 use Rattle.type_context.proofs.Judging.{fails_part}
 use Rattle.type_context.specs.inner.Outcomes.{joined}
-use Rattle.type_context.specs.declared.context.MemberType.{MemberType}
-use Rattle.type_context.specs.ContextViews.{member_type_view}
 use Rattle.type_rules.specs.SpecifierViews.{numbers_view}
 use Rattle.type_context.specs.Telling.{Tells, lacks_memory}
-use Rattle.type_context.specs.Rows.{state_behind, IsAppended}
-use Rattle.type_context.proofs.Walks.{memory_tells, leaves_any, both_tell, both_tell_if, joined_keeps, ok_tells, err_tells}
-use Rattle.type_context.proofs.Rows.{row_last, appended_tells, one_more}
-use Rattle.type_nodes.specs.Nodes.{Finishes, types_of_members, args_row, dims_row, parts_row, members_row, behind_member, declarator_node, declarators_row, behind_declarator, closing, is_printf, is_thrd_create, called_of, begun_by, prefixed_by}
+use Rattle.type_context.proofs.Walks.{memory_tells, leaves_any, both_tell, joined_keeps, ok_tells, err_tells}
+use Rattle.type_nodes.specs.Nodes.{Finishes, is_printf, is_thrd_create}
 
 -- ---- rules on parts
 
@@ -72,74 +67,6 @@ keeps {B = B} vr rule (Err NoMemory) r f h = subst (λ (q : Result B CompileFaul
 pub keeps_second : {A B R E : Type 0} (vr : R → E) (rule : A × B → Judged E) (a : Result A CompileFault) (b : Result B CompileFault) (r : Result R CompileFault)
     → Finishes vr (joined a b) rule r → lacks_memory r ≡ false → lacks_memory b ≡ false
 keeps_second vr rule a b r f h = (joined_keeps a b (keeps vr rule (joined a b) r f h)).1
-
--- ---- rows
-
-pub args_are : (es : List source.Expr) (c : Context) → args_row es c ≡ judged_all (source.exprs_of es) c
-args_are [] c = refl
-args_are (e ∷ es) c =
-    let x = valued (judged e) c in
-    ap (λ (q : Judged (List Expr) × Context). (both x.0 q.0 >>= λ p. typed (p.0 ∷ p.1), q.1)) (args_are es x.1)
-
-pub dims_are : (es : List source.Expr) (c : Context) → dims_row es c ≡ judged_dims (source.exprs_of es) c
-dims_are [] c = refl
-dims_are (e ∷ es) c =
-    let x = ruled (valued (judged e)) (dimension e) c in
-    ap (λ (q : Judged (List ℕ) × Context). (both x.0 q.0 >>= λ p. typed (p.0 ∷ p.1), q.1)) (dims_are es x.1)
-
-pub parts_are : (ss : List source.Spec) (c : Context) → parts_row ss c ≡ judged_parts (source.specs_of ss) c
-parts_are [] c = refl
-parts_are (s ∷ ss) c =
-    let x = judged_spec s c in
-    ap (λ (q : Judged (List Part) × Context). (both x.0 q.0 >>= λ p. typed (p.0 ∷ p.1), q.1)) (parts_are ss x.1)
-
-pub members_are : (before : List Name) (ms : List source.Member) (c : Context) → members_row before ms c ≡ judged_members before (source.members_row ms) c
-members_are before [] c = refl
-members_are before (m ∷ ms) c =
-    let x = judged_member before m c in
-    ap (λ (q : Judged (List (List ℕ × Ty)) × Context). (both x.0 q.0 >>= λ p. typed (p.0 ++ p.1), q.1)) (members_are (behind_member before m) ms x.1)
-
-pub declarators_are : (base : Judged Ty) (before : List Name) (ds : List source.Declarator) (c : Context) → declarators_row base before ds c ≡ judged_declarators before base (source.declarators_of ds) c
-declarators_are base before [] c = refl
-declarators_are base before (source.declarator pointers n dims ∷ ds) c =
-    let x = declarator_node base before (source.declarator pointers n dims) c in
-    ap (λ (q : Judged (List (List ℕ × Ty)) × Context). (both x.0 q.0 >>= λ p. typed (p.0 ∷ p.1), q.1)) (declarators_are base (before ++ n ∷ []) ds x.1)
-
--- the names behind declarators
-pub names_behind : (before : List Name) (ds : List source.Declarator) → state_behind behind_declarator before ds ≡ before ++ names_in (source.declarators_of ds)
-names_behind before [] = sym (append-nil before)
-names_behind before (source.declarator pointers n dims ∷ ds) = names_behind (before ++ n ∷ []) ds ∙ append_assoc before (n ∷ []) (names_in (source.declarators_of ds))
-
--- ---- members, one behind the other
-
--- members that are declared together, behind others
-pub members_next : {Y : Type 0} (v : Y → source.Member) (before : List Name) (xs : List Y) (i : ℕ) (y : Y) (c : Context)
-    (all x r : Result (Vec MemberType Global) CompileFault) (n m : CodeContext)
-    → Tells types_of_members all n (members_row before (map v (take i xs)) c)
-    → i < length xs → y ≡ get_or xs i y
-    → (lacks_memory all ≡ false → Tells types_of_members x m (judged_member (state_behind behind_member before (map v (take i xs))) (v y) (context_view n)))
-    → IsAppended (joined all x) r
-    → Tells types_of_members r m (members_row before (map v (take (i + 1) xs)) c)
-members_next v before xs i y c all x r n m so_far lt is here append =
-    let ys = map v (take i xs) in
-    let most = members_row before ys in
-    let last = judged_member (state_behind behind_member before ys) (v y) in
-    let both_ = both_tell_if types_of_members types_of_members most last c n m all x so_far here in
-    let told = appended_tells member_type_view (joined all x) r (in_turn most last) c m both_ append in
-    subst (λ l. Tells types_of_members r m (members_row before l c)) (sym (one_more v xs i y lt is))
-    (subst (λ q. Tells types_of_members r m q)
-    (sym (row_last judged_member behind_member (λ ms all. ms ++ all) (λ all ms. all ++ ms) append-nil (λ x ys z. sym (append_assoc x ys z)) before ys (v y) c)) told)
-
--- what is appended and lacks no memory is made of what lacks none
-pub appended_keeps : {A : Type 0} (a b r : Result (Vec A Global) CompileFault) → IsAppended (joined a b) r → lacks_memory r ≡ false → (lacks_memory a ≡ false) × (lacks_memory b ≡ false)
-appended_keeps a b r is h = joined_keeps a b (whole (joined a b) r is h)
-  where
-    whole : {A : Type 0} (q : Result (Vec A Global × Vec A Global) CompileFault) (r : Result (Vec A Global) CompileFault) → IsAppended q r → lacks_memory r ≡ false → lacks_memory q ≡ false
-    whole (Ok p) r is h = refl
-    whole (Err (Refused s)) r is h = refl
-    whole (Err NoMemory) (Ok ys) is h = absurd is
-    whole (Err NoMemory) (Err NoMemory) is h = h
-    whole (Err NoMemory) (Err (Refused s)) is h = cc
 
 -- ---- the braces of a struct
 
@@ -194,7 +121,7 @@ call_thrd_create (Some (library_name mtx_destroy)) place args print start c h = 
 call_thrd_create (Some (library_name (constant value))) place args print start c h = cc
 
 pub call_other : (m : Option Binding) (place : ℕ) (args : Judging (List Expr)) (print start : Judging Expr) (c : Context) → is_printf m ≡ false → is_thrd_create m ≡ false
-    → (called_of place m (args c).0, (args c).1) ≡ called_by m place args print start c
+    → called_as m place args c ≡ called_by m place args print start c
 call_other None place args print start c h k = refl
 call_other (Some (global_name n t)) place args print start c h k = refl
 call_other (Some (local_name n t)) place args print start c h k = refl
@@ -214,42 +141,10 @@ call_other (Some (library_name (constant value))) place args print start c h k =
 -- ---- what a thread begins with
 
 pub starting_found : (m : Option Binding) (e : Judging Expr) (c : Context) (f : Option ℕ) → begun_by m ≡ Some f → starting_or m e c ≡ (typed f, c)
-starting_found None e c f h = cc
-starting_found (Some (global_name n t)) e c f h = cc
-starting_found (Some (local_name n t)) e c f h = cc
-starting_found (Some (function_name n ps r)) e c f h = ap (λ (g : Option (Option ℕ)). (typed (or_none g), c)) h
-  where
-    or_none : Option (Option ℕ) → Option ℕ
-    or_none None = None
-    or_none (Some g) = g
-starting_found (Some (library_name printf)) e c f h = let same : None ≡ f = cc in ap (λ g. (typed g, c)) same
-starting_found (Some (library_name malloc)) e c f h = let same : None ≡ f = cc in ap (λ g. (typed g, c)) same
-starting_found (Some (library_name free)) e c f h = let same : None ≡ f = cc in ap (λ g. (typed g, c)) same
-starting_found (Some (library_name memcpy)) e c f h = let same : None ≡ f = cc in ap (λ g. (typed g, c)) same
-starting_found (Some (library_name thrd_create)) e c f h = let same : None ≡ f = cc in ap (λ g. (typed g, c)) same
-starting_found (Some (library_name thrd_join)) e c f h = let same : None ≡ f = cc in ap (λ g. (typed g, c)) same
-starting_found (Some (library_name mtx_init)) e c f h = let same : None ≡ f = cc in ap (λ g. (typed g, c)) same
-starting_found (Some (library_name mtx_lock)) e c f h = let same : None ≡ f = cc in ap (λ g. (typed g, c)) same
-starting_found (Some (library_name mtx_unlock)) e c f h = let same : None ≡ f = cc in ap (λ g. (typed g, c)) same
-starting_found (Some (library_name mtx_destroy)) e c f h = let same : None ≡ f = cc in ap (λ g. (typed g, c)) same
-starting_found (Some (library_name (constant value))) e c f h = cc
+starting_found m e c f h = ap (λ o. begun_or o e c) h
 
 pub starting_sought : (m : Option Binding) (e : Judging Expr) (c : Context) → begun_by m ≡ None → starting_or m e c ≡ ruled e (λ d x. typed None) c
-starting_sought None e c h = refl
-starting_sought (Some (global_name n t)) e c h = refl
-starting_sought (Some (local_name n t)) e c h = refl
-starting_sought (Some (function_name n ps r)) e c h = cc
-starting_sought (Some (library_name printf)) e c h = cc
-starting_sought (Some (library_name malloc)) e c h = cc
-starting_sought (Some (library_name free)) e c h = cc
-starting_sought (Some (library_name memcpy)) e c h = cc
-starting_sought (Some (library_name thrd_create)) e c h = cc
-starting_sought (Some (library_name thrd_join)) e c h = cc
-starting_sought (Some (library_name mtx_init)) e c h = cc
-starting_sought (Some (library_name mtx_lock)) e c h = cc
-starting_sought (Some (library_name mtx_unlock)) e c h = cc
-starting_sought (Some (library_name mtx_destroy)) e c h = cc
-starting_sought (Some (library_name (constant value))) e c h = refl
+starting_sought m e c h = ap (λ o. begun_or o e c) h
 
 -- ---- prefix operators
 

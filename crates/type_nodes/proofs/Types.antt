@@ -13,7 +13,7 @@ use Rattle.c_tree.specs.TypedViews.{type_view, boxed_expr_view}
 use Rattle.c_typing.specs.Faults.{Judged, typed, Gives}
 use Rattle.c_typing.specs.Types.{behind_pointers}
 use Rattle.c_typing.specs.Scope.{Context, bytes_of, with_tag, tag_number}
-use Rattle.c_typing.specs.Judgement.{Judging, ruled, judged, valued, judged_type, judged_specs, judged_parts, judged_spec, judged_member, judged_declarators, judged_dims, specified, place_of_specs, dimension, lone, object_declared, fresh_member, object_by, tag}
+use Rattle.c_typing.specs.Judgement.{Judging, ruled, judged, valued, judged_type, judged_specs, judged_parts, judged_spec, judged_member, judged_declarators, judged_dims, specified, place_of_specs, dimension, array_size, lone, object_declared, fresh_member, object_by, tag}
 use Rattle.type_context.specs.declared.context.Context.{Context as CodeContext}
 use Rattle.type_context.specs.declared.context.MemberType.{MemberType}
 use Rattle.type_context.specs.ContextViews.{context_view, member_type_view}
@@ -24,8 +24,9 @@ use Rattle.type_rules.specs.declared.specifiers.Part.TheVariants as parts
 use Rattle.type_rules.specs.SpecifierViews.{numbers_view, part_view, parts_view, declared_view}
 use Rattle.type_context.specs.Telling.{Tells}
 use Rattle.type_context.proofs.Walks.{lone_tells}
-use Rattle.type_nodes.specs.Nodes.{Finishes, types_of_members, sized, declarator_node}
+use Rattle.type_nodes.specs.Nodes.{Finishes, types_of_members}
 use Rattle.type_nodes.proofs.Telling.{finishes, finishes_both}
+use Rattle.type_nodes.proofs.Rows.{declarator_node}
 
 pub type_name_tells : (specs : source.Specs) (pointers : List Pointer) (c : Context) (n : CodeContext) (a r : Result CType CompileFault)
     → Tells type_view a n (judged_specs specs c) → Finishes type_view a (λ t. typed (behind_pointers (type_view t) pointers)) r → Tells type_view r n (judged_type (source.type_name specs pointers) c)
@@ -41,7 +42,7 @@ pub tag_tells : (place : ℕ) (t : Name) (c : Context) (n : CodeContext) (number
 tag_tells place t c n number is_n is_number = record { gives = ap (λ (i : ℕ). typed (tag i)) (sym is_number); leaves = is_n }
 
 pub dimension_tells : (e : source.Expr) (c : Context) (n : CodeContext) (a : Result (Box CodeExpr Global) CompileFault) (r : Result ℕ CompileFault)
-    → Tells boxed_expr_view a n (valued (judged e) c) → Finishes (λ (i : ℕ). i) a (λ x. dimension e (context_view n) (boxed_expr_view x)) r → Tells (λ (i : ℕ). i) r n (ruled (valued (judged e)) (dimension e) c)
+    → Tells boxed_expr_view a n (valued (judged e) c) → Finishes (λ (i : ℕ). i) a (λ x. dimension e (context_view n) (boxed_expr_view x)) r → Tells (λ (i : ℕ). i) r n (array_size e (judged e) c)
 dimension_tells e c n a r = finishes boxed_expr_view (λ (i : ℕ). i) (valued (judged e)) (dimension e) c n a r
 
 pub member_tells : (before : List Name) (specs : source.Specs) (ds : source.Declarators) (c : Context) (n m : CodeContext) (a : Result CType CompileFault) (b r : Result (Vec MemberType Global) CompileFault)
@@ -64,7 +65,8 @@ declarator_tells base before d name dims pointers n m f t s o r is h b k g l =
     (lone_tells (λ (u : Unit {0}). u) f n (fresh_member (context_view n) before name) h)
     (finishes_both type_view numbers_view type_view (lone base) (judged_dims dims) (λ c p. object_declared c p.0 (record { name = name; pointers = pointers; sizes = p.1 })) (context_view n) n m t s o (lone_tells type_view t n base b) k g) l)
 
--- a declarator whose name isn't asked for
-pub declared_tells : (d : source.Declarator) (J : Judging (List ℕ)) (c : Context) (n : CodeContext) (s : Result (Vec ℕ Global) CompileFault) (r : Result Declared CompileFault)
-    → Tells numbers_view s n (J c) → Finishes declared_view s (λ v. typed (sized d (numbers_view v))) r → Tells declared_view r n (ruled J (λ k sizes. typed (sized d sizes)) c)
-declared_tells d J c n s r h f = finishes numbers_view declared_view J (λ k sizes. typed (sized d sizes)) c n s r h f
+-- a declarator, which declares nothing yet
+pub declared_tells : (name : Name) (pointers : List Pointer) (J : Judging (List ℕ)) (c : Context) (n : CodeContext) (s : Result (Vec ℕ Global) CompileFault) (r : Result Declared CompileFault)
+    → Tells numbers_view s n (J c) → Finishes declared_view s (λ v. typed (record { name = name; pointers = pointers; sizes = numbers_view v })) r
+    → Tells declared_view r n (ruled J (λ k sizes. typed (record { name = name; pointers = pointers; sizes = sizes })) c)
+declared_tells name pointers J c n s r = finishes numbers_view declared_view J (λ k sizes. typed (record { name = name; pointers = pointers; sizes = sizes })) c n s r

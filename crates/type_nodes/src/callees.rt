@@ -6,15 +6,16 @@ ghost use Rattle.c_tree.specs.Syntax as trees;
 ghost use Rattle.c_tree.specs.SyntaxViews as source;
 ghost use Rattle.c_tree.specs.Typed.{Expr as TypedExpr};
 ghost use Rattle.c_tree.specs.TypedViews.{type_view, boxed_expr_view};
-ghost use Rattle.c_typing.specs.Faults.{Judged, refuse};
+ghost use Rattle.c_typing.specs.Faults.{refuse};
 ghost use Rattle.c_typing.specs.Scope as scopes;
-ghost use Rattle.c_typing.specs.Judgement.{none_past, place_past, meaning_in, starting_by};
+ghost use Rattle.c_typing.specs.Judgement as rules;
+ghost use Rattle.c_typing.specs.Judgement.{Judging, ruled, none_past, place_past, meaning_in, begins_thread, starting_by, begun_by, no_call, called_as};
 ghost use Rattle.type_context.specs.ContextViews.{context_view, binding_view, library_view, types_view};
 ghost use Rattle.type_context.specs.declared.context.Context.{Context as CodeContext};
 ghost use Rattle.type_rules.specs.ListViews.{exprs_view};
 ghost use Rattle.type_nodes.specs.Nodes as walking;
 ghost use Rattle.type_context.specs.inner.Outcomes.{joined};
-ghost use Rattle.type_nodes.specs.Nodes.{Finishes, no_call_of, library_of, function_of, called_of, begins_thread, begun_by};
+ghost use Rattle.type_nodes.specs.Nodes.{Finishes};
 ghost use Rattle.type_context.specs.Telling.{Tells, Says};
 
 use crate::library::called_library;
@@ -64,7 +65,7 @@ fn no_call(
     kind: Kind,
     args: Result<Vec<Expr>, CompileFault>,
 ) -> Result<Box<Expr>, CompileFault>
-    ensures { (n : CodeContext) (p : Judged (List TypedExpr) × scopes.Context) → Tells exprs_view args n p → Tells boxed_expr_view result n (no_call_of place kind p.0, p.1) }
+    ensures { (n : CodeContext) (J : Judging (List TypedExpr)) (c : scopes.Context) → Tells exprs_view args n (J c) → Tells boxed_expr_view result n (no_call place kind J c) }
 {
     call_fault(place, kind, args)
 }
@@ -76,7 +77,7 @@ fn library_called(
     which: Library,
     args: Result<Vec<Expr>, CompileFault>,
 ) -> Result<Box<Expr>, CompileFault>
-    ensures { (n : CodeContext) (p : Judged (List TypedExpr) × scopes.Context) → Tells exprs_view args n p → Tells boxed_expr_view result n (library_of place (library_view which) p.0, p.1) }
+    ensures { (n : CodeContext) (J : Judging (List TypedExpr)) (c : scopes.Context) → Tells exprs_view args n (J c) → Tells boxed_expr_view result n (ruled J (λ d es. rules.called_library place (library_view which) es) c) }
 {
     let args = args?;
     called_library(alloc, place, which, args)
@@ -91,7 +92,7 @@ fn function_called(
     returned: &CType,
     args: Result<Vec<Expr>, CompileFault>,
 ) -> Result<Box<Expr>, CompileFault>
-    ensures { (n : CodeContext) (p : Judged (List TypedExpr) × scopes.Context) → Tells exprs_view args n p → Tells boxed_expr_view result n (function_of place number (types_view params.now) (type_view returned.now) p.0, p.1) }
+    ensures { (n : CodeContext) (J : Judging (List TypedExpr)) (c : scopes.Context) → Tells exprs_view args n (J c) → Tells boxed_expr_view result n (ruled J (λ d es. rules.called place number (types_view params.now) (type_view returned.now) es) c) }
 {
     let args = args?;
     called(alloc, place, number, params, returned, args)
@@ -104,7 +105,7 @@ pub fn called_by(
     meaning: Option<Binding>,
     args: Result<Vec<Expr>, CompileFault>,
 ) -> Result<Box<Expr>, CompileFault>
-    ensures { (n : CodeContext) (p : Judged (List TypedExpr) × scopes.Context) → Tells exprs_view args n p → Tells boxed_expr_view result n (called_of place (option_map binding_view meaning) p.0, p.1) }
+    ensures { (n : CodeContext) (J : Judging (List TypedExpr)) (c : scopes.Context) → Tells exprs_view args n (J c) → Tells boxed_expr_view result n (called_as (option_map binding_view meaning) place J c) }
 {
     match meaning {
         Some(

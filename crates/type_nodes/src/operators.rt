@@ -5,11 +5,11 @@ ghost use Rattle.c_tree.specs.Typed.{type_of};
 ghost use Rattle.c_tree.specs.TypedViews.{type_view, expr_view, boxed_expr_view};
 ghost use Rattle.c_typing.specs.Faults.{Gives, typed, refuse};
 ghost use Rattle.c_typing.specs.Rules.{value_of, address, selected, pointed, element, cast, size_number};
-ghost use Rattle.c_typing.specs.Judgement.{combined, printed, started};
+ghost use Rattle.c_typing.specs.Judgement.{prefixed_by, combined, choice, printed, started};
 ghost use Rattle.type_context.specs.ContextViews.{context_view};
 ghost use Rattle.type_context.specs.inner.Outcomes.{joined};
 ghost use Rattle.type_rules.specs.ListViews.{exprs_view, pieces_view};
-ghost use Rattle.type_nodes.specs.Nodes.{Finishes, prefixed_by, choice};
+ghost use Rattle.type_nodes.specs.Nodes.{Finishes};
 
 use crate::formats::printed;
 use crate::library::started;

@@ -1,5 +1,5 @@
 //! Tags, members and types, by what their parts came to (C11 6.7.2, 6.7.6).
-ghost use Rattle.std.specs.Prelude.{◌≡◌, ℕ, List, map, IfOk, IfErr, OnOk, if◌then◌else◌};
+ghost use Rattle.std.specs.Prelude.{◌≡◌, ℕ, List, map, IfOk, IfErr, OnOk};
 ghost use Rattle.std.specs.List.{list_any};
 ghost use Rattle.std.specs.Str.{bytes_eq};
 ghost use Rattle.c_lex.specs.declared.refusal.CompileFault.TheVariants.{NoMemory};
@@ -12,12 +12,13 @@ ghost use Rattle.c_typing.specs.Faults.{Judged, Gives};
 ghost use Rattle.c_typing.specs.Types.{behind_pointers};
 ghost use Rattle.c_typing.specs.Scope as scopes;
 ghost use Rattle.c_typing.specs.Scope.{bytes_of, with_tag, tag_number};
-ghost use Rattle.c_typing.specs.Judgement.{Judging, struct_fits, closed, is_again, fresh_member, object_declared, opened, specified, place_of_specs, dimension, tag};
+ghost use Rattle.c_typing.specs.Judgement.{Judging, lone, struct_fits, fitting, closing, is_again, fresh_member, object_declared, opened, specified, place_of_specs, dimension, tag};
 ghost use Rattle.type_context.specs.ContextViews.{context_view, member_type_view, members_view, types_view};
 ghost use Rattle.type_context.specs.inner.Outcomes.{joined};
 ghost use Rattle.type_rules.specs.SpecifierViews.{numbers_view, part_view, parts_view, declared_view};
 ghost use Rattle.type_context.specs.Telling.{Tells, Says};
-ghost use Rattle.type_nodes.specs.Nodes.{Finishes, types_of_members, sized, fits_of, fitting, closing};
+ghost use Rattle.type_nodes.specs.Nodes.{Finishes, types_of_members};
+ghost use Rattle.type_nodes.specs.inner.Members.{is_fine, stands_fine};
 
 use c_lex::{CompileFault, Kind, Refusal};
 use c_tree::copies::copy_type;
@@ -91,7 +92,7 @@ fn types_of(alloc: Global, all: &[MemberType<'_>]) -> Result<Vec<CType>, AllocEr
 
 // Whether a struct with these members is at most as large as the greatest object.
 fn fits(context: &Context<'_>, place: u32, all: &[MemberType<'_>]) -> Result<(), CompileFault>
-    ensures { Gives (λ _. tt) result (fits_of (context_view context.now) place (members_view all.now)) }
+    ensures { Gives (λ _. tt) result (is_fine (struct_fits (context_view context.now) place (members_view all.now))) }
 {
     let types = types_of(context.alloc, all)?;
     let size = struct_size(&context.structs, &types)?;
@@ -106,7 +107,7 @@ fn declared_with<'t>(
     again: bool,
     all: Vec<MemberType<'t>>,
 ) -> Result<(), CompileFault>
-    ensures { Tells (λ _. tt) result context.new (fits_of (context_view context.old) place (members_view all.entry.items), if again then context_view context.old else closed (context_view context.old) number (struct_fits (context_view context.old) place (members_view all.entry.items))) }
+    ensures { Tells (λ _. tt) result context.new (stands_fine (fitting place number again (lone (faults.typed (members_view all.entry.items)))) (context_view context.old)) }
 {
     fits(context, place, &all)?;
     if again {
@@ -123,7 +124,7 @@ fn fitting<'t>(
     again: bool,
     members: Result<Vec<MemberType<'t>>, CompileFault>,
 ) -> Result<(), CompileFault>
-    ensures { (J : Judging (List (List ℕ × Ty))) (c : scopes.Context) → Tells types_of_members members.entry context.old (J c) → Tells (λ _. tt) result context.new (fitting place number again J c) }
+    ensures { (J : Judging (List (List ℕ × Ty))) (c : scopes.Context) → Tells types_of_members members.entry context.old (J c) → Tells (λ _. tt) result context.new (stands_fine (fitting place number again J) c) }
 {
     let all = members?;
     declared_with(context, place, number, again, all)
@@ -204,7 +205,7 @@ pub fn declared<'a>(
     d: &'a tree::Declarator,
     sizes: Result<Vec<u32>, CompileFault>,
 ) -> Result<Declared<'a>, CompileFault>
-    ensures { Finishes declared_view sizes (λ s. faults.typed (sized (source.declarator_view d.now) (numbers_view s))) result }
+    ensures { Finishes declared_view sizes (λ s. faults.typed (record { name = d.now.name; pointers = d.now.pointers.items; sizes = numbers_view s })) result }
 {
     let sizes = sizes?;
     Ok(Declared {

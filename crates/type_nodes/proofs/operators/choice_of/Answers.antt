@@ -6,8 +6,9 @@ use Rattle.c_lex.specs.declared.refusal.CompileFault.{CompileFault}
 use Rattle.c_tree.specs.declared.typed.Expr.{Expr as CodeExpr}
 use Rattle.c_tree.specs.TypedViews.{boxed_expr_view}
 use Rattle.c_typing.specs.Faults.{Judged, Gives}
+use Rattle.c_typing.specs.Judgement.{choice}
 use Rattle.type_context.specs.inner.Outcomes.{joined}
-use Rattle.type_nodes.specs.Nodes.{Finishes, choice}
+use Rattle.type_nodes.specs.Nodes.{Finishes}
 use Rattle.type_nodes.proofs.operators.choice_of.Goals as goal
 
 abbrev Held : Type 0
