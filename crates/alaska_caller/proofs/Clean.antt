@@ -1,6 +1,6 @@
 -- What a journal of the text means that has room: where main has ended, 42 and a newline were printed; and it doesn't end otherwise.
-use Rattle.std.proofs.Common.{◌≡◌, ◌≢◌, refl, sym, ap, subst, ◌∙◌, ℕ, zero, suc, ◌+◌, ◌≤◌, ◌<◌, Bool, true, false, cond, List, [], ◌∷◌, length, map, take, Option, Some, None, ℤ, pos, inl, inr, arith}
-use Rattle.std.specs.Prelude.{◌⊎◌, nat_le, slice_get, codes}
+use Rattle.std.proofs.Common.{◌≡◌, ◌≢◌, refl, sym, ap, subst, ◌∙◌, ℕ, zero, suc, ◌≤◌, ◌<◌, Bool, true, false, cond, List, [], ◌∷◌, length, map, take, Option, Some, None, ℤ, pos, inl, inr, arith}
+use Rattle.std.specs.Prelude.{nat_le, slice_get, codes}
 use Rattle.std.proofs.lemmas.Bool.Decides.{nat_tests}
 use Rattle.ak_words.specs.IntType.{int}
 use Rattle.ak_words.specs.Num.{num}

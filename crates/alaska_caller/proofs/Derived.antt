@@ -1,6 +1,6 @@
 -- What the call comes to, from what `alaska` promises of it.
-use Rattle.std.proofs.Common.{◌≡◌, ◌≢◌, refl, sym, ap, subst, ◌∙◌, ℕ, ◌≤◌, ◌<◌, List, [], ◌∷◌, length, Option, Some, None, inl, inr, arith}
-use Rattle.std.specs.Prelude.{◌⊎◌, IsSome}
+use Rattle.std.proofs.Common.{◌≡◌, ◌≢◌, refl, sym, ap, subst, ◌∙◌, ℕ, ◌<◌, List, [], length, Option, Some, None, inl, inr, arith}
+use Rattle.std.specs.Prelude.{IsSome}
 use Rattle.std.specs.Option.{option_map}
 use Rattle.ak_trace.specs.declared.entry.Entry.{Entry}
 use Rattle.clap.proofs.OnLiterals.{clap_on_literals}
@@ -12,7 +12,6 @@ use Rattle.alaska_run.specs.Built.{IsTreeOf}
 use Rattle.lower_forms.specs.Programs.{lowered}
 use Rattle.struct_ir.specs.Nodes.{Ir}
 use Rattle.ak_trace.specs.declared.endings.End.{End}
-use Rattle.ak_trace.specs.declared.endings.End.TheVariants as ends
 use Rattle.flat_rules.specs.declared.settings.Settings.{Settings}
 use Rattle.flat_rules.specs.declared.settings.Mode.TheVariants.{Run}
 use Rattle.flat_machine.specs.Replays.{Final}

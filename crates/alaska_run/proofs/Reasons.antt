@@ -1,5 +1,5 @@
 -- A text has one typed tree or one refusal: from the laws of its tokens, and of the files that they are.
-use Rattle.std.proofs.Common.{◌≡◌, ℕ, List, Option, Some, None, Result, Ok, Err, ◌⊎◌, refl, sym, ap, ◌∙◌, subst, inl, inr}
+use Rattle.std.proofs.Common.{◌≡◌, ℕ, List, Option, Some, None, Err, ◌⊎◌, refl, sym, ap, ◌∙◌, subst, inl, inr}
 use Rattle.c_lex.specs.declared.token.Token.{Token}
 use Rattle.c_lex.specs.declared.refusal.Refusal.{Refusal}
 use Rattle.c_lex.specs.declared.refusal.CompileFault.{CompileFault}

@@ -35,7 +35,8 @@ use Rattle.source_expressions.specs.Ends.{here_at, point_of}
 use Rattle.block_meaning.specs.declared.thread.Own.{Own}
 use Rattle.block_meaning.specs.declared.thread.Outcome.{Outcome}
 use Rattle.block_meaning.specs.declared.thread.Outcome.TheVariants as outcomes
-use Rattle.block_meaning.specs.Threads.{callers_of, rest_of, turn_of, ends_in, Untouched, IsTurned}
+use Rattle.block_meaning.specs.Threads.{callers_of}
+use Rattle.block_meaning.specs.inner.Turns.{rest_of, turn_of, ends_in, Untouched, IsTurned}
 
 -- ---- an action
 

@@ -19,8 +19,8 @@ use Rattle.c_tree.specs.TypedViews.{global_view, layout_view, literal_view}
 use Rattle.c_meaning.specs.Meaning.{first_blocks}
 use Rattle.source_tree.specs.declared.tree.SharedProgram.{SharedProgram}
 use Rattle.source_tree.specs.SharedViews.{program_of}
-use Rattle.block_meaning.specs.Running.{global_in}
 use Rattle.block_meaning.proofs.Lists.{drop_read}
+use Rattle.block_meaning.specs.inner.Starts.{global_in}
 
 -- so many cells
 cells_count : (v : Value) → length (cells_of v) ≡ size_of (access_of v)

@@ -16,10 +16,12 @@ use Rattle.source_state.specs.Worlds.{world_of, thread_of}
 use Rattle.block_meaning.specs.declared.thread.Own.{Own}
 use Rattle.block_meaning.specs.declared.thread.Outcome.{Outcome}
 use Rattle.block_meaning.specs.declared.thread.Outcome.TheVariants as outcomes
-use Rattle.block_meaning.specs.Threads.{control_of, owns_of, turn_of, Stays}
-use Rattle.block_meaning.specs.Running.{owns_behind, left_by, answered, answered_if, state_in}
+use Rattle.block_meaning.specs.Threads.{control_of, owns_of}
+use Rattle.block_meaning.specs.Running.{left_by, answered, answered_if, state_in}
 use Rattle.block_meaning.specs.declared.running.Turned.{Turned}
 use Rattle.block_meaning.proofs.Lists.{drop_read, own_within, own_past}
+use Rattle.block_meaning.specs.inner.Turns.{turn_of, Stays}
+use Rattle.block_meaning.specs.inner.Starts.{owns_behind}
 
 picked_if : {A : Type 0} (P : Program A) (s : State A) (p : Pick) (c : A) (main own : Option A) → IsSome (turn_if P s p main own) → own ≡ Some c → turn_if P s p main own ≡ Some (P.turn p.thread p.answer c s.world)
 picked_if P s p c None own h e = cc

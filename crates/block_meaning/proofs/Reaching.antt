@@ -23,9 +23,8 @@ use Rattle.source_state.specs.declared.control.Use.{Use}
 use Rattle.source_state.specs.Views.{todo_of, use_of, loop_of, stmt_or_nothing}
 use Rattle.source_expressions.specs.Ends.{here_at, ends}
 use Rattle.source_expressions.specs.Progress.{now_in}
-use Rattle.source_statements.specs.declared.exit.Exit.{Exit}
-use Rattle.source_statements.specs.declared.exit.Exit.TheVariants as exits
-use Rattle.source_statements.specs.Exits.{exit, ExitsAs, Finishes, GivesTo}
+use Rattle.source_assignments.specs.declared.exit.Exit.{Exit}
+use Rattle.source_assignments.specs.declared.exit.Exit.TheVariants as exits
 use Rattle.source_statements.proofs.Names.{name_todo}
 use Rattle.source_state.specs.Kept.{Kept}
 use Rattle.source_state.specs.declared.world.World.{World}
@@ -33,7 +32,10 @@ use Rattle.source_state.specs.Worlds.{world_of, thread_of, reached_of}
 use Rattle.block_meaning.specs.declared.thread.At.{At}
 use Rattle.block_meaning.specs.declared.thread.At.TheVariants as ats
 use Rattle.block_meaning.specs.declared.thread.Own.{Own}
-use Rattle.block_meaning.specs.Threads.{point_of_at, control_of, callers_of, rest_of, Reaches}
+use Rattle.block_meaning.specs.Threads.{point_of_at, control_of, callers_of}
+use Rattle.source_statements.specs.Finishing.{Finishes, GivesTo}
+use Rattle.source_assignments.specs.Exits.{exit, ExitsAs}
+use Rattle.block_meaning.specs.inner.Turns.{rest_of, Reaches}
 
 -- with a value and its use
 pub reach_gives : (p : SharedProgram) (at : At) (v : Value) (k : Rc Use Global) (u : Use) (function : ℕ) (locals : List control.Variable) (blocks : Blocks) (new_locals : List control.Variable) (new_blocks : Blocks) (q : Pending)

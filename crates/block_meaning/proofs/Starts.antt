@@ -18,9 +18,11 @@ use Rattle.source_state.specs.Worlds.{thread_of, reached_of}
 use Rattle.block_meaning.specs.declared.running.Turned.{Turned}
 use Rattle.block_meaning.specs.declared.thread.Outcome.{Outcome}
 use Rattle.block_meaning.specs.declared.thread.Own.{Own}
-use Rattle.block_meaning.specs.Threads.{control_of, owns_of, turn_of}
-use Rattle.block_meaning.specs.Running.{answered, owns_behind}
+use Rattle.block_meaning.specs.Threads.{control_of, owns_of}
+use Rattle.block_meaning.specs.Running.{answered}
 use Rattle.block_meaning.proofs.Picks.{state_of}
+use Rattle.block_meaning.specs.inner.Turns.{turn_of}
+use Rattle.block_meaning.specs.inner.Starts.{owns_behind}
 
 world_begins : (p : SharedProgram) (blocks : Blocks) (output : List ℕ) (threads : List ThreadRecord) (reached : List Reached) → blocks ≡ first_blocks (program_of p) → output ≡ [] → threads ≡ record { function = p.main; argument = Null; stage = stages.Running } ∷ [] → reached ≡ []
     → ◌≡◌ {A = actions.World} (record { blocks = blocks; output = output; threads = map thread_of threads; reached = map reached_of reached }) (start (program_of p))

@@ -1,3 +1,4 @@
 pub mod Threads
 pub mod Running
 pub mod Counts
+pub mod inner

@@ -8,7 +8,7 @@ ghost use Rattle.block_store.specs.Cells.{cells_of};
 ghost use Rattle.c_meaning.specs.Meaning.{first_blocks};
 ghost use Rattle.c_tree.specs.TypedViews.{global_view, literal_view, layout_view};
 ghost use Rattle.source_tree.specs.SharedViews.{program_of};
-ghost use Rattle.block_meaning.specs.Running.{global_in};
+ghost use Rattle.block_meaning.specs.inner.Starts.{global_in};
 
 use ak_words::{NoMemory, Num};
 use block_store::{BlockKind, Cell, Ptr, Store, Value};

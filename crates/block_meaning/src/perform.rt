@@ -13,7 +13,8 @@ ghost use Rattle.source_state.specs.Variables.{variable_of};
 ghost use Rattle.source_state.specs.Views.{callee_of, values_of, wait_of};
 ghost use Rattle.source_expressions.specs.Ends.{Rest, here_at, after_library, point_of};
 ghost use Rattle.source_state.specs.Worlds.{world_of};
-ghost use Rattle.block_meaning.specs.Threads.{turn_of, point_of_at, caller_of, callers_of, control_of, rest_of, ends_in, IsTurned, Untouched};
+ghost use Rattle.block_meaning.specs.Threads.{point_of_at, caller_of, callers_of, control_of};
+ghost use Rattle.block_meaning.specs.inner.Turns.{turn_of, rest_of, ends_in, IsTurned, Untouched};
 
 use crate::begin::{first_locals, whole_body};
 use crate::thread::{At, Caller, Outcome, Own};

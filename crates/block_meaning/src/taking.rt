@@ -8,8 +8,10 @@ ghost use Rattle.block_store.specs.Runs as runs;
 ghost use Rattle.c_meaning.specs.Meaning as meaning;
 ghost use Rattle.source_tree.specs.SharedViews.{program_of};
 ghost use Rattle.source_state.specs.Worlds.{stage_of, world_of};
-ghost use Rattle.block_meaning.specs.Threads.{control_of, owns_of, turn_of};
-ghost use Rattle.block_meaning.specs.Running.{answered, answered_if, left_by, ended_by, ended_with, returned_at, state_in, owns_behind};
+ghost use Rattle.block_meaning.specs.Threads.{control_of, owns_of};
+ghost use Rattle.block_meaning.specs.Running.{answered, answered_if, left_by, ended_by, ended_with, returned_at, state_in};
+ghost use Rattle.block_meaning.specs.inner.Turns.{turn_of};
+ghost use Rattle.block_meaning.specs.inner.Starts.{owns_behind};
 
 use crate::begin::begun;
 use crate::running::Turned;

@@ -4,16 +4,17 @@ ghost use Rattle.std.specs.Prelude.{◌≡◌, IfOk, OnOk};
 ghost use Rattle.c_meaning.specs.Turns as turns;
 ghost use Rattle.source_tree.specs.SharedViews.{program_of};
 ghost use Rattle.source_state.specs.Worlds.{world_of};
-ghost use Rattle.block_meaning.specs.Threads.{control_of, turn_of, Reaches, Stays};
+ghost use Rattle.block_meaning.specs.Threads.{control_of};
+ghost use Rattle.block_meaning.specs.inner.Turns.{turn_of, Reaches, Stays};
 
 use crate::perform::perform;
 use crate::thread::{At, Outcome, Own};
 use ak_words::{NoMemory, Rule};
 use block_store::Answer;
+use source_assignments::Exit;
 use source_state::control::Pending;
 use source_state::{KeptStore, Locals, World};
-use source_statements::statements::rounds;
-use source_statements::{Exit, finish, give};
+use source_statements::{finish, give, rounds};
 use source_tree::tree::SharedProgram;
 use std::alloc::Global;
 

@@ -19,7 +19,8 @@ use Rattle.c_grammar.proofs.Joints.{Makes, tree, known, full_class, full_lawful,
 use Rattle.c_grammar.proofs.TokenLaws.{Room, plain_class, marked, is_assign, step_lawful, assign_lawful, shallow}
 use Rattle.c_grammar.proofs.TreeClasses.{none_less, goes_expr, expr_info, postfix_info, expr_class, LevelLawful}
 use Rattle.c_grammar.proofs.ArgumentLaws.{rank_most}
-use Rattle.c_grammar.proofs.Forks.{alike, by_which, Forks, forked}
+use Rattle.c_grammar.proofs.Forks.{by_which, Forks, forked}
+use Rattle.c_grammar.proofs.Respelling.{alike}
 use Rattle.c_grammar.proofs.MoreJoints.{joined}
 use Rattle.c_grammar.proofs.StatementClasses.{simple_class, goes_simple, simple_info, Parts}
 

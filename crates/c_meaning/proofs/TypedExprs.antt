@@ -14,9 +14,9 @@ use Rattle.block_store.specs.declared.values.Value.TheVariants as values
 use Rattle.block_store.specs.Actions as actions
 use Rattle.c_tree.specs.Typed as tree
 use Rattle.c_tree.specs.TypedForm as type
-use Rattle.c_tree.specs.TypedForm.{IsInteger, IsScalar, IsNth, IsLvalue, IsInMemory, IsTyped, IsTypedNode, AreTyped, InScope}
+use Rattle.c_tree.specs.TypedForm.{IsScalar, IsNth, IsLvalue, IsInMemory, IsTyped, IsTypedNode, InScope}
 use Rattle.c_meaning.specs.Control as control
-use Rattle.c_meaning.specs.Control.{Variable, Callee, Wait, wanted, dropped}
+use Rattle.c_meaning.specs.Control.{Variable, Callee, Wait, wanted}
 use Rattle.c_meaning.specs.Values as reads
 use Rattle.c_meaning.specs.Values.{access_of_type, truth_of, int_of, Unary, Binary}
 use Rattle.c_meaning.specs.Turns.{Does, WayOfUse, after_call, variable_at, pointer_in, read_way, only_way, second_way, first_way, second_test_way, is_same, first_test_way, choice_way, argument_way, reads_variable, finds_variable, run, run_node, run_place, run_place_node, run_arguments}

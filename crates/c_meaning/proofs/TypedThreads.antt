@@ -13,7 +13,7 @@ use Rattle.block_store.specs.Runs.{Turn}
 use Rattle.c_tree.specs.Typed as tree
 use Rattle.c_tree.specs.TypedForm.{IsScalar, IsFunc, IsMain, CanStart, IsWellFormed, signature_of}
 use Rattle.c_meaning.specs.Control as control
-use Rattle.c_meaning.specs.Control.{Control, Variable, Todo, Use, TurnStart}
+use Rattle.c_meaning.specs.Control.{Control, Todo, Use, TurnStart}
 use Rattle.c_meaning.specs.Values.{access_of_type}
 use Rattle.c_meaning.specs.Turns.{WayOfUse, read_way, leave_way, run, run_arguments, run_stmt, run_row, way_of, use_of, from_point, turn}
 use Rattle.c_meaning.specs.Meaning.{arguments_if, begins_if}

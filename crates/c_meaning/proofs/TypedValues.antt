@@ -19,7 +19,7 @@ use Rattle.block_store.specs.declared.values.Value.{Value}
 use Rattle.block_store.specs.declared.values.Value.TheVariants as values
 use Rattle.block_store.specs.Blocks.{Block, Blocks, live}
 use Rattle.block_store.specs.Pointers as pointers
-use Rattle.block_store.specs.Pointers.{within, moved_in, moved_null, moved, indexed, is_usable, both_usable, is_other_than_null, tested, is_same, by_distance, is_below_0, is_0, related, compared, in_elements, difference}
+use Rattle.block_store.specs.Pointers.{within, moved_in, moved, indexed, is_usable, is_other_than_null, tested, by_distance, is_below_0, is_0, related, compared, in_elements, difference}
 use Rattle.c_tree.specs.Typed as tree
 use Rattle.c_tree.specs.TypedForm.{IsInteger, IsPointer, IsScalar, Fits, PointsToSized, MovesPointer, AreOperands, type_of_result, CanUpdate, Converts}
 use Rattle.c_meaning.specs.Values.{Unary, converts, negates, tests, selects, Binary, on_numbers, forward, backward, distance, on_pointers, access_of_type, element_size, int_of, value_of, pointer_of, int_result, long_result, truth_of, opposite, selected, of_one, of_two, operand_types, computed, converted_result, updated}

@@ -9,9 +9,9 @@ use Rattle.block_store.specs.declared.values.Answer.TheVariants as answers
 use Rattle.block_store.specs.Actions.{ThreadRecord, Stage, running, returned, joined}
 use Rattle.block_store.specs.Runs.{Pick, Run, reaches, breaks, no_run, Shown, it_went, it_ended, it_blocked, it_was_unfit, it_broke, no_such_turn}
 use Rattle.c_tree.specs.Typed
-use Rattle.c_tree.specs.Typed.{Ty, void, integer, mutex, pointer, array, structure, Layout, Piece, bytes, signed, unsigned, text, Lib, print, malloc, free, copy, start, join, mutex_init, mutex_lock, mutex_unlock, mutex_destroy}
-use Rattle.c_tree.specs.Typed.{Expr, at, ExprNode, num, null, literal, global, local, deref, member, address_of, decay, convert, not_, binary, and_also, or_else, choose, pointer_add, pointer_sub, pointer_diff, pointer_compare, pointer_test, call, lib, Exprs, no_exprs, more_exprs}
-use Rattle.c_tree.specs.Typed.{Stmt, at_stmt, StmtNode, block, declare, if_, if_else, while_, for_, break_, continue_, return_, assign, update, evaluate, empty, Stmts, no_stmts, more_stmts, Init, zero_bytes, number, literal_at, GlobalVar, Local, Func}
+use Rattle.c_tree.specs.Typed.{Ty, void, integer, mutex, pointer, array, structure, Layout, bytes, signed, unsigned, Lib, print, malloc, free, copy, start, join, mutex_init, mutex_lock, mutex_unlock}
+use Rattle.c_tree.specs.Typed.{Expr, at, ExprNode, num, null, literal, global, local, deref, member, address_of, decay, convert, not_, binary, and_also, or_else, choose, pointer_add, pointer_sub, pointer_compare, call, lib, Exprs, no_exprs, more_exprs}
+use Rattle.c_tree.specs.Typed.{Stmt, at_stmt, StmtNode, block, declare, if_, if_else, for_, break_, continue_, return_, assign, update, evaluate, Stmts, no_stmts, more_stmts, zero_bytes, number, GlobalVar, Local, Func}
 use Rattle.c_meaning.specs.Control.{Control}
 use Rattle.c_meaning.specs.Meaning.{run, shown}
 

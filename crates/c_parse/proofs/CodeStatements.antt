@@ -3,15 +3,15 @@ use Rattle.std.proofs.Common.{◌≡◌, ℕ, zero, suc, ◌-◌, ◌<◌, List,
 use Rattle.c_lex.specs.declared.token.Token.{Token}
 use Rattle.c_lex.specs.declared.refusal.Kind.TheVariants.{TooDeep}
 use Rattle.c_tree.specs.Syntax.{Declaration, Simple, Stmt}
-use Rattle.c_parse.specs.declared.parser.Parser.{Parser}
-use Rattle.c_parse.specs.declared.parser.Stop.{Stop}
-use Rattle.c_parse.specs.declared.parser.Stop.TheVariants as stops
+use Rattle.parse_expressions.specs.declared.parser.Parser.{Parser}
+use Rattle.parse_expressions.specs.declared.parser.Stop.{Stop}
+use Rattle.parse_expressions.specs.declared.parser.Stop.TheVariants as stops
 use Rattle.c_grammar.specs.inner.Readers.{sunk, past, Fault, stop, got, Reads, Sort, sort, refused, choice, too_deep}
 use Rattle.c_grammar.specs.inner.Tokens.{begins_type, begins_simple}
 use Rattle.c_grammar.specs.inner.Reading.{declaration, simply, begins_stmt, StmtStart, stmt_start, stmt_by, stmt_at, param, param_behind}
 use Rattle.c_parse.specs.inner.Parts.{declaration_by, simple_by, param_dims, param_by}
-use Rattle.c_parse.specs.inner.Moves.{Fails, Moves, peek}
-use Rattle.c_parse.proofs.CodeLoops.{chooses}
+use Rattle.parse_expressions.specs.inner.Moves.{Fails, Moves, peek}
+use Rattle.parse_expressions.proofs.CodeLoops.{chooses}
 
 before : (n : ℕ) → suc n - 1 ≡ n
 before n = omega arith

@@ -1,8 +1,3 @@
-pub mod CodeLoops
-pub mod CodeChoices
-pub mod CodeLists
-pub mod CodeLevels
-pub mod CodeReads
 pub mod CodeStatements
 pub mod CodeRows
 pub mod CodeVariables

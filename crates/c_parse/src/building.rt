@@ -1,57 +1,20 @@
-//! Trees in boxes.
+//! Trees of statements and declarations.
 
-ghost use Rattle.std.specs.Prelude.{◌≡◌, [], ◌∷◌, map};
+ghost use Rattle.std.specs.Prelude.{◌≡◌};
 ghost use Rattle.std.specs.Option.{option_map};
 ghost use Rattle.c_tree.specs.Syntax as trees;
-ghost use Rattle.c_tree.specs.SyntaxViews.{expr_view, boxed_expr_view, type_name_view, spec_view, declarator_view, member_view, declaration_view, param_dim_view, simple_view, for_first_view, stmt_view, boxed_stmt_view};
+ghost use Rattle.c_tree.specs.SyntaxViews.{boxed_expr_view, expr_view, declarator_view, declaration_view, simple_view, for_first_view, stmt_view, boxed_stmt_view};
 ghost use Rattle.c_grammar.specs.inner.Reading.{if_by};
-ghost use Rattle.c_parse.specs.inner.Moves.{Makes, Puts};
+ghost use Rattle.parse_expressions.specs.inner.Moves.{Makes};
 ghost use Rattle.c_parse.specs.inner.Boxes.{boxed_simple_view, boxed_first_view, boxed_initialised_view, boxed_param_dim_view};
 
-use crate::parser::Stop;
 use c_tree::syntax::{
-    AssignOp, BinaryOp, Declaration, Declarator, Expr, ForFirst, InitDeclarator, Member, Name,
-    ParamDim, Pointer, PrefixOp, Simple, Spec, StepOp, Stmt, TypeName,
+    AssignOp, Declaration, Declarator, Expr, ForFirst, InitDeclarator, ParamDim, Simple, StepOp,
+    Stmt,
 };
+use parse_expressions::boxes::boxed;
+use parse_expressions::parser::Stop;
 use std::alloc::Global;
-
-/// A value in a box.
-fn boxed<T: Drop>(alloc: Global, value: T) -> Result<Box<T>, Stop>
-    ensures { Makes (λ b. b.value) value result }
-{
-    Ok(Box::new(alloc, value)?)
-}
-
-/// A list of one value.
-pub fn one<T: Drop>(alloc: Global, value: T) -> Result<Vec<T>, Stop>
-    ensures { Makes (λ all. all.items) (value ∷ []) result }
-{
-    let mut all = Vec::new(alloc);
-    all.push(value)?;
-    Ok(all)
-}
-
-/// One more value at the end of a list.
-pub fn put<T: Drop>(all: &mut Vec<T>, value: T) -> Result<(), Stop>
-    ensures { Puts value all.old.items all.new.items result }
-{
-    all.push(value)?;
-    Ok(())
-}
-
-/// One more value at the end of a list, which was in a box.
-pub fn put_inner<T: Drop>(all: &mut Vec<T>, value: Box<T>) -> Result<(), Stop>
-    ensures { Puts value.value all.old.items all.new.items result }
-{
-    put(all, Box::into_inner(value))
-}
-
-/// An expression in a box.
-pub fn boxed_expr(alloc: Global, expr: Expr) -> Result<Box<Expr>, Stop>
-    ensures { Makes boxed_expr_view (expr_view expr) result }
-{
-    boxed(alloc, expr)
-}
 
 /// The expression in the box, if there is one.
 pub fn unboxed(expr: Option<Box<Expr>>) -> Option<Expr>
@@ -98,135 +61,6 @@ pub fn boxed_stmt(alloc: Global, stmt: Stmt) -> Result<Box<Stmt>, Stop>
     ensures { Makes boxed_stmt_view (stmt_view stmt) result }
 {
     boxed(alloc, stmt)
-}
-
-/// `"(" expr ")"`
-pub fn group(alloc: Global, inside: Box<Expr>) -> Result<Box<Expr>, Stop>
-    ensures { Makes boxed_expr_view (trees.group (boxed_expr_view inside)) result }
-{
-    boxed_expr(alloc, Expr::Group(inside))
-}
-
-/// `specs ptr`
-pub fn type_name_of(specs: Vec<Spec>, pointers: Vec<Pointer>) -> TypeName
-    ensures { type_name_view result ≡ trees.type_name (trees.specs_of (map spec_view specs.items)) pointers.items }
-{
-    TypeName { specs, pointers }
-}
-
-/// `specs ptr NAME dims { "," ptr NAME dims } ";"`
-pub fn member_of(specs: Vec<Spec>, declarators: Vec<Declarator>) -> Member
-    ensures { member_view result ≡ trees.members_of (trees.specs_of (map spec_view specs.items)) (trees.declarators_of (map declarator_view declarators.items)) }
-{
-    Member { specs, declarators }
-}
-
-/// A prefix operator and its operand.
-pub fn prefixed(
-    alloc: Global,
-    place: u32,
-    op: PrefixOp,
-    operand: Box<Expr>,
-) -> Result<Box<Expr>, Stop>
-    ensures { Makes boxed_expr_view (trees.prefix place op (boxed_expr_view operand)) result }
-{
-    boxed_expr(alloc, Expr::Prefix { place, op, operand })
-}
-
-/// `sizeof` and its operand.
-pub fn sizeof_expr(alloc: Global, place: u32, operand: Box<Expr>) -> Result<Box<Expr>, Stop>
-    ensures { Makes boxed_expr_view (trees.sizeof_expr place (boxed_expr_view operand)) result }
-{
-    boxed_expr(alloc, Expr::SizeofExpr { place, operand })
-}
-
-/// A cast and its operand.
-pub fn cast(alloc: Global, place: u32, to: TypeName, operand: Box<Expr>) -> Result<Box<Expr>, Stop>
-    ensures { Makes boxed_expr_view (trees.cast place (type_name_view to) (boxed_expr_view operand)) result }
-{
-    boxed_expr(alloc, Expr::Cast { place, to, operand })
-}
-
-/// `postfix "[" expr "]"`
-pub fn index(
-    alloc: Global,
-    place: u32,
-    base: Box<Expr>,
-    index: Box<Expr>,
-) -> Result<Box<Expr>, Stop>
-    ensures { Makes boxed_expr_view (trees.index place (boxed_expr_view base) (boxed_expr_view index)) result }
-{
-    boxed_expr(alloc, Expr::Index { place, base, index })
-}
-
-/// `postfix "." NAME`
-pub fn member(alloc: Global, place: u32, base: Box<Expr>, member: Name) -> Result<Box<Expr>, Stop>
-    ensures { Makes boxed_expr_view (trees.member place (boxed_expr_view base) member) result }
-{
-    boxed_expr(
-        alloc,
-        Expr::Member {
-            place,
-            base,
-            member,
-        },
-    )
-}
-
-/// `postfix "->" NAME`
-pub fn arrow(alloc: Global, place: u32, base: Box<Expr>, member: Name) -> Result<Box<Expr>, Stop>
-    ensures { Makes boxed_expr_view (trees.arrow place (boxed_expr_view base) member) result }
-{
-    boxed_expr(
-        alloc,
-        Expr::Arrow {
-            place,
-            base,
-            member,
-        },
-    )
-}
-
-/// A binary operator and its operands.
-pub fn binary(
-    alloc: Global,
-    place: u32,
-    op: BinaryOp,
-    left: Box<Expr>,
-    right: Box<Expr>,
-) -> Result<Box<Expr>, Stop>
-    ensures { Makes boxed_expr_view (trees.binary place op (boxed_expr_view left) (boxed_expr_view right)) result }
-{
-    boxed_expr(
-        alloc,
-        Expr::Binary {
-            place,
-            op,
-            left,
-            right,
-        },
-    )
-}
-
-/// `or "?" expr ":" expr`
-pub fn conditional(
-    alloc: Global,
-    place: u32,
-    condition: Box<Expr>,
-    then: Box<Expr>,
-    otherwise: Box<Expr>,
-) -> Result<Box<Expr>, Stop>
-    ensures { Makes boxed_expr_view (trees.conditional place (boxed_expr_view condition) (boxed_expr_view then) (boxed_expr_view otherwise)) result }
-{
-    boxed_expr(
-        alloc,
-        Expr::Conditional {
-            place,
-            condition,
-            then,
-            otherwise,
-        },
-    )
 }
 
 /// A simple statement in a box.

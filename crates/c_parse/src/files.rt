@@ -4,15 +4,26 @@ ghost use Rattle.std.specs.Prelude.{◌≡◌, ℕ, ◌+◌, ◌^◌, ◌<◌, [
 ghost use Rattle.std.specs.Option.{option_map};
 ghost use Rattle.c_tree.specs.SyntaxViews.{spec_view, param_dim_view, param_view, body_view, rest_view, external_view, view};
 ghost use Rattle.c_parse.specs.inner.Boxes.{boxed_initialised_view, boxed_param_dim_view};
+ghost use Rattle.parse_expressions.specs.inner.Moves.{Moves, Takes, Keeps};
+ghost use Rattle.c_grammar.specs.inner.Readers.{maybe};
+ghost use Rattle.c_grammar.specs.inner.Tokens.{tok, name_of};
+ghost use Rattle.c_grammar.specs.inner.Reading.{is_name, param_dim, param, params, body, variable_rest, named_rest, external_rest, external, file};
+ghost use Rattle.c_parse.specs.inner.Parts.{param_dims, next_param, param_row, maybe_params, storage_row, first_variable, function_rest, declared_rest, external_row, whole_file};
 
-use crate::building::{initialised, one, param_dim, put, put_inner};
-use crate::parser::{Parser, Stop};
-use crate::pointers::stars;
+use crate::building;
+use crate::building::initialised;
+use crate::declarations::{initialiser, more_initialised};
+use crate::parts::maybe_expr;
+use crate::starts::is_external_next;
+use crate::statements::block;
 use c_lex::Mark;
 use c_tree::syntax::{
     Block, Declarator, External, InitDeclarator, Name, Param, ParamDim, Pointer, Program, Rest,
     Storage,
 };
+use parse_expressions::boxes::{one, put, put_inner};
+use parse_expressions::parser::{Parser, Stop};
+use parse_expressions::pointers::stars;
 
 /// The room at file scope: a file is of level 0, and 128 levels may lie in it.
 const FILE: u32 = 129;
@@ -22,285 +33,273 @@ const INNER: u32 = 128;
 const INMOST: u32 = 127;
 
 // Parameters (C11 6.7.6.3).
-impl Parser<'_> {
-    ghost use Rattle.c_parse.specs.inner.Moves.{Moves, Takes, Keeps};
-    ghost use Rattle.c_grammar.specs.inner.Readers.{maybe};
-    ghost use Rattle.c_grammar.specs.inner.Tokens.{tok, name_of};
-    ghost use Rattle.c_grammar.specs.inner.Reading.{is_name, param_dim, param, params};
-    ghost use Rattle.c_parse.specs.inner.Parts.{param_dims, next_param, param_row, maybe_params};
 
-    /// `"[" [ expr ] "]"`, behind so many stars and dimensions
-    #[tactic(auto, unfolding(c_grammar::specs::inner::Reading::param_dim))]
-    fn param_dim(&mut self, before: usize) -> Result<Box<ParamDim>, Stop>
-        ensures reads { Moves boxed_param_dim_view (param_dim 127 before) self.old self.new result }
-        ensures takes { Takes self.old self.new result }
-    {
-        let place = self.place_of_dimension(Mark::OpenBracket, before, INMOST)?;
-        let size = self.maybe_expr(INMOST)?;
-        self.expected(Mark::CloseBracket, INMOST)?;
-        param_dim(self.alloc, place, size)
-    }
+/// `"[" [ expr ] "]"`, behind so many stars and dimensions
+#[tactic(auto, unfolding(c_grammar::specs::inner::Reading::param_dim))]
+fn param_dim(parser: &mut Parser<'_>, before: usize) -> Result<Box<ParamDim>, Stop>
+    ensures reads { Moves boxed_param_dim_view (param_dim 127 before) parser.old parser.new result }
+    ensures takes { Takes parser.old parser.new result }
+{
+    let place = parser.place_of_dimension(Mark::OpenBracket, before, INMOST)?;
+    let size = maybe_expr(parser, INMOST)?;
+    parser.expected(Mark::CloseBracket, INMOST)?;
+    building::param_dim(parser.alloc, place, size)
+}
 
-    /// `{ "[" [ expr ] "]" }`, behind so many stars
-    #[tactic(auto, using(crate::proofs::CodeLoops::chooses, crate::proofs::CodeLoops::choice_fails), unfolding(c_grammar::specs::inner::Readers::turns, crate::specs::inner::Parts::param_dims))]
-    fn param_dims(&mut self, before: usize) -> Result<Vec<ParamDim>, Stop>
-        requires { before < 2 ^ 63 }
-        ensures reads { Moves (λ all. map param_dim_view all.items) (param_dims 127 before) self.old self.new result }
-        ensures keeps { Keeps self.old self.new result }
-    {
-        let mut all = Vec::new(self.alloc);
-        'dims: while self.is_next(Mark::OpenBracket)? {
-            let dim = self.param_dim(before + all.len())?;
-            put_inner(&mut all, dim)?;
-        }
-        Ok(all)
+/// `{ "[" [ expr ] "]" }`, behind so many stars
+#[tactic(auto, using(parse_expressions::proofs::CodeLoops::chooses, parse_expressions::proofs::CodeLoops::choice_fails), unfolding(c_grammar::specs::inner::Readers::turns, crate::specs::inner::Parts::param_dims))]
+fn param_dims(parser: &mut Parser<'_>, before: usize) -> Result<Vec<ParamDim>, Stop>
+    requires { before < 2 ^ 63 }
+    ensures reads { Moves (λ all. map param_dim_view all.items) (param_dims 127 before) parser.old parser.new result }
+    ensures keeps { Keeps parser.old parser.new result }
+{
+    let mut all = Vec::new(parser.alloc);
+    'dims: while parser.is_next(Mark::OpenBracket)? {
+        let dim = param_dim(parser, before + all.len())?;
+        put_inner(&mut all, dim)?;
     }
+    Ok(all)
+}
 
-    /// `[ NAME ]`
-    #[tactic(auto, using(crate::proofs::CodeLoops::chooses, crate::proofs::CodeLoops::choice_fails))]
-    fn maybe_name(&mut self, room: u32) -> Result<Option<Name>, Stop>
-        ensures reads { Moves (λ a. a) (maybe is_name (tok room name_of)) self.old self.new result }
-        ensures keeps { Keeps self.old self.new result }
-    {
-        if !self.is_name_next()? {
-            return Ok(None);
-        }
-        let name = self.name(room)?;
-        Ok(Some(name))
+/// `[ NAME ]`
+#[tactic(auto, using(parse_expressions::proofs::CodeLoops::chooses, parse_expressions::proofs::CodeLoops::choice_fails))]
+fn maybe_name(parser: &mut Parser<'_>, room: u32) -> Result<Option<Name>, Stop>
+    ensures reads { Moves (λ a. a) (maybe is_name (tok room name_of)) parser.old parser.new result }
+    ensures keeps { Keeps parser.old parser.new result }
+{
+    if !parser.is_name_next()? {
+        return Ok(None);
     }
+    let name = parser.name(room)?;
+    Ok(Some(name))
+}
 
-    /// `param`
-    #[tactic(auto, using(crate::proofs::CodeStatements::param_is, crate::proofs::CodeLists::stars_few))]
-    fn param(&mut self) -> Result<Param, Stop>
-        ensures reads { Moves param_view (param 128 127) self.old self.new result }
-        ensures takes { Takes self.old self.new result }
-    {
-        let specs = self.specs(INNER, false)?;
-        let pointers = self.bare_pointers(INNER)?;
-        let name = self.maybe_name(INNER)?;
-        let before = stars(&pointers);
-        let dims = self.param_dims(before)?;
-        Ok(Param {
-            specs,
-            pointers,
-            name,
-            dims,
-        })
-    }
+/// `param`
+#[tactic(auto, using(crate::proofs::CodeStatements::param_is, parse_expressions::proofs::CodeLists::stars_few))]
+fn param(parser: &mut Parser<'_>) -> Result<Param, Stop>
+    ensures reads { Moves param_view (param 128 127) parser.old parser.new result }
+    ensures takes { Takes parser.old parser.new result }
+{
+    let specs = parser.specs(INNER, false)?;
+    let pointers = parser.bare_pointers(INNER)?;
+    let name = maybe_name(parser, INNER)?;
+    let before = stars(&pointers);
+    let dims = param_dims(parser, before)?;
+    Ok(Param {
+        specs,
+        pointers,
+        name,
+        dims,
+    })
+}
 
-    /// `"," param`
-    fn next_param(&mut self) -> Result<Param, Stop>
-        ensures reads { Moves param_view next_param self.old self.new result }
-        ensures takes { Takes self.old self.new result }
-    {
-        self.expected(Mark::Comma, INNER)?;
-        self.param()
-    }
+/// `"," param`
+fn next_param(parser: &mut Parser<'_>) -> Result<Param, Stop>
+    ensures reads { Moves param_view next_param parser.old parser.new result }
+    ensures takes { Takes parser.old parser.new result }
+{
+    parser.expected(Mark::Comma, INNER)?;
+    param(parser)
+}
 
-    /// `param { "," param }`
-    #[tactic(auto, using(crate::proofs::CodeLoops::chooses, crate::proofs::CodeLoops::choice_fails), unfolding(c_grammar::specs::inner::Readers::turns))]
-    fn param_row(&mut self) -> Result<Vec<Param>, Stop>
-        ensures reads { Moves (λ all. map param_view all.items) param_row self.old self.new result }
-        ensures takes { Takes self.old self.new result }
-    {
-        let first = self.param()?;
-        let mut all = one(self.alloc, first)?;
-        'params: while self.is_next(Mark::Comma)? {
-            let next = self.next_param()?;
-            put(&mut all, next)?;
-        }
-        Ok(all)
+/// `param { "," param }`
+#[tactic(auto, using(parse_expressions::proofs::CodeLoops::chooses, parse_expressions::proofs::CodeLoops::choice_fails), unfolding(c_grammar::specs::inner::Readers::turns))]
+fn param_row(parser: &mut Parser<'_>) -> Result<Vec<Param>, Stop>
+    ensures reads { Moves (λ all. map param_view all.items) param_row parser.old parser.new result }
+    ensures takes { Takes parser.old parser.new result }
+{
+    let first = param(parser)?;
+    let mut all = one(parser.alloc, first)?;
+    'params: while parser.is_next(Mark::Comma)? {
+        let next = next_param(parser)?;
+        put(&mut all, next)?;
     }
+    Ok(all)
+}
 
-    /// `[ params ]`
-    #[tactic(auto, using(crate::proofs::CodeLoops::chooses, crate::proofs::CodeLoops::choice_fails))]
-    fn maybe_params(&mut self) -> Result<Vec<Param>, Stop>
-        ensures reads { Moves (λ all. map param_view all.items) maybe_params self.old self.new result }
-        ensures keeps { Keeps self.old self.new result }
-    {
-        if !self.is_type_next()? {
-            return Ok(Vec::new(self.alloc));
-        }
-        self.param_row()
+/// `[ params ]`
+#[tactic(auto, using(parse_expressions::proofs::CodeLoops::chooses, parse_expressions::proofs::CodeLoops::choice_fails))]
+fn maybe_params(parser: &mut Parser<'_>) -> Result<Vec<Param>, Stop>
+    ensures reads { Moves (λ all. map param_view all.items) maybe_params parser.old parser.new result }
+    ensures keeps { Keeps parser.old parser.new result }
+{
+    if !parser.is_type_next()? {
+        return Ok(Vec::new(parser.alloc));
     }
+    param_row(parser)
+}
 
-    /// `"(" [ params ] ")"`
-    #[tactic(auto, unfolding(c_grammar::specs::inner::Reading::params))]
-    fn params(&mut self) -> Result<Vec<Param>, Stop>
-        ensures reads { Moves (λ all. map param_view all.items) params self.old self.new result }
-        ensures takes { Takes self.old self.new result }
-    {
-        self.expected(Mark::OpenParen, INNER)?;
-        let all = self.maybe_params()?;
-        self.expected(Mark::CloseParen, INNER)?;
-        Ok(all)
-    }
+/// `"(" [ params ] ")"`
+#[tactic(auto, unfolding(c_grammar::specs::inner::Reading::params))]
+fn params(parser: &mut Parser<'_>) -> Result<Vec<Param>, Stop>
+    ensures reads { Moves (λ all. map param_view all.items) params parser.old parser.new result }
+    ensures takes { Takes parser.old parser.new result }
+{
+    parser.expected(Mark::OpenParen, INNER)?;
+    let all = maybe_params(parser)?;
+    parser.expected(Mark::CloseParen, INNER)?;
+    Ok(all)
 }
 
 // External declarations.
-impl Parser<'_> {
-    ghost use Rattle.c_parse.specs.inner.Moves.{Moves, Takes, Keeps};
-    ghost use Rattle.c_grammar.specs.inner.Reading.{params, body, variable_rest, named_rest, external_rest, external, file};
-    ghost use Rattle.c_parse.specs.inner.Parts.{storage_row, first_variable, function_rest, declared_rest, external_row, whole_file};
 
-    /// `body | ";"`
-    #[tactic(auto, unfolding(c_grammar::specs::inner::Reading::body), using(crate::proofs::CodeLoops::chooses, crate::proofs::CodeLoops::choice_fails))]
-    fn body(&mut self) -> Result<Option<Block>, Stop>
-        ensures reads { Moves (option_map body_view) body self.old self.new result }
-        ensures takes { Takes self.old self.new result }
-    {
-        if !self.is_next(Mark::OpenBrace)? {
-            self.expected(Mark::Semicolon, FILE)?;
-            return Ok(None);
-        }
-        let block = self.block(INNER)?;
-        Ok(Some(block))
+/// `body | ";"`
+#[tactic(auto, unfolding(c_grammar::specs::inner::Reading::body), using(parse_expressions::proofs::CodeLoops::chooses, parse_expressions::proofs::CodeLoops::choice_fails))]
+fn body(parser: &mut Parser<'_>) -> Result<Option<Block>, Stop>
+    ensures reads { Moves (option_map body_view) body parser.old parser.new result }
+    ensures takes { Takes parser.old parser.new result }
+{
+    if !parser.is_next(Mark::OpenBrace)? {
+        parser.expected(Mark::Semicolon, FILE)?;
+        return Ok(None);
     }
+    let block = block(parser, INNER)?;
+    Ok(Some(block))
+}
 
-    /// `"(" [ params ] ")" ( body | ";" )`, behind the name.
-    fn function_rest(&mut self, pointers: Vec<Pointer>, name: Name) -> Result<Rest, Stop>
-        ensures reads { Moves rest_view (function_rest pointers.items name) self.old self.new result }
-        ensures takes { Takes self.old self.new result }
-    {
-        let params = self.params()?;
-        let body = self.body()?;
-        Ok(Rest::Function {
-            pointers,
-            name,
-            params,
-            body,
-        })
+/// `"(" [ params ] ")" ( body | ";" )`, behind the name.
+fn function_rest(parser: &mut Parser<'_>, pointers: Vec<Pointer>, name: Name) -> Result<Rest, Stop>
+    ensures reads { Moves rest_view (function_rest pointers.items name) parser.old parser.new result }
+    ensures takes { Takes parser.old parser.new result }
+{
+    let params = params(parser)?;
+    let body = body(parser)?;
+    Ok(Rest::Function {
+        pointers,
+        name,
+        params,
+        body,
+    })
+}
+
+/// `dims [ "=" expr ]`, behind the name.
+fn first_variable(
+    parser: &mut Parser<'_>,
+    pointers: Vec<Pointer>,
+    name: Name,
+) -> Result<Box<InitDeclarator>, Stop>
+    ensures reads { Moves boxed_initialised_view (first_variable pointers.items name) parser.old parser.new result }
+    ensures keeps { Keeps parser.old parser.new result }
+{
+    let before = stars(&pointers);
+    let dims = parser.dims(before, FILE, true)?;
+    let value = initialiser(parser, FILE, true)?;
+    let declarator = Declarator {
+        pointers,
+        name,
+        dims,
+    };
+    initialised(parser.alloc, declarator, value)
+}
+
+/// `dims rest`, behind the name.
+#[tactic(auto, using(crate::proofs::CodeVariables::variable_is))]
+fn variable_rest(parser: &mut Parser<'_>, pointers: Vec<Pointer>, name: Name) -> Result<Rest, Stop>
+    ensures reads { Moves rest_view (variable_rest pointers.items name) parser.old parser.new result }
+    ensures takes { Takes parser.old parser.new result }
+{
+    let first = first_variable(parser, pointers, name)?;
+    let declarators = more_initialised(parser, first, FILE, true)?;
+    parser.expected(Mark::Semicolon, FILE)?;
+    Ok(Rest::Variables(declarators))
+}
+
+/// What is behind the name at file scope.
+#[tactic(auto, unfolding(c_grammar::specs::inner::Reading::named_rest), using(parse_expressions::proofs::CodeLoops::chooses, parse_expressions::proofs::CodeLoops::choice_fails))]
+fn named_rest(parser: &mut Parser<'_>, pointers: Vec<Pointer>, name: Name) -> Result<Rest, Stop>
+    ensures reads { Moves rest_view (named_rest pointers.items name) parser.old parser.new result }
+    ensures takes { Takes parser.old parser.new result }
+{
+    if parser.is_next(Mark::OpenParen)? {
+        return function_rest(parser, pointers, name);
     }
+    variable_rest(parser, pointers, name)
+}
 
-    /// `dims [ "=" expr ]`, behind the name.
-    fn first_variable(
-        &mut self,
-        pointers: Vec<Pointer>,
-        name: Name,
-    ) -> Result<Box<InitDeclarator>, Stop>
-        ensures reads { Moves boxed_initialised_view (first_variable pointers.items name) self.old self.new result }
-        ensures keeps { Keeps self.old self.new result }
-    {
-        let before = stars(&pointers);
-        let dims = self.dims(before, FILE, true)?;
-        let value = self.initialiser(FILE, true)?;
-        let declarator = Declarator {
-            pointers,
-            name,
-            dims,
-        };
-        initialised(self.alloc, declarator, value)
+/// `ptr NAME ( "(" [ params ] ")" ( body | ";" ) | dims rest )`
+fn declared_rest(parser: &mut Parser<'_>) -> Result<Rest, Stop>
+    ensures reads { Moves rest_view declared_rest parser.old parser.new result }
+    ensures takes { Takes parser.old parser.new result }
+{
+    let pointers = parser.bare_pointers(FILE)?;
+    let name = parser.name(FILE)?;
+    named_rest(parser, pointers, name)
+}
+
+/// What is behind the specifiers at file scope.
+#[tactic(auto, unfolding(c_grammar::specs::inner::Reading::external_rest), using(parse_expressions::proofs::CodeLoops::chooses, parse_expressions::proofs::CodeLoops::choice_fails))]
+fn external_rest(parser: &mut Parser<'_>) -> Result<Rest, Stop>
+    ensures reads { Moves rest_view external_rest parser.old parser.new result }
+    ensures takes { Takes parser.old parser.new result }
+{
+    if !parser.is_next(Mark::Semicolon)? {
+        return declared_rest(parser);
     }
+    parser.expected(Mark::Semicolon, FILE)?;
+    Ok(Rest::Nothing)
+}
 
-    /// `dims rest`, behind the name.
-    #[tactic(auto, using(crate::proofs::CodeVariables::variable_is))]
-    fn variable_rest(&mut self, pointers: Vec<Pointer>, name: Name) -> Result<Rest, Stop>
-        ensures reads { Moves rest_view (variable_rest pointers.items name) self.old self.new result }
-        ensures takes { Takes self.old self.new result }
-    {
-        let first = self.first_variable(pointers, name)?;
-        let declarators = self.more_initialised(first, FILE, true)?;
-        self.expected(Mark::Semicolon, FILE)?;
-        Ok(Rest::Variables(declarators))
+/// `{ "static" | "inline" }`
+#[tactic(auto, using(parse_expressions::proofs::CodeLoops::chooses, parse_expressions::proofs::CodeLoops::choice_fails), unfolding(c_grammar::specs::inner::Readers::turns))]
+fn storage_row(parser: &mut Parser<'_>) -> Result<Vec<Storage>, Stop>
+    ensures reads { Moves (λ all. all.items) storage_row parser.old parser.new result }
+    ensures keeps { Keeps parser.old parser.new result }
+{
+    let mut all = Vec::new(parser.alloc);
+    'storages: while parser.is_storage_next()? {
+        let storage = parser.storage(FILE)?;
+        put(&mut all, storage)?;
     }
+    Ok(all)
+}
 
-    /// What is behind the name at file scope.
-    #[tactic(auto, unfolding(c_grammar::specs::inner::Reading::named_rest), using(crate::proofs::CodeLoops::chooses, crate::proofs::CodeLoops::choice_fails))]
-    fn named_rest(&mut self, pointers: Vec<Pointer>, name: Name) -> Result<Rest, Stop>
-        ensures reads { Moves rest_view (named_rest pointers.items name) self.old self.new result }
-        ensures takes { Takes self.old self.new result }
-    {
-        if self.is_next(Mark::OpenParen)? {
-            return self.function_rest(pointers, name);
-        }
-        self.variable_rest(pointers, name)
+/// `external`
+#[tactic(auto, unfolding(c_grammar::specs::inner::Reading::external))]
+fn external(parser: &mut Parser<'_>) -> Result<External, Stop>
+    ensures reads { Moves external_view external parser.old parser.new result }
+    ensures takes { Takes parser.old parser.new result }
+{
+    let storage = storage_row(parser)?;
+    let specs = parser.specs(FILE, true)?;
+    let rest = external_rest(parser)?;
+    Ok(External {
+        storage,
+        specs,
+        rest,
+    })
+}
+
+/// `{ external }`
+#[tactic(auto, using(parse_expressions::proofs::CodeLoops::chooses, parse_expressions::proofs::CodeLoops::choice_fails), unfolding(c_grammar::specs::inner::Readers::turns))]
+fn external_row(parser: &mut Parser<'_>) -> Result<Vec<External>, Stop>
+    ensures reads { Moves (λ all. map external_view all.items) external_row parser.old parser.new result }
+    ensures keeps { Keeps parser.old parser.new result }
+{
+    let mut all = Vec::new(parser.alloc);
+    'externals: while is_external_next(parser)? {
+        let external = external(parser)?;
+        put(&mut all, external)?;
     }
+    Ok(all)
+}
 
-    /// `ptr NAME ( "(" [ params ] ")" ( body | ";" ) | dims rest )`
-    fn declared_rest(&mut self) -> Result<Rest, Stop>
-        ensures reads { Moves rest_view declared_rest self.old self.new result }
-        ensures takes { Takes self.old self.new result }
-    {
-        let pointers = self.bare_pointers(FILE)?;
-        let name = self.name(FILE)?;
-        self.named_rest(pointers, name)
-    }
+/// `file`
+#[tactic(auto, unfolding(c_grammar::specs::inner::Reading::file))]
+fn file(parser: &mut Parser<'_>) -> Result<Program, Stop>
+    ensures { Moves view file parser.old parser.new result }
+{
+    let externals = external_row(parser)?;
+    parser.end(FILE)?;
+    Ok(Program { externals })
+}
 
-    /// What is behind the specifiers at file scope.
-    #[tactic(auto, unfolding(c_grammar::specs::inner::Reading::external_rest), using(crate::proofs::CodeLoops::chooses, crate::proofs::CodeLoops::choice_fails))]
-    fn external_rest(&mut self) -> Result<Rest, Stop>
-        ensures reads { Moves rest_view external_rest self.old self.new result }
-        ensures takes { Takes self.old self.new result }
-    {
-        if !self.is_next(Mark::Semicolon)? {
-            return self.declared_rest();
-        }
-        self.expected(Mark::Semicolon, FILE)?;
-        Ok(Rest::Nothing)
-    }
-
-    /// `{ "static" | "inline" }`
-    #[tactic(auto, using(crate::proofs::CodeLoops::chooses, crate::proofs::CodeLoops::choice_fails), unfolding(c_grammar::specs::inner::Readers::turns))]
-    fn storage_row(&mut self) -> Result<Vec<Storage>, Stop>
-        ensures reads { Moves (λ all. all.items) storage_row self.old self.new result }
-        ensures keeps { Keeps self.old self.new result }
-    {
-        let mut all = Vec::new(self.alloc);
-        'storages: while self.is_storage_next()? {
-            let storage = self.storage(FILE)?;
-            put(&mut all, storage)?;
-        }
-        Ok(all)
-    }
-
-    /// `external`
-    #[tactic(auto, unfolding(c_grammar::specs::inner::Reading::external))]
-    fn external(&mut self) -> Result<External, Stop>
-        ensures reads { Moves external_view external self.old self.new result }
-        ensures takes { Takes self.old self.new result }
-    {
-        let storage = self.storage_row()?;
-        let specs = self.specs(FILE, true)?;
-        let rest = self.external_rest()?;
-        Ok(External {
-            storage,
-            specs,
-            rest,
-        })
-    }
-
-    /// `{ external }`
-    #[tactic(auto, using(crate::proofs::CodeLoops::chooses, crate::proofs::CodeLoops::choice_fails), unfolding(c_grammar::specs::inner::Readers::turns))]
-    fn external_row(&mut self) -> Result<Vec<External>, Stop>
-        ensures reads { Moves (λ all. map external_view all.items) external_row self.old self.new result }
-        ensures keeps { Keeps self.old self.new result }
-    {
-        let mut all = Vec::new(self.alloc);
-        'externals: while self.is_external_next()? {
-            let external = self.external()?;
-            put(&mut all, external)?;
-        }
-        Ok(all)
-    }
-
-    /// `file`
-    #[tactic(auto, unfolding(c_grammar::specs::inner::Reading::file))]
-    fn file(&mut self) -> Result<Program, Stop>
-        ensures { Moves view file self.old self.new result }
-    {
-        let externals = self.external_row()?;
-        self.end(FILE)?;
-        Ok(Program { externals })
-    }
-
-    /// `file`, and nothing behind it.
-    pub fn whole_file(&mut self) -> Result<Program, Stop>
-        ensures { Moves view whole_file self.old self.new result }
-    {
-        let program = self.file()?;
-        match self.rest {
-            [] => Ok(program),
-            _ => Err(self.unexpected()),
-        }
+/// `file`, and nothing behind it.
+pub fn whole_file(parser: &mut Parser<'_>) -> Result<Program, Stop>
+    ensures { Moves view whole_file parser.old parser.new result }
+{
+    let program = file(parser)?;
+    match parser.rest {
+        [] => Ok(program),
+        _ => Err(parser.unexpected()),
     }
 }

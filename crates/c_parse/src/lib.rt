@@ -1,22 +1,14 @@
-//! The parser of the whole language.
+//! The parser of the whole language: statements, declarations and files.
 //! Promises upward: the one file that the tokens of a text are, or the first refusal.
-//! Stands on c_grammar's definition, c_lex's tokens and c_tree's trees.
+//! Stands on c_grammar's definition, c_lex's tokens, c_tree's trees and parse_expressions.
 #![tactic(auto)]
 
 mod building;
-mod classes;
 mod declarations;
-mod expressions;
 mod files;
-mod heads;
-mod parser;
 mod parts;
-mod peeking;
-mod pointers;
-mod reading_tokens;
 mod starts;
 mod statements;
-mod types;
 mod whole;
 
 pub use whole::parse;

@@ -3,37 +3,34 @@
 ghost use Rattle.std.specs.Prelude.{◌≡◌, false, IfOk};
 ghost use Rattle.std.specs.Option.{option_map};
 ghost use Rattle.c_tree.specs.SyntaxViews.{boxed_expr_view};
+ghost use Rattle.parse_expressions.specs.inner.Moves.{Moves, Takes, Keeps};
+ghost use Rattle.c_grammar.specs.inner.Readers.{full, maybe};
+ghost use Rattle.c_grammar.specs.inner.Tokens.{tok, mark_is, begins_expr};
+ghost use Rattle.c_grammar.specs.inner.Reading.{level_at};
 
-use crate::parser::{Parser, Stop};
 use c_lex::Mark;
 use c_tree::syntax::Expr;
+use parse_expressions::parser::{Parser, Stop};
 
-impl Parser<'_> {
-    ghost use Rattle.c_parse.specs.inner.Moves.{Moves, Takes, Keeps};
-    ghost use Rattle.c_grammar.specs.inner.Readers.{full, maybe};
-    ghost use Rattle.c_grammar.specs.inner.Tokens.{tok, mark_is, begins_expr};
-    ghost use Rattle.c_grammar.specs.inner.Reading.{level_at};
+/// A mark behind what was read.
+pub fn marked<T: Drop>(parser: &mut Parser<'_>, value: T, mark: Mark, room: u32) -> Result<T, Stop>
+    ensures reads { Moves (λ _. tt) (tok room (mark_is mark)) parser.old parser.new result }
+    ensures takes { Takes parser.old parser.new result }
+    ensures same { IfOk result (λ v. v ≡ value) }
+{
+    parser.expected(mark, room)?;
+    Ok(value)
+}
 
-    /// A mark behind what was read.
-    pub fn marked<T: Drop>(&mut self, value: T, mark: Mark, room: u32) -> Result<T, Stop>
-        ensures reads { Moves (λ _. tt) (tok room (mark_is mark)) self.old self.new result }
-        ensures takes { Takes self.old self.new result }
-        ensures same { IfOk result (λ v. v ≡ value) }
-    {
-        self.expected(mark, room)?;
-        Ok(value)
+/// `[ expr ]`
+#[tactic(auto, using(parse_expressions::proofs::CodeLoops::chooses, parse_expressions::proofs::CodeLoops::choice_fails))]
+pub fn maybe_expr(parser: &mut Parser<'_>, room: u32) -> Result<Option<Box<Expr>>, Stop>
+    ensures reads { Moves (option_map boxed_expr_view) (maybe begins_expr (full (level_at false room).expr)) parser.old parser.new result }
+    ensures keeps { Keeps parser.old parser.new result }
+{
+    if !parser.is_expr_next()? {
+        return Ok(None);
     }
-
-    /// `[ expr ]`
-    #[tactic(auto, using(crate::proofs::CodeLoops::chooses, crate::proofs::CodeLoops::choice_fails))]
-    pub fn maybe_expr(&mut self, room: u32) -> Result<Option<Box<Expr>>, Stop>
-        ensures reads { Moves (option_map boxed_expr_view) (maybe begins_expr (full (level_at false room).expr)) self.old self.new result }
-        ensures keeps { Keeps self.old self.new result }
-    {
-        if !self.is_expr_next()? {
-            return Ok(None);
-        }
-        let expr = self.full_expr(room, false)?;
-        Ok(Some(expr))
-    }
+    let expr = parser.full_expr(room, false)?;
+    Ok(Some(expr))
 }

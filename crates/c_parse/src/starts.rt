@@ -2,13 +2,15 @@
 
 ghost use Rattle.std.specs.Prelude.{◌≡◌};
 ghost use Rattle.std.specs.Option.{option_map};
-ghost use Rattle.c_grammar.specs.inner.Readers.{sort_of_kind};
-ghost use Rattle.c_grammar.specs.inner.Reading.{stmt_start};
-ghost use Rattle.c_parse.specs.inner.Parts.{stmt_start_view};
+ghost use Rattle.c_grammar.specs.inner.Readers.{sort_of_kind, too_deep};
+ghost use Rattle.c_grammar.specs.inner.Reading.{stmt_start, tail_start, begins_stmt, begins_item, begins_external};
+ghost use Rattle.c_parse.specs.inner.Parts.{stmt_start_view, tail_view};
+ghost use Rattle.parse_expressions.specs.inner.Moves.{Moves, Fails, peek, ahead};
+ghost use Rattle.c_grammar.specs.inner.Tokens.{begins_simple};
 
-use crate::classes::{assign_of, begins_simple, begins_type, step_of, storage_of};
-use crate::parser::{Parser, Stop};
 use c_lex::{Mark, TokenKind, Word};
+use parse_expressions::classes::{assign_of, begins_simple, begins_type, step_of, storage_of};
+use parse_expressions::parser::{Parser, Stop};
 
 /// What stands behind the expression of a simple statement.
 #[derive(Clone, Copy)]
@@ -51,79 +53,72 @@ pub fn stmt_of(kind: TokenKind) -> Option<StmtStart>
 }
 
 // The next token, which is left.
-impl Parser<'_> {
-    ghost use Rattle.c_parse.specs.inner.Moves.{Moves, Fails, peek, ahead};
-    ghost use Rattle.c_grammar.specs.inner.Readers.{too_deep};
-    ghost use Rattle.c_grammar.specs.inner.Tokens.{begins_simple};
-    ghost use Rattle.c_grammar.specs.inner.Reading.{tail_start, begins_stmt, begins_item, begins_external};
-    ghost use Rattle.c_parse.specs.inner.Parts.{tail_view};
 
-    /// What is next behind an expression, which is a postfix or not.
-    pub fn tail_start(&self, postfix: bool) -> Result<TailStart, Stop>
-        ensures { Moves tail_view (peek (tail_start postfix)) self.now self.now result }
-    {
-        let TokenKind::Mark(mark) = self.next()? else {
-            return Ok(TailStart::Nothing);
-        };
-        if assign_of(mark).is_some() {
-            return Ok(TailStart::Assign);
-        }
-        if step_of(mark).is_none() {
-            return Ok(TailStart::Nothing);
-        }
-        if !postfix {
-            return Err(self.unexpected());
-        }
-        Ok(TailStart::Step)
+/// What is next behind an expression, which is a postfix or not.
+pub fn tail_start(parser: &Parser<'_>, postfix: bool) -> Result<TailStart, Stop>
+    ensures { Moves tail_view (peek (tail_start postfix)) parser.now parser.now result }
+{
+    let TokenKind::Mark(mark) = parser.next()? else {
+        return Ok(TailStart::Nothing);
+    };
+    if assign_of(mark).is_some() {
+        return Ok(TailStart::Assign);
     }
-
-    /// Which statement is next.
-    pub fn stmt_start(&self) -> Result<StmtStart, Stop>
-        ensures { Moves stmt_start_view (peek stmt_start) self.now self.now result }
-    {
-        let kind = self.next()?;
-        match stmt_of(kind) {
-            Some(start) => Ok(start),
-            None => Err(self.unexpected()),
-        }
+    if step_of(mark).is_none() {
+        return Ok(TailStart::Nothing);
     }
-
-    /// Whether a declaration or a statement is next.
-    pub fn is_item_next(&self) -> Result<bool, Stop>
-        ensures { Moves (λ b. b) (ahead begins_item) self.now self.now result }
-    {
-        let kind = self.next()?;
-        Ok(begins_type(kind) || stmt_of(kind).is_some())
+    if !postfix {
+        return Err(parser.unexpected());
     }
+    Ok(TailStart::Step)
+}
 
-    /// Whether an external declaration is next.
-    pub fn is_external_next(&self) -> Result<bool, Stop>
-        ensures { Moves (λ b. b) (ahead begins_external) self.now self.now result }
-    {
-        let kind = self.next()?;
-        match kind {
-            TokenKind::Word(word) => Ok(storage_of(word).is_some() || begins_type(kind)),
-            _ => Ok(false),
-        }
+/// Which statement is next.
+pub fn stmt_start(parser: &Parser<'_>) -> Result<StmtStart, Stop>
+    ensures { Moves stmt_start_view (peek stmt_start) parser.now parser.now result }
+{
+    let kind = parser.next()?;
+    match stmt_of(kind) {
+        Some(start) => Ok(start),
+        None => Err(parser.unexpected()),
     }
+}
 
-    /// The refusal of a simple statement where no room is left.
-    pub fn no_room_for_simple(&self) -> Stop
-        ensures { Fails {A = Unit {0}} result (too_deep begins_simple self.now.count self.now.rest.now) }
-    {
-        match self.rest {
-            [token, ..] if begins_simple(token.kind) => self.too_deep(),
-            _ => self.sunk(),
-        }
+/// Whether a declaration or a statement is next.
+pub fn is_item_next(parser: &Parser<'_>) -> Result<bool, Stop>
+    ensures { Moves (λ b. b) (ahead begins_item) parser.now parser.now result }
+{
+    let kind = parser.next()?;
+    Ok(begins_type(kind) || stmt_of(kind).is_some())
+}
+
+/// Whether an external declaration is next.
+pub fn is_external_next(parser: &Parser<'_>) -> Result<bool, Stop>
+    ensures { Moves (λ b. b) (ahead begins_external) parser.now parser.now result }
+{
+    let kind = parser.next()?;
+    match kind {
+        TokenKind::Word(word) => Ok(storage_of(word).is_some() || begins_type(kind)),
+        _ => Ok(false),
     }
+}
 
-    /// The refusal of a statement where no room is left.
-    pub fn no_room_for_stmt(&self) -> Stop
-        ensures { Fails {A = Unit {0}} result (too_deep begins_stmt self.now.count self.now.rest.now) }
-    {
-        match self.rest {
-            [token, ..] if stmt_of(token.kind).is_some() => self.too_deep(),
-            _ => self.sunk(),
-        }
+/// The refusal of a simple statement where no room is left.
+pub fn no_room_for_simple(parser: &Parser<'_>) -> Stop
+    ensures { Fails {A = Unit {0}} result (too_deep begins_simple parser.now.count parser.now.rest.now) }
+{
+    match parser.rest {
+        [token, ..] if begins_simple(token.kind) => parser.too_deep(),
+        _ => parser.sunk(),
+    }
+}
+
+/// The refusal of a statement where no room is left.
+pub fn no_room_for_stmt(parser: &Parser<'_>) -> Stop
+    ensures { Fails {A = Unit {0}} result (too_deep begins_stmt parser.now.count parser.now.rest.now) }
+{
+    match parser.rest {
+        [token, ..] if stmt_of(token.kind).is_some() => parser.too_deep(),
+        _ => parser.sunk(),
     }
 }

@@ -6,9 +6,10 @@ ghost use Rattle.c_tree.specs.SyntaxViews.{view};
 ghost use Rattle.c_grammar.specs.Laws.{EndOnce};
 ghost use Rattle.c_grammar.specs.Language.{refusal_of_word, refusal_of, or_too_deep, Parses, RefusesTokens};
 
-use crate::parser::{Parser, Stop};
+use crate::files::whole_file;
 use c_lex::{CompileFault, Kind, Mark, Refusal, Token, TokenKind, Word};
 use c_tree::syntax::Program;
+use parse_expressions::parser::{Parser, Stop};
 use std::alloc::Global;
 
 /// How a reserved word is refused that may not stand where it does: as part of a feature that is left out, or as any other token.
@@ -73,7 +74,7 @@ pub fn parse(alloc: Global, tokens: &[Token]) -> Result<Program, CompileFault>
         count: 0,
         alloc,
     };
-    match parser.whole_file() {
+    match whole_file(&mut parser) {
         Ok(program) => Ok(program),
         Err(Stop::Unexpected(left)) => {
             let token = tokens[tokens.len() - left];

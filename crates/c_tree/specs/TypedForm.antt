@@ -359,9 +359,13 @@ pub record IsGlobal (t : Typed) (g : GlobalVar) : Type 0 where
 abbrev pub taken : ℕ → ℕ
 taken size = 16 * (size / 16 + 1)
 
--- the bytes that globals and literals take
+-- the bytes that globals of these sizes, and literals, take
+abbrev pub plain_bytes_by : {A : Type 0} → (size : A → ℕ) → (globals : List A) → (literals : List (List ℕ)) → ℕ
+plain_bytes_by size globals literals = sum_by (λ g. taken (size g)) globals + sum_by (λ bs. taken (length bs)) literals
+
+-- the bytes that a program's globals and literals take
 abbrev pub plain_bytes : Typed → ℕ
-plain_bytes t = sum_by (λ g. taken (size_in t.structs g.ty)) t.globals + sum_by (λ bs. taken (length bs)) t.literals
+plain_bytes t = plain_bytes_by (λ (g : GlobalVar). size_in t.structs g.ty) t.globals t.literals
 
 -- main has no parameter and gives an int
 abbrev pub IsMain : Func → Type 0

@@ -1,5 +1,5 @@
 -- What the code's typed trees are.
-use Rattle.std.specs.Prelude.{ℕ, List, [], ◌∷◌, map, Option, Some, None, Box}
+use Rattle.std.specs.Prelude.{ℕ, List, map, Option, Some, None, Box}
 use Rattle.std.specs.declared.alloc.Global.{Global}
 use Rattle.c_tree.specs.declared.typed.CType.{CType}
 use Rattle.c_tree.specs.declared.typed.CType.TheVariants as types
@@ -22,7 +22,7 @@ use Rattle.c_tree.specs.declared.typed.Local.{Local as CodeLocal}
 use Rattle.c_tree.specs.declared.typed.Func.{Func as CodeFunc}
 use Rattle.c_tree.specs.declared.typed.Typed.{Typed as CodeTyped}
 use Rattle.c_tree.specs.Typed as trees
-use Rattle.c_tree.specs.Typed.{exprs_of, stmts_of}
+use Rattle.c_tree.specs.Typed.{stmts_of}
 
 -- the type that one of the code stands for
 abbrev pub type_view : CType → trees.Ty

@@ -3,6 +3,7 @@
 //! Stands on the words of C alone.
 #![tactic(auto)]
 
+pub mod copies;
 pub mod syntax;
 pub mod typed;
 pub mod typed_laws;

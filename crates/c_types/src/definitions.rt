@@ -27,7 +27,7 @@ use indexmap::IndexMap;
 use std::alloc::Global;
 use type_context::context::{Context, Frame};
 use type_context::faults::{as_fault, both};
-use type_context::kinds::copy_type;
+use c_tree::copies::copy_type;
 use type_context::outcomes::again;
 use type_declared::functions::{
     Defined, add_body, declare_function, name_fine, result_type, type_fine,

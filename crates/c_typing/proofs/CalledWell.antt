@@ -9,9 +9,9 @@ use Rattle.ak_words.specs.declared.int_type.IntType.{IntType}
 use Rattle.ak_words.specs.Width.{is_width}
 use Rattle.ak_words.specs.IntType.{int, unsigned_long, promoted_type}
 use Rattle.c_tree.specs.declared.syntax.Name.{Name}
-use Rattle.c_tree.specs.Typed.{Ty, void, integer, mutex, pointer, array, structure, Piece, bytes, signed, unsigned, hexadecimal, character, text, Expr, at, num, global, local, call, lib, Exprs, no_exprs, more_exprs, type_of, node_of, place_of, exprs_of}
+use Rattle.c_tree.specs.Typed.{Ty, void, integer, mutex, pointer, array, structure, Piece, bytes, signed, unsigned, hexadecimal, character, text, Expr, at, call, lib, Exprs, more_exprs, type_of, exprs_of}
 use Rattle.c_tree.specs.Typed as trees
-use Rattle.c_tree.specs.TypedForm.{IsScalar, IsResult, IsPointer, IsPromoted, Fits, IsNth, Signature, HasBits, ArePrinted, CanStart, AreArguments, IsLibCall, IsTyped, AreTyped}
+use Rattle.c_tree.specs.TypedForm.{IsPointer, IsNth, HasBits, ArePrinted, CanStart, AreArguments, IsLibCall, IsTyped, AreTyped}
 use Rattle.c_tree.specs.TypedForm as form
 use Rattle.c_typing.specs.Faults.{Judged, typed, faulty, both}
 use Rattle.c_typing.specs.Scope.{Library, printf, malloc, free, memcpy, thrd_create, thrd_join, mtx_init, mtx_lock, mtx_unlock, mtx_destroy, constant, library}

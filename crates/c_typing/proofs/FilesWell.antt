@@ -12,15 +12,14 @@ use Rattle.c_tree.specs.declared.syntax.Pointer.{Pointer}
 use Rattle.c_tree.specs.Syntax as source
 use Rattle.c_tree.specs.Typed.{Ty, Layout, Local, GlobalVar, Func, Typed, Stmt, stmts_of}
 use Rattle.c_tree.specs.TypedLayout.{greatest_object}
-use Rattle.c_tree.specs.TypedForm.{IsScalar, IsResult, IsLocal, Inside, AreWell, IsNth, Signature, signature_of, context_of, IsFunc}
+use Rattle.c_tree.specs.TypedForm.{IsScalar, IsResult, IsLocal, AreWell, Signature, signature_of, IsFunc}
 use Rattle.c_tree.specs.TypedForm as form
-use Rattle.c_typing.specs.Faults.{Judged, typed, both, ◌>>=◌}
+use Rattle.c_typing.specs.Faults.{Judged, typed, both}
 use Rattle.c_typing.specs.Scope.{Binding, global_name, local_name, function_name, library_name, Frame, Context, bytes_of, or_else, found, is_double, declared, back_to}
 use Rattle.c_typing.specs.Judgement.{in_turn, judged_specs}
 use Rattle.c_typing.specs.Statements.{judged_stmts}
-use Rattle.c_typing.specs.Types.{behind_pointers}
 use Rattle.c_typing.specs.Numbering.{Param, is_block, is_in, func_of, locals_from}
-use Rattle.c_typing.specs.Programs.{judged_globals, judged_param_list, place_of_name, one_body, with_name, with_function, in_scope_of, judged_body, body_behind, judged_function, result_type, Made, joined, judged_rest, judged_external, judged_externals}
+use Rattle.c_typing.specs.Programs.{judged_globals, judged_param_list, place_of_name, one_body, with_name, with_function, before_params, in_scope_of, judged_body, body_behind, judged_function, result_of, Made, joined, judged_rest, judged_external, judged_externals}
 use Rattle.c_typing.specs.Laws.{IsBodyWritten}
 use Rattle.c_typing.proofs.Extending.{Extends, extends_further, Ready, AreSmall, ready_kept, sized_kept}
 use Rattle.c_typing.proofs.Elements.{nothing_at, any_left, any_last}
@@ -32,7 +31,7 @@ use Rattle.c_typing.proofs.RenumberedWell.{with_locals}
 use Rattle.c_typing.proofs.FunctionWell.{AreFirst, all_locals, body_well, locals_well, few_locals, params_within, in_registers, same_locals}
 use Rattle.c_typing.proofs.ParamsWell.{Params, param_list_after}
 use Rattle.c_typing.proofs.GlobalsWell.{NotLocal, Free, Globals, globals_still, globals_after, AreHeld, held_kept}
-use Rattle.c_typing.proofs.HeadsWell.{typed_given, both_is, bind_is, same_bytes_is, bytes_same, new_name, is_function, start, at_name, WasFunction, IsNew, entry, has_body, function_result, specs_plain, Agrees, externals_headed}
+use Rattle.c_typing.proofs.HeadsWell.{typed_given, both_is, bind_is, same_bytes_is, bytes_same, new_name, is_function, at_name, WasFunction, IsNew, entry, has_body, function_result, specs_plain, Agrees, externals_headed}
 
 -- the functions of the whole program, outside each of them, and inside of one
 abbrev pub W : List Signature → ℕ → World
@@ -192,7 +191,7 @@ or_none None = refl
 at_file : (c : Context) → c.outer ≡ [] → (q : List ℕ) → visible c q ≡ lookup (bytes_eq q) c.inner
 at_file c e q = ap (λ (os : List Frame). or_else (lookup (bytes_eq q) c.inner) (found os q)) e ∙ or_none (lookup (bytes_eq q) c.inner)
 
-start_good : (fs : List Signature) (c : Context) → FileGood fs c → Good (W fs 0) (start c)
+start_good : (fs : List Signature) (c : Context) → FileGood fs c → Good (W fs 0) (before_params c)
 start_good fs c f = record {
   results = f.good.results;
   names = λ q m h. by q m (sym (found_last c.outer c.inner q) ∙ h);
@@ -211,8 +210,8 @@ start_good fs c f = record {
   few = omega arith;
 }
   where
-    by : (q : List ℕ) (m : Binding) → visible c q ≡ Some m → IsNamed (W fs 0) (start c) m
-    by q m h = named_free fs 0 0 c (start c) (λ n t k. k) m (f.free q m (sym (at_file c f.outer q) ∙ h)) (f.good.names q m h)
+    by : (q : List ℕ) (m : Binding) → visible c q ≡ Some m → IsNamed (W fs 0) (before_params c) m
+    by q m h = named_free fs 0 0 c (before_params c) (λ n t k. k) m (f.free q m (sym (at_file c f.outer q) ∙ h)) (f.good.names q m h)
 
 -- behind a function's name
 abbrev Behind : (around p : Context) → Frame → List (List ℕ) → Context
@@ -237,7 +236,7 @@ with_function_is around p names n ts r = declared_is (with_name (back_to around 
 -- what holds behind a function's name
 record IsBehind (fs : List Signature) (names : List (List ℕ)) (around p : Context) (n : Name) (xs : List Param) (r : Ty) (x : Frame) (y : List (List ℕ)) : Type 0 where
   file : FileGood fs around
-  given : Params (W fs 0) (start around) p xs
+  given : Params (W fs 0) (before_params around) p xs
   agrees : Agrees fs (Behind around p x y)
   entry : WasFunction (back_to around p) n (Behind around p x y) (map (λ (z : Param). z.ty) xs) r ⊎ IsNew (back_to around p) names n (Behind around p x y) (map (λ (z : Param). z.ty) xs) r
   functions : y ≡ functions_with p n
@@ -298,7 +297,7 @@ module _ (fs : List Signature) (names : List (List ℕ)) (around p : Context) (n
   many = ap length locals_are ∙ types_many xs
 
   abbrev B : Context
-  B = in_scope_of p D
+  B = in_scope_of p.inner D
 
   body_good : Good (W fs (length xs)) B
   body_good = record {
@@ -484,7 +483,7 @@ closed_is around z p x n text bodies fresh =
     unseen = ap (λ t. list_any (bytes_eq (bytes_of t n)) z.bodies) text ∙ ap (list_any (bytes_eq (bytes_of p.text n))) bodies ∙ fresh
 
 defined_step : (fs : List Signature) (names : List (List ℕ)) (around p : Context) (n : Name) (xs : List Param) (r : Ty) (x : Frame) (y : List (List ℕ)) (h : IsBehind fs names around p n xs r x y)
-    → (z : Context) (ss : List Stmt) → After (W fs (length xs)) false (in_scope_of p (Behind around p x y)) z (λ e. AreFineStmts (W fs (length xs)) r false e ss) → list_any (bytes_eq (bytes_of p.text n)) p.bodies ≡ false → IsResult r
+    → (z : Context) (ss : List Stmt) → After (W fs (length xs)) false (in_scope_of p.inner (Behind around p x y)) z (λ e. AreFineStmts (W fs (length xs)) r false e ss) → list_any (bytes_eq (bytes_of p.text n)) p.bodies ≡ false → IsResult r
     → FileStep fs around (Closed around z x n) (record { globals = []; funcs = func_of xs z.locals z.addressed r (stmts_of ss) ∷ [] })
 defined_step fs names around p n xs r x y h z ss a fresh result = record {
   good = record {
@@ -560,15 +559,15 @@ defined_step fs names around p n xs r x y h z ss a fresh result = record {
 -- ---- a function, with a body or not
 
 body_step : (fs : List Signature) (names : List (List ℕ)) (around p : Context) (n : Name) (xs : List Param) (r : Ty) (x : Frame) (y : List (List ℕ)) (h : IsBehind fs names around p n xs r x y) → (pointers : List Pointer) (params : List source.Param) (o : Option source.Body)
-    → IsBodyWritten (source.function pointers n params o) → one_body (back_to around p) n o ≡ typed (tt {0}) → IsResult r → (gs : List Func) → (judged_body (typed xs) (typed r) o (in_scope_of p (Behind around p x y))).0 ≡ typed gs
-    → FileStep fs around (body_behind (Behind around p x y) n o (judged_body (typed xs) (typed r) o (in_scope_of p (Behind around p x y))).1) (record { globals = []; funcs = gs })
+    → IsBodyWritten (source.function pointers n params o) → one_body (back_to around p) n o ≡ typed (tt {0}) → IsResult r → (gs : List Func) → (judged_body (typed xs) (typed r) o (in_scope_of p.inner (Behind around p x y))).0 ≡ typed gs
+    → FileStep fs around (body_behind (Behind around p x y) n o (judged_body (typed xs) (typed r) o (in_scope_of p.inner (Behind around p x y))).1) (record { globals = []; funcs = gs })
 body_step fs names around p n xs r x y h pointers params None a once result gs e =
     subst (λ (v : List Func). FileStep fs around (Behind around p x y) (record { globals = []; funcs = v })) (none_same gs e) (declared_step fs names around p n xs r x y h)
   where
     none_same : (gs : List Func) → typed [] ≡ typed gs → [] ≡ gs
     none_same gs e = cc
 body_step fs names around p n xs r x y h pointers params (Some body) a once result gs e =
-    let b : Context = in_scope_of p (Behind around p x y) in
+    let b : Context = in_scope_of p.inner (Behind around p x y) in
     let z : Context = (judged_stmts r false (source.stmts_of body.items) b).1 in
     let m = has_body r xs body b gs e in
     let k = typed_given (λ ss. After (W fs (length xs)) false b z (λ e. AreFineStmts (W fs (length xs)) r false e ss)) (judged_stmts r false (source.stmts_of body.items) b).0 m.ss
@@ -582,23 +581,23 @@ function_step : (fs : List Signature) (names : List (List ℕ)) (base : Judged T
     → IsBodyWritten (source.function pointers n params body) → (gs : List Func) → (judged_function names base pointers n params body around).0 ≡ typed gs → Agrees fs (judged_function names base pointers n params body around).1
     → FileStep fs around (judged_function names base pointers n params body around).1 (record { globals = []; funcs = gs })
 function_step fs names base hb pointers n params body around f a gs e agrees =
-    let p : Context = (judged_param_list params (start around)).1 in
+    let p : Context = (judged_param_list params (before_params around)).1 in
     let i = is_function names base pointers n params body around gs e in
     let ts : List Ty = map (λ (z : Param). z.ty) i.xs in
     let x : Frame = inner_with around p names n ts i.r in
     let y : List (List ℕ) = functions_with p n in
     let same : with_function (back_to around p) names n ts i.r ≡ Behind around p x y = with_function_is around p names n ts i.r in
     let at = at_name (back_to around p) names n body i.name in
-    let result = typed_given (λ u. IsResult u × Plain u) (base >>= λ t. result_type n.from (behind_pointers t pointers)) i.r (function_result base hb n.from pointers) i.result in
-    let last : (judged_function names base pointers n params body around).1 ≡ body_behind (Behind around p x y) n body (judged_body (typed i.xs) (typed i.r) body (in_scope_of p (Behind around p x y))).1
-    = i.last ∙ ap (λ d. body_behind d n body (judged_body (typed i.xs) (typed i.r) body (in_scope_of p d)).1) same in
-    let made : (judged_body (typed i.xs) (typed i.r) body (in_scope_of p (Behind around p x y))).0 ≡ typed gs = ap (λ d. (judged_body (typed i.xs) (typed i.r) body (in_scope_of p d)).0) (sym same) ∙ i.made in
-    let seen : Agrees fs (Behind around p x y) = agrees_before fs (Behind around p x y) (judged_function names base pointers n params body around).1 (ap (λ (c : Context). c.inner) last ∙ inner_behind (Behind around p x y) n body (judged_body (typed i.xs) (typed i.r) body (in_scope_of p (Behind around p x y))).1) agrees in
+    let result = typed_given (λ u. IsResult u × Plain u) (result_of n.from base pointers) i.r (function_result base hb n.from pointers) i.result in
+    let last : (judged_function names base pointers n params body around).1 ≡ body_behind (Behind around p x y) n body (judged_body (typed i.xs) (typed i.r) body (in_scope_of p.inner (Behind around p x y))).1
+    = i.last ∙ ap (λ d. body_behind d n body (judged_body (typed i.xs) (typed i.r) body (in_scope_of p.inner d)).1) same in
+    let made : (judged_body (typed i.xs) (typed i.r) body (in_scope_of p.inner (Behind around p x y))).0 ≡ typed gs = ap (λ d. (judged_body (typed i.xs) (typed i.r) body (in_scope_of p.inner d)).0) (sym same) ∙ i.made in
+    let seen : Agrees fs (Behind around p x y) = agrees_before fs (Behind around p x y) (judged_function names base pointers n params body around).1 (ap (λ (c : Context). c.inner) last ∙ inner_behind (Behind around p x y) n body (judged_body (typed i.xs) (typed i.r) body (in_scope_of p.inner (Behind around p x y))).1) agrees in
     subst (λ z. FileStep fs around z (record { globals = []; funcs = gs })) (sym last)
     (body_step fs names around p n i.xs i.r x y
     (record {
       file = f;
-      given = typed_given (λ xs. Params (W fs 0) (start around) p xs) (judged_param_list params (start around)).0 i.xs (param_list_after (W fs 0) params (start around) (start_good fs around f)) i.given;
+      given = typed_given (λ xs. Params (W fs 0) (before_params around) p xs) (judged_param_list params (before_params around)).0 i.xs (param_list_after (W fs 0) params (before_params around) (start_good fs around f)) i.given;
       agrees = seen;
       entry = subst (λ d. WasFunction (back_to around p) n d ts i.r ⊎ IsNew (back_to around p) names n d ts i.r) same (entry (back_to around p) names n body i.xs i.r at i.type);
       functions = refl;

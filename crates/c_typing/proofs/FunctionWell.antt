@@ -8,7 +8,7 @@ use Rattle.std.proofs.lemmas.List.{length-append}
 use Rattle.std.proofs.lemmas.Option.{slice_get-map}
 use Rattle.c_tree.specs.Typed.{Ty, void, integer, mutex, pointer, array, structure, Layout, Local, Stmts}
 use Rattle.c_tree.specs.TypedLayout.{IsSized}
-use Rattle.c_tree.specs.TypedForm.{IsScalar, Fits, IsNth, IsTyped, IfTyped, Inside, AreWell, IsLocal, IsResult, Signature, signature_of}
+use Rattle.c_tree.specs.TypedForm.{IsScalar, Fits, IsNth, Inside, AreWell, IsLocal, signature_of}
 use Rattle.c_tree.specs.TypedForm as form
 use Rattle.c_typing.specs.Numbering.{renumbered_stmts, Param, is_in, addressed_params, place_among, or_number, number_of, is_block, locals_from, copies, func_of}
 use Rattle.c_typing.proofs.Elements.{nothing_at, get_before}

@@ -15,11 +15,11 @@ use Rattle.c_tree.specs.TypedLayout.{size_in}
 use Rattle.c_tree.specs.TypedForm.{IsResult, Signature, signature_of, taken}
 use Rattle.c_typing.specs.Faults.{Judged, typed, faulty, unless, both, ◌>>=◌}
 use Rattle.c_typing.specs.Types.{is_struct_or_mutex, same_type, same_types, behind_pointers}
-use Rattle.c_typing.specs.Scope.{Binding, global_name, local_name, function_name, library_name, Frame, Context, bytes_of, library, or_else, is_double, declared, inside, back_to, within}
+use Rattle.c_typing.specs.Scope.{Binding, global_name, local_name, function_name, library_name, Frame, Context, bytes_of, library, or_else, is_double, declared, back_to, within}
 use Rattle.c_typing.specs.Judgement.{in_turn, judged_specs, judged_parts, specified, place_of_specs, object_declared}
 use Rattle.c_typing.specs.Statements.{or_int, judged_declarator, name_of, judged_stmts}
 use Rattle.c_typing.specs.Numbering.{Param, func_of}
-use Rattle.c_typing.specs.Programs.{judged_global_init, with_global, judged_global, judged_globals, judged_size, judged_sizes, with_param, judged_param, judged_params, none_if, judged_param_list, defined_name, defined_names, place_of_name, once, agrees, is_new, first_time, one_body, before_name, not_library, result_type, name_fine, type_fine, types_or, with_name, with_function, with_body, in_scope_of, judged_body, body_behind, judged_function, Made, joined, judged_rest, judged_external, judged_externals}
+use Rattle.c_typing.specs.Programs.{judged_global_init, with_global, judged_global, judged_globals, judged_param_list, defined_name, defined_names, place_of_name, once, agrees, is_new, first_time, one_body, before_name, not_library, result_type, result_of, name_fine, type_fine, types_fine, head_fine, types_or, with_name, with_function, with_body, before_params, in_scope_of, judged_body, body_behind, body_within, judged_function, Made, joined, judged_rest, judged_external, judged_externals}
 use Rattle.c_typing.proofs.Carried.{OnTyped, on_bind, on_unless, Plain}
 use Rattle.c_typing.proofs.Extending.{below}
 use Rattle.c_typing.proofs.Elements.{nothing_at}
@@ -27,7 +27,7 @@ use Rattle.c_typing.proofs.RuledWell.{both_hold}
 use Rattle.c_typing.proofs.TypesWell.{specified_plain, behind_plain, same_type_is, same_types_are}
 use Rattle.c_typing.proofs.StatedWell.{lookup_last}
 use Rattle.c_typing.proofs.FunctionWell.{signature_is}
-use Rattle.c_typing.proofs.Unmoved.{mark, Still, judged_still, specs_still, declarator_still, SameText, text_of, declared_text, stmts_text}
+use Rattle.c_typing.proofs.Unmoved.{mark, Still, judged_still, specs_still, declarator_still, stays, declared_stays, stmts_stays, param_list_stays}
 
 -- ---- outcomes that are typed
 
@@ -104,9 +104,9 @@ headed_further names b c d qs rs xs ys f g = record {
 
 headed_still : (names : List (List ℕ)) (c d : Context) → mark d ≡ mark c → Headed names c d [] []
 headed_still names c d e =
-    let i : d.inner ≡ c.inner = ap (λ (p : List ℕ × Frame). p.1) e in
+    let i : d.inner ≡ c.inner = ap (λ (p : List ℕ × (Frame × List Frame)). p.1.0) e in
     record {
-      text = ap (λ (p : List ℕ × Frame). p.0) e;
+      text = ap (λ (p : List ℕ × (Frame × List Frame)). p.0) e;
       seen = λ q m h. ap (lookup (bytes_eq q)) i ∙ h;
       placed = λ f q n ps r h. f q n ps r (sym (ap (lookup (bytes_eq q)) i) ∙ h);
       heads = tt;
@@ -181,74 +181,37 @@ globals_headed : (names : List (List ℕ)) (base : Judged Ty) (xs : List source.
 globals_headed names base [] c = headed_still names c c refl
 globals_headed names base (x ∷ xs) c = headed_further names c (judged_global base x c).1 (judged_globals base (x ∷ xs) c).1 [] [] [] [] (global_headed names base x c) (globals_headed names base xs (judged_global base x c).1)
 
--- ---- parameters keep the text
-
-size_still : (outermost : Bool) (d : source.ParamDim) (o : Option source.Expr) → Still (judged_size outermost d o)
-size_still outermost d None c = refl
-size_still outermost d (Some s) c = judged_still s c
-
-sizes_still : (outermost : Bool) (ds : List source.ParamDim) → Still (judged_sizes outermost ds)
-sizes_still outermost [] c = refl
-sizes_still outermost (d ∷ ds) c = sizes_still false ds (judged_size outermost d d.size c).1 ∙ size_still outermost d d.size c
-
-with_param_text : (c : Context) (o : Option Name) (t : Ty) → (with_param c o t).text ≡ c.text
-with_param_text c None t = refl
-with_param_text c (Some n) t = declared_text c n (local_name (length c.locals) t)
-
-param_text : (p : source.Param) → SameText (judged_param p)
-param_text p c =
-    with_param_text (judged_sizes true p.dims (judged_specs (source.specs_of p.specs) c).1).1 p.name _
-    ∙ text_of (judged_sizes true p.dims) (sizes_still true p.dims) (judged_specs (source.specs_of p.specs) c).1
-    ∙ text_of (judged_specs (source.specs_of p.specs)) (specs_still (source.specs_of p.specs)) c
-
-params_text : (ps : List source.Param) → SameText (judged_params ps)
-params_text [] c = refl
-params_text (p ∷ ps) c = params_text ps (judged_param p c).1 ∙ param_text p c
-
-none_text : (c : Context) (p : source.Param) (b : Bool) → (none_if c p b (judged_params (p ∷ [])) c).1.text ≡ c.text
-none_text c p true = text_of (judged_specs (source.specs_of p.specs)) (specs_still (source.specs_of p.specs)) c
-none_text c p false = params_text (p ∷ []) c
-
-pub param_list_text : (ps : List source.Param) → SameText (judged_param_list ps)
-param_list_text [] c = refl
-param_list_text (p ∷ []) c = none_text c p _
-param_list_text (p ∷ q ∷ ps) c = params_text (p ∷ q ∷ ps) c
-
 -- ---- functions
-
-abbrev pub start : Context → Context
-start around = record (inside around) { locals = []; addressed = [] }
 
 -- a function that is typed: its parameters and its result, and what holds at its name
 pub record IsFunction (names : List (List ℕ)) (base : Judged Ty) (pointers : List Pointer) (n : Name) (params : List source.Param) (body : Option source.Body) (around : Context) (fs : List Func) : Type 0 where
   pub xs : List Param
   pub r : Ty
-  pub result : (base >>= λ t. result_type n.from (behind_pointers t pointers)) ≡ typed r
-  pub given : (judged_param_list params (start around)).0 ≡ typed xs
-  pub name : name_fine (back_to around (judged_param_list params (start around)).1) names n body ≡ typed (tt {0})
-  pub type : type_fine (back_to around (judged_param_list params (start around)).1) n xs r ≡ typed (tt {0})
-  pub made : (judged_body (typed xs) (typed r) body (in_scope_of (judged_param_list params (start around)).1 (with_function (back_to around (judged_param_list params (start around)).1) names n (map (λ (p : Param). p.ty) xs) r))).0 ≡ typed fs
-  pub last : (judged_function names base pointers n params body around).1 ≡ body_behind (with_function (back_to around (judged_param_list params (start around)).1) names n (map (λ (p : Param). p.ty) xs) r) n body
-      (judged_body (typed xs) (typed r) body (in_scope_of (judged_param_list params (start around)).1 (with_function (back_to around (judged_param_list params (start around)).1) names n (map (λ (p : Param). p.ty) xs) r))).1
+  pub result : result_of n.from base pointers ≡ typed r
+  pub given : (judged_param_list params (before_params around)).0 ≡ typed xs
+  pub name : name_fine (back_to around (judged_param_list params (before_params around)).1) names n body ≡ typed (tt {0})
+  pub type : type_fine (back_to around (judged_param_list params (before_params around)).1) n xs r ≡ typed (tt {0})
+  pub made : (judged_body (typed xs) (typed r) body (in_scope_of (judged_param_list params (before_params around)).1.inner (with_function (back_to around (judged_param_list params (before_params around)).1) names n (map (λ (p : Param). p.ty) xs) r))).0 ≡ typed fs
+  pub last : (judged_function names base pointers n params body around).1 ≡ body_behind (with_function (back_to around (judged_param_list params (before_params around)).1) names n (map (λ (p : Param). p.ty) xs) r) n body
+      (judged_body (typed xs) (typed r) body (in_scope_of (judged_param_list params (before_params around)).1.inner (with_function (back_to around (judged_param_list params (before_params around)).1) names n (map (λ (p : Param). p.ty) xs) r))).1
 
 abbrev body_of : (names : List (List ℕ)) (n : Name) (params : List source.Param) (body : Option source.Body) (around : Context) → Judged (List Param) → Judged Ty → Judged (List Func) × Context
-body_of names n params body around j k = judged_body j k body (in_scope_of (judged_param_list params (start around)).1 (with_function (back_to around (judged_param_list params (start around)).1) names n (types_or j) (or_int k)))
+body_of names n params body around j k = body_within (judged_param_list params (before_params around)).1.inner j k n body (with_function (back_to around (judged_param_list params (before_params around)).1) names n (types_or j) (or_int k))
 
 abbrev function_of : (names : List (List ℕ)) (n : Name) (params : List source.Param) (body : Option source.Body) (around : Context) → Judged (List Param) → Judged Ty → Judged (List Func) × Context
 function_of names n params body around j k =
-    let fine = both (name_fine (back_to around (judged_param_list params (start around)).1) names n body) (both j k >>= λ p. type_fine (back_to around (judged_param_list params (start around)).1) n p.0 p.1) in
-    (both fine (body_of names n params body around j k).0 >>= λ p. typed p.1, body_behind (with_function (back_to around (judged_param_list params (start around)).1) names n (types_or j) (or_int k)) n body (body_of names n params body around j k).1)
+    (both (head_fine (back_to around (judged_param_list params (before_params around)).1) names n body j k) (body_of names n params body around j k).0 >>= λ p. typed p.1, (body_of names n params body around j k).1)
 
 pub is_function : (names : List (List ℕ)) (base : Judged Ty) (pointers : List Pointer) (n : Name) (params : List source.Param) (body : Option source.Body) (around : Context) (fs : List Func)
     → (judged_function names base pointers n params body around).0 ≡ typed fs → IsFunction names base pointers n params body around fs
 is_function names base pointers n params body around fs e =
-    let result : Judged Ty = base >>= λ t. result_type n.from (behind_pointers t pointers) in
-    let given : Judged (List Param) = (judged_param_list params (start around)).0 in
-    let c : Context = back_to around (judged_param_list params (start around)).1 in
-    let fine : Judged (Unit {0} × Unit {0}) = both (name_fine c names n body) (both given result >>= λ p. type_fine c n p.0 p.1) in
+    let result : Judged Ty = result_of n.from base pointers in
+    let given : Judged (List Param) = (judged_param_list params (before_params around)).0 in
+    let c : Context = back_to around (judged_param_list params (before_params around)).1 in
+    let fine : Judged (Unit {0} × Unit {0}) = head_fine c names n body given result in
     let a = bind_is (both fine (body_of names n params body around given result).0) (λ p. typed p.1) fs e in
     let b = both_is fine (body_of names n params body around given result).0 a.0 a.1 in
-    let f = both_is (name_fine c names n body) (both given result >>= λ p. type_fine c n p.0 p.1) a.0.0 b.0 in
+    let f = both_is (name_fine c names n body) (types_fine c n given result) a.0.0 b.0 in
     let g = bind_is (both given result) (λ p. type_fine c n p.0 p.1) a.0.0.1 f.1 in
     let h = both_is given result g.0 g.1 in
     let same : a.0.1 ≡ fs = typed_same a.0.1 fs a.2 in
@@ -376,7 +339,7 @@ any (faulty r rs) = tt
 pub specs_plain : (s : source.Specs) (c : Context) → OnTyped Plain (judged_specs s c).0
 specs_plain s c = on_bind (λ x. Unit {0}) Plain (judged_parts s c).0 (specified (place_of_specs s)) (any (judged_parts s c).0) (λ x h. specified_plain (place_of_specs s) x)
 
-pub function_result : (base : Judged Ty) → OnTyped Plain base → (place : ℕ) (pointers : List Pointer) → OnTyped (λ u. IsResult u × Plain u) (base >>= λ t. result_type place (behind_pointers t pointers))
+pub function_result : (base : Judged Ty) → OnTyped Plain base → (place : ℕ) (pointers : List Pointer) → OnTyped (λ u. IsResult u × Plain u) (result_of place base pointers)
 function_result base h place pointers = on_bind Plain (λ u. IsResult u × Plain u) base (λ t. result_type place (behind_pointers t pointers)) h (λ t k. result_good place (behind_pointers t pointers) (behind_plain t pointers k))
 
 -- ---- a function, in a file
@@ -399,47 +362,47 @@ has_body r xs body b fs e =
       made = sym (typed_same (func_of f.0.0.0 x.1.locals x.1.addressed f.0.0.1 (stmts_of f.0.1) ∷ []) fs f.2) ∙ ap (λ (p : List Param × Ty). func_of p.0 x.1.locals x.1.addressed p.1 (stmts_of f.0.1) ∷ []) (sym h);
     }
 
-function_text : (around : Context) (params : List source.Param) → (judged_param_list params (start around)).1.text ≡ around.text
-function_text around params = param_list_text params (start around)
+function_text : (around : Context) (params : List source.Param) → (judged_param_list params (before_params around)).1.text ≡ around.text
+function_text around params = ap (λ (p : List ℕ × List Frame). p.0) (param_list_stays params (before_params around))
 
 with_function_text : (c : Context) (names : List (List ℕ)) (n : Name) (ts : List Ty) (r : Ty) → (with_function c names n ts r).text ≡ c.text
-with_function_text c names n ts r = declared_text (with_name c n) n (function_name (place_of_name (bytes_of c.text n) names) ts r)
+with_function_text c names n ts r = ap (λ (p : List ℕ × List Frame). p.0) (declared_stays (with_name c n) n (function_name (place_of_name (bytes_of c.text n) names) ts r))
 
 none_is : {A : Type 0} (fs : List A) → typed [] ≡ typed fs → fs ≡ []
 none_is fs e = sym (typed_same [] fs e)
 
 abbrev In : (around : Context) (params : List source.Param) (names : List (List ℕ)) (n : Name) (xs : List Param) (r : Ty) → Context
-In around params names n xs r = with_function (back_to around (judged_param_list params (start around)).1) names n (map (λ (x : Param). x.ty) xs) r
+In around params names n xs r = with_function (back_to around (judged_param_list params (before_params around)).1) names n (map (λ (x : Param). x.ty) xs) r
 
 abbrev Named : (around : Context) (params : List source.Param) (names : List (List ℕ)) (n : Name) (xs : List Param) (r : Ty) → Type 0
 Named around params names n xs r =
-    WasFunction (back_to around (judged_param_list params (start around)).1) n (In around params names n xs r) (map (λ (x : Param). x.ty) xs) r
-    ⊎ IsNew (back_to around (judged_param_list params (start around)).1) names n (In around params names n xs r) (map (λ (x : Param). x.ty) xs) r
+    WasFunction (back_to around (judged_param_list params (before_params around)).1) n (In around params names n xs r) (map (λ (x : Param). x.ty) xs) r
+    ⊎ IsNew (back_to around (judged_param_list params (before_params around)).1) names n (In around params names n xs r) (map (λ (x : Param). x.ty) xs) r
 
 in_text : (around : Context) (params : List source.Param) (names : List (List ℕ)) (n : Name) (xs : List Param) (r : Ty) → (In around params names n xs r).text ≡ around.text
-in_text around params names n xs r = with_function_text (back_to around (judged_param_list params (start around)).1) names n (map (λ (x : Param). x.ty) xs) r ∙ function_text around params
+in_text around params names n xs r = with_function_text (back_to around (judged_param_list params (before_params around)).1) names n (map (λ (x : Param). x.ty) xs) r ∙ function_text around params
 
 body_headed : (names : List (List ℕ)) (pointers : List Pointer) (n : Name) (params : List source.Param) (around : Context) (fs : List Func) (xs : List Param) (r : Ty) → Named around params names n xs r → IsResult r × Plain r → (o : Option source.Body)
-    → (judged_body (typed xs) (typed r) o (in_scope_of (judged_param_list params (start around)).1 (In around params names n xs r))).0 ≡ typed fs
-    → Headed names around (body_behind (In around params names n xs r) n o (judged_body (typed xs) (typed r) o (in_scope_of (judged_param_list params (start around)).1 (In around params names n xs r))).1) (defined_name around.text (source.function pointers n params o)) fs
+    → (judged_body (typed xs) (typed r) o (in_scope_of (judged_param_list params (before_params around)).1.inner (In around params names n xs r))).0 ≡ typed fs
+    → Headed names around (body_behind (In around params names n xs r) n o (judged_body (typed xs) (typed r) o (in_scope_of (judged_param_list params (before_params around)).1.inner (In around params names n xs r))).1) (defined_name around.text (source.function pointers n params o)) fs
 body_headed names pointers n params around fs xs r i g None m =
     subst (λ (ys : List Func). Headed names around (In around params names n xs r) [] ys) (sym (none_is fs m))
     (record {
       text = in_text around params names n xs r;
-      seen = entry_seen (back_to around (judged_param_list params (start around)).1) names n (In around params names n xs r) (map (λ (x : Param). x.ty) xs) r i;
-      placed = entry_placed (back_to around (judged_param_list params (start around)).1) names n (In around params names n xs r) (map (λ (x : Param). x.ty) xs) r i;
+      seen = entry_seen (back_to around (judged_param_list params (before_params around)).1) names n (In around params names n xs r) (map (λ (x : Param). x.ty) xs) r i;
+      placed = entry_placed (back_to around (judged_param_list params (before_params around)).1) names n (In around params names n xs r) (map (λ (x : Param). x.ty) xs) r i;
       heads = tt;
     })
 body_headed names pointers n params around fs xs r i g (Some body) m =
-    let p : Context = (judged_param_list params (start around)).1 in
+    let p : Context = (judged_param_list params (before_params around)).1 in
     let d : Context = In around params names n xs r in
-    let x : Judged (List Stmt) × Context = judged_stmts r false (source.stmts_of body.items) (in_scope_of p d) in
-    let h = has_body r xs body (in_scope_of p d) fs m in
+    let x : Judged (List Stmt) × Context = judged_stmts r false (source.stmts_of body.items) (in_scope_of p.inner d) in
+    let h = has_body r xs body (in_scope_of p.inner d) fs m in
     let says = entry_says (back_to around p) names n d (map (λ (y : Param). y.ty) xs) r i in
     let s = signature_is xs x.1.locals x.1.addressed r (stmts_of h.ss) in
     subst (λ (ys : List Func). Headed names around (with_body (back_to d x.1) n) (bytes_of around.text n ∷ []) ys) (sym h.made)
     (record {
-      text = stmts_text r false (source.stmts_of body.items) (in_scope_of p d) ∙ in_text around params names n xs r;
+      text = ap (λ (p : List ℕ × List Frame). p.0) (stmts_stays r false (source.stmts_of body.items) (in_scope_of p.inner d)) ∙ in_text around params names n xs r;
       seen = entry_seen (back_to around p) names n d (map (λ (y : Param). y.ty) xs) r i;
       placed = entry_placed (back_to around p) names n d (map (λ (y : Param). y.ty) xs) r i;
       heads = (
@@ -453,10 +416,10 @@ pub function_headed : (names : List (List ℕ)) (base : Judged Ty) → OnTyped P
     → (judged_function names base pointers n params body around).0 ≡ typed fs → Headed names around (judged_function names base pointers n params body around).1 (defined_name around.text (source.function pointers n params body)) fs
 function_headed names base hb pointers n params body around fs e =
     let f = is_function names base pointers n params body around fs e in
-    let c : Context = back_to around (judged_param_list params (start around)).1 in
+    let c : Context = back_to around (judged_param_list params (before_params around)).1 in
     subst (λ z. Headed names around z (defined_name around.text (source.function pointers n params body)) fs) (sym f.last)
     (body_headed names pointers n params around fs f.xs f.r (entry c names n body f.xs f.r (at_name c names n body f.name) f.type)
-    (typed_given (λ u. IsResult u × Plain u) (base >>= λ t. result_type n.from (behind_pointers t pointers)) f.r (function_result base hb n.from pointers) f.result) body f.made)
+    (typed_given (λ u. IsResult u × Plain u) (result_of n.from base pointers) f.r (function_result base hb n.from pointers) f.result) body f.made)
 
 -- ---- a file
 
@@ -477,7 +440,7 @@ external_headed names x c m e =
     let f = bind_is (both b.0 r.0) (λ p. typed p.1) m e in
     let g = both_is b.0 r.0 f.0 f.1 in
     let h = rest_headed names b.0 (specs_plain (source.specs_of x.specs) c) x.rest b.1 f.0.1 g.1 in
-    let t : b.1.text ≡ c.text = text_of (judged_specs (source.specs_of x.specs)) (specs_still (source.specs_of x.specs)) c in
+    let t : b.1.text ≡ c.text = ap (λ (p : List ℕ × List Frame). p.0) (stays (judged_specs (source.specs_of x.specs)) (specs_still (source.specs_of x.specs)) c) in
     headed_further names c b.1 r.1 [] (defined_name c.text x.rest) [] m.funcs (headed_still names c b.1 (specs_still (source.specs_of x.specs) c))
     (subst (λ (y : Made). Headed names b.1 r.1 (defined_name c.text x.rest) y.funcs) (typed_same f.0.1 m f.2) (subst (λ (u : List ℕ). Headed names b.1 r.1 (defined_name u x.rest) f.0.1.funcs) t h))
 

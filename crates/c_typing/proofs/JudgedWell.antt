@@ -13,7 +13,7 @@ use Rattle.c_tree.specs.declared.syntax.BinaryOp.{BinaryOp}
 use Rattle.c_tree.specs.declared.syntax.BinaryOp.TheVariants as binaries
 use Rattle.c_tree.specs.Syntax as source
 use Rattle.c_tree.specs.Typed.{Ty, void, integer, mutex, pointer, array, structure, Layout, Piece, Expr, at, num, null, literal, global, local, deref, member, address_of, and_also, or_else, type_of, node_of}
-use Rattle.c_tree.specs.TypedForm.{IsScalar, IsNth, IsMember, IsLvalue, IsInMemory, IsTyped, Signature, CanStart}
+use Rattle.c_tree.specs.TypedForm.{IsMember, IsLvalue, IsInMemory, Signature}
 use Rattle.c_tree.specs.TypedForm as form
 use Rattle.c_typing.specs.Faults.{Judged, typed, faulty, refuse, both, ◌>>=◌}
 use Rattle.c_typing.specs.Types.{same_type, same_types, behind_pointers}

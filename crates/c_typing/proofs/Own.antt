@@ -1,7 +1,6 @@
 -- A context, as a tree's context that holds no more than it.
 use Rattle.std.proofs.Common.{◌≡◌, ℕ, zero, suc, ◌+◌, Bool, true, false, ◌||◌, refl, sym, ap, ◌∙◌, subst, arith, List, [], ◌∷◌, Some, slice_get}
 use Rattle.c_tree.specs.Typed.{Ty, Local}
-use Rattle.c_tree.specs.TypedForm.{IsNth}
 use Rattle.c_tree.specs.TypedForm as form
 use Rattle.c_typing.specs.Scope.{Context}
 use Rattle.c_typing.specs.Numbering.{is_block, is_in, locals_from}

@@ -4,7 +4,7 @@ use Rattle.ak_words.specs.IntType.{int, unsigned_long}
 use Rattle.c_tree.specs.Typed.{Ty, void, integer, mutex, pointer, Local, Piece, bytes, signed, unsigned, hexadecimal, character, text, Lib, print, malloc, free, copy, start, join, mutex_init, mutex_lock, mutex_unlock, mutex_destroy}
 use Rattle.c_tree.specs.Typed.{Expr, at, ExprNode, num, null, literal, global, local, deref, member, address_of, decay, convert, not_, binary, and_also, or_else, choose, pointer_add, pointer_sub, pointer_diff, pointer_compare, pointer_test, call, lib, Exprs, no_exprs, more_exprs, type_of}
 use Rattle.c_tree.specs.Typed.{Stmt, at_stmt, StmtNode, block, declare, if_, if_else, while_, for_, break_, continue_, return_, assign, update, evaluate, empty, Stmts, no_stmts, more_stmts}
-use Rattle.c_tree.specs.TypedForm.{IsScalar, Fits, IsNth, IsLvalue, IsInMemory, ArePrinted, AreArguments, IsLibCall, IsTyped, IsTypedNode, AreTyped, IfTyped, IsNoDeclaration, IsStep, IsFirst, IsReturned, Inside, IsWell, IsWellNode, AreWell}
+use Rattle.c_tree.specs.TypedForm.{IsScalar, Fits, IsNth, IsLvalue, IsInMemory, ArePrinted, AreArguments, IsLibCall, IsTyped, IsTypedNode, AreTyped, IfTyped, IsNoDeclaration, IsStep, IsFirst, IsReturned, Inside, IsWellNode, AreWell}
 use Rattle.c_tree.specs.TypedForm as form
 use Rattle.c_typing.specs.Numbering.{renumbered, renumbered_node, renumbered_all, renumbered_if, renumbered_stmt, renumbered_stmt_node, renumbered_stmts}
 

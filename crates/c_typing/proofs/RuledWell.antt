@@ -14,7 +14,7 @@ use Rattle.ak_words.proofs.Types.{int_type_is, half_twice}
 use Rattle.c_tree.specs.Typed.{Ty, void, integer, mutex, pointer, array, structure, Layout, Lib, print, malloc, free, copy, start, join, mutex_init, mutex_lock, mutex_unlock, mutex_destroy}
 use Rattle.c_tree.specs.Typed.{Expr, at, ExprNode, num, null, literal, global, local, deref, member, address_of, decay, convert, not_, binary, and_also, or_else, choose}
 use Rattle.c_tree.specs.Typed.{pointer_add, pointer_sub, pointer_diff, pointer_compare, pointer_test, call, lib, Exprs, type_of, node_of, place_of}
-use Rattle.c_tree.specs.TypedForm.{IsInteger, IsPointer, IsScalar, IsResult, Fits, PointsToSized, MovesPointer, IsPromoted, AreOperands, type_of_result, is_comparison, Converts, IsNth, IsLvalue, IsInMemory, IsLibCall, IsTyped, IsTypedNode}
+use Rattle.c_tree.specs.TypedForm.{IsInteger, IsPointer, IsScalar, IsResult, Fits, PointsToSized, MovesPointer, IsPromoted, AreOperands, type_of_result, is_comparison, Converts, IsLvalue, IsInMemory, IsLibCall, IsTyped, IsTypedNode}
 use Rattle.c_tree.specs.TypedForm as form
 use Rattle.c_lex.specs.declared.refusal.Kind.TheVariants.{TypeMismatch, BadSize}
 use Rattle.c_typing.specs.Faults.{typed, unless, ◌>>=◌}

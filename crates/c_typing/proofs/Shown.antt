@@ -10,7 +10,7 @@ use Rattle.c_tree.specs.declared.syntax.Name.{Name}
 use Rattle.c_tree.specs.declared.syntax.Span.{Span}
 use Rattle.c_tree.specs.Typed.{Ty, integer, array, Layout, Expr, at, literal}
 use Rattle.c_tree.specs.TypedLayout.{greatest_object, layout_size}
-use Rattle.c_tree.specs.TypedForm.{IsLayout, HoldsStruct, IsPart, IsNth, IsLvalue, IsInMemory, IsTyped, taken}
+use Rattle.c_tree.specs.TypedForm.{IsLayout, HoldsStruct, IsPart, IsNth, taken}
 use Rattle.c_tree.specs.TypedForm as form
 use Rattle.c_typing.specs.Faults.{typed, refuse, mapped}
 use Rattle.c_typing.specs.Scope.{Binding, global_name, local_name, function_name, library_name, Context, bytes_of, most_plain, tag_among, tag_number, with_tag, is_begun}

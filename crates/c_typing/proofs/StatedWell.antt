@@ -18,7 +18,7 @@ use Rattle.c_tree.specs.declared.syntax.AssignOp.TheVariants as assigns
 use Rattle.c_tree.specs.Syntax as source
 use Rattle.c_tree.specs.Typed.{Ty, void, integer, mutex, pointer, array, structure, Layout, Expr, at, ExprNode, num, literal, global, local, deref, member, type_of, node_of, place_of, Stmt, at_stmt, declare, assign, update, evaluate}
 use Rattle.c_tree.specs.TypedLayout.{IsSized}
-use Rattle.c_tree.specs.TypedForm.{IsScalar, Fits, is_comparison, CanUpdate, IsNth, IsLvalue, IsTyped, IfTyped, IsNoDeclaration, IsStep, IsFirst, IsReturned, Inside, IsWell, AreWell}
+use Rattle.c_tree.specs.TypedForm.{IsScalar, Fits, is_comparison, CanUpdate, IsLvalue, IsTyped, IfTyped, IsStep, IsFirst, Inside, IsWell}
 use Rattle.c_tree.specs.TypedForm as form
 use Rattle.c_typing.specs.Faults.{Judged, typed, faulty, refuse, unless, both, ◌>>=◌}
 use Rattle.c_typing.specs.Types.{is_array, is_scalar, has_size, is_declared}

@@ -1,5 +1,5 @@
--- What judging leaves as it was, whatever it gives: the text, and in an expression the innermost scope.
-use Rattle.std.proofs.Common.{◌≡◌, ℕ, Bool, true, false, refl, ap, ◌∙◌, List, [], ◌∷◌, ◌++◌, Option, Some, None, if◌then◌else◌}
+-- What judging leaves as it was, whatever it gives: the text and the scopes around, and in an expression the innermost scope too.
+use Rattle.std.proofs.Common.{◌≡◌, ℕ, Bool, true, false, refl, ap, ◌∙◌, List, [], ◌∷◌, ◌++◌, length, Option, Some, None, if◌then◌else◌}
 use Rattle.std.specs.List.{list_any}
 use Rattle.std.specs.Str.{bytes_eq}
 use Rattle.c_tree.specs.declared.syntax.Name.{Name}
@@ -7,18 +7,19 @@ use Rattle.c_tree.specs.declared.syntax.Span.{Span}
 use Rattle.c_tree.specs.declared.syntax.PrefixOp.{PrefixOp}
 use Rattle.c_tree.specs.declared.syntax.PrefixOp.TheVariants as prefixes
 use Rattle.c_tree.specs.Syntax as source
-use Rattle.c_tree.specs.Typed.{Ty, Expr, Stmt}
+use Rattle.c_tree.specs.Typed.{Ty, Expr}
 use Rattle.c_tree.specs.TypedLayout.{laid_out}
 use Rattle.c_typing.specs.Faults.{Judged, typed, faulty, ◌>>=◌}
 use Rattle.c_typing.specs.Scope.{printf, malloc, free, memcpy, thrd_create, thrd_join, mtx_init, mtx_lock, mtx_unlock, mtx_destroy, constant}
 use Rattle.c_typing.specs.Scope.{Binding, global_name, local_name, function_name, library_name, Frame, Context, bytes_of, meaning_of, is_double, with_tag, tag_number, is_begun, with_begun, inside, declared}
 use Rattle.c_typing.specs.Judgement.{Judging, in_turn, member_by, name_in, text_in, node_place, with_addressed, meaning_in, valued, prefixed, format_or, starting_or, called_by, struct_fits, closed, braced, specs_by}
 use Rattle.c_typing.specs.Judgement.{judged, judged_all, judged_print, judged_start, judged_started, judged_type, judged_parts, judged_spec, judged_members, judged_member, judged_declarators, judged_dims, judged_specs}
-use Rattle.c_typing.specs.Statements.{judged_simple, judged_init, judged_declarator, judged_local, judged_locals, judged_declaration, one_of, returned, condition, judged_first, judged_condition, judged_step, looped, judged_stmt, judged_stmts}
+use Rattle.c_typing.specs.Statements.{judged_simple, judged_init, judged_declarator, judged_local, judged_locals, judged_declaration, one_of, scoped, returned, condition, judged_first, judged_condition, judged_step, for_of, judged_stmt, judged_stmts}
+use Rattle.c_typing.specs.Programs.{with_param, judged_size, judged_sizes, judged_param, judged_params, none_if, judged_param_list}
 
--- the text and the innermost scope
-abbrev pub mark : Context → List ℕ × Frame
-mark c = (c.text, c.inner)
+-- the text, the innermost scope and those around it
+abbrev pub mark : Context → List ℕ × (Frame × List Frame)
+mark c = (c.text, (c.inner, c.outer))
 
 abbrev pub Still : {A : Type 0} → Judging A → Type 0
 Still j = (c : Context) → mark (j c).1 ≡ mark c
@@ -171,79 +172,124 @@ declarator_still (source.declarator pointers n dims) c = dims_still dims c
 
 -- ---- statements
 
-abbrev pub SameText : {A : Type 0} → Judging A → Type 0
-SameText j = (c : Context) → (j c).1.text ≡ c.text
+-- the text, and the scopes around the innermost
+abbrev pub around : Context → List ℕ × List Frame
+around c = (c.text, c.outer)
 
-pub text_of : {A : Type 0} (j : Judging A) → Still j → SameText j
-text_of j f c = ap (λ (p : List ℕ × Frame). p.0) (f c)
+abbrev pub Stays : {A : Type 0} → Judging A → Type 0
+Stays j = (c : Context) → around (j c).1 ≡ around c
 
-text_both : {A B : Type 0} (a : Judging A) (b : Judging B) → SameText a → SameText b → SameText (in_turn a b)
-text_both a b f g c = g (a c).1 ∙ f c
+pub stays : {A : Type 0} (j : Judging A) → Still j → Stays j
+stays j f c = ap (λ (p : List ℕ × (Frame × List Frame)). (p.0, p.1.1)) (f c)
 
-expr_text : (s : source.Expr) → SameText (judged s)
-expr_text s = text_of (judged s) (judged_still s)
+both_stays : {A B : Type 0} (a : Judging A) (b : Judging B) → Stays a → Stays b → Stays (in_turn a b)
+both_stays a b f g c = g (a c).1 ∙ f c
 
-simple_text : (s : source.Simple) → SameText (judged_simple s)
-simple_text (source.before place op s) c = expr_text s c
-simple_text (source.after place op s) c = expr_text s c
-simple_text (source.assign place op a b) c = text_both (judged a) (judged b) (expr_text a) (expr_text b) c
-simple_text (source.eval s) c = expr_text s c
+scoped_stays : {A : Type 0} (j : Judging A) → Stays j → Stays (scoped j)
+scoped_stays j f c = ap (λ (p : List ℕ × List Frame). (p.0, c.outer)) (f (inside c))
 
-pub declared_text : (c : Context) (n : Name) (m : Binding) → (declared c n m).text ≡ c.text
-declared_text c n m = by (is_double c n)
+expr_stays : (s : source.Expr) → Stays (judged s)
+expr_stays s = stays (judged s) (judged_still s)
+
+simple_stays : (s : source.Simple) → Stays (judged_simple s)
+simple_stays (source.before place op s) c = expr_stays s c
+simple_stays (source.after place op s) c = expr_stays s c
+simple_stays (source.assign place op a b) c = both_stays (judged a) (judged b) (expr_stays a) (expr_stays b) c
+simple_stays (source.eval s) c = expr_stays s c
+
+pub declared_stays : (c : Context) (n : Name) (m : Binding) → around (declared c n m) ≡ around c
+declared_stays c n m = by (is_double c n)
   where
-    by : (b : Bool) → (if b then c else record c { inner = c.inner ++ (bytes_of c.text n, m) ∷ [] }).text ≡ c.text
+    by : (b : Bool) → around (if b then c else record c { inner = c.inner ++ (bytes_of c.text n, m) ∷ [] }) ≡ around c
     by true = refl
     by false = refl
 
-init_text : (place : ℕ) (t : Judged Ty) (o : Option source.Expr) → SameText (judged_init place t o)
-init_text place t None c = refl
-init_text place t (Some s) c = expr_text s c
+init_stays : (place : ℕ) (t : Judged Ty) (o : Option source.Expr) → Stays (judged_init place t o)
+init_stays place t None c = refl
+init_stays place t (Some s) c = expr_stays s c
 
-local_text : (base : Judged Ty) (x : source.InitDeclarator) → SameText (judged_local base x)
-local_text base x c = init_text _ _ x.value _ ∙ declared_text (judged_declarator x.declarator c).1 _ _ ∙ text_of (judged_declarator x.declarator) (declarator_still x.declarator) c
+local_stays : (base : Judged Ty) (x : source.InitDeclarator) → Stays (judged_local base x)
+local_stays base x c = init_stays _ _ x.value _ ∙ declared_stays (judged_declarator x.declarator c).1 _ _ ∙ stays (judged_declarator x.declarator) (declarator_still x.declarator) c
 
-locals_text : (base : Judged Ty) (xs : List source.InitDeclarator) → SameText (judged_locals base xs)
-locals_text base [] c = refl
-locals_text base (x ∷ xs) c = text_both (judged_local base x) (judged_locals base xs) (local_text base x) (locals_text base xs) c
+locals_stays : (base : Judged Ty) (xs : List source.InitDeclarator) → Stays (judged_locals base xs)
+locals_stays base [] c = refl
+locals_stays base (x ∷ xs) c = both_stays (judged_local base x) (judged_locals base xs) (local_stays base x) (locals_stays base xs) c
 
-declaration_text : (d : source.Declaration) → SameText (judged_declaration d)
-declaration_text d c = locals_text (judged_specs (source.specs_of d.specs) c).0 d.declarators (judged_specs (source.specs_of d.specs) c).1 ∙ text_of (judged_specs (source.specs_of d.specs)) (specs_still (source.specs_of d.specs)) c
+declaration_stays : (d : source.Declaration) → Stays (judged_declaration d)
+declaration_stays d c = locals_stays (judged_specs (source.specs_of d.specs) c).0 d.declarators (judged_specs (source.specs_of d.specs) c).1 ∙ stays (judged_specs (source.specs_of d.specs)) (specs_still (source.specs_of d.specs)) c
 
-returned_text : (place : ℕ) (r : Ty) (o : Option source.Expr) → SameText (returned place r o)
-returned_text place r None c = refl
-returned_text place r (Some s) c = expr_text s c
+returned_stays : (place : ℕ) (r : Ty) (o : Option source.Expr) → Stays (returned place r o)
+returned_stays place r None c = refl
+returned_stays place r (Some s) c = expr_stays s c
 
-first_text : (place : ℕ) (f : source.ForFirst) → SameText (judged_first place f)
-first_text place (source.first_declare d) c = declaration_text d c
-first_text place (source.first_simple s) c = simple_text s c
-first_text place source.first_nothing c = refl
+first_stays : (place : ℕ) (f : source.ForFirst) → Stays (judged_first place f)
+first_stays place (source.first_declare d) c = declaration_stays d c
+first_stays place (source.first_simple s) c = simple_stays s c
+first_stays place source.first_nothing c = refl
 
-test_text : (place : ℕ) (o : Option source.Expr) → SameText (judged_condition place o)
-test_text place None c = refl
-test_text place (Some s) c = expr_text s c
+test_stays : (place : ℕ) (o : Option source.Expr) → Stays (judged_condition place o)
+test_stays place None c = refl
+test_stays place (Some s) c = expr_stays s c
 
-step_text : (place : ℕ) (o : Option source.Simple) → SameText (judged_step place o)
-step_text place None c = refl
-step_text place (Some s) c = simple_text s c
+step_stays : (place : ℕ) (o : Option source.Simple) → Stays (judged_step place o)
+step_stays place None c = refl
+step_stays place (Some s) c = simple_stays s c
 
-looped_text : (place : ℕ) (first : Judging (List Stmt)) (test : Judging (Option Expr)) (step body : Judging Stmt) → SameText first → SameText test → SameText step → SameText body → SameText (looped place first test step body)
-looped_text place first test step body f g h k c = text_both first (in_turn test (in_turn step body)) f (text_both test (in_turn step body) g (text_both step body h k)) (inside c)
+-- the parts of a for
+pub for_stays : (r : Ty) (place : ℕ) (first : source.ForFirst) (o : Option source.Expr) (step : Option source.Simple) (t : source.Stmt) → Stays (one_of (judged_stmt r true t))
+    → Stays (for_of place (judged_first place first) (judged_condition place o) (judged_step place step) (one_of (judged_stmt r true t)))
+for_stays r place first o step t k =
+    both_stays (judged_first place first) (in_turn (judged_condition place o) (in_turn (judged_step place step) (one_of (judged_stmt r true t)))) (first_stays place first)
+    (both_stays (judged_condition place o) (in_turn (judged_step place step) (one_of (judged_stmt r true t))) (test_stays place o)
+    (both_stays (judged_step place step) (one_of (judged_stmt r true t)) (step_stays place step) k))
 
 mutual
-  pub stmt_text : (r : Ty) (l : Bool) (s : source.Stmt) → SameText (judged_stmt r l s)
-  stmt_text r l (source.block place items) c = stmts_text r l items (inside c)
-  stmt_text r l (source.declare d) c = declaration_text d c
-  stmt_text r l (source.empty place) c = refl
-  stmt_text r l (source.if_then place s t) c = text_both (condition place s) (one_of (judged_stmt r l t)) (expr_text s) (stmt_text r l t) c
-  stmt_text r l (source.if_else place s t u) c = text_both (condition place s) (in_turn (one_of (judged_stmt r l t)) (one_of (judged_stmt r l u))) (expr_text s) (text_both (one_of (judged_stmt r l t)) (one_of (judged_stmt r l u)) (stmt_text r l t) (stmt_text r l u)) c
-  stmt_text r l (source.while place s t) c = text_both (condition place s) (one_of (judged_stmt r true t)) (expr_text s) (stmt_text r true t) c
-  stmt_text r l (source.for place first s step t) c = looped_text place (judged_first place first) (judged_condition place s) (judged_step place step) (one_of (judged_stmt r true t)) (first_text place first) (test_text place s) (step_text place step) (stmt_text r true t) c
-  stmt_text r l (source.break place) c = refl
-  stmt_text r l (source.continue place) c = refl
-  stmt_text r l (source.return place value) c = returned_text place r value c
-  stmt_text r l (source.simple s) c = simple_text s c
+  pub stmt_stays : (r : Ty) (l : Bool) (s : source.Stmt) → Stays (judged_stmt r l s)
+  stmt_stays r l (source.block place items) c = scoped_stays (judged_stmts r l items) (stmts_stays r l items) c
+  stmt_stays r l (source.declare d) c = declaration_stays d c
+  stmt_stays r l (source.empty place) c = refl
+  stmt_stays r l (source.if_then place s t) c = both_stays (condition place s) (one_of (judged_stmt r l t)) (expr_stays s) (stmt_stays r l t) c
+  stmt_stays r l (source.if_else place s t u) c = both_stays (condition place s) (in_turn (one_of (judged_stmt r l t)) (one_of (judged_stmt r l u))) (expr_stays s) (both_stays (one_of (judged_stmt r l t)) (one_of (judged_stmt r l u)) (stmt_stays r l t) (stmt_stays r l u)) c
+  stmt_stays r l (source.while place s t) c = both_stays (condition place s) (one_of (judged_stmt r true t)) (expr_stays s) (stmt_stays r true t) c
+  stmt_stays r l (source.for place first s step t) c = scoped_stays (for_of place (judged_first place first) (judged_condition place s) (judged_step place step) (one_of (judged_stmt r true t))) (for_stays r place first s step t (stmt_stays r true t)) c
+  stmt_stays r l (source.break place) c = refl
+  stmt_stays r l (source.continue place) c = refl
+  stmt_stays r l (source.return place value) c = returned_stays place r value c
+  stmt_stays r l (source.simple s) c = simple_stays s c
 
-  pub stmts_text : (r : Ty) (l : Bool) (ss : source.Stmts) → SameText (judged_stmts r l ss)
-  stmts_text r l source.no_stmts c = refl
-  stmts_text r l (source.more_stmts s rest) c = text_both (judged_stmt r l s) (judged_stmts r l rest) (stmt_text r l s) (stmts_text r l rest) c
+  pub stmts_stays : (r : Ty) (l : Bool) (ss : source.Stmts) → Stays (judged_stmts r l ss)
+  stmts_stays r l source.no_stmts c = refl
+  stmts_stays r l (source.more_stmts s rest) c = both_stays (judged_stmt r l s) (judged_stmts r l rest) (stmt_stays r l s) (stmts_stays r l rest) c
+
+-- ---- parameters
+
+size_still : (outermost : Bool) (d : source.ParamDim) (o : Option source.Expr) → Still (judged_size outermost d o)
+size_still outermost d None c = refl
+size_still outermost d (Some s) c = judged_still s c
+
+sizes_still : (outermost : Bool) (ds : List source.ParamDim) → Still (judged_sizes outermost ds)
+sizes_still outermost [] c = refl
+sizes_still outermost (d ∷ ds) c = still_both (judged_size outermost d d.size) (judged_sizes false ds) (size_still outermost d d.size) (sizes_still false ds) c
+
+with_param_stays : (c : Context) (o : Option Name) (t : Ty) → around (with_param c o t) ≡ around c
+with_param_stays c None t = refl
+with_param_stays c (Some n) t = declared_stays c n (local_name (length c.locals) t)
+
+param_stays : (p : source.Param) → Stays (judged_param p)
+param_stays p c =
+    with_param_stays (judged_sizes true p.dims (judged_specs (source.specs_of p.specs) c).1).1 p.name _
+    ∙ stays (judged_sizes true p.dims) (sizes_still true p.dims) (judged_specs (source.specs_of p.specs) c).1
+    ∙ stays (judged_specs (source.specs_of p.specs)) (specs_still (source.specs_of p.specs)) c
+
+params_stays : (ps : List source.Param) → Stays (judged_params ps)
+params_stays [] c = refl
+params_stays (p ∷ ps) c = both_stays (judged_param p) (judged_params ps) (param_stays p) (params_stays ps) c
+
+none_stays : (p : source.Param) (b : Bool) (c : Context) → around (none_if c p b (judged_params (p ∷ [])) c).1 ≡ around c
+none_stays p true c = stays (judged_specs (source.specs_of p.specs)) (specs_still (source.specs_of p.specs)) c
+none_stays p false c = params_stays (p ∷ []) c
+
+pub param_list_stays : (ps : List source.Param) → Stays (judged_param_list ps)
+param_list_stays [] c = refl
+param_list_stays (p ∷ []) c = none_stays p _ c
+param_list_stays (p ∷ q ∷ ps) c = params_stays (p ∷ q ∷ ps) c

@@ -6,7 +6,7 @@ use Rattle.std.specs.Str.{bytes_eq}
 use Rattle.c_lex.specs.declared.refusal.Kind.TheVariants.{TypeMismatch}
 use Rattle.c_tree.specs.Syntax as source
 use Rattle.c_tree.specs.Typed.{Ty, void, integer, mutex, pointer, array, structure, Expr, Stmt, at_stmt, block, declare, if_, if_else, while_, for_, break_, continue_, return_, empty, stmts_of}
-use Rattle.c_tree.specs.TypedForm.{IsScalar, Fits, IsTyped, IfTyped, IsNoDeclaration, IsStep, IsFirst, IsReturned, Inside, IsWell, AreWell}
+use Rattle.c_tree.specs.TypedForm.{IsScalar, IfTyped, IsNoDeclaration, IsStep, IsFirst, IsWell, AreWell}
 use Rattle.c_tree.specs.TypedForm as form
 use Rattle.c_typing.specs.Faults.{typed, unless, ◌>>=◌}
 use Rattle.c_typing.specs.Types.{is_void}

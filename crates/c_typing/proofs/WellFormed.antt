@@ -10,7 +10,7 @@ use Rattle.ak_words.specs.IntType.{int}
 use Rattle.c_lex.specs.declared.refusal.Kind.TheVariants.{UnknownName}
 use Rattle.c_tree.specs.Typed.{Ty, void, integer, mutex, pointer, array, structure, Local, GlobalVar, Func, Typed}
 use Rattle.c_tree.specs.TypedLayout.{size_in}
-use Rattle.c_tree.specs.TypedForm.{LiesIn, as_part, deeper, IsNth, Signature, signature_of, IsLayout, IsInit, IsGlobal, IsFunc, IsMain, IsWellFormed, taken}
+use Rattle.c_tree.specs.TypedForm.{LiesIn, as_part, deeper, IsNth, Signature, signature_of, IsLayout, IsGlobal, IsFunc, IsMain, IsWellFormed, taken}
 use Rattle.c_tree.specs.TypedForm as form
 use Rattle.c_typing.specs.Faults.{Judged, typed, unless, both}
 use Rattle.c_typing.specs.Scope.{Binding, global_name, local_name, function_name, library_name, Context, at_start}

@@ -48,12 +48,12 @@ ruled a rule c = let x = a c in (x.0 >>= rule x.1, x.1)
 
 -- ---- names and literals
 
--- a name is an object or a constant; a function's name is called only, or begins a thread (6.5.1)
+-- a name of the library where an expression stands: a constant is its number; a function of the library is called only
 abbrev pub named_by_library : ℕ → Library → Judged Expr
 named_by_library place (constant value) = typed (at place (integer int) (num int value))
 named_by_library place which = refuse place (OutsideSubset 12)
 
--- a name where an expression stands, by what it means
+-- a name where an expression stands, by what it means: an object or a constant; a function's name is called only, or begins a thread (6.5.1)
 abbrev pub named : ℕ → Option Binding → Judged Expr
 named place (Some (global_name n t)) = typed (at place t (global n))
 named place (Some (local_name n t)) = typed (at place t (local n))
@@ -123,18 +123,27 @@ combined c place (binaries.Value op) a b = operated c place op a b
 combined c place binaries.AndAnd a b = both (tested place a) (tested place b) >>= λ p. typed (at place (integer int) (and_also p.0 p.1))
 combined c place binaries.OrOr a b = both (tested place a) (tested place b) >>= λ p. typed (at place (integer int) (or_else p.0 p.1))
 
--- a prefix operator on an expression, which may be a name
-abbrev pub addressing : ℕ → Option Name → Judging Expr → Judging Expr
-addressing place n e c = let x = e c in (x.0 >>= address place, with_addressed x.1 (meaning_in x.1 n))
+-- a prefix operator on what it takes: `&` an object, and the others a value (C11 6.5.3.2, 6.5.3.3)
+abbrev pub prefixed_by : ℕ → PrefixOp → Expr → Judged Expr
+prefixed_by place prefixes.Minus x = minus_by place (type_of x) x
+prefixed_by place prefixes.Plus x = plus_by place (type_of x) x
+prefixed_by place prefixes.Not x = not_by place (type_of x) x
+prefixed_by place prefixes.Complement x = complement_by place (type_of x) x
+prefixed_by place prefixes.Deref x = target place x
+prefixed_by place prefixes.AddressOf x = address place x
 
--- a prefix operator on an expression: `&` takes it as an object, and the others take its value (C11 6.5.3.2, 6.5.3.3)
+-- `&` of an expression, which may be a name: it takes it as an object, which is in memory where it is a local
+abbrev pub addressing : ℕ → Option Name → Judging Expr → Judging Expr
+addressing place n e c = let x = e c in (x.0 >>= prefixed_by place prefixes.AddressOf, with_addressed x.1 (meaning_in x.1 n))
+
+-- a prefix operator on an expression, which may be a name
 abbrev pub prefixed : ℕ → PrefixOp → Option Name → Judging Expr → Judging Expr
-prefixed place prefixes.Minus n e = ruled (valued e) (λ c x. minus_by place (type_of x) x)
-prefixed place prefixes.Plus n e = ruled (valued e) (λ c x. plus_by place (type_of x) x)
-prefixed place prefixes.Not n e = ruled (valued e) (λ c x. not_by place (type_of x) x)
-prefixed place prefixes.Complement n e = ruled (valued e) (λ c x. complement_by place (type_of x) x)
-prefixed place prefixes.Deref n e = ruled (valued e) (λ c x. target place x)
 prefixed place prefixes.AddressOf n e = addressing place n e
+prefixed place op n e = ruled (valued e) (λ c x. prefixed_by place op x)
+
+-- a choice between two by a condition (C11 6.5.15)
+abbrev pub choice : (place : ℕ) → (e a b : Expr) → Judged Expr
+choice place e a b = tested place e >>= λ t. chosen place t a b
 
 -- ---- calls (6.5.2.2)
 
@@ -171,7 +180,7 @@ abbrev pub format_or : Option (List Span) → (place : ℕ) → Judging Expr →
 format_or (Some parts) place e c = (format_by place (pieces_of (joined_bytes c.text parts)), c)
 format_or None place e c = ruled e (λ d x. refuse place (OutsideSubset 15)) c
 
--- at most 16 arguments behind it
+-- the place of the first argument past so many, if there is one
 abbrev pub place_past : (most : ℕ) → source.Exprs → Option ℕ
 place_past most source.no_exprs = None
 place_past zero (source.more_exprs e rest) = Some (node_place e)
@@ -186,18 +195,30 @@ none_past count (Some place) = refuse place (TooMany count)
 abbrev pub printed : (place : ℕ) → (List Piece × List Expr) → Judged Expr
 printed place p = or_mismatch place (arguments_for p.0 p.1) >>= λ es. typed (at place (integer int) (lib (trees.print p.0) (exprs_of es)))
 
--- a thread begins with a function `int f(void *)`, which is named
-abbrev pub starting_by : (n : ℕ) → Bool → Option ℕ
-starting_by n fits = if fits then Some n else None
+-- a function `int f(void *)`, with which a thread may begin (7.26.1 p4)
+abbrev pub begins_thread : (params : List Ty) → (result : Ty) → Bool
+begins_thread params result = same_type result (integer int) && same_types params (pointer void ∷ [])
 
--- the second argument of thrd_create, by what it means: the number of a function that a thread may begin with, or none; what
--- isn't the name of a function is judged for its faults
+-- the number of a function, if a thread may begin with it
+abbrev pub starting_by : (n : ℕ) → (begins : Bool) → Option ℕ
+starting_by n begins = if begins then Some n else None
+
+-- what a thread begins with, by what a name means: the number of a function, or none; nothing is said of what isn't the name of
+-- a function
+abbrev pub begun_by : Option Binding → Option (Option ℕ)
+begun_by (Some (function_name n params result)) = Some (starting_by n (begins_thread params result))
+begun_by (Some (library_name (constant value))) = None
+begun_by (Some (library_name which)) = Some None
+begun_by m = None
+
+-- what a thread begins with; what isn't the name of a function is judged for its faults
+abbrev pub begun_or : Option (Option ℕ) → Judging Expr → Judging (Option ℕ)
+begun_or (Some begun) e = lone (typed begun)
+begun_or None e = ruled e (λ d x. typed None)
+
+-- the second argument of thrd_create, by what it means
 abbrev pub starting_or : Option Binding → Judging Expr → Judging (Option ℕ)
-starting_or (Some (function_name n params result)) e c =
-    (typed (starting_by n (same_type result (integer int) && same_types params (pointer void ∷ []))), c)
-starting_or (Some (library_name (constant value))) e c = ruled e (λ d x. typed None) c
-starting_or (Some (library_name which)) e c = (typed None, c)
-starting_or m e c = ruled e (λ d x. typed None) c
+starting_or m e = begun_or (begun_by m) e
 
 -- thrd_create, at its name: the place of the number, the function and its argument
 abbrev pub started_by : (place : ℕ) → Option ℕ → Option (List Expr) → Judged Expr
@@ -209,7 +230,7 @@ started_by place (Some f) None = refuse place TypeMismatch
 abbrev pub started : (place : ℕ) → (before : List Expr) → Option ℕ → (behind : List Expr) → Judged Expr
 started place before f behind = started_by place f (fitted_all (pointer (integer unsigned_long) ∷ pointer void ∷ []) (before ++ behind))
 
--- mtx_init, at its name: the mutex, and the constant 0 as its kind, which is no operand
+-- the kind of a mutex is the constant 0, which is no operand (this project's profile)
 abbrev pub plain_kind : Expr → Judged (Unit {0})
 plain_kind e = unless (place_of e) (OutsideSubset 14) (is_zero (node_of e))
 
@@ -235,13 +256,17 @@ abbrev pub no_call : (place : ℕ) → Kind → Judging (List Expr) → Judging 
 no_call place kind args = ruled (in_turn (lone (refuse {A = Unit {0}} place kind)) args) (λ c p. refuse place kind)
 
 -- a call, by what its name means; a name is looked up whether or not the arguments are typed
+abbrev pub called_as : Option Binding → (place : ℕ) → (args : Judging (List Expr)) → Judging Expr
+called_as (Some (function_name n params result)) place args = ruled args (λ c es. called place n params result es)
+called_as (Some (library_name which)) place args = ruled args (λ c es. called_library place which es)
+called_as (Some m) place args = no_call place TypeMismatch args
+called_as None place args = no_call place UnknownName args
+
+-- the same, where printf and thrd_create judge their arguments in ways of their own
 abbrev pub called_by : Option Binding → (place : ℕ) → (args : Judging (List Expr)) → (print start : Judging Expr) → Judging Expr
-called_by (Some (function_name n params result)) place args print start = ruled args (λ c es. called place n params result es)
 called_by (Some (library_name printf)) place args print start = print
 called_by (Some (library_name thrd_create)) place args print start = start
-called_by (Some (library_name which)) place args print start = ruled args (λ c es. called_library place which es)
-called_by (Some m) place args print start = no_call place TypeMismatch args
-called_by None place args print start = no_call place UnknownName args
+called_by m place args print start = called_as m place args
 
 -- ---- specifiers (6.7.2)
 
@@ -309,6 +334,10 @@ dimension_by place (Some n) =
 abbrev pub dimension : source.Expr → Context → Expr → Judged ℕ
 dimension e c x = dimension_by (node_place e) (constant_value c e x)
 
+-- the size of an array, by the expression that stands between the brackets
+abbrev pub array_size : source.Expr → Judging Expr → Judging ℕ
+array_size e x = ruled (valued x) (dimension e)
+
 -- an object has a size, and at most the greatest object's
 abbrev pub object_type : Context → (place : ℕ) → Ty → Judged Ty
 object_type c place t = unless place BadSize (has_size c.structs t && is_small c.structs t) >>= λ u. typed t
@@ -364,14 +393,23 @@ closed c number (faulty r rs) = c
 abbrev pub opened : Context → Name → Judged (Unit {0})
 opened c t = both (unless t.from DoubleName (not (is_begun c (tag_number c t)))) (within t.from 3 256 (length c.begun)) >>= λ u. typed tt
 
--- the braces of a struct, the second ones of a tag declare nothing
+-- the members of a struct up to the closing brace; the second braces of a tag declare nothing
+abbrev pub fitting : (place number : ℕ) → (again : Bool) → Judging (List (List ℕ × Ty)) → Judging (List (List ℕ × Ty))
+fitting place number again members c =
+    let x = members c in
+    let all = x.0 >>= struct_fits x.1 place in
+    (all, if again then x.1 else closed x.1 number all)
+
+-- the braces of a struct, by what was judged of the opening one
+abbrev pub closing : (place number : ℕ) → (opening : Judged (Unit {0})) → (again : Bool) → Judging (List (List ℕ × Ty)) → Judging Part
+closing place number opening again members = ruled (in_turn (lone opening) (fitting place number again members)) (λ d p. typed (tag number))
+
+-- the braces of a struct, behind its tag
 abbrev pub braced : Name → Judging (List (List ℕ × Ty)) → Judging Part
 braced t members around =
     let c = with_tag around t in
     let number = tag_number c t in
-    let x = members (with_begun c number) in
-    let all = x.0 >>= struct_fits x.1 t.from in
-    (both (opened c t) all >>= λ p. typed (tag number), if is_begun c number then x.1 else closed x.1 number all)
+    closing t.from number (opened c t) (is_begun c number) members (with_begun c number)
 
 -- ---- the judgement
 
@@ -395,7 +433,7 @@ abbrev mutual
   judged (source.arrow place e m) c = ruled (valued (judged e)) (λ d x. pointed d place x m) c
   judged (source.binary place op a b) c = ruled (in_turn (valued (judged a)) (valued (judged b))) (λ d p. combined d place op p.0 p.1) c
   judged (source.conditional place e a b) c =
-      ruled (in_turn (valued (judged e)) (in_turn (valued (judged a)) (valued (judged b)))) (λ d p. tested place p.0 >>= λ t. chosen place t p.1.0 p.1.1) c
+      ruled (in_turn (valued (judged e)) (in_turn (valued (judged a)) (valued (judged b)))) (λ d p. choice place p.0 p.1.0 p.1.1) c
 
   -- arguments, from left to right
   pub judged_all : source.Exprs → Judging (List Expr)
@@ -458,7 +496,7 @@ abbrev mutual
   pub judged_dims : source.Exprs → Judging (List ℕ)
   judged_dims source.no_exprs c = (typed [], c)
   judged_dims (source.more_exprs e rest) c =
-      ruled (in_turn (ruled (valued (judged e)) (dimension e)) (judged_dims rest)) (λ d p. typed (p.0 ∷ p.1)) c
+      ruled (in_turn (array_size e (judged e)) (judged_dims rest)) (λ d p. typed (p.0 ∷ p.1)) c
 
 -- the type that specifiers name
 abbrev pub judged_specs : source.Specs → Judging Ty

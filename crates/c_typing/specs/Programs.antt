@@ -17,11 +17,11 @@ use Rattle.c_tree.specs.Typed as trees
 use Rattle.c_tree.specs.TypedLayout.{size_in}
 use Rattle.c_typing.specs.Faults.{Judged, typed, faulty, refuse, unless, both, mapped, ◌>>=◌}
 use Rattle.c_typing.specs.Types.{same_int, same_type, same_types, is_void, is_struct_or_mutex, has_size, behind_pointers, arrays_of}
-use Rattle.c_typing.specs.Scope.{Binding, global_name, function_name, Context, at_start, bytes_of, library, fresh, declared, inside, back_to, within, fits_plain}
+use Rattle.c_typing.specs.Scope.{Binding, global_name, function_name, Frame, Context, at_start, bytes_of, library, fresh, declared, inside, back_to, within, fits_plain}
 use Rattle.c_typing.specs.Rules.{is_zero}
 use Rattle.c_typing.specs.Constants.{constant_value}
-use Rattle.c_typing.specs.Judgement.{Judging, lone, in_turn, ruled, valued, judged, judged_specs, place_of_specs, dimension, object_type, object_declared}
-use Rattle.c_typing.specs.Statements.{or_int, most_locals, with_local, judged_declarator, name_of, judged_stmts}
+use Rattle.c_typing.specs.Judgement.{Judging, lone, in_turn, ruled, valued, judged, judged_specs, place_of_specs, array_size, object_type}
+use Rattle.c_typing.specs.Statements.{or_int, most_locals, with_local, object_of, name_of, judged_stmts}
 use Rattle.c_typing.specs.Numbering.{Param, func_of}
 use Rattle.c_tree.specs.TypedForm.{taken}
 
@@ -73,15 +73,17 @@ judged_global_init place t (Some e) c = ruled (in_turn (lone t) (valued (judged 
 abbrev pub with_global : Context → Name → Ty → Context
 with_global c n t = record (declared c n (global_name (length c.globals) t)) { globals = c.globals ++ t ∷ []; plain = c.plain + taken (size_in c.structs t) }
 
+-- what is judged at a global's name
+abbrev pub global_fine : Context → Name → Judged Ty → Judged (Unit {0} × (Unit {0} × Unit {0}))
+global_fine c n t = both (fresh c n) (both (within n.from 2 4096 (length c.globals)) (t >>= λ s. fits_plain c n.from (size_in c.structs s)))
+
 -- a global, at its name; it is in scope directly behind its declarator
 abbrev pub judged_global : Judged Ty → source.InitDeclarator → Judging GlobalVar
 judged_global base x around =
     let n = name_of x.declarator in
-    let d = judged_declarator x.declarator around in
-    let t = both base d.0 >>= λ p. object_declared d.1 p.0 p.1 in
-    let fine = both (fresh d.1 n) (both (within n.from 2 4096 (length d.1.globals)) (t >>= λ s. fits_plain d.1 n.from (size_in d.1.structs s))) in
-    let i = judged_global_init n.from t x.value (with_global d.1 n (or_int t)) in
-    (both (both fine t) i.0 >>= λ p. typed (record { ty = p.0.1; init = p.1 }), i.1)
+    let t = object_of base x.declarator around in
+    let i = judged_global_init n.from t.0 x.value (with_global t.1 n (or_int t.0)) in
+    (both (both (global_fine t.1 n t.0) t.0) i.0 >>= λ p. typed (record { ty = p.0.1; init = p.1 }), i.1)
 
 -- globals that are declared together, in order
 abbrev pub judged_globals : Judged Ty → List source.InitDeclarator → Judging (List GlobalVar)
@@ -99,10 +101,14 @@ place_or None place = place
 abbrev pub param_place : source.Param → ℕ
 param_place p = place_or p.name (place_of_specs (source.specs_of p.specs))
 
--- a size between brackets: it may lack in the outermost ones alone
+-- a size that lacks, which it may between the outermost brackets alone
+abbrev pub lacking : (outermost : Bool) → (place : ℕ) → Judged (Option ℕ)
+lacking outermost place = if outermost then typed None else refuse place BadSize
+
+-- a size between brackets, or none
 abbrev pub judged_size : (outermost : Bool) → source.ParamDim → Option source.Expr → Judging (Option ℕ)
-judged_size outermost d None c = (if outermost then typed None else refuse d.place BadSize, c)
-judged_size outermost d (Some e) c = ruled (ruled (valued (judged e)) (dimension e)) (λ x n. typed (Some n)) c
+judged_size outermost d None c = (lacking outermost d.place, c)
+judged_size outermost d (Some e) c = ruled (array_size e (judged e)) (λ x n. typed (Some n)) c
 
 -- the sizes that are written, in order, without the one that lacks
 abbrev pub known : List (Option ℕ) → List ℕ
@@ -134,15 +140,27 @@ abbrev pub with_param : Context → Option Name → Ty → Context
 with_param c None t = record c { locals = c.locals ++ t ∷ [] }
 with_param c (Some n) t = with_local c n t
 
--- a parameter: there are 16 at most, and they count among the function's locals
+-- the type of a parameter, by the type that its specifiers name, its pointers and its sizes
+abbrev pub adjusted_param : Context → (place : ℕ) → (base : Ty) → List Pointer → List (Option ℕ) → Judged Ty
+adjusted_param c place base pointers sizes = adjusted c place (behind_pointers base pointers) sizes >>= param_type c place
+
+-- the type of a parameter, behind its specifiers
+abbrev pub param_object : (base : Judged Ty) → source.Param → Judging Ty
+param_object base p = ruled (in_turn (lone base) (judged_sizes true p.dims)) (λ c x. adjusted_param c (param_place p) x.0 p.pointers x.1)
+
+-- what is judged at a parameter, whatever its type is: there are 16 at most, and they count among the function's locals
+abbrev pub param_fine : Context → (place : ℕ) → Option Name → Judged (Unit {0} × (Unit {0} × Unit {0}))
+param_fine c place name = both (fresh_if c name) (both (within place 6 16 (length c.locals)) (within place 5 most_locals (length c.locals)))
+
+-- a parameter, behind its specifiers
+abbrev pub param_behind : (base : Judged Ty) → source.Param → Judging Param
+param_behind base p around =
+    let t = param_object base p around in
+    (both (param_fine t.1 (param_place p) p.name) t.0 >>= λ x. typed (record { place = param_place p; ty = x.1 }), with_param t.1 p.name (or_int t.0))
+
+-- a parameter
 abbrev pub judged_param : source.Param → Judging Param
-judged_param p around =
-    let place = param_place p in
-    let s = judged_specs (source.specs_of p.specs) around in
-    let z = judged_sizes true p.dims s.1 in
-    let t = both s.0 z.0 >>= λ x. adjusted z.1 place (behind_pointers x.0 p.pointers) x.1 >>= param_type z.1 place in
-    let fine = both (fresh_if z.1 p.name) (both (within place 6 16 (length z.1.locals)) (within place 5 most_locals (length z.1.locals))) in
-    (both fine t >>= λ x. typed (record { place = place; ty = x.1 }), with_param z.1 p.name (or_int t))
+judged_param p around = let s = judged_specs (source.specs_of p.specs) around in param_behind s.0 p s.1
 
 -- parameters, from left to right
 abbrev pub judged_params : List source.Param → Judging (List Param)
@@ -163,6 +181,10 @@ abbrev pub void_by : Judged Ty → Bool
 void_by (typed t) = is_void t
 void_by (faulty r rs) = false
 
+-- a parameter is none where it has no name and no brackets and its type is void
+abbrev pub is_none : (base : Judged Ty) → source.Param → Bool
+is_none base p = is_bare p && void_by (mapped (λ t. behind_pointers t p.pointers) base)
+
 -- no parameter at all where that is what is written, and else these
 abbrev pub none_if : Context → source.Param → (is_none : Bool) → Judging (List Param) → Judging (List Param)
 none_if around p true params c = (typed [], (judged_specs (source.specs_of p.specs) c).1)
@@ -170,18 +192,17 @@ none_if around p false params c = params c
 
 -- what stands between the brackets of a function's declarator: `void` alone, or parameters
 abbrev pub judged_param_list : List source.Param → Judging (List Param)
-judged_param_list (p ∷ []) c =
-    none_if c p (is_bare p && void_by (mapped (λ t. behind_pointers t p.pointers) (judged_specs (source.specs_of p.specs) c).0)) (judged_params (p ∷ [])) c
+judged_param_list (p ∷ []) c = none_if c p (is_none (judged_specs (source.specs_of p.specs) c).0 p) (judged_params (p ∷ [])) c
 judged_param_list ps c = judged_params ps c
 
 -- ---- functions (6.9.1)
 
--- the names of the functions that have a body, in the order of the text: a function's number is its place among them
+-- the name that an external declaration gives a body, if it does
 abbrev pub defined_name : List ℕ → source.Rest → List (List ℕ)
 defined_name text (source.function pointers n params (Some body)) = bytes_of text n ∷ []
 defined_name text rest = []
 
--- the names of the functions of a file that have a body, in the order of the text
+-- the names of the functions of a file that have a body, in the order of the text: a function's number is its place among them
 abbrev pub defined_names : List ℕ → List source.External → List (List ℕ)
 defined_names text [] = []
 defined_names text (x ∷ xs) = defined_name text x.rest ++ defined_names text xs
@@ -214,7 +235,7 @@ first_time c names n false = typed tt
 first_time c names n true =
     both (unless n.from UnknownName (list_any (bytes_eq (bytes_of c.text n)) names)) (within n.from 1 8192 (length c.functions)) >>= λ u. typed tt
 
--- and has one body (6.9 p3)
+-- a function has one body (6.9 p3)
 abbrev pub one_body : Context → Name → Option source.Body → Judged (Unit {0})
 one_body c n None = typed tt
 one_body c n (Some body) = unless n.from DoubleName (not (list_any (bytes_eq (bytes_of c.text n)) c.bodies))
@@ -231,7 +252,11 @@ not_library c n = unless n.from DoubleName (not (is_some (lookup (bytes_eq (byte
 abbrev pub result_type : (place : ℕ) → Ty → Judged Ty
 result_type place t = unless place (OutsideSubset 13) (not (is_struct_or_mutex t)) >>= λ u. typed t
 
--- all that is judged at a function's name, whatever its type is, and by its type
+-- what a function returns, by the type that its specifiers name
+abbrev pub result_of : (place : ℕ) → (base : Judged Ty) → List Pointer → Judged Ty
+result_of place base pointers = base >>= λ t. result_type place (behind_pointers t pointers)
+
+-- what is judged at a function's name, whatever its type is
 abbrev pub name_fine : Context → (names : List (List ℕ)) → Name → Option source.Body → Judged (Unit {0})
 name_fine c names n body =
     both (both (not_library c n) (once n.from (before_name c n))) (both (first_time c names n (is_new (before_name c n))) (one_body c n body)) >>= λ u. typed tt
@@ -239,6 +264,14 @@ name_fine c names n body =
 -- a function that is declared again has the type that it had
 abbrev pub type_fine : Context → Name → List Param → Ty → Judged (Unit {0})
 type_fine c n params result = agrees n.from (map (λ (p : Param). p.ty) params) result (before_name c n)
+
+-- the same, where its parameters and its result are typed
+abbrev pub types_fine : Context → Name → Judged (List Param) → Judged Ty → Judged (Unit {0})
+types_fine c n params result = both params result >>= λ p. type_fine c n p.0 p.1
+
+-- all that is judged at a function's name
+abbrev pub head_fine : Context → (names : List (List ℕ)) → Name → Option source.Body → Judged (List Param) → Judged Ty → Judged (Unit {0} × Unit {0})
+head_fine c names n body params result = both (name_fine c names n body) (types_fine c n params result)
 
 -- the types of parameters, or none where one is at fault
 abbrev pub types_or : Judged (List Param) → List Ty
@@ -257,9 +290,13 @@ with_function c names n params result = declared (with_name c n) n (function_nam
 abbrev pub with_body : Context → Name → Context
 with_body c n = record c { bodies = if list_any (bytes_eq (bytes_of c.text n)) c.bodies then c.bodies else c.bodies ++ bytes_of c.text n ∷ [] }
 
+-- the parameters of a function stand in a scope of their own (6.2.1 p4), and are the first of its locals
+abbrev pub before_params : Context → Context
+before_params around = record (inside around) { locals = []; addressed = [] }
+
 -- the body of a function stands in the scope of its parameters (6.2.1 p4), which is around no other
-abbrev pub in_scope_of : Context → Context → Context
-in_scope_of params c = record c { inner = params.inner; outer = c.outer ++ c.inner ∷ [] }
+abbrev pub in_scope_of : (params : Frame) → Context → Context
+in_scope_of params c = record c { inner = params; outer = c.outer ++ c.inner ∷ [] }
 
 -- the one function that a definition makes, of its parameters, its result and its body
 abbrev pub func_by : Judged (List Param) → Judged Ty → Context → Judged (List Stmt) → Judged (List Func)
@@ -276,16 +313,19 @@ abbrev pub body_behind : Context → Name → Option source.Body → Context →
 body_behind around n None c = around
 body_behind around n (Some body) c = with_body (back_to around c) n
 
+-- a body in the scope of the parameters, or none, and what is left behind it
+abbrev pub body_within : (scope : Frame) → Judged (List Param) → Judged Ty → Name → Option source.Body → Judging (List Func)
+body_within scope params result n body c =
+    let x = judged_body params result body (in_scope_of scope c) in (x.0, body_behind c n body x.1)
+
 -- a function's declaration or definition. Its parameters' scope is its own; its name is in scope behind its declarator
 abbrev pub judged_function : (names : List (List ℕ)) → Judged Ty → List Pointer → Name → List source.Param → Option source.Body → Judging (List Func)
 judged_function names base pointers n params body around =
-    let result = base >>= λ t. result_type n.from (behind_pointers t pointers) in
-    let ps = judged_param_list params (record (inside around) { locals = []; addressed = [] }) in
+    let result = result_of n.from base pointers in
+    let ps = judged_param_list params (before_params around) in
     let c = back_to around ps.1 in
-    let fine = both (name_fine c names n body) (both ps.0 result >>= λ p. type_fine c n p.0 p.1) in
-    let d = with_function c names n (types_or ps.0) (or_int result) in
-    let x = judged_body ps.0 result body (in_scope_of ps.1 d) in
-    (both fine x.0 >>= λ p. typed p.1, body_behind d n body x.1)
+    let x = body_within ps.1.inner ps.0 result n body (with_function c names n (types_or ps.0) (or_int result)) in
+    (both (head_fine c names n body ps.0 result) x.0 >>= λ p. typed p.1, x.1)
 
 -- ---- files (6.9)
 
@@ -317,12 +357,12 @@ abbrev pub judged_externals : (names : List (List ℕ)) → List source.External
 judged_externals names [] c = (typed (record { globals = []; funcs = [] }), c)
 judged_externals names (x ∷ xs) c = ruled (in_turn (judged_external names x) (judged_externals names xs)) (λ d p. typed (joined p.0 p.1)) c
 
--- there is `int main(void)`, with a body; else its name is unknown at the text's end (5.1.2.2.1, this project's profile)
+-- a function `int main(void)` (5.1.2.2.1)
 abbrev pub is_main : Option Binding → Bool
 is_main (Some (function_name n [] (integer t))) = same_int t int
 is_main m = false
 
--- the number of main, if the file has it
+-- the number of main, which has a body; else its name is unknown at the text's end (5.1.2.2.1, this project's profile)
 abbrev pub has_main : Context → (names : List (List ℕ)) → Judged ℕ
 has_main c names =
     unless (length c.text) UnknownName (is_main (lookup (bytes_eq (codes "main")) c.inner) && list_any (bytes_eq (codes "main")) names)
@@ -332,9 +372,13 @@ has_main c names =
 abbrev pub program_of : Context → Made → ℕ → Typed
 program_of c made main = record { structs = c.structs; globals = made.globals; literals = c.literals; funcs = made.funcs; main = main }
 
--- the typed tree of a file of this text, or all its faults: it is judged from its first declaration on, with main asked for at its end
-abbrev pub judged_file : List ℕ → source.File → Judged Typed
-judged_file text f =
-    let names = defined_names text f.externals in
-    let x = judged_externals names f.externals (at_start text) in
+-- a file, judged from its first declaration on, with main asked for at its end
+abbrev pub whole_file : source.File → Context → Judged Typed
+whole_file f c =
+    let names = defined_names c.text f.externals in
+    let x = judged_externals names f.externals c in
     both x.0 (has_main x.1 names) >>= λ p. typed (program_of x.1 p.0 p.1)
+
+-- the typed tree of a file of this text, or all its faults
+abbrev pub judged_file : List ℕ → source.File → Judged Typed
+judged_file text f = whole_file f (at_start text)

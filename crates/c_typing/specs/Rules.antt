@@ -268,12 +268,12 @@ chosen place e a b = chosen_by place (operands (type_of a) (type_of b)) e a b
 
 -- ---- casts and sizes
 
--- (t)e (6.5.4): anything to void; number to number, pointer to pointer, the constant 0 to a pointer; between other numbers and
--- pointers there are no casts in the language
+-- a number where a pointer is wanted: the constant 0 is one; of no other number is there a cast in the language
 abbrev pub cast_number_by : ℕ → Ty → Bool → Expr → Judged Expr
 cast_number_by place t zero_constant e = if zero_constant then typed (null_for t e) else refuse place (OutsideSubset 11)
 
--- (t)e where e has type s
+-- (t)e where e has type s (6.5.4): anything to void; number to number, pointer to pointer, the constant 0 to a pointer; between other
+-- numbers and pointers there are no casts in the language
 abbrev pub cast_by : ℕ → (s t : Ty) → Expr → Judged Expr
 cast_by place s void e = typed (at place void (convert e))
 cast_by place (integer s) (integer t) e = typed (at place (integer t) (convert e))

@@ -1,5 +1,5 @@
 -- What names mean where a node stands, and what the text has shown before it (C11 6.2.1, 6.2.3, 7.1.3).
-use Rattle.std.specs.Prelude.{ℕ, ◌+◌, ◌*◌, ◌/◌, ◌==◌, nat_le, nat_lt, Bool, ◌&&◌, ◌||◌, not, if◌then◌else◌, List, [], ◌∷◌, ◌++◌, length, map, set, codes, slice_get, Option, Some, None, ℤ, pos}
+use Rattle.std.specs.Prelude.{ℕ, ◌+◌, ◌==◌, nat_le, nat_lt, Bool, ◌&&◌, ◌||◌, not, if◌then◌else◌, List, [], ◌∷◌, ◌++◌, length, map, set, codes, slice_get, Option, Some, None, ℤ, pos}
 use Rattle.std.specs.List.{slice_range, list_any}
 use Rattle.std.specs.Map.{lookup}
 use Rattle.std.specs.Option.{is_some}
@@ -124,11 +124,11 @@ fresh c n = unless n.from DoubleName (not (is_double c n))
 abbrev pub declared : Context → Name → Binding → Context
 declared c n m = if is_double c n then c else record c { inner = c.inner ++ (bytes_of c.text n, m) ∷ [] }
 
--- into a scope of its own (6.8.2, 6.8.5), and back to those around, with all that the text has shown there
+-- into a scope of its own (6.8.2, 6.8.5)
 abbrev pub inside : Context → Context
 inside c = record c { inner = []; outer = c.outer ++ c.inner ∷ [] }
 
--- the scopes are those around again; all else stays as the text has shown it
+-- back to the scopes around, with all that the text has shown meanwhile
 abbrev pub back_to : Context → Context → Context
 back_to around c = record c { inner = around.inner; outer = around.outer }
 

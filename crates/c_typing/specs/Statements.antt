@@ -10,7 +10,7 @@ use Rattle.c_tree.specs.declared.syntax.StepOp.TheVariants as steps
 use Rattle.c_tree.specs.declared.syntax.AssignOp.{AssignOp}
 use Rattle.c_tree.specs.declared.syntax.AssignOp.TheVariants as assigns
 use Rattle.c_tree.specs.Syntax as source
-use Rattle.c_tree.specs.Typed.{Ty, integer, pointer, Expr, at, num, type_of, node_of, place_of, Stmt, at_stmt, block, declare, if_, if_else, while_, for_, break_, continue_, return_, assign, update, evaluate, empty, Stmts, no_stmts, more_stmts, stmts_of}
+use Rattle.c_tree.specs.Typed.{Ty, integer, pointer, Expr, at, num, type_of, node_of, place_of, Stmt, at_stmt, StmtNode, block, declare, if_, if_else, while_, for_, break_, continue_, return_, assign, update, evaluate, empty, stmts_of}
 use Rattle.c_typing.specs.Faults.{Judged, typed, faulty, refuse, unless, both, ◌>>=◌}
 use Rattle.c_typing.specs.Types.{is_void, is_array, is_scalar, has_size, is_declared}
 use Rattle.c_typing.specs.Scope.{Context, local_name, fresh, declared, inside, back_to, within}
@@ -75,10 +75,14 @@ abbrev pub assigned_by : Context → (place : ℕ) → Option Op → Expr → Ex
 assigned_by c place None left right = assigned c place left right
 assigned_by c place (Some op) left right = updated c place op left (value_of right)
 
+-- ++ or -- of an expression, before or behind it: as a whole statement both do the same
+abbrev pub stepped_by : (place : ℕ) → StepOp → Judging Expr → Judging Stmt
+stepped_by place op e = ruled e (λ c x. stepped c place op x)
+
 -- an expression statement, an assignment, ++ or --
 abbrev pub judged_simple : source.Simple → Judging Stmt
-judged_simple (source.before place op e) = ruled (judged e) (λ c x. stepped c place op x)
-judged_simple (source.after place op e) = ruled (judged e) (λ c x. stepped c place op x)
+judged_simple (source.before place op e) = stepped_by place op (judged e)
+judged_simple (source.after place op e) = stepped_by place op (judged e)
 judged_simple (source.assign place op left right) = ruled (in_turn (judged left) (judged right)) (λ c p. assigned_by c place (assign_op op) p.0 p.1)
 judged_simple (source.eval e) = ruled (valued (judged e)) (λ c x. typed (at_stmt (node_place e) (evaluate x)))
 
@@ -111,19 +115,25 @@ judged_init place t (Some e) c = ruled (in_turn (lone t) (valued (judged e))) (�
 abbrev pub judged_declarator : source.Declarator → Judging Declarator
 judged_declarator (source.declarator pointers n dims) = ruled (judged_dims dims) (λ c sizes. typed (record { name = n; pointers = pointers; sizes = sizes }))
 
+-- the type of the object that a declarator declares, by the type that its specifiers name
+abbrev pub object_of : (base : Judged Ty) → source.Declarator → Judging Ty
+object_of base d = ruled (in_turn (lone base) (judged_declarator d)) (λ c p. object_declared c p.0 p.1)
+
 -- the name that a declarator declares
 abbrev pub name_of : source.Declarator → Name
 name_of (source.declarator pointers n dims) = n
+
+-- what is judged at a local's name, whatever its type is
+abbrev pub local_fine : Context → Name → Judged (Unit {0} × Unit {0})
+local_fine c n = both (fresh c n) (within n.from 5 most_locals (length c.locals))
 
 -- a local, at its name, which is in scope in its own initialiser already (C11 6.2.1 p7)
 abbrev pub judged_local : Judged Ty → source.InitDeclarator → Judging Stmt
 judged_local base x around =
     let n = name_of x.declarator in
-    let d = judged_declarator x.declarator around in
-    let t = both base d.0 >>= λ p. object_declared d.1 p.0 p.1 in
-    let fine = both (fresh d.1 n) (within n.from 5 most_locals (length d.1.locals)) in
-    let i = judged_init n.from t x.value (with_local d.1 n (or_int t)) in
-    (both (both fine t) i.0 >>= λ p. typed (at_stmt n.from (declare (length d.1.locals) p.1)), i.1)
+    let t = object_of base x.declarator around in
+    let i = judged_init n.from t.0 x.value (with_local t.1 n (or_int t.0)) in
+    (both (both (local_fine t.1 n) t.0) i.0 >>= λ p. typed (at_stmt n.from (declare (length t.1.locals) p.1)), i.1)
 
 -- locals that are declared together, in order
 abbrev pub judged_locals : Judged Ty → List source.InitDeclarator → Judging (List Stmt)
@@ -156,14 +166,22 @@ only (s ∷ rest) = s
 abbrev pub one_of : Judging (List Stmt) → Judging Stmt
 one_of j = ruled j (λ c ss. typed (only ss))
 
--- what a function returns, at the word (6.8.6.4 p1)
+-- a break or a continue stands in a loop (6.8.6.2 p1, 6.8.6.3 p1)
+abbrev pub jump : (place : ℕ) → (in_loop : Bool) → StmtNode → Judged (List Stmt)
+jump place in_loop node = unless place TypeMismatch in_loop >>= λ u. typed (at_stmt place node ∷ [])
+
+-- a return without a value, in a function that returns none (6.8.6.4 p1)
+abbrev pub returned_none : (place : ℕ) → Ty → Judged Stmt
+returned_none place result = unless place TypeMismatch (is_void result) >>= λ u. typed (at_stmt place (return_ None))
+
+-- a return with a value, at the word, in a function that returns one (6.8.6.4 p1)
 abbrev pub returned_by : (place : ℕ) → Ty → Expr → Judged Stmt
 returned_by place result x =
     unless place TypeMismatch (not (is_void result)) >>= λ u. or_mismatch place (fitted result x) >>= λ y. typed (at_stmt place (return_ (Some y)))
 
 -- a return at its word, with a value or without, in a function of this result
 abbrev pub returned : (place : ℕ) → (result : Ty) → Option source.Expr → Judging Stmt
-returned place result None c = (unless place TypeMismatch (is_void result) >>= λ u. typed (at_stmt place (return_ None)), c)
+returned place result None c = (returned_none place result, c)
 returned place result (Some e) c = ruled (valued (judged e)) (λ d x. returned_by place result x) c
 
 -- locals that a for declares in its header, one behind the other; the last stands in the loop
@@ -194,10 +212,13 @@ judged_step place None = lone (typed (at_stmt place empty))
 judged_step place (Some s) = judged_simple s
 
 -- the parts of a for, in the order of the text
+abbrev pub for_of : (place : ℕ) → Judging (List Stmt) → Judging (Option Expr) → Judging Stmt → Judging Stmt → Judging Stmt
+for_of place first test step body =
+    ruled (in_turn first (in_turn test (in_turn step body))) (λ c p. typed (headed place p.0 (λ s. at_stmt place (for_ s p.1.0 p.1.1.0 p.1.1.1))))
+
+-- a for, in a scope of its own (C11 6.8.5 p5)
 abbrev pub looped : (place : ℕ) → Judging (List Stmt) → Judging (Option Expr) → Judging Stmt → Judging Stmt → Judging Stmt
-looped place first test step body =
-    scoped (ruled (in_turn first (in_turn test (in_turn step body)))
-    (λ c p. typed (headed place p.0 (λ s. at_stmt place (for_ s p.1.0 p.1.1.0 p.1.1.1)))))
+looped place first test step body = scoped (for_of place first test step body)
 
 -- a statement, in a function of this result, in a loop or not; and the items of a body: a declaration may give several
 abbrev mutual
@@ -216,8 +237,8 @@ abbrev mutual
       ruled (in_turn (condition place e) (one_of (judged_stmt result true s))) (λ d p. typed (at_stmt place (while_ p.0 p.1) ∷ [])) c
   judged_stmt result in_loop (source.for place first e step s) c =
       ruled (looped place (judged_first place first) (judged_condition place e) (judged_step place step) (one_of (judged_stmt result true s))) (λ d x. typed (x ∷ [])) c
-  judged_stmt result in_loop (source.break place) c = (unless place TypeMismatch in_loop >>= λ u. typed (at_stmt place break_ ∷ []), c)
-  judged_stmt result in_loop (source.continue place) c = (unless place TypeMismatch in_loop >>= λ u. typed (at_stmt place continue_ ∷ []), c)
+  judged_stmt result in_loop (source.break place) c = (jump place in_loop break_, c)
+  judged_stmt result in_loop (source.continue place) c = (jump place in_loop continue_, c)
   judged_stmt result in_loop (source.return place value) c = ruled (returned place result value) (λ d x. typed (x ∷ [])) c
   judged_stmt result in_loop (source.simple s) c = ruled (judged_simple s) (λ d x. typed (x ∷ [])) c
 

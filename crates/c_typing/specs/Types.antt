@@ -111,7 +111,7 @@ naming_words = words.Void ∷ words.Char ∷ words.Short ∷ words.Int ∷ words
 abbrev pub same_words : List TypeWord → List TypeWord → Bool
 same_words ws vs = list_all (λ w. nat_eq (times w ws) (times w vs)) naming_words
 
--- an integer type of so many bits
+-- unsigned char has 8 bits (this project's profile)
 abbrev pub unsigned_char : IntType
 unsigned_char = record { signed = false; bits = 8; known_width = refl }
 

@@ -11,7 +11,7 @@ use Rattle.arena_meaning.specs.Changes.{without_id}
 use Rattle.ak_trace.specs.declared.endings.TrapKind.{TrapKind}
 use Rattle.ak_trace.specs.declared.endings.TrapKind.TheVariants as kinds
 use Rattle.flat_meaning.specs.Accesses as actions
-use Rattle.flat_meaning.specs.Accesses.{Choice, Done, is_live_start, within, prints}
+use Rattle.flat_meaning.specs.Accesses.{Done, is_live_start, within, prints}
 use Rattle.flat_meaning.specs.Actions.{acted, joined_at, joined_if}
 use Rattle.flat_meaning.specs.Image.{Layout}
 use Rattle.flat_meaning.specs.Memory.{Made, Memory, with_storage}

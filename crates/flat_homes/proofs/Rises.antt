@@ -6,19 +6,20 @@ use Rattle.struct_ir.specs.Flow.{Here, does, tests, passes, round, returns, Goes
 use Rattle.struct_ir.specs.Instrs.{Instr, acts, unless, jump, round_to, leave, LinearFunc, LinearCode, instrs_if, instrs_of}
 use Rattle.struct_ir.specs.Lawful.{AllLawful, IsLawful, is_guarded, safe_list, safepoint_list, list_at_index}
 use Rattle.struct_ir.specs.Linear.{Spot, linear, instr_here, here_in}
-use Rattle.struct_ir.specs.Machine.{Machine, Point, Ahead, goes, stops, breaks, stopped_or, ahead_at, ahead, run, Steps, still, more}
+use Rattle.struct_ir.specs.Machine.{Machine, Point, goes, stops, breaks, ahead_at, ahead, run, Steps, still, more}
 use Rattle.struct_ir.specs.Threads.{Thread, behind, result_to}
 use Rattle.struct_ir.specs.Valid.{is_the_list}
 use Rattle.struct_ir.proofs.Lawful.{lawful_at, lawful_code_shrinks}
 use Rattle.struct_ir.proofs.Runs.{led, ends}
 use Rattle.flat_meaning.specs.Accesses.{Fault}
 use Rattle.flat_meaning.specs.Image.{Image}
-use Rattle.flat_meaning.specs.Machine.{words_machine, ends_event, left}
+use Rattle.flat_meaning.specs.Machine.{words_machine, left}
 use Rattle.flat_meaning.specs.Stages.{safe, before, before_act, before_here, before_return, Gone, ran_to, back, turn_done, ending_if, gone_from}
 use Rattle.flat_meaning.specs.Stops.{CallersAtCalls}
 use Rattle.flat_meaning.specs.Words.{Words}
 use Rattle.flat_meaning.proofs.Guards.{Passes, guarded, unguarded_step, safe_behind_call}
 use Rattle.flat_meaning.proofs.Halves.{NoFault, no_fault}
+use Rattle.flat_meaning.proofs.Stops.{act_passes, safe_instr}
 use Rattle.flat_threads.specs.Contexts.{own_image}
 
 -- further on in the same function
@@ -98,28 +99,6 @@ pub unguarded_behind : (funcs : List LinearFunc) → AllLawful funcs → (p : Sp
 unguarded_behind funcs lawful p place a e none = in_func funcs lawful p.function (slice_get funcs p.function) refl p.index place a e none
 
 -- ---- a go
-
-act_passes : (a : Act) (r : Ahead Spot Words Fault) (q : Point Spot Words) → stopped_or (ends_event a) r ≡ goes q → ends_event a ≡ false
-act_passes a r q e = with_stop (ends_event a) r q e where
-  with_stop : (b : Bool) (r : Ahead Spot Words Fault) (q : Point Spot Words) → stopped_or b r ≡ goes q → b ≡ false
-  with_stop true r q e = absurd cc
-  with_stop false r q e = refl
-
-safe_instr : (o : Option Instr) → is_some (safe_list o) ≡ true → (cs : List (Point Spot Words)) → before_here cs (instr_here o) ≡ safe
-safe_instr None e cs = absurd cc
-safe_instr (Some (acts place a)) e cs = by_act a e where
-  by_act : (a : Act) → is_some (safe_list (Some (acts place a))) ≡ true → before_act a ≡ safe
-  by_act (set to calc) e = absurd cc
-  by_act (call c) e = absurd cc
-  by_act (step s) e = absurd cc
-  by_act (look slot base) e = absurd cc
-  by_act (safepoint slots) e = refl
-  by_act (begin_object i) e = absurd cc
-  by_act (end_object i) e = absurd cc
-safe_instr (Some (unless place temp to)) e cs = absurd cc
-safe_instr (Some (jump place to)) e cs = absurd cc
-safe_instr (Some (round_to place to)) e cs = absurd cc
-safe_instr (Some (leave place temp)) e cs = absurd cc
 
 module _ (code : LinearCode) (lawful : AllLawful code.funcs) (thread : ℕ) where
   abbrev x : Image Spot

@@ -10,12 +10,12 @@ use Rattle.sub_heaps.specs.Moving.{AreLegal}
 use Rattle.move_plan.proofs.Slides.{IsSlide-slide_moves}
 use Rattle.move_plan.proofs.Slid as lower
 use Rattle.struct_ir.specs.Instrs.{Instr, acts, LinearCode, instrs_of}
-use Rattle.struct_ir.specs.Linear.{Spot, instr_here}
+use Rattle.struct_ir.specs.Linear.{Spot}
 use Rattle.struct_ir.specs.Machine.{Point}
 use Rattle.struct_ir.specs.Nodes.{step}
 use Rattle.struct_ir.specs.Threads.{Thread}
 use Rattle.flat_meaning.specs.Accesses as actions
-use Rattle.flat_meaning.specs.Accesses.{allocated, got, null}
+use Rattle.flat_meaning.specs.Accesses.{allocated}
 use Rattle.flat_meaning.specs.Allowed.{AllStand, MayServe, MayServeAll, pinned}
 use Rattle.flat_meaning.specs.Allowed as stages
 use Rattle.flat_meaning.specs.Ready as readiness
@@ -29,20 +29,18 @@ use Rattle.flat_rules.specs.Lawful.{AreHome, IsHomeAt, IsOfRun}
 use Rattle.flat_threads.specs.Belonging.{IsContextOf}
 use Rattle.flat_threads.specs.Contexts.{Context, own_image}
 use Rattle.flat_threads.specs.Deeds.{stepped, top_at}
-use Rattle.flat_threads.specs.declared.wait.Wait.{Wait}
-use Rattle.flat_threads.specs.declared.wait.Wait.TheVariants.{Room, Mutex}
-use Rattle.flat_threads.specs.declared.wait.Wait.TheVariants as waits
-use Rattle.flat_machine.specs.Choices.{got_or, served_choice}
+use Rattle.flat_threads.specs.declared.wait.Wait.TheVariants.{Room}
+use Rattle.flat_machine.specs.Choices.{served_choice}
 use Rattle.flat_machine.specs.Laws.{BarrierIsItsEvent}
 use Rattle.flat_machine.specs.Machine.{machine_of, stands_of}
 use Rattle.flat_machine.specs.Nulls.{size_at}
-use Rattle.flat_machine.specs.Readiness.{wants_room}
 use Rattle.flat_machine.specs.Shares.{Shared, image_of}
 use Rattle.flat_machine.specs.Sweeping.{at_home, context_at, home_at, if_wants, place_at, serve_of, serves_from, serves_if, stage_home, stage_or, stages_home, sweep_moves, sweep_serves, swept_state, waits_at_home}
 use Rattle.flat_machine.proofs.Allowed.{here_may, served_goes, served_may}
 use Rattle.flat_machine.specs.lemmas.Homes.{after_serves-append, each_here, length-stages_home, none_served, own_at_set, own_at_set-later, place_is, wants_same}
 use Rattle.flat_machine.proofs.Slid.{slide_is}
-use Rattle.flat_machine.specs.lemmas.Waiting.{IsBefore, IsMalloc, before_malloc, choice_is, keeps, node_is, node_of, serve_is, waiting_of, wants_is}
+use Rattle.flat_machine.specs.lemmas.Serving.{gives, instr_there, room_waits}
+use Rattle.flat_machine.specs.lemmas.Waiting.{IsBefore, before_malloc, choice_is, keeps, node_is, node_of, serve_is, waiting_of, wants_is}
 
 -- ---- stages by number
 
@@ -92,30 +90,6 @@ may_serve_all x [] ws s first rest = rest
 may_serve_all x (v ∷ vs) ws s first rest = (first.0, may_serve_all x vs ws (after_serve x s v) first.1 rest)
 
 module _ (code : LinearCode) where
-  pub room_waits : (w : Option Wait) → wants_room w ≡ true → w ≡ Some Room
-  room_waits None e = absurd cc
-  room_waits (Some Room) e = refl
-  room_waits (Some (Mutex address)) e = absurd cc
-  room_waits (Some (waits.Thread number)) e = absurd cc
-
-  instr_there : (o : Option Instr) → IsMalloc (instr_here o) → (i : Instr) × (o ≡ Some i)
-  instr_there None m = absurd (let w = m.there in cc)
-  instr_there (Some i) m = (i, refl)
-
-  -- serving a malloc always gives something
-  record Gives (d : actions.Done) : Type 0 where
-    pub word : Option ℕ
-    pub after : Memory
-    pub is : d ≡ actions.went word after
-
-  gives_got : (id place size : ℕ) (m : Memory) → Gives (allocated (got id place) size m)
-  gives_got id place size m = record { word = _; after = _; is = refl }
-
-  gives : (o q : Option ℕ) (size : ℕ) (m : Memory) → Gives (allocated (got_or o q null) size m)
-  gives None q size m = record { word = Some 0; after = m; is = refl }
-  gives (Some id) None size m = record { word = Some 0; after = m; is = refl }
-  gives (Some id) (Some place) size m = gives_got id place size m
-
   -- the turn of a context that waits for room
   pub record Served (s : Shared) (st : State Spot) (n : ℕ) (c : Context) : Type 0 where
     pub thread : Thread Spot Words

@@ -11,7 +11,7 @@ use Rattle.move_plan.specs.Sliding.{IsSlid}
 use Rattle.arena_meaning.specs.Arena.{IsConsistent, Storage}
 use Rattle.defrag_move.proofs.Choices.{chosen_new}
 use Rattle.flat_meaning.specs.Accesses as actions
-use Rattle.flat_meaning.specs.Accesses.{Choice, null, wait, allocated, with_object}
+use Rattle.flat_meaning.specs.Accesses.{null, wait, allocated, with_object}
 use Rattle.flat_meaning.specs.Memory.{Memory}
 use Rattle.flat_machine.specs.Choices.{fits_at, got_or, least_free, lowest_fit, malloc_choice, room_or, served_choice}
 use Rattle.flat_machine.specs.Nulls.{HasNoRoom}

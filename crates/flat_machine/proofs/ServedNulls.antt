@@ -30,7 +30,8 @@ use Rattle.flat_machine.specs.Nulls.{HasNoRoom, IsNullForRoom, NullAtBarrier}
 use Rattle.flat_machine.specs.Shares.{Shared, image_of}
 use Rattle.flat_machine.specs.Sweeping.{at_home, object_got, serve_of, served_of, serves_from, serves_if, sweep_moves, sweep_serves, waits_at_home}
 use Rattle.flat_machine.specs.lemmas.Homes.{after_serves-append, length-stages_home, none_served}
-use Rattle.flat_machine.proofs.BarrierEvents.{IsTurned, Served, begin_turned, made, next_is, of_run, own_is, own_stage, place, room_waits, served, turn, turn_is}
+use Rattle.flat_machine.specs.lemmas.Serving.{room_waits}
+use Rattle.flat_machine.proofs.BarrierEvents.{IsTurned, Served, begin_turned, made, next_is, of_run, own_is, own_stage, place, served, turn, turn_is}
 use Rattle.flat_machine.proofs.Nulls.{IsSlidStorage, served_null, served_stays}
 use Rattle.flat_machine.proofs.Serves.{range_push, serves_from-push, turn_of}
 use Rattle.flat_machine.proofs.Slid.{slide_is}
@@ -138,7 +139,7 @@ module _ (code : LinearCode) (s : Shared) (home : List (Option Context)) (kept :
       waits_here None at w = absurd cc
       waits_here (Some c) at w =
           let of_ : IsContextOf code c = subst (IsOfRun (machine_of code) (IsContextOf code)) at (of_run code s home all homes n st is.turned below) in
-          adds_one c at (served code s st n c of_ (room_waits code c.wait w))
+          adds_one c at (served code s st n c of_ (room_waits c.wait w))
 
       by : (b : Bool) → waits_at_home (place code s home all homes n) ≡ b → Adds turn_serves
       by true w = waits_here (place code s home all homes n) refl w

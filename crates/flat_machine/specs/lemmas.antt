@@ -3,6 +3,7 @@ pub mod Waits
 pub mod Homes
 pub mod Lawful
 pub mod Waiting
+pub mod Serving
 pub mod Kept
 pub mod Steps
 pub mod Outcomes

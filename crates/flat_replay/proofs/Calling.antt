@@ -1,5 +1,5 @@
 -- The call of an entry, where all entries before it are the world's: it leads on, or the entry may not come.
-use Rattle.std.proofs.Common.{◌≡◌, ℕ, zero, ◌-◌, ◌<◌, ◌&&◌, Bool, true, false, cond, nat_lt, List, [], ◌∷◌, ◌++◌, length, ap, sym, subst, ◌∙◌, refl, arith, append_assoc, Option, Some, None, slice_get}
+use Rattle.std.proofs.Common.{◌≡◌, ℕ, ◌-◌, ◌<◌, Bool, true, false, cond, nat_lt, List, [], ◌∷◌, ◌++◌, length, ap, sym, subst, ◌∙◌, refl, arith, append_assoc, Option, Some, None, slice_get}
 use Rattle.std.specs.Prelude.{is_none, option_and_then}
 use Rattle.std.proofs.lemmas.Option.{option_and_then_some}
 use Rattle.std.proofs.lemmas.Bool.Decides.{nat_tests}
@@ -9,9 +9,8 @@ use Rattle.ak_trace.specs.declared.endings.End.TheVariants.{TurnLimit, AllBlocke
 use Rattle.flat_rules.specs.Machine.{Machine}
 use Rattle.flat_rules.specs.States.{State, or_else, end_of, start}
 use Rattle.flat_rules.specs.Lawful.{IsFlat}
-use Rattle.flat_rules.specs.Replays.{same_entry, step, run}
-use Rattle.flat_rules.specs.inner.Cases.{same_number}
-use Rattle.flat_rules.specs.inner.Steps.{IsFirst, first_of, step_cases, run-append, event_run}
+use Rattle.flat_rules.specs.Replays.{step, run}
+use Rattle.flat_rules.specs.inner.Steps.{entry_is, IsFirst, first_of, step_cases, run-append, event_run}
 use Rattle.flat_rules.specs.inner.Steps as steps
 use Rattle.world_rules.specs.Whole.{Whole, Leads, Reaches, whole_of}
 use Rattle.world_rules.specs.Calls.{end_before, entries_of, after}
@@ -24,26 +23,6 @@ use Rattle.flat_replay.specs.declared.driver.Hand.{Hand}
 use Rattle.flat_replay.specs.inner.Hands.{hands_of, called, called_as}
 use Rattle.flat_replay.specs.inner.Follows.{IsAt, Follows, Takes, state_behind}
 use Rattle.flat_replay.proofs.Hands.{Makes, Says, event_says, called_makes}
-
-halves : (a b : Bool) → (a && b) ≡ true → (a ≡ true) × (b ≡ true)
-halves true b h = (refl, h)
-halves false b h = absurd (cc h)
-
--- two entries that are alike field by field
-pub entry_is : (a b : Entry) → same_entry a b ≡ true → a ≡ b
-entry_is a b h =
-    let p = halves _ _ h in let q = halves _ _ p.0 in let r = halves _ _ p.1 in
-    let kw = halves _ _ q.0 in let th = halves _ _ q.1 in let lz = halves _ _ r.0 in let ip = halves _ _ r.1 in
-    λ i. record {
-      kind = same_number a.kind b.kind kw.0 i;
-      worker = same_number a.worker b.worker kw.1 i;
-      thread = same_number a.thread b.thread th.0 i;
-      how = same_number a.how b.how th.1 i;
-      local = same_number a.local b.local lz.0 i;
-      zero = same_number a.zero b.zero lz.1 i;
-      id = same_number a.id b.id ip.0 i;
-      place = same_number a.place b.place ip.1 i;
-    }
 
 -- what stands behind a front
 pub behind : (front rest : List Entry) → slice_get (front ++ rest) (length front) ≡ slice_get rest 0

@@ -35,7 +35,7 @@ use Rattle.flat_machine.specs.lemmas.MachineIsFlat.{machine_is_flat}
 use Rattle.flat_machine.proofs.ActEvents.{act_is_its_event}
 use Rattle.flat_machine.proofs.BarrierEvents.{barrier_is_its_event}
 use Rattle.flat_simulation.proofs.Barriers.{after_all_agrees}
-use Rattle.flat_replay.proofs.Settings.{same_stop}
+use Rattle.flat_threads.proofs.Settings.{same_stop}
 
 -- ---- a step
 

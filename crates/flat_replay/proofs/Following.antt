@@ -10,12 +10,12 @@ use Rattle.flat_rules.specs.States.{State, start, unbegun_from}
 use Rattle.flat_rules.specs.Lawful.{IsFlat}
 use Rattle.flat_rules.specs.Replays.{same_entry, run, settled, replay}
 use Rattle.flat_rules.specs.inner.Cases.{same_number, same_refl}
-use Rattle.flat_rules.specs.inner.Steps.{same_entry_refl, run-append}
+use Rattle.flat_rules.specs.inner.Steps.{entry_is, same_entry_refl, run-append}
 use Rattle.world_rules.specs.Whole.{Whole, Leads, Reaches, whole_of}
 use Rattle.flat_replay.specs.declared.driver.Hand.{Hand}
 use Rattle.flat_replay.specs.inner.Hands.{hands_of, called}
 use Rattle.flat_replay.specs.inner.Follows.{Follows, Takes, Comes, state_behind}
-use Rattle.flat_replay.proofs.Calling.{entry_is, behind, none_called, some_called}
+use Rattle.flat_replay.proofs.Calling.{behind, none_called, some_called}
 
 -- a journal up to an entry, and that entry
 pub taken_more : (log : List Entry) (i : ℕ) (e : Entry) → slice_get log i ≡ Some e → take i log ++ e ∷ [] ≡ take (suc i) log

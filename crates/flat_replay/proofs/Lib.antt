@@ -1,4 +1,3 @@
-pub mod Settings
 pub mod Consistent
 pub mod Barriers
 pub mod Loadable

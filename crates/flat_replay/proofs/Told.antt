@@ -47,7 +47,7 @@ use Rattle.flat_replay.proofs.Entries.{attempts-append, length-picks, picks-appe
 use Rattle.flat_replay.proofs.LocalTurns.{GoesAlone, set_twice}
 use Rattle.flat_replay.proofs.Segments.{Comes, joins}
 use Rattle.flat_replay.proofs.Stages.{IsBlank, context_at, map-set, stages_more, stages_set}
-use Rattle.flat_replay.proofs.Settings.{same_stop}
+use Rattle.flat_threads.proofs.Settings.{same_stop}
 use Rattle.flat_replay.proofs.Turned.{TurnSays, turn_says}
 
 -- ---- what a journal has told so far

@@ -16,7 +16,7 @@ use Rattle.block_store.specs.declared.values.Ptr.{Ptr}
 use Rattle.block_store.specs.declared.values.Ptr.TheVariants.{Null, To}
 use Rattle.block_store.specs.declared.values.Value.{Value}
 use Rattle.block_store.specs.Blocks as source
-use Rattle.block_store.specs.Blocks.{Block, Blocks, live, is_heap, is_literal, Range, range_in, range_at, spot_at, cells_at, read_at, with_cells_at, written_at}
+use Rattle.block_store.specs.Blocks.{Block, Blocks, live, is_literal, Range, range_in, range_at, spot_at, cells_at, read_at, with_cells_at, written_at}
 use Rattle.block_store.specs.Cells.{size_of, access_of, cells_of, read}
 use Rattle.flat_store.specs.Flat.{bytes_from, with_bytes, first_outside}
 use Rattle.arena_meaning.specs.Arena.{Storage}
@@ -25,7 +25,7 @@ use Rattle.ak_trace.specs.declared.endings.TrapKind.TheVariants as kinds
 use Rattle.flat_meaning.specs.Words.{Target}
 use Rattle.flat_meaning.specs.Memory.{Memory, written}
 use Rattle.flat_meaning.specs.Accesses as words
-use Rattle.flat_meaning.specs.Accesses.{Done, went, within, word_read}
+use Rattle.flat_meaning.specs.Accesses.{went, within, word_read}
 use Rattle.flat_meaning.specs.Names.{Name, name_of, address_for, Lives}
 use Rattle.flat_simulation.specs.inner.Aged.{Aged}
 use Rattle.flat_simulation.specs.inner.Values.{AnyBlock, Stands, Sees}

@@ -8,7 +8,7 @@ use Rattle.ak_words.specs.declared.rule.Rule.TheVariants.{C11, C12}
 use Rattle.block_store.specs.declared.values.Cell.TheVariants.{Unknown}
 use Rattle.block_store.specs.declared.values.Ptr.{Ptr}
 use Rattle.block_store.specs.Blocks as source
-use Rattle.block_store.specs.Blocks.{Blocks, Range, range_at, cells_at, with_cells_at, is_literal, clash, copied_to, copied_between}
+use Rattle.block_store.specs.Blocks.{Blocks, Range, range_at, cells_at, with_cells_at, is_literal, clash, copied_between}
 use Rattle.flat_store.specs.Flat.{first_address, bytes_from, with_bytes, first_of}
 use Rattle.ak_trace.specs.declared.endings.TrapKind.TheVariants as kinds
 use Rattle.flat_meaning.specs.Words.{Target}

@@ -38,7 +38,7 @@ use Rattle.flat_meaning.specs.Memory.{Made, Memory, with_storage, written, begin
 use Rattle.flat_meaning.specs.Printing as printing
 use Rattle.flat_meaning.specs.Printing.{read_parts, reads, too_long}
 use Rattle.flat_meaning.specs.Accesses as words
-use Rattle.flat_meaning.specs.Accesses.{Done, went, waits, over, output_limit, prints, output_room}
+use Rattle.flat_meaning.specs.Accesses.{Done, went, over, output_limit, prints, output_room}
 use Rattle.flat_meaning.specs.Actions as words_too
 use Rattle.flat_meaning.specs.Actions.{may_start}
 use Rattle.flat_meaning.specs.Names.{Name, heap, plain, name_of, word_for, ids_in}

@@ -14,7 +14,6 @@ use Rattle.struct_ir.specs.Valid.{scope_of, is_below_if, are_below, is_list}
 use Rattle.struct_ir.specs.ValidCode.{is_here}
 use Rattle.struct_ir.specs.meaning.Blocks.{Own}
 use Rattle.struct_ir.specs.meaning.Threads as source
-use Rattle.struct_ir.specs.meaning.Threads.{over, given, set_given}
 use Rattle.flat_meaning.specs.Image.{Image, stack_address, objects_bytes}
 use Rattle.flat_meaning.specs.Words.{Words, used_with, has_room, object_address}
 use Rattle.flat_meaning.specs.Memory.{Memory}

@@ -3,7 +3,7 @@ use Rattle.std.proofs.Common.{◌≡◌, ℕ, ◌<◌, List, [], ◌∷◌, leng
 use Rattle.std.specs.Prelude.{if◌then◌else◌}
 use Rattle.block_store.specs.declared.values.Answer.TheVariants as answers
 use Rattle.block_store.specs.Runs as runs
-use Rattle.block_store.specs.Runs.{Pick, Run, reaches, own_at, run_from}
+use Rattle.block_store.specs.Runs.{Pick, reaches, own_at, run_from}
 use Rattle.struct_ir.specs.Nodes.{Ir}
 use Rattle.struct_ir.specs.Structured.{Position, structured}
 use Rattle.struct_ir.specs.Threads.{Thread, Outcome, went}
@@ -34,7 +34,7 @@ use Rattle.flat_simulation.proofs.Later.{fresh_thread}
 use Rattle.flat_simulation.proofs.Putting.{length-made}
 use Rattle.flat_simulation.proofs.StepKinds.{waits_on, exits}
 use Rattle.flat_simulation.proofs.TurnsStand.{HasGone, stays, both_went, comes_out}
-use Rattle.flat_simulation.proofs.WordsCome.{StateComes, thread_comes, takes, after_comes, serve_comes}
+use Rattle.flat_simulation.proofs.WordsCome.{StateComes, thread_comes, takes}
 
 -- a go ends a turn or none
 module _ {P : Type 0} (x : Image P) (thread : ℕ) where

@@ -16,7 +16,7 @@ use Rattle.flat_meaning.specs.Image.{Limits, Image, structured_image}
 use Rattle.flat_meaning.specs.Words.{Words, Target, word_at, target_of}
 use Rattle.flat_meaning.specs.Memory.{Memory}
 use Rattle.flat_meaning.specs.Accesses as flat
-use Rattle.flat_meaning.specs.Accesses.{Choice, plain, got, null, wait}
+use Rattle.flat_meaning.specs.Accesses.{Choice, wait}
 use Rattle.flat_meaning.specs.Actions as actions_of_words
 use Rattle.flat_meaning.specs.Machine.{words_machine, words_world, served_by}
 use Rattle.flat_meaning.specs.Stages.{Stage, starts, going, waiting, landed, thread_at, Before, steps, before_here, before}

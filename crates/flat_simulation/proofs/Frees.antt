@@ -16,7 +16,7 @@ use Rattle.defrag_move.proofs.Choices.{chosen_free}
 use Rattle.defrag_move.proofs.Owners.{object_of-without_owner, freed_unused}
 use Rattle.ak_trace.specs.declared.endings.TrapKind.TheVariants as kinds
 use Rattle.flat_meaning.specs.Accesses as words
-use Rattle.flat_meaning.specs.Accesses.{Done, went, is_live_start}
+use Rattle.flat_meaning.specs.Accesses.{went, is_live_start}
 use Rattle.flat_meaning.specs.Memory.{Memory, with_storage}
 use Rattle.flat_meaning.proofs.LiveStarts.{live_starts_are_told}
 use Rattle.flat_meaning.specs.Names.{Name, heap, plain, name_of, word_for, address_if, address_for, Lives, Owns, LiesAt, IsOnHeap}

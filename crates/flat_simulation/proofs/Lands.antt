@@ -12,7 +12,7 @@ use Rattle.struct_ir.specs.Machine.{Point}
 use Rattle.struct_ir.specs.Threads.{Outcome, went, ended, blocked, broke, unfit, served}
 use Rattle.struct_ir.specs.Pins.{looked, lacks, lacks_if, listing, passing, facts}
 use Rattle.struct_ir.specs.meaning.Blocks as blocks
-use Rattle.struct_ir.specs.meaning.Blocks.{Held, value, Own, set_at}
+use Rattle.struct_ir.specs.meaning.Blocks.{value, Own}
 use Rattle.struct_ir.specs.meaning.Threads as source
 use Rattle.flat_meaning.specs.Image.{Layout, Image, stack_address, objects_bytes}
 use Rattle.flat_meaning.specs.Words.{Words}

@@ -18,7 +18,7 @@ use Rattle.flat_meaning.specs.Stages.{Stage, starts, going, waiting, landed, fir
 use Rattle.flat_meaning.specs.Events.{State}
 use Rattle.flat_meaning.specs.Names.{Name}
 use Rattle.flat_meaning.specs.Stands as public
-use Rattle.flat_meaning.specs.Stands.{in_blocks, Ages}
+use Rattle.flat_meaning.specs.Stands.{in_blocks}
 use Rattle.flat_simulation.specs.inner.Aged.{Aged}
 use Rattle.flat_simulation.specs.inner.Values.{AnyBlock, KnownIn, Stands}
 use Rattle.flat_simulation.specs.inner.Calls.{CallStands}

@@ -18,7 +18,7 @@ use Rattle.flat_meaning.specs.Names.{Name, name_of, address_for}
 use Rattle.flat_meaning.specs.Printing as flat
 use Rattle.flat_meaning.specs.Printing.{reads, too_long}
 use Rattle.flat_meaning.specs.Touched as touched
-use Rattle.flat_meaning.specs.Touched.{Touched, Touches, part_reads, reads_behind, print_reads}
+use Rattle.flat_meaning.specs.Touched.{Touched, part_reads, reads_behind, print_reads}
 use Rattle.flat_meaning.specs.Reaching.{Reaches, IsReached, StaysInBlocks}
 use Rattle.flat_simulation.specs.inner.Cells.{RowStands}
 use Rattle.flat_simulation.specs.inner.World.{BlocksStand, GoesTo}

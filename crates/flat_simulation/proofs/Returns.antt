@@ -11,7 +11,7 @@ use Rattle.struct_ir.specs.Machine.{Point}
 use Rattle.struct_ir.specs.Threads.{went, behind, result_to}
 use Rattle.struct_ir.specs.Valid.{is_below_if}
 use Rattle.struct_ir.specs.meaning.Blocks as blocks
-use Rattle.struct_ir.specs.meaning.Blocks.{Held, missing, Own, set_at, objects_of, object_ended, all_ended}
+use Rattle.struct_ir.specs.meaning.Blocks.{Held, Own, set_at, objects_of, object_ended, all_ended}
 use Rattle.struct_ir.specs.meaning.Threads as source
 use Rattle.struct_ir.specs.meaning.Threads.{over, given, set_given}
 use Rattle.flat_meaning.specs.Image.{Layout, Image, stack_address}

@@ -1,8 +1,7 @@
 -- A turn has come to a stop among the blocks as they are: what is shared stands for the blocks that it leaves, and so do the calls below.
 use Rattle.std.proofs.Common.{◌≡◌, ℕ, ◌+◌, ◌<◌, ◌≤◌, List, [], ◌∷◌, ◌++◌, length, Some, refl, sym, ap, ◌∙◌, arith, inl, inr}
 use Rattle.std.proofs.lemmas.Bool.{cases_lt}
-use Rattle.block_store.specs.Blocks.{Block, Blocks, live}
-use Rattle.block_store.specs.Actions as source
+use Rattle.block_store.specs.Blocks.{Block, live}
 use Rattle.block_store.specs.Actions.{World, with_blocks}
 use Rattle.c_tree.specs.TypedForm.{taken}
 use Rattle.arena_meaning.specs.Arena.{Storage}
@@ -11,19 +10,18 @@ use Rattle.struct_ir.specs.Machine.{Point}
 use Rattle.struct_ir.specs.meaning.Blocks.{Own}
 use Rattle.flat_meaning.specs.Image.{Layout, Image, stack_address}
 use Rattle.flat_meaning.specs.Words.{Words, object_address}
-use Rattle.flat_meaning.specs.Memory.{Made, Memory}
+use Rattle.flat_meaning.specs.Memory.{Memory}
 use Rattle.flat_meaning.specs.Names.{Name, plain, name_of, ids_in}
-use Rattle.flat_simulation.specs.inner.Aged.{Aged}
 use Rattle.flat_simulation.specs.inner.Values.{AnyBlock, KnownIn}
-use Rattle.flat_simulation.specs.inner.Calls.{LiesThere, DataStands, CallStands}
+use Rattle.flat_simulation.specs.inner.Calls.{CallStands}
 use Rattle.flat_simulation.specs.inner.Frames.{FrameLies}
 use Rattle.flat_simulation.specs.inner.Turns.{IsClear, Far}
 use Rattle.flat_simulation.specs.inner.Lags.{IsAside}
 use Rattle.flat_simulation.specs.inner.Programs.{IsImage, HasFrame}
-use Rattle.flat_simulation.specs.inner.Worlds.{AllMadeStand, WorldStands, TurnEnded}
+use Rattle.flat_simulation.specs.inner.Worlds.{WorldStands, TurnEnded}
 use Rattle.flat_simulation.specs.inner.Threads.{CallersStand}
 use Rattle.flat_simulation.proofs.Alone.{lies}
-use Rattle.flat_simulation.proofs.Blocks.{live_in, aged_still, aged_name, aged_more}
+use Rattle.flat_simulation.proofs.Blocks.{live_in, aged_still}
 use Rattle.flat_simulation.proofs.Later.{calls_kept, callers_later}
 use Rattle.flat_simulation.proofs.Made.{data_later, made_later}
 use Rattle.flat_simulation.proofs.Objects.{call_later}

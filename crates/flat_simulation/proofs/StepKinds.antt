@@ -11,7 +11,7 @@ use Rattle.flat_meaning.specs.Memory.{Made, Memory, ended_if}
 use Rattle.flat_meaning.specs.Accesses.{Fault, Choice, plain, got, null, wait, Done, is_plain}
 use Rattle.flat_meaning.specs.Accesses as flat
 use Rattle.flat_meaning.specs.Actions as actions
-use Rattle.flat_meaning.specs.Machine.{words_machine, words_world, served_by, served_plainly, given}
+use Rattle.flat_meaning.specs.Machine.{words_machine, words_world, served_by, given}
 use Rattle.flat_meaning.specs.Machine as machine
 use Rattle.flat_meaning.specs.Ready.{takes_room, is_malloc}
 use Rattle.flat_meaning.specs.Stages.{Stage, steps, before_here}

@@ -2,9 +2,9 @@
 use Rattle.std.proofs.Common.{◌≡◌, ◌≢◌, ℕ, true, List, Some, Result, Ok, Err, refl, sym, ap, subst, ◌∙◌, inl, inr}
 use Rattle.block_store.specs.declared.values.Answer.{Answer}
 use Rattle.block_store.specs.Actions as actions
-use Rattle.block_store.specs.Actions.{World, Reached, with_blocks}
+use Rattle.block_store.specs.Actions.{World, Reached}
 use Rattle.block_store.specs.Runs as runs
-use Rattle.block_store.specs.Runs.{Pick, Turn, own_at, picked}
+use Rattle.block_store.specs.Runs.{picked}
 use Rattle.struct_ir.specs.Nodes.{set, call, Step, step, look, safepoint, begin_object, end_object, Ir}
 use Rattle.struct_ir.specs.Flow.{Here, does, tests, passes, round, returns}
 use Rattle.struct_ir.specs.Structured.{Position, structured}

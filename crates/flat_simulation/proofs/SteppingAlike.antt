@@ -14,7 +14,7 @@ use Rattle.flat_meaning.specs.Memory.{Memory}
 use Rattle.flat_meaning.specs.Accesses.{Fault, Choice, plain, got, null, wait}
 use Rattle.flat_meaning.specs.Machine.{words_machine, words_world}
 use Rattle.flat_meaning.specs.Stages.{Stage, Before, safe, looks, steps, calls, turn_over, nothing, before_here, before}
-use Rattle.flat_meaning.specs.Effects.{Effect, exit_of, own_list_of, landing, acted, stop_of, step_effect}
+use Rattle.flat_meaning.specs.Effects.{exit_of, own_list_of, landing, acted, stop_of, step_effect}
 use Rattle.flat_meaning.specs.Order.{pick_if, tried_if, answer_of, answer_here, step_picks}
 use Rattle.flat_meaning.specs.Emitted.{AreOne, IsSafepoint, CallsAreGuarded}
 use Rattle.flat_simulation.specs.inner.Level.{image, level, StagesMatch, EffectsMatch}

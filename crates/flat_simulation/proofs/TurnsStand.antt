@@ -6,7 +6,7 @@ use Rattle.ak_words.specs.Prefix.{IsPrefix}
 use Rattle.block_store.specs.declared.values.Answer.{Answer}
 use Rattle.block_store.specs.Actions.{World}
 use Rattle.block_store.specs.Runs as runs
-use Rattle.block_store.specs.Runs.{Pick, Run, reaches, own_at, picked, turn_if, goes_on, run_from, next_state}
+use Rattle.block_store.specs.Runs.{Pick, reaches, own_at, picked, turn_if, goes_on, run_from}
 use Rattle.struct_ir.specs.Nodes.{Ir}
 use Rattle.struct_ir.specs.Structured.{Position}
 use Rattle.struct_ir.specs.Threads.{Thread, Outcome, went, ended, blocked, broke, unfit}

@@ -10,7 +10,7 @@ use Rattle.struct_ir.specs.Machine.{Point, Ahead, goes, stops, breaks, acted, te
 use Rattle.struct_ir.specs.Valid.{scope_of, is_calc}
 use Rattle.struct_ir.specs.ValidCode.{is_here}
 use Rattle.struct_ir.specs.meaning.Blocks as source
-use Rattle.struct_ir.specs.meaning.Blocks.{Held, Fault, Own, set_at, with_temps, calculated, assigned, begun, object_ended, known, on_value, way_of, ends_turn, blocks_machine}
+use Rattle.struct_ir.specs.meaning.Blocks.{Fault, Own, calculated, assigned, begun, object_ended, known, on_value, way_of, ends_turn, blocks_machine}
 use Rattle.flat_meaning.specs.Image.{Image}
 use Rattle.flat_meaning.specs.Words.{Words, word_at}
 use Rattle.flat_meaning.specs.Words as words

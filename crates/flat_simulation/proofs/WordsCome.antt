@@ -7,9 +7,9 @@ use Rattle.arena_meaning.specs.Arena.{Storage}
 use Rattle.struct_ir.specs.Nodes.{Action, load, store, copy_bytes, malloc, free, print, lock, unlock, destroy, start, join, Place, Step, set, call, step, look, safepoint, begin_object, end_object, no_nodes, Func, Ir}
 use Rattle.struct_ir.specs.Flow.{Here, does, tests, passes, round, returns, Path, entry, on}
 use Rattle.struct_ir.specs.Machine as machines
-use Rattle.struct_ir.specs.Machine.{Machine, run}
+use Rattle.struct_ir.specs.Machine.{run}
 use Rattle.struct_ir.specs.Structured.{Position, done, then_, nodes_of, structured}
-use Rattle.struct_ir.specs.Threads.{Environment, Thread, Outcome, went, ended, blocked, broke, unfit, served, stop_at, AllCome, IfWent, KeepsWays}
+use Rattle.struct_ir.specs.Threads.{Thread, Outcome, went, ended, blocked, broke, unfit, served, stop_at, AllCome, IfWent, KeepsWays}
 use Rattle.struct_ir.specs.Valid.{Scope, scope_of, is_step, counts_of}
 use Rattle.struct_ir.specs.ValidCode.{is_here}
 use Rattle.struct_ir.proofs.Sizes.{structured_shrinks}

@@ -2,7 +2,7 @@ mod Words
 mod Unsigned
 mod Applies
 mod Setting
-mod Settings
+pub mod Settings
 mod Linked
 mod ArrayFacts
 mod Ran

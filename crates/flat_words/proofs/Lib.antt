@@ -1,6 +1,6 @@
 mod Reading
 mod Same
-mod Sums
+pub mod Sums
 mod Bits
 mod Tests
 mod Shifts

@@ -46,7 +46,7 @@ difference_is t a b small =
     ∙ sym (ap (λ (n : Num). residue (2 ^ 64) n.value) (wrapped_difference (number_in t a) (number_in t b)))
 
 -- products of numbers that differ by multiples of m
-product_apart : (x y : ℤ) (a b m j k i l : ℕ) → x +ℤ pos (j * m) ≡ pos a +ℤ pos (k * m) → y +ℤ pos (i * m) ≡ pos b +ℤ pos (l * m)
+pub product_apart : (x y : ℤ) (a b m j k i l : ℕ) → x +ℤ pos (j * m) ≡ pos a +ℤ pos (k * m) → y +ℤ pos (i * m) ≡ pos b +ℤ pos (l * m)
     → x *ℤ y +ℤ pos ((k * down y + j * up y + a * i) * m) ≡ pos (a * b) +ℤ pos ((k * up y + j * down y + a * l) * m)
 product_apart x y a b m j k i l e f =
     let p : up x + j * m ≡ down x + (a + k * m) = omega (arith, ints, e) in

@@ -15,7 +15,7 @@ use Rattle.flat_meaning.specs.Image.{Limits, Image, linear_image}
 use Rattle.flat_meaning.specs.Words.{Words, Target, word_at, target_of, set_if}
 use Rattle.flat_meaning.specs.Memory.{Memory, with_storage, written}
 use Rattle.flat_meaning.specs.Accesses as accesses
-use Rattle.flat_meaning.specs.Accesses.{Choice, Done}
+use Rattle.flat_meaning.specs.Accesses.{Done}
 use Rattle.flat_meaning.specs.Actions.{acted, printed_parts}
 use Rattle.flat_meaning.specs.Printing.{Read, reads, outside, too_long, read_parts}
 use Rattle.ak_words.specs.Bytes.{low_bytes}
@@ -38,7 +38,7 @@ use Rattle.flat_machine.specs.Turns.{done_turned, turned_of, outcome_turned}
 use Rattle.flat_machine.specs.Acting.{effect_if}
 use Rattle.flat_machine.specs.lemmas.Steps.{choice_at, done_at, outcome_at, step_effect_is, step_turned_is, looked_at, look_effect_is, look_turned_is, leave_turned_is}
 use Rattle.heap_walk.proofs.Rows.{Flat, stops}
-use Rattle.heap_walk.proofs.Alone.{code_with, spot, Asked, Fine, FitsAction, FourBytes, Sits, StopsFirst, point, flow, look_at, step_at, ret_at}
+use Rattle.heap_walk.proofs.Alone.{code_with, Asked, Fine, FitsAction, Sits, flow, look_at, step_at, ret_at}
 use Rattle.heap_walk.proofs.Locals.{alone}
 
 -- ---- an action of a fine row

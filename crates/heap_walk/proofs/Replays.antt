@@ -1,5 +1,5 @@
 -- Journals of the text's code: main goes out, does its turns and ends; no other thread is made, and no barrier is wanted.
-use Rattle.std.proofs.Common.{◌≡◌, refl, sym, ap, subst, ◌∙◌, ℕ, zero, suc, ◌+◌, ◌-◌, ◌≤◌, Bool, true, false, cond, ◌&&◌, ◌||◌, List, [], ◌∷◌, ◌++◌, length, map, Option, Some, None, inl, inr, arith}
+use Rattle.std.proofs.Common.{◌≡◌, refl, sym, ap, subst, ◌∙◌, ℕ, zero, suc, ◌+◌, ◌-◌, ◌≤◌, Bool, true, false, cond, ◌||◌, List, [], ◌∷◌, ◌++◌, length, map, Option, Some, None, inl, inr, arith}
 use Rattle.std.specs.Prelude.{◌⊎◌, nat_lt, is_none, option_and_then}
 use Rattle.std.proofs.lemmas.Bool.Decides.{nat_tests}
 use Rattle.ak_trace.specs.declared.entry.Entry.{Entry}
@@ -33,9 +33,9 @@ use Rattle.flat_rules.specs.Entries.{out_entry, turn_entry, how_of}
 use Rattle.flat_rules.specs.Events.{Event, Goes, on, goes, goes_out, turn_event, turned_by, mood_after, come_home, turned_state, ends_with}
 use Rattle.ak_trace.specs.declared.endings.End.TheVariants.{AllBlocked, TurnLimit}
 use Rattle.flat_rules.specs.States.{is_blocked, or_else, State, Place, unbegun, home, out, gone, Mood, free, asked, must, place_at, unbegun_from, start}
-use Rattle.flat_rules.specs.Replays.{same_entry, event_at, step, run}
-use Rattle.flat_rules.specs.inner.Cases.{same_number, Cases, Holds, event_holds}
-use Rattle.flat_rules.specs.inner.Steps.{IsNext, IsFirst, step_cases}
+use Rattle.flat_rules.specs.Replays.{event_at, step, run}
+use Rattle.flat_rules.specs.inner.Cases.{Cases, Holds, event_holds}
+use Rattle.flat_rules.specs.inner.Steps.{entry_is, IsNext, IsFirst, step_cases}
 use Rattle.flat_machine.specs.Choices.{malloc_choice}
 use Rattle.flat_machine.specs.Machine.{machine_of}
 use Rattle.flat_machine.specs.Shares.{Shared, Barriers, limits_of}
@@ -46,26 +46,6 @@ use Rattle.heap_walk.proofs.Acts.{EndsWell, Tells, On, Off, effect, turned}
 use Rattle.heap_walk.proofs.Turns.{turn_goes}
 
 -- ---- entries
-
-halves : (a b : Bool) → (a && b) ≡ true → (a ≡ true) × (b ≡ true)
-halves true b h = (refl, h)
-halves false b h = absurd (cc h)
-
--- two entries that are alike field by field
-entry_is : (a b : Entry) → same_entry a b ≡ true → a ≡ b
-entry_is a b h =
-    let p = halves _ _ h in let q = halves _ _ p.0 in let r = halves _ _ p.1 in
-    let kw = halves _ _ q.0 in let th = halves _ _ q.1 in let lz = halves _ _ r.0 in let ip = halves _ _ r.1 in
-    λ i. record {
-      kind = same_number a.kind b.kind kw.0 i;
-      worker = same_number a.worker b.worker kw.1 i;
-      thread = same_number a.thread b.thread th.0 i;
-      how = same_number a.how b.how th.1 i;
-      local = same_number a.local b.local lz.0 i;
-      zero = same_number a.zero b.zero lz.1 i;
-      id = same_number a.id b.id ip.0 i;
-      place = same_number a.place b.place ip.1 i;
-    }
 
 -- main's first turn, if it has had one, got what it asked for
 abbrev pub GotFirst : List (ℕ × Answer) → Type 0

@@ -17,6 +17,7 @@ use crate::types::{
 };
 use ak_words::{IntType, NoMemory, Op};
 use block_store::Access;
+use c_tree::copies::copy_pieces;
 use c_tree::typed::{CType, Expr, Layout, Lib, Piece};
 use std::alloc::Global;
 use struct_ir::{Action, Calc, Node, Place};
@@ -250,29 +251,6 @@ fn print_nodes(
         Some(t),
         temps,
     )
-}
-
-fn copy_piece(alloc: Global, p: &Piece) -> Result<Piece, NoMemory>
-    ensures { IfOk result (λ x. piece_view x ≡ piece_view p.now) }
-{
-    match p {
-        Piece::Bytes(all) => Ok(Piece::Bytes(all.to_vec(alloc)?)),
-        Piece::Signed(bits) => Ok(Piece::Signed(*bits)),
-        Piece::Unsigned(bits) => Ok(Piece::Unsigned(*bits)),
-        Piece::Hex(bits) => Ok(Piece::Hex(*bits)),
-        Piece::Char => Ok(Piece::Char),
-        Piece::Text => Ok(Piece::Text),
-    }
-}
-
-fn copy_pieces(alloc: Global, pieces: &[Piece]) -> Result<Vec<Piece>, NoMemory>
-    ensures { IfOk result (λ v. map piece_view v.items ≡ map piece_view pieces.now) }
-{
-    let mut copies = Vec::new(alloc);
-    for p in pieces {
-        copies.push(copy_piece(alloc, p)?)?;
-    }
-    Ok(copies)
 }
 
 // An action that reads one register.

@@ -10,7 +10,7 @@ use Rattle.c_tree.specs.Typed as tree
 use Rattle.c_tree.specs.TypedForm.{IsPointer, HasBits, ArePrinted, Signature, CanStart, InScope, IsNth, AreArguments, IsLibCall, IsTyped, IsTypedNode, AreTyped}
 use Rattle.c_tree.specs.TypedPrinting.{takes_number, takes_text}
 use Rattle.c_meaning.specs.Values.{element_size}
-use Rattle.struct_ir.specs.Nodes.{Calc, Place, Action, Step, Nodes, no_nodes, more_nodes, plain, if_, loop, break_, next_, ret, set, call, step, begin_object, end_object}
+use Rattle.struct_ir.specs.Nodes.{Place, Nodes, no_nodes, more_nodes, plain, call}
 use Rattle.struct_ir.specs.Nodes as ir
 use Rattle.struct_ir.specs.Lists.{bare_place}
 use Rattle.struct_ir.specs.Valid.{Scope, Around, is_below_if, are_below, is_calc, is_place, has_params, has_width, is_piece}

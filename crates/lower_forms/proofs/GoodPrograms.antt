@@ -9,7 +9,7 @@ use Rattle.std.specs.List.{AllByRecursion, list_all}
 use Rattle.c_tree.specs.Typed as tree
 use Rattle.c_tree.specs.TypedForm.{Signature, IsFunc, IsGlobal, IsInit, IsWellFormed, signature_of, context_of, taken}
 use Rattle.c_tree.specs.TypedLayout.{size_in}
-use Rattle.struct_ir.specs.Nodes.{Func, Ir, StackObject}
+use Rattle.struct_ir.specs.Nodes.{StackObject}
 use Rattle.struct_ir.specs.Erased.{func_erased}
 use Rattle.struct_ir.specs.Valid.{Scope, outside, are_nodes, scope_of}
 use Rattle.struct_ir.specs.Whole.{takes_nothing, is_init_in}

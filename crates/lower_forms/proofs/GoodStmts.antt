@@ -11,7 +11,7 @@ use Rattle.c_meaning.specs.Turns.{is_struct}
 use Rattle.struct_ir.specs.Nodes.{Nodes, no_nodes, more_nodes, plain, begin_object}
 use Rattle.struct_ir.specs.Valid.{Scope, Around, body_of, latch_of}
 use Rattle.lower_forms.specs.Counts.{count, count_parts, count_if, greatest, greatest_in, greatest_row}
-use Rattle.lower_forms.specs.Forms.{Frame, home, first_temp, Reach, reached, behind, reach, register_if, is_void, number_type, temps_of, value_nodes, object_place, dropped_object, dropped_nodes, dropped_value, begins, with_home, home_in, declared_home, objects_by, objects_in, initialises, store_nodes, copy_nodes, object_assign, own_register, assign_nodes, number_update, computes, update_register, update_object, update_nodes, test_nodes, declare_nodes, return_nodes, stmt_nodes, form_nodes, row_nodes}
+use Rattle.lower_forms.specs.Forms.{Frame, home, first_temp, behind, reach, is_void, number_type, value_nodes, object_place, dropped_nodes, dropped_value, begins, with_home, home_in, declared_home, objects_by, objects_in, initialises, store_nodes, copy_nodes, own_register, assign_nodes, number_update, computes, update_nodes, test_nodes, stmt_nodes, form_nodes, row_nodes}
 use Rattle.lower_forms.proofs.Operands.{operand_promoted, moves_fits}
 use Rattle.lower_forms.proofs.Pieces.{Good, below, good_none, good_set, good_branches, good_loop, good_break, good_next, good_ret, good_long, place_in, place_bare, temp_in, load_step, store_step, copy_step, AreObjects, objects_both, good_ends}
 use Rattle.lower_forms.proofs.GoodExprs.{Suits, at_least_one, temps_below, good_call, called, BelowIf, register_below, local_below, reach_fits, good_expr, good_value, good_place, good_object_place, good_args}

@@ -7,7 +7,7 @@ use Rattle.ak_words.specs.IntType.{int, promoted_type}
 use Rattle.ak_words.specs.Width.{is_width}
 use Rattle.c_meaning.specs.Values.{access_of_type}
 use Rattle.c_tree.specs.Typed as tree
-use Rattle.struct_ir.specs.Nodes.{Calc, Place, Action, Step, Nodes, no_nodes, more_nodes, plain, if_, loop, break_, next_, ret, set, call, step, begin_object, end_object}
+use Rattle.struct_ir.specs.Nodes.{Calc, Place, Step, Nodes, no_nodes, more_nodes, plain, if_, loop, break_, next_, ret, set, step, end_object}
 use Rattle.struct_ir.specs.Nodes as ir
 use Rattle.struct_ir.specs.Lists.{bare_place, bare_step}
 use Rattle.struct_ir.specs.Erased.{erased}

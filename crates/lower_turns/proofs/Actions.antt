@@ -14,7 +14,7 @@ use Rattle.block_store.specs.declared.values.Ptr.{Ptr}
 use Rattle.block_store.specs.declared.values.Ptr.TheVariants.{To}
 use Rattle.block_store.specs.declared.values.Value.{Value}
 use Rattle.block_store.specs.declared.values.Value.TheVariants as values
-use Rattle.block_store.specs.Actions.{World, ThreadRecord, Stage, running, returned, joined, at_stage, staged, staged_if, with_blocks, Done, went, blocked, unfit, broke, Outcomes, under, settled, chosen, gives, changes, changes_or_waits, passes, int_value, allocated, refused_allocation, all_bytes, prints, starts, refused_start, next_number, stored_unless_null, joins, joins_at, joins_if, joined_by, result_of, outcomes, acted, beginning}
+use Rattle.block_store.specs.Actions.{World, ThreadRecord, Stage, running, returned, joined, at_stage, staged, staged_if, with_blocks, Done, went, blocked, unfit, broke, under, settled, chosen, gives, changes, changes_or_waits, passes, all_bytes, prints, starts, next_number, stored_unless_null, joins, joins_at, joins_if, result_of, acted, beginning}
 use Rattle.block_store.specs.Actions as actions
 use Rattle.block_store.specs.Blocks.{Blocks, made, loaded, stored, copied, freed}
 use Rattle.block_store.specs.Mutexes.{locked, unlocked, destroyed}

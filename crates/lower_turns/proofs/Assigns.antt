@@ -27,15 +27,15 @@ use Rattle.c_tree.specs.TypedForm.{CanUpdate}
 use Rattle.c_tree.specs.TypedLayout.{size_in, align_in}
 use Rattle.c_meaning.specs.Values.{access_of_type, element_size, forward, backward, of_two, operand_types, computed, converted_result, value_of, updated}
 use Rattle.c_meaning.specs.Control as source
-use Rattle.c_meaning.specs.Control.{Variable, Control, Update, wanted}
+use Rattle.c_meaning.specs.Control.{Variable, Control}
 use Rattle.c_meaning.specs.Turns.{Way, on_ok, stays, local_way, nowhere_way, place_way, struct_right_way, update_read_way, update_local_way, updates_variable, update_of, acts}
 use Rattle.struct_ir.specs.Nodes as ir
-use Rattle.struct_ir.specs.Nodes.{Nodes, Place, Step, more_nodes, plain}
+use Rattle.struct_ir.specs.Nodes.{Nodes, Step, more_nodes, plain}
 use Rattle.struct_ir.specs.Structured.{Position, then_}
 use Rattle.struct_ir.specs.meaning.Blocks.{Held, value, number, pointer, broken, Own, set_at, known, on_value, on_number, or_broken, calculated, start_of, takes, if_taken}
 use Rattle.struct_ir.specs.meaning.Threads.{action_of, set_if}
 use Rattle.lower_forms.specs.Forms as forms
-use Rattle.lower_forms.specs.Forms.{home, sets, sets_long, Reach, found, reached, behind, at_temp, pointed, reach, number_type, moves, number_update, computes, update_at, sized_copy, expr_nodes, place_nodes}
+use Rattle.lower_forms.specs.Forms.{home, sets, Reach, found, reached, behind, at_temp, moves, number_update, computes, sized_copy}
 use Rattle.lower_forms.specs.Programs.{lowered}
 use Rattle.lower_turns.proofs.Relation.{HasKind, Below, Reaches, Points, InRegister, no_value, one_value, held_in, Agrees, forwards, backwards, at_local, at_nowhere, at_place, at_block, at_struct_right, at_update_read, at_update_local, Together, both_went, both_broke, same, at_begins}
 use Rattle.lower_turns.proofs.Registers.{set_here, set_there, below_same, below_less, below_then, below_set, reaches_below}

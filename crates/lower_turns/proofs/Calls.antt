@@ -15,17 +15,17 @@ use Rattle.c_tree.specs.Typed as tree
 use Rattle.c_tree.specs.TypedForm.{IsScalar, IsFunc, AreArguments}
 use Rattle.c_meaning.specs.Values.{access_of_type}
 use Rattle.c_meaning.specs.Control as source
-use Rattle.c_meaning.specs.Control.{Variable, Use, Todo, Wait, wanted, dropped, Callee, function, library, Caller}
+use Rattle.c_meaning.specs.Control.{Variable, Use, Todo, Wait, wanted, dropped, Callee, function, library}
 use Rattle.c_meaning.specs.Turns.{plainly, enters, first_locals}
 use Rattle.struct_ir.specs.Nodes as ir
-use Rattle.struct_ir.specs.Nodes.{Nodes, Func, more_nodes, plain}
+use Rattle.struct_ir.specs.Nodes.{Nodes, Func}
 use Rattle.struct_ir.specs.Structured.{Position, then_, done}
 use Rattle.struct_ir.specs.Threads.{Thread, if_fits, went}
-use Rattle.struct_ir.specs.meaning.Blocks.{Held, value, Own, set_at}
+use Rattle.struct_ir.specs.meaning.Blocks.{Held, value, Own}
 use Rattle.struct_ir.specs.meaning.Blocks as code
 use Rattle.struct_ir.specs.meaning.Threads.{passed, nodes_of, is_plain, turned}
 use Rattle.lower_forms.specs.Forms as forms
-use Rattle.lower_forms.specs.Forms.{home, home_or_none, temps_of, sets, Reach, found}
+use Rattle.lower_forms.specs.Forms.{home_or_none, temps_of, sets, found}
 use Rattle.lower_forms.specs.Programs.{home_if, next_home, homes_from, func_lowered, funcs_lowered, lowered}
 use Rattle.lower_turns.proofs.Relation.{HasKind, InRegister, no_value, one_value, InBlock, no_block, held_in, Agrees, Stand, Calls, AtE, AtS, at_leaves, at_row, Callers, one_wants, one_drops, fr, Together, both_went, both_unfit, same, at_begins, after_args, dropped_args}
 use Rattle.lower_turns.proofs.Operands.{fits_access}

@@ -17,7 +17,7 @@ use Rattle.c_meaning.specs.Turns.{Now, Way, end_way, ended_local, ended_locals, 
 use Rattle.struct_ir.specs.Nodes.{Nodes, StackObject, Func}
 use Rattle.struct_ir.specs.Structured.{Position, then_, out_of, end_of}
 use Rattle.struct_ir.specs.meaning.Blocks as code
-use Rattle.struct_ir.specs.meaning.Blocks.{Held, Own, value, set_at, without, object_ended, all_ended, begun, begun_after, size_of}
+use Rattle.struct_ir.specs.meaning.Blocks.{Held, Own, set_at, without, object_ended, all_ended, begun, begun_after, size_of}
 use Rattle.struct_ir.specs.meaning.Threads.{over}
 use Rattle.lower_forms.specs.Forms.{Frame, home, home_or_none, with_home, ends, objects_in, objects_by, home_in}
 use Rattle.lower_forms.specs.Programs.{home_if, next_home, homes_from, object_of, with_object, objects_of, lowered}

@@ -18,7 +18,7 @@ use Rattle.struct_ir.specs.Nodes.{Nodes}
 use Rattle.struct_ir.specs.Structured.{Position, then_}
 use Rattle.struct_ir.specs.meaning.Blocks.{Held, value, pointer, set_at, calculated}
 use Rattle.lower_forms.specs.Forms as forms
-use Rattle.lower_forms.specs.Forms.{home, sets, Reach, found, direct_if, is_pointer, register_of, member_reach, pointed, pointed_in, reach, reach_in, number_type, expr_nodes, value_nodes, place_nodes, object_place, args_nodes, lib_nodes}
+use Rattle.lower_forms.specs.Forms.{home, sets, Reach, found, direct_if, is_pointer, register_of, member_reach, pointed, pointed_in, reach, reach_in, expr_nodes, value_nodes, object_place, args_nodes, lib_nodes}
 use Rattle.lower_forms.specs.Programs.{globals_lowered, lowered}
 use Rattle.lower_turns.proofs.Relation.{ctx, HasKind, Below, Points, Agrees, no_join, ConvertFits, to_number, to_pointer, Calls, CallIs, AreScalars, IsPlace, Taken, none_yet, one_more, Stand, AtE, at_wanted, at_dropped}
 use Rattle.lower_turns.proofs.Registers.{set_here, below_same, taken_le, taken_below, use_below, below_less}

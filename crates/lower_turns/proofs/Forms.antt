@@ -11,7 +11,7 @@ use Rattle.c_tree.specs.TypedForm.{IsScalar, IsLvalue, Fits, IsTyped, IsTypedNod
 use Rattle.c_tree.specs.TypedLayout.{size_in}
 use Rattle.c_meaning.specs.Values.{access_of_type, is_scalar}
 use Rattle.c_meaning.specs.Control as source
-use Rattle.c_meaning.specs.Control.{Variable, Control, dropped, function, library}
+use Rattle.c_meaning.specs.Control.{Variable, Control, dropped}
 use Rattle.c_meaning.specs.Turns.{Now, Way, run, run_place, local_way, place_way, left_way, struct_left_way, update_left_way, update_local_way, update_of, is_block, local_at, declared_in, made_local, with_variable, ended_local, assigns, assigns_object, updates, declares, is_struct}
 use Rattle.struct_ir.specs.Nodes as ir
 use Rattle.struct_ir.specs.Nodes.{Nodes}
@@ -19,7 +19,7 @@ use Rattle.struct_ir.specs.Structured.{Position, then_}
 use Rattle.struct_ir.specs.meaning.Blocks as code
 use Rattle.struct_ir.specs.meaning.Blocks.{Held, Own, set_at, begun}
 use Rattle.lower_forms.specs.Forms as forms
-use Rattle.lower_forms.specs.Forms.{home, register_if, own_register, pointed, pointed_in, reach, reach_in, is_void, expr_nodes, place_nodes, object_assign, copy_nodes, store_nodes, assign_nodes, update_nodes, update_object, update_register, declare_nodes, dropped_nodes, dropped_value, dropped_object}
+use Rattle.lower_forms.specs.Forms.{home, register_if, own_register, pointed, reach, expr_nodes, object_assign, copy_nodes, store_nodes, assign_nodes, update_nodes, update_object, declare_nodes}
 use Rattle.lower_forms.specs.Programs.{lowered}
 use Rattle.lower_turns.proofs.Relation.{ctx, InRegister, no_value, Agrees, Calls, IsPlace}
 use Rattle.lower_turns.proofs.Registers.{set_here, set_there}

@@ -18,11 +18,10 @@ use Rattle.block_store.specs.Actions as actions
 use Rattle.block_store.specs.Actions.{World, Done, acted}
 use Rattle.block_store.specs.Blocks.{Blocks}
 use Rattle.block_store.specs.Runs as runs
-use Rattle.block_store.specs.Runs.{Turn}
 use Rattle.c_tree.specs.Typed as tree
 use Rattle.c_meaning.specs.Values.{access_of_type}
 use Rattle.c_meaning.specs.Control as source
-use Rattle.c_meaning.specs.Control.{Variable, Control, Caller, wanted, dropped}
+use Rattle.c_meaning.specs.Control.{Variable, Control, Caller, wanted}
 use Rattle.c_meaning.specs.Turns.{on_done, plainly, after_call, number_in, result_of_call, returns_to, leaves_call, leave_way, caller_way, without_blocks}
 use Rattle.struct_ir.specs.Nodes as ir
 use Rattle.struct_ir.specs.Nodes.{Nodes, no_nodes, more_nodes}
@@ -36,7 +35,7 @@ use Rattle.struct_ir.specs.meaning.Blocks as code
 use Rattle.struct_ir.specs.meaning.Blocks.{Held, value, Own, set_at, blocks_machine, same_type, wrong_kind, on_value, known}
 use Rattle.struct_ir.specs.meaning.Threads.{over, given, int_in, result_of, finished_with, served_by, blocks_world, is_plain, turned, start_in}
 use Rattle.lower_forms.specs.Forms as forms
-use Rattle.lower_forms.specs.Forms.{sets_int, Reach, found}
+use Rattle.lower_forms.specs.Forms.{Reach, found}
 use Rattle.lower_forms.specs.Programs.{registers_of, last_nodes, lowered}
 use Rattle.lower_turns.proofs.Relation.{HasKind, Below, Agrees, Calls, Callers, no_callers, one_wants, one_drops, AllBegin, InCall, first, fr, at_leaves, at_caller, at_again, Together, both_went, both_ended, both_blocked, both_unfit, both_broke, same, at_gives, at_lacks, at_begins, AtE}
 use Rattle.lower_turns.proofs.Registers.{set_here, below_same, below_less, below_set, agrees_below, use_below}

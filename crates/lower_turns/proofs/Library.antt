@@ -8,7 +8,7 @@ use Rattle.block_store.specs.declared.values.Ptr.{Ptr}
 use Rattle.block_store.specs.declared.values.Value.{Value}
 use Rattle.block_store.specs.declared.values.Value.TheVariants as values
 use Rattle.block_store.specs.Actions as actions
-use Rattle.block_store.specs.Actions.{World, SharedAction, acted, bytes, text}
+use Rattle.block_store.specs.Actions.{World, bytes, text}
 use Rattle.block_store.specs.Blocks.{Blocks}
 use Rattle.block_store.specs.Runs as runs
 use Rattle.c_tree.specs.Typed as tree
@@ -19,10 +19,10 @@ use Rattle.c_meaning.specs.Control.{Variable, Wait}
 use Rattle.c_meaning.specs.Library.{numbers_of, pointers_of}
 use Rattle.c_meaning.specs.Turns.{stays, after_call}
 use Rattle.struct_ir.specs.Nodes as ir
-use Rattle.struct_ir.specs.Nodes.{Nodes, Place, Step, Action as Act}
+use Rattle.struct_ir.specs.Nodes.{Nodes, Place, Step}
 use Rattle.struct_ir.specs.Structured.{Position, then_}
 use Rattle.struct_ir.specs.meaning.Blocks.{Held, value, pointer, Fault, Own, known, on_value, on_pointer}
-use Rattle.struct_ir.specs.meaning.Threads.{address_of, action_of, action_with, all_of, set_if, fits}
+use Rattle.struct_ir.specs.meaning.Threads.{address_of, action_of, action_with, all_of}
 use Rattle.struct_ir.specs.meaning.Threads as served
 use Rattle.lower_forms.specs.Forms.{sets_int, found, at_temp, is_number, with_if, number_temps, text_places}
 use Rattle.lower_turns.proofs.Relation.{HasKind, Below, Agrees, Stand, AreScalars, Calls, AtE, at_int, AllBegin, Together, both_went, same, at_begins, at_gives, at_zero}

@@ -20,7 +20,7 @@ use Rattle.c_meaning.specs.Library.{numbers_of, pointers_of, value_of_call, free
 use Rattle.c_meaning.specs.Library as meant
 use Rattle.c_meaning.specs.Turns.{stays, after_call, calls_library, acts}
 use Rattle.struct_ir.specs.Nodes as ir
-use Rattle.struct_ir.specs.Nodes.{Nodes, Place, Step, more_nodes, plain}
+use Rattle.struct_ir.specs.Nodes.{Nodes, Step, more_nodes, plain}
 use Rattle.struct_ir.specs.Structured.{Position, then_}
 use Rattle.struct_ir.specs.meaning.Blocks.{Held, value, set_at, wrong_kind, same_type}
 use Rattle.struct_ir.specs.meaning.Threads.{action_of, set_if, action_with, if_count}

@@ -9,7 +9,7 @@ use Rattle.c_meaning.specs.Alike.{TurnsAlike, both_went, both_ended, both_blocke
 use Rattle.c_meaning.specs.Meaning.{start}
 use Rattle.c_meaning.proofs.Alike.{shown_alike}
 use Rattle.struct_ir.specs.Nodes as ir
-use Rattle.struct_ir.specs.Nodes.{Calc, Act, Nodes, Func, Ir, StackObject}
+use Rattle.struct_ir.specs.Nodes.{Calc, Act, Func, Ir, StackObject}
 use Rattle.struct_ir.specs.Structured.{Position, then_, done, structured}
 use Rattle.struct_ir.specs.MapsTurns.{thread_mapped, AllCarry, IsMapped}
 use Rattle.struct_ir.specs.Lists.{listless}

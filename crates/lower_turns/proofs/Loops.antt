@@ -16,7 +16,7 @@ use Rattle.c_meaning.specs.Turns.{Way, plainly, run_stmt, run_row, row_way, if_w
 use Rattle.struct_ir.specs.Nodes as ir
 use Rattle.struct_ir.specs.Nodes.{Nodes, no_nodes, more_nodes}
 use Rattle.struct_ir.specs.Structured as position
-use Rattle.struct_ir.specs.Structured.{Position, then_, out_of, end_of}
+use Rattle.struct_ir.specs.Structured.{Position, then_}
 use Rattle.struct_ir.specs.Threads as threads
 use Rattle.struct_ir.specs.Threads.{Thread, if_fits}
 use Rattle.struct_ir.specs.meaning.Blocks.{Held, Own}

@@ -17,7 +17,7 @@ use Rattle.c_tree.specs.TypedForm.{IsScalar, IsNth, CanUpdate, CanStart, signatu
 use Rattle.c_tree.specs.TypedLayout.{size_in}
 use Rattle.c_meaning.specs.Values.{Binary, converts, negates, tests, selects, on_numbers, forward, backward, distance, on_pointers, access_of_type}
 use Rattle.c_meaning.specs.Control as source
-use Rattle.c_meaning.specs.Control.{Variable, Loop, Update, Callee, function, library, Todo, Use, Wait, wanted, dropped, Caller, Control}
+use Rattle.c_meaning.specs.Control.{Variable, Loop, Callee, function, library, Todo, Use, wanted, dropped, Caller, Control}
 use Rattle.c_meaning.specs.Turns.{update_of, variable_or_unset}
 use Rattle.struct_ir.specs.Nodes as ir
 use Rattle.struct_ir.specs.Nodes.{Calc, Nodes, no_nodes, more_nodes}

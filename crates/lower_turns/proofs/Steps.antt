@@ -17,7 +17,7 @@ use Rattle.struct_ir.specs.Nodes.{Calc, Nodes, no_nodes, more_nodes, plain, Ir, 
 use Rattle.struct_ir.specs.Structured.{Position, then_, in_body, in_latch, out_of, end_of, structured}
 use Rattle.struct_ir.specs.Machine as machine
 use Rattle.struct_ir.specs.Machine.{Point, Ahead, goes, stops, breaks, ahead, run}
-use Rattle.struct_ir.specs.Threads.{Thread, Outcome, and_then, alone, stop_event, served}
+use Rattle.struct_ir.specs.Threads.{Thread, and_then, alone, stop_event, served}
 use Rattle.struct_ir.specs.Threads as threads
 use Rattle.struct_ir.proofs.Runs.{unfolds}
 use Rattle.struct_ir.proofs.Sizes.{structured_shrinks}

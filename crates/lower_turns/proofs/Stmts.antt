@@ -14,7 +14,7 @@ use Rattle.struct_ir.specs.Structured.{Position, then_, out_of, end_of}
 use Rattle.struct_ir.specs.meaning.Blocks.{Held}
 use Rattle.lower_forms.specs.Counts.{count, greatest, greatest_in, greatest_row, count_if}
 use Rattle.lower_forms.specs.Forms as forms
-use Rattle.lower_forms.specs.Forms.{home, pointed, pointed_in, reach_in, branches, expr_nodes, value_nodes, object_place, args_nodes, dropped_nodes, dropped_value, dropped_object, return_nodes, ends, objects_in, objects_by, stmt_nodes, form_nodes, row_nodes}
+use Rattle.lower_forms.specs.Forms.{pointed, pointed_in, reach_in, branches, expr_nodes, value_nodes, object_place, dropped_nodes, dropped_value, dropped_object, return_nodes, ends, objects_in, objects_by, stmt_nodes, form_nodes, row_nodes}
 use Rattle.lower_forms.specs.Programs.{lowered}
 use Rattle.lower_turns.proofs.Relation.{ctx, inside, Agrees, Calls, Free, LoopIs, IsPlace, none_yet, homes_of}
 use Rattle.lower_turns.proofs.Operands.{pointer_scalar, integer_scalar, sized_pointer, moved_pointer, operand_scalars, fits_access, argument_scalars, lib_scalars}

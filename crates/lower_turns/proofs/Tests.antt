@@ -22,7 +22,7 @@ use Rattle.struct_ir.specs.Nodes as ir
 use Rattle.struct_ir.specs.Nodes.{Nodes, no_nodes}
 use Rattle.struct_ir.specs.Structured.{Position, then_}
 use Rattle.struct_ir.specs.meaning.Blocks as code
-use Rattle.struct_ir.specs.meaning.Blocks.{Held, value, pointer, Fault, broken, Own, set_at, known, on_value, start_of}
+use Rattle.struct_ir.specs.meaning.Blocks.{Held, value, pointer, broken, set_at, known, on_value, start_of}
 use Rattle.lower_forms.specs.Forms as forms
 use Rattle.lower_forms.specs.Forms.{home, sets, sets_int, sets_truth, branches, Reach, found, direct, register_if, direct_if, pointed, reach, expr_nodes, place_nodes, object_nodes, local_value, local_place}
 use Rattle.lower_forms.specs.Programs.{lowered}

@@ -11,24 +11,24 @@ use Rattle.block_store.specs.declared.values.Ptr.{Ptr}
 use Rattle.block_store.specs.declared.values.Value.{Value}
 use Rattle.block_store.specs.declared.values.Value.TheVariants as values
 use Rattle.block_store.specs.Actions as actions
-use Rattle.block_store.specs.Actions.{World, SharedAction, acted}
+use Rattle.block_store.specs.Actions.{World, acted}
 use Rattle.block_store.specs.Blocks.{Blocks}
 use Rattle.block_store.specs.Pointers.{moved, indexed, tested}
 use Rattle.block_store.specs.Runs as runs
 use Rattle.block_store.specs.Runs.{Turn}
 use Rattle.c_tree.specs.Typed as tree
 use Rattle.c_meaning.specs.Values as meant
-use Rattle.c_meaning.specs.Values.{Binary, forward, of_two, of_one, truth_of, opposite, int_of, int_result, selected, pointer_of, access_of_type, converted}
+use Rattle.c_meaning.specs.Values.{Binary, of_two, truth_of, opposite, int_of, int_result, selected, pointer_of, access_of_type}
 use Rattle.c_meaning.specs.Control.{Variable, Control, wanted}
 use Rattle.c_meaning.specs.Turns.{WayOfUse, on_ok, stays, after_call, second_way, only_way, read_way, second_test_way}
 use Rattle.struct_ir.specs.Nodes as ir
-use Rattle.struct_ir.specs.Nodes.{Calc, Nodes, no_nodes, Place}
+use Rattle.struct_ir.specs.Nodes.{Nodes, no_nodes, Place}
 use Rattle.struct_ir.specs.Structured.{Position, then_}
 use Rattle.struct_ir.specs.meaning.Blocks.{Held, value, number, pointer, truth, Fault, Own, set_at, known, on_value, on_number, on_pointer, or_broken, calculated}
-use Rattle.struct_ir.specs.meaning.Threads.{address_of, action_of, action_with, set_if, all_of, moved_if}
+use Rattle.struct_ir.specs.meaning.Threads.{address_of, action_of, action_with, set_if, moved_if}
 use Rattle.struct_ir.specs.meaning.Threads as served
 use Rattle.lower_forms.specs.Forms as forms
-use Rattle.lower_forms.specs.Forms.{sets, sets_int, sets_long, sets_truth, branches, Reach, found, direct, indexed as by_index, reached, behind, at_temp, member_reach, pointed, reach, expr_nodes, place_nodes, member_nodes}
+use Rattle.lower_forms.specs.Forms.{sets, sets_int, sets_truth, Reach, found, direct, indexed as by_index, reached, behind, member_reach, member_nodes}
 use Rattle.lower_forms.specs.Programs.{lowered}
 use Rattle.lower_turns.proofs.Relation.{HasKind, Below, Reaches, Points, BinaryFits, forwards, forwards_from, calc_of, Joined, not_joined, joined, ConvertFits, to_number, to_pointer, Calls, at_second, at_convert, at_not, at_test, at_member, at_read, at_second_test, Together, both_went, same, at_gives}
 use Rattle.lower_turns.proofs.Registers.{set_here, set_there, below_less, below_set}

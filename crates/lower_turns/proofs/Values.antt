@@ -23,7 +23,7 @@ use Rattle.block_store.specs.Blocks.{Block, Blocks, Range, live, loaded, read_at
 use Rattle.block_store.specs.Cells as cells
 use Rattle.block_store.specs.Pointers.{within, moved_in, moved_null, moved, indexed, difference, compared}
 use Rattle.c_meaning.specs.Values as meant
-use Rattle.c_meaning.specs.Values.{on_numbers, forward, backward, distance, on_pointers, of_two, value_of, pointer_of, int_result, long_result, int_of}
+use Rattle.c_meaning.specs.Values.{of_two, value_of, pointer_of, int_result, long_result, int_of}
 use Rattle.struct_ir.specs.Nodes.{Ir}
 use Rattle.struct_ir.specs.meaning.Blocks.{value, number, pointer, truth, Fault, Own, or_broken, calculated, takes, if_taken, same_type}
 use Rattle.struct_ir.specs.meaning.Threads.{further, fits, offset_in}

@@ -7,7 +7,7 @@ use Rattle.block_store.specs.Runs.{Pick}
 use Rattle.block_store.specs.Runs as runs
 use Rattle.c_tree.specs.Typed
 use Rattle.c_tree.specs.Typed.{void, integer, mutex, pointer, array, structure, bytes, signed, unsigned, print, copy, mutex_init, mutex_lock}
-use Rattle.c_tree.specs.Typed.{at, null, literal, global, local, deref, member, address_of, convert, not_, binary, and_also, or_else, choose, pointer_add, pointer_sub, pointer_diff, pointer_compare}
+use Rattle.c_tree.specs.Typed.{null, literal, global, local, deref, member, address_of, convert, not_, binary, and_also, or_else, choose, pointer_add, pointer_sub, pointer_diff, pointer_compare}
 use Rattle.c_tree.specs.Typed.{block, declare, if_, if_else, for_, while_, break_, continue_, return_, assign, update, evaluate, StmtNode, Expr, zero_bytes, number}
 use Rattle.c_meaning.specs.Meaning.{start, shown}
 use Rattle.c_meaning.specs.Rows.{int_ty, int_star, k, v, of_type, row, one, lib_call, printf_int, op_of, at_star, in_register, in_memory, func, whole, main_only, turns, got, none, p0, malloc_of, free_of, call_of, shared_block, first_turns, ints, returns, char_star, decayed, at_index, as_void_star, size, mutex_call, joined_twice, prints_and_gives, x0, pair, struct_local, unsigned_char, u, minus, counted, one_waits, g0, thread_ty}

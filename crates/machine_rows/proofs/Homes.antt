@@ -1,15 +1,13 @@
 -- The threads at home behind a turn.
-use Rattle.std.proofs.Common.{◌≡◌, ◌≢◌, ℕ, zero, suc, ◌+◌, ◌<◌, ◌≤◌, Bool, true, false, List, [], ◌∷◌, ◌++◌, length, get_or, set, ap, sym, subst, ◌∙◌, refl, arith, inl, inr, Option, Some, None}
+use Rattle.std.proofs.Common.{◌≡◌, ◌≢◌, ℕ, zero, suc, ◌+◌, ◌<◌, ◌≤◌, List, [], ◌∷◌, ◌++◌, length, get_or, set, ap, sym, subst, ◌∙◌, refl, arith, inl, inr, Option, Some, None}
 use Rattle.std.specs.Prelude.{◌⊎◌, All}
 use Rattle.std.specs.List.{AllZip}
 use Rattle.std.proofs.lemmas.Bool.{cases_eq}
 use Rattle.std.proofs.lemmas.List.{length-set, length_push, get_or_append_left, get_or_push, get_or-set_other, get_or-set_same}
 use Rattle.flat_rules.specs.declared.step.Step.{Step}
-use Rattle.flat_rules.specs.declared.step.Step.TheVariants as step
-use Rattle.flat_rules.specs.Lawful.{AreHome, EachAt, IsAtHome, IsFlat, IsHomeAt, IsOfRun, IsOpened, KeptAt, Sweeps}
+use Rattle.flat_rules.specs.Lawful.{AreHome, EachAt, IsFlat, IsHomeAt, IsOfRun, IsOpened, KeptAt}
 use Rattle.flat_rules.specs.Machine.{Machine}
-use Rattle.flat_rules.specs.States.{most_threads}
-use Rattle.machine_rows.specs.Runs.{GoesOn, IsPlace, IsRun, StaysRun, Turns}
+use Rattle.machine_rows.specs.Runs.{IsPlace, IsRun, Turns}
 
 module _ {S C : Type 0} (m : Machine S C) (SharedOf : S → Type 0) (ContextOf : C → Type 0) where
   -- ---- a turn of one thread

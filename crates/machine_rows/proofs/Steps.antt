@@ -1,14 +1,13 @@
 -- One step of a thread, and several of them.
-use Rattle.std.proofs.Common.{◌≡◌, ◌≢◌, ℕ, ◌<◌, ◌≤◌, ◌==◌, ◌||◌, ◌&&◌, Bool, true, false, cond, ap, sym, subst, ◌∙◌, refl, arith, inl, inr, Option, Some, None}
+use Rattle.std.proofs.Common.{◌≡◌, ◌≢◌, ℕ, ◌<◌, ◌≤◌, ◌==◌, ◌||◌, ◌&&◌, Bool, true, false, cond, ap, sym, subst, ◌∙◌, refl, arith, inr, Some, None}
 use Rattle.std.proofs.lemmas.Bool.Decides.{nat_tests}
-use Rattle.ak_trace.specs.declared.endings.End.{End}
 use Rattle.ak_trace.specs.declared.endings.End.TheVariants.{Done}
 use Rattle.flat_rules.specs.declared.step.Step.{Step}
 use Rattle.flat_rules.specs.declared.step.Step.TheVariants as step
 use Rattle.flat_rules.specs.Answers.{step_of, step_by_end}
 use Rattle.flat_rules.specs.Events.{goes, back, away}
-use Rattle.flat_rules.specs.Lawful.{Goes_on, IsFlat, Leaves, Lives, is_end}
-use Rattle.flat_rules.specs.Machine.{Machine, Turned, works, steps, looked, stepped, got, got_null, made_thread, refused_thread, found_busy, wants_room, rested, ended, trapped, passed_limit, lacked_stack}
+use Rattle.flat_rules.specs.Lawful.{IsFlat, Leaves, Lives, is_end}
+use Rattle.flat_rules.specs.Machine.{Machine, Turned, steps, looked, stepped, got, got_null, made_thread, refused_thread, found_busy, wants_room, rested, ended, trapped, passed_limit, lacked_stack}
 use Rattle.flat_rules.specs.States.{most_threads}
 use Rattle.machine_rows.specs.Runs.{Comes, GoesOn, Turns}
 

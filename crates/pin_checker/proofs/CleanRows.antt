@@ -1,7 +1,7 @@
 -- Rows in which a search finds nothing, as the program finds them.
 use Rattle.std.proofs.lemmas.List.{drop_all}
 use Rattle.std.proofs.lemmas.Bool.{and_parts}
-use Rattle.std.proofs.Common.{◌≡◌, ℕ, ◌+◌, ◌<◌, ◌≤◌, length, drop, get_or, List, Option, None, Bool, true, false, ◌&&◌, refl, sym, ap, subst, ◌∙◌}
+use Rattle.std.proofs.Common.{◌≡◌, ℕ, ◌+◌, ◌<◌, ◌≤◌, length, drop, get_or, List, None, Bool, true, false, ◌&&◌, refl, sym, ap, subst, ◌∙◌}
 use Rattle.std.specs.Prelude.{not}
 use Rattle.std.specs.Global.{Vec}
 use Rattle.struct_ir.specs.declared.code.Node.{Node as CodeNode}
@@ -11,7 +11,6 @@ use Rattle.struct_ir.specs.Views.{node_view, nodes_view}
 use Rattle.struct_ir.proofs.Views.{if_is, loop_is}
 use Rattle.pin_flow.specs.Marks.{State, end_state, head_of, flow, flow_node}
 use Rattle.pin_flow.proofs.FlowRows.{split_at, is_leaf}
-use Rattle.pin_checker.specs.declared.fault.Fault.{Fault}
 use Rattle.pin_checker.specs.inner.Reports.{Search, noted, report, report_node}
 use Rattle.pin_checker.specs.inner.SearchViews.{blames_at}
 

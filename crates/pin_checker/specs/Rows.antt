@@ -1,7 +1,7 @@
 -- Small codes, and for which reasons their accesses fail.
 use Rattle.std.specs.Prelude.{◌≡◌, ℕ, List, [], ◌∷◌, map, Some, None, Bool, true, false}
 use Rattle.block_store.specs.declared.values.Access.TheVariants.{Pointer}
-use Rattle.struct_ir.specs.Nodes.{Place, Act, set, null, step, look, safepoint, call, load, malloc, Node, plain, loop, Nodes, no_nodes, more_nodes}
+use Rattle.struct_ir.specs.Nodes.{Place, Act, set, null, step, look, safepoint, call, load, Node, plain, loop, Nodes, no_nodes, more_nodes}
 use Rattle.struct_ir.specs.Structured.{Position, done, then_, structured}
 use Rattle.pin_checker.specs.declared.fault.Why.{Why}
 use Rattle.pin_checker.specs.declared.fault.Why.TheVariants.{BadTemp, NoLook, StaleLook, NotPinned}

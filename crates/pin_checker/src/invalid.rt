@@ -7,7 +7,8 @@ ghost use Rattle.pin_checker.specs.Faults.{is_alone, is_sound};
 ghost use Rattle.pin_checker.specs.inner.Reports.{report_invalid, report_invalid_in};
 
 use crate::fault::{Fault, Why, noted};
-use crate::guards::{is_guarded, list_at};
+use crate::guards::is_guarded;
+use struct_ir::placed::list_at;
 use struct_ir::scope::{Around, Scope};
 use struct_ir::valid::{in_body, in_latch, is_node};
 use struct_ir::{Node, NodeKind};

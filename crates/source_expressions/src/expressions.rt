@@ -9,7 +9,7 @@ ghost use Rattle.c_meaning.specs.Values as values;
 ghost use Rattle.c_meaning.specs.Values.{truth_of, int_result};
 ghost use Rattle.source_tree.specs.declared.tree.SharedProgram.{SharedProgram};
 ghost use Rattle.source_tree.specs.SharedViews.{expr_of, args_of};
-ghost use Rattle.source_values.specs.Operations.{unary_of, binary_of};
+ghost use Rattle.source_state.specs.Operations.{unary_of, binary_of};
 ghost use Rattle.source_state.specs.declared.control.Progress.TheVariants as flows;
 ghost use Rattle.source_state.specs.Variables.{variable_of};
 ghost use Rattle.source_state.specs.Views.{use_of, wait_of, values_of, callee_of};
@@ -18,6 +18,7 @@ ghost use Rattle.source_expressions.specs.inner.Operations.{FlowsLeft, FlowsOnly
 ghost use Rattle.source_expressions.specs.inner.Objects.{FlowsRead, FlowsVariable, FindsVariable, block_pointer};
 
 use crate::called;
+use crate::operations::{of_one, of_two};
 use ak_words::{NoMemory, Num, Rule};
 use block_store::{Access, Ptr, Store, Value};
 use c_tree::typed::{CType, Layout};
@@ -26,13 +27,12 @@ use source_state::frames::{
     after_argument, after_choice, after_first, after_first_test, after_only, after_place,
     after_second, after_second_test, one_more,
 };
+use source_state::operations::{Binary, Unary};
 use source_state::{Locals, SharedAction, Variable};
 use source_tree::tree::{
     Callee, OneForm, SharedArgs, SharedExpr, SharedNode, SharedProgram, TwoForm,
 };
-use source_values::{
-    Binary, Unary, access_of_type, element_size, int_of, member_offset, of_one, of_two, truth_of,
-};
+use source_values::{access_of_type, element_size, int_of, member_offset, truth_of};
 use std::alloc::Global;
 use std::rc::Rc;
 

@@ -5,6 +5,7 @@
 
 mod calls;
 pub mod expressions;
+pub mod operations;
 mod printing;
 
 pub use calls::{called, list_of};

@@ -3,3 +3,4 @@ pub mod inner
 pub mod Worlds
 pub mod Variables
 pub mod Views
+pub mod Operations

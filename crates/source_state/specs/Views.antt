@@ -11,7 +11,7 @@ use Rattle.source_tree.specs.declared.tree.Callee.{Callee}
 use Rattle.source_tree.specs.declared.tree.Callee.TheVariants as callees
 use Rattle.source_tree.specs.declared.tree.SharedStmt.{SharedStmt}
 use Rattle.source_tree.specs.SharedViews.{expr_of, optional_expr_of, args_of, stmt_of, row_of, row_from}
-use Rattle.source_values.specs.Operations.{unary_of, binary_of}
+use Rattle.source_state.specs.Operations.{unary_of, binary_of}
 use Rattle.source_state.specs.declared.control.LoopParts.{LoopParts}
 use Rattle.source_state.specs.declared.control.Updating.{Updating}
 use Rattle.source_state.specs.declared.control.Values.{Values}

@@ -1,3 +1,4 @@
 -- What only bodies use.
 pub mod Back
 pub mod LocalsBack
+pub mod Locks

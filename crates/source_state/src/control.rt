@@ -1,11 +1,11 @@
 //! What is left to do, linked by shared parts.
 
 use crate::SharedAction;
+use crate::operations::{Binary, Unary};
 use ak_words::{Op, Rule};
 use block_store::{Access, Value};
 use c_tree::typed::CType;
 use source_tree::tree::{Callee, SharedArgs, SharedExpr, SharedRow, SharedStmt};
-use source_values::{Binary, Unary};
 use std::rc::Rc;
 
 /// A loop, at its place: its condition, its step and its body (C11 6.8.5).

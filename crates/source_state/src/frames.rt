@@ -3,14 +3,14 @@
 ghost use Rattle.std.specs.Prelude.{◌≡◌, ◌∷◌, [], ◌++◌, IfOk};
 ghost use Rattle.c_meaning.specs.Control as control;
 ghost use Rattle.source_tree.specs.SharedViews.{expr_of, args_of};
-ghost use Rattle.source_values.specs.Operations.{unary_of, binary_of};
+ghost use Rattle.source_state.specs.Operations.{unary_of, binary_of};
 ghost use Rattle.source_state.specs.Views.{use_of, wait_of, values_of, callee_of};
 
 use crate::control::{Use, Values, Wait};
+use crate::operations::{Binary, Unary};
 use ak_words::NoMemory;
 use block_store::{Access, Value};
 use source_tree::tree::{Callee, SharedArgs, SharedExpr};
-use source_values::{Binary, Unary};
 use std::alloc::Global;
 use std::rc::Rc;
 

@@ -2,8 +2,8 @@ ghost use Rattle.std.specs.Prelude.{◌≡◌, ◌<◌, length, IfOk, OnOk, OnEr
 ghost use Rattle.block_store.specs.Blocks.{made, ended, freed, stored, copied, answer_of, store_after};
 ghost use Rattle.block_store.specs.Cells.{access_of};
 ghost use Rattle.block_store.specs.Mutexes.{locked, unlocked, lock_end, store_after_lock};
-ghost use Rattle.source_state.specs.Kept.{unkept};
 ghost use Rattle.source_state.specs.inner.Back.{back_by};
+ghost use Rattle.source_state.specs.inner.Locks.{unkept};
 
 use ak_words::{NoMemory, Rule};
 use block_store::{BlockKind, Cell, EndedBlock, LockEnd, Ptr, Store, Value};
@@ -124,7 +124,14 @@ impl KeptStore {
     }
 
     /// Copies cells, as `Store::copy` does; after that nothing leads back.
-    pub fn copy(&mut self, to: Ptr, from: Ptr, n: u32, align: u32, same: bool) -> Result<(), Rule>
+    pub(crate) fn copy(
+        &mut self,
+        to: Ptr,
+        from: Ptr,
+        n: u32,
+        align: u32,
+        same: bool,
+    ) -> Result<(), Rule>
         requires { 0 < align }
         ensures answer { result ≡ answer_of (copied self.old.now to from n align same) }
         ensures after { self.new.now ≡ store_after (copied self.old.now to from n align same) self.old.now }
@@ -134,7 +141,7 @@ impl KeptStore {
     }
 
     /// Takes a mutex, as `Store::lock` does; after that nothing leads back.
-    pub fn lock(&mut self, at: Ptr, thread: u32) -> Result<LockEnd, Rule>
+    pub(crate) fn lock(&mut self, at: Ptr, thread: u32) -> Result<LockEnd, Rule>
         ensures answer { result ≡ lock_end (locked self.old.now at thread) }
         ensures after { self.new.now ≡ store_after_lock (locked self.old.now at thread) self.old.now }
         ensures unchanged { unkept result self.old self.new }
@@ -143,7 +150,7 @@ impl KeptStore {
     }
 
     /// Sets a mutex free, as `Store::unlock` does; after that nothing leads back.
-    pub fn unlock(&mut self, at: Ptr, thread: u32) -> Result<(), Rule>
+    pub(crate) fn unlock(&mut self, at: Ptr, thread: u32) -> Result<(), Rule>
         ensures answer { result ≡ answer_of (unlocked self.old.now at thread) }
         ensures after { self.new.now ≡ store_after (unlocked self.old.now at thread) self.old.now }
         ensures unchanged { OnErr result (self.new ≡ self.old) }

@@ -1,6 +1,6 @@
 //! Where a run of the source is: its blocks, what its threads share and each action on it, what is left to do in a call, and the call's locals.
 //! Promises upward: blocks and locals lead back to where they were kept last; an action gives what the table of the actions says, and one that comes to nothing changes nothing; each frame is that of the meaning of the source.
-//! Stands on block_store for the actions' meaning, on c_meaning's definitions, on source_tree for trees, and on source_values for operations.
+//! Stands on block_store for the actions' meaning, on c_meaning's definitions, and on source_tree for trees.
 #![tactic(auto)]
 
 mod acting;
@@ -8,6 +8,7 @@ pub mod control;
 pub mod frames;
 mod kept;
 mod locals;
+pub mod operations;
 mod plain;
 mod reached;
 mod world;

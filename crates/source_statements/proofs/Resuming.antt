@@ -21,12 +21,13 @@ use Rattle.source_state.specs.declared.control.Pending.{Pending}
 use Rattle.source_state.specs.declared.control.Pending.TheVariants as pendings
 use Rattle.source_expressions.specs.Ends.{here_at, ends}
 use Rattle.source_expressions.specs.Progress.{now_in, progress, done_with, Flows, FlowsSecond, FlowsTest, FlowsCall, Reads}
-use Rattle.source_statements.specs.declared.exit.Exit.{Exit}
-use Rattle.source_statements.specs.declared.exit.Exit.TheVariants as exits
-use Rattle.source_statements.specs.Exits.{ExitsAs, exit, Finishes, GivesTo}
-use Rattle.source_statements.specs.inner.Stores.{Stores, Copies, ReadsUpdated, StoresUpdated}
-use Rattle.source_statements.specs.inner.Behind.{Passes, FlowsOn, Continues}
+use Rattle.source_assignments.specs.declared.exit.Exit.{Exit}
+use Rattle.source_assignments.specs.declared.exit.Exit.TheVariants as exits
+use Rattle.source_statements.specs.inner.Behind.{Passes, FlowsOn, Continues, StoresUpdated}
 use Rattle.source_statements.proofs.Names.{name_todo, name_use}
+use Rattle.source_statements.specs.Finishing.{Finishes, GivesTo}
+use Rattle.source_assignments.specs.Exits.{ExitsAs, exit}
+use Rattle.source_assignments.specs.Stores.{Stores, Copies, ReadsUpdated}
 
 -- ---- what is left to do
 

@@ -24,15 +24,15 @@ use Rattle.source_state.specs.declared.control.Pending.{Pending}
 use Rattle.source_state.specs.declared.control.Pending.TheVariants as pendings
 use Rattle.source_expressions.specs.Ends.{Rest, here_at, ends}
 use Rattle.source_expressions.specs.Progress.{Flows, now_in}
-use Rattle.source_statements.specs.declared.exit.Exit.{Exit}
-use Rattle.source_statements.specs.declared.exit.Exit.TheVariants as exits
-use Rattle.source_statements.specs.Exits.{ExitsAs, exit}
-use Rattle.source_statements.specs.Locals.{Comes}
+use Rattle.source_assignments.specs.declared.exit.Exit.{Exit}
+use Rattle.source_assignments.specs.declared.exit.Exit.TheVariants as exits
+use Rattle.source_assignments.specs.Locals.{Comes}
 use Rattle.source_statements.specs.declared.statements.Tested.{Tested}
 use Rattle.source_statements.specs.declared.statements.Tested.TheVariants as tests
 use Rattle.source_statements.specs.inner.Conditions.{Tests, test_way, tested}
 use Rattle.source_statements.specs.inner.Behind.{Passes, EndsRound, RowGoes}
-use Rattle.source_statements.proofs.Tails.{gives_exit}
+use Rattle.source_assignments.proofs.Tails.{gives_exit}
+use Rattle.source_assignments.specs.Exits.{ExitsAs, exit}
 
 -- the same piece in other words
 pub as_like : (piece like : TurnContext → Way → Does) (p : SharedProgram) (function : ℕ) (k : control.Todo) (locals : List control.Variable) (blocks : Blocks) (new_locals : List control.Variable) (new_blocks : Blocks) (g : Exit)

@@ -1,3 +1,2 @@
-pub mod Exits
-pub mod Locals
+pub mod Finishing
 pub mod inner

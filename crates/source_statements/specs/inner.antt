@@ -1,5 +1,3 @@
 -- What only bodies use.
 pub mod Behind
 pub mod Conditions
-pub mod Numbers
-pub mod Stores

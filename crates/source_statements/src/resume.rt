@@ -6,12 +6,13 @@ ghost use Rattle.c_meaning.specs.Turns as turns;
 ghost use Rattle.source_tree.specs.SharedViews.{row_from};
 ghost use Rattle.source_state.specs.Views.{todo_of, loop_of};
 ghost use Rattle.source_expressions.specs.Ends.{ends};
-ghost use Rattle.source_statements.specs.Exits.{exit, Finishes};
 ghost use Rattle.source_statements.specs.inner.Behind.{Passes};
+ghost use Rattle.source_statements.specs.Finishing.{Finishes};
+ghost use Rattle.source_assignments.specs.Exits.{exit};
 
-use crate::Exit;
 use crate::statements::{after_body, after_first, after_step, close_first, close_row, row};
 use ak_words::NoMemory;
+use source_assignments::Exit;
 use source_state::control::{LoopParts, Pending, Todo};
 use source_state::{KeptStore, Locals};
 use source_tree::tree::{SharedProgram, SharedRow, SharedStmt};

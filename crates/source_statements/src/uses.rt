@@ -6,29 +6,31 @@ ghost use Rattle.c_meaning.specs.Control as control;
 ghost use Rattle.c_meaning.specs.Turns as turns;
 ghost use Rattle.source_tree.specs.declared.tree.SharedProgram.{SharedProgram};
 ghost use Rattle.source_tree.specs.SharedViews.{expr_of, args_of, stmt_of};
-ghost use Rattle.source_values.specs.Operations.{unary_of, binary_of};
+ghost use Rattle.source_state.specs.Operations.{unary_of, binary_of};
 ghost use Rattle.source_state.specs.Views.{todo_of, use_of, loop_of, stmt_or_nothing, updating_of, callee_of, values_of, wait_of};
 ghost use Rattle.source_expressions.specs.Progress.{FlowsCall};
-ghost use Rattle.source_statements.specs.Exits.{ExitsAs, Finishes, GivesTo};
-ghost use Rattle.source_statements.specs.inner.Stores.{StoresUpdated};
-ghost use Rattle.source_statements.specs.inner.Behind.{Continues, FlowsOn};
+ghost use Rattle.source_statements.specs.inner.Behind.{Continues, FlowsOn, StoresUpdated};
+ghost use Rattle.source_statements.specs.Finishing.{Finishes, GivesTo};
+ghost use Rattle.source_assignments.specs.Exits.{ExitsAs};
 
-use crate::Exit;
-use crate::assignments::{
-    assign_place, assign_struct, copy_struct, store_value, update_left, update_right,
-    update_variable,
-};
 use crate::resume::finish;
 use crate::statements::{enter_body, stmt};
 use ak_words::NoMemory;
 use block_store::{Access, Value};
 use c_tree::typed::CType;
+use source_assignments::Exit;
+use source_assignments::assignments::{
+    assign_place, assign_struct, copy_struct, store_value, update_left, update_right,
+    update_variable,
+};
 use source_expressions::expressions::{arguments, done, either, expr, read, second, second_test};
+use source_expressions::operations::{of_one, of_two};
 use source_state::control::{LoopParts, Pending, Progress, Todo, Updating, Use, Values, Wait};
 use source_state::frames::one_more;
+use source_state::operations::{Binary, Unary};
 use source_state::{KeptStore, Locals, Variable};
 use source_tree::tree::{Callee, SharedArgs, SharedExpr, SharedProgram, SharedStmt};
-use source_values::{Binary, Unary, of_one, of_two, truth_of, updated};
+use source_values::{truth_of, updated};
 use std::alloc::Global;
 use std::rc::Rc;
 

@@ -14,8 +14,9 @@ use Rattle.c_tree.specs.TypedViews.{type_view, expr_node_view, expr_row_view, li
 use Rattle.source_tree.specs.declared.tree.SharedStmt.{SharedStmt, Row_of-SharedRow-stmts-1, end_of-SharedRow-stmts-1, more_of-SharedRow-stmts-1, items-the_row-SharedRow-stmts-1}
 use Rattle.source_tree.specs.declared.tree.SharedStmt.TheViews as shared_views
 use Rattle.source_tree.specs.declared.tree.SharedRow.{SharedRow}
-use Rattle.source_tree.specs.SharedViews.{exprs_view, stmt_of, held_row, these, row_of}
+use Rattle.source_tree.specs.SharedViews.{stmt_of, held_row, these, row_of}
 use Rattle.c_tree.specs.Typed.{stmts_of}
+use Rattle.source_tree.specs.inner.CodeTrees.{exprs_view}
 
 pub args_view : (n : _) (k : Row_of-Expr n) → expr_row_view k ≡ exprs_view (items-the_row-Expr n k)
 args_view _ end_of-Expr = refl

@@ -1,1 +1,2 @@
 pub mod SharedViews
+pub mod inner

@@ -2,9 +2,8 @@
 use Rattle.std.specs.Prelude.{ℕ, Bool, true, false, List, [], ◌∷◌, drop, map, Option, Some, None}
 use Rattle.std.specs.Global.{Global}
 use Rattle.std.specs.declared.rc.Rc.{Rc}
-use Rattle.c_tree.specs.declared.typed.Expr.{Expr as CodeExpr}
 use Rattle.c_tree.specs.Typed as trees
-use Rattle.c_tree.specs.TypedViews.{type_view, lib_view, expr_view, layout_view, global_view, literal_view, local_view}
+use Rattle.c_tree.specs.TypedViews.{type_view, lib_view, layout_view, global_view, literal_view, local_view}
 use Rattle.source_tree.specs.declared.tree.AddressForm.{AddressForm}
 use Rattle.source_tree.specs.declared.tree.AddressForm.TheVariants as addresses
 use Rattle.source_tree.specs.declared.tree.OneForm.{OneForm}
@@ -87,11 +86,6 @@ expr_of e = trees.at e.place (type_view e.ty.value) (node_of e.node)
 abbrev pub optional_expr_of : Option (Rc SharedExpr Global) → Option trees.Expr
 optional_expr_of None = None
 optional_expr_of (Some e) = Some (expr_of e.value)
-
--- expressions of the code's typed tree
-abbrev pub exprs_view : List CodeExpr → trees.Exprs
-exprs_view [] = trees.no_exprs
-exprs_view (e ∷ es) = trees.more_exprs (expr_view e) (exprs_view es)
 
 -- ---- statements
 

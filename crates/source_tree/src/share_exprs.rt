@@ -3,11 +3,13 @@
 ghost use Rattle.std.specs.Prelude.{◌≡◌, IfOk};
 ghost use Rattle.c_tree.specs.Typed as tree;
 ghost use Rattle.c_tree.specs.TypedViews.{type_view, expr_view, expr_node_view, optional_expr_view, lib_view};
-ghost use Rattle.source_tree.specs.SharedViews.{expr_of, node_of, args_of, exprs_view, two_of_form, either_of, call_of, optional_expr_of};
+ghost use Rattle.source_tree.specs.SharedViews.{expr_of, node_of, args_of, two_of_form, either_of, call_of, optional_expr_of};
+ghost use Rattle.source_tree.specs.inner.CodeTrees.{exprs_view};
 
-use crate::copies::{copy_lib, copy_type};
+use crate::copies::copy_lib;
 use crate::tree::{AddressForm, Callee, OneForm, SharedArgs, SharedExpr, SharedNode, TwoForm};
 use ak_words::NoMemory;
+use c_tree::copies::copy_type;
 use c_tree::typed::{CType, Expr, ExprNode, Lib};
 use std::alloc::Global;
 use std::rc::Rc;

@@ -7,7 +7,10 @@ mod operations;
 mod pointers;
 mod types;
 
-pub use operations::{Binary, Unary, converted, int_of, of_one, of_two, truth_of, updated};
+pub use operations::{
+    backward, converted, distance, forward, int_of, negated, on_numbers, on_pointers, selected,
+    tested, truth_of, updated,
+};
 pub use types::{
     access_of_type, align_of, element_size, is_scalar, is_struct, member_offset, size_of,
 };

@@ -4,44 +4,15 @@ ghost use Rattle.std.specs.Prelude.{◌≡◌, IfOk, map, Ok};
 ghost use Rattle.ak_words.specs.IntType.{long};
 ghost use Rattle.ak_words.specs.Num.{num};
 ghost use Rattle.block_store.specs.declared.values.Value.TheVariants as values;
+ghost use Rattle.block_store.specs.Blocks.{Blocks};
 ghost use Rattle.c_tree.specs.TypedViews.{type_view, layout_view};
-ghost use Rattle.c_meaning.specs.Values.{int_of, truth_of, opposite, int_result, long_result, pointer_of, value_of, selected, converted, of_one, of_two, updated, operand_types, computed, converted_result};
-ghost use Rattle.source_values.specs.Operations.{unary_of, binary_of};
+ghost use Rattle.c_meaning.specs.Values.{int_of, truth_of, opposite, int_result, long_result, pointer_of, value_of, converted, negates, tests, selects, of_one, on_numbers, forward, backward, distance, on_pointers, of_two, updated, operand_types, computed, converted_result};
 
-use crate::pointers::{backward, compared, difference, forward, moved, tested};
+use crate::pointers;
 use crate::types::element_size;
 use ak_words::{IntType, NoMemory, Num, Op, Rule, apply, common, convert, promote};
 use block_store::{Ptr, Store, Value};
 use c_tree::typed::{CType, Layout};
-use std::rc::Rc;
-
-/// An operation on one value.
-#[derive(Drop)]
-pub enum Unary {
-    /// A conversion to a type.
-    Converts(Rc<CType>),
-    /// Whether it's 0 or null.
-    Negates,
-    /// Whether it isn't.
-    Tests,
-    /// The pointer to a member at this offset.
-    Selects(u32),
-}
-
-/// An operation on two values.
-#[derive(Clone, Copy, Debug, PartialEq, Eq)]
-pub enum Binary {
-    /// An operator on numbers.
-    Numbers(Op),
-    /// A pointer plus a number of elements of this size.
-    Forward(u32),
-    /// A pointer minus a number of elements of this size.
-    Backward(u32),
-    /// The elements of this size between two pointers.
-    Distance(u32),
-    /// A comparison of two pointers.
-    Pointers(Op),
-}
 
 /// The int that a test gives.
 pub fn int_of(holds: bool) -> Value
@@ -56,7 +27,7 @@ pub fn truth_of(store: &Store, v: Value) -> Result<bool, Rule>
 {
     match v {
         Value::Num(n) => Ok(n.value != 0),
-        Value::Pointer(p) => tested(store, p),
+        Value::Pointer(p) => pointers::tested(store, p),
     }
 }
 
@@ -127,55 +98,87 @@ fn opposite(answer: Result<bool, Rule>) -> Result<bool, Rule>
     }
 }
 
-// The pointer to a member.
-fn selected(store: &Store, offset: u32, v: Value) -> Result<Value, Rule>
-    ensures { result ≡ selected store.now offset v }
+/// Whether a value is 0 or null.
+pub fn negated(store: &Store, v: Value) -> Result<Value, Rule>
+    ensures { result ≡ of_one store.now negates v }
+{
+    int_result(opposite(truth_of(store, v)))
+}
+
+/// Whether a value isn't 0 or null.
+pub fn tested(store: &Store, v: Value) -> Result<Value, Rule>
+    ensures { result ≡ of_one store.now tests v }
+{
+    int_result(truth_of(store, v))
+}
+
+/// The pointer to the member at this offset of the struct that a pointer points to.
+pub fn selected(store: &Store, offset: u32, v: Value) -> Result<Value, Rule>
+    ensures { result ≡ of_one store.now (selects offset) v }
 {
     match v {
-        Value::Pointer(p) => pointer_of(moved(store, p, i128::from(offset))),
+        Value::Pointer(p) => pointer_of(pointers::moved(store, p, i128::from(offset))),
         Value::Num(_) => Err(Rule::C16),
     }
 }
 
-/// An operation on one value.
-pub fn of_one(store: &Store, op: &Unary, v: Value) -> Result<Value, Rule>
-    ensures { result ≡ of_one store.now (unary_of op.now) v }
+/// An operator on numbers.
+pub fn on_numbers(op: Op, a: Value, b: Value) -> Result<Value, Rule>
+    ensures { (blocks : Blocks) → result ≡ of_two blocks (on_numbers op) a b }
 {
-    match op {
-        Unary::Converts(t) => Ok(converted(t, v)),
-        Unary::Negates => int_result(opposite(truth_of(store, v))),
-        Unary::Tests => int_result(truth_of(store, v)),
-        Unary::Selects(offset) => selected(store, *offset, v),
+    match (a, b) {
+        (Value::Num(a), Value::Num(b)) => value_of(apply(op, a, b)),
+        (_, _) => Err(Rule::C16),
     }
 }
 
-/// An operation on two values. The elements of size 0 between two pointers, which no program asks for, are answered as
-/// want of memory.
-pub fn of_two(
+/// A pointer plus a number of elements of this size, whichever stands first.
+pub fn forward(store: &Store, size: u32, a: Value, b: Value) -> Result<Value, Rule>
+    ensures { result ≡ of_two store.now (forward size) a b }
+{
+    match (a, b) {
+        (Value::Pointer(p), Value::Num(n)) | (Value::Num(n), Value::Pointer(p)) => {
+            pointer_of(pointers::forward(store, p, n, size))
+        }
+        (_, _) => Err(Rule::C16),
+    }
+}
+
+/// A pointer minus a number of elements of this size.
+pub fn backward(store: &Store, size: u32, a: Value, b: Value) -> Result<Value, Rule>
+    ensures { result ≡ of_two store.now (backward size) a b }
+{
+    match (a, b) {
+        (Value::Pointer(p), Value::Num(n)) => pointer_of(pointers::backward(store, p, n, size)),
+        (_, _) => Err(Rule::C16),
+    }
+}
+
+/// The elements of this size between two pointers. A size of 0, which no element has, is answered as want of memory.
+pub fn distance(
     store: &Store,
-    op: Binary,
+    size: u32,
     a: Value,
     b: Value,
 ) -> Result<Result<Value, Rule>, NoMemory>
-    ensures { IfOk result (λ answer. answer ≡ of_two store.now (binary_of op) a b) }
+    ensures { IfOk result (λ answer. answer ≡ of_two store.now (distance size) a b) }
 {
-    match (op, a, b) {
-        (Binary::Numbers(op), Value::Num(a), Value::Num(b)) => Ok(value_of(apply(op, a, b))),
-        (Binary::Forward(size), Value::Pointer(p), Value::Num(n))
-        | (Binary::Forward(size), Value::Num(n), Value::Pointer(p)) => {
-            Ok(pointer_of(forward(store, p, n, size)))
-        }
-        (Binary::Backward(size), Value::Pointer(p), Value::Num(n)) => {
-            Ok(pointer_of(backward(store, p, n, size)))
-        }
-        (Binary::Distance(size), Value::Pointer(p), Value::Pointer(q)) => {
-            let distance = difference(store, p, q, size)?;
+    match (a, b) {
+        (Value::Pointer(p), Value::Pointer(q)) => {
+            let distance = pointers::difference(store, p, q, size)?;
             Ok(long_result(distance))
         }
-        (Binary::Pointers(op), Value::Pointer(p), Value::Pointer(q)) => {
-            Ok(int_result(compared(store, op, p, q)))
-        }
-        (_, _, _) => Ok(Err(Rule::C16)),
+        (_, _) => Ok(Err(Rule::C16)),
+    }
+}
+
+/// A comparison of two pointers.
+pub fn on_pointers(store: &Store, op: Op, a: Value, b: Value) -> Result<Value, Rule>
+    ensures { result ≡ of_two store.now (on_pointers op) a b }
+{
+    match (a, b) {
+        (Value::Pointer(p), Value::Pointer(q)) => int_result(pointers::compared(store, op, p, q)),
+        (_, _) => Err(Rule::C16),
     }
 }
 
@@ -217,8 +220,8 @@ pub fn updated(
         (Value::Pointer(p), Value::Num(n)) => {
             let size = element_size(t, structs)?;
             match op {
-                Op::Add => Ok(pointer_of(forward(store, p, n, size))),
-                Op::Sub => Ok(pointer_of(backward(store, p, n, size))),
+                Op::Add => Ok(pointer_of(pointers::forward(store, p, n, size))),
+                Op::Sub => Ok(pointer_of(pointers::backward(store, p, n, size))),
                 _ => Ok(Err(Rule::C16)),
             }
         }

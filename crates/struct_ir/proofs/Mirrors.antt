@@ -2,7 +2,7 @@
 use Rattle.std.proofs.Common.{◌≡◌, ℕ, zero, suc, ◌+◌, ◌<◌, Bool, true, false, Result, Ok, Err, refl, sym, ap, subst, ◌∙◌, arith}
 use Rattle.struct_ir.specs.Flow.{Here, does, tests, passes, round, returns, Flow, Stays, Shrinks}
 use Rattle.struct_ir.specs.Machine.{Machine, Point, Ahead, goes, stops, breaks, acted, tested, stopped_or, ahead_at, ahead, further, run}
-use Rattle.struct_ir.specs.Mirrors.{IsIdle, Both, Match, both, first, second, IsMirror, EndAlike, MirrorsRuns}
+use Rattle.struct_ir.specs.Mirrors.{Both, Match, both, first, second, IsMirror, EndAlike, MirrorsRuns}
 use Rattle.struct_ir.proofs.Runs.{unfolds, smaller}
 
 module _ {P Q L F : Type 0} (C : Flow P) (D : Flow Q) (M : Machine L F) (R : P → Q → Type 0) (k : P) (j : Q) (r : R k j) (b : Both C D R k j) where

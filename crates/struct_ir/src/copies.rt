@@ -1,38 +1,16 @@
 //! Copies of what nodes hold, with slots and lists left out where that is said.
 
 ghost use Rattle.std.specs.Prelude.{◌≡◌, map, IfOk};
-ghost use Rattle.c_tree.specs.TypedViews.{piece_view, literal_view};
+ghost use Rattle.c_tree.specs.TypedViews.{literal_view};
 ghost use Rattle.struct_ir.specs.Lists.{bare_place, bare_step, bare_call};
 ghost use Rattle.struct_ir.specs.Views.{place_view, action_view, step_view, call_view};
 
 use crate::code::{Action, CallNode, Place, Places, StepNode};
 use ak_words::NoMemory;
-use c_tree::typed::{Literal, Piece};
+use c_tree::copies::copy_pieces;
+use c_tree::typed::Literal;
 use smallvec::SmallVec;
 use std::alloc::Global;
-
-fn copy_piece(alloc: Global, p: &Piece) -> Result<Piece, NoMemory>
-    ensures { IfOk result (λ x. piece_view x ≡ piece_view p.now) }
-{
-    match p {
-        Piece::Bytes(all) => Ok(Piece::Bytes(all.to_vec(alloc)?)),
-        Piece::Signed(bits) => Ok(Piece::Signed(*bits)),
-        Piece::Unsigned(bits) => Ok(Piece::Unsigned(*bits)),
-        Piece::Hex(bits) => Ok(Piece::Hex(*bits)),
-        Piece::Char => Ok(Piece::Char),
-        Piece::Text => Ok(Piece::Text),
-    }
-}
-
-fn copy_pieces(alloc: Global, pieces: &[Piece]) -> Result<Vec<Piece>, NoMemory>
-    ensures { IfOk result (λ v. map piece_view v.items ≡ map piece_view pieces.now) }
-{
-    let mut out = Vec::new(alloc);
-    for p in pieces {
-        out.push(copy_piece(alloc, p)?)?;
-    }
-    Ok(out)
-}
 
 /// The same action.
 ///

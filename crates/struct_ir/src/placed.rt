@@ -61,8 +61,8 @@ fn both(a: bool, b: bool) -> bool
     a && b
 }
 
-// The list of a node that is a safepoint.
-fn list_at(n: &Node) -> Option<&[u32]>
+/// The list of a node that is a safepoint.
+pub fn list_at(n: &Node) -> Option<&[u32]>
     ensures { option_map (λ s. s.now) result ≡ list_at (node_view n.now) }
 {
     match &n.kind {
@@ -71,7 +71,9 @@ fn list_at(n: &Node) -> Option<&[u32]>
     }
 }
 
-fn call_is_placed(before: Option<&[u32]>, c: &CallNode, rest: &[Node]) -> bool
+/// Whether a call carries the list of the safepoint directly before it, and a safepoint stands
+/// directly behind it.
+pub fn call_is_placed(before: Option<&[u32]>, c: &CallNode, rest: &[Node]) -> bool
     ensures { result ≡ (is_the_list (option_map (λ s. s.now) before.entry) (call_view c.now).slots && is_some (first_list (nodes_view rest.now))) }
 {
     match before {
@@ -89,7 +91,8 @@ fn begins_with_safepoint(nodes: &[Node]) -> bool
     }
 }
 
-fn ends_in_safepoint(nodes: &[Node]) -> bool
+/// Whether the last of the nodes is a safepoint.
+pub fn ends_in_safepoint(nodes: &[Node]) -> bool
     ensures { result ≡ is_some (last_list None (nodes_view nodes.now)) }
 {
     match nodes.last() {

@@ -1,11 +1,11 @@
 -- Nodes in a row, judged in the order of the text.
-use Rattle.std.proofs.Common.{◌≡◌, ℕ, ◌+◌, ◌<◌, ◌≤◌, length, get_or, take, List, [], ◌∷◌, ◌++◌, map, Result, Ok, Err, refl, ap, sym, subst, ◌∙◌, append_assoc, append-nil, false}
+use Rattle.std.proofs.Common.{◌≡◌, ℕ, ◌+◌, ◌<◌, ◌≤◌, length, get_or, take, List, [], ◌∷◌, ◌++◌, map, Result, Ok, Err, refl, ap, sym, subst, ◌∙◌, append_assoc, false}
 use Rattle.std.proofs.lemmas.List.{map-append, take_more, take_all}
 use Rattle.std.specs.Prelude.{Vec}
 use Rattle.std.specs.declared.alloc.Global.{Global}
 use Rattle.c_lex.specs.declared.refusal.CompileFault.{CompileFault}
 use Rattle.c_lex.specs.declared.refusal.CompileFault.TheVariants.{Refused, NoMemory}
-use Rattle.c_typing.specs.Faults.{Judged, typed, faulty, Gives, both, ◌>>=◌}
+use Rattle.c_typing.specs.Faults.{Judged, typed, faulty, both, ◌>>=◌}
 use Rattle.c_typing.specs.Scope.{Context}
 use Rattle.c_typing.specs.Judgement.{Judging, in_turn, ruled}
 use Rattle.type_context.specs.declared.context.Context.{Context as CodeContext}
@@ -13,7 +13,7 @@ use Rattle.type_context.specs.ContextViews.{context_view}
 use Rattle.type_context.specs.inner.Outcomes.{joined}
 use Rattle.type_context.specs.Telling.{Tells, lacks_memory}
 use Rattle.type_context.specs.Rows.{row, state_behind, IsPushed, IsAppended}
-use Rattle.type_context.proofs.Walks.{memory_tells, known_tells, both_tell_if, joined_keeps, err_tells, ok_tells}
+use Rattle.type_context.proofs.Walks.{memory_tells, known_tells, both_tell_if, err_tells, ok_tells}
 
 -- ---- one node more at the end
 

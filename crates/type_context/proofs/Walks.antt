@@ -1,13 +1,13 @@
 -- What a node tells, by what its parts tell.
-use Rattle.std.proofs.Common.{◌≡◌, true, false, Result, Ok, Err, refl, ap, sym, subst, ◌∙◌}
+use Rattle.std.proofs.Common.{◌≡◌, false, Result, Ok, Err, refl, sym, subst, ◌∙◌}
 use Rattle.c_lex.specs.declared.refusal.CompileFault.{CompileFault}
 use Rattle.c_lex.specs.declared.refusal.CompileFault.TheVariants.{Refused, NoMemory}
-use Rattle.c_typing.specs.Faults.{Judged, typed, faulty, Fails, Gives, both, ◌>>=◌}
+use Rattle.c_typing.specs.Faults.{Judged, typed, Gives, both, ◌>>=◌}
 use Rattle.c_typing.specs.Scope.{Context}
-use Rattle.c_typing.specs.Judgement.{Judging, lone, in_turn, ruled}
+use Rattle.c_typing.specs.Judgement.{Judging, in_turn, ruled}
 use Rattle.type_context.specs.declared.context.Context.{Context as CodeContext}
 use Rattle.type_context.specs.ContextViews.{context_view}
-use Rattle.type_context.specs.inner.Outcomes.{joined, joined_fault}
+use Rattle.type_context.specs.inner.Outcomes.{joined}
 use Rattle.type_context.proofs.Judging.{fails_part, gives_both}
 use Rattle.type_context.specs.Telling.{Leaves, Tells, lacks_memory}
 

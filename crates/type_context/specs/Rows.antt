@@ -3,8 +3,7 @@ use Rattle.std.specs.Prelude.{◌≡◌, List, [], ◌∷◌, ◌++◌, Result, 
 use Rattle.std.specs.declared.alloc.Global.{Global}
 use Rattle.c_lex.specs.declared.refusal.CompileFault.{CompileFault}
 use Rattle.c_lex.specs.declared.refusal.CompileFault.TheVariants.{Refused, NoMemory}
-use Rattle.c_typing.specs.Faults.{Judged, typed}
-use Rattle.c_typing.specs.Scope.{Context}
+use Rattle.c_typing.specs.Faults.{typed}
 use Rattle.c_typing.specs.Judgement.{Judging, in_turn, ruled}
 
 -- nodes one behind the other, each judged by what stood before it in the row

@@ -18,7 +18,7 @@ ghost use Rattle.c_tree.specs.TypedLayout.{laid_out};
 ghost use Rattle.type_context.specs.ContextViews.{context_view, binding_view, frame_view, seen, bytes_view, types_view, members_view, member_view};
 
 use crate::faults::unless;
-use crate::kinds::copy_type;
+use c_tree::copies::copy_type;
 use crate::layouts::lay_out;
 use crate::names::{Binding, Library, copy_meaning, library_name};
 use c_lex::{CompileFault, Kind, Refusal};

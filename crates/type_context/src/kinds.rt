@@ -1,11 +1,10 @@
 //! Types, compared and completed (C11 6.2.5, 6.2.7, 6.7.2).
-ghost use Rattle.std.specs.Prelude.{◌≡◌, map, IfOk};
+ghost use Rattle.std.specs.Prelude.{◌≡◌, map};
 ghost use Rattle.c_tree.specs.TypedViews.{type_view, layout_view};
 ghost use Rattle.c_typing.specs.Types.{same_int, same_type, same_types, is_void, is_array, is_scalar, is_struct_or_mutex, has_size, is_declared};
 
 use ak_words::IntType;
 use c_tree::typed::{CType, Layout};
-use std::alloc::{AllocError, Global};
 
 /// Whether the two are one integer type.
 pub fn same_int(s: IntType, t: IntType) -> bool
@@ -91,25 +90,5 @@ pub fn is_declared(structs: &[Layout], t: &CType) -> bool
     match t {
         CType::Struct(_) => has_size(structs, t),
         _ => true,
-    }
-}
-
-/// The same type once more.
-pub fn copy_type(alloc: Global, t: &CType) -> Result<CType, AllocError>
-    ensures { IfOk result (λ copy. type_view copy ≡ type_view t.now) }
-{
-    match t {
-        CType::Void => Ok(CType::Void),
-        CType::Int(t) => Ok(CType::Int(*t)),
-        CType::Mutex => Ok(CType::Mutex),
-        CType::Pointer(t) => {
-            let target = copy_type(alloc, t)?;
-            Ok(CType::Pointer(Box::new(alloc, target)?))
-        }
-        CType::Array(t, n) => {
-            let element = copy_type(alloc, t)?;
-            Ok(CType::Array(Box::new(alloc, element)?, *n))
-        }
-        CType::Struct(n) => Ok(CType::Struct(*n)),
     }
 }

@@ -7,7 +7,7 @@ ghost use Rattle.c_tree.specs.TypedViews.{type_view};
 ghost use Rattle.c_typing.specs.Scope.{library};
 ghost use Rattle.type_context.specs.ContextViews.{binding_view, library_view, library_entry, types_view};
 
-use crate::kinds::copy_type;
+use c_tree::copies::copy_type;
 use c_tree::typed::CType;
 use std::alloc::{AllocError, Global};
 

@@ -7,7 +7,7 @@ ghost use Rattle.type_context.specs.Telling.{Says, both_fine};
 ghost use Rattle.type_context.specs.Rows.{IsPushed, IsAppended};
 
 use crate::faults::{both, both_or_refusal};
-use crate::kinds::copy_type;
+use c_tree::copies::copy_type;
 use c_lex::{CompileFault, Refusal};
 use c_tree::typed::CType;
 use std::alloc::Global;

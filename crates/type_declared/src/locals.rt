@@ -11,7 +11,7 @@ use crate::numbering::Numbers;
 use c_tree::typed::{CType, Expr, ExprNode, Func, Local, Stmt, StmtNode};
 use indexmap::IndexSet;
 use std::alloc::{AllocError, Global};
-use type_context::kinds::copy_type;
+use c_tree::copies::copy_type;
 
 /// A parameter of a function: the place of its name, and its type.
 #[derive(Debug, Drop)]

@@ -18,7 +18,7 @@ use c_tree::typed::CType;
 use std::alloc::Global;
 use type_context::context::{Context, count};
 use type_context::faults::as_fault;
-use type_context::kinds::copy_type;
+use c_tree::copies::copy_type;
 use type_context::layouts::size_in;
 use type_context::names::Binding;
 

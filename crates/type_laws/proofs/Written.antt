@@ -1,7 +1,7 @@
 -- A file of the grammar has no declaration under an if or a loop.
-use Rattle.std.proofs.Common.{◌≡◌, Bool, true, false, List, [], ◌∷◌, Option, Some, None}
+use Rattle.std.proofs.Common.{◌≡◌, Bool, true, false, List, [], ◌∷◌, Some, None}
 use Rattle.std.specs.List.{AllByRecursion}
-use Rattle.c_tree.specs.Syntax.{Stmt, block, declare, empty, if_then, if_else, while, for, break, continue, return, simple, Stmts, no_stmts, more_stmts, stmts_of, Rest, nothing, function, variables, External, File, Body}
+use Rattle.c_tree.specs.Syntax.{Stmt, block, declare, empty, if_then, if_else, while, for, break, continue, return, simple, Stmts, no_stmts, more_stmts, stmts_of, Rest, nothing, function, variables, External, File}
 use Rattle.c_grammar.specs.Grammar.{IsStmt, AreItems, IsRest, IsExternal, IsFile}
 use Rattle.c_typing.specs.Laws.{IsAlone, IsWritten, AreWritten, IsBodyWritten, IsFileWritten}
 

@@ -26,7 +26,7 @@ use c_tree::typed::{CType, Expr};
 use std::alloc::{AllocError, Global};
 use type_context::context::{Context, MemberType, within};
 use type_context::faults::{as_fault, both, unless};
-use type_context::kinds::copy_type;
+use c_tree::copies::copy_type;
 use type_context::layouts::{GREATEST_OBJECT, struct_size};
 use type_context::outcomes::both_fine;
 use type_rules::declarators::{Declared, dimension, object_declared};

@@ -13,7 +13,7 @@ use c_lex::{CompileFault, Kind};
 use c_tree::typed::{CType, Expr, ExprNode, Lib};
 use std::alloc::Global;
 use type_context::faults::refused;
-use type_context::kinds::copy_type;
+use c_tree::copies::copy_type;
 
 // An argument of a list, fitted to its parameter.
 fn fitted_argument(alloc: Global, place: u32, t: &CType, e: Expr) -> Result<Expr, CompileFault>

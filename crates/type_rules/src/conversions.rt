@@ -11,7 +11,8 @@ use c_lex::{CompileFault, Kind};
 use c_tree::typed::{CType, Expr, ExprNode};
 use std::alloc::Global;
 use type_context::faults::refused;
-use type_context::kinds::{copy_type, is_void, same_int, same_type};
+use type_context::kinds::{is_void, same_int, same_type};
+use c_tree::copies::copy_type;
 
 /// The value of an operand: an array becomes a pointer to its first element (C11 6.3.2.1 p3).
 pub fn value_of(alloc: Global, e: Box<Expr>) -> Result<Box<Expr>, CompileFault>

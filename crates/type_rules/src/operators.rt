@@ -19,7 +19,8 @@ use c_tree::typed::{CType, Expr, ExprNode};
 use std::alloc::Global;
 use type_context::context::Context;
 use type_context::faults::{as_fault, refused, unless};
-use type_context::kinds::{copy_type, has_size, is_void, same_type};
+use type_context::kinds::{has_size, is_void, same_type};
+use c_tree::copies::copy_type;
 
 /// What two operands are.
 #[derive(Clone, Copy)]

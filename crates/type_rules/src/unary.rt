@@ -13,7 +13,7 @@ use c_lex::{CompileFault, Kind};
 use c_tree::typed::{CType, Expr, ExprNode};
 use std::alloc::Global;
 use type_context::faults::refused;
-use type_context::kinds::copy_type;
+use c_tree::copies::copy_type;
 
 /// Whether it designates an object (C11 6.3.2.1 p1).
 pub fn is_lvalue(e: &Expr) -> bool

@@ -1,5 +1,5 @@
 -- Small pieces of C, worked out by hand, and what they are typed to. The trees are those of the texts.
-use Rattle.std.specs.Prelude.{◌≡◌, ℕ, pos, Bool, true, false, List, [], ◌∷◌, codes, Option, Some, None}
+use Rattle.std.specs.Prelude.{◌≡◌, ℕ, pos, Bool, true, false, List, [], ◌∷◌, codes, Some, None}
 use Rattle.ak_words.specs.declared.operation.Op.TheVariants as ops
 use Rattle.ak_words.specs.IntType.{char, int, long, unsigned_long}
 use Rattle.ak_words.specs.Num.{num}

@@ -17,7 +17,7 @@ use Rattle.flat_rules.proofs.Spares.{spare_is_left}
 use Rattle.world_rules.specs.declared.calls.Call.{Call}
 use Rattle.world_rules.specs.declared.calls.Call.TheVariants as call
 use Rattle.world_rules.specs.Whole.{Whole, Leads, Replays, Reaches, whole_of}
-use Rattle.world_rules.specs.Calls.{Result, with_entries, end_before, home_at}
+use Rattle.world_rules.specs.Calls.{Result, end_before, home_at}
 use Rattle.world_rules.specs.Calls as calls
 use Rattle.world_rules.specs.Allowed.{IsOut, MovedOn, MayCall, Allowed}
 use Rattle.world_rules.proofs.Keeps.{Stands, Good, steps_good, settles_good, hands_good}

@@ -7,13 +7,13 @@ use Rattle.std.proofs.lemmas.List.{append-nil, drop_all, length-set}
 use Rattle.block_store.specs.Runs.{own_at}
 use Rattle.struct_ir.specs.Nodes.{Step, step}
 use Rattle.struct_ir.specs.Flow.{does, GoesOn}
-use Rattle.struct_ir.specs.Instrs.{Instr, acts, LinearCode, instrs_of}
+use Rattle.struct_ir.specs.Instrs.{acts, LinearCode, instrs_of}
 use Rattle.struct_ir.specs.Linear.{Spot, instr_here, linear}
 use Rattle.struct_ir.specs.Machine.{Point}
 use Rattle.struct_ir.specs.Threads.{Thread}
 use Rattle.flat_meaning.specs.declared.endings.Stop.{Stop}
 use Rattle.flat_meaning.specs.Accesses as actions
-use Rattle.flat_meaning.specs.Accesses.{allocated, got, null}
+use Rattle.flat_meaning.specs.Accesses.{allocated}
 use Rattle.flat_meaning.specs.Effects.{serve_effect}
 use Rattle.flat_meaning.specs.Events.{State, Serve, after_serves, moved_state, new_stages, put, put_if, stage_made}
 use Rattle.flat_meaning.specs.Image.{Image}
@@ -30,17 +30,16 @@ use Rattle.flat_threads.specs.Belonging.{IsContextOf}
 use Rattle.flat_threads.specs.Contexts.{AreCallsOf, Context, IsListFor, IsProgram, IsStageIf, IsStageOf, IsThreadOf, layout_of, own_image, standing}
 use Rattle.flat_threads.specs.Deeds.{stepped, thread_behind, top_at, with_word}
 use Rattle.flat_threads.specs.Waits.{waits_at}
-use Rattle.flat_threads.specs.declared.wait.Wait.{Wait}
-use Rattle.flat_threads.specs.declared.wait.Wait.TheVariants.{Room, Mutex}
-use Rattle.flat_threads.specs.declared.wait.Wait.TheVariants as waits
-use Rattle.flat_machine.specs.Choices.{got_or, served_choice}
+use Rattle.flat_threads.specs.declared.wait.Wait.TheVariants.{Room}
+use Rattle.flat_machine.specs.Choices.{served_choice}
 use Rattle.flat_machine.specs.Machine.{machine_of, progress_of, stands_of}
 use Rattle.flat_machine.specs.Readiness.{wants_room}
 use Rattle.flat_machine.specs.Shares.{Shared, IsSharedOf, image_of}
 use Rattle.flat_machine.specs.Sweeping.{at_home, context_at, home_at, if_wants, place_at, serve_of, serves_from, serves_if, stage_home, stage_or, stages_home, sweep_moves, swept_by, swept_state, waits_at_home}
 use Rattle.flat_machine.specs.lemmas.Homes.{after_serves-append, each_here, length-stages_home, none_served, own_at_home, own_at_set, own_at_set-later, place_is, wants_same}
 use Rattle.flat_machine.specs.lemmas.Lawful.{blank_stage}
-use Rattle.flat_machine.specs.lemmas.Waiting.{IsMalloc, before_malloc, behind_waits, choice_is, keeps, list_before, node_is, node_of, serve_is, waiting_of, wants_is}
+use Rattle.flat_machine.specs.lemmas.Serving.{gives, instr_there, room_waits}
+use Rattle.flat_machine.specs.lemmas.Waiting.{before_malloc, behind_waits, choice_is, keeps, list_before, node_is, node_of, serve_is, waiting_of, wants_is}
 
 -- ---- a context at home
 
@@ -78,12 +77,6 @@ module _ (code : LinearCode) where
   kept_same None of_ none = tt
   kept_same (Some c) of_ none = (of_, refl, refl, refl, none)
 
-  room_waits : (w : Option Wait) → wants_room w ≡ true → w ≡ Some Room
-  room_waits None e = absurd cc
-  room_waits (Some Room) e = refl
-  room_waits (Some (Mutex address)) e = absurd cc
-  room_waits (Some (waits.Thread number)) e = absurd cc
-
   -- ---- behind a malloc
 
   word_counts : (l : Words) (to word : Option ℕ) → SameCounts code l (with_word l to word)
@@ -95,27 +88,6 @@ module _ (code : LinearCode) where
   behind_thread program t place node l here same all =
       subst (λ (q : Point Spot Words). AreCallsOf code (layout_of code) (q ∷ t.callers)) (behind_act code t.top l place (step node) here)
       (behind_is code program t.top l t.callers (subst GoesOn (sym here) tt) same all)
-
-  instr_there : (o : Option Instr) → IsMalloc (instr_here o) → (i : Instr) × (o ≡ Some i)
-  instr_there None m = absurd (let w = m.there in cc)
-  instr_there (Some i) m = (i, refl)
-
-  -- serving a malloc always gives something
-  record Gives (d : actions.Done) : Type 0 where
-    pub word : Option ℕ
-    pub after : Memory
-    pub is : d ≡ actions.went word after
-
-  gives_got : (id place size : ℕ) (m : Memory) → Gives (allocated (got id place) size m)
-  gives_got id place size m = record { word = _; after = _; is = refl }
-
-  gives_null : (size : ℕ) (m : Memory) → Gives (allocated null size m)
-  gives_null size m = record { word = Some 0; after = m; is = refl }
-
-  gives : (o q : Option ℕ) (size : ℕ) (m : Memory) → Gives (allocated (got_or o q null) size m)
-  gives None q size m = gives_null size m
-  gives (Some id) None size m = gives_null size m
-  gives (Some id) (Some place) size m = gives_got id place size m
 
   -- the turn of a context that waits for room
   record Served (s : Shared) (st : State Spot) (n : ℕ) (c : Context) : Type 0 where

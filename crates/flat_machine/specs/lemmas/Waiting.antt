@@ -23,8 +23,6 @@ use Rattle.flat_meaning.specs.Machine.{served_by}
 use Rattle.flat_meaning.specs.Allowed.{list_at}
 use Rattle.flat_meaning.specs.Ready as stages
 use Rattle.struct_ir.specs.Threads as threads
-use Rattle.struct_ir.specs.Threads.{Served}
-use Rattle.flat_meaning.specs.Accesses.{Fault}
 use Rattle.flat_meaning.specs.Stages.{Stage, starts, going, waiting, landed}
 use Rattle.flat_meaning.specs.Words.{Target, Used, Words, none_used, used_with, word_at, target_of}
 use Rattle.flat_threads.specs.Belonging.{IsContextOf}

@@ -10,9 +10,9 @@ use Rattle.source_tree.specs.declared.tree.SharedProgram.{SharedProgram}
 use Rattle.source_state.specs.declared.control.Pending.{Pending}
 use Rattle.source_expressions.specs.Ends.{Rest, here_at, ends}
 use Rattle.source_expressions.specs.Progress.{now_in, progress}
-use Rattle.source_statements.specs.declared.exit.Exit.{Exit}
+use Rattle.source_assignments.specs.declared.exit.Exit.{Exit}
 use Rattle.source_state.specs.declared.control.Progress.{Progress}
-use Rattle.source_statements.specs.Exits.{exit}
+use Rattle.source_assignments.specs.Exits.{exit}
 
 -- behind what was left like this more is left to do before the rest: it comes to what what was left like that comes to
 pub record Passes (more : turns.TurnContext → turns.Way → turns.Way) (p : SharedProgram) (function : ℕ) (k : control.Todo) (e : Exit) (locals : List control.Variable) (blocks : Blocks) (new_locals : List control.Variable) (new_blocks : Blocks) (g : Exit) : Type 0 where
@@ -37,3 +37,8 @@ pub record EndsRound (l : control.Loop) (k : control.Todo) (q : Pending) : Type 
 pub record RowGoes (p : SharedProgram) (function : ℕ) (all now : tree.Stmts) (k : control.Todo) (locals : List control.Variable) (blocks : Blocks) (new_locals : List control.Variable) (new_blocks : Blocks) : Type 0 where
   pub goes : (r : Rest) (w : turns.Way) (x : actions.World) → w.k ≡ k →
       turns.run_row (here_at p function r) all w (now_in locals blocks x) ≡ turns.run_row (here_at p function r) now w (now_in new_locals new_blocks x)
+
+-- the result of a op= b is stored, once both have their values: that ends the turn
+pub record StoresUpdated (p : SharedProgram) (blocks : Blocks) (u : control.Update) (at by v : Value) (k : control.Todo) (q : Pending) : Type 0 where
+  pub goes : (function : ℕ) (r : Rest) (w : turns.Way) (locals : List control.Variable) (x : actions.World) → w.k ≡ k →
+      (turns.update_read_way (here_at p function r) u at by w).go v (now_in locals blocks x) ≡ ends (here_at p function r) q (now_in locals blocks x)

@@ -1,14 +1,15 @@
 ghost use Rattle.std.specs.Prelude.{◌≡◌, OnOk};
 
+use super::programs::int;
 use ak_words::{IntType, NoMemory, Num};
 use block_store::{Store, Value};
 use c_tree::typed::{CType, Local};
+use source_assignments::Exit;
+use source_assignments::assignments::assign;
+use source_assignments::locals::{declare_local, end_local};
 use source_state::control::Todo;
 use source_state::{KeptStore, Locals, Variable};
-use source_statements::Exit;
-use source_statements::assignments::assign;
-use source_statements::scopes::{declare_local, end_local};
-use source_tree::tree::{SharedExpr, SharedFunc, SharedNode, SharedProgram, SharedRow};
+use source_tree::tree::{SharedFunc, SharedNode, SharedProgram, SharedRow};
 use std::alloc::Global;
 use std::rc::Rc;
 
@@ -57,12 +58,6 @@ fn two_locals(alloc: Global) -> Result<SharedProgram, NoMemory> {
     })
 }
 
-// An `int` expression.
-fn int(alloc: Global, node: SharedNode) -> Result<Rc<SharedExpr>, NoMemory> {
-    let ty = Rc::new(alloc, CType::Int(IntType::int()))?;
-    Ok(Rc::new(alloc, SharedExpr { place: 0, ty, node })?)
-}
-
 // Two locals without a value.
 fn unset(alloc: Global) -> Result<Locals, NoMemory> {
     let mut variables = Vec::new(alloc);
@@ -91,8 +86,8 @@ fn a_local_gets_a_value(rt: HostRuntime) -> Result<(), NoMemory> {
     let mut locals = unset(rt.alloc())?;
     let store = KeptStore::new(rt.alloc(), Store::new(rt.alloc()));
     let k = Rc::new(rt.alloc(), Todo::Leaves)?;
-    let left = int(rt.alloc(), SharedNode::Local(1))?;
-    let right = int(rt.alloc(), SharedNode::Num(Num::int(5)))?;
+    let left = int(rt.alloc(), 0, SharedNode::Local(1))?;
+    let right = int(rt.alloc(), 0, SharedNode::Num(Num::int(5)))?;
     let exit = assign(
         &left,
         &right,

@@ -1,29 +1,12 @@
-use ak_words::{IntType, NoMemory, Num, Op, Rule};
+use super::programs::{empty, int};
+use ak_words::{NoMemory, Num, Op, Rule};
 use block_store::{Store, Value};
-use c_tree::typed::CType;
 use source_expressions::expressions::expr;
 use source_state::control::{Pending, Progress, Use};
 use source_state::{Locals, Variable};
-use source_tree::tree::{SharedExpr, SharedNode, SharedProgram, TwoForm};
+use source_tree::tree::{SharedExpr, SharedNode, TwoForm};
 use std::alloc::Global;
 use std::rc::Rc;
-
-// An `int` expression at a place.
-fn int(alloc: Global, place: u32, node: SharedNode) -> Result<Rc<SharedExpr>, NoMemory> {
-    let ty = Rc::new(alloc, CType::Int(IntType::int()))?;
-    Ok(Rc::new(alloc, SharedExpr { place, ty, node })?)
-}
-
-// A program with nothing in it.
-fn empty(alloc: Global) -> SharedProgram {
-    SharedProgram {
-        structs: Vec::new(alloc),
-        globals: Vec::new(alloc),
-        literals: Vec::new(alloc),
-        funcs: Vec::new(alloc),
-        main: 0,
-    }
-}
 
 // `x - 1`, where `x` is local 0 and stands at place 4.
 fn one_less(alloc: Global) -> Result<Rc<SharedExpr>, NoMemory> {

@@ -1,17 +1,17 @@
-ghost use Rattle.std.specs.Prelude.{◌≡◌, IfOk};
+ghost use Rattle.std.specs.Prelude.{◌≡◌};
 ghost use Rattle.c_meaning.specs.Values.{forward, of_two};
 
-use ak_words::{NoMemory, Num, Op, Rule};
+use ak_words::{Num, Op, Rule};
 use block_store::{BlockKind, Cell, Ptr, Store, Value};
 use c_tree::typed::{CType, Layout};
-use source_values::{Binary, Unary, align_of, of_one, of_two, size_of};
+use source_values::{align_of, forward, negated, on_numbers, on_pointers, size_of};
 use std::test::Fail;
 
 // A caller, proved from the contracts alone: the pointer to the n-th int behind a pointer.
-fn int_behind(store: &Store, p: Value, n: Value) -> Result<Result<Value, Rule>, NoMemory>
-    ensures { IfOk result (λ answer. answer ≡ of_two store.now (forward 4) p n) }
+fn int_behind(store: &Store, p: Value, n: Value) -> Result<Value, Rule>
+    ensures { result ≡ of_two store.now (forward 4) p n }
 {
-    of_two(store, Binary::Forward(4), p, n)
+    forward(store, 4, p, n)
 }
 
 fn int(n: i32) -> Value {
@@ -28,19 +28,15 @@ fn numbers_and_pointers(rt: HostRuntime) -> Result<(), Fail> {
         (Op::Shr, 9, 1, 4),
         (Op::Lt, 2, 3, 1),
     ] {
-        let two = Binary::Numbers(op);
-        assert_eq!(rt; of_two(&store, two, int(a), int(b))?, Ok(int(result)));
+        assert_eq!(rt; on_numbers(op, int(a), int(b)), Ok(int(result)));
     }
-    assert_eq!(rt; of_one(&store, &Unary::Negates, int(5)), Ok(int(0)));
+    assert_eq!(rt; negated(&store, int(5)), Ok(int(0)));
     let block = store.make(12, BlockKind::Heap, Cell::Byte(0))?;
     let at = |offset| Value::Pointer(Ptr::To { block, offset });
-    assert_eq!(rt; int_behind(&store, at(0), int(3))?, Ok(at(12)));
-    assert_eq!(rt; int_behind(&store, at(8), int(-2))?, Ok(at(0)));
-    assert!(rt; int_behind(&store, at(0), int(4))?.is_err());
-    assert_eq!(rt;
-        of_two(&store, Binary::Pointers(Op::Lt), at(4), at(8))?,
-        Ok(int(1))
-    );
+    assert_eq!(rt; int_behind(&store, at(0), int(3)), Ok(at(12)));
+    assert_eq!(rt; int_behind(&store, at(8), int(-2)), Ok(at(0)));
+    assert!(rt; int_behind(&store, at(0), int(4)).is_err());
+    assert_eq!(rt; on_pointers(&store, Op::Lt, at(4), at(8)), Ok(int(1)));
     Ok(())
 }
 

@@ -1,12 +1,13 @@
 ghost use Rattle.std.specs.Prelude.{◌≡◌, OnOk};
 
-use ak_words::{IntType, NoMemory, Num};
+use super::programs::{empty, int};
+use ak_words::{NoMemory, Num};
 use block_store::{Store, Value};
-use c_tree::typed::CType;
+use source_assignments::Exit;
 use source_state::control::{Pending, Todo};
 use source_state::{KeptStore, Locals, Variable};
-use source_statements::{Exit, finish};
-use source_tree::tree::{SharedExpr, SharedNode, SharedProgram, SharedRow, SharedStmt};
+use source_statements::finish;
+use source_tree::tree::{SharedNode, SharedProgram, SharedRow, SharedStmt};
 use std::alloc::Global;
 use std::rc::Rc;
 
@@ -27,30 +28,13 @@ fn tried(
     Ok(q)
 }
 
-// A program with nothing in it.
-fn empty(alloc: Global) -> SharedProgram {
-    SharedProgram {
-        structs: Vec::new(alloc),
-        globals: Vec::new(alloc),
-        literals: Vec::new(alloc),
-        funcs: Vec::new(alloc),
-        main: 0,
-    }
-}
-
-// An `int` expression.
-fn int(alloc: Global, node: SharedNode) -> Result<Rc<SharedExpr>, NoMemory> {
-    let ty = Rc::new(alloc, CType::Int(IntType::int()))?;
-    Ok(Rc::new(alloc, SharedExpr { place: 0, ty, node })?)
-}
-
 // `x = 5; return x;`, where `x` is local 0.
 fn assigned_and_returned(alloc: Global) -> Result<Todo, NoMemory> {
-    let x = int(alloc, SharedNode::Local(0))?;
-    let five = int(alloc, SharedNode::Num(Num::int(5)))?;
+    let x = int(alloc, 0, SharedNode::Local(0))?;
+    let five = int(alloc, 0, SharedNode::Num(Num::int(5)))?;
     let mut stmts = Vec::new(alloc);
     stmts.push(Rc::new(alloc, SharedStmt::Assign(0, x, five))?)?;
-    let x = int(alloc, SharedNode::Local(0))?;
+    let x = int(alloc, 0, SharedNode::Local(0))?;
     stmts.push(Rc::new(alloc, SharedStmt::Return(0, Some(x)))?)?;
     let all = Rc::new(alloc, SharedRow { stmts })?;
     let leaves = Rc::new(alloc, Todo::Leaves)?;

@@ -1,6 +1,5 @@
 -- Threads of structured code over named blocks, which share the world that the threads of the source share.
-use Rattle.std.specs.Prelude.{ℕ, zero, suc, ◌==◌, ◌&&◌, Bool, true, false, if◌then◌else◌, List, [], ◌∷◌, length, slice_get, Option, Some, None, Result, Ok, Err, ℤ, pos, negsuc, ◌+ℤ◌, ◌*ℤ◌, unsigned_abs}
-use Rattle.ak_words.specs.declared.int_type.IntType.{IntType}
+use Rattle.std.specs.Prelude.{ℕ, zero, suc, ◌==◌, Bool, true, false, if◌then◌else◌, List, [], ◌∷◌, length, slice_get, Option, Some, None, Result, Ok, Err, ℤ, pos, negsuc, ◌+ℤ◌, ◌*ℤ◌, unsigned_abs}
 use Rattle.ak_words.specs.declared.number.Num.{Num}
 use Rattle.ak_words.specs.declared.rule.Rule.TheVariants.{C7}
 use Rattle.ak_words.specs.IntType.{int, unsigned_long}
@@ -24,7 +23,7 @@ use Rattle.struct_ir.specs.Structured.{Position, structured, start_of}
 pub use Rattle.struct_ir.specs.Structured.{nodes_of}
 use Rattle.struct_ir.specs.Threads as threads
 use Rattle.struct_ir.specs.Threads.{Environment, Served, serves, waits, refuses, fails, Thread, Outcome, turn}
-use Rattle.struct_ir.specs.meaning.Blocks.{Held, value, unset, missing, Fault, broken, wrong_kind, same_type, Own, set_at, with_temps, with_blocks, known, on_value, on_number, on_pointer, or_broken, objects_of, all_ended, blocks_machine}
+use Rattle.struct_ir.specs.meaning.Blocks.{Held, value, unset, missing, Fault, broken, wrong_kind, same_type, Own, set_at, with_temps, with_blocks, known, on_value, on_number, on_pointer, objects_of, all_ended, blocks_machine}
 
 -- ---- where an access goes
 

@@ -1,5 +1,5 @@
 -- For the laws of objects: an entry of a worker is the worker's own.
-use Rattle.std.specs.Prelude.{◌≡◌, ℕ, ◌==◌, Bool, true, false, T, if◌then◌else◌, cond, List, [], ◌∷◌}
+use Rattle.std.specs.Prelude.{◌≡◌, ◌==◌, Bool, true, false, T, if◌then◌else◌, cond, [], ◌∷◌}
 use Rattle.std.proofs.Common.{ap, refl}
 use Rattle.std.proofs.Math.Dec.{eqb_refl}
 use Rattle.ak_trace.specs.declared.entry.Entry.{Entry}

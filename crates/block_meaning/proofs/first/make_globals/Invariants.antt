@@ -1,7 +1,7 @@
 use Rattle.std.proofs.Common.{◌≡◌, ◌++◌, drop, map, length}
 use Rattle.c_tree.specs.TypedViews.{global_view, layout_view}
-use Rattle.block_meaning.specs.Running.{global_in}
 use Rattle.block_meaning.proofs.first.make_globals.Given as goal
+use Rattle.block_meaning.specs.inner.Starts.{global_in}
 
 abbrev pub invariant-globals : goal.invariant-globals
 invariant-globals l =

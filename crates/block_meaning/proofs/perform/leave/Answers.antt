@@ -1,9 +1,9 @@
 use Rattle.block_store.specs.declared.values.Answer.TheVariants as answers
 use Rattle.source_state.specs.Worlds.{world_of}
-use Rattle.block_meaning.specs.Threads.{rest_of}
 use Rattle.block_meaning.proofs.Ends.{left_plainly, turned_untouched}
 use Rattle.block_meaning.proofs.Reaching.{mid_world}
 use Rattle.block_meaning.proofs.perform.leave.Goals as goal
+use Rattle.block_meaning.specs.inner.Turns.{rest_of}
 
 pub returns-in_ok-o-in-Plain-clause-turned : goal.returns-in_ok-o-in-Plain-clause-turned
 returns-in_ok-o-in-Plain-clause-turned c =

@@ -2,9 +2,9 @@ use Rattle.std.proofs.Common.{ap, sym, subst, ◌∙◌}
 use Rattle.source_state.specs.Kept.{Kept}
 use Rattle.source_state.specs.Variables.{KeptLocals}
 use Rattle.block_meaning.specs.declared.thread.Outcome.{Outcome}
-use Rattle.block_meaning.specs.Threads.{turn_of, Untouched}
 use Rattle.block_meaning.proofs.Reaching.{turn_taken, mid_own, mid_world, stays_back}
 use Rattle.block_meaning.proofs.turn.take_turn.Goals as goal
+use Rattle.block_meaning.specs.inner.Turns.{turn_of, Untouched}
 
 pub returns-in-Went-clause-turned : goal.returns-in-Went-clause-turned
 returns-in-Went-clause-turned c =

@@ -1,6 +1,4 @@
-use Rattle.std.proofs.Common.{sym, subst}
-use Rattle.machine_rows.specs.Runs.{GoesOn}
-use Rattle.machine_rows.proofs.Steps.{on_of, turns_none, turns_more}
+use Rattle.machine_rows.proofs.Steps.{on_of}
 use Rattle.machine_rows.proofs.turns.turn.Goals as goal
 
 pub step-requires-clause-on : goal.step-requires-clause-on

@@ -2,7 +2,7 @@ use Rattle.std.proofs.Common.{◌∙◌, true, false, refl, ap, sym, subst, rule
 use Rattle.std.proofs.lemmas.Result.{IfOk-weaker}
 use Rattle.c_tree.specs.Typed as tree
 use Rattle.c_tree.specs.TypedViews.{type_view}
-use Rattle.source_values.specs.Operations.{binary_of}
+use Rattle.source_state.specs.Operations.{binary_of}
 use Rattle.source_tree.specs.SharedViews.{expr_of, node_of}
 use Rattle.source_tree.specs.declared.tree.SharedExpr.{SharedExpr}
 use Rattle.source_state.specs.Views.{use_of}

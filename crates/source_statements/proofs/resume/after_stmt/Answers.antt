@@ -1,7 +1,7 @@
 use Rattle.c_meaning.specs.Turns.{row_way, run_row}
 use Rattle.std.proofs.lemmas.Result.{IfOk-weaker}
 use Rattle.source_tree.specs.SharedViews.{row_from}
-use Rattle.source_statements.specs.declared.exit.Exit.TheVariants as exits
+use Rattle.source_assignments.specs.declared.exit.Exit.TheVariants as exits
 use Rattle.source_statements.proofs.Walking.{passes_at}
 use Rattle.source_statements.proofs.resume.after_stmt.Goals as goal
 

@@ -7,7 +7,7 @@ use Rattle.source_tree.specs.declared.tree.SharedStmt.{SharedStmt}
 use Rattle.source_tree.specs.SharedViews.{expr_of, optional_expr_of, stmt_of, row_of, row_from}
 use Rattle.source_tree.proofs.Views.{shared_block}
 use Rattle.source_state.specs.Views.{loop_of, stmt_or_nothing, todo_of, use_of}
-use Rattle.source_statements.specs.declared.exit.Exit.TheVariants as exits
+use Rattle.source_assignments.specs.declared.exit.Exit.TheVariants as exits
 use Rattle.source_statements.proofs.Sizes.{stmt_size, step_size, in_row}
 use Rattle.source_statements.proofs.Walking.{stmt_like, chain_passes, passes_at, if_held, if_not, if_ended, nothing_exit, loop_held, loop_not, loop_ended, rounds_none, rounds_some, while_exit, for_exit, no_step, one_step, next_exit, row_stays, row_over, row_next, row_none}
 use Rattle.source_statements.proofs.statements.+walk.Goals as goal

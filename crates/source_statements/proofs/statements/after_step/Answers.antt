@@ -1,6 +1,6 @@
 use Rattle.c_meaning.specs.Turns.{step_way}
 use Rattle.source_state.specs.Views.{loop_of, todo_of}
-use Rattle.source_statements.specs.declared.exit.Exit.TheVariants as exits
+use Rattle.source_assignments.specs.declared.exit.Exit.TheVariants as exits
 use Rattle.source_statements.proofs.Walking.{passes_at, round_ends}
 use Rattle.source_statements.proofs.statements.after_step.Goals as goal
 

@@ -1,7 +1,7 @@
 use Rattle.std.proofs.Common.{rules, []}
 use Rattle.c_meaning.specs.Turns as turns
 use Rattle.source_tree.specs.SharedViews.{stmt_of}
-use Rattle.source_statements.specs.declared.exit.Exit.TheVariants as exits
+use Rattle.source_assignments.specs.declared.exit.Exit.TheVariants as exits
 use Rattle.source_statements.proofs.Walking.{passes_at, closed_end, closed_break, closed_next}
 use Rattle.source_statements.proofs.statements.close_first.Goals as goal
 

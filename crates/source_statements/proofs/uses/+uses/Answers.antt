@@ -4,7 +4,7 @@ use Rattle.c_tree.specs.TypedViews.{type_view}
 use Rattle.c_meaning.specs.Control as control
 use Rattle.c_meaning.specs.Turns.{run, read_way, only_way, second_way, first_way, second_test_way, first_test_way, choice_way}
 use Rattle.source_tree.specs.SharedViews.{expr_of}
-use Rattle.source_values.specs.Operations.{unary_of, binary_of}
+use Rattle.source_state.specs.Operations.{unary_of, binary_of}
 use Rattle.source_state.specs.Views.{use_of, todo_of, updating_of}
 use Rattle.source_statements.proofs.Resuming.{flow_ended, flow_given, read_continues, gives_at, give_flow, give_caller, give_stores, give_copies, give_reads, give_updates, give_nowhere}
 use Rattle.source_statements.proofs.uses.+uses.Goals as goal

@@ -1,7 +1,7 @@
 use Rattle.std.proofs.Common.{rules}
 use Rattle.std.proofs.lemmas.Result.{IfOk-weaker}
 use Rattle.source_tree.specs.SharedViews.{expr_of}
-use Rattle.source_values.specs.Operations.{binary_of}
+use Rattle.source_state.specs.Operations.{binary_of}
 use Rattle.source_statements.proofs.Resuming.{first_continues}
 use Rattle.source_statements.proofs.uses.first_given.Goals as goal
 

@@ -1,5 +1,5 @@
 use Rattle.std.proofs.Common.{rules}
-use Rattle.source_values.specs.Operations.{unary_of}
+use Rattle.source_state.specs.Operations.{unary_of}
 use Rattle.source_statements.proofs.Resuming.{only_continues}
 use Rattle.source_statements.proofs.uses.only_given.Goals as goal
 

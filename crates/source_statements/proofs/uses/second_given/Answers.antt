@@ -1,5 +1,5 @@
 use Rattle.std.proofs.Common.{rules}
-use Rattle.source_values.specs.Operations.{binary_of}
+use Rattle.source_state.specs.Operations.{binary_of}
 use Rattle.source_statements.proofs.Resuming.{second_continues}
 use Rattle.source_statements.proofs.uses.second_given.Goals as goal
 

@@ -2,9 +2,10 @@ use Rattle.std.proofs.Common.{◌∙◌, ap, sym}
 use Rattle.c_tree.specs.Typed as tree
 use Rattle.c_tree.specs.TypedViews.{expr_node_view, lib_view}
 use Rattle.source_tree.specs.declared.tree.Callee.{Callee}
-use Rattle.source_tree.specs.SharedViews.{args_of, exprs_view, call_of}
+use Rattle.source_tree.specs.SharedViews.{args_of, call_of}
 use Rattle.source_tree.proofs.Views.{call_view, lib_call_view}
 use Rattle.source_tree.proofs.share_exprs.+share.Goals as goal
+use Rattle.source_tree.specs.inner.CodeTrees.{exprs_view}
 
 pub share_node-returns-in_ok-callee-in-Call : goal.share_node-returns-in_ok-callee-in-Call
 share_node-returns-in_ok-callee-in-Call t c =

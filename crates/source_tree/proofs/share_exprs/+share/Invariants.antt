@@ -1,8 +1,9 @@
 use Rattle.std.proofs.Common.{◌≡◌, ◌≤◌, ◌+◌, ◌*◌, ℕ, drop, length}
 use Rattle.std.specs.Prelude.{max}
 use Rattle.c_tree.proofs.typed.Expr.TheLaws.{the_size}
-use Rattle.source_tree.specs.SharedViews.{args_of, exprs_view}
+use Rattle.source_tree.specs.SharedViews.{args_of}
 use Rattle.source_tree.proofs.share_exprs.+share.Given as goal
+use Rattle.source_tree.specs.inner.CodeTrees.{exprs_view}
 
 pub record Left (n most : ℕ) (same : Type 0) : Type 0 where
   pub within : n ≤ most

@@ -1,0 +1,3 @@
+-- What only bodies use.
+pub mod Turns
+pub mod Starts

@@ -1,0 +1,5 @@
+pub mod CodeLoops
+pub mod CodeChoices
+pub mod CodeLists
+pub mod CodeLevels
+pub mod CodeReads

@@ -1,0 +1,4 @@
+pub mod Plain
+pub mod Dropped
+pub mod Tails
+pub mod Sides

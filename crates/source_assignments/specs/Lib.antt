@@ -1,0 +1,4 @@
+pub mod Exits
+pub mod Locals
+pub mod Stores
+pub mod inner

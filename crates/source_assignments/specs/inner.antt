@@ -1,0 +1,3 @@
+-- What only bodies use.
+pub mod Conversions
+pub mod Numbers

@@ -1,6 +1,0 @@
-use Rattle.std.proofs.Common.{rules}
-use Rattle.source_statements.proofs.Tails.{declared_block}
-use Rattle.source_statements.proofs.scopes.declare_local.Goals as goal
-
-pub returns-in_ok-make_local-clause-now : goal.returns-in_ok-make_local-clause-now
-returns-in_ok-make_local-clause-now c = declared_block c.args.program.now c.args.function c.args.number _ _ _ _ (search rules) c.in_ok-make_local.ensures.now
