@@ -10,7 +10,7 @@ ghost use Rattle.c_typing.specs.Numbering as numbers;
 ghost use Rattle.c_typing.specs.Programs.{types_or, judged_body, judged_function};
 ghost use Rattle.type_context.specs.ContextViews.{context_view, types_view, frame_view};
 ghost use Rattle.type_declared.specs.FunctionNames.{IsDefined};
-ghost use Rattle.type_declared.specs.LocalViews.{param_view};
+ghost use Rattle.type_locals.specs.LocalViews.{param_view};
 ghost use Rattle.type_context.specs.Telling.{Tells};
 ghost use Rattle.c_types.specs.Gathering.{each};
 ghost use Rattle.c_types.specs.inner.Functions.{result_of, types_fine, head_fine, IsHead, func_made, whole_body, body_of};
@@ -20,6 +20,7 @@ use crate::outcomes::outcome;
 use crate::parameters::param_list;
 use crate::statements::stmts;
 use c_lex::CompileFault;
+use c_tree::copies::copy_type;
 use c_tree::syntax as tree;
 use c_tree::syntax::{Block, Name, Pointer};
 use c_tree::typed::{CType, Func, Stmt};
@@ -27,13 +28,12 @@ use indexmap::IndexMap;
 use std::alloc::Global;
 use type_context::context::{Context, Frame};
 use type_context::faults::{as_fault, both};
-use c_tree::copies::copy_type;
 use type_context::outcomes::again;
 use type_declared::functions::{
     Defined, add_body, declare_function, name_fine, result_type, type_fine,
 };
-use type_declared::locals::{Param, func_of};
 use type_declared::objects::or_int;
+use type_locals::locals::{Param, func_of};
 use type_rules::specifiers::behind_pointers;
 
 // What a function returns.

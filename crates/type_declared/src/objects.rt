@@ -13,12 +13,12 @@ ghost use Rattle.type_declared.specs.ObjectFits.{fits_of};
 
 use ak_words::IntType;
 use c_lex::{CompileFault, Refusal};
+use c_tree::copies::copy_type;
 use c_tree::syntax::Name;
 use c_tree::typed::CType;
 use std::alloc::Global;
 use type_context::context::{Context, count};
 use type_context::faults::as_fault;
-use c_tree::copies::copy_type;
 use type_context::layouts::size_in;
 use type_context::names::Binding;
 
