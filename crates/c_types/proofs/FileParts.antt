@@ -31,8 +31,8 @@ use Rattle.type_context.proofs.Walks.{both_tell, ok_finishes}
 use Rattle.type_context.proofs.Rows.{pushed_tells}
 use Rattle.std.specs.Result.{IsErrAnd}
 use Rattle.c_typing.specs.Statements.{or_int}
-use Rattle.type_declared.specs.declared.locals.Param.{Param as CodeParam}
-use Rattle.type_declared.specs.LocalViews.{param_view}
+use Rattle.type_locals.specs.declared.locals.Param.{Param as CodeParam}
+use Rattle.type_locals.specs.LocalViews.{param_view}
 use Rattle.c_types.specs.Gathering.{each}
 use Rattle.c_types.proofs.Steps.{object_fine, err_finish}
 use Rattle.c_types.specs.inner.Gathering.{IsOutcome, fine_view}

@@ -23,7 +23,7 @@ use Rattle.type_context.specs.declared.context.Context.{Context as CodeContext}
 use Rattle.type_context.specs.declared.names.Binding.{Binding as CodeMeaning}
 use Rattle.type_context.specs.ContextViews.{context_view, frame_view, types_view}
 use Rattle.type_context.specs.inner.Outcomes.{joined}
-use Rattle.type_declared.specs.LocalViews.{param_view}
+use Rattle.type_locals.specs.LocalViews.{param_view}
 use Rattle.type_context.specs.Telling.{Tells}
 use Rattle.type_context.proofs.Walks.{memory_tells, known_tells, both_tell}
 use Rattle.c_types.specs.Gathering.{each}

@@ -24,8 +24,8 @@ use std::alloc::Global;
 use type_context::context::{Context, count, within};
 use type_context::faults::{as_fault, both, both_or_refusal};
 use type_context::outcomes::{again, pushed};
-use type_declared::headers::unboxed;
 use type_declared::objects::{declare_local, or_int};
+use type_locals::headers::unboxed;
 use type_rules::assignments::initialised;
 use type_rules::declarators::object_declared;
 

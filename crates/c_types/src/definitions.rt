@@ -10,7 +10,7 @@ ghost use Rattle.c_typing.specs.Numbering as numbers;
 ghost use Rattle.c_typing.specs.Programs.{types_or, judged_body, judged_function};
 ghost use Rattle.type_context.specs.ContextViews.{context_view, types_view, frame_view};
 ghost use Rattle.type_declared.specs.FunctionNames.{IsDefined};
-ghost use Rattle.type_declared.specs.LocalViews.{param_view};
+ghost use Rattle.type_locals.specs.LocalViews.{param_view};
 ghost use Rattle.type_context.specs.Telling.{Tells};
 ghost use Rattle.c_types.specs.Gathering.{each};
 ghost use Rattle.c_types.specs.inner.Functions.{result_of, types_fine, head_fine, IsHead, func_made, whole_body, body_of};
@@ -32,8 +32,8 @@ use type_context::outcomes::again;
 use type_declared::functions::{
     Defined, add_body, declare_function, name_fine, result_type, type_fine,
 };
-use type_declared::locals::{Param, func_of};
 use type_declared::objects::or_int;
+use type_locals::locals::{Param, func_of};
 use type_rules::specifiers::behind_pointers;
 
 // What a function returns.

@@ -12,7 +12,7 @@ use crate::parts::alone;
 use c_lex::CompileFault;
 use c_tree::typed::{Expr, Stmt, StmtNode};
 use std::alloc::Global;
-use type_declared::headers::{headed, nothing};
+use type_locals::headers::{headed, nothing};
 
 // A block.
 fn block(place: u32, items: Vec<Stmt>) -> Stmt

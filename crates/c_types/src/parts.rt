@@ -22,7 +22,7 @@ use std::alloc::Global;
 use type_context::context::Context;
 use type_context::faults::{as_fault, unless};
 use type_context::kinds::is_void;
-use type_declared::headers::nothing;
+use type_locals::headers::nothing;
 use type_rules::assignments::returned_by;
 use type_rules::conversions::tested;
 

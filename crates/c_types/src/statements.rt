@@ -22,7 +22,7 @@ use indexmap::IndexMap;
 use type_context::context::Context;
 use type_context::faults::both;
 use type_context::outcomes::appended;
-use type_declared::headers::nothing;
+use type_locals::headers::nothing;
 
 // The statement under an `if` or a loop.
 #[cycle(statements)]

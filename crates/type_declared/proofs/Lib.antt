@@ -1,4 +1,1 @@
 pub mod Defining
-pub mod DeclaredObjects
-pub mod TypedTrees
-pub mod FurtherLocals

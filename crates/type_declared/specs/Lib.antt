@@ -1,4 +1,2 @@
 pub mod FunctionNames
 pub mod ObjectFits
-pub mod inner
-pub mod LocalViews

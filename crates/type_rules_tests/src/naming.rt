@@ -19,7 +19,7 @@ use std::alloc::{AllocError, Global};
 use type_context::context::Context;
 use type_context::outcomes::both_fine;
 use type_declared::functions::{all_defined, main_of};
-use type_declared::locals::func_of;
+use type_locals::locals::func_of;
 use type_rules::declarators::{Declared, object_declared};
 use type_rules::specifiers::{Part, specified};
 

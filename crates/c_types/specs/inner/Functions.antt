@@ -12,7 +12,7 @@ use Rattle.c_typing.specs.Numbering.{Param, func_of}
 use Rattle.c_typing.specs.Programs.{result_type, name_fine, type_fine, judged_param_list, judged_body, with_body}
 use Rattle.type_context.specs.declared.context.Context.{Context as CodeContext}
 use Rattle.type_context.specs.ContextViews.{context_view, frame_view}
-use Rattle.type_declared.specs.LocalViews.{param_view}
+use Rattle.type_locals.specs.LocalViews.{param_view}
 use Rattle.c_types.specs.declared.definitions.Head.{Head}
 use Rattle.c_types.specs.Gathering.{each}
 

@@ -3,7 +3,7 @@ use Rattle.c_tree.specs.SyntaxViews as source
 use Rattle.c_typing.specs.Scope.{Context, back_to}
 use Rattle.c_typing.specs.Programs.{judged_param_list}
 use Rattle.type_context.specs.ContextViews.{context_view}
-use Rattle.type_declared.specs.LocalViews.{param_view}
+use Rattle.type_locals.specs.LocalViews.{param_view}
 use Rattle.type_context.specs.Telling.{Tells}
 use Rattle.c_types.specs.Gathering.{each}
 use Rattle.c_types.specs.inner.Functions.{before_params}

@@ -13,8 +13,8 @@ use Rattle.c_typing.specs.Statements.{or_int, judged_stmts}
 use Rattle.c_typing.specs.Programs.{judged_body}
 use Rattle.type_context.specs.ContextViews.{context_view}
 use Rattle.type_context.proofs.Judging.{gives_both}
-use Rattle.type_declared.specs.declared.locals.Param.{Param as CodeParam}
-use Rattle.type_declared.specs.LocalViews.{param_view}
+use Rattle.type_locals.specs.declared.locals.Param.{Param as CodeParam}
+use Rattle.type_locals.specs.LocalViews.{param_view}
 use Rattle.type_context.specs.Telling.{Tells}
 use Rattle.type_context.proofs.Walks.{lone_tells}
 use Rattle.c_types.specs.Gathering.{each}

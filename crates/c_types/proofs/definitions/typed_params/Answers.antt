@@ -2,7 +2,7 @@ use Rattle.std.proofs.Common.{◌≡◌, map, subst, sym}
 use Rattle.c_tree.specs.TypedViews.{type_view}
 use Rattle.c_typing.specs.Faults.{typed, Gives, mapped}
 use Rattle.c_typing.specs.Numbering.{Param}
-use Rattle.type_declared.specs.LocalViews.{param_view}
+use Rattle.type_locals.specs.LocalViews.{param_view}
 use Rattle.c_types.specs.Gathering.{each}
 use Rattle.c_types.proofs.Functions.{gives_list, fails_mapped}
 use Rattle.c_types.proofs.definitions.typed_params.Goals as goal

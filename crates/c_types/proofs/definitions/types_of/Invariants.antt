@@ -1,7 +1,7 @@
 use Rattle.std.proofs.Common.{◌≡◌, map, take}
 use Rattle.c_typing.specs.Numbering.{Param}
 use Rattle.type_context.specs.ContextViews.{types_view}
-use Rattle.type_declared.specs.LocalViews.{param_view}
+use Rattle.type_locals.specs.LocalViews.{param_view}
 use Rattle.c_types.proofs.definitions.types_of.Given as goal
 
 -- the types so far

@@ -2,7 +2,7 @@ use Rattle.std.proofs.Common.{◌≡◌, subst, sym, ap, ◌∙◌, IfOk, Err}
 use Rattle.c_typing.specs.Faults.{typed, Gives}
 use Rattle.c_typing.specs.Programs.{types_or}
 use Rattle.type_context.specs.ContextViews.{types_view}
-use Rattle.type_declared.specs.LocalViews.{param_view}
+use Rattle.type_locals.specs.LocalViews.{param_view}
 use Rattle.c_types.specs.Gathering.{each}
 use Rattle.c_types.proofs.Functions.{refused_types}
 use Rattle.c_types.proofs.definitions.types_or.Goals as goal

@@ -1,6 +1,6 @@
 use Rattle.std.proofs.Common.{ap, sym, ◌∙◌, [], ◌∷◌, ◌++◌, map}
 use Rattle.c_typing.specs.Faults.{typed}
-use Rattle.type_declared.specs.LocalViews.{param_view}
+use Rattle.type_locals.specs.LocalViews.{param_view}
 use Rattle.c_types.proofs.parameters.alone.Goals as goal
 
 pub returns : goal.returns

@@ -6,7 +6,7 @@ use Rattle.c_typing.specs.Faults.{typed}
 use Rattle.c_typing.specs.Judgement.{judged_specs}
 use Rattle.c_typing.specs.Programs.{judged_param, judged_param_list}
 use Rattle.type_context.specs.ContextViews.{context_view}
-use Rattle.type_declared.specs.LocalViews.{param_view}
+use Rattle.type_locals.specs.LocalViews.{param_view}
 use Rattle.type_context.specs.Telling.{Tells, lacks_memory}
 use Rattle.type_context.proofs.Walks.{known_tells, ok_tells}
 use Rattle.c_types.specs.Gathering.{each}

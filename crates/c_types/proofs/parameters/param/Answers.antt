@@ -1,7 +1,7 @@
 use Rattle.c_tree.specs.SyntaxViews as source
 use Rattle.c_typing.specs.Programs.{judged_param}
 use Rattle.type_context.specs.ContextViews.{context_view}
-use Rattle.type_declared.specs.LocalViews.{param_view}
+use Rattle.type_locals.specs.LocalViews.{param_view}
 use Rattle.c_types.proofs.Steps.{memory_passes}
 use Rattle.c_types.proofs.FileParts.{param_told}
 use Rattle.c_types.proofs.parameters.param.Goals as goal

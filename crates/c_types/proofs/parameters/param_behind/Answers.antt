@@ -2,7 +2,7 @@ use Rattle.std.proofs.Common.{ℕ, ap, sym}
 use Rattle.c_tree.specs.SyntaxViews as source
 use Rattle.c_tree.specs.TypedViews.{type_view}
 use Rattle.type_context.specs.ContextViews.{context_view}
-use Rattle.type_declared.specs.LocalViews.{param_view}
+use Rattle.type_locals.specs.LocalViews.{param_view}
 use Rattle.type_context.proofs.Judging.{fault_gives}
 use Rattle.c_types.specs.inner.Gathering.{fine_view}
 use Rattle.c_types.proofs.Steps.{memory_passes}

@@ -2,7 +2,7 @@ use Rattle.std.proofs.Common.{◌≢◌, map, length, ltb-true, ltb-false, subst
 use Rattle.c_tree.specs.SyntaxViews as source
 use Rattle.c_typing.specs.Programs.{judged_param_list}
 use Rattle.type_context.specs.ContextViews.{context_view}
-use Rattle.type_declared.specs.LocalViews.{param_view}
+use Rattle.type_locals.specs.LocalViews.{param_view}
 use Rattle.type_context.specs.Telling.{Tells}
 use Rattle.c_types.specs.Gathering.{each}
 use Rattle.c_types.proofs.FileParts.{one_item, many_params}

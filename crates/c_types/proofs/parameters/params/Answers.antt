@@ -1,7 +1,7 @@
 use Rattle.c_tree.specs.SyntaxViews as source
 use Rattle.c_typing.specs.Programs.{judged_param, judged_params}
 use Rattle.type_context.specs.ContextViews.{context_view}
-use Rattle.type_declared.specs.LocalViews.{param_view}
+use Rattle.type_locals.specs.LocalViews.{param_view}
 use Rattle.type_context.proofs.Rows.{starts}
 use Rattle.c_types.proofs.StatementRows.{one_more, at_end}
 use Rattle.c_types.proofs.FileRows.{params_row}

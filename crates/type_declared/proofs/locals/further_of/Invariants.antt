@@ -1,7 +1,0 @@
-use Rattle.std.proofs.Common.{◌≡◌, take, map}
-use Rattle.type_declared.specs.inner.Numbers.{furthers_view, locals_view, further_local}
-use Rattle.type_declared.proofs.locals.further_of.Given as goal
-
--- the locals so far
-abbrev pub invariant-further : goal.invariant-further
-invariant-further l = locals_view l.all.items ≡ map further_local (furthers_view (take l.x-index l.further))

@@ -1,0 +1,3 @@
+pub mod TypedTrees
+pub mod Headers
+pub mod FurtherLocals

@@ -1,0 +1,12 @@
+use Rattle.std.proofs.Common.{◌≡◌, [], ◌∷◌, ◌++◌, map, ap, sym, ◌∙◌, ◌==◌}
+use Rattle.c_tree.specs.Typed.{at_stmt, block, stmts_of}
+use Rattle.c_tree.specs.TypedViews.{stmt_view}
+use Rattle.type_locals.proofs.TypedTrees.{block_view}
+use Rattle.type_locals.proofs.Headers.{enclosed_is}
+use Rattle.type_locals.proofs.headers.enclosed.Goals as goal
+
+pub returns : goal.returns
+returns c =
+    let all : c.push.new.self.items ≡ c.args.before.items ++ c.args.last.value ∷ [] = c.in_ok-push.ensures.items ∙ ap (λ s. c.args.before.items ++ s ∷ []) c.into_inner.ensures in
+    ap stmt_view c.in_ok-new.ensures.ok ∙ ap (at_stmt c.args.place) (block_view c.push.new.self ∙ ap (λ l. block (stmts_of (map stmt_view l))) all)
+    ∙ enclosed_is c.args.place c.args.before.items c.args.last.value (ap (λ k. k == 0) (sym c.args.before.ok.0) ∙ sym c.is_empty.ensures ∙ c.if-is_empty.false)
