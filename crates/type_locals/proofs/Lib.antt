@@ -1,3 +1,3 @@
 pub mod TypedTrees
-pub mod Headers
+pub mod LoopHeaders
 pub mod FurtherLocals

@@ -5,7 +5,7 @@ use Rattle.c_tree.specs.Typed.{Stmt, at_stmt, for_}
 use Rattle.c_tree.specs.TypedViews.{boxed_expr_view, stmt_view, boxed_stmt_view}
 use Rattle.c_typing.specs.Statements.{headed}
 use Rattle.type_locals.specs.inner.Blocks.{enclosed}
-use Rattle.type_locals.proofs.Headers.{headed_pop}
+use Rattle.type_locals.proofs.LoopHeaders.{headed_pop}
 use Rattle.type_locals.proofs.headers.headed.Goals as goal
 
 pub returns-in_ok-inside-in-Some : goal.returns-in_ok-inside-in-Some
