@@ -1,20 +1,16 @@
 -- Declarations and statements, by the room that the code counts.
-use Rattle.std.proofs.Common.{◌≡◌, ℕ, zero, suc, ◌-◌, ◌<◌, List, [], ◌∷◌, length, Result, Ok, Err, Bool, true, false, refl, sym, ap, subst, ◌∙◌, arith}
+use Rattle.std.proofs.Common.{◌≡◌, ℕ, zero, suc, ◌-◌, ◌<◌, List, Result, Ok, Err, refl, sym, ap, subst, ◌∙◌, arith}
 use Rattle.c_lex.specs.declared.token.Token.{Token}
-use Rattle.c_lex.specs.declared.refusal.Kind.TheVariants.{TooDeep}
 use Rattle.c_tree.specs.Syntax.{Declaration, Simple, Stmt}
-use Rattle.parse_expressions.specs.declared.parser.Parser.{Parser}
-use Rattle.parse_expressions.specs.declared.parser.Stop.{Stop}
-use Rattle.parse_expressions.specs.declared.parser.Stop.TheVariants as stops
-use Rattle.c_grammar.specs.inner.Readers.{sunk, past, Fault, stop, got, Reads, Sort, sort, refused, choice, too_deep}
+use Rattle.parse_tokens.specs.declared.parser.Parser.{Parser}
+use Rattle.parse_tokens.specs.declared.parser.Stop.{Stop}
+use Rattle.c_grammar.specs.inner.Readers.{got, Reads, choice, too_deep}
 use Rattle.c_grammar.specs.inner.Tokens.{begins_type, begins_simple}
 use Rattle.c_grammar.specs.inner.Reading.{declaration, simply, begins_stmt, StmtStart, stmt_start, stmt_by, stmt_at, param, param_behind}
 use Rattle.c_parse.specs.inner.Parts.{declaration_by, simple_by, param_dims, param_by}
-use Rattle.parse_expressions.specs.inner.Moves.{Fails, Moves, peek}
+use Rattle.parse_tokens.specs.inner.Moves.{Fails, Moves, peek}
 use Rattle.parse_expressions.proofs.CodeLoops.{chooses}
-
-before : (n : ℕ) → suc n - 1 ≡ n
-before n = omega arith
+use Rattle.parse_expressions.proofs.CodeLevels.{before, deep_any}
 
 -- ---- where there is room
 
@@ -49,20 +45,6 @@ unfolding param param_behind param_dims
 param_is room deeper = refl
 
 -- ---- where there is none
-
-err_any : (A B : Type 0) (e : Stop) (f : Fault) → Fails {A = A} e (Err f) → Fails {A = B} e (Err f)
-err_any A B stops.NoMemory f h = tt
-err_any A B (stops.Unexpected left) f h = cc
-err_any A B (stops.Sunk left) f h = cc
-err_any A B (stops.Over kind left) f h = cc
-
-refused_any : (A B : Type 0) (t : Token) (ts : List Token) (b : Bool) (e : Stop) → Fails {A = A} e (refused t ts b) → Fails {A = B} e (refused t ts b)
-refused_any A B t ts true e h = err_any A B e (stop (past TooDeep) (length (t ∷ ts))) h
-refused_any A B t ts false e h = err_any A B e (stop sunk (length (t ∷ ts))) h
-
-deep_any : (A B : Type 0) (start : Sort → Bool) (c : ℕ) (ts : List Token) (e : Stop) → Fails {A = A} e (too_deep start c ts) → Fails {A = B} e (too_deep start c ts)
-deep_any A B start c [] e h = err_any A B e (stop sunk 0) h
-deep_any A B start c (t ∷ ts) e h = refused_any A B t ts (start (sort t)) e h
 
 declaration_zero : (room : ℕ) → room ≡ 0 → declaration room ≡ too_deep begins_type
 unfolding declaration

@@ -5,7 +5,7 @@ ghost use Rattle.std.specs.Option.{option_map};
 ghost use Rattle.c_tree.specs.Syntax as trees;
 ghost use Rattle.c_tree.specs.SyntaxViews.{boxed_expr_view, expr_view, declarator_view, declaration_view, simple_view, for_first_view, stmt_view, boxed_stmt_view};
 ghost use Rattle.c_grammar.specs.inner.Reading.{if_by};
-ghost use Rattle.parse_expressions.specs.inner.Moves.{Makes};
+ghost use Rattle.parse_tokens.specs.inner.Moves.{Makes};
 ghost use Rattle.c_parse.specs.inner.Boxes.{boxed_simple_view, boxed_first_view, boxed_initialised_view, boxed_param_dim_view};
 
 use c_tree::syntax::{
@@ -13,7 +13,7 @@ use c_tree::syntax::{
     Stmt,
 };
 use parse_expressions::boxes::boxed;
-use parse_expressions::parser::Stop;
+use parse_tokens::parser::Stop;
 use std::alloc::Global;
 
 /// The expression in the box, if there is one.

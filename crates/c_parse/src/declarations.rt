@@ -1,10 +1,10 @@
 //! Declarations (C11 6.7): declarators with their initialisers.
 
-ghost use Rattle.std.specs.Prelude.{ℕ, ◌-◌, ◌<◌, [], ◌∷◌, map};
+ghost use Rattle.std.specs.Prelude.{◌-◌, ◌<◌, [], ◌∷◌, map};
 ghost use Rattle.std.specs.Option.{option_map};
 ghost use Rattle.c_tree.specs.SyntaxViews.{boxed_expr_view, init_declarator_view, declaration_view};
 ghost use Rattle.c_parse.specs.inner.Boxes.{boxed_initialised_view};
-ghost use Rattle.parse_expressions.specs.inner.Moves.{Moves, Takes, Keeps};
+ghost use Rattle.parse_tokens.specs.inner.Moves.{Moves, Takes, Keeps};
 ghost use Rattle.c_grammar.specs.inner.Reading.{level_at, value, declaration};
 ghost use Rattle.c_parse.specs.inner.Parts.{initialiser, first_initialised, next_initialised, more_initialised};
 
@@ -12,7 +12,9 @@ use crate::building::initialised;
 use c_lex::Mark;
 use c_tree::syntax::{Declaration, Expr, InitDeclarator};
 use parse_expressions::boxes::put_inner;
-use parse_expressions::parser::{Parser, Stop};
+use parse_expressions::expressions::full_expr;
+use parse_expressions::types::{bare_declared, declared, specs};
+use parse_tokens::parser::{Parser, Stop};
 
 /// `"=" expr`
 #[tactic(auto, unfolding(c_grammar::specs::inner::Reading::value))]
@@ -21,7 +23,7 @@ fn value(parser: &mut Parser<'_>, room: u32, braces: bool) -> Result<Box<Expr>, 
     ensures takes { Takes parser.old parser.new result }
 {
     parser.expected(Mark::Assign, room)?;
-    parser.full_expr(room, braces)
+    full_expr(parser, room, braces)
 }
 
 /// `[ "=" expr ]`
@@ -52,7 +54,7 @@ fn first_initialised(
     ensures reads { Moves boxed_initialised_view (first_initialised braces room (room - 1)) parser.old parser.new result }
     ensures takes { Takes parser.old parser.new result }
 {
-    let declarator = parser.bare_declared(room, braces)?;
+    let declarator = bare_declared(parser, room, braces)?;
     let value = initialiser(parser, room, braces)?;
     initialised(parser.alloc, declarator, value)
 }
@@ -69,7 +71,7 @@ fn next_initialised(
     ensures takes { Takes parser.old parser.new result }
 {
     parser.expected(Mark::Comma, room)?;
-    let declarator = parser.declared(room, braces)?;
+    let declarator = declared(parser, room, braces)?;
     let value = initialiser(parser, room, braces)?;
     initialised(parser.alloc, declarator, value)
 }
@@ -104,7 +106,7 @@ pub fn declaration(parser: &mut Parser<'_>, room: u32) -> Result<Declaration, St
     if room == 0 {
         return Err(parser.no_room_for_type());
     }
-    let specs = parser.specs(room, false)?;
+    let specs = specs(parser, room, false)?;
     let first = first_initialised(parser, room, false)?;
     let declarators = more_initialised(parser, first, room, false)?;
     parser.expected(Mark::Semicolon, room)?;

@@ -1,10 +1,10 @@
 //! Files (C11 6.9): external declarations and functions.
 
-ghost use Rattle.std.specs.Prelude.{◌≡◌, ℕ, ◌+◌, ◌^◌, ◌<◌, [], ◌∷◌, map};
+ghost use Rattle.std.specs.Prelude.{◌+◌, ◌^◌, ◌<◌, [], map};
 ghost use Rattle.std.specs.Option.{option_map};
-ghost use Rattle.c_tree.specs.SyntaxViews.{spec_view, param_dim_view, param_view, body_view, rest_view, external_view, view};
+ghost use Rattle.c_tree.specs.SyntaxViews.{param_dim_view, param_view, body_view, rest_view, external_view, view};
 ghost use Rattle.c_parse.specs.inner.Boxes.{boxed_initialised_view, boxed_param_dim_view};
-ghost use Rattle.parse_expressions.specs.inner.Moves.{Moves, Takes, Keeps};
+ghost use Rattle.parse_tokens.specs.inner.Moves.{Moves, Takes, Keeps};
 ghost use Rattle.c_grammar.specs.inner.Readers.{maybe};
 ghost use Rattle.c_grammar.specs.inner.Tokens.{tok, name_of};
 ghost use Rattle.c_grammar.specs.inner.Reading.{is_name, param_dim, param, params, body, variable_rest, named_rest, external_rest, external, file};
@@ -22,8 +22,9 @@ use c_tree::syntax::{
     Storage,
 };
 use parse_expressions::boxes::{one, put, put_inner};
-use parse_expressions::parser::{Parser, Stop};
-use parse_expressions::pointers::stars;
+use parse_expressions::pointers::{bare_pointers, stars};
+use parse_expressions::types::{dims, specs};
+use parse_tokens::parser::{Parser, Stop};
 
 /// The room at file scope: a file is of level 0, and 128 levels may lie in it.
 const FILE: u32 = 129;
@@ -80,8 +81,8 @@ fn param(parser: &mut Parser<'_>) -> Result<Param, Stop>
     ensures reads { Moves param_view (param 128 127) parser.old parser.new result }
     ensures takes { Takes parser.old parser.new result }
 {
-    let specs = parser.specs(INNER, false)?;
-    let pointers = parser.bare_pointers(INNER)?;
+    let specs = specs(parser, INNER, false)?;
+    let pointers = bare_pointers(parser, INNER)?;
     let name = maybe_name(parser, INNER)?;
     let before = stars(&pointers);
     let dims = param_dims(parser, before)?;
@@ -182,7 +183,7 @@ fn first_variable(
     ensures keeps { Keeps parser.old parser.new result }
 {
     let before = stars(&pointers);
-    let dims = parser.dims(before, FILE, true)?;
+    let dims = dims(parser, before, FILE, true)?;
     let value = initialiser(parser, FILE, true)?;
     let declarator = Declarator {
         pointers,
@@ -221,7 +222,7 @@ fn declared_rest(parser: &mut Parser<'_>) -> Result<Rest, Stop>
     ensures reads { Moves rest_view declared_rest parser.old parser.new result }
     ensures takes { Takes parser.old parser.new result }
 {
-    let pointers = parser.bare_pointers(FILE)?;
+    let pointers = bare_pointers(parser, FILE)?;
     let name = parser.name(FILE)?;
     named_rest(parser, pointers, name)
 }
@@ -260,7 +261,7 @@ fn external(parser: &mut Parser<'_>) -> Result<External, Stop>
     ensures takes { Takes parser.old parser.new result }
 {
     let storage = storage_row(parser)?;
-    let specs = parser.specs(FILE, true)?;
+    let specs = specs(parser, FILE, true)?;
     let rest = external_rest(parser)?;
     Ok(External {
         storage,

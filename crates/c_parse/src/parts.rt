@@ -3,14 +3,15 @@
 ghost use Rattle.std.specs.Prelude.{◌≡◌, false, IfOk};
 ghost use Rattle.std.specs.Option.{option_map};
 ghost use Rattle.c_tree.specs.SyntaxViews.{boxed_expr_view};
-ghost use Rattle.parse_expressions.specs.inner.Moves.{Moves, Takes, Keeps};
+ghost use Rattle.parse_tokens.specs.inner.Moves.{Moves, Takes, Keeps};
 ghost use Rattle.c_grammar.specs.inner.Readers.{full, maybe};
 ghost use Rattle.c_grammar.specs.inner.Tokens.{tok, mark_is, begins_expr};
 ghost use Rattle.c_grammar.specs.inner.Reading.{level_at};
 
 use c_lex::Mark;
 use c_tree::syntax::Expr;
-use parse_expressions::parser::{Parser, Stop};
+use parse_expressions::expressions::full_expr;
+use parse_tokens::parser::{Parser, Stop};
 
 /// A mark behind what was read.
 pub fn marked<T: Drop>(parser: &mut Parser<'_>, value: T, mark: Mark, room: u32) -> Result<T, Stop>
@@ -31,6 +32,6 @@ pub fn maybe_expr(parser: &mut Parser<'_>, room: u32) -> Result<Option<Box<Expr>
     if !parser.is_expr_next()? {
         return Ok(None);
     }
-    let expr = parser.full_expr(room, false)?;
+    let expr = full_expr(parser, room, false)?;
     Ok(Some(expr))
 }

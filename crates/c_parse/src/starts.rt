@@ -5,12 +5,12 @@ ghost use Rattle.std.specs.Option.{option_map};
 ghost use Rattle.c_grammar.specs.inner.Readers.{sort_of_kind, too_deep};
 ghost use Rattle.c_grammar.specs.inner.Reading.{stmt_start, tail_start, begins_stmt, begins_item, begins_external};
 ghost use Rattle.c_parse.specs.inner.Parts.{stmt_start_view, tail_view};
-ghost use Rattle.parse_expressions.specs.inner.Moves.{Moves, Fails, peek, ahead};
+ghost use Rattle.parse_tokens.specs.inner.Moves.{Moves, Fails, peek, ahead};
 ghost use Rattle.c_grammar.specs.inner.Tokens.{begins_simple};
 
 use c_lex::{Mark, TokenKind, Word};
-use parse_expressions::classes::{assign_of, begins_simple, begins_type, step_of, storage_of};
-use parse_expressions::parser::{Parser, Stop};
+use parse_tokens::classes::{assign_of, begins_simple, begins_type, step_of, storage_of};
+use parse_tokens::parser::{Parser, Stop};
 
 /// What stands behind the expression of a simple statement.
 #[derive(Clone, Copy)]

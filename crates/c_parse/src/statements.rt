@@ -1,14 +1,14 @@
 //! Statements (C11 6.8).
 
-ghost use Rattle.std.specs.Prelude.{◌≡◌, ℕ, ◌-◌, ◌<◌, ◌==◌, map};
+ghost use Rattle.std.specs.Prelude.{◌≡◌, ◌-◌, ◌<◌, ◌==◌, map};
 ghost use Rattle.std.specs.Option.{option_map};
 ghost use Rattle.c_tree.specs.SyntaxViews.{expr_view, boxed_expr_view, stmt_view, boxed_stmt_view};
 ghost use Rattle.c_grammar.specs.Grammar.{rank};
 ghost use Rattle.c_parse.specs.inner.Boxes.{boxed_simple_view, boxed_first_view};
-ghost use Rattle.c_grammar.specs.inner.Readers.{full, made, maybe};
+ghost use Rattle.c_grammar.specs.inner.Readers.{full, maybe};
 ghost use Rattle.c_grammar.specs.inner.Tokens.{begins_simple};
-ghost use Rattle.parse_expressions.specs.inner.Moves.{Moves, Takes, Keeps};
-ghost use Rattle.c_grammar.specs.inner.Reading.{level_at, simply, simple_of, simple_tail, condition, first, items, stmt_at, stmt_by, ABlock, AnIf, AWhile, AFor};
+ghost use Rattle.parse_tokens.specs.inner.Moves.{Moves, Takes, Keeps};
+ghost use Rattle.c_grammar.specs.inner.Reading.{simply, simple_of, condition, first, items, stmt_at, stmt_by, ABlock, AnIf, AWhile, AFor};
 ghost use Rattle.c_parse.specs.inner.Parts.{behind, assigned, simple_first_at, short_first_at, for_condition, for_step, for_head, head_view, empty_at, break_at, continue_at, return_at, simple_stmt_at, block_view, item_at, item_row, otherwise};
 
 use crate::building::{
@@ -24,7 +24,8 @@ use crate::starts::{
 use c_lex::{Mark, Word};
 use c_tree::syntax::{Block, Expr, ForFirst, Simple, Stmt};
 use parse_expressions::boxes::put_inner;
-use parse_expressions::parser::{Parser, Stop};
+use parse_expressions::expressions::{expr, full_expr, full_unary};
+use parse_tokens::parser::{Parser, Stop};
 
 /// Whether an expression is a postfix one, behind which alone `++` and `--` may stand (C11 6.5.2).
 fn is_postfix(expr: &Expr) -> bool
@@ -56,7 +57,7 @@ fn behind(parser: &mut Parser<'_>, target: Box<Expr>, room: u32) -> Result<Box<S
         }
         TailStart::Assign => {
             let (place, op) = parser.assign_op(room)?;
-            let value = parser.expr(room, false)?;
+            let value = expr(parser, room, false)?;
             assign(parser.alloc, place, op, target, value)
         }
         TailStart::Nothing => eval(parser.alloc, target),
@@ -70,7 +71,7 @@ fn assigned(parser: &mut Parser<'_>, room: u32) -> Result<Box<Simple>, Stop>
 {
     let count = parser.count;
     parser.count = 0;
-    let target = parser.expr(room, false)?;
+    let target = expr(parser, room, false)?;
     let simple = behind(parser, target, room)?;
     parser.count = count;
     Ok(simple)
@@ -89,7 +90,7 @@ pub fn simply(parser: &mut Parser<'_>, room: u32) -> Result<Box<Simple>, Stop>
         return assigned(parser, room);
     }
     let (place, op) = parser.step_op(room)?;
-    let target = parser.full_unary(room - 1, false)?;
+    let target = full_unary(parser, room - 1, false)?;
     before(parser.alloc, place, op, target)
 }
 
@@ -113,7 +114,7 @@ fn condition(parser: &mut Parser<'_>, room: u32) -> Result<Box<Expr>, Stop>
     ensures takes { Takes parser.old parser.new result }
 {
     parser.expected(Mark::OpenParen, room)?;
-    let condition = parser.full_expr(room, false)?;
+    let condition = full_expr(parser, room, false)?;
     marked(parser, condition, Mark::CloseParen, room)
 }
 

@@ -9,7 +9,7 @@ ghost use Rattle.c_grammar.specs.Language.{refusal_of_word, refusal_of, or_too_d
 use crate::files::whole_file;
 use c_lex::{CompileFault, Kind, Mark, Refusal, Token, TokenKind, Word};
 use c_tree::syntax::Program;
-use parse_expressions::parser::{Parser, Stop};
+use parse_tokens::parser::{Parser, Stop};
 use std::alloc::Global;
 
 /// How a reserved word is refused that may not stand where it does: as part of a feature that is left out, or as any other token.

@@ -2,10 +2,10 @@
 use Rattle.std.proofs.Common.{◌≡◌, ℕ, List, Option, Result, Ok, Err, refl, sym, ap, subst, ◌∙◌}
 use Rattle.c_lex.specs.declared.token.Token.{Token}
 use Rattle.c_grammar.specs.inner.Readers.{Reading, got, Reads, ◌>>=◌, Sort, choice, made}
-use Rattle.parse_expressions.specs.declared.parser.Parser.{Parser}
-use Rattle.parse_expressions.specs.declared.parser.Stop.{Stop}
-use Rattle.parse_expressions.specs.declared.parser.Stop.TheVariants as stops
-use Rattle.parse_expressions.specs.inner.Moves.{Fails, Moves, Makes, peek}
+use Rattle.parse_tokens.specs.declared.parser.Parser.{Parser}
+use Rattle.parse_tokens.specs.declared.parser.Stop.{Stop}
+use Rattle.parse_tokens.specs.declared.parser.Stop.TheVariants as stops
+use Rattle.parse_tokens.specs.inner.Moves.{Fails, Moves, Makes, peek}
 use Rattle.parse_expressions.proofs.CodeLoops.{chooses}
 
 -- a tree is made of what was read

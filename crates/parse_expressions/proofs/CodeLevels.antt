@@ -3,18 +3,18 @@ use Rattle.std.proofs.Common.{◌≡◌, ℕ, zero, suc, ◌-◌, ◌<◌, List,
 use Rattle.c_lex.specs.declared.token.Token.{Token}
 use Rattle.c_lex.specs.declared.refusal.Kind.TheVariants.{TooDeep}
 use Rattle.c_tree.specs.Syntax.{Expr, TypeName, Member}
-use Rattle.parse_expressions.specs.declared.parser.Stop.{Stop}
-use Rattle.parse_expressions.specs.declared.parser.Stop.TheVariants as stops
+use Rattle.parse_tokens.specs.declared.parser.Stop.{Stop}
+use Rattle.parse_tokens.specs.declared.parser.Stop.TheVariants as stops
 use Rattle.c_grammar.specs.inner.Readers.{sunk, past, Fault, stop, Reads, Sort, sort, refused, too_deep}
 use Rattle.c_grammar.specs.inner.Tokens.{begins_type, begins_expr}
 use Rattle.c_grammar.specs.inner.Reading.{Level, Sized, level_by, no_level, level_at, expr, casted, unary, sized, type_named, membered}
-use Rattle.parse_expressions.specs.inner.Moves.{Fails}
+use Rattle.parse_tokens.specs.inner.Moves.{Fails}
 
 level_suc : (b : Bool) (n : ℕ) → level_at b (suc n) ≡ level_by b n (level_at b n)
 unfolding level_at
 level_suc b n = refl
 
-before : (n : ℕ) → suc n - 1 ≡ n
+pub before : (n : ℕ) → suc n - 1 ≡ n
 before n = omega arith
 
 pub level_is : (b : Bool) (room : ℕ) → 0 < room → level_at b room ≡ level_by b (room - 1) (level_at b (room - 1))
@@ -55,7 +55,8 @@ refused_any : (A B : Type 0) (t : Token) (ts : List Token) (b : Bool) (e : Stop)
 refused_any A B t ts true e h = err_any A B e (stop (past TooDeep) (length (t ∷ ts))) h
 refused_any A B t ts false e h = err_any A B e (stop sunk (length (t ∷ ts))) h
 
-deep_any : (A B : Type 0) (start : Sort → Bool) (c : ℕ) (ts : List Token) (e : Stop) → Fails {A = A} e (too_deep start c ts) → Fails {A = B} e (too_deep start c ts)
+-- where whatever would begin lies too deep, the fault is the same, whatever would be read
+pub deep_any : (A B : Type 0) (start : Sort → Bool) (c : ℕ) (ts : List Token) (e : Stop) → Fails {A = A} e (too_deep start c ts) → Fails {A = B} e (too_deep start c ts)
 deep_any A B start c [] e h = err_any A B e (stop sunk 0) h
 deep_any A B start c (t ∷ ts) e h = refused_any A B t ts (start (sort t)) e h
 

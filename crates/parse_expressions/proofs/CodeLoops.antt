@@ -2,9 +2,9 @@
 use Rattle.std.proofs.Common.{◌≡◌, ℕ, zero, suc, ◌<◌, ◌≤◌, List, [], ◌∷◌, length, Option, Some, None, Ok, Err, Bool, true, false, refl, sym, ap, ◌∙◌, arith}
 use Rattle.c_lex.specs.declared.token.Token.{Token}
 use Rattle.c_grammar.specs.inner.Readers.{unexpected, sunk, past, Fault, stop, Reading, got, Reads, ◌>>=◌, Sort, sort, ◌▸◌, ◌&◌, made, choice_turn, choice, Turn, again, turn_next, turns, link_by, link_turn, links, chain}
-use Rattle.parse_expressions.specs.declared.parser.Stop.{Stop}
-use Rattle.parse_expressions.specs.declared.parser.Stop.TheVariants as stops
-use Rattle.parse_expressions.specs.inner.Moves.{Fails, peek_turn, peek, ahead}
+use Rattle.parse_tokens.specs.declared.parser.Stop.{Stop}
+use Rattle.parse_tokens.specs.declared.parser.Stop.TheVariants as stops
+use Rattle.parse_tokens.specs.inner.Moves.{Fails, peek_turn, peek, ahead}
 
 -- ---- choices
 

@@ -4,13 +4,13 @@ use Rattle.c_lex.specs.declared.token.Token.{Token}
 use Rattle.c_lex.specs.declared.token.Mark.TheVariants.{OpenParen, CloseParen, Semicolon, Comma}
 use Rattle.c_tree.specs.declared.syntax.Pointer.{Pointer}
 use Rattle.c_tree.specs.Syntax.{Expr, group, binary, TypeName, type_name, Spec, Member, members_of, Declarator, specs_of, declarators_of}
-use Rattle.parse_expressions.specs.declared.parser.Parser.{Parser}
-use Rattle.parse_expressions.specs.declared.parser.Stop.{Stop}
-use Rattle.parse_expressions.specs.declared.parser.Stop.TheVariants as stops
+use Rattle.parse_tokens.specs.declared.parser.Parser.{Parser}
+use Rattle.parse_tokens.specs.declared.parser.Stop.{Stop}
+use Rattle.parse_tokens.specs.declared.parser.Stop.TheVariants as stops
 use Rattle.c_grammar.specs.inner.Readers.{Reading, got, Reads, ◌&◌, made, nothing, pushed, chain, links}
 use Rattle.c_grammar.specs.inner.Tokens.{tok, counted_tok, mark_is, is_mark, binary_of, is_binary, begins_type, begins_expr}
 use Rattle.c_grammar.specs.inner.Reading.{Sized, a_type, an_expr, sized, unary, Level, level_at, commas, either_by, either, spec, post, posted, begins_post, group_rest, ladder, specs, bare_pointers, type_named, pointers, bare_declared, declarator_behind, declared, membered}
-use Rattle.parse_expressions.specs.inner.Moves.{Fails, Moves, ahead}
+use Rattle.parse_tokens.specs.inner.Moves.{Fails, Moves, ahead}
 use Rattle.parse_expressions.proofs.CodeLoops.{Going, begins_behind, behind_reads, chooses, behind_stops, second_stops}
 use Rattle.parse_expressions.proofs.CodeChoices.{chosen_stops, made_stops}
 use Rattle.parse_expressions.proofs.CodeLevels.{sized_at, type_name_at, member_at}

@@ -1,3 +1,1 @@
-pub mod Moves
-pub mod Heads
-pub mod Starts
+pub mod Operands

@@ -1,9 +1,9 @@
 //! Values in boxes and lists.
 
 ghost use Rattle.std.specs.Prelude.{[], ◌∷◌};
-ghost use Rattle.parse_expressions.specs.inner.Moves.{Makes, Puts};
+ghost use Rattle.parse_tokens.specs.inner.Moves.{Makes, Puts};
 
-use crate::parser::Stop;
+use parse_tokens::parser::Stop;
 use std::alloc::Global;
 
 /// A value in a box.

@@ -3,11 +3,11 @@
 ghost use Rattle.std.specs.Prelude.{◌≡◌, map};
 ghost use Rattle.c_tree.specs.Syntax as trees;
 ghost use Rattle.c_tree.specs.SyntaxViews.{expr_view, boxed_expr_view, type_name_view, spec_view, declarator_view, member_view};
-ghost use Rattle.parse_expressions.specs.inner.Moves.{Makes};
+ghost use Rattle.parse_tokens.specs.inner.Moves.{Makes};
 
 use crate::boxes::boxed;
-use crate::parser::Stop;
 use c_tree::syntax::{BinaryOp, Declarator, Expr, Member, Name, Pointer, PrefixOp, Spec, TypeName};
+use parse_tokens::parser::Stop;
 use std::alloc::Global;
 
 /// An expression in a box.

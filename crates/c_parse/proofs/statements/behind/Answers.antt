@@ -44,7 +44,7 @@ returns-in_ok-place-in-Step-clause-reads c =
 pub returns-in_ok-value-in-Assign-clause-reads : goal.returns-in_ok-value-in-Assign-clause-reads
 returns-in_ok-value-in-Assign-clause-reads c =
     let start = rw (c.in-Assign.is, c.is_postfix.ensures, c.deref.ensures) at c.in_ok-tail_start.ensures in
-    makes boxed_simple_view (behind c.args.room (boxed_expr_view c.args.target)) c.args.parser.now c.expr.new.self (assign c.in_ok-place-in-Assign.place c.in_ok-place-in-Assign.op (boxed_expr_view c.args.target) (boxed_expr_view c.in_ok-value-in-Assign.value)) c.assign.result (made_chosen (simple_of (boxed_expr_view c.args.target)) (tail_start (rank (boxed_expr_view c.args.target) == 0)) (tail_by c.args.room (level_at false c.args.room)) c.args.parser.now.count c.args.parser.now.rest.now Assigned _ _ _ start (rw (c.in_ok-place-in-Assign.ensures.reads, c.in_ok-value-in-Assign.ensures.reads) refl)) c.assign.ensures
+    makes boxed_simple_view (behind c.args.room (boxed_expr_view c.args.target)) c.args.parser.now c.expr.new.parser (assign c.in_ok-place-in-Assign.place c.in_ok-place-in-Assign.op (boxed_expr_view c.args.target) (boxed_expr_view c.in_ok-value-in-Assign.value)) c.assign.result (made_chosen (simple_of (boxed_expr_view c.args.target)) (tail_start (rank (boxed_expr_view c.args.target) == 0)) (tail_by c.args.room (level_at false c.args.room)) c.args.parser.now.count c.args.parser.now.rest.now Assigned _ _ _ start (rw (c.in_ok-place-in-Assign.ensures.reads, c.in_ok-value-in-Assign.ensures.reads) refl)) c.assign.ensures
 
 pub returns-in-Nothing-clause-reads : goal.returns-in-Nothing-clause-reads
 returns-in-Nothing-clause-reads c =

@@ -6,8 +6,8 @@ use Rattle.c_grammar.specs.inner.Tokens.{is_pointer}
 use Rattle.c_grammar.specs.inner.Reading.{pointer_start, pointer_by, pointers}
 use Rattle.parse_expressions.proofs.CodeLoops.{begins, goes, ends, end_stops, link_stops}
 use Rattle.parse_expressions.proofs.CodeLists.{star_pushed, other_pushed}
-use Rattle.parse_expressions.proofs.parser.Parser.pointers.Goals as goal
-use Rattle.parse_expressions.proofs.parser.Parser.pointers.Goals.{in-Star, in_default}
+use Rattle.parse_expressions.proofs.pointers.pointers.Goals as goal
+use Rattle.parse_expressions.proofs.pointers.pointers.Goals.{in-Star, in_default}
 
 pub pointers-preserved : goal.pointers-preserved
 pointers-preserved c =
@@ -42,7 +42,7 @@ returns-clause-reads c =
 pub pointers-init : goal.pointers-init
 unfolding pointers
 pointers-init c = record {
-  going = rw c.new-all.ensures.items (begins is_pointer (λ front. choice pointer_start (pointer_by c.args.room (stars 0 front))) pushed [] c.args.self.now.count c.args.self.now.rest.now);
+  going = rw c.new-all.ensures.items (begins is_pointer (λ front. choice pointer_start (pointer_by c.args.room (stars 0 front))) pushed [] c.args.parser.now.count c.args.parser.now.rest.now);
   before = rw c.new-all.ensures.items refl;
   keeps = omega arith;
 }

@@ -1,15 +1,12 @@
 -- What the code chooses by, as the readers have it.
-use Rattle.parse_expressions.specs.declared.peeking.OperandStart.{OperandStart}
-use Rattle.parse_expressions.specs.declared.peeking.OperandStart.TheVariants as operands
-use Rattle.parse_expressions.specs.declared.peeking.PostStart.{PostStart}
-use Rattle.parse_expressions.specs.declared.peeking.PostStart.TheVariants as posts
-use Rattle.parse_expressions.specs.declared.peeking.UnaryStart.{UnaryStart}
-use Rattle.parse_expressions.specs.declared.peeking.UnaryStart.TheVariants as unaries
-use Rattle.parse_expressions.specs.declared.peeking.SpecStart.{SpecStart}
-use Rattle.parse_expressions.specs.declared.peeking.SpecStart.TheVariants as specs
-use Rattle.c_tree.specs.SyntaxViews.{boxed_expr_view, type_name_view}
-use Rattle.parse_expressions.specs.declared.expressions.Sized.{Sized}
-use Rattle.parse_expressions.specs.declared.expressions.Sized.TheVariants as sizeds
+use Rattle.parse_tokens.specs.declared.peeking.OperandStart.{OperandStart}
+use Rattle.parse_tokens.specs.declared.peeking.OperandStart.TheVariants as operands
+use Rattle.parse_tokens.specs.declared.peeking.PostStart.{PostStart}
+use Rattle.parse_tokens.specs.declared.peeking.PostStart.TheVariants as posts
+use Rattle.parse_tokens.specs.declared.peeking.UnaryStart.{UnaryStart}
+use Rattle.parse_tokens.specs.declared.peeking.UnaryStart.TheVariants as unaries
+use Rattle.parse_tokens.specs.declared.peeking.SpecStart.{SpecStart}
+use Rattle.parse_tokens.specs.declared.peeking.SpecStart.TheVariants as specs
 use Rattle.c_grammar.specs.inner.Reading as reading
 
 -- which primary is next: the code's answer, as the readers have it
@@ -37,8 +34,3 @@ unary_view unaries.Sizeof = reading.Sizeof
 abbrev pub spec_view : SpecStart → reading.SpecStart
 spec_view specs.Word = reading.TypeWords
 spec_view specs.Struct = reading.StructWord
-
--- the operand of sizeof that the code read, a type or an expression, as the readers have it
-abbrev pub sized_view : Sized → reading.Sized
-sized_view (sizeds.Type t) = reading.a_type (type_name_view t)
-sized_view (sizeds.Expr e) = reading.an_expr (boxed_expr_view e)

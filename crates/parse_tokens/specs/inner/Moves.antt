@@ -2,9 +2,9 @@
 use Rattle.std.specs.Prelude.{◌≡◌, ℕ, ◌<◌, ◌≤◌, List, [], ◌∷◌, ◌++◌, length, Option, Some, None, Result, Ok, Err, Bool}
 use Rattle.c_lex.specs.declared.token.Token.{Token}
 use Rattle.c_lex.specs.declared.refusal.Kind.{Kind}
-use Rattle.parse_expressions.specs.declared.parser.Parser.{Parser}
-use Rattle.parse_expressions.specs.declared.parser.Stop.{Stop}
-use Rattle.parse_expressions.specs.declared.parser.Stop.TheVariants as stops
+use Rattle.parse_tokens.specs.declared.parser.Parser.{Parser}
+use Rattle.parse_tokens.specs.declared.parser.Stop.{Stop}
+use Rattle.parse_tokens.specs.declared.parser.Stop.TheVariants as stops
 use Rattle.c_grammar.specs.inner.Readers.{unexpected, sunk, past, stop, Reading, got, Reads, Sort, sort}
 
 -- what the code gives up with is the fault of reading, unless memory ran out

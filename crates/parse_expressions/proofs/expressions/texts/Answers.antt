@@ -1,6 +1,6 @@
 use Rattle.std.proofs.Common.{arith}
 use Rattle.parse_expressions.proofs.CodeLoops.{goes}
-use Rattle.parse_expressions.proofs.parser.Parser.texts.Goals as goal
+use Rattle.parse_expressions.proofs.expressions.texts.Goals as goal
 
 pub texts-preserved : goal.texts-preserved
 texts-preserved c =

@@ -46,10 +46,10 @@ pub enum SpecStart {
 
 // The next token, which is left.
 impl Parser<'_> {
-    ghost use Rattle.parse_expressions.specs.inner.Moves.{Moves, Fails, peek, ahead};
+    ghost use Rattle.parse_tokens.specs.inner.Moves.{Moves, Fails, peek, ahead};
     ghost use Rattle.c_grammar.specs.inner.Tokens.{is_mark, is_word, is_text, is_binary, begins_type, begins_expr, begins_simple, is_storage, is_pointer};
     ghost use Rattle.c_grammar.specs.inner.Reading.{operand_start, post_start, begins_post, unary_start, spec_start, pointer_start, is_name, is_step};
-    ghost use Rattle.parse_expressions.specs.inner.Starts.{operand_view, post_view, unary_view, spec_view};
+    ghost use Rattle.parse_tokens.specs.inner.Starts.{operand_view, post_view, unary_view, spec_view};
 
     /// The kind of the next token.
     pub fn next(&self) -> Result<TokenKind, Stop>

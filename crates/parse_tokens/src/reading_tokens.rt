@@ -14,7 +14,7 @@ use c_tree::syntax::{AssignOp, BinaryOp, Name, PrefixOp, Span, StepOp, Storage, 
 // Refusals.
 impl Parser<'_> {
     ghost use Rattle.std.specs.Prelude.{Err};
-    ghost use Rattle.parse_expressions.specs.inner.Moves.{Fails, Checks};
+    ghost use Rattle.parse_tokens.specs.inner.Moves.{Fails, Checks};
     ghost use Rattle.c_grammar.specs.inner.Readers.{missed, stop};
 
     /// The refusal of the next token.
@@ -85,8 +85,8 @@ impl Parser<'_> {
 // One token each.
 impl Parser<'_> {
     ghost use Rattle.c_lex.specs.declared.token.Token.{Token};
-    ghost use Rattle.parse_expressions.specs.inner.Moves.{Moves, Takes};
-    ghost use Rattle.parse_expressions.specs.inner.Heads.{first_as};
+    ghost use Rattle.parse_tokens.specs.inner.Moves.{Moves, Takes};
+    ghost use Rattle.parse_tokens.specs.inner.Heads.{first_as};
     ghost use Rattle.c_grammar.specs.inner.Tokens.{tok, counted_tok, derived_tok, name_of, int_of, char_of, text_of, word_is, mark_is, word_place, mark_place, prefix_of, step_of, assign_of, binary_of, type_word_of, storage_of, end_of};
 
     /// The next token, found to be in a class, if there is room for it; one that isn't in the class may not stand here.
@@ -101,6 +101,40 @@ impl Parser<'_> {
             return Err(self.missed(room));
         };
         self.within(room)?;
+        self.rest = rest;
+        Ok(value)
+    }
+
+    /// The next token, found to be in a class of operators, if there is room for it and the full expression may have one more.
+    fn counted<T: Copy>(&mut self, found: Option<T>, room: u32) -> Result<T, Stop>
+        ensures reads { (class : Token → Option T) → found ≡ first_as class self.old.rest.now → Moves (λ a. a) (counted_tok room class) self.old self.new result }
+        ensures takes { Takes self.old self.new result }
+    {
+        let Some(value) = found else {
+            return Err(self.missed(room));
+        };
+        let [_, rest @ ..] = self.rest else {
+            return Err(self.missed(room));
+        };
+        self.within_operators(room)?;
+        self.count += 1;
+        self.rest = rest;
+        Ok(value)
+    }
+
+    /// The next token, found to be in a class of stars and dimensions, if there is room for it and behind so many there may be one more.
+    fn derived<T: Copy>(&mut self, found: Option<T>, before: usize, room: u32) -> Result<T, Stop>
+        ensures reads { (class : Token → Option T) → found ≡ first_as class self.old.rest.now → Moves (λ a. a) (derived_tok room before class) self.old self.new result }
+        ensures takes { Takes self.old self.new result }
+        ensures few { IfOk result (λ _. before < 64) }
+    {
+        let Some(value) = found else {
+            return Err(self.missed(room));
+        };
+        let [_, rest @ ..] = self.rest else {
+            return Err(self.missed(room));
+        };
+        self.within_derivations(before, room)?;
         self.rest = rest;
         Ok(value)
     }
@@ -147,15 +181,8 @@ impl Parser<'_> {
         ensures takes { Takes self.old self.new result }
         ensures few { IfOk result (λ _. before < 64) }
     {
-        let Some(()) = heads::mark(self.rest, mark) else {
-            return Err(self.missed(room));
-        };
-        let [_, rest @ ..] = self.rest else {
-            return Err(self.missed(room));
-        };
-        self.within_derivations(before, room)?;
-        self.rest = rest;
-        Ok(())
+        let found = heads::mark(self.rest, mark);
+        self.derived(found, before, room)
     }
 
     /// The place of a mark that is a dimension, behind so many stars and dimensions.
@@ -164,15 +191,8 @@ impl Parser<'_> {
         ensures takes { Takes self.old self.new result }
         ensures few { IfOk result (λ _. before < 64) }
     {
-        let Some(place) = heads::mark_place(self.rest, mark) else {
-            return Err(self.missed(room));
-        };
-        let [_, rest @ ..] = self.rest else {
-            return Err(self.missed(room));
-        };
-        self.within_derivations(before, room)?;
-        self.rest = rest;
-        Ok(place)
+        let found = heads::mark_place(self.rest, mark);
+        self.derived(found, before, room)
     }
 
     /// The place of a mark that is an operator.
@@ -180,16 +200,8 @@ impl Parser<'_> {
         ensures reads { Moves (λ a. a) (counted_tok room (mark_place mark)) self.old self.new result }
         ensures takes { Takes self.old self.new result }
     {
-        let Some(place) = heads::mark_place(self.rest, mark) else {
-            return Err(self.missed(room));
-        };
-        let [_, rest @ ..] = self.rest else {
-            return Err(self.missed(room));
-        };
-        self.within_operators(room)?;
-        self.count += 1;
-        self.rest = rest;
-        Ok(place)
+        let found = heads::mark_place(self.rest, mark);
+        self.counted(found, room)
     }
 
     /// `NAME`
@@ -287,15 +299,7 @@ impl Parser<'_> {
         ensures reads { Moves (λ a. a) (counted_tok room (binary_of of)) self.old self.new result }
         ensures takes { Takes self.old self.new result }
     {
-        let Some(found) = heads::binary_op(self.rest, of) else {
-            return Err(self.missed(room));
-        };
-        let [_, rest @ ..] = self.rest else {
-            return Err(self.missed(room));
-        };
-        self.within_operators(room)?;
-        self.count += 1;
-        self.rest = rest;
-        Ok(found)
+        let found = heads::binary_op(self.rest, of);
+        self.counted(found, room)
     }
 }

@@ -2,7 +2,7 @@
 
 ghost use Rattle.std.specs.Prelude.{◌≡◌};
 ghost use Rattle.c_grammar.specs.inner.Tokens.{name_of, int_of, char_of, text_of, word_is, mark_is, word_place, mark_place, prefix_of, step_of, assign_of, binary_of, type_word_of, storage_of, end_of};
-ghost use Rattle.parse_expressions.specs.inner.Heads.{first_as};
+ghost use Rattle.parse_tokens.specs.inner.Heads.{first_as};
 
 use crate::classes;
 use ak_words::Num;

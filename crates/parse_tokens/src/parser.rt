@@ -1,7 +1,7 @@
 //! The parser's state, and why it stops.
 
 ghost use Rattle.std.specs.Prelude.{◌≡◌};
-ghost use Rattle.parse_expressions.specs.declared.parser.Stop.TheVariants.{NoMemory};
+ghost use Rattle.parse_tokens.specs.declared.parser.Stop.TheVariants.{NoMemory};
 
 use c_lex::{Kind, Token};
 use std::alloc::{AllocError, AllocFailed, Global};
