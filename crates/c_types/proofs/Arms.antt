@@ -16,13 +16,12 @@ use Rattle.c_tree.specs.TypedViews.{stmt_view}
 use Rattle.c_typing.specs.Faults.{typed, Gives}
 use Rattle.c_typing.specs.Scope.{Context}
 use Rattle.c_typing.specs.Judgement.{ruled}
-use Rattle.c_typing.specs.Statements.{judged_declaration, judged_simple, judged_stmt, returned}
+use Rattle.c_typing.specs.Statements.{jump, judged_declaration, judged_simple, judged_stmt}
 use Rattle.type_context.specs.declared.context.Context.{Context as CodeContext}
 use Rattle.type_context.specs.ContextViews.{context_view}
 use Rattle.type_context.specs.Telling.{Tells}
 use Rattle.type_context.proofs.Walks.{lone_tells}
 use Rattle.c_types.specs.Gathering.{each}
-use Rattle.c_types.specs.inner.Nodes.{block_of, if_then_of, if_else_of, while_of, for_of, jump_of}
 use Rattle.c_types.proofs.StatementViews.{block_is, declare_is, empty_is, if_then_is, if_else_is, while_is, for_is, break_is, continue_is, return_is, simple_is}
 
 -- what is told of a statement that is seen so
@@ -33,7 +32,7 @@ as_seen x y t l c n r is h = subst (λ (z : source.Stmt). Tells (each stmt_view)
 pub block_told : (x : Tree) (place : ℕ) (items : Vec Tree Global) (all : List Tree) (t : Ty) (l : Bool) (c : Context) (n : CodeContext) (r : Result (Vec CodeStmt Global) CompileFault)
     → x ≡ codes.Block place items
     → all ≡ items.items
-    → Tells (each stmt_view) r n (block_of place t l (source.stmts_of (map seen.stmt_view all)) c)
+    → Tells (each stmt_view) r n (judged_stmt t l (source.block place (source.stmts_of (map seen.stmt_view all))) c)
     → Tells (each stmt_view) r n (judged_stmt t l (seen.stmt_view x) c)
 block_told x place items all t l c n r is same h =
     as_seen x (source.block place (source.stmts_of (map seen.stmt_view all))) t l c n r (ap seen.stmt_view is ∙ block_is place items ∙ ap (λ (xs : List Tree). source.block place (source.stmts_of (map seen.stmt_view xs))) (sym same)) h
@@ -57,7 +56,7 @@ pub if_then_told : (x : Tree) (place : ℕ) (e : CodeExpr) (b : Box Tree Global)
     → x ≡ codes.If place e b o
     → o ≡ None
     → s ≡ b.value
-    → Tells (each stmt_view) r n (if_then_of place t l (seen.expr_view e) (seen.stmt_view s) c)
+    → Tells (each stmt_view) r n (judged_stmt t l (source.if_then place (seen.expr_view e) (seen.stmt_view s)) c)
     → Tells (each stmt_view) r n (judged_stmt t l (seen.stmt_view x) c)
 if_then_told x place e b o s t l c n r is none same h =
     as_seen x (source.if_then place (seen.expr_view e) (seen.stmt_view s)) t l c n r
@@ -68,7 +67,7 @@ pub if_else_told : (x : Tree) (place : ℕ) (e : CodeExpr) (b : Box Tree Global)
     → o ≡ Some d
     → s ≡ b.value
     → u ≡ d.value
-    → Tells (each stmt_view) r n (if_else_of place t l (seen.expr_view e) (seen.stmt_view s) (seen.stmt_view u) c)
+    → Tells (each stmt_view) r n (judged_stmt t l (source.if_else place (seen.expr_view e) (seen.stmt_view s) (seen.stmt_view u)) c)
     → Tells (each stmt_view) r n (judged_stmt t l (seen.stmt_view x) c)
 if_else_told x place e b o d s u t l c n r is some same other h =
     as_seen x (source.if_else place (seen.expr_view e) (seen.stmt_view s) (seen.stmt_view u)) t l c n r
@@ -79,7 +78,7 @@ if_else_told x place e b o d s u t l c n r is some same other h =
 pub while_told : (x : Tree) (place : ℕ) (e : CodeExpr) (b : Box Tree Global) (s : Tree) (t : Ty) (l : Bool) (c : Context) (n : CodeContext) (r : Result (Vec CodeStmt Global) CompileFault)
     → x ≡ codes.While place e b
     → s ≡ b.value
-    → Tells (each stmt_view) r n (while_of place t (seen.expr_view e) (seen.stmt_view s) c)
+    → Tells (each stmt_view) r n (judged_stmt t l (source.while place (seen.expr_view e) (seen.stmt_view s)) c)
     → Tells (each stmt_view) r n (judged_stmt t l (seen.stmt_view x) c)
 while_told x place e b s t l c n r is same h =
     as_seen x (source.while place (seen.expr_view e) (seen.stmt_view s)) t l c n r
@@ -88,7 +87,7 @@ while_told x place e b s t l c n r is same h =
 pub for_told : (x : Tree) (place : ℕ) (first : CodeForFirst) (e : Option CodeExpr) (step : Option CodeSimple) (b : Box Tree Global) (s : Tree) (t : Ty) (l : Bool) (c : Context) (n : CodeContext) (r : Result (Vec CodeStmt Global) CompileFault)
     → x ≡ codes.For place first e step b
     → s ≡ b.value
-    → Tells (each stmt_view) r n (for_of place t (seen.for_first_view first) (option_map seen.expr_view e) (option_map seen.simple_view step) (seen.stmt_view s) c)
+    → Tells (each stmt_view) r n (judged_stmt t l (source.for place (seen.for_first_view first) (option_map seen.expr_view e) (option_map seen.simple_view step) (seen.stmt_view s)) c)
     → Tells (each stmt_view) r n (judged_stmt t l (seen.stmt_view x) c)
 for_told x place first e step b s t l c n r is same h =
     as_seen x (source.for place (seen.for_first_view first) (option_map seen.expr_view e) (option_map seen.simple_view step) (seen.stmt_view s)) t l c n r
@@ -97,21 +96,21 @@ for_told x place first e step b s t l c n r is same h =
 
 pub break_told : (x : Tree) (place : ℕ) (t : Ty) (l : Bool) (n : CodeContext) (r : Result (Vec CodeStmt Global) CompileFault)
     → x ≡ codes.Break place
-    → Gives (each stmt_view) r (jump_of place l break_)
+    → Gives (each stmt_view) r (jump place l break_)
     → Tells (each stmt_view) r n (judged_stmt t l (seen.stmt_view x) (context_view n))
 break_told x place t l n r is h =
-    as_seen x (source.break place) t l (context_view n) n r (ap seen.stmt_view is ∙ break_is place) (lone_tells (each stmt_view) r n (jump_of place l break_) h)
+    as_seen x (source.break place) t l (context_view n) n r (ap seen.stmt_view is ∙ break_is place) (lone_tells (each stmt_view) r n (jump place l break_) h)
 
 pub continue_told : (x : Tree) (place : ℕ) (t : Ty) (l : Bool) (n : CodeContext) (r : Result (Vec CodeStmt Global) CompileFault)
     → x ≡ codes.Continue place
-    → Gives (each stmt_view) r (jump_of place l continue_)
+    → Gives (each stmt_view) r (jump place l continue_)
     → Tells (each stmt_view) r n (judged_stmt t l (seen.stmt_view x) (context_view n))
 continue_told x place t l n r is h =
-    as_seen x (source.continue place) t l (context_view n) n r (ap seen.stmt_view is ∙ continue_is place) (lone_tells (each stmt_view) r n (jump_of place l continue_) h)
+    as_seen x (source.continue place) t l (context_view n) n r (ap seen.stmt_view is ∙ continue_is place) (lone_tells (each stmt_view) r n (jump place l continue_) h)
 
 pub return_told : (x : Tree) (place : ℕ) (value : Option CodeExpr) (t : Ty) (l : Bool) (c : Context) (n : CodeContext) (r : Result (Vec CodeStmt Global) CompileFault)
     → x ≡ codes.Return place value
-    → Tells (each stmt_view) r n (ruled (returned place t (option_map seen.expr_view value)) (λ d y. typed (y ∷ [])) c)
+    → Tells (each stmt_view) r n (judged_stmt t l (source.return place (option_map seen.expr_view value)) c)
     → Tells (each stmt_view) r n (judged_stmt t l (seen.stmt_view x) c)
 return_told x place value t l c n r is h = as_seen x (source.return place (option_map seen.expr_view value)) t l c n r (ap seen.stmt_view is ∙ return_is place value) h
 

@@ -21,7 +21,7 @@ use Rattle.c_typing.specs.Types.{is_void, behind_pointers, arrays_of}
 use Rattle.c_typing.specs.Scope.{Context}
 use Rattle.c_typing.specs.Judgement.{in_turn, judged_specs, object_type}
 use Rattle.c_typing.specs.Numbering.{Param}
-use Rattle.c_typing.specs.Programs.{param_place, with_param, judged_size, judged_sizes, judged_param, judged_params, known, adjusted, void_by, is_bare_by, is_bare, none_if, judged_param_list}
+use Rattle.c_typing.specs.Programs.{param_place, with_param, judged_size, judged_sizes, judged_param, judged_params, known, adjusted, param_object, param_fine, param_behind, void_by, is_bare_by, is_none, none_if, judged_param_list}
 use Rattle.type_context.specs.declared.context.Context.{Context as CodeContext}
 use Rattle.type_context.specs.ContextViews.{context_view}
 use Rattle.type_context.specs.inner.Outcomes.{joined}
@@ -36,7 +36,6 @@ use Rattle.type_locals.specs.LocalViews.{param_view}
 use Rattle.c_types.specs.Gathering.{each}
 use Rattle.c_types.proofs.Steps.{object_fine, err_finish}
 use Rattle.c_types.specs.inner.Gathering.{IsOutcome, fine_view}
-use Rattle.c_types.specs.inner.Parts.{param_object, param_fine, param_behind}
 use Rattle.c_types.proofs.FileRows.{is_outermost, sizes_row, outermost_behind}
 use Rattle.c_types.proofs.Known.{known_left, known_gives}
 
@@ -110,7 +109,7 @@ one_alone (faulty r rs) = refl
 
 -- a list of one parameter that is one
 pub only_is : (p : source.Param) (c : Context)
-    → (is_bare p && void_by (mapped (λ t. behind_pointers t p.pointers) (judged_specs (source.specs_of p.specs) c).0)) ≡ false
+    → is_none (judged_specs (source.specs_of p.specs) c).0 p ≡ false
     → judged_param_list (p ∷ []) c ≡ ((judged_param p c).0 >>= λ x. typed (x ∷ []), (judged_param p c).1)
 only_is p c h =
     ap (λ b. none_if c p b (judged_params (p ∷ [])) c) h
@@ -118,34 +117,34 @@ only_is p c h =
 
 -- a list of one that is none
 pub none_is : (p : source.Param) (c : Context)
-    → (is_bare p && void_by (mapped (λ t. behind_pointers t p.pointers) (judged_specs (source.specs_of p.specs) c).0)) ≡ true
+    → is_none (judged_specs (source.specs_of p.specs) c).0 p ≡ true
     → judged_param_list (p ∷ []) c ≡ (typed [], (judged_specs (source.specs_of p.specs) c).1)
 none_is p c h = ap (λ b. none_if c p b (judged_params (p ∷ [])) c) h
 
 -- a parameter, behind its specifiers
 pub param_told : {A : Type 0} (view : A → Param) (p : source.Param) (c : Context) (n m : CodeContext) (s t : Result CType CompileFault) (r : Result A CompileFault)
     → Tells type_view s n (judged_specs (source.specs_of p.specs) c) → IsOutcome s (Ok t)
-    → ((j : Judged Ty) → Gives type_view t j → Tells view r m (param_behind p j (context_view n)))
+    → ((j : Judged Ty) → Gives type_view t j → Tells view r m (param_behind j p (context_view n)))
     → Tells view r m (judged_param p c)
 param_told view p c n m s t r h is behind =
     let base = (judged_specs (source.specs_of p.specs) c).0 in
-    subst (λ d. Tells view r m (param_behind p base d)) (known_left s t n (judged_specs (source.specs_of p.specs) c).1 is h.leaves) (behind base (known_gives type_view s t base is h.gives))
+    subst (λ d. Tells view r m (param_behind base p d)) (known_left s t n (judged_specs (source.specs_of p.specs) c).1 is h.leaves) (behind base (known_gives type_view s t base is h.gives))
 
 -- a parameter behind its specifiers, whose parts are typed
 pub param_ok : (p : source.Param) (J : Judged Ty) (c : Context) (m n : CodeContext) (t : Result CType CompileFault) (f : Result (Unit {0} × (Unit {0} × Unit {0})) CompileFault) (s : CType)
     (q : Result ((Unit {0} × (Unit {0} × Unit {0})) × CType) CompileFault) (x : (Unit {0} × (Unit {0} × Unit {0})) × CType) (r : Result CodeParam CompileFault)
-    → Tells type_view t m (param_object (param_place p) J p c)
-    → Gives fine_view f (param_fine (param_place p) p.name (context_view m))
+    → Tells type_view t m (param_object J p c)
+    → Gives fine_view f (param_fine (context_view m) (param_place p) p.name)
     → ((j : Judged Ty) → Gives type_view t j → type_view s ≡ or_int j)
     → context_view n ≡ with_param (context_view m) p.name (type_view s)
     → q ≡ joined f t → q ≡ Ok x
     → Gives param_view r (typed (record { place = param_place p; ty = type_view x.1 }))
-    → Tells param_view r n (param_behind p J c)
+    → Tells param_view r n (param_behind J p c)
 param_ok p J c m n t f s q x r h g w l is ok made =
-    let O = param_object (param_place p) J p in
+    let O = param_object J p in
     ok_finishes (λ (z : (Unit {0} × (Unit {0} × Unit {0})) × CType). (fine_view z.0, type_view z.1)) param_view (λ z. typed (record { place = param_place p; ty = z.1 }))
-    (both (param_fine (param_place p) p.name (O c).1) (O c).0, with_param (O c).1 p.name (or_int (O c).0)) n (joined f t) x r
-    (object_fine fine_view O (λ d j. param_fine (param_place p) p.name d) (λ d t. with_param d p.name t) c m n t f s h (λ j y. g) w l) (sym is ∙ ok) made
+    (both (param_fine (O c).1 (param_place p) p.name) (O c).0, with_param (O c).1 p.name (or_int (O c).0)) n (joined f t) x r
+    (object_fine fine_view O (λ d j. param_fine d (param_place p) p.name) (λ d t. with_param d p.name t) c m n t f s h (λ j y. g) w l) (sym is ∙ ok) made
 
 -- a parameter of a place and a type
 abbrev pub param_at : ℕ → Ty → Judged Param
@@ -154,17 +153,17 @@ param_at place t = typed (record { place = place; ty = t })
 -- one whose parts are not
 pub param_err : (p : source.Param) (J : Judged Ty) (c : Context) (m n : CodeContext) (t : Result CType CompileFault) (f : Result (Unit {0} × (Unit {0} × Unit {0})) CompileFault) (s : CType)
     (q : Result ((Unit {0} × (Unit {0} × Unit {0})) × CType) CompileFault) (e : CompileFault) (r : Result CodeParam CompileFault)
-    → Tells type_view t m (param_object (param_place p) J p c)
-    → Gives fine_view f (param_fine (param_place p) p.name (context_view m))
+    → Tells type_view t m (param_object J p c)
+    → Gives fine_view f (param_fine (context_view m) (param_place p) p.name)
     → ((j : Judged Ty) → Gives type_view t j → type_view s ≡ or_int j)
     → context_view n ≡ with_param (context_view m) p.name (type_view s)
     → q ≡ joined f t → q ≡ Err e → IsErrAnd r (λ d. d ≡ e)
-    → Tells param_view r n (param_behind p J c)
+    → Tells param_view r n (param_behind J p c)
 param_err p J c m n t f s q e r h g w l is err back =
-    let O = param_object (param_place p) J p in
+    let O = param_object J p in
     err_finish (λ (z : (Unit {0} × (Unit {0} × Unit {0})) × CType). (fine_view z.0, type_view z.1)) param_view (λ z. typed (record { place = param_place p; ty = z.1 }))
-    (both (param_fine (param_place p) p.name (O c).1) (O c).0, with_param (O c).1 p.name (or_int (O c).0)) n (joined f t) q e r
-    (object_fine fine_view O (λ d j. param_fine (param_place p) p.name d) (λ d t. with_param d p.name t) c m n t f s h (λ j y. g) w l) is err back
+    (both (param_fine (O c).1 (param_place p) p.name) (O c).0, with_param (O c).1 p.name (or_int (O c).0)) n (joined f t) q e r
+    (object_fine fine_view O (λ d j. param_fine d (param_place p) p.name) (λ d t. with_param d p.name t) c m n t f s h (λ j y. g) w l) is err back
 
 -- typed forms that are equal are of equals
 pub same_typed : {A : Type 0} (x y : A) → typed x ≡ typed y → x ≡ y

@@ -5,11 +5,9 @@ pub mod Sizes
 pub mod StatementViews
 pub mod Arms
 pub mod Steps
-pub mod StatementsAround
 pub mod StatementRows
 pub mod StatementNodes
 pub mod Known
-pub mod FilesAround
 pub mod FileRows
 pub mod FileParts
 pub mod Functions

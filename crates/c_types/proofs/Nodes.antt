@@ -1,5 +1,5 @@
 -- What each kind of node tells, as the code has it.
-use Rattle.std.proofs.Common.{◌≡◌, ℕ, map, List, [], ◌∷◌, ◌++◌, Result, Ok, ap, sym, subst, ◌∙◌}
+use Rattle.std.proofs.Common.{◌≡◌, ℕ, map, List, [], ◌∷◌, ◌++◌, Result, ap, sym, subst, ◌∙◌}
 use Rattle.std.specs.Prelude.{Vec, Box}
 use Rattle.std.specs.declared.alloc.Global.{Global}
 use Rattle.ak_words.specs.declared.number.Num.{Num}
@@ -22,13 +22,13 @@ use Rattle.c_tree.specs.declared.typed.Expr.{Expr as CodeExpr}
 use Rattle.c_tree.specs.declared.typed.CType.{CType}
 use Rattle.c_tree.specs.Syntax as source
 use Rattle.c_tree.specs.SyntaxViews.{expr_view as seen, type_name_view, spec_view, member_view, declarator_view}
-use Rattle.c_tree.specs.Typed.{Ty, type_of, at, pointer, void, null, integer, num}
+use Rattle.c_tree.specs.Typed.{Ty, at, pointer, void, null, integer, num}
 use Rattle.c_tree.specs.TypedViews.{type_view, boxed_expr_view}
 use Rattle.c_typing.specs.Faults.{Judged, typed, Gives}
 use Rattle.c_typing.specs.Literals.{joined_bytes, place_of_parts}
 use Rattle.c_typing.specs.Types.{behind_pointers}
 use Rattle.c_typing.specs.Scope.{Context, meaning_of}
-use Rattle.c_typing.specs.Rules.{selected, pointed, element, cast, size_number}
+use Rattle.c_typing.specs.Rules.{element, cast}
 use Rattle.c_typing.specs.Statements.{judged_declarator, name_of}
 use Rattle.c_typing.specs.Judgement.{judged, valued, judged_type, judged_specs, judged_spec, judged_members, judged_member, judged_declarators, judged_dims, names_in, names_of_member, named, spelled, prefixed, name_in, braced, word}
 use Rattle.type_context.specs.declared.context.Context.{Context as CodeContext}
@@ -40,7 +40,8 @@ use Rattle.type_rules.specs.SpecifierViews.{numbers_view, part_view, declared_vi
 use Rattle.type_context.specs.declared.context.MemberType.{MemberType}
 use Rattle.type_context.specs.Telling.{Tells}
 use Rattle.type_context.proofs.Walks.{lone_tells}
-use Rattle.type_nodes.specs.Nodes.{Finishes, types_of_members, sized, behind_declarator}
+use Rattle.type_nodes.specs.Nodes.{Finishes, types_of_members}
+use Rattle.type_nodes.proofs.Rows.{behind_declarator}
 use Rattle.type_nodes.proofs.Expressions as tellings
 use Rattle.type_nodes.proofs.Types as types
 use Rattle.c_types.proofs.Views as views
@@ -112,40 +113,35 @@ pub prefix_told : (x : Tree) (place : ℕ) (op : PrefixOp) (b : Box Tree Global)
 prefix_told x place op b y c n r is is_y h =
     as_seen x (source.prefix place op (seen y)) c n r (ap seen is ∙ views.prefix_seen place op b ∙ ap (λ (z : Tree). source.prefix place op (seen z)) (sym is_y)) h
 
-pub sizeof_type_told : (x : Tree) (place : ℕ) (t : CodeTypeName) (c : Context) (n : CodeContext) (a : Result CType CompileFault) (r : Result (Box CodeExpr Global) CompileFault)
+pub sizeof_type_told : (x : Tree) (place : ℕ) (t : CodeTypeName) (c : Context) (n : CodeContext) (r : Result (Box CodeExpr Global) CompileFault)
     → x ≡ codes.SizeofType place t
-    → Tells type_view a n (judged_type (type_name_view t) c)
-    → Finishes boxed_expr_view a (λ s. size_number (context_view n) place (type_view s)) r
+    → Tells boxed_expr_view r n (judged (source.sizeof_type place (type_name_view t)) c)
     → Tells boxed_expr_view r n (judged (seen x) c)
-sizeof_type_told x place t c n a r is h f =
-    as_seen x (source.sizeof_type place (type_name_view t)) c n r (ap seen is ∙ views.sizeof_type_seen place t) (tellings.size_of_type_tells place (type_name_view t) c n a r h f)
+sizeof_type_told x place t c n r is h = as_seen x (source.sizeof_type place (type_name_view t)) c n r (ap seen is ∙ views.sizeof_type_seen place t) h
 
-pub sizeof_expr_told : (x : Tree) (place : ℕ) (b : Box Tree Global) (y : Tree) (c : Context) (n : CodeContext) (a : Result (Box CodeExpr Global) CompileFault) (r : Result (Box CodeExpr Global) CompileFault)
+pub sizeof_expr_told : (x : Tree) (place : ℕ) (b : Box Tree Global) (y : Tree) (c : Context) (n : CodeContext) (r : Result (Box CodeExpr Global) CompileFault)
     → x ≡ codes.SizeofExpr place b
     → y ≡ b.value
-    → Tells boxed_expr_view a n (judged (seen y) c)
-    → Finishes boxed_expr_view a (λ e. size_number (context_view n) place (type_of (boxed_expr_view e))) r
+    → Tells boxed_expr_view r n (judged (source.sizeof_expr place (seen y)) c)
     → Tells boxed_expr_view r n (judged (seen x) c)
-sizeof_expr_told x place b y c n a r is is_y h f =
-    as_seen x (source.sizeof_expr place (seen y)) c n r (ap seen is ∙ views.sizeof_expr_seen place b ∙ ap (λ (z : Tree). source.sizeof_expr place (seen z)) (sym is_y)) (tellings.size_of_expression_tells place (seen y) c n a r h f)
+sizeof_expr_told x place b y c n r is is_y h =
+    as_seen x (source.sizeof_expr place (seen y)) c n r (ap seen is ∙ views.sizeof_expr_seen place b ∙ ap (λ (z : Tree). source.sizeof_expr place (seen z)) (sym is_y)) h
 
-pub selection_told : (x : Tree) (place : ℕ) (b : Box Tree Global) (name : Name) (y : Tree) (c : Context) (n : CodeContext) (a : Result (Box CodeExpr Global) CompileFault) (r : Result (Box CodeExpr Global) CompileFault)
+pub selection_told : (x : Tree) (place : ℕ) (b : Box Tree Global) (name : Name) (y : Tree) (c : Context) (n : CodeContext) (r : Result (Box CodeExpr Global) CompileFault)
     → x ≡ codes.Member place b name
     → y ≡ b.value
-    → Tells boxed_expr_view a n (judged (seen y) c)
-    → Finishes boxed_expr_view a (λ e. selected (context_view n) place (boxed_expr_view e) name) r
+    → Tells boxed_expr_view r n (judged (source.member place (seen y) name) c)
     → Tells boxed_expr_view r n (judged (seen x) c)
-selection_told x place b name y c n a r is is_y h f =
-    as_seen x (source.member place (seen y) name) c n r (ap seen is ∙ views.selection_seen place b name ∙ ap (λ (z : Tree). source.member place (seen z) name) (sym is_y)) (tellings.member_tells place (seen y) name c n a r h f)
+selection_told x place b name y c n r is is_y h =
+    as_seen x (source.member place (seen y) name) c n r (ap seen is ∙ views.selection_seen place b name ∙ ap (λ (z : Tree). source.member place (seen z) name) (sym is_y)) h
 
-pub arrow_told : (x : Tree) (place : ℕ) (b : Box Tree Global) (name : Name) (y : Tree) (c : Context) (n : CodeContext) (a : Result (Box CodeExpr Global) CompileFault) (r : Result (Box CodeExpr Global) CompileFault)
+pub arrow_told : (x : Tree) (place : ℕ) (b : Box Tree Global) (name : Name) (y : Tree) (c : Context) (n : CodeContext) (r : Result (Box CodeExpr Global) CompileFault)
     → x ≡ codes.Arrow place b name
     → y ≡ b.value
-    → Tells boxed_expr_view a n (valued (judged (seen y)) c)
-    → Finishes boxed_expr_view a (λ e. pointed (context_view n) place (boxed_expr_view e) name) r
+    → Tells boxed_expr_view r n (judged (source.arrow place (seen y) name) c)
     → Tells boxed_expr_view r n (judged (seen x) c)
-arrow_told x place b name y c n a r is is_y h f =
-    as_seen x (source.arrow place (seen y) name) c n r (ap seen is ∙ views.arrow_seen place b name ∙ ap (λ (z : Tree). source.arrow place (seen z) name) (sym is_y)) (tellings.arrow_tells place (seen y) name c n a r h f)
+arrow_told x place b name y c n r is is_y h =
+    as_seen x (source.arrow place (seen y) name) c n r (ap seen is ∙ views.arrow_seen place b name ∙ ap (λ (z : Tree). source.arrow place (seen z) name) (sym is_y)) h
 
 pub cast_told : (x : Tree) (place : ℕ) (t : CodeTypeName) (b : Box Tree Global) (y : Tree) (c : Context) (n : CodeContext) (m : CodeContext) (a : Result CType CompileFault) (d : Result (Box CodeExpr Global) CompileFault) (r : Result (Box CodeExpr Global) CompileFault)
     → x ≡ codes.Cast place t b
@@ -246,16 +242,16 @@ member_told before d specs ds c n m a b r is_specs is_ds h k f =
 pub member_names : (d : CodeMember) (ds : List CodeDeclarator) → ds ≡ (out-Member d).declarators.items → names_in (source.declarators_of (map declarator_view ds)) ≡ names_of_member (member_view d)
 member_names d ds is = ap (λ (l : List CodeDeclarator). names_in (source.declarators_of (map declarator_view l))) is ∙ sym (ap names_of_member (views.member_seen d))
 
--- a declarator whose name isn't asked for
+-- a declarator, which declares nothing yet
 pub declarator_told : (d : CodeDeclarator) (dims : List Tree) (c : Context) (n : CodeContext) (s : Result (Vec ℕ Global) CompileFault) (r : Result Declared CompileFault)
-    → dims ≡ d.dims.items → Tells numbers_view s n (judged_dims (source.exprs_of (map seen dims)) c) → Finishes declared_view s (λ v. typed (sized (declarator_view d) (numbers_view v))) r
+    → dims ≡ d.dims.items → Tells numbers_view s n (judged_dims (source.exprs_of (map seen dims)) c)
+    → Finishes declared_view s (λ v. typed (record { name = d.name; pointers = d.pointers.items; sizes = numbers_view v })) r
     → Tells declared_view r n (judged_declarator (declarator_view d) c)
 declarator_told d dims c n s r is h f =
     let e = source.declarator d.pointers.items d.name (source.exprs_of (map seen dims)) in
     let is_e : declarator_view d ≡ e = views.declarator_seen d ∙ ap (λ (l : List Tree). source.declarator d.pointers.items d.name (source.exprs_of (map seen l))) (sym is) in
     subst (λ (x : source.Declarator). Tells declared_view r n (judged_declarator x c)) (sym is_e)
-    (types.declared_tells e (judged_dims (source.exprs_of (map seen dims))) c n s r h
-    (subst (λ (x : source.Declarator). Finishes declared_view s (λ v. typed (sized x (numbers_view v))) r) is_e f))
+    (types.declared_tells d.name d.pointers.items (judged_dims (source.exprs_of (map seen dims))) c n s r h f)
 
 -- the names behind a declarator
 pub declarator_behind : (before : List Name) (d : CodeDeclarator) → before ++ d.name ∷ [] ≡ behind_declarator before (declarator_view d)

@@ -1,5 +1,5 @@
 -- What single nodes tell: scopes that are entered, lists of statements, and locals.
-use Rattle.std.proofs.Common.{◌≡◌, ℕ, false, List, [], ◌∷◌, length, Option, Result, Ok, Err, Box, Global, refl, ap, sym, subst, ◌∙◌}
+use Rattle.std.proofs.Common.{◌≡◌, ℕ, false, List, [], length, Option, Result, Ok, Err, Box, Global, ap, sym, subst, ◌∙◌}
 use Rattle.std.specs.Borrow.{Bor}
 use Rattle.std.specs.Option.{option_map}
 use Rattle.c_lex.specs.declared.refusal.CompileFault.{CompileFault}
@@ -10,14 +10,13 @@ use Rattle.c_tree.specs.declared.syntax.Declarator.{Declarator as CodeDeclarator
 use Rattle.c_tree.specs.declared.syntax.Expr.TheFolds.{fold_out-Declarator}
 use Rattle.c_tree.specs.SyntaxViews.{declarator_view, expr_layer, spec_layer, declarator_layer, member_layer, type_name_layer}
 use Rattle.c_tree.specs.Typed.{Ty, at_stmt, declare}
-use Rattle.c_tree.specs.TypedViews as views
 use Rattle.c_tree.specs.TypedViews.{type_view, boxed_expr_view, stmt_view}
 use Rattle.c_tree.specs.declared.typed.CType.{CType}
 use Rattle.c_tree.specs.declared.typed.Expr.{Expr as CodeExpr}
 use Rattle.c_tree.specs.declared.typed.Stmt.{Stmt as CodeStmt}
 use Rattle.c_typing.specs.Faults.{Judged, typed, Gives}
 use Rattle.c_typing.specs.Scope.{Context, inside}
-use Rattle.c_typing.specs.Statements.{or_int, name_of, with_local, judged_init, judged_local}
+use Rattle.c_typing.specs.Statements.{or_int, object_of, name_of, local_fine, with_local, judged_init, judged_local}
 use Rattle.type_context.specs.declared.context.Context.{Context as CodeContext}
 use Rattle.type_context.specs.declared.names.Binding.{Binding as CodeMeaning}
 use Rattle.type_context.specs.ContextViews.{context_view, frame_view}
@@ -25,8 +24,6 @@ use Rattle.type_context.specs.inner.Outcomes.{joined}
 use Rattle.type_context.specs.Telling.{Leaves, Tells, lacks_memory}
 use Rattle.std.specs.Result.{IsErrAnd}
 use Rattle.type_context.proofs.Walks.{joined_keeps, ok_finishes}
-use Rattle.c_types.specs.Objects.{object_of}
-use Rattle.c_types.specs.inner.Nodes.{fine_local}
 use Rattle.c_types.specs.inner.Gathering.{fine_view}
 use Rattle.c_types.proofs.Steps.{declared_parts, object_parts, err_finish}
 
@@ -48,7 +45,7 @@ local_known : (J : Judged Ty) (x : source.InitDeclarator) (c : Context) (m n o :
     (t : Result CType CompileFault) (f : Result (Unit {0} × Unit {0}) CompileFault) (s : CType) (i : Result (Option (Box CodeExpr Global)) CompileFault)
     (q : Result (((Unit {0} × Unit {0}) × CType) × Option (Box CodeExpr Global)) CompileFault) (p : ((Unit {0} × Unit {0}) × CType) × Option (Box CodeExpr Global)) (r : Result CodeStmt CompileFault)
     → Tells type_view t m (object_of J x.declarator c)
-    → Gives fine_view f (fine_local (name_of x.declarator) (context_view m))
+    → Gives fine_view f (local_fine (context_view m) (name_of x.declarator))
     → ((j : Judged Ty) → Gives type_view t j → type_view s ≡ or_int j)
     → context_view n ≡ with_local (context_view m) (name_of x.declarator) (type_view s)
     → ((j : Judged Ty) → Gives type_view t j → Tells (option_map boxed_expr_view) i o (judged_init (name_of x.declarator).from j x.value (context_view n)))
@@ -58,19 +55,19 @@ local_known : (J : Judged Ty) (x : source.InitDeclarator) (c : Context) (m n o :
 local_known J x c m n o t f s i q p r h g w l k is ok made =
     let name = name_of x.declarator in
     let O = object_of J x.declarator in
-    let parts = object_parts fine_view (option_map boxed_expr_view) O (λ d j. fine_local name d) (λ d t. with_local d name t) (λ j. judged_init name.from j x.value) c m n o t f s i h (λ j y. g) w l k in
+    let parts = object_parts fine_view (option_map boxed_expr_view) O (λ d j. local_fine d name) (λ d t. with_local d name t) (λ j. judged_init name.from j x.value) c m n o t f s i h (λ j y. g) w l k in
     let all_fine : lacks_memory (joined (joined f t) i) ≡ false = ap lacks_memory (sym is ∙ ok) in
     let there : context_view m ≡ (O c).1 = left_known t m (O c).1 h.leaves (joined_keeps f t (joined_keeps (joined f t) i all_fine).0).1 in
     ok_finishes (λ (p : ((Unit {0} × Unit {0}) × CType) × Option (Box CodeExpr Global)). ((fine_view p.0.0, type_view p.0.1), option_map boxed_expr_view p.1)) stmt_view
     (λ y. typed (at_stmt name.from (declare (length (O c).1.locals) y.1)))
-    (declared_parts O (λ d j. fine_local name d) (λ d t. with_local d name t) (λ j. judged_init name.from j x.value) c) o (joined (joined f t) i) p r
+    (declared_parts O (λ d j. local_fine d name) (λ d t. with_local d name t) (λ j. judged_init name.from j x.value) c) o (joined (joined f t) i) p r
     parts (sym is ∙ ok) (subst (λ (d : Context). Gives stmt_view r (typed (at_stmt name.from (declare (length d.locals) (option_map boxed_expr_view p.1))))) there made)
 
 local_unknown : (J : Judged Ty) (x : source.InitDeclarator) (c : Context) (m n o : CodeContext)
     (t : Result CType CompileFault) (f : Result (Unit {0} × Unit {0}) CompileFault) (s : CType) (i : Result (Option (Box CodeExpr Global)) CompileFault)
     (q : Result (((Unit {0} × Unit {0}) × CType) × Option (Box CodeExpr Global)) CompileFault) (e : CompileFault) (r : Result CodeStmt CompileFault)
     → Tells type_view t m (object_of J x.declarator c)
-    → Gives fine_view f (fine_local (name_of x.declarator) (context_view m))
+    → Gives fine_view f (local_fine (context_view m) (name_of x.declarator))
     → ((j : Judged Ty) → Gives type_view t j → type_view s ≡ or_int j)
     → context_view n ≡ with_local (context_view m) (name_of x.declarator) (type_view s)
     → ((j : Judged Ty) → Gives type_view t j → Tells (option_map boxed_expr_view) i o (judged_init (name_of x.declarator).from j x.value (context_view n)))
@@ -79,10 +76,10 @@ local_unknown : (J : Judged Ty) (x : source.InitDeclarator) (c : Context) (m n o
 local_unknown J x c m n o t f s i q e r h g w l k is err p =
     let name = name_of x.declarator in
     let O = object_of J x.declarator in
-    let parts = object_parts fine_view (option_map boxed_expr_view) O (λ d j. fine_local name d) (λ d t. with_local d name t) (λ j. judged_init name.from j x.value) c m n o t f s i h (λ j y. g) w l k in
+    let parts = object_parts fine_view (option_map boxed_expr_view) O (λ d j. local_fine d name) (λ d t. with_local d name t) (λ j. judged_init name.from j x.value) c m n o t f s i h (λ j y. g) w l k in
     err_finish (λ (p : ((Unit {0} × Unit {0}) × CType) × Option (Box CodeExpr Global)). ((fine_view p.0.0, type_view p.0.1), option_map boxed_expr_view p.1)) stmt_view
     (λ y. typed (at_stmt name.from (declare (length (O c).1.locals) y.1)))
-    (declared_parts O (λ d j. fine_local name d) (λ d t. with_local d name t) (λ j. judged_init name.from j x.value) c) o (joined (joined f t) i) q e r
+    (declared_parts O (λ d j. local_fine d name) (λ d t. with_local d name t) (λ j. judged_init name.from j x.value) c) o (joined (joined f t) i) q e r
     parts is err p
 
 -- a local that is declared, whose parts are typed
@@ -91,7 +88,7 @@ pub local_ok : (J : Judged Ty) (x : source.InitDeclarator) (name : Name) (c : Co
     (q : Result (((Unit {0} × Unit {0}) × CType) × Option (Box CodeExpr Global)) CompileFault) (p : ((Unit {0} × Unit {0}) × CType) × Option (Box CodeExpr Global)) (r : Result CodeStmt CompileFault)
     → name_of x.declarator ≡ name
     → Tells type_view t m (object_of J x.declarator c)
-    → Gives fine_view f (fine_local name (context_view m))
+    → Gives fine_view f (local_fine (context_view m) name)
     → ((j : Judged Ty) → Gives type_view t j → type_view s ≡ or_int j)
     → context_view n ≡ with_local (context_view m) name (type_view s)
     → ((j : Judged Ty) → Gives type_view t j → Tells (option_map boxed_expr_view) i o (judged_init name.from j x.value (context_view n)))
@@ -101,7 +98,7 @@ pub local_ok : (J : Judged Ty) (x : source.InitDeclarator) (name : Name) (c : Co
 local_ok J x name c m n o t f s i q p r named h g w l k is ok made =
     let back = sym named in
     local_known J x c m n o t f s i q p r h
-    (subst (λ (y : Name). Gives fine_view f (fine_local y (context_view m))) back g) w
+    (subst (λ (y : Name). Gives fine_view f (local_fine (context_view m) y)) back g) w
     (subst (λ (y : Name). context_view n ≡ with_local (context_view m) y (type_view s)) back l)
     (subst (λ (y : Name). (j : Judged Ty) → Gives type_view t j → Tells (option_map boxed_expr_view) i o (judged_init y.from j x.value (context_view n))) back k) is ok
     (subst (λ (y : Name). Gives stmt_view r (typed (at_stmt y.from (declare (length (context_view m).locals) (option_map boxed_expr_view p.1))))) back made)
@@ -112,7 +109,7 @@ pub local_err : (J : Judged Ty) (x : source.InitDeclarator) (name : Name) (c : C
     (q : Result (((Unit {0} × Unit {0}) × CType) × Option (Box CodeExpr Global)) CompileFault) (e : CompileFault) (r : Result CodeStmt CompileFault)
     → name_of x.declarator ≡ name
     → Tells type_view t m (object_of J x.declarator c)
-    → Gives fine_view f (fine_local name (context_view m))
+    → Gives fine_view f (local_fine (context_view m) name)
     → ((j : Judged Ty) → Gives type_view t j → type_view s ≡ or_int j)
     → context_view n ≡ with_local (context_view m) name (type_view s)
     → ((j : Judged Ty) → Gives type_view t j → Tells (option_map boxed_expr_view) i o (judged_init name.from j x.value (context_view n)))
@@ -121,6 +118,6 @@ pub local_err : (J : Judged Ty) (x : source.InitDeclarator) (name : Name) (c : C
 local_err J x name c m n o t f s i q e r named h g w l k is err p =
     let back = sym named in
     local_unknown J x c m n o t f s i q e r h
-    (subst (λ (y : Name). Gives fine_view f (fine_local y (context_view m))) back g) w
+    (subst (λ (y : Name). Gives fine_view f (local_fine (context_view m) y)) back g) w
     (subst (λ (y : Name). context_view n ≡ with_local (context_view m) y (type_view s)) back l)
     (subst (λ (y : Name). (j : Judged Ty) → Gives type_view t j → Tells (option_map boxed_expr_view) i o (judged_init y.from j x.value (context_view n))) back k) is err p

@@ -21,15 +21,16 @@ use Rattle.c_typing.specs.Formats.{pieces_of}
 use Rattle.c_typing.specs.Literals.{joined_bytes}
 use Rattle.c_typing.specs.Rules.{address}
 use Rattle.c_typing.specs.Scope.{Context, Binding, meaning_of}
-use Rattle.c_typing.specs.Judgement.{judged, valued, judged_all, judged_print, judged_start, judged_started, called_by, name_in, text_in, node_place, meaning_in, format_or, none_past, place_past, printed, started, starting_or, names_in, prefixed, with_addressed, format_by}
+use Rattle.c_typing.specs.Judgement.{judged, valued, judged_all, judged_print, judged_start, judged_started, called_as, called_by, name_in, text_in, node_place, meaning_in, format_or, none_past, place_past, printed, started, starting_or, names_in, prefixed, with_addressed, format_by}
 use Rattle.type_context.specs.declared.context.Context.{Context as CodeContext}
 use Rattle.type_context.specs.ContextViews.{context_view}
 use Rattle.type_context.specs.inner.Outcomes.{joined}
 use Rattle.type_rules.specs.ListViews.{exprs_view, pieces_view}
 use Rattle.type_context.specs.Telling.{Tells}
 use Rattle.type_context.specs.Rows.{state_behind}
-use Rattle.type_nodes.specs.Nodes.{Finishes, started_view, is_printf, is_thrd_create, called_of, behind_declarator}
-use Rattle.type_nodes.proofs.Telling.{headed, names_behind, addressed_tells}
+use Rattle.type_nodes.specs.Nodes.{Finishes, started_view, is_printf, is_thrd_create}
+use Rattle.type_nodes.proofs.Rows.{behind_declarator, names_behind}
+use Rattle.type_nodes.proofs.Telling.{headed, addressed_tells}
 use Rattle.type_nodes.proofs.Expressions.{print_tells, start_tells, started_tells, printing, beginning, calling, format_found, format_other}
 
 -- ---- prefix operators, and formats
@@ -68,7 +69,7 @@ call_starts callee args c n m r is starts h =
     (beginning m callee args c n r starts h)
 
 pub call_calls : (callee : Name) (args : source.Exprs) (c : Context) (n : CodeContext) (m : Option Binding) (r : Result (Box CodeExpr Global) CompileFault)
-    → m ≡ meaning_of c callee → is_printf m ≡ false → is_thrd_create m ≡ false → Tells boxed_expr_view r n (called_of callee.from m (judged_all args c).0, (judged_all args c).1)
+    → m ≡ meaning_of c callee → is_printf m ≡ false → is_thrd_create m ≡ false → Tells boxed_expr_view r n (called_as m callee.from (judged_all args) c)
     → Tells boxed_expr_view r n (judged (source.call callee args) c)
 call_calls callee args c n m r is other neither h =
     subst (λ (q : Option Binding). Tells boxed_expr_view r n (called_by q callee.from (judged_all args) (judged_print callee.from args) (judged_start callee.from args) c)) is

@@ -1,4 +1,3 @@
-pub mod Nodes
 pub mod Gathering
 pub mod Parts
 pub mod Functions

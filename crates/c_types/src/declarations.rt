@@ -1,18 +1,16 @@
 //! Declarations of locals, judged where they stand (C11 6.7).
-ghost use Rattle.std.specs.Prelude.{length, map, IfOk, IfErr, ◌≡◌};
+ghost use Rattle.std.specs.Prelude.{length, map, Some, IfOk, IfErr, ◌≡◌};
 ghost use Rattle.std.specs.Option.{option_map};
 ghost use Rattle.c_lex.specs.declared.refusal.CompileFault.TheVariants.{NoMemory};
 ghost use Rattle.c_tree.specs.SyntaxViews as source;
 ghost use Rattle.c_tree.specs.Typed.{Ty};
 ghost use Rattle.c_tree.specs.TypedViews.{type_view, boxed_expr_view, stmt_view};
 ghost use Rattle.c_typing.specs.Faults.{Judged, Gives};
-ghost use Rattle.c_typing.specs.Statements.{judged_init, judged_local, judged_locals, judged_declaration};
+ghost use Rattle.c_typing.specs.Statements.{initialised, judged_init, object_of, local_fine, judged_local, judged_locals, judged_declaration};
 ghost use Rattle.type_context.specs.ContextViews.{context_view};
 ghost use Rattle.type_context.specs.Telling.{Tells, Says};
 ghost use Rattle.c_types.specs.Gathering.{each};
-ghost use Rattle.c_types.specs.Objects.{object_of};
-ghost use Rattle.c_types.specs.inner.Nodes.{initial_of, initialiser, fine_local};
-ghost use Rattle.c_types.specs.inner.Gathering.{fine_view};
+ghost use Rattle.c_types.specs.inner.Gathering.{fine_view, some_part};
 
 use crate::declarators::{declarator, specifiers};
 use crate::expressions::value;
@@ -53,7 +51,7 @@ fn initialiser(
     t: &Result<CType, CompileFault>,
     e: &tree::Expr,
 ) -> Result<Option<Box<Expr>>, CompileFault>
-    ensures { (j : Judged Ty) → Gives type_view t.now j → Tells (option_map boxed_expr_view) result context.new (initialiser place j (source.expr_view e.now) (context_view context.old)) }
+    ensures { (j : Judged Ty) → Gives type_view t.now j → Tells (option_map boxed_expr_view) result context.new (judged_init place j (Some (source.expr_view e.now)) (context_view context.old)) }
 {
     let t = again(context.alloc, t);
     let value = value(context, e);
@@ -69,7 +67,7 @@ fn initial(
     t: &CType,
     value: Box<Expr>,
 ) -> Result<Option<Box<Expr>>, CompileFault>
-    ensures { Gives (option_map boxed_expr_view) result (initial_of place (type_view t.now) (boxed_expr_view value)) }
+    ensures { Gives (option_map boxed_expr_view) result (some_part (initialised place (type_view t.now) (boxed_expr_view value))) }
 {
     let value = initialised(alloc, place, t, value)?;
     Ok(Some(value))
@@ -92,7 +90,7 @@ fn init(
 
 // What is judged at a local's name, whatever its type is.
 fn fine_local(context: &Context<'_>, name: Name) -> Result<((), ()), Refusal>
-    ensures { Says fine_view result (fine_local name (context_view context.now)) }
+    ensures { Says fine_view result (local_fine (context_view context.now) name) }
 {
     let few = within(name.from, 5, MOST_LOCALS, context.locals.len());
     both_or_refusal(context.fresh(name), few)

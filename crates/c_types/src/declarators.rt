@@ -6,7 +6,7 @@ ghost use Rattle.c_tree.specs.Typed.{Ty};
 ghost use Rattle.c_tree.specs.TypedViews.{type_view};
 ghost use Rattle.c_typing.specs.Faults.{Judged, Gives};
 ghost use Rattle.c_typing.specs.Judgement as rules;
-ghost use Rattle.c_typing.specs.Judgement.{ruled, valued, judged, judged_type, judged_specs, judged_parts, judged_spec, judged_members, judged_member, judged_declarators, judged_dims, dimension, braced, names_in};
+ghost use Rattle.c_typing.specs.Judgement.{judged, judged_type, judged_specs, judged_parts, judged_spec, judged_members, judged_member, judged_declarators, judged_dims, braced, names_in};
 ghost use Rattle.c_typing.specs.Statements.{judged_declarator};
 ghost use Rattle.type_context.specs.ContextViews.{context_view};
 ghost use Rattle.type_rules.specs.SpecifierViews.{numbers_view, part_view, parts_view, declared_view};
@@ -158,7 +158,7 @@ pub fn dimensions(context: &mut Context<'_>, dims: &[tree::Expr]) -> Result<Vec<
 /// The size of an array: an integer constant expression.
 #[cycle(nodes)]
 pub fn array_size(context: &mut Context<'_>, e: &tree::Expr) -> Result<u32, CompileFault>
-    ensures { Tells (λ n. n) result context.new (ruled (valued (judged (source.expr_view e.now))) (dimension (source.expr_view e.now)) (context_view context.old)) }
+    ensures { Tells (λ n. n) result context.new (rules.array_size (source.expr_view e.now) (judged (source.expr_view e.now)) (context_view context.old)) }
 {
     let typed = value(context, e);
     size_of_dimension(context, e, typed)

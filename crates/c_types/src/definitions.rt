@@ -5,15 +5,15 @@ ghost use Rattle.c_lex.specs.declared.refusal.CompileFault.TheVariants.{NoMemory
 ghost use Rattle.c_tree.specs.SyntaxViews as source;
 ghost use Rattle.c_tree.specs.Typed.{Ty};
 ghost use Rattle.c_tree.specs.TypedViews.{type_view, stmt_view, func_view};
-ghost use Rattle.c_typing.specs.Faults.{Judged, Gives, mapped};
+ghost use Rattle.c_typing.specs.Faults.{Judged, Gives, typed, mapped};
 ghost use Rattle.c_typing.specs.Numbering as numbers;
-ghost use Rattle.c_typing.specs.Programs.{types_or, judged_body, judged_function};
+ghost use Rattle.c_typing.specs.Programs.{result_of, types_fine, head_fine, types_or, func_by, judged_body, body_within, judged_function};
 ghost use Rattle.type_context.specs.ContextViews.{context_view, types_view, frame_view};
 ghost use Rattle.type_declared.specs.FunctionNames.{IsDefined};
 ghost use Rattle.type_locals.specs.LocalViews.{param_view};
 ghost use Rattle.type_context.specs.Telling.{Tells};
 ghost use Rattle.c_types.specs.Gathering.{each};
-ghost use Rattle.c_types.specs.inner.Functions.{result_of, types_fine, head_fine, IsHead, func_made, whole_body, body_of};
+ghost use Rattle.c_types.specs.inner.Functions.{IsHead};
 ghost use Rattle.c_types.specs.inner.Gathering.{fine_view};
 
 use crate::outcomes::outcome;
@@ -44,7 +44,7 @@ fn result_of(
     base: Result<CType, CompileFault>,
     pointers: &[Pointer],
 ) -> Result<CType, CompileFault>
-    ensures { (j : Judged Ty) → Gives type_view base j → Gives type_view result (result_of place pointers.now j) }
+    ensures { (j : Judged Ty) → Gives type_view base j → Gives type_view result (result_of place j pointers.now) }
 {
     let named = base?;
     let behind = behind_pointers(alloc, named, pointers)?;
@@ -153,7 +153,7 @@ fn func_made(
     returned: CType,
     items: Vec<Stmt>,
 ) -> Result<Vec<Func>, CompileFault>
-    ensures { Gives (each func_view) result (func_made (context_view context.now) (map param_view params.now) (type_view returned) (each stmt_view items)) }
+    ensures { Gives (each func_view) result (func_by (typed (map param_view params.now)) (typed (type_view returned)) (context_view context.now) (typed (each stmt_view items))) }
 {
     let func = func_of(
         context.alloc,
@@ -168,8 +168,8 @@ fn func_made(
     Ok(all)
 }
 
-// A body, in the scope of the parameters.
-fn body_within(
+// A body, where its parameters are known.
+fn typed_body(
     context: &mut Context<'_>,
     params: Result<Vec<Param>, CompileFault>,
     returned: Result<CType, CompileFault>,
@@ -183,7 +183,7 @@ fn body_within(
     func_made(context, &params, returned, items)
 }
 
-// A body, and what is left behind it.
+// A body, in the scope of its parameters, and what is left behind it.
 fn whole_body<'t>(
     context: &mut Context<'t>,
     head: Head<'t>,
@@ -191,25 +191,25 @@ fn whole_body<'t>(
     name: Name,
     body: &Block,
 ) -> Result<Vec<Func>, CompileFault>
-    ensures { (j : Judged (List numbers.Param)) (k : Judged Ty) → Gives (each param_view) head.entry.params j → Gives type_view returned k → Tells (each func_view) result context.new (whole_body (frame_view head.entry.scope.entries) j k name (source.body_view body.now) (context_view context.old)) }
+    ensures { (j : Judged (List numbers.Param)) (k : Judged Ty) → Gives (each param_view) head.entry.params j → Gives type_view returned k → Tells (each func_view) result context.new (body_within (frame_view head.entry.scope.entries) j k name (Some (source.body_view body.now)) (context_view context.old)) }
 {
     let Head { params, scope } = head;
     context.enter(scope)?;
-    let func = body_within(context, params, returned, body);
+    let func = typed_body(context, params, returned, body);
     context.leave();
     add_body(context, name)?;
     func
 }
 
-// A body, or none.
-fn body_of<'t>(
+// The same, or none.
+fn body_within<'t>(
     context: &mut Context<'t>,
     head: Head<'t>,
     returned: Result<CType, CompileFault>,
     name: Name,
     body: &Option<Block>,
 ) -> Result<Vec<Func>, CompileFault>
-    ensures { (j : Judged (List numbers.Param)) (k : Judged Ty) → Gives (each param_view) head.entry.params j → Gives type_view returned k → Tells (each func_view) result context.new (body_of (frame_view head.entry.scope.entries) j k name (option_map source.body_view body.now) (context_view context.old)) }
+    ensures { (j : Judged (List numbers.Param)) (k : Judged Ty) → Gives (each param_view) head.entry.params j → Gives type_view returned k → Tells (each func_view) result context.new (body_within (frame_view head.entry.scope.entries) j k name (option_map source.body_view body.now) (context_view context.old)) }
 {
     match body {
         Some(body) => whole_body(context, head, returned, name, body),
@@ -236,7 +236,7 @@ pub(crate) fn function(
     let types = types_or(context.alloc, &head.params)?;
     let declared = or_int(context.alloc, &returned)?;
     declare_function(context, defined, name, types, declared)?;
-    let funcs = body_of(context, head, returned, name, body);
+    let funcs = body_within(context, head, returned, name, body);
     let (_, funcs) = both(fine, funcs)?;
     Ok(funcs)
 }

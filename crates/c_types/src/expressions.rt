@@ -40,30 +40,18 @@ pub fn expression(context: &mut Context<'_>, e: &tree::Expr) -> Result<Box<Expr>
         tree::Expr::Group(e) => expression(context, e),
         tree::Expr::Call { callee, args } => call(context, *callee, args),
         tree::Expr::Prefix { place, op, operand } => prefix(context, *place, *op, operand),
-        tree::Expr::SizeofType { place, of } => {
-            let of = type_name(context, of);
-            size_of_type(context, *place, of)
-        }
-        tree::Expr::SizeofExpr { place, operand } => {
-            let operand = expression(context, operand);
-            size_of_expression(context, *place, operand)
-        }
+        tree::Expr::SizeofType { place, of } => type_size(context, *place, of),
+        tree::Expr::SizeofExpr { place, operand } => expression_size(context, *place, operand),
         tree::Expr::Member {
             place,
             base,
             member,
-        } => {
-            let base = expression(context, base);
-            member_of(context, *place, base, *member)
-        }
+        } => selection(context, *place, base, *member),
         tree::Expr::Arrow {
             place,
             base,
             member,
-        } => {
-            let base = value(context, base);
-            pointed_by(context, *place, base, *member)
-        }
+        } => arrow(context, *place, base, *member),
         tree::Expr::Cast { place, to, operand } => {
             let to = type_name(context, to);
             let operand = value(context, operand);
@@ -105,6 +93,60 @@ pub fn value(context: &mut Context<'_>, e: &tree::Expr) -> Result<Box<Expr>, Com
 {
     let e = expression(context, e);
     valued(context.alloc, e)
+}
+
+// `sizeof` of a type (C11 6.5.3.4).
+#[cycle(nodes)]
+fn type_size(
+    context: &mut Context<'_>,
+    place: u32,
+    of: &tree::TypeName,
+) -> Result<Box<Expr>, CompileFault>
+    ensures { Tells boxed_expr_view result context.new (judged (trees.sizeof_type place (source.type_name_view of.now)) (context_view context.old)) }
+{
+    let of = type_name(context, of);
+    size_of_type(context, place, of)
+}
+
+// `sizeof` of an expression (C11 6.5.3.4).
+#[cycle(nodes)]
+fn expression_size(
+    context: &mut Context<'_>,
+    place: u32,
+    e: &tree::Expr,
+) -> Result<Box<Expr>, CompileFault>
+    ensures { Tells boxed_expr_view result context.new (judged (trees.sizeof_expr place (source.expr_view e.now)) (context_view context.old)) }
+{
+    let operand = expression(context, e);
+    size_of_expression(context, place, operand)
+}
+
+// `e.m` (C11 6.5.2.3).
+#[cycle(nodes)]
+fn selection(
+    context: &mut Context<'_>,
+    place: u32,
+    e: &tree::Expr,
+    member: Name,
+) -> Result<Box<Expr>, CompileFault>
+    ensures { Tells boxed_expr_view result context.new (judged (trees.member place (source.expr_view e.now) member) (context_view context.old)) }
+{
+    let base = expression(context, e);
+    member_of(context, place, base, member)
+}
+
+// `p->m` (C11 6.5.2.3).
+#[cycle(nodes)]
+fn arrow(
+    context: &mut Context<'_>,
+    place: u32,
+    e: &tree::Expr,
+    member: Name,
+) -> Result<Box<Expr>, CompileFault>
+    ensures { Tells boxed_expr_view result context.new (judged (trees.arrow place (source.expr_view e.now) member) (context_view context.old)) }
+{
+    let base = value(context, e);
+    pointed_by(context, place, base, member)
 }
 
 // A prefix operator on an expression; a local whose address is taken is in memory (C11 6.5.3).

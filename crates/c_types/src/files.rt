@@ -1,17 +1,18 @@
 //! A whole file (C11 6.9).
 ghost use Rattle.std.specs.Prelude.{◌≡◌, ℕ, List, [], map};
 ghost use Rattle.std.specs.Option.{option_map};
+ghost use Rattle.c_tree.specs.Syntax as trees;
 ghost use Rattle.c_tree.specs.SyntaxViews as source;
 ghost use Rattle.c_tree.specs.Typed.{Ty};
 ghost use Rattle.c_tree.specs.TypedViews.{type_view, global_view, func_view, typed_view};
 ghost use Rattle.c_typing.specs.Faults.{Judged, Gives};
-ghost use Rattle.c_typing.specs.Programs.{judged_rest, judged_external, judged_externals, judged_file};
+ghost use Rattle.c_typing.specs.Programs.{judged_rest, judged_external, judged_externals, whole_file, judged_file};
 ghost use Rattle.type_context.specs.ContextViews.{context_view};
 ghost use Rattle.type_context.specs.inner.Outcomes as outcomes;
 ghost use Rattle.type_declared.specs.FunctionNames.{IsDefined};
 ghost use Rattle.type_context.specs.Telling.{Tells};
 ghost use Rattle.c_types.specs.Gathering.{each};
-ghost use Rattle.c_types.specs.inner.Files.{made_view, IsMade, functions_of, globals_of, whole_file};
+ghost use Rattle.c_types.specs.inner.Files.{made_view, IsMade};
 
 use crate::declarators::specifiers;
 use crate::definitions::function;
@@ -73,7 +74,7 @@ fn function_alone(
     params: &[tree::Param],
     body: &Option<Block>,
 ) -> Result<Made, CompileFault>
-    ensures { (names : List (List ℕ)) (j : Judged Ty) → IsDefined names defined.now → Gives type_view base.now j → Tells made_view result context.new (functions_of names j pointers.now name (map source.param_view params.now) (option_map source.body_view body.now) (context_view context.old)) }
+    ensures { (names : List (List ℕ)) (j : Judged Ty) → IsDefined names defined.now → Gives type_view base.now j → Tells made_view result context.new (judged_rest names j (trees.function pointers.now name (map source.param_view params.now) (option_map source.body_view body.now)) (context_view context.old)) }
 {
     let funcs = function(context, defined, base, pointers, name, params, body)?;
     Ok(made_funcs(context.alloc, funcs))
@@ -85,7 +86,7 @@ fn globals_alone(
     base: &Result<CType, CompileFault>,
     declarators: &[InitDeclarator],
 ) -> Result<Made, CompileFault>
-    ensures { (j : Judged Ty) → Gives type_view base.now j → Tells made_view result context.new (globals_of j (map source.init_declarator_view declarators.now) (context_view context.old)) }
+    ensures { (names : List (List ℕ)) (j : Judged Ty) → Gives type_view base.now j → Tells made_view result context.new (judged_rest names j (trees.variables (map source.init_declarator_view declarators.now)) (context_view context.old)) }
 {
     let all = globals(context, base, declarators)?;
     Ok(made_globals(context.alloc, all))

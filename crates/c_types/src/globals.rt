@@ -1,17 +1,15 @@
 //! Globals, judged where they stand (C11 6.7.9, 6.9.2).
-ghost use Rattle.std.specs.Prelude.{◌≡◌, List, map, Option};
+ghost use Rattle.std.specs.Prelude.{◌≡◌, map, Some};
 ghost use Rattle.std.specs.Option.{option_map};
 ghost use Rattle.c_tree.specs.SyntaxViews as source;
 ghost use Rattle.c_tree.specs.Typed.{Ty, node_of};
 ghost use Rattle.c_tree.specs.TypedViews.{type_view, expr_view, init_view, global_view};
 ghost use Rattle.c_typing.specs.Faults.{Judged, Gives};
 ghost use Rattle.c_typing.specs.Scope as scopes;
-ghost use Rattle.c_typing.specs.Programs.{pointer_at, init_at, started_with, judged_global_init, judged_global, judged_globals};
+ghost use Rattle.c_typing.specs.Programs.{pointer_at, init_at, judged_global_init, global_fine, judged_global, judged_globals};
 ghost use Rattle.type_context.specs.ContextViews.{context_view};
 ghost use Rattle.type_context.specs.Telling.{Tells};
 ghost use Rattle.c_types.specs.Gathering.{each};
-ghost use Rattle.c_types.specs.Objects.{object_of};
-ghost use Rattle.c_types.specs.inner.Parts.{global_fine, global_start};
 ghost use Rattle.c_types.specs.inner.Gathering.{fine_view};
 
 use crate::declarations::object_of;
@@ -60,7 +58,7 @@ fn global_start(
     t: &Result<CType, CompileFault>,
     e: &tree::Expr,
 ) -> Result<Init, CompileFault>
-    ensures { (j : Judged Ty) → Gives type_view t.now j → Tells init_view result context.new (global_start place j (source.expr_view e.now) (context_view context.old)) }
+    ensures { (j : Judged Ty) → Gives type_view t.now j → Tells init_view result context.new (judged_global_init place j (Some (source.expr_view e.now)) (context_view context.old)) }
 {
     let t = again(context.alloc, t);
     let value = value(context, e);
@@ -89,7 +87,7 @@ fn global_fine(
     name: Name,
     t: &Result<CType, CompileFault>,
 ) -> Result<((), ((), ())), CompileFault>
-    ensures { (j : Judged Ty) → Gives type_view t.now j → Gives fine_view result (global_fine name (context_view context.now) j) }
+    ensures { (j : Judged Ty) → Gives type_view t.now j → Gives fine_view result (global_fine (context_view context.now) name j) }
 {
     let few = as_fault(within(name.from, 2, MOST_GLOBALS, context.globals.len()));
     let room = both(few, global_fits(context, name.from, t));

@@ -1,17 +1,18 @@
 //! Parameters, judged where they stand (C11 6.7.6.3).
-ghost use Rattle.std.specs.Prelude.{◌≡◌, ◌∷◌, [], true, false, map, IfOk};
+ghost use Rattle.std.specs.Prelude.{◌≡◌, ◌∷◌, [], Bool, true, false, map, Some, IfOk};
+ghost use Rattle.c_tree.specs.Syntax as trees;
 ghost use Rattle.c_tree.specs.SyntaxViews as source;
 ghost use Rattle.c_tree.specs.Typed.{Ty, void};
 ghost use Rattle.c_tree.specs.TypedViews.{type_view};
 ghost use Rattle.c_typing.specs.Faults.{Judged, Gives, typed, mapped};
 ghost use Rattle.c_typing.specs.Types.{is_void, behind_pointers, arrays_of};
 ghost use Rattle.c_typing.specs.Judgement.{object_type};
-ghost use Rattle.c_typing.specs.Programs.{judged_size, judged_sizes, known, adjusted, param_type, param_place, judged_param, judged_params, is_bare, void_by, judged_param_list};
+ghost use Rattle.c_typing.specs.Programs.{lacking, judged_size, judged_sizes, known, adjusted, adjusted_param, param_place, param_object, param_fine, param_behind, judged_param, judged_params, is_bare, void_by, is_none, judged_param_list};
 ghost use Rattle.type_context.specs.ContextViews.{context_view};
 ghost use Rattle.type_locals.specs.LocalViews.{param_view};
 ghost use Rattle.type_context.specs.Telling.{Tells, Says, lacks_memory};
 ghost use Rattle.c_types.specs.Gathering.{each};
-ghost use Rattle.c_types.specs.inner.Parts.{is_none_by, sizes_view, some_size, lacking, adjusted_param, param_object, param_fine, param_behind};
+ghost use Rattle.c_types.specs.inner.Parts.{sizes_view};
 ghost use Rattle.c_types.specs.inner.Gathering.{fine_view};
 
 use crate::declarations::MOST_LOCALS;
@@ -37,7 +38,7 @@ use type_rules::specifiers::behind_pointers;
 
 // A size that is there.
 fn some_size(context: &mut Context<'_>, e: &tree::Expr) -> Result<Option<u32>, CompileFault>
-    ensures { Tells (λ n. n) result context.new (some_size (source.expr_view e.now) (context_view context.old)) }
+    ensures { (outermost : Bool) (d : trees.ParamDim) → Tells (λ n. n) result context.new (judged_size outermost d (Some (source.expr_view e.now)) (context_view context.old)) }
 {
     let n = array_size(context, e)?;
     Ok(Some(n))
@@ -142,38 +143,6 @@ fn adjusted(
     Ok(CType::Pointer(Box::new(context.alloc, element)?))
 }
 
-// The type of a parameter, from its parts.
-#[tactic(auto, using(type_context::proofs::Judging::fails_part))]
-fn adjusted_param(
-    context: &Context<'_>,
-    place: u32,
-    base: CType,
-    pointers: &[Pointer],
-    sizes: &[Option<u32>],
-) -> Result<CType, CompileFault>
-    ensures { Gives type_view result (adjusted_param place pointers.now (context_view context.now) (type_view base) sizes.now) }
-{
-    let behind = behind_pointers(context.alloc, base, pointers)?;
-    let whole = adjusted(context, place, behind, sizes)?;
-    as_fault(param_type(context, place, whole))
-}
-
-// The type of a parameter, behind its specifiers.
-fn param_object(
-    context: &mut Context<'_>,
-    place: u32,
-    base: Result<CType, CompileFault>,
-    p: &tree::Param,
-) -> Result<CType, CompileFault>
-    ensures { (j : Judged Ty) → Gives type_view base j → Tells type_view result context.new (param_object place j (source.param_view p.now) (context_view context.old)) }
-{
-    let sizes = sizes(context, &p.dims);
-    let (base, sizes) = both(base, sizes)?;
-    adjusted_param(context, place, base, &p.pointers, &sizes)
-}
-
-// ---- parameters
-
 // The place of a parameter: its name, or the first token of its specifiers.
 fn param_place(p: &tree::Param) -> u32
     ensures { result ≡ param_place (source.param_view p.now) }
@@ -184,6 +153,37 @@ fn param_place(p: &tree::Param) -> u32
     }
 }
 
+// The type of a parameter, from its parts.
+#[tactic(auto, using(type_context::proofs::Judging::fails_part))]
+fn adjusted_param(
+    context: &Context<'_>,
+    place: u32,
+    base: CType,
+    pointers: &[Pointer],
+    sizes: &[Option<u32>],
+) -> Result<CType, CompileFault>
+    ensures { Gives type_view result (adjusted_param (context_view context.now) place (type_view base) pointers.now sizes.now) }
+{
+    let behind = behind_pointers(context.alloc, base, pointers)?;
+    let whole = adjusted(context, place, behind, sizes)?;
+    as_fault(param_type(context, place, whole))
+}
+
+// The type of a parameter, behind its specifiers.
+fn param_object(
+    context: &mut Context<'_>,
+    base: Result<CType, CompileFault>,
+    p: &tree::Param,
+) -> Result<CType, CompileFault>
+    ensures { (j : Judged Ty) → Gives type_view base j → Tells type_view result context.new (param_object j (source.param_view p.now) (context_view context.old)) }
+{
+    let sizes = sizes(context, &p.dims);
+    let (base, sizes) = both(base, sizes)?;
+    adjusted_param(context, param_place(p), base, &p.pointers, &sizes)
+}
+
+// ---- parameters
+
 // What is judged at a parameter, whatever its type is: there are 16 at most, and they count among
 // the function's locals.
 fn param_fine(
@@ -191,7 +191,7 @@ fn param_fine(
     place: u32,
     name: Option<Name>,
 ) -> Result<((), ((), ())), Refusal>
-    ensures { Says fine_view result (param_fine place name (context_view context.now)) }
+    ensures { Says fine_view result (param_fine (context_view context.now) place name) }
 {
     let count = context.locals.len();
     let few = both_or_refusal(
@@ -207,10 +207,10 @@ fn param_behind(
     p: &tree::Param,
     base: Result<CType, CompileFault>,
 ) -> Result<Param, CompileFault>
-    ensures { (j : Judged Ty) → Gives type_view base j → Tells param_view result context.new (param_behind (source.param_view p.now) j (context_view context.old)) }
+    ensures { (j : Judged Ty) → Gives type_view base j → Tells param_view result context.new (param_behind j (source.param_view p.now) (context_view context.old)) }
 {
     let place = param_place(p);
-    let t = param_object(context, place, base, p);
+    let t = param_object(context, base, p);
     let fine = as_fault(param_fine(context, place, p.name));
     let declared = or_int(context.alloc, &t)?;
     declare_param(context, p.name, declared)?;
@@ -276,7 +276,7 @@ fn stays_void(pointers: &[Pointer]) -> bool
 
 // Whether a parameter is none: it has no name and no brackets, and its type is void.
 fn is_none(p: &tree::Param, base: &Result<CType, CompileFault>) -> bool
-    ensures { (j : Judged Ty) → lacks_memory base.now ≡ false → Gives type_view base.now j → result ≡ is_none_by (source.param_view p.now) j }
+    ensures { (j : Judged Ty) → lacks_memory base.now ≡ false → Gives type_view base.now j → result ≡ is_none j (source.param_view p.now) }
 {
     is_bare(p) && is_void_behind(base, &p.pointers)
 }

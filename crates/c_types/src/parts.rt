@@ -1,16 +1,16 @@
 //! The parts of statements (C11 6.8.4, 6.8.5, 6.8.6).
-ghost use Rattle.std.specs.Prelude.{◌∷◌, [], Some};
+ghost use Rattle.std.specs.Prelude.{◌∷◌, [], Bool, Some};
 ghost use Rattle.std.specs.Option.{option_map};
+ghost use Rattle.c_tree.specs.Syntax as trees;
 ghost use Rattle.c_tree.specs.SyntaxViews as source;
 ghost use Rattle.c_tree.specs.TypedViews.{type_view, boxed_expr_view, stmt_view, boxed_stmt_view, stmt_node_view};
 ghost use Rattle.c_typing.specs.Faults.{Gives, typed};
 ghost use Rattle.c_typing.specs.Judgement.{ruled};
 ghost use Rattle.c_typing.specs.Statements as rules;
-ghost use Rattle.c_typing.specs.Statements.{judged_simple, returned, judged_first, judged_condition, judged_step};
+ghost use Rattle.c_typing.specs.Statements.{judged_simple, returned, returned_none, judged_first, judged_condition, judged_step, judged_stmt};
 ghost use Rattle.type_context.specs.ContextViews.{context_view};
 ghost use Rattle.type_context.specs.Telling.{Tells, Says};
 ghost use Rattle.c_types.specs.Gathering.{each};
-ghost use Rattle.c_types.specs.inner.Nodes.{returned_none, returned_value, jump_of};
 
 use crate::declarations::declaration;
 use crate::expressions::value;
@@ -54,7 +54,7 @@ fn returned_value(
     t: &CType,
     e: &tree::Expr,
 ) -> Result<Stmt, CompileFault>
-    ensures { Tells stmt_view result context.new (returned_value place (type_view t.now) (source.expr_view e.now) (context_view context.old)) }
+    ensures { Tells stmt_view result context.new (rules.returned place (type_view t.now) (Some (source.expr_view e.now)) (context_view context.old)) }
 {
     let e = value(context, e)?;
     returned_by(context.alloc, place, t, e)
@@ -94,7 +94,7 @@ pub(crate) fn jump(
     in_loop: bool,
     node: StmtNode,
 ) -> Result<Vec<Stmt>, CompileFault>
-    ensures { Gives (each stmt_view) result (jump_of place in_loop (stmt_node_view node)) }
+    ensures { Gives (each stmt_view) result (rules.jump place in_loop (stmt_node_view node)) }
 {
     let all = alone(alloc, Stmt { place, node })?;
     as_fault(unless(place, Kind::TypeMismatch, in_loop))?;
@@ -133,7 +133,7 @@ fn some_condition(
     place: u32,
     e: &tree::Expr,
 ) -> Result<Option<Box<Expr>>, CompileFault>
-    ensures { Tells (option_map boxed_expr_view) result context.new (ruled (rules.condition place (source.expr_view e.now)) (λ c x. typed (Some x)) (context_view context.old)) }
+    ensures { Tells (option_map boxed_expr_view) result context.new (judged_condition place (Some (source.expr_view e.now)) (context_view context.old)) }
 {
     let e = condition(context, place, e)?;
     Ok(Some(e))
@@ -182,7 +182,7 @@ pub(crate) fn return_of(
     place: u32,
     value: &Option<tree::Expr>,
 ) -> Result<Vec<Stmt>, CompileFault>
-    ensures { Tells (each stmt_view) result context.new (ruled (returned place (type_view t.now) (option_map source.expr_view value.now)) (λ d x. typed (x ∷ [])) (context_view context.old)) }
+    ensures { (in_loop : Bool) → Tells (each stmt_view) result context.new (judged_stmt (type_view t.now) in_loop (trees.return place (option_map source.expr_view value.now)) (context_view context.old)) }
 {
     let s = returned(context, place, t, value)?;
     alone(context.alloc, s)

@@ -1,10 +1,11 @@
 //! Assignments and expressions that are statements (C11 6.5.16, 6.5.2.4, 6.5.3.1, 6.8.3).
+ghost use Rattle.c_tree.specs.Syntax as trees;
 ghost use Rattle.c_tree.specs.SyntaxViews as source;
 ghost use Rattle.c_tree.specs.TypedViews.{stmt_view};
-ghost use Rattle.c_typing.specs.Statements.{judged_simple};
+ghost use Rattle.c_typing.specs.Judgement.{judged};
+ghost use Rattle.c_typing.specs.Statements.{stepped_by, judged_simple};
 ghost use Rattle.type_context.specs.ContextViews.{context_view};
 ghost use Rattle.type_context.specs.Telling.{Tells};
-ghost use Rattle.c_types.specs.inner.Nodes.{stepped_by, assignment, evaluation};
 
 use crate::expressions::{expression, value};
 use c_lex::CompileFault;
@@ -23,7 +24,7 @@ fn step(
     op: StepOp,
     target: &tree::Expr,
 ) -> Result<Stmt, CompileFault>
-    ensures { Tells stmt_view result context.new (stepped_by place op (source.expr_view target.now) (context_view context.old)) }
+    ensures { Tells stmt_view result context.new (stepped_by place op (judged (source.expr_view target.now)) (context_view context.old)) }
 {
     let target = expression(context, target)?;
     stepped(context, place, op, target)
@@ -37,7 +38,7 @@ fn assignment(
     target: &tree::Expr,
     value: &tree::Expr,
 ) -> Result<Stmt, CompileFault>
-    ensures { Tells stmt_view result context.new (assignment place op (source.expr_view target.now) (source.expr_view value.now) (context_view context.old)) }
+    ensures { Tells stmt_view result context.new (judged_simple (trees.assign place op (source.expr_view target.now) (source.expr_view value.now)) (context_view context.old)) }
 {
     let left = expression(context, target);
     let right = expression(context, value);
@@ -47,7 +48,7 @@ fn assignment(
 
 // An expression whose value is dropped.
 fn evaluation(context: &mut Context<'_>, e: &tree::Expr) -> Result<Stmt, CompileFault>
-    ensures { Tells stmt_view result context.new (evaluation (source.expr_view e.now) (context_view context.old)) }
+    ensures { Tells stmt_view result context.new (judged_simple (trees.eval (source.expr_view e.now)) (context_view context.old)) }
 {
     let value = value(context, e)?;
     Ok(Stmt {

@@ -1,14 +1,13 @@
 //! Statements, judged where they stand (C11 6.8).
-ghost use Rattle.std.specs.Prelude.{map};
+ghost use Rattle.std.specs.Prelude.{map, Bool, true};
 ghost use Rattle.std.specs.Option.{option_map};
 ghost use Rattle.c_tree.specs.Syntax as trees;
 ghost use Rattle.c_tree.specs.SyntaxViews as source;
 ghost use Rattle.c_tree.specs.TypedViews.{type_view, stmt_view, boxed_stmt_view};
-ghost use Rattle.c_typing.specs.Statements.{one_of, judged_stmt, judged_stmts};
+ghost use Rattle.c_typing.specs.Statements.{one_of, judged_first, judged_condition, judged_step, for_of, judged_stmt, judged_stmts};
 ghost use Rattle.type_context.specs.ContextViews.{context_view};
 ghost use Rattle.type_context.specs.Telling.{Tells};
 ghost use Rattle.c_types.specs.Gathering.{each};
-ghost use Rattle.c_types.specs.inner.Nodes.{block_of, if_then_of, if_else_of, while_of, for_inside, for_of};
 
 use crate::declarations::declaration;
 use crate::makers::{block_made, for_made, if_else_made, if_made, only, while_made};
@@ -47,7 +46,7 @@ fn block(
     place: u32,
     items: &[tree::Stmt],
 ) -> Result<Vec<Stmt>, CompileFault>
-    ensures { Tells (each stmt_view) result context.new (block_of place (type_view t.now) in_loop (trees.stmts_of (map source.stmt_view items.now)) (context_view context.old)) }
+    ensures { Tells (each stmt_view) result context.new (judged_stmt (type_view t.now) in_loop (trees.block place (trees.stmts_of (map source.stmt_view items.now))) (context_view context.old)) }
 {
     context.enter(IndexMap::new(context.alloc))?;
     let items = stmts(context, t, in_loop, items);
@@ -66,7 +65,7 @@ fn if_then(
     e: &tree::Expr,
     s: &tree::Stmt,
 ) -> Result<Vec<Stmt>, CompileFault>
-    ensures { Tells (each stmt_view) result context.new (if_then_of place (type_view t.now) in_loop (source.expr_view e.now) (source.stmt_view s.now) (context_view context.old)) }
+    ensures { Tells (each stmt_view) result context.new (judged_stmt (type_view t.now) in_loop (trees.if_then place (source.expr_view e.now) (source.stmt_view s.now)) (context_view context.old)) }
 {
     let test = condition(context, place, e);
     let then = one(context, t, in_loop, s);
@@ -85,7 +84,7 @@ fn if_else(
     s: &tree::Stmt,
     o: &tree::Stmt,
 ) -> Result<Vec<Stmt>, CompileFault>
-    ensures { Tells (each stmt_view) result context.new (if_else_of place (type_view t.now) in_loop (source.expr_view e.now) (source.stmt_view s.now) (source.stmt_view o.now) (context_view context.old)) }
+    ensures { Tells (each stmt_view) result context.new (judged_stmt (type_view t.now) in_loop (trees.if_else place (source.expr_view e.now) (source.stmt_view s.now) (source.stmt_view o.now)) (context_view context.old)) }
 {
     let test = condition(context, place, e);
     let then = one(context, t, in_loop, s);
@@ -103,7 +102,7 @@ fn while_loop(
     e: &tree::Expr,
     s: &tree::Stmt,
 ) -> Result<Vec<Stmt>, CompileFault>
-    ensures { Tells (each stmt_view) result context.new (while_of place (type_view t.now) (source.expr_view e.now) (source.stmt_view s.now) (context_view context.old)) }
+    ensures { (in_loop : Bool) → Tells (each stmt_view) result context.new (judged_stmt (type_view t.now) in_loop (trees.while place (source.expr_view e.now) (source.stmt_view s.now)) (context_view context.old)) }
 {
     let test = condition(context, place, e);
     let body = one(context, t, true, s);
@@ -122,7 +121,7 @@ fn for_inside(
     last: &Option<tree::Simple>,
     s: &tree::Stmt,
 ) -> Result<Box<Stmt>, CompileFault>
-    ensures { Tells boxed_stmt_view result context.new (for_inside place (type_view t.now) (source.for_first_view head.now) (option_map source.expr_view e.now) (option_map source.simple_view last.now) (source.stmt_view s.now) (context_view context.old)) }
+    ensures { Tells boxed_stmt_view result context.new (for_of place (judged_first place (source.for_first_view head.now)) (judged_condition place (option_map source.expr_view e.now)) (judged_step place (option_map source.simple_view last.now)) (one_of (judged_stmt (type_view t.now) true (source.stmt_view s.now))) (context_view context.old)) }
 {
     let header = first(context, place, head);
     let test = for_condition(context, place, e);
@@ -143,7 +142,7 @@ fn for_loop(
     last: &Option<tree::Simple>,
     s: &tree::Stmt,
 ) -> Result<Vec<Stmt>, CompileFault>
-    ensures { Tells (each stmt_view) result context.new (for_of place (type_view t.now) (source.for_first_view head.now) (option_map source.expr_view e.now) (option_map source.simple_view last.now) (source.stmt_view s.now) (context_view context.old)) }
+    ensures { (in_loop : Bool) → Tells (each stmt_view) result context.new (judged_stmt (type_view t.now) in_loop (trees.for place (source.for_first_view head.now) (option_map source.expr_view e.now) (option_map source.simple_view last.now) (source.stmt_view s.now)) (context_view context.old)) }
 {
     context.enter(IndexMap::new(context.alloc))?;
     let whole = for_inside(context, t, place, head, e, last, s);

@@ -5,16 +5,17 @@ use Rattle.c_tree.specs.declared.syntax.Name.{Name}
 use Rattle.c_tree.specs.Syntax as source
 use Rattle.c_tree.specs.SyntaxViews as sources
 use Rattle.c_tree.specs.TypedViews.{expr_view}
-use Rattle.c_typing.specs.Judgement.{valued, judged, judged_all, judged_spec, judged_members, judged_member, dimension, ruled, name_in, meaning_in}
+use Rattle.c_typing.specs.Judgement.{valued, judged, judged_all, judged_spec, judged_members, judged_member, array_size, begun_by, name_in, meaning_in}
 use Rattle.type_context.specs.ContextViews.{context_view, member_type_view}
 use Rattle.type_rules.specs.ListViews.{exprs_view}
 use Rattle.type_rules.specs.SpecifierViews.{part_view, parts_view, parts_seen}
 use Rattle.type_context.specs.Telling.{Tells}
 use Rattle.type_context.proofs.Judging.{fault_gives}
 use Rattle.type_context.proofs.Rows.{starts, pushed_next, state_next, ends}
-use Rattle.type_nodes.specs.Nodes.{types_of_members, behind_member, declarator_node, behind_declarator, begun_by}
-use Rattle.type_nodes.proofs.Telling.{args_are, dims_are, parts_are, members_are, declarators_are, members_next, appended_keeps, braces_tell, numbers_told, keeps_second, unboxed_tells}
-use Rattle.type_nodes.proofs.Expressions.{value_tells, prefixed_tells, binary_tells, conditional_tells, starting_known, starting_other}
+use Rattle.type_nodes.specs.Nodes.{types_of_members}
+use Rattle.type_nodes.proofs.Rows.{behind_member, declarator_node, behind_declarator, args_are, dims_are, parts_are, members_are, declarators_are, members_next, appended_keeps}
+use Rattle.type_nodes.proofs.Telling.{braces_tell, numbers_told, keeps_second, unboxed_tells}
+use Rattle.type_nodes.proofs.Expressions.{value_tells, size_of_type_tells, size_of_expression_tells, member_tells, arrow_tells, prefixed_tells, binary_tells, conditional_tells, starting_known, starting_other}
 use Rattle.type_nodes.proofs.Types as types
 use Rattle.c_types.proofs.Sizes.{most_rest}
 use Rattle.c_types.proofs.Views as views
@@ -56,22 +57,22 @@ expressions::expression-returns-in-Prefix t c =
 
 pub expressions::expression-returns-in-SizeofType : goal.expressions::expression-returns-in-SizeofType
 expressions::expression-returns-in-SizeofType t c =
-    nodes.sizeof_type_told c.args.e.now c.in-SizeofType.place c.in-SizeofType.of (context_view c.args.context.now) c.type_name-of.new.context c.type_name-of.result c.size_of_type.result c.in-SizeofType.is c.type_name-of.ensures c.size_of_type.ensures
+    nodes.sizeof_type_told c.args.e.now c.in-SizeofType.place c.in-SizeofType.of (context_view c.args.context.now) c.type_size.new.context c.type_size.result c.in-SizeofType.is c.type_size.ensures
 
 pub expressions::expression-returns-in-SizeofExpr : goal.expressions::expression-returns-in-SizeofExpr
 expressions::expression-returns-in-SizeofExpr t c =
-    nodes.sizeof_expr_told c.args.e.now c.in-SizeofExpr.place c.in-SizeofExpr.operand c.deref-in-SizeofExpr.result.now (context_view c.args.context.now) c.expression-operand.new.context c.expression-operand.result c.size_of_expression.result
-    c.in-SizeofExpr.is c.deref-in-SizeofExpr.ensures c.expression-operand.ensures c.size_of_expression.ensures
+    nodes.sizeof_expr_told c.args.e.now c.in-SizeofExpr.place c.in-SizeofExpr.operand c.deref-in-SizeofExpr.result.now (context_view c.args.context.now) c.expression_size.new.context c.expression_size.result
+    c.in-SizeofExpr.is c.deref-in-SizeofExpr.ensures c.expression_size.ensures
 
 pub expressions::expression-returns-in-Member : goal.expressions::expression-returns-in-Member
 expressions::expression-returns-in-Member t c =
-    nodes.selection_told c.args.e.now c.in-Member.place c.in-Member.base c.in-Member.member c.deref-in-Member.result.now (context_view c.args.context.now) c.expression-base.new.context c.expression-base.result c.member_of.result
-    c.in-Member.is c.deref-in-Member.ensures c.expression-base.ensures c.member_of.ensures
+    nodes.selection_told c.args.e.now c.in-Member.place c.in-Member.base c.in-Member.member c.deref-in-Member.result.now (context_view c.args.context.now) c.selection.new.context c.selection.result
+    c.in-Member.is c.deref-in-Member.ensures c.selection.ensures
 
 pub expressions::expression-returns-in-Arrow : goal.expressions::expression-returns-in-Arrow
 expressions::expression-returns-in-Arrow t c =
-    nodes.arrow_told c.args.e.now c.in-Arrow.place c.in-Arrow.base c.in-Arrow.member c.deref-in-Arrow.result.now (context_view c.args.context.now) c.value-base.new.context c.value-base.result c.pointed_by.result
-    c.in-Arrow.is c.deref-in-Arrow.ensures c.value-base.ensures c.pointed_by.ensures
+    nodes.arrow_told c.args.e.now c.in-Arrow.place c.in-Arrow.base c.in-Arrow.member c.deref-in-Arrow.result.now (context_view c.args.context.now) c.arrow.new.context c.arrow.result
+    c.in-Arrow.is c.deref-in-Arrow.ensures c.arrow.ensures
 
 pub expressions::expression-returns-in-Cast : goal.expressions::expression-returns-in-Cast
 expressions::expression-returns-in-Cast t c =
@@ -80,8 +81,8 @@ expressions::expression-returns-in-Cast t c =
 
 pub expressions::expression-returns-in-Index : goal.expressions::expression-returns-in-Index
 expressions::expression-returns-in-Index t c =
-    nodes.index_told c.args.e.now c.in-Index.place c.in-Index.base c.in-Index.index c.deref-in-Index.result.now c.deref-in-Index-2.result.now (context_view c.args.context.now) c.value-base-in-Index.new.context c.value-index.new.context c.value-base-in-Index.result c.value-index.result c.element_of.result
-    c.in-Index.is c.deref-in-Index.ensures c.deref-in-Index-2.ensures c.value-base-in-Index.ensures c.value-index.ensures c.element_of.ensures
+    nodes.index_told c.args.e.now c.in-Index.place c.in-Index.base c.in-Index.index c.deref-in-Index.result.now c.deref-in-Index-2.result.now (context_view c.args.context.now) c.value-base.new.context c.value-index.new.context c.value-base.result c.value-index.result c.element_of.result
+    c.in-Index.is c.deref-in-Index.ensures c.deref-in-Index-2.ensures c.value-base.ensures c.value-index.ensures c.element_of.ensures
 
 pub expressions::expression-returns-in-Binary : goal.expressions::expression-returns-in-Binary
 expressions::expression-returns-in-Binary t c =
@@ -101,6 +102,22 @@ expressions::expression-returns-in-Conditional t c =
 pub expressions::value-returns : goal.expressions::value-returns
 expressions::value-returns t c =
     value_tells (sources.expr_view c.args.e.now) (context_view c.args.context.now) c.expression-e.new.context c.expression-e.result c.valued.result c.expression-e.ensures c.valued.ensures
+
+pub expressions::type_size-returns : goal.expressions::type_size-returns
+expressions::type_size-returns t c =
+    size_of_type_tells c.args.place (sources.type_name_view c.args.of.now) (context_view c.args.context.now) c.type_name-of.new.context c.type_name-of.result c.size_of_type.result c.type_name-of.ensures c.size_of_type.ensures
+
+pub expressions::expression_size-returns : goal.expressions::expression_size-returns
+expressions::expression_size-returns t c =
+    size_of_expression_tells c.args.place (sources.expr_view c.args.e.now) (context_view c.args.context.now) c.expression-operand.new.context c.expression-operand.result c.size_of_expression.result c.expression-operand.ensures c.size_of_expression.ensures
+
+pub expressions::selection-returns : goal.expressions::selection-returns
+expressions::selection-returns t c =
+    member_tells c.args.place (sources.expr_view c.args.e.now) c.args.member (context_view c.args.context.now) c.expression-base.new.context c.expression-base.result c.member_of.result c.expression-base.ensures c.member_of.ensures
+
+pub expressions::arrow-returns : goal.expressions::arrow-returns
+expressions::arrow-returns t c =
+    arrow_tells c.args.place (sources.expr_view c.args.e.now) c.args.member (context_view c.args.context.now) c.value-base.new.context c.value-base.result c.pointed_by.result c.value-base.ensures c.pointed_by.ensures
 
 pub expressions::prefix-returns-in_ok-mark_addressed-in-AddressOf : goal.expressions::prefix-returns-in_ok-mark_addressed-in-AddressOf
 expressions::prefix-returns-in_ok-mark_addressed-in-AddressOf t c =
@@ -123,7 +140,7 @@ expressions::call-returns-then-is_thrd_create t c =
 pub expressions::call-returns : goal.expressions::call-returns
 expressions::call-returns t c =
     call_calls c.args.callee (source.exprs_of (map sources.expr_view c.args.args.now)) (context_view c.args.context.now) c.arguments-args.new.context _ c.called_by.result c.in_ok-meaning.ensures (sym c.is_printf.ensures ∙ c.if-is_printf.false) (sym c.is_thrd_create.ensures ∙ c.if-is_thrd_create.false)
-    (c.called_by.ensures c.arguments-args.new.context (judged_all (source.exprs_of (map sources.expr_view c.args.args.now)) (context_view c.args.context.now)) c.arguments-args.ensures)
+    (c.called_by.ensures c.arguments-args.new.context (judged_all (source.exprs_of (map sources.expr_view c.args.args.now))) (context_view c.args.context.now) c.arguments-args.ensures)
 
 pub expressions::arguments-arguments-init : goal.expressions::arguments-arguments-init
 expressions::arguments-arguments-init t c =
@@ -249,14 +266,14 @@ declarators::dimensions-dimensions-init t c =
 
 pub declarators::dimensions-dimensions-preserved : goal.declarators::dimensions-dimensions-preserved
 declarators::dimensions-dimensions-preserved t c =
-    pushed_next (λ (n : ℕ). n) (λ (u : Unit {0}) (e : source.Expr). ruled (valued (judged e)) (dimension e)) (λ u e. u) tt sources.expr_view c.args.dims.now c.dimensions.e-index c.e-item.result (context_view c.args.context.now)
+    pushed_next (λ (n : ℕ). n) (λ (u : Unit {0}) (e : source.Expr). array_size e (judged e)) (λ u e. u) tt sources.expr_view c.args.dims.now c.dimensions.e-index c.e-item.result (context_view c.args.context.now)
     c.dimensions.all c.array_size-next.result c.pushed-all.result c.dimensions.context c.array_size-next.new.context c.dimensions.invariant (omega arith) c.e-item.is (λ fine. c.array_size-next.ensures) c.pushed-all.ensures
 
 pub declarators::dimensions-returns : goal.declarators::dimensions-returns
 declarators::dimensions-returns t c =
     numbers_told c.dimensions.all c.dimensions.context _ (
     subst (λ q. Tells (λ (v : Vec ℕ Global). map (λ n. n) v.items) c.dimensions.all c.dimensions.context q) (dims_are (map sources.expr_view c.args.dims.now) (context_view c.args.context.now))
-    (ends (λ (v : Vec ℕ Global). map (λ n. n) v.items) (λ (u : Unit {0}) (e : source.Expr). ruled (valued (judged e)) (dimension e)) (λ u e. u) (λ n ns. n ∷ ns) tt sources.expr_view c.args.dims.now c.dimensions.e-index (context_view c.args.context.now) _ _ c.dimensions.invariant (omega arith)))
+    (ends (λ (v : Vec ℕ Global). map (λ n. n) v.items) (λ (u : Unit {0}) (e : source.Expr). array_size e (judged e)) (λ u e. u) (λ n ns. n ∷ ns) tt sources.expr_view c.args.dims.now c.dimensions.e-index (context_view c.args.context.now) _ _ c.dimensions.invariant (omega arith)))
 
 pub declarators::members-members-init : goal.declarators::members-members-init
 declarators::members-members-init t c =

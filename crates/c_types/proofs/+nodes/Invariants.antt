@@ -10,7 +10,8 @@ use Rattle.type_rules.specs.ListViews.{exprs_view}
 use Rattle.type_rules.specs.SpecifierViews.{parts_view}
 use Rattle.type_context.specs.Telling.{Tells, lacks_memory}
 use Rattle.type_context.specs.Rows.{state_behind}
-use Rattle.type_nodes.specs.Nodes.{types_of_members, args_row, dims_row, parts_row, members_row, behind_member, declarators_row, behind_declarator}
+use Rattle.type_nodes.specs.Nodes.{types_of_members}
+use Rattle.type_nodes.proofs.Rows.{args_row, dims_row, parts_row, members_row, behind_member, declarators_row, behind_declarator}
 use Rattle.c_types.proofs.+nodes.Given as goal
 
 abbrev pub invariant-expressions::arguments-arguments : goal.invariant-expressions::arguments-arguments

@@ -1,6 +1,6 @@
 use Rattle.c_tree.specs.TypedViews.{func_view}
 use Rattle.type_context.proofs.Rows.{starts}
-use Rattle.c_types.proofs.definitions.body_of.Goals as goal
+use Rattle.c_types.proofs.definitions.body_within.Goals as goal
 
 pub returns-in-Some : goal.returns-in-Some
 returns-in-Some c = λ j k g h. rw c.in-Some.is (c.whole_body.ensures j k g h)

@@ -1,14 +1,13 @@
-use Rattle.std.proofs.Common.{◌≡◌, map, ap, subst, ◌∙◌}
+use Rattle.std.proofs.Common.{◌≡◌, ℕ, List, map, ap, subst, ◌∙◌}
 use Rattle.c_tree.specs.SyntaxViews as source
-use Rattle.c_typing.specs.Scope.{Context, back_to}
-use Rattle.c_typing.specs.Programs.{judged_param_list}
+use Rattle.c_typing.specs.Scope.{Frame, Context, back_to}
+use Rattle.c_typing.specs.Programs.{judged_param_list, before_params}
 use Rattle.type_context.specs.ContextViews.{context_view}
 use Rattle.type_locals.specs.LocalViews.{param_view}
 use Rattle.type_context.specs.Telling.{Tells}
 use Rattle.c_types.specs.Gathering.{each}
-use Rattle.c_types.specs.inner.Functions.{before_params}
 use Rattle.c_types.proofs.Known.{known_left, known_gives}
-use Rattle.c_types.proofs.FilesAround.{param_list_around}
+use Rattle.c_typing.proofs.Unmoved.{param_list_stays}
 use Rattle.c_types.proofs.Functions.{found_params}
 use Rattle.c_types.proofs.definitions.found_head.Goals as goal
 
@@ -23,5 +22,5 @@ returns-clause-found c =
     record {
       gives = known_gives (each param_view) c.param_list.result c.in_ok-params.params (judged_param_list ps begun).0 c.in_ok-params.ensures told.gives;
       scope = c.leave-scope.ensures.inner ∙ ap (λ (d : Context). d.inner) left;
-      leaves = c.leave-scope.ensures.around (context_view k) (ap (λ (d : Context). d.outer) left ∙ param_list_around ps begun) ∙ ap (back_to (context_view k)) left;
+      leaves = c.leave-scope.ensures.around (context_view k) (ap (λ (d : Context). d.outer) left ∙ ap (λ (p : List ℕ × List Frame). p.1) (param_list_stays ps begun)) ∙ ap (back_to (context_view k)) left;
     }

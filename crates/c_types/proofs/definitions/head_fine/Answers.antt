@@ -2,10 +2,9 @@ use Rattle.std.proofs.Common.{sym, subst}
 use Rattle.std.specs.Option.{option_map}
 use Rattle.c_tree.specs.SyntaxViews as source
 use Rattle.c_typing.specs.Faults.{Gives}
-use Rattle.c_typing.specs.Programs.{name_fine}
+use Rattle.c_typing.specs.Programs.{name_fine, types_fine, head_fine}
 use Rattle.type_context.specs.ContextViews.{context_view}
 use Rattle.type_context.proofs.Judging.{gives_both, fault_gives}
-use Rattle.c_types.specs.inner.Functions.{types_fine, head_fine}
 use Rattle.c_types.specs.inner.Gathering.{fine_view}
 use Rattle.c_types.proofs.definitions.head_fine.Goals as goal
 

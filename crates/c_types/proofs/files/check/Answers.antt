@@ -2,7 +2,7 @@ use Rattle.std.proofs.Common.{subst}
 use Rattle.c_tree.specs.SyntaxViews as source
 use Rattle.c_tree.specs.TypedViews.{typed_view}
 use Rattle.c_typing.specs.Faults.{Gives}
-use Rattle.c_types.specs.inner.Files.{whole_file}
+use Rattle.c_typing.specs.Programs.{whole_file}
 use Rattle.c_types.proofs.files.check.Goals as goal
 
 pub returns : goal.returns

@@ -12,4 +12,4 @@ pub returns-in-Function : goal.returns-in-Function
 returns-in-Function c = λ names j is g. rw c.in-Function.is (rw (c.deref.ensures.value, c.deref-in-Function.ensures.value) at (c.function_alone.ensures names j is g))
 
 pub returns-in-Variables : goal.returns-in-Variables
-returns-in-Variables c = λ names j is g. rw c.in-Variables.is (rw c.deref-in-Variables.ensures.value at (c.globals_alone.ensures j g))
+returns-in-Variables c = λ names j is g. rw c.in-Variables.is (rw c.deref-in-Variables.ensures.value at (c.globals_alone.ensures names j g))

@@ -5,10 +5,9 @@ use Rattle.c_tree.specs.declared.typed.Layout.{Layout}
 use Rattle.c_tree.specs.declared.typed.Literal.{Literal}
 use Rattle.c_tree.specs.declared.typed.Typed.{Typed as CodeTyped}
 use Rattle.c_typing.specs.Faults.{typed}
-use Rattle.c_typing.specs.Programs.{defined_names}
+use Rattle.c_typing.specs.Programs.{defined_names, whole_file}
 use Rattle.type_context.specs.ContextViews.{context_view}
 use Rattle.type_declared.specs.FunctionNames.{IsDefined}
-use Rattle.c_types.specs.inner.Files.{whole_file}
 use Rattle.c_types.proofs.Externals.{memory_gives, file_ok, file_err}
 use Rattle.c_types.proofs.files.whole_file.Goals as goal
 

@@ -3,10 +3,9 @@ use Rattle.std.proofs.lemmas.Result.{err_from_is_err_and}
 use Rattle.c_tree.specs.TypedViews.{type_view}
 use Rattle.c_typing.specs.Faults.{Gives, Fails, ◌>>=◌}
 use Rattle.c_typing.specs.Types.{behind_pointers}
-use Rattle.c_typing.specs.Programs.{adjusted, param_type}
+use Rattle.c_typing.specs.Programs.{adjusted_param, adjusted, param_type}
 use Rattle.type_context.specs.ContextViews.{context_view}
 use Rattle.type_context.proofs.Judging.{fails_typed, fails_part, fault_gives}
-use Rattle.c_types.specs.inner.Parts.{adjusted_param}
 use Rattle.c_types.proofs.FileParts.{same_typed}
 use Rattle.c_types.proofs.parameters.adjusted_param.Goals as goal
 
@@ -14,7 +13,7 @@ pub returns-in_err-behind : goal.returns-in_err-behind
 returns-in_err-behind c =
     let t = behind_pointers (type_view c.args.base) c.args.pointers.now in
     let p = err_from_is_err_and c.from_residual.result c.from_residual.ensures.1 in
-    rw (p.1, p.2) (fails_typed t (adjusted_param c.args.place c.args.pointers.now (context_view c.args.context.now) (type_view c.args.base) c.args.sizes.now) c.in_err-behind.field-0.0 c.in_err-behind.ensures)
+    rw (p.1, p.2) (fails_typed t (adjusted_param (context_view c.args.context.now) c.args.place (type_view c.args.base) c.args.pointers.now c.args.sizes.now) c.in_err-behind.field-0.0 c.in_err-behind.ensures)
 
 pub returns-in_err-whole : goal.returns-in_err-whole
 returns-in_err-whole c =

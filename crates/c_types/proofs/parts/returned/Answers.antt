@@ -1,7 +1,7 @@
 use Rattle.c_tree.specs.TypedViews.{type_view, stmt_view}
 use Rattle.type_context.proofs.Judging.{fault_gives}
 use Rattle.type_context.proofs.Walks.{lone_tells}
-use Rattle.c_types.specs.inner.Nodes.{returned_none}
+use Rattle.c_typing.specs.Statements.{returned_none}
 use Rattle.c_types.proofs.parts.returned.Goals as goal
 
 pub returns-in-Some : goal.returns-in-Some

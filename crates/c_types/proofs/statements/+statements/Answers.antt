@@ -1,25 +1,26 @@
-use Rattle.std.proofs.Common.{true, [], ◌∷◌, map, Option, ap, sym, ◌∙◌, arith}
+use Rattle.std.proofs.Common.{true, ℕ, List, [], ◌∷◌, map, Option, ap, sym, ◌∙◌, arith}
 use Rattle.std.specs.Option.{option_map}
 use Rattle.std.specs.Prelude.{Box, Vec}
 use Rattle.std.specs.declared.alloc.Global.{Global}
 use Rattle.c_tree.specs.declared.typed.Expr.{Expr as CodeExpr}
 use Rattle.c_tree.specs.declared.typed.Stmt.{Stmt as CodeStmt}
+use Rattle.c_tree.specs.Syntax as trees
 use Rattle.c_tree.specs.Syntax.{stmts_of}
 use Rattle.c_tree.specs.SyntaxViews as source
 use Rattle.c_tree.specs.Typed.{at_stmt, block, if_, if_else, while_, for_}
 use Rattle.c_tree.specs.TypedViews.{type_view, boxed_expr_view, stmt_view, boxed_stmt_view}
 use Rattle.c_typing.specs.Faults.{typed}
+use Rattle.c_typing.specs.Scope.{Frame}
 use Rattle.c_typing.specs.Judgement.{in_turn}
 use Rattle.c_tree.specs.Typed as typed_trees
-use Rattle.c_typing.specs.Statements.{condition, scoped, only, one_of, headed, judged_first, judged_condition, judged_step, judged_stmt, judged_stmts}
+use Rattle.c_typing.specs.Statements.{condition, scoped, only, one_of, headed, judged_first, judged_condition, judged_step, for_of, judged_stmt, judged_stmts}
 use Rattle.type_context.specs.ContextViews.{context_view}
 use Rattle.type_context.specs.inner.Outcomes.{joined}
 use Rattle.type_context.proofs.Walks.{ok_tells}
 use Rattle.type_context.proofs.Rows.{starts}
 use Rattle.c_types.specs.Gathering.{each}
-use Rattle.c_types.specs.inner.Nodes.{block_of, for_inside, for_of}
 use Rattle.c_types.proofs.Steps.{err_passes, two_pass, two_rule, memory_passes, scope_tells, three_told, four_told}
-use Rattle.c_types.proofs.StatementsAround.{stmts_around, for_around}
+use Rattle.c_typing.proofs.Unmoved.{stmt_stays, stmts_stays, for_stays}
 use Rattle.c_types.proofs.StatementRows.{several_more, at_end}
 use Rattle.c_types.proofs.StatementNodes.{entered}
 use Rattle.c_types.proofs.Arms as arms
@@ -39,7 +40,7 @@ one-returns t c =
 -- a block
 pub block-returns-in_err-enter : goal.block-returns-in_err-enter
 block-returns-in_err-enter t c =
-    memory_passes (each stmt_view) c.from_residual.result c.in_err-enter.field-0.0 c.enter.new.self (block_of c.args.place (type_view c.args.t.now) c.args.in_loop (stmts_of (map source.stmt_view c.args.items.now)) (context_view c.args.context.now))
+    memory_passes (each stmt_view) c.from_residual.result c.in_err-enter.field-0.0 c.enter.new.self (judged_stmt (type_view c.args.t.now) c.args.in_loop (trees.block c.args.place (stmts_of (map source.stmt_view c.args.items.now))) (context_view c.args.context.now))
     c.in_err-enter.ensures.memory c.from_residual.ensures.1
 
 pub block-returns-in_err-items : goal.block-returns-in_err-items
@@ -48,7 +49,7 @@ block-returns-in_err-items t c =
     err_passes (each stmt_view) (each stmt_view) (scoped (judged_stmts (type_view c.args.t.now) c.args.in_loop ss)) (λ d xs. typed (at_stmt c.args.place (block (typed_trees.stmts_of xs)) ∷ [])) (context_view c.args.context.now)
     c.leave.new.self c.stmts-items.result c.in_err-items.field-0.0 c.from_residual-in_err-items.result
     (scope_tells (each stmt_view) (judged_stmts (type_view c.args.t.now) c.args.in_loop ss) (context_view c.args.context.now) c.enter.new.self c.stmts-items.new.context c.leave.new.self c.stmts-items.result
-    (entered c.enter.new.self (context_view c.args.context.now) c.new.result.entries c.in_ok-enter.ensures.after c.new.ensures.empty) c.stmts-items.ensures (stmts_around (type_view c.args.t.now) c.args.in_loop ss) c.leave.ensures.around)
+    (entered c.enter.new.self (context_view c.args.context.now) c.new.result.entries c.in_ok-enter.ensures.after c.new.ensures.empty) c.stmts-items.ensures (λ d. ap (λ (p : List ℕ × List Frame). p.1) (stmts_stays (type_view c.args.t.now) c.args.in_loop ss d)) c.leave.ensures.around)
     c.in_err-items.was c.from_residual-in_err-items.ensures.1
 
 pub block-returns : goal.block-returns
@@ -57,7 +58,7 @@ block-returns t c =
     ok_tells (each stmt_view) (each stmt_view) (scoped (judged_stmts (type_view c.args.t.now) c.args.in_loop ss)) (λ d xs. typed (at_stmt c.args.place (block (typed_trees.stmts_of xs)) ∷ [])) (context_view c.args.context.now)
     c.leave.new.self c.stmts-items.result c.in_ok-items.items c.block_made.result
     (scope_tells (each stmt_view) (judged_stmts (type_view c.args.t.now) c.args.in_loop ss) (context_view c.args.context.now) c.enter.new.self c.stmts-items.new.context c.leave.new.self c.stmts-items.result
-    (entered c.enter.new.self (context_view c.args.context.now) c.new.result.entries c.in_ok-enter.ensures.after c.new.ensures.empty) c.stmts-items.ensures (stmts_around (type_view c.args.t.now) c.args.in_loop ss) c.leave.ensures.around)
+    (entered c.enter.new.self (context_view c.args.context.now) c.new.result.entries c.in_ok-enter.ensures.after c.new.ensures.empty) c.stmts-items.ensures (λ d. ap (λ (p : List ℕ × List Frame). p.1) (stmts_stays (type_view c.args.t.now) c.args.in_loop ss d)) c.leave.ensures.around)
     c.in_ok-items.was c.block_made.ensures
 
 -- an if
@@ -98,13 +99,13 @@ if_else-returns t c =
 
 -- a while
 pub while_loop-returns-in_err-test : goal.while_loop-returns-in_err-test
-while_loop-returns-in_err-test t c =
+while_loop-returns-in_err-test t c = λ l.
     two_pass boxed_expr_view boxed_stmt_view (each stmt_view) (condition c.args.place (source.expr_view c.args.e.now)) (one_of (judged_stmt (type_view c.args.t.now) true (source.stmt_view c.args.s.now))) (λ d p. typed (at_stmt c.args.place (while_ p.0 p.1) ∷ [])) (context_view c.args.context.now)
     c.condition-test.new.context c.one-body.new.context c.condition-test.result c.one-body.result c.both.result c.in_err-test.field-0.0 c.from_residual.result
     c.condition-test.ensures c.one-body.ensures c.both.ensures c.in_err-test.was c.from_residual.ensures.1
 
 pub while_loop-returns : goal.while_loop-returns
-while_loop-returns t c =
+while_loop-returns t c = λ l.
     two_rule boxed_expr_view boxed_stmt_view (each stmt_view) (condition c.args.place (source.expr_view c.args.e.now)) (one_of (judged_stmt (type_view c.args.t.now) true (source.stmt_view c.args.s.now))) (λ d p. typed (at_stmt c.args.place (while_ p.0 p.1) ∷ [])) (context_view c.args.context.now)
     c.condition-test.new.context c.one-body.new.context c.condition-test.result c.one-body.result c.both.result (c.in_ok-test.test, c.in_ok-test.body) c.while_made.result
     c.condition-test.ensures c.one-body.ensures c.both.ensures c.in_ok-test.was c.while_made.ensures
@@ -140,35 +141,37 @@ for_inside-returns t c =
     (sym (c.both-3.ensures ∙ ap (joined c.first-header.result) (c.both-2.ensures ∙ ap (joined c.for_condition-test.result) c.both.ensures)) ∙ c.in_ok-header.was) c.for_made.ensures
 
 pub for_loop-returns-in_err-enter : goal.for_loop-returns-in_err-enter
-for_loop-returns-in_err-enter t c =
+for_loop-returns-in_err-enter t c = λ l.
     memory_passes (each stmt_view) c.from_residual.result c.in_err-enter.field-0.0 c.enter.new.self
-    (for_of c.args.place (type_view c.args.t.now) (source.for_first_view c.args.head.now) (option_map source.expr_view c.args.e.now) (option_map source.simple_view c.args.last.now) (source.stmt_view c.args.s.now) (context_view c.args.context.now))
+    (judged_stmt (type_view c.args.t.now) l (trees.for c.args.place (source.for_first_view c.args.head.now) (option_map source.expr_view c.args.e.now) (option_map source.simple_view c.args.last.now) (source.stmt_view c.args.s.now)) (context_view c.args.context.now))
     c.in_err-enter.ensures.memory c.from_residual.ensures.1
 
 pub for_loop-returns-in_err-whole : goal.for_loop-returns-in_err-whole
-for_loop-returns-in_err-whole t c =
+for_loop-returns-in_err-whole t c = λ l.
     let first = source.for_first_view c.args.head.now in
     let e = option_map source.expr_view c.args.e.now in
     let last = option_map source.simple_view c.args.last.now in
     let s = source.stmt_view c.args.s.now in
     let r = type_view c.args.t.now in
-    err_passes boxed_stmt_view (each stmt_view) (scoped (for_inside c.args.place r first e last s)) (λ d x. typed (x ∷ [])) (context_view c.args.context.now)
+    let inside = for_of c.args.place (judged_first c.args.place first) (judged_condition c.args.place e) (judged_step c.args.place last) (one_of (judged_stmt r true s)) in
+    err_passes boxed_stmt_view (each stmt_view) (scoped inside) (λ d x. typed (x ∷ [])) (context_view c.args.context.now)
     c.leave.new.self c.for_inside-whole.result c.in_err-whole.field-0.0 c.from_residual-in_err-whole.result
-    (scope_tells boxed_stmt_view (for_inside c.args.place r first e last s) (context_view c.args.context.now) c.enter.new.self c.for_inside-whole.new.context c.leave.new.self c.for_inside-whole.result
-    (entered c.enter.new.self (context_view c.args.context.now) c.new.result.entries c.in_ok-enter.ensures.after c.new.ensures.empty) c.for_inside-whole.ensures (for_around r c.args.place first e last s) c.leave.ensures.around)
+    (scope_tells boxed_stmt_view inside (context_view c.args.context.now) c.enter.new.self c.for_inside-whole.new.context c.leave.new.self c.for_inside-whole.result
+    (entered c.enter.new.self (context_view c.args.context.now) c.new.result.entries c.in_ok-enter.ensures.after c.new.ensures.empty) c.for_inside-whole.ensures (λ d. ap (λ (p : List ℕ × List Frame). p.1) (for_stays r c.args.place first e last s (stmt_stays r true s) d)) c.leave.ensures.around)
     c.in_err-whole.was c.from_residual-in_err-whole.ensures.1
 
 pub for_loop-returns : goal.for_loop-returns
-for_loop-returns t c =
+for_loop-returns t c = λ l.
     let first = source.for_first_view c.args.head.now in
     let e = option_map source.expr_view c.args.e.now in
     let last = option_map source.simple_view c.args.last.now in
     let s = source.stmt_view c.args.s.now in
     let r = type_view c.args.t.now in
-    ok_tells boxed_stmt_view (each stmt_view) (scoped (for_inside c.args.place r first e last s)) (λ d x. typed (x ∷ [])) (context_view c.args.context.now)
+    let inside = for_of c.args.place (judged_first c.args.place first) (judged_condition c.args.place e) (judged_step c.args.place last) (one_of (judged_stmt r true s)) in
+    ok_tells boxed_stmt_view (each stmt_view) (scoped inside) (λ d x. typed (x ∷ [])) (context_view c.args.context.now)
     c.leave.new.self c.for_inside-whole.result c.in_ok-whole.whole c.alone.result
-    (scope_tells boxed_stmt_view (for_inside c.args.place r first e last s) (context_view c.args.context.now) c.enter.new.self c.for_inside-whole.new.context c.leave.new.self c.for_inside-whole.result
-    (entered c.enter.new.self (context_view c.args.context.now) c.new.result.entries c.in_ok-enter.ensures.after c.new.ensures.empty) c.for_inside-whole.ensures (for_around r c.args.place first e last s) c.leave.ensures.around)
+    (scope_tells boxed_stmt_view inside (context_view c.args.context.now) c.enter.new.self c.for_inside-whole.new.context c.leave.new.self c.for_inside-whole.result
+    (entered c.enter.new.self (context_view c.args.context.now) c.new.result.entries c.in_ok-enter.ensures.after c.new.ensures.empty) c.for_inside-whole.ensures (λ d. ap (λ (p : List ℕ × List Frame). p.1) (for_stays r c.args.place first e last s (stmt_stays r true s) d)) c.leave.ensures.around)
     c.in_ok-whole.was (rw c.into_inner.ensures at c.alone.ensures)
 
 -- a statement, by what it is
@@ -197,12 +200,12 @@ stmt-returns-in-Some t c =
 pub stmt-returns-in-While : goal.stmt-returns-in-While
 stmt-returns-in-While t c =
     arms.while_told c.args.s.now c.in-While.place c.in-While.condition c.in-While.body c.deref-in-While.result.now (type_view c.args.t.now) c.args.in_loop (context_view c.args.context.now) c.while_loop.new.context c.while_loop.result
-    c.in-While.is c.deref-in-While.ensures c.while_loop.ensures
+    c.in-While.is c.deref-in-While.ensures (c.while_loop.ensures c.args.in_loop)
 
 pub stmt-returns-in-For : goal.stmt-returns-in-For
 stmt-returns-in-For t c =
     arms.for_told c.args.s.now c.in-For.place c.in-For.first c.in-For.condition c.in-For.step c.in-For.body c.deref-in-For.result.now (type_view c.args.t.now) c.args.in_loop (context_view c.args.context.now) c.for_loop.new.context c.for_loop.result
-    c.in-For.is c.deref-in-For.ensures c.for_loop.ensures
+    c.in-For.is c.deref-in-For.ensures (c.for_loop.ensures c.args.in_loop)
 
 pub stmt-returns-in-Break : goal.stmt-returns-in-Break
 stmt-returns-in-Break t c = arms.break_told c.args.s.now c.in-Break.place (type_view c.args.t.now) c.args.in_loop c.args.context.now c.jump.result c.in-Break.is c.jump.ensures
@@ -212,7 +215,7 @@ stmt-returns-in-Continue t c = arms.continue_told c.args.s.now c.in-Continue.pla
 
 pub stmt-returns-in-Return : goal.stmt-returns-in-Return
 stmt-returns-in-Return t c =
-    arms.return_told c.args.s.now c.in-Return.place c.in-Return.value (type_view c.args.t.now) c.args.in_loop (context_view c.args.context.now) c.return_of.new.context c.return_of.result c.in-Return.is c.return_of.ensures
+    arms.return_told c.args.s.now c.in-Return.place c.in-Return.value (type_view c.args.t.now) c.args.in_loop (context_view c.args.context.now) c.return_of.new.context c.return_of.result c.in-Return.is (c.return_of.ensures c.args.in_loop)
 
 pub stmt-returns-in-Simple : goal.stmt-returns-in-Simple
 stmt-returns-in-Simple t c =
