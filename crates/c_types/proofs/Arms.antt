@@ -21,7 +21,7 @@ use Rattle.type_context.specs.declared.context.Context.{Context as CodeContext}
 use Rattle.type_context.specs.ContextViews.{context_view}
 use Rattle.type_context.specs.Telling.{Tells}
 use Rattle.type_context.proofs.Walks.{lone_tells}
-use Rattle.c_types.specs.Gathering.{each}
+use Rattle.type_declared.specs.Gathering.{each}
 use Rattle.c_types.proofs.StatementViews.{block_is, declare_is, empty_is, if_then_is, if_else_is, while_is, for_is, break_is, continue_is, return_is, simple_is}
 
 -- what is told of a statement that is seen so

@@ -1,31 +1,25 @@
 -- Parameters: sizes in a row, types that are void, and a list of one parameter.
-use Rattle.std.proofs.Common.{◌≡◌, ◌≢◌, ℕ, suc, ◌+◌, ◌<◌, ◌≤◌, ◌&&◌, ◌==◌, Bool, true, false, List, [], ◌∷◌, ◌++◌, Option, Some, None, map, take, drop, length, get_or, is_some, ne_eqb, arith, Result, Ok, Err, refl, ap, sym, subst, ◌∙◌}
+use Rattle.std.proofs.Common.{◌≡◌, ◌≢◌, ℕ, ◌+◌, ◌<◌, Bool, true, false, List, [], ◌∷◌, ◌++◌, Option, map, take, length, get_or, arith, Result, Ok, Err, refl, ap, sym, subst, ◌∙◌}
 use Rattle.std.proofs.lemmas.List.{map_more, map-id}
-use Rattle.std.proofs.Math.Seq.{drop-cons}
 use Rattle.std.specs.Prelude.{Vec}
 use Rattle.std.specs.declared.alloc.Global.{Global}
 use Rattle.c_lex.specs.declared.refusal.CompileFault.{CompileFault}
-use Rattle.c_lex.specs.declared.refusal.CompileFault.TheVariants.{Refused, NoMemory}
-use Rattle.c_tree.specs.declared.syntax.Name.{Name}
-use Rattle.c_tree.specs.declared.syntax.Pointer.{Pointer}
-use Rattle.c_tree.specs.declared.syntax.Pointer.TheVariants as pointers
 use Rattle.c_tree.specs.declared.syntax.ParamDim.{ParamDim as CodeParamDim}
 use Rattle.c_tree.specs.declared.syntax.Param.{Param as CodeSource}
 use Rattle.c_tree.specs.declared.typed.CType.{CType}
 use Rattle.c_tree.specs.Syntax as source
 use Rattle.c_tree.specs.SyntaxViews.{param_dim_view, param_view as seen_param}
-use Rattle.c_tree.specs.Typed.{Ty, void, pointer, array, integer, structure, mutex}
+use Rattle.c_tree.specs.Typed.{Ty, void}
 use Rattle.c_tree.specs.TypedViews.{type_view}
-use Rattle.c_typing.specs.Faults.{Judged, typed, faulty, Gives, Fails, both, mapped, ◌>>=◌}
-use Rattle.c_typing.specs.Types.{is_void, behind_pointers, arrays_of}
+use Rattle.c_typing.specs.Faults.{Judged, typed, faulty, Gives, both, ◌>>=◌}
 use Rattle.c_typing.specs.Scope.{Context}
-use Rattle.c_typing.specs.Judgement.{in_turn, judged_specs, object_type}
+use Rattle.c_typing.specs.Judgement.{in_turn, judged_specs}
 use Rattle.c_typing.specs.Numbering.{Param}
-use Rattle.c_typing.specs.Programs.{param_place, with_param, judged_size, judged_sizes, judged_param, judged_params, known, adjusted, param_object, param_fine, param_behind, void_by, is_bare_by, is_none, none_if, judged_param_list}
+use Rattle.c_typing.specs.Programs.{param_place, with_param, judged_size, judged_sizes, judged_param, judged_params, param_object, param_fine, param_behind, is_none, none_if, judged_param_list}
 use Rattle.type_context.specs.declared.context.Context.{Context as CodeContext}
 use Rattle.type_context.specs.ContextViews.{context_view}
 use Rattle.type_context.specs.inner.Outcomes.{joined}
-use Rattle.type_context.specs.Telling.{Tells, lacks_memory}
+use Rattle.type_context.specs.Telling.{Tells}
 use Rattle.type_context.specs.Rows.{IsPushed}
 use Rattle.type_context.proofs.Walks.{both_tell, ok_finishes}
 use Rattle.type_context.proofs.Rows.{pushed_tells}
@@ -33,9 +27,9 @@ use Rattle.std.specs.Result.{IsErrAnd}
 use Rattle.c_typing.specs.Statements.{or_int}
 use Rattle.type_locals.specs.declared.locals.Param.{Param as CodeParam}
 use Rattle.type_locals.specs.LocalViews.{param_view}
-use Rattle.c_types.specs.Gathering.{each}
+use Rattle.type_declared.specs.Gathering.{each}
 use Rattle.c_types.proofs.Steps.{object_fine, err_finish}
-use Rattle.c_types.specs.inner.Gathering.{IsOutcome, fine_view}
+use Rattle.c_types.specs.inner.Gathering.{IsOutcome}
 use Rattle.c_types.proofs.FileRows.{is_outermost, sizes_row, outermost_behind}
 use Rattle.c_types.proofs.Known.{known_left, known_gives}
 
@@ -67,39 +61,6 @@ pub not_outermost : (ys : List CodeParamDim) (i : ℕ) (y : CodeParamDim) → i 
 not_outermost ys i y h is = sym (ap is_outermost (taken_more ys i y h is) ∙ outermost_behind (map param_dim_view (take i ys)) (param_dim_view y))
 
 -- ---- void
-
--- a pointer is not void, whatever stands behind it
-pub pointer_no_void : (t : Ty) (ps : List Pointer) → is_void (behind_pointers (pointer t) ps) ≡ false
-pointer_no_void t [] = refl
-pointer_no_void t (pointers.Star ∷ ps) = pointer_no_void (pointer t) ps
-pointer_no_void t (pointers.Const ∷ ps) = pointer_no_void t ps
-pointer_no_void t (pointers.Restrict ∷ ps) = pointer_no_void t ps
-
--- nor is a type that isn't void
-pub no_void : (t : Ty) (ps : List Pointer) → is_void t ≡ false → is_void (behind_pointers t ps) ≡ false
-no_void t [] h = h
-no_void t (pointers.Star ∷ ps) h = pointer_no_void t ps
-no_void t (pointers.Const ∷ ps) h = no_void t ps h
-no_void t (pointers.Restrict ∷ ps) h = no_void t ps h
-
--- what is refused is not void
-pub refused_no_void : (f : Ty → Ty) (e : CompileFault) (j : Judged Ty) → lacks_memory {A = CType} (Err e) ≡ false → Fails e j → void_by (mapped f j) ≡ false
-refused_no_void f NoMemory j k h = cc
-refused_no_void f (Refused r) (typed t) k h = cc
-refused_no_void f (Refused r) (faulty s ss) k h = refl
-
--- what is typed is void where its type is
-pub typed_void : (f : Ty → Ty) (t : Ty) (j : Judged Ty) → j ≡ typed t → void_by (mapped f j) ≡ is_void (f t)
-typed_void f t j h = ap (λ i. void_by (mapped f i)) h
-
--- void behind pointers is void where both leave it so
-pub void_of : (t : Ty) (ps : List Pointer) → is_void (behind_pointers t ps) ≡ (is_void t && is_void (behind_pointers void ps))
-void_of void ps = refl
-void_of (integer s) ps = no_void (integer s) ps refl
-void_of (pointer t) ps = no_void (pointer t) ps refl
-void_of (array t n) ps = no_void (array t n) ps refl
-void_of (structure n) ps = no_void (structure n) ps refl
-void_of mutex ps = no_void mutex ps refl
 
 -- ---- a list of one parameter
 
@@ -134,7 +95,7 @@ param_told view p c n m s t r h is behind =
 pub param_ok : (p : source.Param) (J : Judged Ty) (c : Context) (m n : CodeContext) (t : Result CType CompileFault) (f : Result (Unit {0} × (Unit {0} × Unit {0})) CompileFault) (s : CType)
     (q : Result ((Unit {0} × (Unit {0} × Unit {0})) × CType) CompileFault) (x : (Unit {0} × (Unit {0} × Unit {0})) × CType) (r : Result CodeParam CompileFault)
     → Tells type_view t m (param_object J p c)
-    → Gives fine_view f (param_fine (context_view m) (param_place p) p.name)
+    → Gives (λ x. x) f (param_fine (context_view m) (param_place p) p.name)
     → ((j : Judged Ty) → Gives type_view t j → type_view s ≡ or_int j)
     → context_view n ≡ with_param (context_view m) p.name (type_view s)
     → q ≡ joined f t → q ≡ Ok x
@@ -142,9 +103,9 @@ pub param_ok : (p : source.Param) (J : Judged Ty) (c : Context) (m n : CodeConte
     → Tells param_view r n (param_behind J p c)
 param_ok p J c m n t f s q x r h g w l is ok made =
     let O = param_object J p in
-    ok_finishes (λ (z : (Unit {0} × (Unit {0} × Unit {0})) × CType). (fine_view z.0, type_view z.1)) param_view (λ z. typed (record { place = param_place p; ty = z.1 }))
+    ok_finishes (λ (z : (Unit {0} × (Unit {0} × Unit {0})) × CType). (z.0, type_view z.1)) param_view (λ z. typed (record { place = param_place p; ty = z.1 }))
     (both (param_fine (O c).1 (param_place p) p.name) (O c).0, with_param (O c).1 p.name (or_int (O c).0)) n (joined f t) x r
-    (object_fine fine_view O (λ d j. param_fine d (param_place p) p.name) (λ d t. with_param d p.name t) c m n t f s h (λ j y. g) w l) (sym is ∙ ok) made
+    (object_fine (λ x. x) O (λ d j. param_fine d (param_place p) p.name) (λ d t. with_param d p.name t) c m n t f s h (λ j y. g) w l) (sym is ∙ ok) made
 
 -- a parameter of a place and a type
 abbrev pub param_at : ℕ → Ty → Judged Param
@@ -154,33 +115,18 @@ param_at place t = typed (record { place = place; ty = t })
 pub param_err : (p : source.Param) (J : Judged Ty) (c : Context) (m n : CodeContext) (t : Result CType CompileFault) (f : Result (Unit {0} × (Unit {0} × Unit {0})) CompileFault) (s : CType)
     (q : Result ((Unit {0} × (Unit {0} × Unit {0})) × CType) CompileFault) (e : CompileFault) (r : Result CodeParam CompileFault)
     → Tells type_view t m (param_object J p c)
-    → Gives fine_view f (param_fine (context_view m) (param_place p) p.name)
+    → Gives (λ x. x) f (param_fine (context_view m) (param_place p) p.name)
     → ((j : Judged Ty) → Gives type_view t j → type_view s ≡ or_int j)
     → context_view n ≡ with_param (context_view m) p.name (type_view s)
     → q ≡ joined f t → q ≡ Err e → IsErrAnd r (λ d. d ≡ e)
     → Tells param_view r n (param_behind J p c)
 param_err p J c m n t f s q e r h g w l is err back =
     let O = param_object J p in
-    err_finish (λ (z : (Unit {0} × (Unit {0} × Unit {0})) × CType). (fine_view z.0, type_view z.1)) param_view (λ z. typed (record { place = param_place p; ty = z.1 }))
+    err_finish (λ (z : (Unit {0} × (Unit {0} × Unit {0})) × CType). (z.0, type_view z.1)) param_view (λ z. typed (record { place = param_place p; ty = z.1 }))
     (both (param_fine (O c).1 (param_place p) p.name) (O c).0, with_param (O c).1 p.name (or_int (O c).0)) n (joined f t) q e r
-    (object_fine fine_view O (λ d j. param_fine d (param_place p) p.name) (λ d t. with_param d p.name t) c m n t f s h (λ j y. g) w l) is err back
-
--- typed forms that are equal are of equals
-pub same_typed : {A : Type 0} (x y : A) → typed x ≡ typed y → x ≡ y
-same_typed x y h = cc
+    (object_fine (λ x. x) O (λ d j. param_fine d (param_place p) p.name) (λ d t. with_param d p.name t) c m n t f s h (λ j y. g) w l) is err back
 
 -- ---- lists of parameters, brackets and pointers
-
--- what has a name is not bare
-pub bare_named : (o : Option Name) (ds : List CodeParamDim) → is_some o ≡ true → false ≡ is_bare_by o (map param_dim_view ds)
-bare_named None ds h = cc
-bare_named (Some n) ds h = refl
-
--- what has none is bare where it has no brackets
-pub bare_unnamed : (o : Option Name) (ds : List CodeParamDim) → is_some o ≡ false → (length ds == 0) ≡ is_bare_by o (map param_dim_view ds)
-bare_unnamed None [] h = refl
-bare_unnamed None (d ∷ ds) h = ne_eqb (length (d ∷ ds)) 0 (λ e. absurd (omega (arith, e)))
-bare_unnamed (Some n) ds h = cc
 
 -- a list of one item
 pub one_item : {A : Type 0} (xs : List A) (x : A) → length xs ≡ 1 → x ≡ get_or xs 0 x → xs ≡ x ∷ []
@@ -193,18 +139,3 @@ pub many_params : (ps : List CodeSource) (c : Context) → length ps ≢ 1 → j
 many_params [] c h = refl
 many_params (p ∷ []) c h = absurd (h refl)
 many_params (p ∷ q ∷ ps) c h = refl
-
--- a parameter without brackets has its type
-pub adjusted_none : (c : Context) (place : ℕ) (t : Ty) (ss : List (Option ℕ)) → length ss < 1 → adjusted c place t ss ≡ typed t
-adjusted_none c place t [] h = refl
-adjusted_none c place t (s ∷ ss) h = absurd (omega arith)
-
--- an array is a pointer to its elements
-pub adjusted_some : (c : Context) (place : ℕ) (t : Ty) (ss : List (Option ℕ)) → 1 ≤ length ss → adjusted c place t ss ≡ (object_type c place (arrays_of t (known (drop 1 ss))) >>= λ element. typed (pointer element))
-adjusted_some c place t [] h = absurd (omega arith)
-adjusted_some c place t (s ∷ ss) h = refl
-
--- behind a star nothing is void
-pub star_no_void : (ps : List Pointer) (i : ℕ) (d : Pointer) → i < length ps → get_or ps i d ≡ pointers.Star → behind_pointers void ps ≡ behind_pointers void (drop i ps) → is_void (behind_pointers void ps) ≡ false
-star_no_void ps i d h star before =
-    ap is_void (before ∙ ap (behind_pointers void) (drop-cons ps i d h ∙ ap (λ q. q ∷ drop (suc i) ps) star)) ∙ pointer_no_void void (drop (suc i) ps)

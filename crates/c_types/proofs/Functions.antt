@@ -1,9 +1,8 @@
 -- Functions: what their parts tell together.
-use Rattle.std.proofs.Common.{◌≡◌, ℕ, false, List, [], ◌∷◌, ◌++◌, Option, Some, Result, Ok, Err, IfOk, refl, ap, sym, subst, ◌∙◌}
+use Rattle.std.proofs.Common.{◌≡◌, ℕ, false, List, [], ◌∷◌, ◌++◌, Option, Some, Result, Ok, Err, refl, ap, sym, subst, ◌∙◌}
 use Rattle.std.specs.Borrow.{Bor}
-use Rattle.std.specs.Prelude.{Vec, IfErr}
+use Rattle.std.specs.Prelude.{Vec}
 use Rattle.std.specs.declared.alloc.Global.{Global}
-use Rattle.c_lex.specs.declared.refusal.Refusal.{Refusal}
 use Rattle.c_lex.specs.declared.refusal.CompileFault.{CompileFault}
 use Rattle.c_lex.specs.declared.refusal.CompileFault.TheVariants.{Refused, NoMemory}
 use Rattle.c_tree.specs.declared.syntax.Name.{Name}
@@ -13,7 +12,7 @@ use Rattle.c_tree.specs.declared.typed.Func.{Func as CodeFunc}
 use Rattle.c_tree.specs.Syntax as source
 use Rattle.c_tree.specs.Typed.{Ty, Func}
 use Rattle.c_tree.specs.TypedViews.{type_view, func_view}
-use Rattle.c_typing.specs.Faults.{Judged, typed, faulty, Gives, Fails, both, mapped, ◌>>=◌}
+use Rattle.c_typing.specs.Faults.{Judged, typed, Gives, ◌>>=◌}
 use Rattle.c_typing.specs.Scope.{Frame, Context, inside, back_to}
 use Rattle.c_typing.specs.Judgement.{Judging, lone, in_turn}
 use Rattle.c_typing.specs.Statements.{or_int}
@@ -26,11 +25,10 @@ use Rattle.type_context.specs.inner.Outcomes.{joined}
 use Rattle.type_locals.specs.LocalViews.{param_view}
 use Rattle.type_context.specs.Telling.{Tells}
 use Rattle.type_context.proofs.Walks.{memory_tells, known_tells, both_tell}
-use Rattle.c_types.specs.Gathering.{each}
+use Rattle.type_declared.specs.Gathering.{each}
 use Rattle.c_typing.proofs.Unmoved.{stmts_stays}
 use Rattle.c_types.specs.declared.definitions.Head.{Head}
 use Rattle.c_types.specs.inner.Functions.{IsHead}
-use Rattle.c_types.specs.inner.Gathering.{fine_view}
 
 -- ---- parameters
 
@@ -43,31 +41,6 @@ found_params k ls ns m es h no_locals no_addressed no_names =
     ∙ ap (λ l. record (inside (context_view k)) { locals = types_view l; addressed = ns.items; inner = frame_view es }) no_locals
     ∙ ap (λ l. record (inside (context_view k)) { locals = []; addressed = l; inner = frame_view es }) no_addressed
     ∙ ap (λ l. record (inside (context_view k)) { locals = []; addressed = []; inner = frame_view l }) no_names
-
--- types of which want of memory alone keeps some
-pub gives_list : (r : Result (Vec CType Global) CompileFault) (ts : List Ty) → IfOk r (λ v. types_view v.items ≡ ts) → IfErr r (λ e. e ≡ NoMemory) → Gives (each type_view) r (typed ts)
-gives_list (Ok v) ts h k = ap typed (sym h)
-gives_list (Err e) ts h k = subst (λ d. Fails d (typed ts)) (sym k) tt
-
--- what is refused is refused, whatever is seen of it
-pub fails_mapped : {A B : Type 0} (f : A → B) (e : CompileFault) (j : Judged A) → Fails e j → Fails e (mapped f j)
-fails_mapped f NoMemory j h = tt
-fails_mapped f (Refused r) (typed x) h = cc
-fails_mapped f (Refused r) (faulty s ss) h = h
-
--- parameters that are refused have no types
-pub refused_types : {A : Type 0} (view : A → List Param) (x : Result A CompileFault) (r : Refusal) (j : Judged (List Param)) → x ≡ Err (Refused r) → Gives view x j → types_or j ≡ []
-refused_types view (Ok y) r j is h = cc
-refused_types view (Err NoMemory) r j is h = cc
-refused_types view (Err (Refused s)) r (typed ps) is h = cc
-refused_types view (Err (Refused s)) r (faulty q qs) is h = refl
-
--- a part that is seen otherwise before it is joined to another
-pub mapped_both : {A B C D : Type 0} (f : A → B) (j : Judged A) (k : Judged C) (g : B × C → Judged D) → (both (mapped f j) k >>= g) ≡ (both j k >>= λ p. g (f p.0, p.1))
-mapped_both f (typed x) (typed y) g = refl
-mapped_both f (typed x) (faulty s ss) g = refl
-mapped_both f (faulty r rs) (typed y) g = refl
-mapped_both f (faulty r rs) (faulty s ss) g = refl
 
 -- ---- bodies
 
@@ -111,12 +84,12 @@ function_is names base pointers n params body around = refl
 pub function_told : (names : List (List ℕ)) (base : Judged Ty) (pointers : List Pointer) (n : Name) (params : List source.Param) (body : Option source.Body) (around : Context)
     (h : Head) (m o p : CodeContext) (s : CType) (ts : List CType) (returned : Result CType CompileFault) (f : Result (Unit {0} × Unit {0}) CompileFault) (b : Result (Vec CodeFunc Global) CompileFault)
     → IsHead h m params around → Gives type_view returned (result_of n.from base pointers)
-    → ((j : Judged (List Param)) (k : Judged Ty) → Gives (each param_view) h.params j → Gives type_view returned k → Gives fine_view f (head_fine (context_view m) names n body j k))
+    → ((j : Judged (List Param)) (k : Judged Ty) → Gives (each param_view) h.params j → Gives type_view returned k → Gives (λ x. x) f (head_fine (context_view m) names n body j k))
     → ((j : Judged (List Param)) → Gives (each param_view) h.params j → types_view ts ≡ types_or j)
     → ((k : Judged Ty) → Gives type_view returned k → type_view s ≡ or_int k)
     → context_view o ≡ with_function (context_view m) names n (types_view ts) (type_view s)
     → ((j : Judged (List Param)) (k : Judged Ty) → Gives (each param_view) h.params j → Gives type_view returned k → Tells (each func_view) b p (body_within (frame_view h.scope.entries) j k n body (context_view o)))
-    → Tells (λ (z : (Unit {0} × Unit {0}) × Vec CodeFunc Global). (fine_view z.0, each func_view z.1)) (joined f b) p (function_parts names base pointers n params body around)
+    → Tells (λ (z : (Unit {0} × Unit {0}) × Vec CodeFunc Global). (z.0, each func_view z.1)) (joined f b) p (function_parts names base pointers n params body around)
 function_told names base pointers n params body around h m o p s ts returned f b head gives fine types result declared funcs =
     let ps = judged_param_list params (before_params around) in
     let j = ps.0 in
@@ -128,6 +101,6 @@ function_told names base pointers n params body around h m o p s ts returned f b
     ∙ ap (λ l. with_function c names n l (type_view s)) (types j head.gives) ∙ ap (with_function c names n (types_or j)) (result k gives) in
     let told : Tells (each func_view) b p (body_within (frame_view h.scope.entries) j k n body d) = subst (λ e. Tells (each func_view) b p (body_within (frame_view h.scope.entries) j k n body e)) here (funcs j k head.gives gives) in
     let body_told : Tells (each func_view) b p (body_within ps.1.inner j k n body d) = subst (λ e. Tells (each func_view) b p (body_within e j k n body d)) head.scope told in
-    let name_told : Gives fine_view f (head_fine c names n body j k) = subst (λ e. Gives fine_view f (head_fine e names n body j k)) head.leaves (fine j k head.gives gives) in
-    both_tell fine_view (each func_view) (lone (head_fine c names n body j k)) (body_within ps.1.inner j k n body) d o p f b
-    (known_tells fine_view f o (head_fine c names n body j k) d name_told here) (subst (λ e. Tells (each func_view) b p (body_within ps.1.inner j k n body e)) (sym here) body_told)
+    let name_told : Gives (λ x. x) f (head_fine c names n body j k) = subst (λ e. Gives (λ x. x) f (head_fine e names n body j k)) head.leaves (fine j k head.gives gives) in
+    both_tell (λ x. x) (each func_view) (lone (head_fine c names n body j k)) (body_within ps.1.inner j k n body) d o p f b
+    (known_tells (λ x. x) f o (head_fine c names n body j k) d name_told here) (subst (λ e. Tells (each func_view) b p (body_within ps.1.inner j k n body e)) (sym here) body_told)

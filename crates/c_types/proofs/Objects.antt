@@ -20,7 +20,6 @@ use Rattle.type_context.specs.inner.Outcomes.{joined}
 use Rattle.type_context.specs.Telling.{Tells}
 use Rattle.type_context.proofs.Walks.{ok_finishes}
 use Rattle.c_types.proofs.Steps.{declared_parts, object_parts, err_finish}
-use Rattle.c_types.specs.inner.Gathering.{fine_view}
 
 -- what is fine at a global's name
 abbrev pub Fine : Type 0
@@ -28,7 +27,7 @@ Fine = Unit {0} × (Unit {0} × Unit {0})
 
 -- what the parts of a global are
 abbrev pub parts_view : (Fine × CType) × CodeInit → (Fine × Ty) × Init
-parts_view p = ((fine_view p.0.0, type_view p.0.1), init_view p.1)
+parts_view p = ((p.0.0, type_view p.0.1), init_view p.1)
 
 -- a global of its parts
 abbrev pub global_of : (Fine × Ty) × Init → Judged GlobalVar
@@ -42,13 +41,13 @@ global_parts name J x = declared_parts (object_of J x.declarator) (λ d j. globa
 global_told : (J : Judged Ty) (x : source.InitDeclarator) (name : Name) (c : Context) (m n o : CodeContext)
     (t : Result CType CompileFault) (f : Result Fine CompileFault) (s : CType) (i : Result CodeInit CompileFault)
     → Tells type_view t m (object_of J x.declarator c)
-    → ((j : Judged Ty) → Gives type_view t j → Gives fine_view f (global_fine (context_view m) name j))
+    → ((j : Judged Ty) → Gives type_view t j → Gives (λ x. x) f (global_fine (context_view m) name j))
     → ((j : Judged Ty) → Gives type_view t j → type_view s ≡ or_int j)
     → context_view n ≡ with_global (context_view m) name (type_view s)
     → ((j : Judged Ty) → Gives type_view t j → Tells init_view i o (judged_global_init name.from j x.value (context_view n)))
     → Tells parts_view (joined (joined f t) i) o (global_parts name J x c)
 global_told J x name c m n o t f s i h g w l k =
-    object_parts fine_view init_view (object_of J x.declarator) (λ d j. global_fine d name j) (λ d t. with_global d name t) (λ j. judged_global_init name.from j x.value) c m n o t f s i h g w l k
+    object_parts (λ x. x) init_view (object_of J x.declarator) (λ d j. global_fine d name j) (λ d t. with_global d name t) (λ j. judged_global_init name.from j x.value) c m n o t f s i h g w l k
 
 -- a global that is declared, whose parts are typed
 pub global_ok : (J : Judged Ty) (x : source.InitDeclarator) (name : Name) (c : Context) (m n o : CodeContext)
@@ -56,7 +55,7 @@ pub global_ok : (J : Judged Ty) (x : source.InitDeclarator) (name : Name) (c : C
     (q : Result ((Fine × CType) × CodeInit) CompileFault) (p : (Fine × CType) × CodeInit) (r : Result CodeGlobal CompileFault)
     → name_of x.declarator ≡ name
     → Tells type_view t m (object_of J x.declarator c)
-    → ((j : Judged Ty) → Gives type_view t j → Gives fine_view f (global_fine (context_view m) name j))
+    → ((j : Judged Ty) → Gives type_view t j → Gives (λ x. x) f (global_fine (context_view m) name j))
     → ((j : Judged Ty) → Gives type_view t j → type_view s ≡ or_int j)
     → context_view n ≡ with_global (context_view m) name (type_view s)
     → ((j : Judged Ty) → Gives type_view t j → Tells init_view i o (judged_global_init name.from j x.value (context_view n)))
@@ -67,7 +66,7 @@ global_ok J x name c m n o t f s i q p r named h g w l k is ok made =
     let y = name_of x.declarator in
     ok_finishes parts_view global_view global_of (global_parts y J x c) o (joined (joined f t) i) p r
     (global_told J x y c m n o t f s i h
-    (subst (λ (y : Name). (j : Judged Ty) → Gives type_view t j → Gives fine_view f (global_fine (context_view m) y j)) back g) w
+    (subst (λ (y : Name). (j : Judged Ty) → Gives type_view t j → Gives (λ x. x) f (global_fine (context_view m) y j)) back g) w
     (subst (λ (y : Name). context_view n ≡ with_global (context_view m) y (type_view s)) back l)
     (subst (λ (y : Name). (j : Judged Ty) → Gives type_view t j → Tells init_view i o (judged_global_init y.from j x.value (context_view n))) back k))
     (sym is ∙ ok) made
@@ -78,7 +77,7 @@ pub global_err : (J : Judged Ty) (x : source.InitDeclarator) (name : Name) (c : 
     (q : Result ((Fine × CType) × CodeInit) CompileFault) (e : CompileFault) (r : Result CodeGlobal CompileFault)
     → name_of x.declarator ≡ name
     → Tells type_view t m (object_of J x.declarator c)
-    → ((j : Judged Ty) → Gives type_view t j → Gives fine_view f (global_fine (context_view m) name j))
+    → ((j : Judged Ty) → Gives type_view t j → Gives (λ x. x) f (global_fine (context_view m) name j))
     → ((j : Judged Ty) → Gives type_view t j → type_view s ≡ or_int j)
     → context_view n ≡ with_global (context_view m) name (type_view s)
     → ((j : Judged Ty) → Gives type_view t j → Tells init_view i o (judged_global_init name.from j x.value (context_view n)))
@@ -89,7 +88,7 @@ global_err J x name c m n o t f s i q e r named h g w l k is err back_err =
     let y = name_of x.declarator in
     err_finish parts_view global_view global_of (global_parts y J x c) o (joined (joined f t) i) q e r
     (global_told J x y c m n o t f s i h
-    (subst (λ (y : Name). (j : Judged Ty) → Gives type_view t j → Gives fine_view f (global_fine (context_view m) y j)) back g) w
+    (subst (λ (y : Name). (j : Judged Ty) → Gives type_view t j → Gives (λ x. x) f (global_fine (context_view m) y j)) back g) w
     (subst (λ (y : Name). context_view n ≡ with_global (context_view m) y (type_view s)) back l)
     (subst (λ (y : Name). (j : Judged Ty) → Gives type_view t j → Tells init_view i o (judged_global_init y.from j x.value (context_view n))) back k))
     is err back_err

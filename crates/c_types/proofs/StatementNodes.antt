@@ -24,7 +24,6 @@ use Rattle.type_context.specs.inner.Outcomes.{joined}
 use Rattle.type_context.specs.Telling.{Leaves, Tells, lacks_memory}
 use Rattle.std.specs.Result.{IsErrAnd}
 use Rattle.type_context.proofs.Walks.{joined_keeps, ok_finishes}
-use Rattle.c_types.specs.inner.Gathering.{fine_view}
 use Rattle.c_types.proofs.Steps.{declared_parts, object_parts, err_finish}
 
 -- into an empty scope
@@ -45,7 +44,7 @@ local_known : (J : Judged Ty) (x : source.InitDeclarator) (c : Context) (m n o :
     (t : Result CType CompileFault) (f : Result (Unit {0} × Unit {0}) CompileFault) (s : CType) (i : Result (Option (Box CodeExpr Global)) CompileFault)
     (q : Result (((Unit {0} × Unit {0}) × CType) × Option (Box CodeExpr Global)) CompileFault) (p : ((Unit {0} × Unit {0}) × CType) × Option (Box CodeExpr Global)) (r : Result CodeStmt CompileFault)
     → Tells type_view t m (object_of J x.declarator c)
-    → Gives fine_view f (local_fine (context_view m) (name_of x.declarator))
+    → Gives (λ x. x) f (local_fine (context_view m) (name_of x.declarator))
     → ((j : Judged Ty) → Gives type_view t j → type_view s ≡ or_int j)
     → context_view n ≡ with_local (context_view m) (name_of x.declarator) (type_view s)
     → ((j : Judged Ty) → Gives type_view t j → Tells (option_map boxed_expr_view) i o (judged_init (name_of x.declarator).from j x.value (context_view n)))
@@ -55,10 +54,10 @@ local_known : (J : Judged Ty) (x : source.InitDeclarator) (c : Context) (m n o :
 local_known J x c m n o t f s i q p r h g w l k is ok made =
     let name = name_of x.declarator in
     let O = object_of J x.declarator in
-    let parts = object_parts fine_view (option_map boxed_expr_view) O (λ d j. local_fine d name) (λ d t. with_local d name t) (λ j. judged_init name.from j x.value) c m n o t f s i h (λ j y. g) w l k in
+    let parts = object_parts (λ x. x) (option_map boxed_expr_view) O (λ d j. local_fine d name) (λ d t. with_local d name t) (λ j. judged_init name.from j x.value) c m n o t f s i h (λ j y. g) w l k in
     let all_fine : lacks_memory (joined (joined f t) i) ≡ false = ap lacks_memory (sym is ∙ ok) in
     let there : context_view m ≡ (O c).1 = left_known t m (O c).1 h.leaves (joined_keeps f t (joined_keeps (joined f t) i all_fine).0).1 in
-    ok_finishes (λ (p : ((Unit {0} × Unit {0}) × CType) × Option (Box CodeExpr Global)). ((fine_view p.0.0, type_view p.0.1), option_map boxed_expr_view p.1)) stmt_view
+    ok_finishes (λ (p : ((Unit {0} × Unit {0}) × CType) × Option (Box CodeExpr Global)). ((p.0.0, type_view p.0.1), option_map boxed_expr_view p.1)) stmt_view
     (λ y. typed (at_stmt name.from (declare (length (O c).1.locals) y.1)))
     (declared_parts O (λ d j. local_fine d name) (λ d t. with_local d name t) (λ j. judged_init name.from j x.value) c) o (joined (joined f t) i) p r
     parts (sym is ∙ ok) (subst (λ (d : Context). Gives stmt_view r (typed (at_stmt name.from (declare (length d.locals) (option_map boxed_expr_view p.1))))) there made)
@@ -67,7 +66,7 @@ local_unknown : (J : Judged Ty) (x : source.InitDeclarator) (c : Context) (m n o
     (t : Result CType CompileFault) (f : Result (Unit {0} × Unit {0}) CompileFault) (s : CType) (i : Result (Option (Box CodeExpr Global)) CompileFault)
     (q : Result (((Unit {0} × Unit {0}) × CType) × Option (Box CodeExpr Global)) CompileFault) (e : CompileFault) (r : Result CodeStmt CompileFault)
     → Tells type_view t m (object_of J x.declarator c)
-    → Gives fine_view f (local_fine (context_view m) (name_of x.declarator))
+    → Gives (λ x. x) f (local_fine (context_view m) (name_of x.declarator))
     → ((j : Judged Ty) → Gives type_view t j → type_view s ≡ or_int j)
     → context_view n ≡ with_local (context_view m) (name_of x.declarator) (type_view s)
     → ((j : Judged Ty) → Gives type_view t j → Tells (option_map boxed_expr_view) i o (judged_init (name_of x.declarator).from j x.value (context_view n)))
@@ -76,8 +75,8 @@ local_unknown : (J : Judged Ty) (x : source.InitDeclarator) (c : Context) (m n o
 local_unknown J x c m n o t f s i q e r h g w l k is err p =
     let name = name_of x.declarator in
     let O = object_of J x.declarator in
-    let parts = object_parts fine_view (option_map boxed_expr_view) O (λ d j. local_fine d name) (λ d t. with_local d name t) (λ j. judged_init name.from j x.value) c m n o t f s i h (λ j y. g) w l k in
-    err_finish (λ (p : ((Unit {0} × Unit {0}) × CType) × Option (Box CodeExpr Global)). ((fine_view p.0.0, type_view p.0.1), option_map boxed_expr_view p.1)) stmt_view
+    let parts = object_parts (λ x. x) (option_map boxed_expr_view) O (λ d j. local_fine d name) (λ d t. with_local d name t) (λ j. judged_init name.from j x.value) c m n o t f s i h (λ j y. g) w l k in
+    err_finish (λ (p : ((Unit {0} × Unit {0}) × CType) × Option (Box CodeExpr Global)). ((p.0.0, type_view p.0.1), option_map boxed_expr_view p.1)) stmt_view
     (λ y. typed (at_stmt name.from (declare (length (O c).1.locals) y.1)))
     (declared_parts O (λ d j. local_fine d name) (λ d t. with_local d name t) (λ j. judged_init name.from j x.value) c) o (joined (joined f t) i) q e r
     parts is err p
@@ -88,7 +87,7 @@ pub local_ok : (J : Judged Ty) (x : source.InitDeclarator) (name : Name) (c : Co
     (q : Result (((Unit {0} × Unit {0}) × CType) × Option (Box CodeExpr Global)) CompileFault) (p : ((Unit {0} × Unit {0}) × CType) × Option (Box CodeExpr Global)) (r : Result CodeStmt CompileFault)
     → name_of x.declarator ≡ name
     → Tells type_view t m (object_of J x.declarator c)
-    → Gives fine_view f (local_fine (context_view m) name)
+    → Gives (λ x. x) f (local_fine (context_view m) name)
     → ((j : Judged Ty) → Gives type_view t j → type_view s ≡ or_int j)
     → context_view n ≡ with_local (context_view m) name (type_view s)
     → ((j : Judged Ty) → Gives type_view t j → Tells (option_map boxed_expr_view) i o (judged_init name.from j x.value (context_view n)))
@@ -98,7 +97,7 @@ pub local_ok : (J : Judged Ty) (x : source.InitDeclarator) (name : Name) (c : Co
 local_ok J x name c m n o t f s i q p r named h g w l k is ok made =
     let back = sym named in
     local_known J x c m n o t f s i q p r h
-    (subst (λ (y : Name). Gives fine_view f (local_fine (context_view m) y)) back g) w
+    (subst (λ (y : Name). Gives (λ x. x) f (local_fine (context_view m) y)) back g) w
     (subst (λ (y : Name). context_view n ≡ with_local (context_view m) y (type_view s)) back l)
     (subst (λ (y : Name). (j : Judged Ty) → Gives type_view t j → Tells (option_map boxed_expr_view) i o (judged_init y.from j x.value (context_view n))) back k) is ok
     (subst (λ (y : Name). Gives stmt_view r (typed (at_stmt y.from (declare (length (context_view m).locals) (option_map boxed_expr_view p.1))))) back made)
@@ -109,7 +108,7 @@ pub local_err : (J : Judged Ty) (x : source.InitDeclarator) (name : Name) (c : C
     (q : Result (((Unit {0} × Unit {0}) × CType) × Option (Box CodeExpr Global)) CompileFault) (e : CompileFault) (r : Result CodeStmt CompileFault)
     → name_of x.declarator ≡ name
     → Tells type_view t m (object_of J x.declarator c)
-    → Gives fine_view f (local_fine (context_view m) name)
+    → Gives (λ x. x) f (local_fine (context_view m) name)
     → ((j : Judged Ty) → Gives type_view t j → type_view s ≡ or_int j)
     → context_view n ≡ with_local (context_view m) name (type_view s)
     → ((j : Judged Ty) → Gives type_view t j → Tells (option_map boxed_expr_view) i o (judged_init name.from j x.value (context_view n)))
@@ -118,6 +117,6 @@ pub local_err : (J : Judged Ty) (x : source.InitDeclarator) (name : Name) (c : C
 local_err J x name c m n o t f s i q e r named h g w l k is err p =
     let back = sym named in
     local_unknown J x c m n o t f s i q e r h
-    (subst (λ (y : Name). Gives fine_view f (local_fine (context_view m) y)) back g) w
+    (subst (λ (y : Name). Gives (λ x. x) f (local_fine (context_view m) y)) back g) w
     (subst (λ (y : Name). context_view n ≡ with_local (context_view m) y (type_view s)) back l)
     (subst (λ (y : Name). (j : Judged Ty) → Gives type_view t j → Tells (option_map boxed_expr_view) i o (judged_init y.from j x.value (context_view n))) back k) is err p

@@ -17,7 +17,7 @@ use Rattle.type_context.specs.Telling.{Tells}
 use Rattle.type_context.specs.Rows.{row, IsPushed, IsAppended}
 use Rattle.type_context.proofs.Walks.{both_tell}
 use Rattle.type_context.proofs.Rows.{row_last, pushed_tells, appended_tells}
-use Rattle.c_types.specs.Gathering.{each}
+use Rattle.type_declared.specs.Gathering.{each}
 
 -- ---- a row whose nodes are judged alike
 

@@ -1,34 +1,29 @@
 //! Declarations of locals, judged where they stand (C11 6.7).
-ghost use Rattle.std.specs.Prelude.{length, map, Some, IfOk, IfErr, ◌≡◌};
+ghost use Rattle.std.specs.Prelude.{map, Some};
 ghost use Rattle.std.specs.Option.{option_map};
-ghost use Rattle.c_lex.specs.declared.refusal.CompileFault.TheVariants.{NoMemory};
 ghost use Rattle.c_tree.specs.SyntaxViews as source;
 ghost use Rattle.c_tree.specs.Typed.{Ty};
 ghost use Rattle.c_tree.specs.TypedViews.{type_view, boxed_expr_view, stmt_view};
 ghost use Rattle.c_typing.specs.Faults.{Judged, Gives};
-ghost use Rattle.c_typing.specs.Statements.{initialised, judged_init, object_of, local_fine, judged_local, judged_locals, judged_declaration};
+ghost use Rattle.c_typing.specs.Statements.{initialised, judged_init, object_of, judged_local, judged_locals, judged_declaration};
 ghost use Rattle.type_context.specs.ContextViews.{context_view};
-ghost use Rattle.type_context.specs.Telling.{Tells, Says};
-ghost use Rattle.c_types.specs.Gathering.{each};
-ghost use Rattle.c_types.specs.inner.Gathering.{fine_view, some_part};
+ghost use Rattle.type_context.specs.Telling.{Tells};
+ghost use Rattle.type_declared.specs.Gathering.{each};
+ghost use Rattle.c_types.specs.inner.Gathering.{some_part};
 
 use crate::declarators::{declarator, specifiers};
 use crate::expressions::value;
-use c_lex::{CompileFault, Refusal};
+use c_lex::CompileFault;
 use c_tree::syntax as tree;
-use c_tree::syntax::Name;
 use c_tree::typed::{CType, Expr, Stmt, StmtNode};
 use std::alloc::Global;
-use type_context::context::{Context, count, within};
-use type_context::faults::{as_fault, both, both_or_refusal};
+use type_context::context::Context;
+use type_context::faults::{as_fault, both};
 use type_context::outcomes::{again, pushed};
-use type_declared::objects::{declare_local, or_int};
+use type_declared::objects::{declare_local, fine_local, local_number, or_int};
 use type_locals::headers::unboxed;
 use type_rules::assignments::initialised;
 use type_rules::declarators::object_declared;
-
-/// A function's locals and parameters, of which there are so many at most.
-pub const MOST_LOCALS: usize = 1024;
 
 /// The type of an object that a declarator declares, behind specifiers.
 pub fn object_of(
@@ -86,22 +81,6 @@ fn init(
         Some(e) => initialiser(context, place, t, e),
         None => Ok(None),
     }
-}
-
-// What is judged at a local's name, whatever its type is.
-fn fine_local(context: &Context<'_>, name: Name) -> Result<((), ()), Refusal>
-    ensures { Says fine_view result (local_fine (context_view context.now) name) }
-{
-    let few = within(name.from, 5, MOST_LOCALS, context.locals.len());
-    both_or_refusal(context.fresh(name), few)
-}
-
-// The number of the next local.
-fn local_number(context: &Context<'_>) -> Result<u32, CompileFault>
-    ensures number { IfOk result (λ n. n ≡ length (context_view context.now).locals) }
-    ensures memory { IfErr result (λ e. e ≡ NoMemory) }
-{
-    count(context.locals.len())
 }
 
 // A local, which is in scope directly behind its declarator.

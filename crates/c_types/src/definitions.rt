@@ -5,124 +5,31 @@ ghost use Rattle.c_lex.specs.declared.refusal.CompileFault.TheVariants.{NoMemory
 ghost use Rattle.c_tree.specs.SyntaxViews as source;
 ghost use Rattle.c_tree.specs.Typed.{Ty};
 ghost use Rattle.c_tree.specs.TypedViews.{type_view, stmt_view, func_view};
-ghost use Rattle.c_typing.specs.Faults.{Judged, Gives, typed, mapped};
+ghost use Rattle.c_typing.specs.Faults.{Judged, Gives, typed};
 ghost use Rattle.c_typing.specs.Numbering as numbers;
-ghost use Rattle.c_typing.specs.Programs.{result_of, types_fine, head_fine, types_or, func_by, judged_body, body_within, judged_function};
-ghost use Rattle.type_context.specs.ContextViews.{context_view, types_view, frame_view};
+ghost use Rattle.c_typing.specs.Programs.{result_of, head_fine, types_or, func_by, judged_body, body_within, judged_function};
+ghost use Rattle.type_context.specs.ContextViews.{context_view, frame_view};
 ghost use Rattle.type_declared.specs.FunctionNames.{IsDefined};
 ghost use Rattle.type_locals.specs.LocalViews.{param_view};
 ghost use Rattle.type_context.specs.Telling.{Tells};
-ghost use Rattle.c_types.specs.Gathering.{each};
+ghost use Rattle.type_declared.specs.Gathering.{each};
 ghost use Rattle.c_types.specs.inner.Functions.{IsHead};
-ghost use Rattle.c_types.specs.inner.Gathering.{fine_view};
 
 use crate::outcomes::outcome;
 use crate::parameters::param_list;
 use crate::statements::stmts;
 use c_lex::CompileFault;
-use c_tree::copies::copy_type;
 use c_tree::syntax as tree;
 use c_tree::syntax::{Block, Name, Pointer};
 use c_tree::typed::{CType, Func, Stmt};
 use indexmap::IndexMap;
-use std::alloc::Global;
 use type_context::context::{Context, Frame};
-use type_context::faults::{as_fault, both};
+use type_context::faults::both;
 use type_context::outcomes::again;
-use type_declared::functions::{
-    Defined, add_body, declare_function, name_fine, result_type, type_fine,
-};
+use type_declared::functions::{Defined, add_body, declare_function};
+use type_declared::heads::{head_fine, result_of, types_or};
 use type_declared::objects::or_int;
 use type_locals::locals::{Param, func_of};
-use type_rules::specifiers::behind_pointers;
-
-// What a function returns.
-#[tactic(auto, using(type_context::proofs::Judging::fails_part))]
-fn result_of(
-    alloc: Global,
-    place: u32,
-    base: Result<CType, CompileFault>,
-    pointers: &[Pointer],
-) -> Result<CType, CompileFault>
-    ensures { (j : Judged Ty) → Gives type_view base j → Gives type_view result (result_of place j pointers.now) }
-{
-    let named = base?;
-    let behind = behind_pointers(alloc, named, pointers)?;
-    as_fault(result_type(place, behind))
-}
-
-// The types of parameters, or none where one is at fault.
-fn types_or(
-    alloc: Global,
-    params: &Result<Vec<Param>, CompileFault>,
-) -> Result<Vec<CType>, CompileFault>
-    ensures types { (j : Judged (List numbers.Param)) → Gives (each param_view) params.now j → IfOk result (λ ts. types_view ts.items ≡ types_or j) }
-    ensures memory { IfErr result (λ e. e ≡ NoMemory) }
-{
-    match params {
-        Ok(params) => types_of(alloc, params),
-        Err(CompileFault::Refused(_)) => Ok(Vec::new(alloc)),
-        Err(CompileFault::NoMemory) => Err(CompileFault::NoMemory),
-    }
-}
-
-// The types of parameters.
-fn types_of(alloc: Global, params: &[Param]) -> Result<Vec<CType>, CompileFault>
-    ensures types { IfOk result (λ ts. types_view ts.items ≡ map (λ (p : numbers.Param). p.ty) (map param_view params.now)) }
-    ensures memory { IfErr result (λ e. e ≡ NoMemory) }
-{
-    let mut all = Vec::new(alloc);
-    'params: for p in params {
-        all.push(copy_type(alloc, &p.ty)?)?;
-    }
-    Ok(all)
-}
-
-// ---- what is judged at a function's name
-
-// The parameters and the result, judged by what the name meant before.
-fn types_fine(
-    context: &Context<'_>,
-    name: Name,
-    params: &Result<Vec<Param>, CompileFault>,
-    returned: &Result<CType, CompileFault>,
-) -> Result<(), CompileFault>
-    ensures { (j : Judged (List numbers.Param)) (k : Judged Ty) → Gives (each param_view) params.now j → Gives type_view returned.now k → Gives (λ _. tt) result (types_fine (context_view context.now) name j k) }
-{
-    let types = typed_params(context.alloc, params);
-    let returned = again(context.alloc, returned);
-    let (types, returned) = both(types, returned)?;
-    as_fault(type_fine(context, name, &types, &returned))
-}
-
-// The types of parameters that are typed.
-fn typed_params(
-    alloc: Global,
-    params: &Result<Vec<Param>, CompileFault>,
-) -> Result<Vec<CType>, CompileFault>
-    ensures { (j : Judged (List numbers.Param)) → Gives (each param_view) params.now j → Gives (each type_view) result (mapped (map (λ (p : numbers.Param). p.ty)) j) }
-{
-    match params {
-        Ok(params) => types_of(alloc, params),
-        Err(fault) => Err(*fault),
-    }
-}
-
-// All that is judged there.
-fn head_fine(
-    context: &Context<'_>,
-    defined: &Defined<'_>,
-    name: Name,
-    body: &Option<Block>,
-    params: &Result<Vec<Param>, CompileFault>,
-    returned: &Result<CType, CompileFault>,
-) -> Result<((), ()), CompileFault>
-    ensures { (names : List (List ℕ)) (j : Judged (List numbers.Param)) (k : Judged Ty) → IsDefined names defined.now → Gives (each param_view) params.now j → Gives type_view returned.now k → Gives fine_view result (head_fine (context_view context.now) names name (option_map source.body_view body.now) j k) }
-{
-    let types = types_fine(context, name, params, returned);
-    let named = as_fault(name_fine(context, defined, name, body));
-    both(named, types)
-}
 
 // ---- parameters and bodies
 

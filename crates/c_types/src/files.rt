@@ -11,7 +11,7 @@ ghost use Rattle.type_context.specs.ContextViews.{context_view};
 ghost use Rattle.type_context.specs.inner.Outcomes as outcomes;
 ghost use Rattle.type_declared.specs.FunctionNames.{IsDefined};
 ghost use Rattle.type_context.specs.Telling.{Tells};
-ghost use Rattle.c_types.specs.Gathering.{each};
+ghost use Rattle.type_declared.specs.Gathering.{each};
 ghost use Rattle.c_types.specs.inner.Files.{made_view, IsMade};
 
 use crate::declarators::specifiers;

@@ -6,7 +6,7 @@ ghost use Rattle.c_tree.specs.TypedViews.{boxed_expr_view, stmt_view, boxed_stmt
 ghost use Rattle.c_typing.specs.Faults.{Gives, typed};
 ghost use Rattle.c_tree.specs.Typed as typed_trees;
 ghost use Rattle.c_typing.specs.Statements as rules;
-ghost use Rattle.c_types.specs.Gathering.{each};
+ghost use Rattle.type_declared.specs.Gathering.{each};
 
 use crate::parts::alone;
 use c_lex::CompileFault;

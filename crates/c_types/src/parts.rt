@@ -10,7 +10,7 @@ ghost use Rattle.c_typing.specs.Statements as rules;
 ghost use Rattle.c_typing.specs.Statements.{judged_simple, returned, returned_none, judged_first, judged_condition, judged_step, judged_stmt};
 ghost use Rattle.type_context.specs.ContextViews.{context_view};
 ghost use Rattle.type_context.specs.Telling.{Tells, Says};
-ghost use Rattle.c_types.specs.Gathering.{each};
+ghost use Rattle.type_declared.specs.Gathering.{each};
 
 use crate::declarations::declaration;
 use crate::expressions::value;

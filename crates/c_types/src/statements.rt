@@ -7,7 +7,7 @@ ghost use Rattle.c_tree.specs.TypedViews.{type_view, stmt_view, boxed_stmt_view}
 ghost use Rattle.c_typing.specs.Statements.{one_of, judged_first, judged_condition, judged_step, for_of, judged_stmt, judged_stmts};
 ghost use Rattle.type_context.specs.ContextViews.{context_view};
 ghost use Rattle.type_context.specs.Telling.{Tells};
-ghost use Rattle.c_types.specs.Gathering.{each};
+ghost use Rattle.type_declared.specs.Gathering.{each};
 
 use crate::declarations::declaration;
 use crate::makers::{block_made, for_made, if_else_made, if_made, only, while_made};

@@ -1,1 +1,3 @@
 pub mod Defining
+mod ParamLaws
+mod HeadLaws

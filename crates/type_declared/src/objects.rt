@@ -1,12 +1,12 @@
 //! Objects that are declared: their names and types among the others' (C11 6.7, 6.9.2).
-ghost use Rattle.std.specs.Prelude.{◌≡◌, OnOk, IfOk, IfErr};
+ghost use Rattle.std.specs.Prelude.{◌≡◌, OnOk, IfOk, IfErr, length};
 ghost use Rattle.c_lex.specs.declared.refusal.CompileFault.TheVariants.{NoMemory};
 ghost use Rattle.c_tree.specs.Typed.{Ty};
 ghost use Rattle.c_tree.specs.TypedViews.{type_view};
 ghost use Rattle.c_tree.specs.TypedLayout.{size_in};
 ghost use Rattle.c_typing.specs.Faults.{Judged, Gives};
-ghost use Rattle.c_typing.specs.Statements.{or_int, with_local};
-ghost use Rattle.c_typing.specs.Programs.{with_param, with_global, fresh_if};
+ghost use Rattle.c_typing.specs.Statements.{or_int, with_local, local_fine};
+ghost use Rattle.c_typing.specs.Programs.{with_param, with_global, fresh_if, global_fine};
 ghost use Rattle.type_context.specs.ContextViews.{context_view};
 ghost use Rattle.type_context.specs.Telling.{Says};
 ghost use Rattle.type_declared.specs.ObjectFits.{fits_of};
@@ -17,10 +17,16 @@ use c_tree::copies::copy_type;
 use c_tree::syntax::Name;
 use c_tree::typed::CType;
 use std::alloc::Global;
-use type_context::context::{Context, count};
-use type_context::faults::as_fault;
+use type_context::context::{Context, count, within};
+use type_context::faults::{as_fault, both, both_or_refusal};
 use type_context::layouts::size_in;
 use type_context::names::Binding;
+
+/// A function's locals and parameters, of which there are so many at most (this project's profile).
+pub const MOST_LOCALS: usize = 1024;
+
+/// The globals that there may be.
+const MOST_GLOBALS: usize = 4096;
 
 /// The type that a declarator declares, or int where it is at fault: no name is used before its
 /// declarator, so what it means then is nowhere seen.
@@ -117,4 +123,33 @@ pub fn global_fits(
         }
         Err(fault) => Err(*fault),
     }
+}
+
+/// The number of the next local.
+pub fn local_number(context: &Context<'_>) -> Result<u32, CompileFault>
+    ensures number { IfOk result (λ n. n ≡ length (context_view context.now).locals) }
+    ensures memory { IfErr result (λ e. e ≡ NoMemory) }
+{
+    count(context.locals.len())
+}
+
+/// What is judged at a local's name, whatever its type is.
+pub fn fine_local(context: &Context<'_>, name: Name) -> Result<((), ()), Refusal>
+    ensures { Says (λ x. x) result (local_fine (context_view context.now) name) }
+{
+    let few = within(name.from, 5, MOST_LOCALS, context.locals.len());
+    both_or_refusal(context.fresh(name), few)
+}
+
+/// What is judged at a global's name.
+pub fn global_fine(
+    context: &Context<'_>,
+    name: Name,
+    t: &Result<CType, CompileFault>,
+) -> Result<((), ((), ())), CompileFault>
+    ensures { (j : Judged Ty) → Gives type_view t.now j → Gives (λ x. x) result (global_fine (context_view context.now) name j) }
+{
+    let few = as_fault(within(name.from, 2, MOST_GLOBALS, context.globals.len()));
+    let room = both(few, global_fits(context, name.from, t));
+    both(as_fault(context.fresh(name)), room)
 }

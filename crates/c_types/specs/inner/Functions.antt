@@ -8,7 +8,7 @@ use Rattle.type_context.specs.declared.context.Context.{Context as CodeContext}
 use Rattle.type_context.specs.ContextViews.{context_view, frame_view}
 use Rattle.type_locals.specs.LocalViews.{param_view}
 use Rattle.c_types.specs.declared.definitions.Head.{Head}
-use Rattle.c_types.specs.Gathering.{each}
+use Rattle.type_declared.specs.Gathering.{each}
 
 -- the parameters of a function, and what their scope declares
 pub record IsHead (h : Head) (left : CodeContext) (params : List source.Param) (around : Context) : Type 0 where

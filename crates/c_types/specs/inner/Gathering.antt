@@ -5,10 +5,6 @@ use Rattle.c_lex.specs.declared.refusal.CompileFault.TheVariants.{NoMemory}
 use Rattle.c_typing.specs.Faults.{Judged, typed, ◌>>=◌}
 use Rattle.type_context.specs.Telling.{lacks_memory}
 
--- what says no more than that something is fine, as it stands
-abbrev pub fine_view : {A : Type 0} → A → A
-fine_view x = x
-
 -- a part that may lack, and is there
 abbrev pub some_part : {A : Type 0} → Judged A → Judged (Option A)
 some_part j = j >>= λ x. typed (Some x)

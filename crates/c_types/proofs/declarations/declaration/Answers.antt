@@ -7,7 +7,7 @@ use Rattle.c_typing.specs.Judgement.{judged_specs}
 use Rattle.c_typing.specs.Statements.{judged_locals}
 use Rattle.type_context.specs.ContextViews.{context_view}
 use Rattle.type_context.specs.Telling.{Tells}
-use Rattle.c_types.specs.Gathering.{each}
+use Rattle.type_declared.specs.Gathering.{each}
 use Rattle.c_types.proofs.Steps.{two_pass, two_rule}
 use Rattle.c_types.proofs.declarations.declaration.Goals as goal
 

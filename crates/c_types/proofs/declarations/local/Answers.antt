@@ -8,7 +8,6 @@ use Rattle.c_typing.specs.Statements.{judged_local}
 use Rattle.type_context.specs.ContextViews.{context_view}
 use Rattle.type_context.specs.inner.Outcomes.{joined}
 use Rattle.type_context.proofs.Judging.{fault_gives}
-use Rattle.c_types.specs.inner.Gathering.{fine_view}
 use Rattle.c_types.proofs.Steps.{memory_passes}
 use Rattle.c_types.proofs.StatementNodes.{declared_name, local_ok, local_err}
 use Rattle.c_types.proofs.declarations.local.Goals as goal
@@ -32,14 +31,14 @@ pub returns-in_err-init : goal.returns-in_err-init
 returns-in_err-init c = λ j h.
     local_err j (source.init_declarator_view c.args.x.now) c.args.x.now.declarator.name (context_view c.args.context.now) c.object_of-t.new.context c.declare_local.new.context c.init-init.new.context
     c.object_of-t.result c.as_fault-fine.result c.in_ok-declared.declared c.init-init.result c.both-2.result c.in_err-init.field-0.0 c.from_residual-in_err-init.result
-    (declared_name c.args.x.now.declarator) (c.object_of-t.ensures j h) (fault_gives fine_view _ _ _ c.as_fault-fine.ensures c.fine_local.ensures) c.in_ok-declared.ensures.declared c.in_ok-declare_local.ensures.after c.init-init.ensures
+    (declared_name c.args.x.now.declarator) (c.object_of-t.ensures j h) (fault_gives (λ x. x) _ _ _ c.as_fault-fine.ensures c.fine_local.ensures) c.in_ok-declared.ensures.declared c.in_ok-declare_local.ensures.after c.init-init.ensures
     (c.both-2.ensures ∙ ap (λ q. joined q c.init-init.result) c.both.ensures) c.in_err-init.was c.from_residual-in_err-init.ensures.1
 
 pub returns : goal.returns
 returns c = λ j h.
     local_ok j (source.init_declarator_view c.args.x.now) c.args.x.now.declarator.name (context_view c.args.context.now) c.object_of-t.new.context c.declare_local.new.context c.init-init.new.context
     c.object_of-t.result c.as_fault-fine.result c.in_ok-declared.declared c.init-init.result c.both-2.result (c.in_ok-init.field-0-0, c.in_ok-init.init) _
-    (declared_name c.args.x.now.declarator) (c.object_of-t.ensures j h) (fault_gives fine_view _ _ _ c.as_fault-fine.ensures c.fine_local.ensures) c.in_ok-declared.ensures.declared c.in_ok-declare_local.ensures.after c.init-init.ensures
+    (declared_name c.args.x.now.declarator) (c.object_of-t.ensures j h) (fault_gives (λ x. x) _ _ _ c.as_fault-fine.ensures c.fine_local.ensures) c.in_ok-declared.ensures.declared c.in_ok-declare_local.ensures.after c.init-init.ensures
     (c.both-2.ensures ∙ ap (λ q. joined q c.init-init.result) c.both.ensures) c.in_ok-init.was
     (ap (λ k. typed (at_stmt c.args.x.now.declarator.name.from (declare k (option_map boxed_expr_view c.in_ok-init.init)))) (sym c.in_ok-number.ensures.number)
     ∙ ap (λ i. typed (at_stmt c.args.x.now.declarator.name.from (declare c.in_ok-number.number i))) (sym c.unboxed.ensures))

@@ -6,7 +6,7 @@ use Rattle.c_typing.specs.Faults.{Judged, Gives}
 use Rattle.c_typing.specs.Statements.{judged_locals}
 use Rattle.type_context.specs.ContextViews.{context_view}
 use Rattle.type_context.specs.Telling.{Tells}
-use Rattle.c_types.specs.Gathering.{each}
+use Rattle.type_declared.specs.Gathering.{each}
 use Rattle.c_types.proofs.declarations.locals.Given as goal
 
 -- those before the index are told

@@ -5,7 +5,7 @@ use Rattle.c_typing.specs.Programs.{judged_param_list, before_params}
 use Rattle.type_context.specs.ContextViews.{context_view}
 use Rattle.type_locals.specs.LocalViews.{param_view}
 use Rattle.type_context.specs.Telling.{Tells}
-use Rattle.c_types.specs.Gathering.{each}
+use Rattle.type_declared.specs.Gathering.{each}
 use Rattle.c_types.proofs.Known.{known_left, known_gives}
 use Rattle.c_typing.proofs.Unmoved.{param_list_stays}
 use Rattle.c_types.proofs.Functions.{found_params}

@@ -12,9 +12,8 @@ use Rattle.type_context.specs.ContextViews.{context_view}
 use Rattle.type_context.specs.inner.Outcomes.{joined}
 use Rattle.type_context.specs.Telling.{Tells}
 use Rattle.type_context.proofs.Walks.{ok_finishes}
-use Rattle.c_types.specs.Gathering.{each}
+use Rattle.type_declared.specs.Gathering.{each}
 use Rattle.c_types.proofs.Steps.{memory_passes, err_finish}
-use Rattle.c_types.specs.inner.Gathering.{fine_view}
 use Rattle.c_types.proofs.Known.{known_gives}
 use Rattle.c_types.proofs.Functions.{function_parts, function_is, function_told}
 use Rattle.c_types.proofs.definitions.function.Goals as goal
@@ -53,7 +52,7 @@ returns-in_err-funcs c = λ names j is g.
     let told = function_told names j c.args.pointers.now c.args.name params body d c.in_ok-head.head c.found_head.new.context c.declare_function.new.context c.body_within-funcs.new.context c.in_ok-declared.declared c.in_ok-types.types.items c.in_ok-returned.returned c.head_fine-fine.result c.body_within-funcs.result
     c.in_ok-head.ensures.found (known_gives type_view c.result_of.result c.in_ok-returned.returned returned c.in_ok-returned.ensures (c.result_of.ensures j (c.again-base.ensures j g)))
     (λ i k x y. c.head_fine-fine.ensures names i k is x y) c.in_ok-types.ensures.types c.in_ok-declared.ensures.declared (c.in_ok-declare_function.ensures.after names is) c.body_within-funcs.ensures in
-    let v : (Unit {0} × Unit {0}) × Vec CodeFunc Global → (Unit {0} × Unit {0}) × List Func = λ z. (fine_view z.0, each func_view z.1) in
+    let v : (Unit {0} × Unit {0}) × Vec CodeFunc Global → (Unit {0} × Unit {0}) × List Func = λ z. (z.0, each func_view z.1) in
     subst (λ z. Tells (each func_view) c.from_residual-in_err-funcs.result c.body_within-funcs.new.context z) (sym (function_is names j c.args.pointers.now c.args.name params body d))
     (err_finish v (each func_view) (λ (p : (Unit {0} × Unit {0}) × List Func). typed p.1) (function_parts names j c.args.pointers.now c.args.name params body d) c.body_within-funcs.new.context (joined c.head_fine-fine.result c.body_within-funcs.result) c.both.result c.in_err-funcs.field-0.0 c.from_residual-in_err-funcs.result
     told c.both.ensures c.in_err-funcs.was c.from_residual-in_err-funcs.ensures.1)
@@ -67,7 +66,7 @@ returns c = λ names j is g.
     let told = function_told names j c.args.pointers.now c.args.name params body d c.in_ok-head.head c.found_head.new.context c.declare_function.new.context c.body_within-funcs.new.context c.in_ok-declared.declared c.in_ok-types.types.items c.in_ok-returned.returned c.head_fine-fine.result c.body_within-funcs.result
     c.in_ok-head.ensures.found (known_gives type_view c.result_of.result c.in_ok-returned.returned returned c.in_ok-returned.ensures (c.result_of.ensures j (c.again-base.ensures j g)))
     (λ i k x y. c.head_fine-fine.ensures names i k is x y) c.in_ok-types.ensures.types c.in_ok-declared.ensures.declared (c.in_ok-declare_function.ensures.after names is) c.body_within-funcs.ensures in
-    let v : (Unit {0} × Unit {0}) × Vec CodeFunc Global → (Unit {0} × Unit {0}) × List Func = λ z. (fine_view z.0, each func_view z.1) in
+    let v : (Unit {0} × Unit {0}) × Vec CodeFunc Global → (Unit {0} × Unit {0}) × List Func = λ z. (z.0, each func_view z.1) in
     subst (λ z. Tells (each func_view) (Ok c.in_ok-funcs.funcs) c.body_within-funcs.new.context z) (sym (function_is names j c.args.pointers.now c.args.name params body d))
     (ok_finishes v (each func_view) (λ (p : (Unit {0} × Unit {0}) × List Func). typed p.1) (function_parts names j c.args.pointers.now c.args.name params body d) c.body_within-funcs.new.context (joined c.head_fine-fine.result c.body_within-funcs.result) (c.in_ok-funcs.field-0-0, c.in_ok-funcs.funcs) (Ok c.in_ok-funcs.funcs)
     told (sym c.both.ensures ∙ c.in_ok-funcs.was) refl)

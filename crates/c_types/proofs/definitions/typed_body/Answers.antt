@@ -17,7 +17,7 @@ use Rattle.type_locals.specs.declared.locals.Param.{Param as CodeParam}
 use Rattle.type_locals.specs.LocalViews.{param_view}
 use Rattle.type_context.specs.Telling.{Tells}
 use Rattle.type_context.proofs.Walks.{lone_tells}
-use Rattle.c_types.specs.Gathering.{each}
+use Rattle.type_declared.specs.Gathering.{each}
 use Rattle.c_types.proofs.Steps.{memory_passes, two_pass, two_rule}
 use Rattle.c_types.proofs.definitions.typed_body.Goals as goal
 

@@ -1,7 +1,7 @@
 use Rattle.c_tree.specs.SyntaxViews as source
 use Rattle.c_tree.specs.TypedViews.{func_view}
 use Rattle.type_context.specs.ContextViews.{context_view, frame_view}
-use Rattle.c_types.specs.Gathering.{each}
+use Rattle.type_declared.specs.Gathering.{each}
 use Rattle.c_types.proofs.Steps.{memory_passes}
 use Rattle.std.proofs.Common.{Some}
 use Rattle.c_typing.specs.Programs.{body_within}

@@ -4,7 +4,7 @@ use Rattle.c_tree.specs.TypedViews.{global_view}
 use Rattle.c_typing.specs.Faults.{typed}
 use Rattle.c_typing.specs.Programs.{judged_globals}
 use Rattle.type_context.specs.ContextViews.{context_view}
-use Rattle.c_types.specs.Gathering.{each}
+use Rattle.type_declared.specs.Gathering.{each}
 use Rattle.type_context.proofs.Walks.{ok_tells}
 use Rattle.c_types.proofs.Steps.{err_passes}
 use Rattle.c_types.specs.inner.Files.{made_view}

@@ -2,7 +2,7 @@ use Rattle.std.proofs.Common.{subst, [], ◌∷◌}
 use Rattle.c_tree.specs.Typed.{Stmt}
 use Rattle.c_tree.specs.TypedViews.{stmt_view}
 use Rattle.c_typing.specs.Faults.{typed, Gives}
-use Rattle.c_types.specs.Gathering.{each}
+use Rattle.type_declared.specs.Gathering.{each}
 use Rattle.c_types.proofs.makers.while_made.Goals as goal
 
 pub returns : goal.returns

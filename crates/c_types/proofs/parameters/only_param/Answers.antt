@@ -9,7 +9,7 @@ use Rattle.type_context.specs.ContextViews.{context_view}
 use Rattle.type_locals.specs.LocalViews.{param_view}
 use Rattle.type_context.specs.Telling.{Tells, lacks_memory}
 use Rattle.type_context.proofs.Walks.{known_tells, ok_tells}
-use Rattle.c_types.specs.Gathering.{each}
+use Rattle.type_declared.specs.Gathering.{each}
 use Rattle.c_types.proofs.Steps.{memory_passes, err_passes}
 use Rattle.c_types.proofs.Known.{known_left, known_gives}
 use Rattle.c_types.proofs.FileParts.{param_told, only_is, none_is}

@@ -4,7 +4,7 @@ use Rattle.c_typing.specs.Programs.{judged_param_list}
 use Rattle.type_context.specs.ContextViews.{context_view}
 use Rattle.type_locals.specs.LocalViews.{param_view}
 use Rattle.type_context.specs.Telling.{Tells}
-use Rattle.c_types.specs.Gathering.{each}
+use Rattle.type_declared.specs.Gathering.{each}
 use Rattle.c_types.proofs.FileParts.{one_item, many_params}
 use Rattle.c_types.proofs.parameters.param_list.Goals.{in_default-via-then-all-lt1, in_default-via-else-all-lt1+else-all-lt2}
 use Rattle.c_types.proofs.parameters.param_list.Goals as goal

@@ -4,7 +4,7 @@ use Rattle.c_typing.specs.Programs.{judged_params}
 use Rattle.type_context.specs.ContextViews.{context_view}
 use Rattle.type_locals.specs.LocalViews.{param_view}
 use Rattle.type_context.specs.Telling.{Tells}
-use Rattle.c_types.specs.Gathering.{each}
+use Rattle.type_declared.specs.Gathering.{each}
 use Rattle.c_types.proofs.parameters.params.Given as goal
 
 -- those before the index are told

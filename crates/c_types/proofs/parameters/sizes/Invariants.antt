@@ -3,7 +3,7 @@ use Rattle.c_tree.specs.SyntaxViews.{param_dim_view}
 use Rattle.c_typing.specs.Programs.{judged_sizes}
 use Rattle.type_context.specs.ContextViews.{context_view}
 use Rattle.type_context.specs.Telling.{Tells}
-use Rattle.c_types.specs.Gathering.{each}
+use Rattle.type_declared.specs.Gathering.{each}
 use Rattle.c_types.proofs.FileRows.{is_outermost}
 use Rattle.c_types.proofs.parameters.sizes.Given as goal
 

@@ -3,7 +3,7 @@ use Rattle.c_tree.specs.SyntaxViews as source
 use Rattle.c_tree.specs.TypedViews.{stmt_view}
 use Rattle.c_typing.specs.Faults.{typed}
 use Rattle.c_typing.specs.Statements.{judged_simple}
-use Rattle.c_types.specs.Gathering.{each}
+use Rattle.type_declared.specs.Gathering.{each}
 use Rattle.type_context.specs.ContextViews.{context_view}
 use Rattle.type_context.proofs.Walks.{ok_tells}
 use Rattle.c_types.proofs.Steps.{err_passes}

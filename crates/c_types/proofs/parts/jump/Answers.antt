@@ -4,7 +4,7 @@ use Rattle.c_tree.specs.Typed.{at_stmt}
 use Rattle.c_tree.specs.TypedViews.{stmt_view, stmt_node_view}
 use Rattle.c_typing.specs.Faults.{Judged, typed, unless, Gives, ◌>>=◌}
 use Rattle.type_context.proofs.Judging.{fails_typed, fails_part, fault_gives}
-use Rattle.c_types.specs.Gathering.{each}
+use Rattle.type_declared.specs.Gathering.{each}
 use Rattle.c_typing.specs.Statements.{jump}
 use Rattle.c_types.proofs.Steps.{fails_passes}
 use Rattle.c_types.proofs.parts.jump.Goals as goal

@@ -4,7 +4,7 @@ use Rattle.c_tree.specs.SyntaxViews as source
 use Rattle.c_tree.specs.TypedViews.{type_view, stmt_view}
 use Rattle.c_typing.specs.Faults.{typed}
 use Rattle.c_typing.specs.Statements.{returned}
-use Rattle.c_types.specs.Gathering.{each}
+use Rattle.type_declared.specs.Gathering.{each}
 use Rattle.type_context.specs.ContextViews.{context_view}
 use Rattle.type_context.proofs.Walks.{ok_tells}
 use Rattle.c_types.proofs.Steps.{err_passes}

@@ -18,7 +18,7 @@ use Rattle.type_context.specs.ContextViews.{context_view}
 use Rattle.type_context.specs.inner.Outcomes.{joined}
 use Rattle.type_context.proofs.Walks.{ok_tells}
 use Rattle.type_context.proofs.Rows.{starts}
-use Rattle.c_types.specs.Gathering.{each}
+use Rattle.type_declared.specs.Gathering.{each}
 use Rattle.c_types.proofs.Steps.{err_passes, two_pass, two_rule, memory_passes, scope_tells, three_told, four_told}
 use Rattle.c_typing.proofs.Unmoved.{stmt_stays, stmts_stays, for_stays}
 use Rattle.c_types.proofs.StatementRows.{several_more, at_end}

@@ -8,7 +8,7 @@ use Rattle.c_tree.specs.TypedViews.{type_view, stmt_view}
 use Rattle.c_typing.specs.Statements.{judged_stmts}
 use Rattle.type_context.specs.ContextViews.{context_view}
 use Rattle.type_context.specs.Telling.{Tells}
-use Rattle.c_types.specs.Gathering.{each}
+use Rattle.type_declared.specs.Gathering.{each}
 use Rattle.c_types.proofs.statements.+statements.Given as goal
 
 -- ---- measures: the depth of the statements that are left, and then which function calls which

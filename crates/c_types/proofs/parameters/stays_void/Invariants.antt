@@ -1,8 +1,0 @@
-use Rattle.std.proofs.Common.{◌≡◌, drop}
-use Rattle.c_tree.specs.Typed.{void}
-use Rattle.c_typing.specs.Types.{behind_pointers}
-use Rattle.c_types.proofs.parameters.stays_void.Given as goal
-
--- the pointers so far left void as it is
-abbrev pub invariant-pointers : goal.invariant-pointers
-invariant-pointers l = behind_pointers void l.pointers ≡ behind_pointers void (drop l.pointer-index l.pointers)
