@@ -12,9 +12,9 @@ ghost use Rattle.block_meaning.specs.inner.Starts.{global_in};
 
 use ak_words::{NoMemory, Num};
 use block_store::{BlockKind, Cell, Ptr, Store, Value};
+use c_meaning::types::size_in;
 use c_tree::typed::{GlobalVar, Init, Layout, Literal};
 use source_tree::tree::SharedProgram;
-use source_values::size_of;
 use std::alloc::Global;
 
 // The next block, of so many zero bytes.
@@ -51,7 +51,7 @@ fn make_global(
 {
     match g.init {
         Init::Zero => {
-            let size = size_of(&g.ty, structs)?;
+            let size = size_in(&g.ty, structs)?;
             make_zeros(store, size)?;
             Ok(())
         }

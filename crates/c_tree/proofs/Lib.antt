@@ -1,1 +1,2 @@
 pub mod TypedRowsProof
+pub mod ListedViews

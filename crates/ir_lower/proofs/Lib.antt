@@ -1,3 +1,3 @@
-pub mod Views
+pub mod CountedRows
 pub mod Rows
 pub mod Programs

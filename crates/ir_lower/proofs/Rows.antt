@@ -14,7 +14,7 @@ use Rattle.struct_ir.specs.Views.{nodes_view, followed}
 use Rattle.struct_ir.proofs.Views.{followed_none}
 use Rattle.lower_forms.specs.Forms.{Frame, first_temp, branches, sets_int, expr_nodes, ends, objects_in, test_nodes, form_nodes, row_nodes}
 use Rattle.lower_forms.specs.Programs.{homes_from, next_home, objects_of, frame_of, registers_of, last_nodes, func_lowered}
-use Rattle.ir_lower.proofs.Views.{block_view}
+use Rattle.c_tree.proofs.ListedViews.{block_view}
 use Rattle.c_tree.specs.Typed.{stmts_of}
 
 pub block_done : (F : Frame) (place : ℕ) (node : StmtNode) (v : Vec Stmt) (left : List ℕ) (o0 o1 : List Node) (d : List Stmt) → node ≡ stmt_views.Block v → d ≡ v.items

@@ -9,12 +9,12 @@ ghost use Rattle.lower_expressions.specs.FrameViews.{frame_view};
 ghost use Rattle.c_tree.specs.Typed.{stmts_of};
 
 use ak_words::{NoMemory, Op};
+use c_meaning::types::is_struct;
 use c_tree::typed::{Expr, Stmt, StmtNode};
 use lower_expressions::expressions::{dropped, expr, place};
 use lower_expressions::forms::{computes, initialises, loads_at, stores, struct_nodes};
 use lower_expressions::frame::Frame;
 use lower_expressions::nodes::{after, begins, branches, ends, put, rounds, sets};
-use lower_expressions::types::is_struct;
 use std::alloc::Global;
 use struct_ir::{Calc, Node, NodeKind, Place};
 

@@ -10,7 +10,7 @@ use Rattle.struct_ir.specs.declared.code.Node.{Node}
 use Rattle.struct_ir.specs.Nodes.{Nodes, copy}
 use Rattle.struct_ir.specs.Views.{followed}
 use Rattle.lower_forms.specs.Forms.{Frame, sets, calls, temps_of, lib_nodes, expr_nodes, value_nodes, args_nodes, dropped_nodes, dropped_value}
-use Rattle.lower_expressions.proofs.Views.{call_view, lib_call_view}
+use Rattle.c_tree.proofs.ListedViews.{call_view, lib_call_view}
 
 module _ (F : Frame) where
   pub call_done : (e : Expr) (fn : ℕ) (v : Vec Expr) (t : ℕ) (o0 o1 : List Node) (d : List Expr) → e.node ≡ expr_views.Call fn v → d ≡ v.items

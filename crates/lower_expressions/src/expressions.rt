@@ -13,8 +13,9 @@ use crate::forms::{called, calls_with, lib_nodes, loads, local_place, local_valu
 use crate::frame::{Frame, Reach};
 use crate::nodes::{after, branches, one_int, sets, sets_truth};
 use crate::operators::{operation, unary_nodes};
-use crate::types::{is_scalar, is_void, member_offset};
+use crate::types::is_void;
 use ak_words::NoMemory;
+use c_meaning::types::{is_scalar, member_offset};
 use c_tree::typed::{Expr, ExprNode, Lib};
 use std::alloc::Global;
 use struct_ir::{Calc, Node};
@@ -191,7 +192,7 @@ pub fn place(
         }
         ExprNode::Member(s, n) => {
             let r = place(alloc, s, f, t, out)?;
-            let offset = member_offset(&s.ty, *n, f.structs);
+            let offset = member_offset(&s.ty, f.structs, *n);
             member_nodes(out, e.place, offset, r, t)?;
             Ok(r.member(offset))
         }

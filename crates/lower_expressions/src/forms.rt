@@ -12,11 +12,10 @@ ghost use Rattle.lower_expressions.specs.FrameViews.{reach_view};
 
 use crate::frame::{Reach, at_temp};
 use crate::nodes::{acts, after, calls, sets, sets_int, sets_long};
-use crate::types::{
-    access_of_type, align_in, element_size, is_number, number_type, operand_types, size_in,
-};
+use crate::types::{is_number, number_type};
 use ak_words::{IntType, NoMemory, Op};
 use block_store::Access;
+use c_meaning::types::{access_of_type, align_in, element_size, operand_types, size_in};
 use c_tree::copies::copy_pieces;
 use c_tree::typed::{CType, Expr, Layout, Lib, Piece};
 use std::alloc::Global;

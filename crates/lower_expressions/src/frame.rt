@@ -8,8 +8,9 @@ ghost use Rattle.lower_expressions.specs.FrameViews.{frame_view, reach_view};
 
 pub use crate::homes::{Frame, Reach};
 use crate::nodes::after;
-use crate::types::{element_size, is_pointer};
+use crate::types::is_pointer;
 use ak_words::NoMemory;
+use c_meaning::types::element_size;
 use c_tree::typed::{CType, Expr, ExprNode};
 use struct_ir::Place;
 

@@ -9,8 +9,9 @@ ghost use Rattle.lower_expressions.specs.inner.Operators.{unary_nodes, operation
 
 use crate::forms::converts;
 use crate::nodes::{sets, sets_truth};
-use crate::types::{element_size, is_pointer, number_type};
+use crate::types::{is_pointer, number_type};
 use ak_words::NoMemory;
+use c_meaning::types::element_size;
 use c_tree::typed::{CType, Expr, ExprNode, Layout};
 use std::alloc::Global;
 use struct_ir::{Calc, Node};

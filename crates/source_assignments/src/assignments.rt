@@ -17,12 +17,13 @@ use crate::exit::Exit;
 use crate::locals::{is_block, make_local};
 use ak_words::{NoMemory, Op, Rule};
 use block_store::{Ptr, Value};
+use c_meaning::types::{access_of_type, align_in, is_scalar, is_struct, size_in};
 use c_tree::typed::CType;
 use source_expressions::expressions::{arguments, expr, place, pointer_in};
 use source_state::control::{Pending, Progress, Then, Todo, Updating, Use, Values, Wait};
 use source_state::{KeptStore, Locals, SharedAction, Variable};
 use source_tree::tree::{OneForm, SharedExpr, SharedNode, SharedProgram};
-use source_values::{access_of_type, align_of, is_scalar, is_struct, size_of, updated};
+use source_values::updated;
 use std::alloc::Global;
 use std::rc::Rc;
 
@@ -94,8 +95,8 @@ pub fn copy_struct(
 ) -> Result<Pending, NoMemory>
     ensures { IfOk result (λ q. Copies program.now place (type_view ty.now) to from (todo_of k.now.value) q) }
 {
-    let size = size_of(ty, &program.structs)?;
-    let align = align_of(ty, &program.structs);
+    let size = size_in(ty, &program.structs)?;
+    let align = align_in(ty, &program.structs);
     let then = Then::Begins(k.clone()?);
     let action = SharedAction::Copy(
         pointer_in(to),

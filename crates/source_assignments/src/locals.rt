@@ -10,10 +10,10 @@ ghost use Rattle.source_assignments.specs.inner.Numbers.{size_in_program, local_
 
 use ak_words::NoMemory;
 use block_store::{BlockKind, Cell};
+use c_meaning::types::size_in;
 use c_tree::typed::Local;
 use source_state::{KeptStore, Locals, Variable};
 use source_tree::tree::SharedProgram;
-use source_values::size_of;
 
 // The local of a number, as its function declares it.
 fn declared_as(program: &SharedProgram, function: u32, number: u32) -> Option<&Local>
@@ -40,7 +40,7 @@ fn size_of_local(program: &SharedProgram, function: u32, number: u32) -> Result<
     ensures { IfOk result (λ size. size ≡ size_in_program program.now (local_in program.now function number)) }
 {
     match declared_as(program, function, number) {
-        Some(local) => size_of(&local.ty, &program.structs),
+        Some(local) => size_in(&local.ty, &program.structs),
         None => Ok(0),
     }
 }

@@ -21,6 +21,7 @@ use crate::called;
 use crate::operations::{of_one, of_two};
 use ak_words::{NoMemory, Num, Rule};
 use block_store::{Access, Ptr, Store, Value};
+use c_meaning::types::{access_of_type, element_size, member_offset};
 use c_tree::typed::{CType, Layout};
 use source_state::control::{Pending, Progress, Then, Use, Values, Wait};
 use source_state::frames::{
@@ -32,7 +33,7 @@ use source_state::{Locals, SharedAction, Variable};
 use source_tree::tree::{
     Callee, OneForm, SharedArgs, SharedExpr, SharedNode, SharedProgram, TwoForm,
 };
-use source_values::{access_of_type, element_size, int_of, member_offset, truth_of};
+use source_values::{int_of, truth_of};
 use std::alloc::Global;
 use std::rc::Rc;
 

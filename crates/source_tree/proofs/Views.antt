@@ -6,11 +6,8 @@ use Rattle.c_tree.specs.declared.typed.Expr.{Expr}
 use Rattle.c_tree.specs.declared.typed.ExprNode.{Row_of-Expr, end_of-Expr, more_of-Expr, items-the_row-Expr}
 use Rattle.c_tree.specs.declared.typed.ExprNode.TheViews as expr_views
 use Rattle.c_tree.specs.declared.typed.Lib.{Lib}
-use Rattle.c_tree.specs.declared.typed.Stmt.{Stmt}
-use Rattle.c_tree.specs.declared.typed.StmtNode.{Row_of-Stmt, end_of-Stmt, more_of-Stmt, items-the_row-Stmt}
-use Rattle.c_tree.specs.declared.typed.StmtNode.TheViews as stmt_views
 use Rattle.c_tree.specs.Typed as trees
-use Rattle.c_tree.specs.TypedViews.{type_view, expr_node_view, expr_row_view, lib_view, stmt_view, stmt_node_view, stmt_row_view}
+use Rattle.c_tree.specs.TypedViews.{type_view, expr_node_view, expr_row_view, lib_view}
 use Rattle.source_tree.specs.declared.tree.SharedStmt.{SharedStmt, Row_of-SharedRow-stmts-1, end_of-SharedRow-stmts-1, more_of-SharedRow-stmts-1, items-the_row-SharedRow-stmts-1}
 use Rattle.source_tree.specs.declared.tree.SharedStmt.TheViews as shared_views
 use Rattle.source_tree.specs.declared.tree.SharedRow.{SharedRow}
@@ -27,13 +24,6 @@ call_view f v = search (rules, expr_views.the_lemmas, args_view)
 
 pub lib_call_view : (lib : Lib) (v : Vec Expr) → expr_node_view (expr_views.Lib lib v) ≡ trees.lib (lib_view lib) (exprs_view v.items)
 lib_call_view lib v = search (rules, expr_views.the_lemmas, args_view)
-
-pub row_view : (n : _) (k : Row_of-Stmt n) → stmt_row_view k ≡ stmts_of (map stmt_view (items-the_row-Stmt n k))
-row_view _ end_of-Stmt = refl
-row_view _ (more_of-Stmt place node rest) = ap (trees.more_stmts (trees.at_stmt place (stmt_node_view node))) (row_view _ rest)
-
-pub block_view : (v : Vec Stmt) → stmt_node_view (stmt_views.Block v) ≡ trees.block (stmts_of (map stmt_view v.items))
-block_view v = search (rules, stmt_views.the_lemmas, row_view)
 
 held_view : (n : _) (k : Row_of-SharedRow-stmts-1 n) → held_row k ≡ these (items-the_row-SharedRow-stmts-1 n k)
 held_view _ end_of-SharedRow-stmts-1 = refl

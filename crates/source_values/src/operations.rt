@@ -9,9 +9,9 @@ ghost use Rattle.c_tree.specs.TypedViews.{type_view, layout_view};
 ghost use Rattle.c_meaning.specs.Values.{int_of, truth_of, opposite, int_result, long_result, pointer_of, value_of, converted, negates, tests, selects, of_one, on_numbers, forward, backward, distance, on_pointers, of_two, updated, operand_types, computed, converted_result};
 
 use crate::pointers;
-use crate::types::element_size;
-use ak_words::{IntType, NoMemory, Num, Op, Rule, apply, common, convert, promote};
+use ak_words::{IntType, NoMemory, Num, Op, Rule, apply, convert};
 use block_store::{Ptr, Store, Value};
+use c_meaning::types::{element_size, operand_types};
 use c_tree::typed::{CType, Layout};
 
 /// The int that a test gives.
@@ -179,17 +179,6 @@ pub fn on_pointers(store: &Store, op: Op, a: Value, b: Value) -> Result<Value, R
     match (a, b) {
         (Value::Pointer(p), Value::Pointer(q)) => int_result(pointers::compared(store, op, p, q)),
         (_, _) => Err(Rule::C16),
-    }
-}
-
-// The types in which an operation on operands of these types is done.
-fn operand_types(op: Op, a: IntType, b: IntType) -> (IntType, IntType)
-    ensures { result ≡ operand_types op a b }
-{
-    match op {
-        Op::Shl => (promote(a), promote(b)),
-        Op::Shr => (promote(a), promote(b)),
-        _ => (common(a, b), common(a, b)),
     }
 }
 

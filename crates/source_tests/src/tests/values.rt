@@ -3,8 +3,9 @@ ghost use Rattle.c_meaning.specs.Values.{forward, of_two};
 
 use ak_words::{Num, Op, Rule};
 use block_store::{BlockKind, Cell, Ptr, Store, Value};
+use c_meaning::types::{align_in, size_in};
 use c_tree::typed::{CType, Layout};
-use source_values::{align_of, forward, negated, on_numbers, on_pointers, size_of};
+use source_values::{forward, negated, on_numbers, on_pointers};
 use std::test::Fail;
 
 // A caller, proved from the contracts alone: the pointer to the n-th int behind a pointer.
@@ -52,8 +53,8 @@ fn sizes(rt: HostRuntime) -> Result<(), Fail> {
     };
     let structs = vec![in alloc; layout]?;
     let three = CType::Array(Box::new(alloc, CType::Struct(0))?, 3);
-    assert_eq!(rt; size_of(&three, &structs)?, 24);
-    assert_eq!(rt; align_of(&three, &structs), 4);
-    assert_eq!(rt; size_of(&CType::Mutex, &structs)?, 8);
+    assert_eq!(rt; size_in(&three, &structs)?, 24);
+    assert_eq!(rt; align_in(&three, &structs), 4);
+    assert_eq!(rt; size_in(&CType::Mutex, &structs)?, 8);
     Ok(())
 }

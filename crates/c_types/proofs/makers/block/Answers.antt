@@ -1,6 +1,6 @@
 use Rattle.std.proofs.Common.{ap}
 use Rattle.c_tree.specs.Typed.{at_stmt}
-use Rattle.type_locals.proofs.TypedTrees.{block_view}
+use Rattle.c_tree.proofs.ListedViews.{block_view}
 use Rattle.c_types.proofs.makers.block.Goals as goal
 
 pub returns : goal.returns

@@ -1,5 +1,5 @@
 use Rattle.std.proofs.lemmas.Result.{IfOk-weaker}
-use Rattle.ir_lower.proofs.Views.{call_counted, lib_call_counted}
+use Rattle.ir_lower.proofs.CountedRows.{call_counted, lib_call_counted}
 use Rattle.ir_lower.proofs.counts.+counts.Goals as goal
 
 pub count_parts-returns-in-Call : goal.count_parts-returns-in-Call

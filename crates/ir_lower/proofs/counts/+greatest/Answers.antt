@@ -1,5 +1,5 @@
 use Rattle.std.proofs.lemmas.Result.{IfOk-weaker}
-use Rattle.ir_lower.proofs.Views.{block_counted}
+use Rattle.ir_lower.proofs.CountedRows.{block_counted}
 use Rattle.ir_lower.proofs.counts.+greatest.Goals as goal
 
 pub greatest_in-returns-in-Block : goal.greatest_in-returns-in-Block

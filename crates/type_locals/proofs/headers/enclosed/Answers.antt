@@ -1,7 +1,7 @@
 use Rattle.std.proofs.Common.{◌≡◌, [], ◌∷◌, ◌++◌, map, ap, sym, ◌∙◌, ◌==◌}
 use Rattle.c_tree.specs.Typed.{at_stmt, block, stmts_of}
 use Rattle.c_tree.specs.TypedViews.{stmt_view}
-use Rattle.type_locals.proofs.TypedTrees.{block_view}
+use Rattle.c_tree.proofs.ListedViews.{block_view}
 use Rattle.type_locals.proofs.LoopHeaders.{enclosed_is}
 use Rattle.type_locals.proofs.headers.enclosed.Goals as goal
 
