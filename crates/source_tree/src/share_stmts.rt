@@ -24,7 +24,7 @@ fn share_stmt(alloc: Global, s: &Stmt) -> Result<Rc<SharedStmt>, NoMemory>
 
 // What a statement does, at its place.
 #[cycle(share_stmts)]
-#[tactic(auto, using(crate::proofs::Views::block_view))]
+#[tactic(auto, using(c_tree::proofs::ListedViews::block_view))]
 fn share_node(alloc: Global, place: u32, node: &StmtNode) -> Result<SharedStmt, NoMemory>
     ensures { IfOk result (λ shared. stmt_of shared ≡ tree.at_stmt place (stmt_node_view node.now)) }
 {
