@@ -2,18 +2,18 @@
 # How fast the interpreter of the source runs, by thread 0 alone: a loop of 1,000,000 rounds, with a load and a store each (at most 3 seconds); and
 # the time of a turn where the program has many functions or a long row of statements, where many calls wait, and where many blocks were made.
 # Use: bench/source_run.sh      prints turns, seconds and nanoseconds a turn. The seconds are those of the run alone, without the reading.
-# It measures crates/source_bench/out/source_bench as `rt ci` left it in this checkout; where there is none, it proves and builds it first.
+# It measures crates/text_bench/out/text_bench as `rt ci` left it in this checkout; where there is none, it proves and builds it first.
 # Each run has a native stack of 1 MiB.
 set -eu
-cd "$(dirname "$0")/../crates/source_bench"
-[ -x out/source_bench ] || rt run >/dev/null 2>&1 || { echo "source_bench was not proved or not built" >&2; exit 1; }
-program=$PWD/out/source_bench
+cd "$(dirname "$0")/../crates/text_bench"
+[ -x out/text_bench ] || rt run >/dev/null 2>&1 || { echo "text_bench was not proved or not built" >&2; exit 1; }
+program=$PWD/out/text_bench
 work=$(mktemp -d)
 trap 'rm -rf "$work"' EXIT
 ulimit -s 1024
 
 measure() { # name, with the text in $work/text.c
-  (cd "$work" && "$program" text.c >out 2>micros) || { echo "$1: it didn't run" >&2; exit 1; }
+  (cd "$work" && "$program" run text.c >out 2>micros) || { echo "$1: it didn't run" >&2; exit 1; }
   grep -q '^main ended: true' "$work/out" || { echo "$1: it didn't end as it should" >&2; cat "$work/out" >&2; exit 1; }
   tail -n 1 "$work/micros" | awk -v name="$1" '{ printf "%-22s %9d %9.3f %9.0f\n", name, $1, $2 / 1e6, $2 * 1e3 / $1 }'
 }

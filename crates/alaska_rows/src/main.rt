@@ -1,24 +1,20 @@
-//! Takes the call `alaska` through worked programs under their words, and prints what each wrote and how it ended.
-//! Promises nothing upward: it is a program, whose output is held against what was worked out by hand.
-//! Stands on alaska_run, over real files and sinks in memory.
+//! Takes the call `alaska` through worked programs under their words, and prints what each wrote and how it ended; then has two workers on
+//! two threads run one program many times, and once where each worker is held until the other has come and worked.
+//! Promises nothing upward: it is a program, whose output is held against what was worked out by hand, and is the same whatever the workers do.
+//! Stands on alaska_run and ak_crew, over real files and sinks in memory.
 #![tactic(auto)]
 
+mod calls;
+mod crews;
+mod meeting;
 mod replays;
 
+use crate::calls::{Shown, call};
+use crate::crews::show_crews;
 use crate::replays::{show_replays, show_thinned};
 use ak_crew::NoGate;
-use ak_io::{FileShelf, MemSink};
 use ak_words::NoMemory;
-use alaska_run::{Ending, alaska};
-use std::alloc::{AllocError, Global};
-use std::fs::Files;
 use std::io;
-use std::marker::Sync;
-use std::sync::Wait;
-use std::thread::Threads;
-
-// The most bytes that a sink in memory takes.
-const ROOM: usize = 1_000_000;
 
 // The words of a call behind the program's own name, and which lines of note are shown, by how they begin: all, or those that no order of
 // the workers changes.
@@ -89,15 +85,6 @@ const REPLAYED: &str = "alaska heap.c";
 
 const THINNED: &str = "alaska counter.c --workers 2 --every 8";
 
-// The words between blanks.
-fn words_of(alloc: Global, row: &str) -> Result<Vec<String>, AllocError> {
-    let mut words = Vec::new(alloc);
-    for word in row.split(' ') {
-        words.push(String::from_str(alloc, word)?)?;
-    }
-    Ok(words)
-}
-
 // Whether a line begins with one of these words.
 fn is_shown(line: &str, words: &str) -> bool {
     words == "all" || words.split(' ').any(|word| line.starts_with(word))
@@ -112,27 +99,6 @@ fn show_lines(rt: &HostRuntime, note: &[u8], words: &str) -> io::Result<()> {
         }
     }
     Ok(())
-}
-
-// What a call wrote, and its ending.
-#[derive(Drop)]
-struct Shown {
-    out: MemSink,
-    note: MemSink,
-    ending: Ending,
-}
-
-fn call<R: Threads + Wait + Sync + Files>(
-    rt: &R,
-    alloc: Global,
-    row: &str,
-) -> Result<Shown, NoMemory> {
-    let words = words_of(alloc, row)?;
-    let mut shelf = FileShelf::new(rt);
-    let mut out = MemSink::new(alloc, ROOM, Vec::new(alloc))?;
-    let mut note = MemSink::new(alloc, ROOM, Vec::new(alloc))?;
-    let ending = alaska(rt, alloc, &words, &mut shelf, &mut out, &mut note, &NoGate);
-    Ok(Shown { out, note, ending })
 }
 
 fn show(rt: &HostRuntime, row: &Row, shown: &Shown) -> io::Result<()> {
@@ -152,24 +118,25 @@ fn show_twice(rt: &HostRuntime, first: &Shown, second: &Shown) -> io::Result<()>
 
 fn main(rt: HostRuntime) -> io::Result<()> {
     for row in &ROWS {
-        match call(&rt, rt.alloc(), row.0) {
+        match call(&rt, rt.alloc(), row.0, &NoGate) {
             Ok(shown) => show(&rt, row, &shown)?,
             Err(NoMemory) => println!(rt; "no memory")?,
         }
     }
     match (
-        call(&rt, rt.alloc(), TWICE.0),
-        call(&rt, rt.alloc(), TWICE.0),
+        call(&rt, rt.alloc(), TWICE.0, &NoGate),
+        call(&rt, rt.alloc(), TWICE.0, &NoGate),
     ) {
         (Ok(first), Ok(second)) => show_twice(&rt, &first, &second)?,
         _ => println!(rt; "no memory")?,
     }
-    match call(&rt, rt.alloc(), REPLAYED) {
+    match call(&rt, rt.alloc(), REPLAYED, &NoGate) {
         Ok(shown) => show_replays(&rt, REPLAYED, &shown.ending)?,
         Err(NoMemory) => println!(rt; "no memory")?,
     }
-    match call(&rt, rt.alloc(), THINNED) {
-        Ok(shown) => show_thinned(&rt, THINNED, &shown.ending),
-        Err(NoMemory) => println!(rt; "no memory"),
+    match call(&rt, rt.alloc(), THINNED, &NoGate) {
+        Ok(shown) => show_thinned(&rt, THINNED, &shown.ending)?,
+        Err(NoMemory) => println!(rt; "no memory")?,
     }
+    show_crews(&rt)
 }

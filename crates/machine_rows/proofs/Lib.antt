@@ -1,2 +1,4 @@
+pub mod Handled
 pub mod Homes
+pub mod Passes
 pub mod Steps

@@ -1,20 +1,23 @@
-//! Runs C texts on the machine: one thread after the other, each until it waits, and barriers where no thread is ready.
+//! Runs C texts on the machine: one thread after the other, each until it waits, and barriers where no thread is ready; and
+//! one text in a world of two passes that take the calls by turns, on one thread.
 //! Promises nothing upward: it is a program, whose output is held against what was worked out by hand.
-//! Stands on alaska_run's `compile` and flat_machine.
+//! Stands on alaska_run's `compile`, flat_machine and ak_world.
 #![tactic(auto)]
 
 mod alone;
+mod driving;
 mod rows;
+mod running;
+mod telling;
 mod turns;
 
-use crate::rows::{Outcome, Told, run_code, run_code_alone, settings_of};
-use ak_words::NoMemory;
+use crate::rows::{Told, run_code, run_code_alone, settings_of};
+use crate::running::run_over_world;
+use crate::telling::{show, show_barriers, show_world};
 use alaska_run::compile;
+use run_edges::MOST_BYTES;
 use std::{fs, io};
 use struct_ir::linear::Code;
-
-// The most bytes that a text may have.
-const MOST_BYTES: usize = 1_048_576;
 
 // The texts, and what their runs are told.
 const TEXTS: [(&str, Told); 9] = [
@@ -42,44 +45,6 @@ fn code_of(rt: &HostRuntime, name: &str) -> io::Result<Code> {
     }
 }
 
-// Prints what a run printed, and its end.
-fn show(rt: &HostRuntime, name: &str, told: &Result<Outcome, NoMemory>) -> io::Result<()> {
-    let Ok(outcome) = told else {
-        return println!(rt; "{name}: no memory");
-    };
-    println!(rt; "{name}:")?;
-    print!(rt; "{}", str::from_utf8(&outcome.output).unwrap_or("?"))?;
-    match outcome.end {
-        Some(end) => println!(rt; "{end:?}"),
-        None => println!(rt; "no end"),
-    }
-}
-
-// Prints what barriers did.
-fn show_barriers(rt: &HostRuntime, told: &Result<Outcome, NoMemory>) -> io::Result<()> {
-    let Ok(outcome) = told else {
-        return Ok(());
-    };
-    let r = outcome.report;
-    println!(rt; "waits for room: {}", outcome.waits)?;
-    println!(rt; "barriers: {}", r.barriers)?;
-    println!(rt;
-        "moved: {} objects, {} bytes",
-        r.moved_objects, r.moved_bytes
-    )?;
-    println!(rt; "live: {} objects, {} bytes", r.live_objects, r.live_bytes)?;
-    println!(rt; "extent: {} of {}", r.extent, r.heap)?;
-    match r.last {
-        Some(b) => {
-            println!(rt;
-                "last barrier: extent {} to {}, room {}",
-                b.before, b.after, b.room
-            )
-        }
-        None => println!(rt; "last barrier: none"),
-    }
-}
-
 fn main(rt: HostRuntime) -> io::Result<()> {
     let alloc = rt.alloc();
     let alone = code_of(&rt, "answer.c")?;
@@ -93,5 +58,10 @@ fn main(rt: HostRuntime) -> io::Result<()> {
             show_barriers(&rt, &run)?;
         }
     }
-    Ok(())
+    println!(rt; "answer.c, in a world of two passes:")?;
+    match run_over_world(&rt, alloc, code_of(&rt, "answer.c")?) {
+        Ok(Some(finished)) => show_world(&rt, finished),
+        Ok(None) => println!(rt; "not over"),
+        Err(_) => println!(rt; "no memory"),
+    }
 }
