@@ -56,12 +56,15 @@ fn no_memory(_: NoMemory) -> io::Error {
 }
 
 /// Prints how many of the runs came to what they should, and of that with held workers also how often one went on without the other.
-pub fn show_crews(rt: &HostRuntime) -> io::Result<()> {
+pub fn show_crews<R: Threads + Wait + Sync + Files + Print>(
+    rt: &R,
+    alloc: Global,
+) -> io::Result<()> {
     for row in ROWS {
-        let good = count_good(rt, rt.alloc(), row).map_err(no_memory)?;
+        let good = count_good(rt, alloc, row).map_err(no_memory)?;
         println!(rt; "> {row}: {good} of {RUNS} print 2000")?;
     }
     let meeting = Meeting::new();
-    let good = prints(rt, rt.alloc(), HELD, &meeting, b"ok\n").map_err(no_memory)?;
+    let good = prints(rt, alloc, HELD, &meeting, b"ok\n").map_err(no_memory)?;
     println!(rt; "> {HELD}: {good}, {} missed", meeting.missed())
 }

@@ -138,5 +138,5 @@ fn main(rt: HostRuntime) -> io::Result<()> {
         Ok(shown) => show_thinned(&rt, THINNED, &shown.ending)?,
         Err(NoMemory) => println!(rt; "no memory")?,
     }
-    show_crews(&rt)
+    show_crews(&rt, rt.alloc())
 }
