@@ -144,7 +144,7 @@ module _ (words : List (List ℕ)) (file : List ℕ → Shelved) (out note : Cha
   its_meaning : IsMeaning (program o.typed) (start o.typed) depth r.journal.entries x.settings h.final
   its_meaning =
       subst (IsMeaning (program o.typed) (start o.typed) depth r.journal.entries x.settings) h.final_is
-      (meant o.typed o.built.tree.well_formed (program_in x.checked) o.built.prepared.erased o.built.sound (arc_value x.code) o.built.emitted o.built.lawful o.ready.program x.settings r.journal.entries h.last h.leads)
+      (meant o.typed (program_in x.checked) o.built.erased_turns o.built.sound (arc_value x.code) o.built.emitted o.built.lawful o.ready.program x.settings r.journal.entries h.last h.leads)
 
   -- so does any that is told of it
   meaning : (typed : Typed) → IsTreeOf e.text typed → (log : List Entry) (end : End) (f : Final) → e.journal ≡ Some log → (run : IsRun e log end f) → IsMeaning (program typed) (start typed) depth log run.settings f

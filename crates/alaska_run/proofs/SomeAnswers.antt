@@ -63,7 +63,7 @@ module _ (t : Typed) (well : IsWellFormed t) (types : RunsKeepTypes) (ends : Tur
       → (order : List Pick) (u : State A) → runs.run P w order ≡ runs.reaches u → (thread : ℕ) (main own : A) → own_at u.own 0 ≡ Some main → own_at u.own thread ≡ Some own
       → (answer : Answer) × (P.turn thread answer own u.world ≡ runs.unfit → ⊥)
   takes_some P w keeps order u e thread main own m o =
-      let r = both_reach P (program t) order 0 (runs.first_state P w) u (runs.first_state (program t) (start t)) keeps e in
+      let r = both_reach P (program t) order 0 (runs.first_state P w) u (runs.first_state (program t) (start t)) (λ rest. let same = keeps rest in cc) e in
       let there = threads_run P (program t) u r.0 r.2 main own m (record { thread = thread; answer = answers.Plain }) o in
       let fits = turn_takes order r.0 r.1 thread there.1 there.3 in
       (fits.0, λ is. fits.1 (turn_unfit P (program t) u r.0 r.2 main own m (record { thread = thread; answer = fits.0 }) o there.0 there.1 there.2 there.3 is))

@@ -33,7 +33,8 @@ pub record IsBuilt (text : List ℕ) (typed : Typed) (checked : Ir) (code : Line
   -- ... which is valid
   pub erased_valid : is_valid (ir_erased checked) ≡ true
   -- it keeps every turn of the tree, with its Looks, safepoints, slots and lists and without them: under every order of the threads' turns
-  -- and every answer it shows how each turn goes, the world after it, and which rule of C a turn breaks, and where
+  -- and every answer it shows the world in which it begins, how each turn goes, how many calls of its thread wait then, the world after it,
+  -- and which rule of C a turn breaks, and where
   pub turns : KeepsEveryTurn typed checked
   pub erased_turns : KeepsEveryTurn typed (ir_erased checked)
   -- it has all that the machine asks of code: no difference of pointers is in elements of 0 bytes, each turn takes some answer, main takes

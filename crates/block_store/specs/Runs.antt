@@ -1,6 +1,6 @@
 -- Turns of several threads over one world, and the runs that they make up, of threads of any kind: those of the source, and those of
 -- structured code.
-use Rattle.std.specs.Prelude.{ℕ, suc, List, [], ◌∷◌, ◌++◌, map, drop, set, slice_get, length, Option, Some, None}
+use Rattle.std.specs.Prelude.{◌≡◌, ℕ, suc, List, [], ◌∷◌, ◌++◌, map, drop, set, slice_get, length, Option, Some, None}
 use Rattle.std.specs.Option.{option_flatten}
 use Rattle.ak_words.specs.declared.rule.Rule.{Rule}
 use Rattle.block_store.specs.declared.values.Answer.{Answer}
@@ -16,12 +16,17 @@ pub data Turn (A : Type 0) : Type 0 where
   unfit : Turn A
   broke : (rule : Rule) (place : ℕ) → Turn A
 
--- a program: what a thread of it has of its own when it begins with a function and its argument, and one turn of a thread, which
--- has a number, is told an answer, and shares a world
+-- a program: what a thread of it has of its own when it begins with a function and its argument; one turn of a thread, which has a
+-- number, is told an answer, and shares a world; and how many calls of a thread wait for the one under way
 pub record Program (A : Type 0) : Type 0 where
   pub main : ℕ
   pub begins : (function : ℕ) → (argument : Ptr) → A
   pub turn : (thread : ℕ) → Answer → A → World → Turn A
+  pub calls : A → ℕ
+
+-- no call waits where a thread begins
+abbrev pub BeginsOutsideCalls : {A : Type 0} → Program A → Type 0
+BeginsOutsideCalls P = (function : ℕ) (argument : Ptr) → P.calls (P.begins function argument) ≡ 0
 
 -- the world, and what each thread that was made has of its own, by number: none once it has ended
 pub record State (A : Type 0) : Type 0 where
@@ -88,10 +93,12 @@ run P w order = run_from P order 0 (first_state P w)
 
 -- ---- what an order shows, turn by turn
 
--- what a pick shows: the world after a turn that went, or that ended its thread; that the turn waits, or doesn't take the answer;
--- the rule that it breaks, and where; or that there is no such turn
+-- what an order shows: the world in which the run begins; and then of each pick how many calls of its thread wait, and the world, after a
+-- turn that went; the world after one that ended its thread; that the turn waits, or doesn't take the answer; the rule that it breaks, and
+-- where; or that there is no such turn
 pub data Shown : Type 0 where
-  it_went : (w : World) → Shown
+  it_begins : (w : World) → Shown
+  it_went : (calls : ℕ) (w : World) → Shown
   it_ended : (w : World) → Shown
   it_blocked : Shown
   it_was_unfit : Shown
@@ -101,7 +108,7 @@ pub data Shown : Type 0 where
 -- a turn that changed nothing is passed over, but for one that broke a rule, which is the last
 abbrev pub shown_then : {A : Type 0} → Program A → (State A → List Shown) → State A → (thread : ℕ) → Option (Turn A) → List Shown
 shown_then P go s thread None = no_such_turn ∷ go s
-shown_then P go s thread (Some (went own w)) = it_went w ∷ go (next_state P s thread (Some own) w)
+shown_then P go s thread (Some (went own w)) = it_went (P.calls own) w ∷ go (next_state P s thread (Some own) w)
 shown_then P go s thread (Some (ended w)) = it_ended w ∷ go (next_state P s thread None w)
 shown_then P go s thread (Some blocked) = it_blocked ∷ go s
 shown_then P go s thread (Some unfit) = it_was_unfit ∷ go s
@@ -112,6 +119,6 @@ abbrev pub shown_from : {A : Type 0} → Program A → List Pick → State A →
 shown_from P [] s = []
 shown_from P (p ∷ order) s = shown_then P (shown_from P order) s p.thread (picked P s p)
 
--- what an order shows where the run begins in this world
+-- what an order shows where the run begins in this world: first that
 abbrev pub shown : {A : Type 0} → Program A → World → List Pick → List Shown
-shown P w order = shown_from P order (first_state P w)
+shown P w order = it_begins w ∷ shown_from P order (first_state P w)

@@ -18,6 +18,7 @@ rows_stand = record {
   heap_refused = refl;
   heap_wants_answer = refl;
   recursion_is = refl;
+  recursion_shows = refl;
   freed_between = refl;
   freed_later = refl;
   join_waits = refl;

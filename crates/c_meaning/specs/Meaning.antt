@@ -37,12 +37,13 @@ abbrev pub begins_if : (function : ℕ) → Ptr → Option tree.Func → Control
 begins_if number argument None = record { function = number; locals = []; point = begins leaves; callers = [] }
 begins_if number argument (Some f) = begins_in number f (arguments_if f.params argument) []
 
--- the program: how a thread begins, and one turn of it
+-- the program: how a thread begins, one turn of it, and how many of its calls wait
 abbrev pub program : tree.Typed → runs.Program Control
 program t = record {
   main = t.main;
   begins = λ number argument. begins_if number argument (slice_get t.funcs number);
   turn = turn t;
+  calls = λ c. length c.callers;
 }
 
 -- the world in which a program begins: its first blocks, nothing printed, and one thread, in main (C11 5.1.2)

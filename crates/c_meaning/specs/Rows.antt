@@ -7,7 +7,7 @@ use Rattle.ak_words.specs.declared.rule.Rule.TheVariants as rules
 use Rattle.ak_words.specs.IntType.{char, int, unsigned_int, long, unsigned_long}
 use Rattle.block_store.specs.declared.values.Answer.TheVariants as answers
 use Rattle.block_store.specs.Actions.{ThreadRecord, Stage, running, returned, joined}
-use Rattle.block_store.specs.Runs.{Pick, Run, reaches, breaks, no_run, Shown, it_went, it_ended, it_blocked, it_was_unfit, it_broke, no_such_turn}
+use Rattle.block_store.specs.Runs.{Pick, Run, reaches, breaks, no_run, Shown, it_begins, it_went, it_ended, it_blocked, it_was_unfit, it_broke, no_such_turn}
 use Rattle.c_tree.specs.Typed
 use Rattle.c_tree.specs.Typed.{Ty, void, integer, mutex, pointer, array, structure, Layout, bytes, signed, unsigned, Lib, print, malloc, free, copy, start, join, mutex_init, mutex_lock, mutex_unlock}
 use Rattle.c_tree.specs.Typed.{Expr, at, ExprNode, num, null, literal, global, local, deref, member, address_of, decay, convert, not_, binary, and_also, or_else, choose, pointer_add, pointer_sub, pointer_compare, call, lib, Exprs, no_exprs, more_exprs}
@@ -152,12 +152,12 @@ heap = of_main (in_register int_star ∷ [])
 abbrev pub call_of : ℕ → List Expr → Expr
 call_of f args = of_type int_ty (call f (arguments args))
 
--- what is told of that program, in which f calls itself
-abbrev pub recursion : List Pick → Told
-recursion order = told (run (whole [] []
+-- that program, in which f calls itself
+abbrev pub recursion : Typed.Typed
+recursion = whole [] []
     (func 0 [] (return_ (Some (call_of 1 (k 2 ∷ []))) ∷ [])
     ∷ func 1 (in_register int_ty ∷ []) (if_ (v 0) (one (return_ (Some (op_of ops.Add (call_of 1 (op_of ops.Sub (v 0) (k 1) ∷ [])) (k 1))))) ∷ return_ (Some (k 0)) ∷ [])
-    ∷ [])) order)
+    ∷ [])
 
 -- int *p;int f(void *v){free(p);return 0;}
 -- int main(void){p=malloc(4);*p=1;thrd_t t;thrd_create(&t,f,NULL);printf("%d\n",*p);thrd_join(t,NULL);return 0;}
@@ -391,18 +391,20 @@ one_waits = got 0 ++ got 0 ++ turns 1 1 ++ turns 2 1 ++ turns 1 4 ++ turns 2 5 +
 abbrev pub nothing_at_all : List Pick → Told
 nothing_at_all = of_main [] []
 
--- whether each turn went, and which broke a rule, and where
+-- whether each turn went, and how many calls of its thread wait then, and which broke a rule, and where
 pub data Went : Type 0 where
-  goes : Went
+  begins : Went
+  goes : (calls : ℕ) → Went
   ends : Went
   waits : Went
   misfits : Went
   breaks_at : (rule : Rule) (place : ℕ) → Went
   is_none : Went
 
--- how a turn went, without the world after it
+-- how a turn went, without the world before or after it
 abbrev pub went_of : Shown → Went
-went_of (it_went w) = goes
+went_of (it_begins w) = begins
+went_of (it_went calls w) = goes calls
 went_of (it_ended w) = ends
 went_of it_blocked = waits
 went_of it_was_unfit = misfits
@@ -428,11 +430,12 @@ pub record RowsStand : Type 0 where
   pub heap_refused : heap (none 0 ++ turns 0 1) ≡ broken rules.C5 1
   pub heap_wants_answer : heap (turns 0 1) ≡ no_turn 0
   -- three calls are entered, two are left, and then main ends
-  pub recursion_is : recursion (turns 0 7) ≡ reached [] (returned (pos 2) ∷ [])
+  pub recursion_is : told (run recursion (turns 0 7)) ≡ reached [] (returned (pos 2) ∷ [])
+  pub recursion_shows : seen recursion (turns 0 7) ≡ begins ∷ goes 1 ∷ goes 2 ∷ goes 3 ∷ goes 2 ∷ goes 1 ∷ goes 0 ∷ ends ∷ []
   -- a thread frees a block between a load of the pointer and that of the int
-  pub freed_between : seen shared_block (first_turns 1 ++ turns 1 2 ++ turns 0 1) ≡ replicate 8 goes ++ breaks_at rules.C5 77 ∷ []
+  pub freed_between : seen shared_block (first_turns 1 ++ turns 1 2 ++ turns 0 1) ≡ begins ∷ replicate 8 (goes 0) ++ breaks_at rules.C5 77 ∷ []
   pub freed_later : told (run shared_block (first_turns 3 ++ turns 1 3 ++ turns 0 3)) ≡ reached (codes "1\n") (returned (pos 0) ∷ joined (pos 0) ∷ [])
-  pub join_waits : seen shared_block (first_turns 4 ++ turns 0 1 ++ got 1 ++ turns 2 1) ≡ replicate 9 goes ++ waits ∷ misfits ∷ is_none ∷ []
+  pub join_waits : seen shared_block (first_turns 4 ++ turns 0 1 ++ got 1 ++ turns 2 1) ≡ begins ∷ replicate 9 (goes 0) ++ waits ∷ misfits ∷ is_none ∷ []
 
 -- each rule, broken once
 pub record RulesStand : Type 0 where
@@ -489,5 +492,5 @@ pub record OrdersStand : Type 0 where
   pub nothing_is : nothing_at_all (turns 0 1) ≡ reached [] (returned (pos 0) ∷ [])
   pub end_and_start_is : end_and_start (turns 0 2) ≡ reached (codes "0\n") (returned (pos 0) ∷ [])
   pub number_formats_is : number_formats (turns 0 2) ≡ reached (codes "44 4294967295 -3 -1 -4\n") (returned (pos 0) ∷ [])
-  pub one_waits_is : seen counted one_waits ≡ replicate 3 goes ++ waits ∷ replicate 3 goes ++ ends ∷ replicate 4 goes ++ ends ∷ replicate 5 goes ++ ends ∷ []
+  pub one_waits_is : seen counted one_waits ≡ begins ∷ replicate 3 (goes 0) ++ waits ∷ replicate 3 (goes 0) ++ ends ∷ replicate 4 (goes 0) ++ ends ∷ replicate 5 (goes 0) ++ ends ∷ []
   pub counted_is : told (run counted (got 0 ++ got 0 ++ turns 1 5 ++ turns 2 5 ++ turns 0 6)) ≡ reached [] (returned (pos 2) ∷ joined (pos 0) ∷ joined (pos 0) ∷ [])

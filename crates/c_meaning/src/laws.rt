@@ -1,8 +1,10 @@
 //! Laws of the definitions, as contracts of functions that do nothing.
-ghost use Rattle.std.specs.Prelude.{◌≡◌, List};
+ghost use Rattle.std.specs.Prelude.{◌≡◌, ℕ, List};
 ghost use Rattle.block_store.specs.Actions.{World};
-ghost use Rattle.block_store.specs.Runs.{Program, Pick, run, shown};
-ghost use Rattle.c_meaning.specs.Alike.{reached_by, reached_in};
+ghost use Rattle.block_store.specs.Runs.{Program, BeginsOutsideCalls, State, own_at, Pick, reaches, run, shown};
+ghost use Rattle.c_tree.specs.Typed.{Typed};
+ghost use Rattle.c_meaning.specs.Meaning.{program};
+ghost use Rattle.c_meaning.specs.Alike.{AsDeep, reached_by, reached_in};
 ghost use Rattle.c_meaning.specs.Rows.{RowsStand, RulesStand, OrdersStand};
 ghost use Rattle.c_meaning.specs.KindRows.{ValuesAreTold, OperatorsAreTold, ThreadsAreTold};
 ghost use Rattle.c_meaning.specs.Sound.{ThreadsBeginTyped, TurnsKeepTypes, TurnsGoOn, SomeAnswerFits, RunsBeginTyped, PicksKeepTypes, RunsKeepTypes, RunsGoOn};
@@ -17,7 +19,17 @@ pub fn small_programs_mean_what_they_should()
 /// What an order shows of a program, turn by turn, tells where its run comes to: so programs that show the same come to the
 /// same worlds, and break the same rules after the same turns.
 pub fn shown_turns_tell_the_run<A>()
-    ensures { (P : Program A) (w : World) (order : List Pick) → reached_by (run P w order) ≡ reached_in w 0 (shown P w order) }
+    ensures { (P : Program A) (w v : World) (order : List Pick) → reached_by (run P w order) ≡ reached_in v 0 (shown P w order) }
+{}
+
+/// It tells, too, how many calls of each thread wait there: where an order shows the same of two programs, as many.
+pub fn shown_turns_tell_the_calls<A, B>()
+    ensures { (P : Program A) (Q : Program B) → BeginsOutsideCalls P → BeginsOutsideCalls Q → (w v : World) (order : List Pick) → shown P w order ≡ shown Q v order → (s : State A) (u : State B) → run P w order ≡ reaches s → run Q v order ≡ reaches u → (thread : ℕ) → AsDeep P Q (own_at s.own thread) (own_at u.own thread) }
+{}
+
+/// No call waits where a thread of a program begins.
+pub fn threads_begin_outside_calls()
+    ensures { (t : Typed) → BeginsOutsideCalls (program t) }
 {}
 
 /// What is of a type, what an operator takes, and when all of a thread's values are of their types, told by hand.

@@ -149,9 +149,11 @@ module _ (p : Ir) (code : LinearCode) (s : Settings) (log : List Entry) (x : Sta
         ends_so (by_room same no_picks tried memory) =
             let over : x.ending ≡ Some (ends.StackLimit thread) = ended ∙ ap (λ (e : End). Some e) same in
             let l = lack thread over in
-            let own = stand.own (journal_picks log) u reaches_u thread (made_back f.names u.world x.shared.memory stands thread l.1 l.0) in
+            let its : Runs u.world thread = made_back f.names u.world x.shared.memory stands thread l.1 l.0 in
+            let own = stand.own (journal_picks log) u reaches_u thread its in
             subst (EndsSo u) (sym same) (
               main_runs (subst NotDone (sym over) tt),
+              its,
               without_room p y log (end_of (machine_of code) (rules_of s) x) clean of_.events of_.order of_.attempts follows u reaches_u before thread choice is allowed comes stage at answers.Plain (inl refl) no_picks tried own refl
                   (behind_end ∙ ap (λ (e : End). Some e) same),
             )

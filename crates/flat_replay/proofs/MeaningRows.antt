@@ -15,7 +15,7 @@ use Rattle.ak_trace.specs.declared.endings.End.TheVariants as ends
 use Rattle.flat_meaning.specs.Order.{pick}
 use Rattle.flat_rules.specs.declared.settings.Settings.{Settings}
 use Rattle.flat_replay.specs.Meaning.{whole_run, Runs, BreaksAt, IsClean, by_turn, by_attempt, by_waiting, EndsAs}
-use Rattle.flat_replay.specs.Rows.{Deed, calls, prints, waits, errs, returns, Small, waiting_calls, small, alone, LastsStand, TriesStand, Means, MeaningsStand, BreaksStand}
+use Rattle.flat_replay.specs.Rows.{Deed, calls, prints, waits, errs, returns, Small, waiting_calls, small, alone, LastsStand, TriesStand, Means, MeaningsStand, EndsStand, BreaksStand}
 
 -- ---- what the parts of a meaning are
 
@@ -67,9 +67,13 @@ meanings_stand = (
   means 1 (returns (pos 7) ∷ []) (row 0 0 0 0 ∷ row 2 0 9 0 ∷ []) (record { world = staged alone 0 (returned (pos 7)); own = None ∷ [] }) (ends.Done (pos 7)) refl
       (λ s is. (at_stage (returned (pos 7)) (beginning 0 Null), refl, (pos 7, refl, seven))),
   means 1 (prints 65 ∷ waits ∷ []) (row 0 0 0 0 ∷ row 2 0 1 0 ∷ row 2 0 6 0 ∷ row 1 0 0 0 ∷ []) (behind (waits ∷ [])) ends.AllBlocked refl (λ s is. (main_runs, main_waits)),
-  means 1 (prints 65 ∷ calls ∷ []) (row 0 0 0 0 ∷ row 2 0 1 0 ∷ row 2 0 12 0 ∷ []) (behind (calls ∷ [])) (ends.StackLimit 0) refl (λ s is. (main_runs, inl ((calls ∷ [], 0), refl, refl))),
+  means 1 (prints 65 ∷ calls ∷ []) (row 0 0 0 0 ∷ row 2 0 1 0 ∷ row 2 0 12 0 ∷ []) (behind (calls ∷ [])) (ends.StackLimit 0) refl (λ s is. (main_runs, main_runs, inl ((calls ∷ [], 0), refl, refl))),
   means 1 (prints 65 ∷ prints 66 ∷ []) (row 0 0 0 0 ∷ row 2 0 1 0 ∷ row 2 0 11 0 ∷ []) (behind (prints 66 ∷ [])) ends.OutputLimit refl (λ s is. (main_runs, omega (arith, is))),
 )
+
+-- no thread 63 was made
+pub ends_stand : EndsStand
+ends_stand todo s h = absurd (let none : None ≡ Some h.1.0 = h.1.1 in cc none)
 
 -- ---- breaks
 

@@ -1,5 +1,5 @@
--- From one program's runs to another's: where every order shows the same of both, and leaves their threads as deep in calls, what a journal
--- means for the one it means for the other.
+-- From one program's runs to another's: where every order shows the same of both, from one world on, and leaves their threads as deep in
+-- calls, what a journal means for the one it means for the other.
 use Rattle.std.proofs.Common.{◌≡◌, ℕ, suc, ◌<◌, List, [], ◌∷◌, ◌++◌, length, Option, Some, None, refl, sym, ap, ◌∙◌, subst, inl, inr, arith}
 use Rattle.std.specs.Prelude.{◌⊎◌, set, take}
 use Rattle.std.proofs.lemmas.List.{append_cancel_left}
@@ -8,7 +8,7 @@ use Rattle.ak_words.specs.Prefix.{IsPrefix}
 use Rattle.ak_trace.specs.declared.entry.Entry.{Entry}
 use Rattle.block_store.specs.declared.values.Answer.TheVariants as answers
 use Rattle.block_store.specs.Actions.{World}
-use Rattle.block_store.specs.Runs.{Pick, Turn, went, ended, blocked, unfit, broke, Program, State, own_at, begun, turn_if, picked, Run, reaches, breaks, no_run, next_state, goes_on, run_from, run, first_state, Shown, it_went, it_ended, it_blocked, it_was_unfit, it_broke, no_such_turn, shown_then, shown_from}
+use Rattle.block_store.specs.Runs.{Pick, Turn, went, ended, blocked, unfit, broke, Program, State, own_at, begun, turn_if, picked, Run, reaches, breaks, no_run, next_state, goes_on, run_from, run, first_state, Shown, it_begins, it_went, it_ended, it_blocked, it_was_unfit, it_broke, no_such_turn, shown_then, shown_from}
 use Rattle.block_store.specs.Runs as runs
 use Rattle.c_meaning.specs.Alike.{TurnsAlike, both_went, both_ended, both_blocked, both_unfit, both_broke, in_world, at_break, at_no_run, reached_by, reached_in}
 use Rattle.c_meaning.proofs.Alike.{reached_shown}
@@ -26,35 +26,35 @@ use Rattle.flat_replay.specs.Meaning.{Runs, MainReturned, Goes, tried_with, last
 -- ---- what one pick shows
 
 -- what it shows, by what comes of it
-abbrev shows : {A : Type 0} → Option (Turn A) → Shown
-shows None = no_such_turn
-shows (Some (went own w)) = it_went w
-shows (Some (ended w)) = it_ended w
-shows (Some blocked) = it_blocked
-shows (Some unfit) = it_was_unfit
-shows (Some (broke rule place)) = it_broke rule place
+abbrev shows : {A : Type 0} → Program A → Option (Turn A) → Shown
+shows P None = no_such_turn
+shows P (Some (went own w)) = it_went (P.calls own) w
+shows P (Some (ended w)) = it_ended w
+shows P (Some blocked) = it_blocked
+shows P (Some unfit) = it_was_unfit
+shows P (Some (broke rule place)) = it_broke rule place
 
 -- what comes of a pick that shows this
 data Shows {A : Type 0} : Shown → Option (Turn A) → Type 0 where
   shows_none : Shows no_such_turn None
-  shows_went : (own : A) (w : World) → Shows (it_went w) (Some (went own w))
+  shows_went : (calls : ℕ) (own : A) (w : World) → Shows (it_went calls w) (Some (went own w))
   shows_ended : (w : World) → Shows (it_ended w) (Some (ended w))
   shows_blocked : Shows it_blocked (Some blocked)
   shows_unfit : Shows it_was_unfit (Some unfit)
   shows_broke : (rule : Rule) (place : ℕ) → Shows (it_broke rule place) (Some (broke rule place))
 
 -- each pick shows what it does
-shows_it : {A : Type 0} (o : Option (Turn A)) → Shows (shows o) o
-shows_it None = shows_none
-shows_it (Some (went own w)) = shows_went own w
-shows_it (Some (ended w)) = shows_ended w
-shows_it (Some blocked) = shows_blocked
-shows_it (Some unfit) = shows_unfit
-shows_it (Some (broke rule place)) = shows_broke rule place
+shows_it : {A : Type 0} (P : Program A) (o : Option (Turn A)) → Shows (shows P o) o
+shows_it P None = shows_none
+shows_it P (Some (went own w)) = shows_went (P.calls own) own w
+shows_it P (Some (ended w)) = shows_ended w
+shows_it P (Some blocked) = shows_blocked
+shows_it P (Some unfit) = shows_unfit
+shows_it P (Some (broke rule place)) = shows_broke rule place
 
 module _ {A : Type 0} (P : Program A) where
   -- a pick behind which no other comes shows that alone
-  shown_alone : (u : State A) (n : ℕ) (o : Option (Turn A)) → shown_then P (shown_from P []) u n o ≡ shows o ∷ []
+  shown_alone : (u : State A) (n : ℕ) (o : Option (Turn A)) → shown_then P (shown_from P []) u n o ≡ shows P o ∷ []
   shown_alone u n None = refl
   shown_alone u n (Some (went own w)) = refl
   shown_alone u n (Some (ended w)) = refl
@@ -69,15 +69,15 @@ module _ {A : Type 0} (P : Program A) where
     by : ((v : State A) → run_from P order (suc k) v ≡ reaches u → shown_from P (order ++ rest) v ≡ shown_from P order v ++ shown_from P rest u) → (o : Option (Turn A)) → goes_on P (run_from P order (suc k)) s p.thread k o ≡ reaches u
         → shown_then P (shown_from P (order ++ rest)) s p.thread o ≡ shown_then P (shown_from P order) s p.thread o ++ shown_from P rest u
     by more None e = absurd cc
-    by more (Some (went own w)) e = ap (λ z. it_went w ∷ z) (more (next_state P s p.thread (Some own) w) e)
+    by more (Some (went own w)) e = ap (λ z. it_went (P.calls own) w ∷ z) (more (next_state P s p.thread (Some own) w) e)
     by more (Some (ended w)) e = ap (λ z. it_ended w ∷ z) (more (next_state P s p.thread None w) e)
     by more (Some blocked) e = absurd cc
     by more (Some unfit) e = absurd cc
     by more (Some (broke rule place)) e = absurd cc
 
   -- behind an order that reaches a state: what that shows, and what the pick shows there
-  shown_last : (w : World) (order : List Pick) (u : State A) (p : Pick) → run P w order ≡ reaches u → runs.shown P w (order ++ p ∷ []) ≡ runs.shown P w order ++ shows (picked P u p) ∷ []
-  shown_last w order u p e = shown_from-append order (p ∷ []) 0 (first_state P w) u e ∙ ap (λ z. runs.shown P w order ++ z) (shown_alone u p.thread (picked P u p))
+  shown_last : (w : World) (order : List Pick) (u : State A) (p : Pick) → run P w order ≡ reaches u → runs.shown P w (order ++ p ∷ []) ≡ runs.shown P w order ++ shows P (picked P u p) ∷ []
+  shown_last w order u p e = ap (λ z. it_begins w ∷ z) (shown_from-append order (p ∷ []) 0 (first_state P w) u e) ∙ ap (λ z. runs.shown P w order ++ z) (shown_alone u p.thread (picked P u p))
 
   -- ---- what a thread has after its turn
 
@@ -109,13 +109,13 @@ data PicksAlike {A B : Type 0} (R : A → B → Type 0) : Option (Turn A) → Op
 
 module _ {A B : Type 0} (R : A → B → Type 0) where
   -- they are alike where they show the same, and what two threads that went then have is related
-  alike_by_shown : (o : Option (Turn A)) (o' : Option (Turn B)) → Shows (shows o) o' → ((a : A) (b : B) (w : World) → o ≡ Some (went a w) → o' ≡ Some (went b w) → R a b) → PicksAlike R o o'
-  alike_by_shown None _ shows_none r = no_turns
-  alike_by_shown (Some (went a w)) _ (shows_went b _) r = two_turns (went a w) (went b w) (both_went a b w (r a b w refl refl))
-  alike_by_shown (Some (ended w)) _ (shows_ended _) r = two_turns (ended w) (ended w) (both_ended w)
-  alike_by_shown (Some blocked) _ shows_blocked r = two_turns blocked blocked both_blocked
-  alike_by_shown (Some unfit) _ shows_unfit r = two_turns unfit unfit both_unfit
-  alike_by_shown (Some (broke rule place)) _ (shows_broke _ _) r = two_turns (broke rule place) (broke rule place) (both_broke rule place)
+  alike_by_shown : (P : Program A) (o : Option (Turn A)) (o' : Option (Turn B)) → Shows (shows P o) o' → ((a : A) (b : B) (w : World) → o ≡ Some (went a w) → o' ≡ Some (went b w) → R a b) → PicksAlike R o o'
+  alike_by_shown P None _ shows_none r = no_turns
+  alike_by_shown P (Some (went a w)) _ (shows_went _ b _) r = two_turns (went a w) (went b w) (both_went a b w (r a b w refl refl))
+  alike_by_shown P (Some (ended w)) _ (shows_ended _) r = two_turns (ended w) (ended w) (both_ended w)
+  alike_by_shown P (Some blocked) _ shows_blocked r = two_turns blocked blocked both_blocked
+  alike_by_shown P (Some unfit) _ shows_unfit r = two_turns unfit unfit both_unfit
+  alike_by_shown P (Some (broke rule place)) _ (shows_broke _ _) r = two_turns (broke rule place) (broke rule place) (both_broke rule place)
 
   -- also as they are tried
   tried_alike : (o g : Option (Turn A)) (o' g' : Option (Turn B)) → PicksAlike R o o' → PicksAlike R g g' → PicksAlike R (tried_with o g) (tried_with o' g')
@@ -183,9 +183,8 @@ DeepAlike d e None (Some b) = ⊥
 DeepAlike d e (Some a) None = ⊥
 DeepAlike d e (Some a) (Some b) = d a ≡ e b
 
--- both begin in one world, show the same under every order, and where an order leads them each thread is as deep in both
+-- both show the same under every order, and where an order leads them each thread is as deep in both
 pub record SameRuns {A B : Type 0} (P : Program A) (w : World) (d : A → ℕ) (Q : Program B) (v : World) (e : B → ℕ) : Type 0 where
-  pub begins : w ≡ v
   pub shown : (order : List Pick) → runs.shown P w order ≡ runs.shown Q v order
   pub deep : (order : List Pick) (u : State A) (s : State B) → run P w order ≡ reaches u → run Q v order ≡ reaches s → (thread : ℕ) → DeepAlike d e (own_at u.own thread) (own_at s.own thread)
 
@@ -199,7 +198,6 @@ deep_turned d e (Some a) (Some b) h = sym h
 -- two programs that are alike are so the other way round
 same_turned : {A B : Type 0} (P : Program A) (w : World) (d : A → ℕ) (Q : Program B) (v : World) (e : B → ℕ) → SameRuns P w d Q v e → SameRuns Q v e P w d
 same_turned P w d Q v e h = record {
-  begins = sym h.begins;
   shown = λ order. sym (h.shown order);
   deep = λ order s u at at' thread. deep_turned d e (own_at u.own thread) (own_at s.own thread) (h.deep order u s at' at thread);
 }
@@ -207,7 +205,7 @@ same_turned P w d Q v e h = record {
 module _ {A B : Type 0} (P : Program A) (w : World) (d : A → ℕ) (Q : Program B) (v : World) (e : B → ℕ) (same : SameRuns P w d Q v e) where
   -- the run of each order comes to the same
   come_to_one : (order : List Pick) → reached_by (run P w order) ≡ reached_by (run Q v order)
-  come_to_one order = reached_shown P w order ∙ (λ i. reached_in (same.begins i) 0 (same.shown order i)) ∙ sym (reached_shown Q v order)
+  come_to_one order = reached_shown P w w order ∙ ap (reached_in w 0) (same.shown order) ∙ sym (reached_shown Q v w order)
 
   -- a state in the same world
   reaches_too : (order : List Pick) (u : State A) → run P w order ≡ reaches u → (s : State B) × (run Q v order ≡ reaches s) × (u.world ≡ s.world)
@@ -225,10 +223,10 @@ module _ {A B : Type 0} (P : Program A) (w : World) (d : A → ℕ) (Q : Program
 
   module _ (order : List Pick) (u : State A) (s : State B) (at : run P w order ≡ reaches u) (at' : run Q v order ≡ reaches s) where
     -- each pick shows the same
-    shows_same : (p : Pick) → shows (picked P u p) ≡ shows (picked Q s p)
+    shows_same : (p : Pick) → shows P (picked P u p) ≡ shows Q (picked Q s p)
     shows_same p =
-        let ends_same : shows (picked P u p) ∷ [] ≡ shows (picked Q s p) ∷ [] = append_cancel_left (runs.shown P w order) (shows (picked P u p) ∷ []) (shows (picked Q s p) ∷ [])
-        (sym (shown_last P w order u p at) ∙ same.shown (order ++ p ∷ []) ∙ shown_last Q v order s p at' ∙ ap (λ z. z ++ shows (picked Q s p) ∷ []) (sym (same.shown order))) in
+        let ends_same : shows P (picked P u p) ∷ [] ≡ shows Q (picked Q s p) ∷ [] = append_cancel_left (runs.shown P w order) (shows P (picked P u p) ∷ []) (shows Q (picked Q s p) ∷ [])
+        (sym (shown_last P w order u p at) ∙ same.shown (order ++ p ∷ []) ∙ shown_last Q v order s p at' ∙ ap (λ z. z ++ shows Q (picked Q s p) ∷ []) (sym (same.shown order))) in
         cc
 
     -- threads that went are as deep then
@@ -240,7 +238,7 @@ module _ {A B : Type 0} (P : Program A) (w : World) (d : A → ℕ) (Q : Program
 
     -- so each pick comes out alike
     picks_alike : (p : Pick) → PicksAlike (λ a b. d a ≡ e b) (picked P u p) (picked Q s p)
-    picks_alike p = alike_by_shown (λ a b. d a ≡ e b) (picked P u p) (picked Q s p) (subst (λ z. Shows z (picked Q s p)) (sym (shows_same p)) (shows_it (picked Q s p))) (went_as_deep p)
+    picks_alike p = alike_by_shown (λ a b. d a ≡ e b) P (picked P u p) (picked Q s p) (subst (λ z. Shows z (picked Q s p)) (sym (shows_same p)) (shows_it Q (picked Q s p))) (went_as_deep p)
 
     -- a turn that is tried breaks a rule in both
     broken_too : (log : List Entry) (thread : ℕ) → Broken (tried_turn P w d log u thread) → Broken (tried_turn Q v e log s thread)
@@ -274,7 +272,7 @@ module _ {A B : Type 0} (P : Program A) (w : World) (d : A → ℕ) (Q : Program
       ends_too settings ends.TurnLimit h = (runs_there 0 h.0, h.1)
       ends_too settings ends.OutputLimit h =
           (runs_there 0 h.0, goes_alike (λ a b. d a ≡ e b) (λ next x. settings.output < length x.output) (λ next x. settings.output < length x.output) (λ a b x r g. g) _ _ (picks_alike (pick (last_thread log) answers.Plain)) h.1)
-      ends_too settings (ends.StackLimit thread) h = (runs_there 0 h.0, by h.1) where
+      ends_too settings (ends.StackLimit thread) h = (runs_there 0 h.0, runs_there thread h.1, by h.2) where
         by : EntersCall P w d log u thread ⊎ HasNoTurn P w d log thread → EntersCall Q v e log s thread ⊎ HasNoTurn Q v e log thread
         by (inl enters) = inl (enters_too thread enters)
         by (inr never) = inr never

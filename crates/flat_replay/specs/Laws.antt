@@ -2,7 +2,6 @@
 use Rattle.std.specs.Prelude.{◌≡◌, ◌≤◌, List, length, Some}
 use Rattle.ak_trace.specs.declared.entry.Entry.{Entry}
 use Rattle.c_tree.specs.Typed.{Typed}
-use Rattle.c_tree.specs.TypedForm.{IsWellFormed}
 use Rattle.c_meaning.specs.Meaning as source
 use Rattle.struct_ir.specs.Nodes.{Ir}
 use Rattle.struct_ir.specs.Erased.{ir_erased}
@@ -12,7 +11,7 @@ use Rattle.struct_ir.specs.Whole.{plain_bytes}
 use Rattle.struct_ir.specs.Emitted.{IsEmitted}
 use Rattle.struct_ir.specs.meaning.Start.{start}
 use Rattle.struct_ir.specs.meaning.Threads.{program_of}
-use Rattle.lower_forms.specs.Programs.{lowered}
+use Rattle.lower_turns.specs.Turns.{KeepsEveryTurn}
 use Rattle.flat_meaning.specs.Image.{linear_image}
 use Rattle.flat_meaning.specs.Simulation.{IsLoadable, IsChecked}
 use Rattle.flat_rules.specs.declared.settings.Settings.{Settings}
@@ -48,10 +47,10 @@ JournalsOfCheckedCodeAreMeant =
     (p : Ir) → IsChecked p → (code : LinearCode) → IsEmitted p code → AllLawful code.funcs → IsProgram code → (s : Settings) (log : List Entry) (x : State Shared Context) → replay code s log ≡ Some x
     → IsMeaning (program_of p) (start p) (λ t. length t.callers) log s (final_at code s log x)
 
--- and so that of the program of which it is the code
+-- and so that of each program of which, without its Looks, safepoints, slots and lists, it keeps every turn
 abbrev pub JournalsMeanTheSource : Type 0
 JournalsMeanTheSource =
-    (t : Typed) → IsWellFormed t → (p : Ir) → ir_erased p ≡ lowered t → IsChecked p → (code : LinearCode) → IsEmitted p code → AllLawful code.funcs → IsProgram code
+    (t : Typed) (p : Ir) → KeepsEveryTurn t (ir_erased p) → IsChecked p → (code : LinearCode) → IsEmitted p code → AllLawful code.funcs → IsProgram code
     → (s : Settings) (log : List Entry) (x : State Shared Context) → replay code s log ≡ Some x → IsMeaning (source.program t) (source.start t) (λ c. length c.callers) log s (final_at code s log x)
 
 -- ---- accesses

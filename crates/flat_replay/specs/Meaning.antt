@@ -109,7 +109,7 @@ module _ {A : Type 0} (P : Program A) (w : World) (depth : A → ℕ) (log : Lis
   EndsAs s u ends.AllBlocked = Runs u.world 0 × ((thread : ℕ) → Runs u.world thread → next_turn u thread ≡ Some blocked)
   EndsAs s u ends.TurnLimit = Runs u.world 0 × (s.entries < length log + kept_free)
   EndsAs s u ends.OutputLimit = Runs u.world 0 × Goes (λ next v. s.output < length v.output) (next_turn u (last_thread log))
-  EndsAs s u (ends.StackLimit thread) = Runs u.world 0 × (EntersCall u thread ⊎ HasNoTurn thread)
+  EndsAs s u (ends.StackLimit thread) = Runs u.world 0 × Runs u.world thread × (EntersCall u thread ⊎ HasNoTurn thread)
 
   -- ---- all of it
 

@@ -13,7 +13,7 @@ use Rattle.ak_trace.specs.declared.endings.End.TheVariants as ends
 use Rattle.ak_trace.specs.declared.endings.TrapKind.{TrapKind}
 use Rattle.flat_rules.specs.declared.settings.Settings.{Settings}
 use Rattle.flat_machine.specs.Replays.{Final}
-use Rattle.flat_replay.specs.Meaning.{last_thread, tried_turn, BreaksAt, IsClean, IsFirstBreak, IsAsMeant}
+use Rattle.flat_replay.specs.Meaning.{last_thread, tried_turn, BreaksAt, IsClean, IsFirstBreak, EndsAs, IsAsMeant}
 
 -- thread 1 finds the mutex held when ten turns are done; when seventeen are, thread 2 meets a trap, and thread 0 prints too much; and when
 -- all eighteen are, thread 0 has no stack
@@ -58,7 +58,7 @@ deed thread answer w n (returns value ∷ rest) = ended (staged w thread (return
 
 -- a program whose threads do all this
 abbrev pub small : List Deed → Program Small
-small todo = record { main = 0; begins = λ function argument. (todo, 0); turn = λ thread answer t w. deed thread answer w t.1 t.0 }
+small todo = record { main = 0; begins = λ function argument. (todo, 0); turn = λ thread answer t w. deed thread answer w t.1 t.0; calls = waiting_calls }
 
 -- the world in which it begins
 abbrev pub alone : World
@@ -92,6 +92,10 @@ MeaningsStand =
     × Means 1 (prints 65 ∷ waits ∷ []) (row 0 0 0 0 ∷ row 2 0 1 0 ∷ row 2 0 6 0 ∷ row 1 0 0 0 ∷ []) (65 ∷ []) ends.AllBlocked
     × Means 1 (prints 65 ∷ calls ∷ []) (row 0 0 0 0 ∷ row 2 0 1 0 ∷ row 2 0 12 0 ∷ []) (65 ∷ []) (ends.StackLimit 0)
     × Means 1 (prints 65 ∷ prints 66 ∷ []) (row 0 0 0 0 ∷ row 2 0 1 0 ∷ row 2 0 11 0 ∷ []) (65 ∷ []) ends.OutputLimit
+
+-- where there is main alone, no thread 63 is without room, whatever it does and whatever the settings
+abbrev pub EndsStand : Type 0
+EndsStand = (todo : List Deed) (s : Settings) → EndsAs (small todo) alone waiting_calls (row 0 0 0 0 ∷ row 2 63 12 0 ∷ []) s (first_state (small todo) alone) (ends.StackLimit 63) → ⊥
 
 -- no rule is broken where main returns; the first is broken by the second turn; by one that trapped behind the first; and by one for which
 -- main waits

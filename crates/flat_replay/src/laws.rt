@@ -4,7 +4,7 @@ ghost use Rattle.std.specs.Prelude.{◌≡◌};
 ghost use Rattle.ak_trace.specs.Rows.{full_journal};
 ghost use Rattle.flat_replay.specs.Attempts.{attempts_from};
 ghost use Rattle.flat_replay.specs.Laws.{AJournalIsOfEvents, AccessesOfJournalsStay, BarriersOfARunKeepObjects, JournalsMeanTheSource, JournalsOfCheckedCodeAreMeant, SmallProgramsFit};
-ghost use Rattle.flat_replay.specs.Rows.{full_attempts, BreaksStand, LastsStand, MeaningsStand, TriesStand};
+ghost use Rattle.flat_replay.specs.Rows.{full_attempts, BreaksStand, EndsStand, LastsStand, MeaningsStand, TriesStand};
 
 /// At each barrier of a journal that replays, whatever rules of C were broken before: no object moves that a listed slot names, the others
 /// slide down, and the object of each id in use keeps its bytes, at the address that the table then has.
@@ -40,11 +40,11 @@ pub fn journals_of_checked_code_are_meant()
     flat_simulation::laws::events_of_linear_code();
 }
 
-/// And so it has the meaning of the program of which that is the code.
+/// And so it has the meaning of each program of which that code keeps every turn, as it does of the one from which it was lowered.
 pub fn journals_mean_the_source()
     ensures { JournalsMeanTheSource }
 {
-    lower_turns::laws::code_keeps_every_turn();
+    lower_turns::laws::code_with_looks_keeps_every_turn();
     lower_turns::laws::calls_are_as_deep();
     journals_of_checked_code_are_meant();
 }
@@ -54,11 +54,12 @@ pub fn attempts_of_every_how()
     ensures { attempts_from 0 full_journal ≡ full_attempts }
 {}
 
-/// What the journals of small programs mean: where main returns, waits, has no room for a call or prints too much; and where a rule is
-/// broken by a turn, by one that trapped, or by one for which main waits.
+/// What the journals of small programs mean: where main returns, waits, has no room for a call or prints too much; that none ends since a
+/// thread that wasn't made has no room; and where a rule is broken by a turn, by one that trapped, or by one for which main waits.
 pub fn small_journals_have_their_meaning()
     ensures lasts { LastsStand }
     ensures tries { TriesStand }
     ensures meanings { MeaningsStand }
+    ensures ends { EndsStand }
     ensures breaks { BreaksStand }
 {}

@@ -1,21 +1,21 @@
--- Code from its own first world on: it begins as the program does, and goes on as that does.
+-- Code from its own first world on: it begins as the program does, goes on as that does, and is as deep in calls.
 use Rattle.std.proofs.Common.{◌≡◌, ℕ, suc, List, [], ◌∷◌, ◌++◌, length, map, refl, sym, ap, ◌∙◌}
 use Rattle.block_store.specs.Blocks.{global_block, literal_block}
 use Rattle.block_store.specs.Actions.{World, first_world}
 use Rattle.block_store.specs.Runs as runs
-use Rattle.block_store.specs.Runs.{Pick, Run, Shown, it_went, it_ended, it_blocked, it_was_unfit, it_broke, no_such_turn}
+use Rattle.block_store.specs.Runs.{Pick, Run}
 use Rattle.c_tree.specs.Typed as tree
 use Rattle.c_tree.specs.TypedLayout.{size_in}
 use Rattle.c_meaning.specs.Alike.{at_no_run, reached_by, reached_in}
 use Rattle.c_meaning.specs.Meaning as source
-use Rattle.c_meaning.proofs.Alike.{reached_shown}
+use Rattle.c_meaning.proofs.Alike.{reached_shown, begins_outside_calls, calls_shown}
 use Rattle.c_meaning.proofs.TypedRuns.{runs_go_on}
 use Rattle.struct_ir.specs.Nodes.{Ir}
 use Rattle.struct_ir.specs.meaning.Start as code
 use Rattle.struct_ir.specs.meaning.Threads.{program_of}
 use Rattle.lower_forms.specs.Programs.{lowered, globals_lowered}
-use Rattle.lower_turns.specs.Turns.{CodeWithLooksKeepsEveryRun, CodeBeginsAlike, CodeKeepsEveryTurn, CodeGoesOn, KeepsEveryTurn}
-use Rattle.lower_turns.proofs.Looks.{looks_keep_every_turn}
+use Rattle.lower_turns.specs.Turns.{CodeWithLooksKeepsEveryRun, CodeBeginsAlike, CodeKeepsEveryTurn, CodeGoesOn, KeepsEveryTurn, ErasedKeepsEveryTurn, CallsAreAsDeep}
+use Rattle.lower_turns.proofs.Looks.{erased_code_shows, looks_keep_every_turn}
 
 -- ---- first worlds
 
@@ -51,30 +51,31 @@ code_keeps_every_turn t well ready e order =
 
 pub looks_keep_every_run : CodeWithLooksKeepsEveryRun
 looks_keep_every_run t well ready e order =
-    reached_shown (program_of ready) (source.start t) order ∙ ap (reached_in (source.start t) 0) (looks_keep_every_turn t well ready e order) ∙ sym (reached_shown (source.program t) (source.start t) order)
+    reached_shown (program_of ready) (source.start t) (source.start t) order ∙ ap (reached_in (source.start t) 0) (looks_keep_every_turn t well ready e order) ∙ sym (reached_shown (source.program t) (source.start t) (source.start t) order)
 
 no_run_is : {A : Type 0} (r : Run A) (k : ℕ) → at_no_run k ≡ reached_by r → r ≡ runs.no_run k
 no_run_is (runs.reaches s) k e = absurd cc
 no_run_is (runs.breaks rule n) k e = absurd cc
 no_run_is (runs.no_run n) k e = let same : k ≡ n = cc in ap runs.no_run (sym same)
 
--- which first world there was shows only where no turn was done
-no_run_anywhere : (w v : World) (k n : ℕ) (all : List Shown) → reached_in w k all ≡ at_no_run n → reached_in v k all ≡ at_no_run n
-no_run_anywhere w v k n [] e = absurd cc
-no_run_anywhere w v k n (it_went next ∷ rest) e = e
-no_run_anywhere w v k n (it_ended next ∷ rest) e = e
-no_run_anywhere w v k n (it_blocked ∷ rest) e = e
-no_run_anywhere w v k n (it_was_unfit ∷ rest) e = e
-no_run_anywhere w v k n (it_broke rule place ∷ rest) e = absurd cc
-no_run_anywhere w v k n (no_such_turn ∷ rest) e = e
-
 no_run_too : (t : tree.Typed) (ready : Ir) → KeepsEveryTurn t ready → (order : List Pick) (k : ℕ) → runs.run (program_of ready) (code.start ready) order ≡ runs.no_run k → source.run t order ≡ runs.no_run k
 no_run_too t ready keeps order k none =
-    let told : reached_in (code.start ready) 0 (source.shown t order) ≡ at_no_run k =
-    ap (reached_in (code.start ready) 0) (sym (keeps order)) ∙ sym (reached_shown (program_of ready) (code.start ready) order) ∙ ap reached_by none in
-    no_run_is (source.run t order) k (sym (reached_shown (source.program t) (source.start t) order ∙ no_run_anywhere (code.start ready) (source.start t) 0 k (source.shown t order) told))
+    no_run_is (source.run t order) k
+    (sym (reached_shown (source.program t) (source.start t) (source.start t) order ∙ ap (reached_in (source.start t) 0) (sym (keeps order)) ∙ sym (reached_shown (program_of ready) (code.start ready) (source.start t) order) ∙ ap reached_by none))
 
 pub code_goes_on : CodeGoesOn
 code_goes_on t well ready keeps order s reaches p main own runs_main runs_own =
     let goes = runs_go_on t well order s reaches p main own runs_main runs_own in
     (goes.0, goes.1, λ fits k none. goes.2 fits k (no_run_too t ready keeps (order ++ p ∷ []) k none))
+
+-- ---- calls that wait
+
+pub calls_are_as_deep : CallsAreAsDeep
+calls_are_as_deep t code keeps order s u p q thread =
+    calls_shown (source.program t) (program_of code) (begins_outside_calls t) (λ f argument. refl) (source.start t) (code.start code) order (sym (keeps order)) s u p q thread
+
+-- ---- with Looks, safepoints, slots and lists, and without
+
+pub erased_keeps_every_turn : ErasedKeepsEveryTurn
+erased_keeps_every_turn t p =
+    (λ keeps order. sym (erased_code_shows p (code.start p) order) ∙ keeps order, λ keeps order. erased_code_shows p (code.start p) order ∙ keeps order)

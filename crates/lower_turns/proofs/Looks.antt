@@ -19,6 +19,7 @@ use Rattle.struct_ir.specs.meaning.Blocks.{Fault, broken, wrong_kind, Own, calcu
 use Rattle.struct_ir.specs.meaning.Threads.{result_of, finished_with, given, set_given, over, left, finished, nodes_of, params_of, first_temps, start_in, blocks_world, turned, program_of}
 use Rattle.struct_ir.proofs.Bare.{erased_code}
 use Rattle.lower_turns.specs.Turns.{ErasedCodeShowsTheSame, CodeWithLooksKeepsEveryTurn}
+use Rattle.lower_turns.proofs.Depths.{mapped_long}
 use Rattle.lower_turns.proofs.Threads.{lower_keeps_every_turn}
 
 -- ---- functions without slots
@@ -102,7 +103,7 @@ module _ (p : Ir) where
   -- ---- threads
 
   -- a thread of the erased code stands where one of the code does
-  pub record Stands (a b : Thread Position Own) : Type 0 where
+  record Stands (a b : Thread Position Own) : Type 0 where
     pub is : b ≡ thread_mapped at_erased a
     pub carry : AllCarry (listless structured) structured at_erased a.callers
 
@@ -133,8 +134,11 @@ module _ (p : Ir) where
     carry = tt;
   }
 
-  pub keeps : KeepsTurns Stands (program_of p) (program_of (ir_erased p))
-  keeps = record { begins = begins_alike; turn = turns_alike }
+  as_deep : (a b : Thread Position Own) → Stands a b → length a.callers ≡ length b.callers
+  as_deep a b h = sym (mapped_long a.callers) ∙ sym (ap (λ (k : Thread Position Own). length k.callers) h.is)
+
+  keeps : KeepsTurns Stands (program_of p) (program_of (ir_erased p))
+  keeps = record { begins = begins_alike; calls = as_deep; turn = turns_alike }
 
 -- ---- orders
 

@@ -2,7 +2,7 @@
 use Rattle.std.proofs.Common.{◌≡◌, ◌∙◌, refl, sym, ap, inl, ℕ, List, [], ◌∷◌, ◌++◌, length, set, Option, Some, None}
 use Rattle.block_store.specs.declared.values.Ptr.{Ptr}
 use Rattle.block_store.specs.Actions.{World}
-use Rattle.block_store.specs.Runs.{Turn, Program, State, Pick, begun, turn_if, Shown, it_went, it_ended, it_blocked, it_was_unfit, no_such_turn, shown_then, shown_from}
+use Rattle.block_store.specs.Runs.{Turn, Program, State, Pick, begun, turn_if, next_state, Shown, it_begins, it_went, it_ended, it_blocked, it_was_unfit, no_such_turn, shown_then, shown_from}
 use Rattle.c_tree.specs.Typed as tree
 use Rattle.c_tree.specs.TypedForm.{IsWellFormed}
 use Rattle.c_meaning.specs.Control.{Control}
@@ -17,6 +17,7 @@ use Rattle.c_meaning.proofs.Alike.{reached_shown}
 use Rattle.lower_turns.specs.Turns.{LowerKeepsEveryTurn, LowerKeepsEveryRun}
 use Rattle.lower_turns.proofs.Relation.{Same, CanBegin, AllBegin, Together, both_went, both_ended, both_blocked, both_unfit, both_broke}
 use Rattle.lower_turns.proofs.Turns.{turn_alike, begins_alike}
+use Rattle.lower_turns.proofs.Depths.{same_long}
 use Rattle.lower_turns.proofs.Pairs.{OneAlike, neither, both, AllAlike, own_alike, begun_alike, next_alike}
 
 module _ (t : tree.Typed) (well : IsWellFormed t) where
@@ -50,7 +51,9 @@ module _ (t : tree.Typed) (well : IsWellFormed t) where
   turn_shown : (go : State Control → List Shown) (go' : State (Thread Position Own) → List Shown) → RestAlike go go'
       → (xs : List (Option Control)) (ys : List (Option (Thread Position Own))) (w : World) (n : ℕ) → AllBegin t w → AllAlike (Same t) xs ys → (x : Turn Control) (y : Turn (Thread Position Own)) → Together t x y
       → shown_then the_source go (state w xs) n (Some x) ≡ shown_then the_code go' (state w ys) n (Some y)
-  turn_shown go go' rest xs ys w n begins all _ _ (both_went {a} {b} next more r) = ap (λ z. it_went next ∷ z) (rest _ _ next more (after_turn xs ys n (Some a) (Some b) next more all (both a b r)))
+  turn_shown go go' rest xs ys w n begins all _ _ (both_went {a} {b} next more r) =
+      ap (λ calls. it_went calls next ∷ go (next_state the_source (state w xs) n (Some a) next)) (sym (same_long t a b r))
+      ∙ ap (λ z. it_went (the_code.calls b) next ∷ z) (rest _ _ next more (after_turn xs ys n (Some a) (Some b) next more all (both a b r)))
   turn_shown go go' rest xs ys w n begins all _ _ (both_ended next more) = ap (λ z. it_ended next ∷ z) (rest _ _ next more (after_turn xs ys n None None next more all neither))
   turn_shown go go' rest xs ys w n begins all _ _ both_blocked = ap (λ z. it_blocked ∷ z) (rest xs ys w begins all)
   turn_shown go go' rest xs ys w n begins all _ _ both_unfit = ap (λ z. it_was_unfit ∷ z) (rest xs ys w begins all)
@@ -73,8 +76,9 @@ module _ (t : tree.Typed) (well : IsWellFormed t) where
 -- the theorem
 pub lower_keeps_every_turn : LowerKeepsEveryTurn
 lower_keeps_every_turn t well order =
-    sym (same_from t well order (begun (program t) 0 (start t)) (begun (program_of (lowered t)) 0 (start t)) (start t) (inl refl, tt) (first_alike t well (start t) (inl refl, tt)))
+    ap (λ z. it_begins (start t) ∷ z)
+    (sym (same_from t well order (begun (program t) 0 (start t)) (begun (program_of (lowered t)) 0 (start t)) (start t) (inl refl, tt) (first_alike t well (start t) (inl refl, tt))))
 
 pub lower_keeps_every_run : LowerKeepsEveryRun
 lower_keeps_every_run t well order =
-    reached_shown (program_of (lowered t)) (start t) order ∙ ap (reached_in (start t) 0) (lower_keeps_every_turn t well order) ∙ sym (reached_shown (program t) (start t) order)
+    reached_shown (program_of (lowered t)) (start t) (start t) order ∙ ap (reached_in (start t) 0) (lower_keeps_every_turn t well order) ∙ sym (reached_shown (program t) (start t) (start t) order)

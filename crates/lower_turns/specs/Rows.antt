@@ -10,7 +10,7 @@ use Rattle.c_tree.specs.Typed.{void, integer, mutex, pointer, array, structure, 
 use Rattle.c_tree.specs.Typed.{null, literal, global, local, deref, member, address_of, convert, not_, binary, and_also, or_else, choose, pointer_add, pointer_sub, pointer_diff, pointer_compare}
 use Rattle.c_tree.specs.Typed.{block, declare, if_, if_else, for_, while_, break_, continue_, return_, assign, update, evaluate, StmtNode, Expr, zero_bytes, number}
 use Rattle.c_meaning.specs.Meaning.{start, shown}
-use Rattle.c_meaning.specs.Rows.{int_ty, int_star, k, v, of_type, row, one, lib_call, printf_int, op_of, at_star, in_register, in_memory, func, whole, main_only, turns, got, none, p0, malloc_of, free_of, call_of, shared_block, first_turns, ints, returns, char_star, decayed, at_index, as_void_star, size, mutex_call, joined_twice, prints_and_gives, x0, pair, struct_local, unsigned_char, u, minus, counted, one_waits, g0, thread_ty}
+use Rattle.c_meaning.specs.Rows.{int_ty, int_star, k, v, of_type, row, one, lib_call, printf_int, op_of, at_star, in_register, in_memory, func, whole, main_only, turns, got, none, p0, malloc_of, free_of, call_of, recursion, shared_block, first_turns, ints, returns, char_star, decayed, at_index, as_void_star, size, mutex_call, joined_twice, prints_and_gives, x0, pair, struct_local, unsigned_char, u, minus, counted, one_waits, g0, thread_ty}
 use Rattle.struct_ir.specs.meaning.Threads.{program_of}
 use Rattle.lower_forms.specs.Programs.{lowered}
 
@@ -36,13 +36,6 @@ loop = main_only (ints 2)
 abbrev pub heap : Typed.Typed
 heap = main_only (in_register int_star ∷ [])
     (declare 0 (Some (malloc_of 4)) ∷ assign (at_star p0) (k 41) ∷ update (at_star p0) ops.Add (k 1) ∷ printf_int (at_star p0) ∷ free_of p0 ∷ return_ (Some (k 0)) ∷ [])
-
--- int f(int n){if(n)return f(n-1)+1;return 0;}int main(void){return f(2);}
-abbrev pub recursion : Typed.Typed
-recursion = whole [] []
-    (func 0 [] (return_ (Some (call_of 1 (k 2 ∷ []))) ∷ [])
-    ∷ func 1 (in_register int_ty ∷ []) (if_ (v 0) (one (return_ (Some (op_of ops.Add (call_of 1 (op_of ops.Sub (v 0) (k 1) ∷ [])) (k 1))))) ∷ return_ (Some (k 0)) ∷ [])
-    ∷ [])
 
 -- int *p=malloc(4);free(p);int *q=p;if(q==p)printf(..);return 0;
 abbrev pub dead_pointers : Typed.Typed

@@ -1,16 +1,16 @@
 -- The code of every well formed program does what the program does: turn by turn, in each thread, under every order and answer, in the
--- same world; and where a turn breaks a rule of C, so does the code's, the same rule at the same place.
-use Rattle.std.specs.Prelude.{◌≡◌, ℕ, List, [], ◌∷◌, ◌++◌, length, Option, Some, None}
+-- same world, and as deep in calls; and where a turn breaks a rule of C, so does the code's, the same rule at the same place.
+use Rattle.std.specs.Prelude.{◌≡◌, ◌↔◌, List, [], ◌∷◌, ◌++◌, ℕ, Some}
 use Rattle.block_store.specs.Runs.{Pick}
 use Rattle.block_store.specs.Actions.{World}
 use Rattle.block_store.specs.Runs as runs
 use Rattle.c_tree.specs.Typed.{Typed}
 use Rattle.c_tree.specs.TypedForm.{IsWellFormed}
-use Rattle.c_meaning.specs.Alike.{reached_by}
+use Rattle.c_meaning.specs.Alike.{reached_by, AsDeep}
 use Rattle.c_meaning.specs.Control.{Control}
 use Rattle.c_meaning.specs.Turns.{turn}
 use Rattle.c_meaning.specs.Sound.{End, FitsEnd, EndsAs}
-use Rattle.c_meaning.specs.Meaning.{start, run, shown}
+use Rattle.c_meaning.specs.Meaning.{program, start, run, shown}
 use Rattle.struct_ir.specs.Nodes.{Ir}
 use Rattle.struct_ir.specs.Erased.{ir_erased}
 use Rattle.struct_ir.specs.Structured.{Position}
@@ -51,13 +51,17 @@ abbrev pub CodeBeginsAlike : Type 0
 CodeBeginsAlike = (t : Typed) (ready : Ir) → ir_erased ready ≡ lowered t → code_start ready ≡ start t
 
 -- code keeps every turn of a program: begun in its own first world it shows under every order of turns and answers what the program
--- shows
+-- shows, from the first world on: how each turn goes, how many calls of its thread wait then, the world, and which rule is broken where
 abbrev pub KeepsEveryTurn : Typed → Ir → Type 0
 KeepsEveryTurn t code = (order : List Pick) → runs.shown (program_of code) (code_start code) order ≡ shown t order
 
 -- so does all code that is a well formed program's code without its Looks, safepoints, slots and lists
 abbrev pub CodeKeepsEveryTurn : Type 0
 CodeKeepsEveryTurn = (t : Typed) → IsWellFormed t → (ready : Ir) → ir_erased ready ≡ lowered t → KeepsEveryTurn t ready
+
+-- code keeps every turn of a program where it does so without its Looks, safepoints, slots and lists, and only there
+abbrev pub ErasedKeepsEveryTurn : Type 0
+ErasedKeepsEveryTurn = (t : Typed) (code : Ir) → KeepsEveryTurn t (ir_erased code) ↔ KeepsEveryTurn t code
 
 -- such code never goes wrong: from each state that a run of the program reaches, a turn of any thread that runs, under an answer that
 -- fits this turn's end, has no run of the code only where it waits. So no operand is ever of another type than the code says
@@ -69,14 +73,8 @@ CodeGoesOn = (t : Typed) → IsWellFormed t → (code : Ir) → KeepsEveryTurn t
 
 -- ---- calls that wait
 
--- both run, with as many calls that wait; or neither runs
-abbrev pub AsDeep : Option Control → Option (Thread Position Own) → Type 0
-AsDeep None None = Unit {0}
-AsDeep (Some c) (Some k) = length k.callers ≡ length c.callers
-AsDeep c k = ⊥
-
--- in the states to which an order leads a program and its code each thread runs in both or in neither, and as many calls wait in it. So
--- a turn enters a call in the one where it does in the other, and leaves one likewise
+-- in the states to which an order leads a program and code that keeps its every turn each thread runs in both or in neither, and as many
+-- calls wait in it. So a turn enters a call in the one where it does in the other, and leaves one likewise
 abbrev pub CallsAreAsDeep : Type 0
-CallsAreAsDeep = (t : Typed) → IsWellFormed t → (ready : Ir) → ir_erased ready ≡ lowered t → (order : List Pick) (s : runs.State Control) (u : runs.State (Thread Position Own))
-    → run t order ≡ runs.reaches s → runs.run (program_of ready) (code_start ready) order ≡ runs.reaches u → (thread : ℕ) → AsDeep (runs.own_at s.own thread) (runs.own_at u.own thread)
+CallsAreAsDeep = (t : Typed) (code : Ir) → KeepsEveryTurn t code → (order : List Pick) (s : runs.State Control) (u : runs.State (Thread Position Own))
+    → run t order ≡ runs.reaches s → runs.run (program_of code) (code_start code) order ≡ runs.reaches u → (thread : ℕ) → AsDeep (program t) (program_of code) (runs.own_at s.own thread) (runs.own_at u.own thread)

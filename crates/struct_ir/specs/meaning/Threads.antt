@@ -222,4 +222,5 @@ program_of p = record {
   main = p.main;
   begins = λ function argument. record { top = record { at = start_in p function; own = first_own p function argument }; callers = [] };
   turn = λ thread answer t w. turned (turn structured (blocks_machine p) (blocks_world p thread) (start_in p) answer t w);
+  calls = λ t. length t.callers;
 }

@@ -1,4 +1,4 @@
-use Rattle.lower_turns.proofs.Depths.{calls_are_as_deep}
+use Rattle.lower_turns.proofs.Codes.{calls_are_as_deep}
 use Rattle.lower_turns.proofs.laws.calls_are_as_deep.Goals as goal
 
 pub returns : goal.returns
