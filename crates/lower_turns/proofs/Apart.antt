@@ -1,6 +1,7 @@
 -- Code that recurses in place of a loop: worked out turn by turn.
 use Rattle.std.proofs.Common.{◌≡◌, refl, ap, ℕ, zero, suc, List, [], ◌∷◌, map, Some}
 use Rattle.std.specs.Prelude.{None}
+use Rattle.ak_words.specs.Wrapped.{residue, wrapped_value}
 use Rattle.block_store.specs.declared.values.Answer.{Answer}
 use Rattle.block_store.specs.declared.values.Answer.TheVariants as answers
 use Rattle.block_store.specs.Actions.{World}
@@ -48,7 +49,7 @@ Alike order = (temps : ℕ → Held) (waiting : List (Point Position Own)) → m
 alike_then : (order : List Pick) → Alike order → (thread : ℕ) (answer : Answer) (temps : ℕ → Held) (waiting : List (Point Position Own))
     → map without_calls (shown_then the_calls (shown_from the_calls order) (in_call temps waiting) thread (picked the_calls (in_call temps waiting) (record { thread = thread; answer = answer })))
     ≡ map without_calls (shown_then the_loop (shown_from the_loop order) in_loop thread (picked the_loop in_loop (record { thread = thread; answer = answer })))
-unfolding run_within run
+unfolding residue wrapped_value run_within run
 alike_then order rest zero answers.Plain temps waiting = ap (λ z. it_went 0 (start spins) ∷ z) (rest _ (_ ∷ waiting))
 alike_then order rest zero answers.Got temps waiting = ap (λ z. it_was_unfit ∷ z) (rest temps waiting)
 alike_then order rest zero answers.None temps waiting = ap (λ z. it_was_unfit ∷ z) (rest temps waiting)
@@ -64,7 +65,7 @@ first_then : (order : List Pick) → map without_calls (shown_from the_calls ord
     → (thread : ℕ) (answer : Answer)
     → map without_calls (shown_then the_calls (shown_from the_calls order) (runs.first_state the_calls (start spins)) thread (picked the_calls (runs.first_state the_calls (start spins)) (record { thread = thread; answer = answer })))
     ≡ map without_calls (shown_then the_loop (shown_from the_loop order) (runs.first_state the_loop (start spins)) thread (picked the_loop (runs.first_state the_loop (start spins)) (record { thread = thread; answer = answer })))
-unfolding run_within run
+unfolding residue wrapped_value run_within run
 first_then order rest zero answers.Plain = ap (λ z. it_went 0 (start spins) ∷ z) (alike_from order _ (_ ∷ []))
 first_then order rest zero answers.Got = ap (λ z. it_was_unfit ∷ z) rest
 first_then order rest zero answers.None = ap (λ z. it_was_unfit ∷ z) rest
@@ -76,13 +77,13 @@ first_alike (p ∷ order) = first_then order (first_alike order) p.thread p.answ
 
 -- ---- how many calls wait behind the first turn
 
-calls_of : List Shown → ℕ
+abbrev calls_of : List Shown → ℕ
 calls_of (it_begins w ∷ it_went calls v ∷ rest) = calls
 calls_of others = 0
 
 turn_apart : (it_begins (start spins) ∷ shown_from the_calls (record { thread = 0; answer = answers.Plain } ∷ []) (runs.first_state the_calls (start spins)))
-    ≡ (it_begins (start spins) ∷ shown_from the_loop (record { thread = 0; answer = answers.Plain } ∷ []) (runs.first_state the_loop (start spins))) → 1 ≡ 0
-unfolding run_within run
+    ≡ (it_begins (start spins) ∷ shown_from the_loop (record { thread = 0; answer = answers.Plain } ∷ []) (runs.first_state the_loop (start spins))) → ◌≡◌ {A = ℕ} 1 0
+unfolding residue wrapped_value run_within run
 turn_apart e = ap calls_of e
 
 pub recursion_is_told_apart : RecursionIsToldApart

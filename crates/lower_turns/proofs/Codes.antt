@@ -71,8 +71,8 @@ code_goes_on t well ready keeps order s reaches p main own runs_main runs_own =
 -- ---- calls that wait
 
 pub calls_are_as_deep : CallsAreAsDeep
-calls_are_as_deep t code keeps order s u p q thread =
-    calls_shown (source.program t) (program_of code) (begins_outside_calls t) (λ f argument. refl) (source.start t) (code.start code) order (sym (keeps order)) s u p q thread
+calls_are_as_deep t ready keeps order s u p q thread =
+    calls_shown (source.program t) (program_of ready) (begins_outside_calls t) (λ f argument. refl) (source.start t) (code.start ready) order (sym (keeps order)) s u p q thread
 
 -- ---- with Looks, safepoints, slots and lists, and without
 
