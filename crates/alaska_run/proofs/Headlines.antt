@@ -15,7 +15,7 @@ use Rattle.ak_trace.specs.declared.endings.End.{End}
 use Rattle.ak_trace.specs.declared.endings.End.TheVariants as ends
 use Rattle.flat_rules.specs.declared.settings.Settings.{Settings}
 use Rattle.flat_machine.specs.Replays.{Final, final_at, final_of}
-use Rattle.flat_replay.specs.Accesses.{AccessesStay}
+use Rattle.flat_replay.specs.Accesses.{AccessesKeep}
 use Rattle.flat_replay.specs.Barriers.{BarriersKeep}
 use Rattle.flat_replay.specs.Laws.{AccessesOfJournalsStay, JournalsMeanTheSource}
 use Rattle.flat_replay.specs.Meaning.{IsMeaning}
@@ -156,16 +156,16 @@ module _ (words : List (List ℕ)) (file : List ℕ → Shelved) (out note : Cha
       subst (λ (t : Typed). IsMeaning (program t) (start t) depth log run.settings f) (tree_is typed tree) c
 
   -- and its accesses stay in their objects
-  accesses : (log : List Entry) (end : End) (f : Final) → e.journal ≡ Some log → (run : IsRun e log end f) → (checked : Ir) → e.checked ≡ Some checked → AccessesStay checked run.code run.settings log
+  accesses : (log : List Entry) (end : End) (f : Final) → e.journal ≡ Some log → (run : IsRun e log end f) → (checked : Ir) → e.checked ≡ Some checked → AccessesKeep checked run.code run.settings log
   accesses log end f l run checked is =
       let s : x.settings ≡ run.settings = cc (sym es ∙ run.has_settings) in
       let k : arc_value x.code ≡ run.code = code_is run.code run.has_code in
       let p : program_in x.checked ≡ checked = cc (sym ec ∙ is) in
-      let a : AccessesStay (program_in x.checked) (arc_value x.code) x.settings r.journal.entries = stay (program_in x.checked) o.built.sound (arc_value x.code) o.built.emitted o.built.lawful o.ready.program x.settings r.journal.entries h.last h.leads in
-      let b : AccessesStay (program_in x.checked) (arc_value x.code) x.settings log = subst (AccessesStay (program_in x.checked) (arc_value x.code) x.settings) (log_is log l) a in
-      let c : AccessesStay (program_in x.checked) run.code x.settings log = subst (λ (z : LinearCode). AccessesStay (program_in x.checked) z x.settings log) k b in
-      let d : AccessesStay (program_in x.checked) run.code run.settings log = subst (λ (z : Settings). AccessesStay (program_in x.checked) run.code z log) s c in
-      subst (λ (z : Ir). AccessesStay z run.code run.settings log) p d
+      let a : AccessesKeep (program_in x.checked) (arc_value x.code) x.settings r.journal.entries = stay (program_in x.checked) o.built.sound (arc_value x.code) o.built.emitted o.built.lawful o.ready.program x.settings r.journal.entries h.last h.leads in
+      let b : AccessesKeep (program_in x.checked) (arc_value x.code) x.settings log = subst (AccessesKeep (program_in x.checked) (arc_value x.code) x.settings) (log_is log l) a in
+      let c : AccessesKeep (program_in x.checked) run.code x.settings log = subst (λ (z : LinearCode). AccessesKeep (program_in x.checked) z x.settings log) k b in
+      let d : AccessesKeep (program_in x.checked) run.code run.settings log = subst (λ (z : Settings). AccessesKeep (program_in x.checked) run.code z log) s c in
+      subst (λ (z : Ir). AccessesKeep z run.code run.settings log) p d
 
   pub of_run : Headline words file out note e
   of_run = record {

@@ -13,7 +13,7 @@ use Rattle.struct_ir.specs.Instrs.{LinearCode}
 use Rattle.ak_trace.specs.declared.endings.End.{End}
 use Rattle.flat_rules.specs.declared.settings.Settings.{Settings}
 use Rattle.flat_machine.specs.Replays.{Final, final_of}
-use Rattle.flat_replay.specs.Accesses.{AccessesStay}
+use Rattle.flat_replay.specs.Accesses.{AccessesKeep}
 use Rattle.flat_replay.specs.Barriers.{BarriersKeep}
 use Rattle.flat_replay.specs.Meaning.{whole_run, IsClean, IsFirstBreak, IsAsMeant, IsUpToABreak}
 use Rattle.run_words.specs.Wanted.{settings_of, wanted_of}
@@ -102,9 +102,10 @@ UpToTheFirstRule e = OfTheText e (λ typed log s f. (turns : ℕ) → IsFirstBre
 
 -- ---- objects
 
--- up to the first rule that is broken each byte that a step reads or writes is of a block, at an offset, that the source's turn reaches
+-- entry by entry, up to the first rule that is broken: each byte that a step reads or writes is of a block, at an offset, that the source's
+-- turn reaches
 abbrev pub NoAccessLeavesItsObject : Ending → Type 0
-NoAccessLeavesItsObject e = (log : List Entry) (end : End) (f : Final) → e.journal ≡ Some log → (run : IsRun e log end f) → (checked : Ir) → e.checked ≡ Some checked → AccessesStay checked run.code run.settings log
+NoAccessLeavesItsObject e = (log : List Entry) (end : End) (f : Final) → e.journal ≡ Some log → (run : IsRun e log end f) → (checked : Ir) → e.checked ≡ Some checked → AccessesKeep checked run.code run.settings log
 
 -- at each barrier of a run no pinned object moves, and the object of every id in use keeps its bytes, at the address that the table then has
 abbrev pub NoPinnedObjectEveryHandle : Ending → Type 0
