@@ -2,10 +2,11 @@
 # How fast the arena places and slides: so many objects of 16 to 256 bytes are placed, every second one is freed, and the others slide down.
 # Use: bench/arena.sh      for 10000, 100000 and 1000000 objects: seconds for all places, for the plan, for judging it and for its moves
 # Then MiB a second: of the moves, of their copies alone, and of the C library's memmove on the same bytes, in the same run of this script.
-# It proves and builds the program arena_bench first, and compiles the program of memmove with gcc.
+# It measures crates/bench/out/bench as `rt ci` left it in this checkout; where there is none, it proves and builds it first. It
+# compiles the program of memmove with gcc.
 set -eu
-cd "$(dirname "$0")/../crates/arena_bench"
-rt run >/dev/null 2>&1 || { echo "arena_bench was not proved or not built" >&2; exit 1; }
+here=$(cd "$(dirname "$0")/.." && pwd)
+. "$here/bench/parts.sh"
 work=$(mktemp -d)
 trap 'rm -rf "$work"' EXIT
 
@@ -73,7 +74,7 @@ gcc -O2 -o "$work/moves" "$work/moves.c"
 
 printf '%9s %9s %9s %9s %9s %12s %12s %12s\n' objects places plan judged moves 'moves MiB/s' 'copies MiB/s' memmove
 for objects in 10000 100000 1000000; do
-  out/arena_bench "$objects" >"$work/out" 2>"$work/times"
+  "$program" arena "$objects" >"$work/out" 2>"$work/times"
   read -r moves taken micros < <("$work/moves" "$objects" 2>/dev/null)
   grep -qx "$moves moves of $taken bytes, legal: true" "$work/out" || { echo "the two programs don't move the same bytes" >&2; cat "$work/out" >&2; exit 1; }
   tr -d '\na-z:,' <"$work/times" | awk -v n="$objects" -v b="$taken" -v m="$micros" '

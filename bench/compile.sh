@@ -4,11 +4,10 @@
 # Use: bench/compile.sh      prints bytes, then seconds for the reading, the lowering and the passes, and seconds a MiB of the whole:
 #   for mixed code of 1/8, 1/4, 1/2 and 1 MiB; then for one function of 1,000 loops in a row, of 60 loops in each other, of 1,000 accesses
 #   through one pointer, and of 500 pointers.
-# It measures crates/text_bench/out/text_bench as `rt ci` left it in this checkout; where there is none, it proves and builds it first.
+# It measures crates/bench/out/bench as `rt ci` left it in this checkout; where there is none, it proves and builds it first.
 set -eu
-here=$(cd "$(dirname "$0")" && pwd)
-cd "$here/../crates/text_bench"
-[ -x out/text_bench ] || rt run >/dev/null 2>&1 || { echo "text_bench was not proved or not built" >&2; exit 1; }
+here=$(cd "$(dirname "$0")/.." && pwd)
+. "$here/bench/parts.sh"
 work=$(mktemp -d)
 trap 'rm -rf "$work"' EXIT
 
@@ -21,17 +20,14 @@ make_main() { # an awk program that prints the body
 
 measure() { # name file
   bytes=$(stat -c %s "$2")
-  (cd "$work" && rt_run "$2") >"$work/out" 2>"$work/note"
+  (cd "$work" && "$program" compile "$2") >"$work/out" 2>"$work/note"
   grep -q ' tokens$' "$work/out" || { cat "$work/out" "$work/note"; exit 1; }
   tail -n 1 "$work/note" | awk -v name="$1" '{ t = ($2 + $3 + $4) / 1e6; printf "%-12s %9d %9.3f %9.3f %9.3f %10.3f\n", name, $1, $2 / 1e6, $3 / 1e6, $4 / 1e6, t * 1048576 / $1 }'
 }
 
-program=$PWD/out/text_bench
-rt_run() { "$program" compile "$1"; }
-
 printf '%-12s %9s %9s %9s %9s %10s\n' text bytes read lowered passes s/MiB
 for part in 8 4 2 1; do
-  awk -v most=$((1048576 / part)) -f "$here/mixed.awk" >"$work/mixed.c"
+  awk -v most=$((1048576 / part)) -f "$here/bench/mixed.awk" >"$work/mixed.c"
   measure "mixed 1/$part" "$work/mixed.c"
 done
 make_main 'for (k = 0; k < 1000; k++) print "for (int i = 0; i < 9; i++) s += p[i];"' >"$work/row.c"

@@ -2,12 +2,11 @@
 # How fast the interpreter of the source runs, by thread 0 alone: a loop of 1,000,000 rounds, with a load and a store each (at most 3 seconds); and
 # the time of a turn where the program has many functions or a long row of statements, where many calls wait, and where many blocks were made.
 # Use: bench/source_run.sh      prints turns, seconds and nanoseconds a turn. The seconds are those of the run alone, without the reading.
-# It measures crates/text_bench/out/text_bench as `rt ci` left it in this checkout; where there is none, it proves and builds it first.
+# It measures crates/bench/out/bench as `rt ci` left it in this checkout; where there is none, it proves and builds it first.
 # Each run has a native stack of 1 MiB.
 set -eu
-cd "$(dirname "$0")/../crates/text_bench"
-[ -x out/text_bench ] || rt run >/dev/null 2>&1 || { echo "text_bench was not proved or not built" >&2; exit 1; }
-program=$PWD/out/text_bench
+here=$(cd "$(dirname "$0")/.." && pwd)
+. "$here/bench/parts.sh"
 work=$(mktemp -d)
 trap 'rm -rf "$work"' EXIT
 ulimit -s 1024

@@ -1,5 +1,8 @@
 //! A module for each crate.
+mod arena;
 mod blocks;
 mod bytes;
 mod handles;
 mod heaps;
+mod plans;
+mod turns;

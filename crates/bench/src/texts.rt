@@ -1,0 +1,50 @@
+//! Measures what is done with a C text: it is read, lowered and made the machine's code, or its thread 0 is run by the interpreter of the source.
+
+mod compiling;
+mod running;
+
+use crate::texts::compiling::show_compiled;
+use crate::texts::running::show_run;
+use ak_io::FileShelf;
+use ak_words::NoMemory;
+use run_edges::{MOST_BYTES, TextRead, read_text};
+use std::io;
+
+// The text that is compiled where no file is named.
+const LOOP: &[u8] =
+    b"int main(void) { int s = 0; for (int i = 0; i < 4; i++) s += i; return s; }\n";
+
+// The text that is run there: a loop with a load and a store in each round.
+const ROUNDS: &[u8] =
+    b"int main(void){int *p=malloc(4);*p=0;for(int i=0;i<1000;i++)*p=*p+1;printf(\"%d\\n\",*p);free(p);return 0;}\n";
+
+/// The memory ran out.
+pub(crate) fn no_memory(_: NoMemory) -> io::Error {
+    io::Error::from(io::ErrorKind::OutOfMemory)
+}
+
+// The bytes of a file.
+fn load(rt: &HostRuntime, name: &str) -> io::Result<Vec<u8>> {
+    match read_text(rt.alloc(), &mut FileShelf::new(rt), name).map_err(no_memory)? {
+        TextRead::Whole(text) => Ok(text),
+        _ => Err(io::Error::from(io::ErrorKind::InvalidData)),
+    }
+}
+
+/// Compiles the text of a file, or a small one where none is named.
+pub fn compile(rt: &HostRuntime, name: Option<&str>) -> io::Result<()> {
+    let Some(name) = name else {
+        return show_compiled(rt, LOOP);
+    };
+    let text = load(rt, name)?;
+    show_compiled(rt, &text[..text.len().min(MOST_BYTES)])
+}
+
+/// Runs thread 0 of the text of a file, or of a small one where none is named.
+pub fn run(rt: &HostRuntime, name: Option<&str>) -> io::Result<()> {
+    let Some(name) = name else {
+        return show_run(rt, ROUNDS);
+    };
+    let text = load(rt, name)?;
+    show_run(rt, &text[..text.len().min(MOST_BYTES)])
+}

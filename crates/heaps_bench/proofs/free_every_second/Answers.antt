@@ -1,6 +1,0 @@
-use Rattle.sub_heaps.proofs.Taken.{next_found}
-use Rattle.heaps_bench.proofs.free_every_second.Goals as goal
-
--- the object that was found starts at its place
-pub free-requires : goal.free-requires
-free-requires c = next_found _ _ c.in-Some.object c.in-Some.ensures.next

@@ -1,4 +1,0 @@
-//! Proved callers, reads and writes.
-mod callers;
-mod reads;
-mod writes;

@@ -1,5 +1,0 @@
-use Rattle.ir_tests.proofs.WorkedRows.{rows_hold}
-use Rattle.ir_tests.proofs.rows.small_codes_are_so.Goals as goal
-
-pub returns : goal.returns
-returns c = rows_hold

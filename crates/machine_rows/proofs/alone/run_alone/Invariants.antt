@@ -1,8 +1,0 @@
-use Rattle.flat_threads.specs.Belonging.{IsContextOf}
-use Rattle.flat_machine.specs.Machine.{machine_of}
-use Rattle.flat_machine.specs.Shares.{IsSharedOf}
-use Rattle.machine_rows.specs.Runs.{GoesOn}
-use Rattle.machine_rows.proofs.alone.run_alone.Given as goal
-
-abbrev pub invariant-loop : goal.invariant-loop
-invariant-loop l = GoesOn (machine_of l.program) (IsSharedOf l.program) (IsContextOf l.program) l.shared l.ctx.number l.ctx

@@ -1,9 +1,0 @@
-use Rattle.std.proofs.Common.{◌≤◌}
-use Rattle.machine_rows.specs.Runs.{IsRun}
-use Rattle.machine_rows.proofs.turns.run.Given as goal
-
-abbrev pub invariant-loop : goal.invariant-loop
-invariant-loop g l = record {
-  run : IsRun (g.F.Flat.machine l.code) (g.F.Flat.shared_of l.code) (g.F.Flat.context_of l.code) l.shared l.homes.items;
-  waits : l.waits ≤ l.counter;
-}

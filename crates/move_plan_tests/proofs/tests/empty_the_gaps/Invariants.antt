@@ -1,5 +1,0 @@
-use Rattle.std.proofs.Common.{◌≡◌}
-use Rattle.move_plan_tests.proofs.tests.empty_the_gaps.Given as goal
-
-abbrev pub invariant-loop-part : goal.invariant-loop-part
-invariant-loop-part l = l.heaps.most ≡ l.fn.heaps.most

@@ -1,0 +1,146 @@
+//! The call `alaska` is taken through worked programs under their words, and it is printed what each wrote and how it ended; then two workers on
+//! two threads run one program many times, and once where each worker is held until the other has come and worked. What is printed is the same
+//! whatever the workers do.
+
+mod calls;
+mod crews;
+mod meeting;
+mod replays;
+
+use crate::called::calls::{Shown, call};
+use crate::called::crews::show_crews;
+use crate::called::replays::{show_replays, show_thinned};
+use ak_crew::NoGate;
+use ak_words::NoMemory;
+use std::alloc::Global;
+use std::fs::Files;
+use std::io;
+use std::marker::Sync;
+use std::sync::Wait;
+use std::thread::Threads;
+
+// The words of a call behind the program's own name, and which lines of note are shown, by how they begin: all, or those that no order of
+// the workers changes.
+#[derive(Clone, Copy)]
+struct Row(&'static str, &'static str);
+
+const ROWS: [Row; 38] = [
+    Row("alaska nothing.c", "all"),
+    Row("alaska answer.c", "all"),
+    Row("alaska heap.c", "ended live"),
+    Row("alaska empty_objects.c", "ended live"),
+    Row(
+        "alaska fragments.c --subheap 4096 --subheaps 1",
+        "ended barriers moved live extent last",
+    ),
+    Row("alaska moves.c --every 1", "ended live"),
+    Row("alaska unset_pointer.c", "ended"),
+    Row("alaska reused_id.c --ids 1 --every 1", "ended barriers"),
+    Row("alaska dead_copy.c", "ended"),
+    Row("alaska two_arrays.c", "ended"),
+    Row("alaska counter.c --workers 2 --every 8", "ended threads"),
+    Row(
+        "alaska counter.c --workers 2 --every 8 --schedule 1",
+        "ended threads",
+    ),
+    Row(
+        "alaska counter.c --workers 2 --every 8 --schedule 7",
+        "ended threads",
+    ),
+    Row("alaska deadlock.c", "ended threads"),
+    Row("alaska lock_twice.c", "ended"),
+    Row("alaska deep_127.c", "ended"),
+    Row("alaska deep_128.c", "all"),
+    Row("alaska open_literal.c", "all"),
+    Row("alaska floating.c", "all"),
+    Row(
+        "alaska table.c --workers 3 --every 500",
+        "ended threads live",
+    ),
+    Row("alaska header.c", "ended"),
+    Row("alaska spinning.c", "ended"),
+    Row("alaska forever.c --entries 1000", "ended entries"),
+    Row("alaska empty.c", "all"),
+    Row("alaska absent.c", "all"),
+    Row("alaska", "all"),
+    Row("alaska answer.c --workers 0", "all"),
+    Row("alaska answer.c --subheap 5000", "all"),
+    Row("alaska --mode churn --seed 1", "all"),
+    Row("alaska --mode churn --seed 1 --size 3", "ended live extent"),
+    Row("alaska null_store.c", "ended"),
+    Row("alaska double_free.c --ids 1", "ended"),
+    Row("alaska two_prints.c --output 4", "ended"),
+    Row("alaska endless_calls.c", "ended"),
+    Row("alaska large_local.c", "ended entries"),
+    Row("alaska integers.c", "ended"),
+    Row("alaska fragmented.c", "all"),
+    Row("alaska fragmented.c --every 100", "all"),
+];
+
+// The call that is made twice: what it writes is the same at each.
+const TWICE: Row = Row(
+    "alaska --mode churn --seed 1 --size 4000 --workers 2 --every 1000",
+    "ended threads live",
+);
+
+// The call whose journal is replayed whole, and that whose journal is replayed without one of its first entries.
+const REPLAYED: &str = "alaska heap.c";
+
+const THINNED: &str = "alaska counter.c --workers 2 --every 8";
+
+// Whether a line begins with one of these words.
+fn is_shown(line: &str, words: &str) -> bool {
+    words == "all" || words.split(' ').any(|word| line.starts_with(word))
+}
+
+// The lines of note that are shown.
+fn show_lines<R: Print>(rt: &R, note: &[u8], words: &str) -> io::Result<()> {
+    let text = str::from_utf8(note).unwrap_or("?");
+    for line in text.lines() {
+        if is_shown(line, words) {
+            println!(rt; "{line}")?;
+        }
+    }
+    Ok(())
+}
+
+fn show<R: Print>(rt: &R, row: &Row, shown: &Shown) -> io::Result<()> {
+    println!(rt; "> {}", row.0)?;
+    print!(rt; "{}", str::from_utf8(shown.out.bytes()).unwrap_or("?"))?;
+    show_lines(rt, shown.note.bytes(), row.1)?;
+    println!(rt; "status {}", shown.ending.status.number())
+}
+
+// A call, and whether one more of the same words wrote the same.
+fn show_twice<R: Print>(rt: &R, first: &Shown, second: &Shown) -> io::Result<()> {
+    show(rt, &TWICE, first)?;
+    let out = first.out.bytes() == second.out.bytes();
+    let note = first.note.bytes() == second.note.bytes();
+    println!(rt; "again: the same out {out}, the same note {note}")
+}
+
+/// Makes the calls, and prints what comes of each.
+pub fn run<R: Threads + Wait + Sync + Files + Print>(rt: &R, alloc: Global) -> io::Result<()> {
+    for row in &ROWS {
+        match call(rt, alloc, row.0, &NoGate) {
+            Ok(shown) => show(rt, row, &shown)?,
+            Err(NoMemory) => println!(rt; "no memory")?,
+        }
+    }
+    match (
+        call(rt, alloc, TWICE.0, &NoGate),
+        call(rt, alloc, TWICE.0, &NoGate),
+    ) {
+        (Ok(first), Ok(second)) => show_twice(rt, &first, &second)?,
+        _ => println!(rt; "no memory")?,
+    }
+    match call(rt, alloc, REPLAYED, &NoGate) {
+        Ok(shown) => show_replays(rt, alloc, REPLAYED, &shown.ending)?,
+        Err(NoMemory) => println!(rt; "no memory")?,
+    }
+    match call(rt, alloc, THINNED, &NoGate) {
+        Ok(shown) => show_thinned(rt, alloc, THINNED, &shown.ending)?,
+        Err(NoMemory) => println!(rt; "no memory")?,
+    }
+    show_crews(rt, alloc)
+}

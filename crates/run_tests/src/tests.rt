@@ -1,0 +1,20 @@
+//! Of the interpreter a module for each crate, and one for what they are given; one for each kind of program, and one for the ways to run them;
+//! one for the call that compiles a text; and one each for the words of a call, and for the texts that are read and written around a run.
+mod assignments;
+mod calls;
+mod compiling;
+mod control;
+mod flows;
+mod kept;
+mod orders;
+mod programs;
+mod rules;
+mod running;
+mod shared_block;
+mod single;
+mod texts;
+mod trees;
+mod values;
+mod walks;
+mod words;
+mod worlds;
