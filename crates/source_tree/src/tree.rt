@@ -3,7 +3,7 @@ use c_tree::typed::{CType, GlobalVar, Layout, Lib, Literal, Local};
 use std::rc::Rc;
 
 /// How an object becomes a pointer (C11 6.3.2.1, 6.5.3.2).
-#[derive(Clone, Copy, Debug, PartialEq, Eq)]
+#[derive(Clone, Copy, PartialEq, Eq)]
 pub enum AddressForm {
     /// The address of an lvalue.
     Of,
@@ -12,7 +12,7 @@ pub enum AddressForm {
 }
 
 /// An operation on one value (C11 6.5.3, 6.5.4).
-#[derive(Clone, Copy, Debug, PartialEq, Eq)]
+#[derive(Clone, Copy, PartialEq, Eq)]
 pub enum OneForm {
     /// A conversion to the expression's type.
     Convert,
@@ -23,7 +23,7 @@ pub enum OneForm {
 }
 
 /// An operation on two values (C11 6.5.5 to 6.5.12).
-#[derive(Clone, Copy, Debug, PartialEq, Eq)]
+#[derive(Clone, Copy, PartialEq, Eq)]
 pub enum TwoForm {
     /// An operation on two numbers.
     Numbers(Op),
@@ -38,7 +38,6 @@ pub enum TwoForm {
 }
 
 /// What a call calls.
-#[derive(Debug, Drop)]
 pub enum Callee {
     /// The function of this number.
     Function(u32),
@@ -46,9 +45,17 @@ pub enum Callee {
     Library(Lib),
 }
 
+impl Drop for Callee {
+    fn drop(self) {
+        match self {
+            Self::Function(_) => {}
+            Self::Library(_) => {}
+        }
+    }
+}
+
 /// An expression, with its place in the text and its type (C11 6.5).
 #[cycle(exprs)]
-#[derive(Drop)]
 pub struct SharedExpr {
     /// A byte offset from 0.
     pub place: u32,
@@ -56,6 +63,17 @@ pub struct SharedExpr {
     pub ty: Rc<CType>,
     /// What the expression does.
     pub node: SharedNode,
+}
+
+impl Drop for SharedExpr {
+    #[cycle(exprs_dropped)]
+    fn drop(self) {
+        let Self {
+            place: _,
+            ty: _,
+            node: _,
+        } = self;
+    }
 }
 
 /// What an expression does.
@@ -92,7 +110,6 @@ pub enum SharedNode {
 
 /// The arguments of a call.
 #[cycle(exprs)]
-#[derive(Drop)]
 pub enum SharedArgs {
     /// There are no more.
     NoMore,
@@ -100,9 +117,18 @@ pub enum SharedArgs {
     More(Rc<SharedExpr>, Rc<SharedArgs>),
 }
 
+impl Drop for SharedArgs {
+    #[cycle(exprs_dropped)]
+    fn drop(self) {
+        match self {
+            Self::NoMore => {}
+            Self::More(_, _) => {}
+        }
+    }
+}
+
 /// A statement or declaration, with its place in the text, a byte offset from 0 (C11 6.8).
 #[cycle(stmts)]
-#[derive(Drop)]
 pub enum SharedStmt {
     /// A block.
     Block(u32, Rc<SharedRow>),
@@ -132,12 +158,39 @@ pub enum SharedStmt {
     Empty(u32),
 }
 
+impl Drop for SharedStmt {
+    #[cycle(stmts_dropped)]
+    fn drop(self) {
+        match self {
+            Self::Block(_, _) => {}
+            Self::Declare(_, _, _) => {}
+            Self::If(_, _, _) => {}
+            Self::IfElse(_, _, _, _) => {}
+            Self::While(_, _, _) => {}
+            Self::For(_, _, _, _, _) => {}
+            Self::Break(_) => {}
+            Self::Continue(_) => {}
+            Self::Return(_, _) => {}
+            Self::Assign(_, _, _) => {}
+            Self::Update(_, _, _, _) => {}
+            Self::Eval(_, _) => {}
+            Self::Empty(_) => {}
+        }
+    }
+}
+
 /// Statements in a row.
 #[cycle(stmts)]
-#[derive(Drop)]
 pub struct SharedRow {
     /// In order.
     pub stmts: Vec<Rc<SharedStmt>>,
+}
+
+impl Drop for SharedRow {
+    #[cycle(stmts_dropped)]
+    fn drop(self) {
+        let Self { stmts: _ } = self;
+    }
 }
 
 /// A function (C11 6.9.1). Its first locals are its parameters.
