@@ -28,7 +28,7 @@ pub record IsTreeOf (text : List ℕ) (typed : Typed) : Type 0 where
 -- machine's
 pub record IsBuilt (text : List ℕ) (typed : Typed) (checked : Ir) (code : LinearCode) : Type 0 where
   pub tree : IsTreeOf text typed
-  -- hoisted, with exact lists, safe for moves, and without all that just what the tree is lowered to
+  -- hoisted, with exact lists, at each point of it, safe for moves, and without all that just what the tree is lowered to
   pub prepared : IsPrepared (lowered typed) checked
   -- ... which is valid
   pub erased_valid : is_valid (ir_erased checked) ≡ true

@@ -7,7 +7,7 @@ use Rattle.struct_ir.specs.Linear.{linear, entry_of}
 use Rattle.struct_ir.specs.Pins.{PinSafe}
 use Rattle.struct_ir.specs.Placed.{all_due}
 use Rattle.struct_ir.specs.Safe.{EveryFunc}
-use Rattle.pin_flow.specs.Funcs.{IsExact, IsHoisted}
+use Rattle.pin_flow.specs.Funcs.{IsExact, IsExactAtPoints, IsHoisted, IsHoistedAtPoints}
 use Rattle.pin_flow.specs.Slots.{HasOwnSlots}
 use Rattle.pin_checker.specs.Safe.{IsSafe}
 use Rattle.struct_ir.specs.Emitted.{IsEmitted}
@@ -26,6 +26,9 @@ pub record IsPrepared (given ready : Ir) : Type 0 where
   pub hoisted : EveryFunc IsHoisted ready
   -- each list has just the slots that are available there and used later, and those that its act uses
   pub exact : EveryFunc IsExact ready
+  -- both hold at each point of the code by itself, also where the same is left to do at another
+  pub hoisted_at_points : EveryFunc IsHoistedAtPoints ready
+  pub exact_at_points : EveryFunc IsExactAtPoints ready
 
 -- the machine's code is that of such code, and is safe for moves
 pub record IsCompiled (given ready : Ir) (code : LinearCode) : Type 0 where

@@ -21,3 +21,4 @@ pub mod InPlace
 pub mod Registers
 pub mod Pinned
 pub mod EachFunc
+pub mod Numbered

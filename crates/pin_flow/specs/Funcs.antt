@@ -3,6 +3,7 @@ use Rattle.struct_ir.specs.Nodes.{Func}
 use Rattle.struct_ir.specs.Structured.{done, then_, structured}
 use Rattle.pin_flow.specs.Looks as looks
 use Rattle.pin_flow.specs.Held.{HoistedThroughout}
+use Rattle.pin_flow.specs.Points.{HoistedAtPoints, PinsExactAtPoints}
 
 -- each access has a slot, which is available there for its base
 abbrev pub IsCovered : Func → Type 0
@@ -19,3 +20,11 @@ IsHoistedThroughout f = HoistedThroughout f.nodes
 -- each list has just the slots that are available there and used later, and those that its act uses
 abbrev pub IsExact : Func → Type 0
 IsExact f = looks.PinsExact f.nodes
+
+-- hoisted at each point of the code by itself, also where the same is left to do at another
+abbrev pub IsHoistedAtPoints : Func → Type 0
+IsHoistedAtPoints f = HoistedAtPoints f.nodes
+
+-- so are its lists exact
+abbrev pub IsExactAtPoints : Func → Type 0
+IsExactAtPoints f = PinsExactAtPoints f.nodes

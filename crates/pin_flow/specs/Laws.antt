@@ -5,7 +5,8 @@ use Rattle.struct_ir.specs.Structured.{done, then_, structured}
 use Rattle.struct_ir.specs.Pins.{Available}
 use Rattle.pin_flow.specs.Marks.{bad, Each, EveryAct}
 use Rattle.pin_flow.specs.Looks.{act_looks, Uses, Covered}
-use Rattle.pin_flow.specs.Held.{held, fresh, IsDue}
+use Rattle.pin_flow.specs.Held.{held, fresh, IsDue, HoistedThroughout}
+use Rattle.pin_flow.specs.Points.{HoistedAtPoints}
 use Rattle.struct_ir.specs.Erased.{erased}
 use Rattle.pin_flow.specs.Slots.{IsOwn, bases_below, slot_in, IsIn, AreApart}
 
@@ -22,6 +23,10 @@ abbrev pub UnheldIsUnavailable : Type 0
 UnheldIsUnavailable =
     (ns : Nodes) (b : ℕ) → Each (IsDue b) (held b) ns bad
     → EveryAct (λ act k. act_looks b act ≡ true → (slot : ℕ) → Available structured (then_ ns done) slot b k → ⊥) ns done
+
+-- code that is hoisted by its states is so at each point
+abbrev pub ThroughoutIsAtPoints : Type 0
+ThroughoutIsAtPoints = (ns : Nodes) → HoistedThroughout ns → HoistedAtPoints ns
 
 -- code that is the same without Looks, safepoints, slots and lists has the same bases
 abbrev pub BasesAreKept : Type 0

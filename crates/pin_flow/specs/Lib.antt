@@ -3,6 +3,7 @@ pub mod Looks
 pub mod Held
 pub mod Live
 pub mod Slots
+pub mod Points
 pub mod Funcs
 pub mod Views
 pub mod Laws

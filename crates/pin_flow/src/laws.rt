@@ -1,7 +1,8 @@
 //! Laws of marks and lives, as contracts of functions that do nothing.
 
-ghost use Rattle.pin_flow.specs.Laws.{BasesAreKept, CoveredIsFresh, FreshIsCovered, SlotsAreOwn, UnheldIsUnavailable};
+ghost use Rattle.pin_flow.specs.Laws.{BasesAreKept, CoveredIsFresh, FreshIsCovered, SlotsAreOwn, ThroughoutIsAtPoints, UnheldIsUnavailable};
 ghost use Rattle.pin_flow.specs.Live.{LiveIsUsed};
+ghost use Rattle.pin_flow.specs.Points.{NumbersRise};
 
 /// What is live at a position is just what some path from there uses.
 pub fn live_is_used()
@@ -19,4 +20,11 @@ pub fn states_speak_of_paths()
 pub fn bases_have_own_slots()
     ensures kept { BasesAreKept }
     ensures own { SlotsAreOwn }
+{}
+
+/// In numbered code no two nodes have the same number, and code that is hoisted by its states is
+/// hoisted at each point.
+pub fn points_have_own_numbers()
+    ensures rise { NumbersRise }
+    ensures hoisted { ThroughoutIsAtPoints }
 {}

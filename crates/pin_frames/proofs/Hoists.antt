@@ -66,8 +66,14 @@ hoisted_cleared slot_of ns h = record {
   due = λ b. each_due slot_of [] b ns none_held none_later (h.due b);
 }
 
-pub hoisted_placed : (slot_of : ℕ → ℕ) (bs : List ℕ) (ns : Nodes) → HoistedThroughout ns → Hoisted (placed slot_of bs ns)
-hoisted_placed slot_of bs ns h = record {
+pub throughout_placed : (slot_of : ℕ → ℕ) (bs : List ℕ) (ns : Nodes) → HoistedThroughout ns → HoistedThroughout (placed slot_of bs ns)
+throughout_placed slot_of bs ns h = record {
   out_of_loops = λ b. loops_listed slot_of bs b (sat ns) none_held none_later ∙ (loops_seated b ns ∙ h.out_of_loops b);
-  needed = λ b. due_needed (placed slot_of bs ns) b (each_due slot_of bs b (sat ns) none_held none_later (due_sat slot_of bs b ns (h.due b)));
+  due = λ b. each_due slot_of bs b (sat ns) none_held none_later (due_sat slot_of bs b ns (h.due b));
+}
+
+pub throughout_is_hoisted : (ns : Nodes) → HoistedThroughout ns → Hoisted ns
+throughout_is_hoisted ns h = record {
+  out_of_loops = h.out_of_loops;
+  needed = λ b. due_needed ns b (h.due b);
 }

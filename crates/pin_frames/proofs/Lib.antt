@@ -5,10 +5,12 @@ pub mod FreeRows
 pub mod Hoists
 pub mod ListRows
 pub mod Listed
+pub mod Lists
 pub mod LiveRows
 pub mod OneByOne
 pub mod Pin
 pub mod Placed
+pub mod Points
 pub mod Programs
 pub mod Seat
 pub mod Seated

@@ -10,14 +10,16 @@ use Rattle.struct_ir.specs.Erased.{erased, func_erased, ir_erased}
 use Rattle.struct_ir.specs.Placed.{are_due, all_due}
 use Rattle.struct_ir.specs.Valid.{Scope, Around, scope_of, outside, are_nodes, is_valid, are_placed}
 use Rattle.pin_flow.specs.Marks.{bad, Each}
-use Rattle.pin_flow.specs.Looks.{some_act, act_looks, Covered, Hoisted, PinsExact}
+use Rattle.pin_flow.specs.Looks.{some_act, act_looks, Covered, PinsExact}
+use Rattle.pin_flow.specs.Points.{PinsExactAtPoints}
 use Rattle.pin_flow.specs.Held.{fresh, HoistedThroughout}
 use Rattle.pin_flow.specs.Live.{is_slot, has, uses}
 use Rattle.struct_ir.specs.Safe.{EveryFunc, IsPinSafe}
-use Rattle.pin_flow.specs.Funcs.{IsCovered, IsHoisted, IsHoistedThroughout, IsExact}
+use Rattle.pin_flow.specs.Funcs.{IsCovered, IsHoisted, IsHoistedAtPoints, IsHoistedThroughout, IsExact, IsExactAtPoints}
 use Rattle.pin_flow.specs.Slots.{has_base, accesses, bases_of, slot_in, own, IsIn, IsOwn, HasOwnSlots}
 use Rattle.pin_flow.proofs.Strip.{by_bool}
 use Rattle.pin_flow.proofs.At.{some_finds}
+use Rattle.pin_flow.proofs.Numbered.{throughout_at_points}
 use Rattle.pin_flow.proofs.Bases.{some_erased, same_bases, base_in, slots_are_few, slots_are_apart}
 use Rattle.pin_flow.proofs.Covers.{Serves, covered_each, each_covered}
 use Rattle.pin_frames.specs.inner.Place.{act_listing, listed, none_held, none_later, placed, cleared, listed_each, func_placed, ir_placed, PlaceIsRight}
@@ -25,7 +27,7 @@ use Rattle.pin_frames.proofs.Listed.{uses_listing, erase_listed, some_listed, ea
 use Rattle.pin_frames.proofs.Seat.{sat, erase_seated}
 use Rattle.pin_frames.proofs.Stand.{stands_placed}
 use Rattle.pin_frames.proofs.Due.{due_row, due_listed}
-use Rattle.pin_frames.proofs.Hoists.{looks_listing, hoisted_cleared, hoisted_placed}
+use Rattle.pin_frames.proofs.Hoists.{looks_listing, hoisted_cleared, throughout_placed, throughout_is_hoisted}
 use Rattle.pin_frames.proofs.OneByOne.{cleared_is, each_is_placed}
 use Rattle.pin_frames.proofs.Placed as placing
 use Rattle.pin_flow.proofs.Registers.{some_below}
@@ -75,8 +77,14 @@ module _ (f : Func) where
   pub func_due : are_due false false (func_placed f).nodes ≡ true
   func_due = ap (are_due false false) placed_is ∙ (due_listed S bs false false (sat bare) none_held none_later ∙ due_row false bare no_nodes (λ b. refl) false)
 
+  pub func_throughout : IsHoistedThroughout f → IsHoistedThroughout (func_placed f)
+  func_throughout h = subst (λ (ns : Nodes). HoistedThroughout ns) (sym placed_is) (throughout_placed S bs bare (subst (λ (ns : Nodes). HoistedThroughout ns) bare_is (hoisted_cleared S f.nodes h)))
+
   pub func_hoisted : IsHoistedThroughout f → IsHoisted (func_placed f)
-  func_hoisted h = subst (λ (ns : Nodes). Hoisted ns) (sym placed_is) (hoisted_placed S bs bare (subst (λ (ns : Nodes). HoistedThroughout ns) bare_is (hoisted_cleared S f.nodes h)))
+  func_hoisted h = throughout_is_hoisted (func_placed f).nodes (func_throughout h)
+
+  pub func_hoisted_at_points : IsHoistedThroughout f → IsHoistedAtPoints (func_placed f)
+  func_hoisted_at_points h = throughout_at_points (func_placed f).nodes (func_throughout h)
 
   bases_same : bases_of (func_placed f) ≡ bs
   bases_same = same_bases f.temps f.nodes (func_placed f).nodes func_erased_same
@@ -99,6 +107,9 @@ module _ (f : Func) where
 
     pub func_exact : IsExact (func_placed f)
     func_exact = subst (λ (ns : Nodes). PinsExact ns) (sym placed_is) right.exact
+
+    pub func_exact_at_points : IsExactAtPoints (func_placed f)
+    func_exact_at_points = subst (λ (ns : Nodes). PinsExactAtPoints ns) (sym placed_is) right.exact_at_points
 
     covered_bare : IsCovered f → Covered structured (then_ bare done)
     covered_bare c = each_covered S bare own_bare (λ b. subst (λ (ns : Nodes). Each (Serves (S b) b) (fresh (S b) b) ns bad) bare_is

@@ -11,7 +11,7 @@ ghost use Rattle.struct_ir.specs.WholeViews.{ir_view};
 ghost use Rattle.pin_flow.specs.Marks.{bad};
 ghost use Rattle.pin_flow.specs.Live.{lives};
 ghost use Rattle.struct_ir.specs.Safe.{EveryFunc, IsPinSafe};
-ghost use Rattle.pin_flow.specs.Funcs.{IsCovered, IsExact, IsHoisted, IsHoistedThroughout};
+ghost use Rattle.pin_flow.specs.Funcs.{IsCovered, IsExact, IsExactAtPoints, IsHoisted, IsHoistedAtPoints, IsHoistedThroughout};
 ghost use Rattle.pin_flow.specs.Slots.{HasOwnSlots, slot_if};
 ghost use Rattle.pin_frames.specs.inner.Place.{seated, cleared, listed_one, listed_for, listed_each, func_placed, ir_placed};
 
@@ -41,8 +41,11 @@ pub fn place(alloc: Global, ir: &Ir) -> Result<Ir, NoMemory>
     ensures stand { IfOk result (λ x. list_all (λ f. are_placed None f.nodes) (ir_view x).funcs ≡ true) }
     ensures due { IfOk result (λ x. all_due (ir_view x) ≡ true) }
     ensures exact { IfOk result (λ x. EveryFunc IsExact (ir_view x)) }
+    ensures exact_at_points { IfOk result (λ x. EveryFunc IsExactAtPoints (ir_view x)) }
     ensures safe { EveryFunc IsCovered (ir_view ir.now) → IfOk result (λ x. EveryFunc IsPinSafe (ir_view x)) }
     ensures hoisted { EveryFunc IsHoistedThroughout (ir_view ir.now) → IfOk result (λ x. EveryFunc IsHoisted (ir_view x)) }
+    ensures throughout { EveryFunc IsHoistedThroughout (ir_view ir.now) → IfOk result (λ x. EveryFunc IsHoistedThroughout (ir_view x)) }
+    ensures hoisted_at_points { EveryFunc IsHoistedThroughout (ir_view ir.now) → IfOk result (λ x. EveryFunc IsHoistedAtPoints (ir_view x)) }
     ensures valid { is_valid (ir_view ir.now) ≡ true → IfOk result (λ x. is_valid (ir_view x) ≡ true) }
 {
     let own = copy_ir(alloc, ir)?;
@@ -62,8 +65,11 @@ pub fn place_owned(alloc: Global, ir: Ir) -> Result<Ir, NoMemory>
     ensures stand { IfOk result (λ x. list_all (λ f. are_placed None f.nodes) (ir_view x).funcs ≡ true) }
     ensures due { IfOk result (λ x. all_due (ir_view x) ≡ true) }
     ensures exact { IfOk result (λ x. EveryFunc IsExact (ir_view x)) }
+    ensures exact_at_points { IfOk result (λ x. EveryFunc IsExactAtPoints (ir_view x)) }
     ensures safe { EveryFunc IsCovered (ir_view ir) → IfOk result (λ x. EveryFunc IsPinSafe (ir_view x)) }
     ensures hoisted { EveryFunc IsHoistedThroughout (ir_view ir) → IfOk result (λ x. EveryFunc IsHoisted (ir_view x)) }
+    ensures throughout { EveryFunc IsHoistedThroughout (ir_view ir) → IfOk result (λ x. EveryFunc IsHoistedThroughout (ir_view x)) }
+    ensures hoisted_at_points { EveryFunc IsHoistedThroughout (ir_view ir) → IfOk result (λ x. EveryFunc IsHoistedAtPoints (ir_view x)) }
     ensures valid { is_valid (ir_view ir) ≡ true → IfOk result (λ x. is_valid (ir_view x) ≡ true) }
 {
     place_all(alloc, ir)

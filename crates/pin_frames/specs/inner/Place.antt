@@ -8,6 +8,7 @@ use Rattle.struct_ir.specs.Valid.{are_placed}
 use Rattle.pin_flow.specs.Marks.{State, unreached, good, bad, end_state, head_of, flow, flow_node}
 use Rattle.pin_flow.specs.Looks.{some_act, Covered, PinsExact}
 use Rattle.pin_flow.specs.Held.{held}
+use Rattle.pin_flow.specs.Points.{PinsExactAtPoints}
 use Rattle.pin_flow.specs.Slots.{bases_of, slot_in, slot_if, IsOwn, IsIn, AreApart}
 use Rattle.pin_flow.specs.Views.{act_is, looks_slot}
 use Rattle.pin_flow.specs.Live.{uses, Live, lives, live_act, live, body_lives, latch_lives}
@@ -133,6 +134,7 @@ pub record PlaceIsRight (slot_of : ℕ → ℕ) (bs : List ℕ) (ns : Nodes) : T
   pub erased : erased (placed slot_of bs ns) ≡ erased ns
   pub stand : are_placed None (placed slot_of bs ns) ≡ true
   pub exact : PinsExact (placed slot_of bs ns)
+  pub exact_at_points : PinsExactAtPoints (placed slot_of bs ns)
   pub safe : Covered structured (then_ ns done) → PinSafe structured (then_ (placed slot_of bs ns) done)
 
 -- where each register has a slot of its own and the list has each register that is a base
