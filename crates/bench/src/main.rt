@@ -41,7 +41,9 @@ fn main(rt: HostRuntime) -> io::Result<()> {
     };
     let word = env::args(&rt)?.nth(2);
     let word = word.as_deref();
-    let number = word.and_then(|word| word.parse().ok()).unwrap_or(USUAL);
+    let number = word
+        .and_then(|word| word.parse::<u32>().ok())
+        .unwrap_or(USUAL);
     match part.as_str() {
         "compile" => texts::compile(&rt, word),
         "run" => texts::run(&rt, word),

@@ -37,7 +37,8 @@ pub fn compile(rt: &HostRuntime, name: Option<&str>) -> io::Result<()> {
         return show_compiled(rt, LOOP);
     };
     let text = load(rt, name)?;
-    show_compiled(rt, &text[..text.len().min(MOST_BYTES)])
+    let text = &text[..text.len().min(MOST_BYTES)];
+    show_compiled(rt, text)
 }
 
 /// Runs thread 0 of the text of a file, or of a small one where none is named.
@@ -46,5 +47,6 @@ pub fn run(rt: &HostRuntime, name: Option<&str>) -> io::Result<()> {
         return show_run(rt, ROUNDS);
     };
     let text = load(rt, name)?;
-    show_run(rt, &text[..text.len().min(MOST_BYTES)])
+    let text = &text[..text.len().min(MOST_BYTES)];
+    show_run(rt, text)
 }

@@ -1,1 +1,1 @@
-int main(void){int a=6;int b=7;printf("%d\n",a*b);return a;}
+int main(void){int *p=malloc(4);*p=41;*p=*p+1;printf("%d\n",*p);free(p);return 0;}

@@ -22,7 +22,7 @@ use struct_ir::linear::Code;
 // The texts, and what their runs are told.
 const TEXTS: [(&str, Told); 9] = [
     ("sum.c", Told::Usual),
-    ("object.c", Told::Usual),
+    ("answer.c", Told::Usual),
     ("null.c", Told::Usual),
     ("twice.c", Told::OneId),
     ("limit.c", Told::FourBytes),
@@ -47,9 +47,9 @@ fn code_of<R: Files + Alloc>(rt: &R, alloc: Global, name: &str) -> io::Result<Co
 
 /// Runs the texts, and prints what comes of each.
 pub fn run<R: Wait + Files + Print + Alloc>(rt: &R, alloc: Global) -> io::Result<()> {
-    let alone = code_of(rt, alloc, "object.c")?;
+    let alone = code_of(rt, alloc, "answer.c")?;
     let told = run_code_alone(alloc, alone, &settings_of(Told::Usual));
-    show(rt, "object.c, its first thread alone", &told)?;
+    show(rt, "answer.c, its first thread alone", &told)?;
     for (name, told) in &TEXTS {
         let code = code_of(rt, alloc, name)?;
         let run = run_code(alloc, code, &settings_of(*told));
@@ -58,8 +58,8 @@ pub fn run<R: Wait + Files + Print + Alloc>(rt: &R, alloc: Global) -> io::Result
             show_barriers(rt, &run)?;
         }
     }
-    println!(rt; "object.c, in a world of two passes:")?;
-    match run_over_world(rt, alloc, code_of(rt, alloc, "object.c")?) {
+    println!(rt; "answer.c, in a world of two passes:")?;
+    match run_over_world(rt, alloc, code_of(rt, alloc, "answer.c")?) {
         Ok(Some(finished)) => show_world(rt, finished),
         Ok(None) => println!(rt; "not over"),
         Err(_) => println!(rt; "no memory"),

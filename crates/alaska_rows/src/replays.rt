@@ -53,7 +53,7 @@ fn replay_thinned(alloc: Global, ending: &Ending) -> Result<u32, NoMemory> {
     Ok(places)
 }
 
-fn show_replay<R: Print>(rt: &R, told: &Result<Option<Final>, NoMemory>) -> io::Result<()> {
+fn show_replay(rt: &HostRuntime, told: &Result<Option<Final>, NoMemory>) -> io::Result<()> {
     match told {
         Ok(Some(done)) => {
             print!(rt; "{}", str::from_utf8(&done.output).unwrap_or("?"))?;
@@ -68,33 +68,23 @@ fn show_replay<R: Print>(rt: &R, told: &Result<Option<Final>, NoMemory>) -> io::
 }
 
 /// The journal of a run, then without its last entry, and without its first.
-pub fn show_replays<R: Print>(
-    rt: &R,
-    alloc: Global,
-    call: &str,
-    ending: &Ending,
-) -> io::Result<()> {
+pub fn show_replays(rt: &HostRuntime, call: &str, ending: &Ending) -> io::Result<()> {
     let entries = entries_of(ending);
     println!(rt; "> the journal of {call}")?;
-    show_replay(rt, &replayed(alloc, ending, entries))?;
+    show_replay(rt, &replayed(rt.alloc(), ending, entries))?;
     println!(rt; "> without its last entry")?;
-    show_replay(rt, &replayed(alloc, ending, entries.saturating_sub(1)))?;
+    show_replay(rt, &replayed(rt.alloc(), ending, entries.saturating_sub(1)))?;
     println!(rt; "> without its first entry")?;
-    show_replay(rt, &replayed(alloc, ending, 0))
+    show_replay(rt, &replayed(rt.alloc(), ending, 0))
 }
 
 /// The journal of a run without each of its first entries, one at a time: how many replays there were, and what comes of it without the first.
-pub fn show_thinned<R: Print>(
-    rt: &R,
-    alloc: Global,
-    call: &str,
-    ending: &Ending,
-) -> io::Result<()> {
+pub fn show_thinned(rt: &HostRuntime, call: &str, ending: &Ending) -> io::Result<()> {
     println!(rt; "> the journal of {call} without one of its first {TAKEN} entries")?;
-    match replay_thinned(alloc, ending) {
+    match replay_thinned(rt.alloc(), ending) {
         Ok(places) => println!(rt; "{places} replays")?,
         Err(NoMemory) => println!(rt; "no memory")?,
     }
     println!(rt; "> without its first entry")?;
-    show_replay(rt, &replayed(alloc, ending, 0))
+    show_replay(rt, &replayed(rt.alloc(), ending, 0))
 }

@@ -1,23 +1,20 @@
-//! The call `alaska` is taken through worked programs under their words, and it is printed what each wrote and how it ended; then two workers on
-//! two threads run one program many times, and once where each worker is held until the other has come and worked. What is printed is the same
-//! whatever the workers do.
+//! Takes the call `alaska` through worked programs under their words, and prints what each wrote and how it ended; then has two workers on
+//! two threads run one program many times, and once where each worker is held until the other has come and worked.
+//! Promises nothing upward: it is a program, whose output is held against what was worked out by hand, and is the same whatever the workers do.
+//! Stands on alaska_run and ak_crew, over real files and sinks in memory.
+#![tactic(auto)]
 
 mod calls;
 mod crews;
 mod meeting;
 mod replays;
 
-use crate::called::calls::{Shown, call};
-use crate::called::crews::show_crews;
-use crate::called::replays::{show_replays, show_thinned};
+use crate::calls::{Shown, call};
+use crate::crews::show_crews;
+use crate::replays::{show_replays, show_thinned};
 use ak_crew::NoGate;
 use ak_words::NoMemory;
-use std::alloc::Global;
-use std::fs::Files;
 use std::io;
-use std::marker::Sync;
-use std::sync::Wait;
-use std::thread::Threads;
 
 // The words of a call behind the program's own name, and which lines of note are shown, by how they begin: all, or those that no order of
 // the workers changes.
@@ -94,7 +91,7 @@ fn is_shown(line: &str, words: &str) -> bool {
 }
 
 // The lines of note that are shown.
-fn show_lines<R: Print>(rt: &R, note: &[u8], words: &str) -> io::Result<()> {
+fn show_lines(rt: &HostRuntime, note: &[u8], words: &str) -> io::Result<()> {
     let text = str::from_utf8(note).unwrap_or("?");
     for line in text.lines() {
         if is_shown(line, words) {
@@ -104,7 +101,7 @@ fn show_lines<R: Print>(rt: &R, note: &[u8], words: &str) -> io::Result<()> {
     Ok(())
 }
 
-fn show<R: Print>(rt: &R, row: &Row, shown: &Shown) -> io::Result<()> {
+fn show(rt: &HostRuntime, row: &Row, shown: &Shown) -> io::Result<()> {
     println!(rt; "> {}", row.0)?;
     print!(rt; "{}", str::from_utf8(shown.out.bytes()).unwrap_or("?"))?;
     show_lines(rt, shown.note.bytes(), row.1)?;
@@ -112,35 +109,34 @@ fn show<R: Print>(rt: &R, row: &Row, shown: &Shown) -> io::Result<()> {
 }
 
 // A call, and whether one more of the same words wrote the same.
-fn show_twice<R: Print>(rt: &R, first: &Shown, second: &Shown) -> io::Result<()> {
+fn show_twice(rt: &HostRuntime, first: &Shown, second: &Shown) -> io::Result<()> {
     show(rt, &TWICE, first)?;
     let out = first.out.bytes() == second.out.bytes();
     let note = first.note.bytes() == second.note.bytes();
     println!(rt; "again: the same out {out}, the same note {note}")
 }
 
-/// Makes the calls, and prints what comes of each.
-pub fn run<R: Threads + Wait + Sync + Files + Print>(rt: &R, alloc: Global) -> io::Result<()> {
+fn main(rt: HostRuntime) -> io::Result<()> {
     for row in &ROWS {
-        match call(rt, alloc, row.0, &NoGate) {
-            Ok(shown) => show(rt, row, &shown)?,
+        match call(&rt, rt.alloc(), row.0, &NoGate) {
+            Ok(shown) => show(&rt, row, &shown)?,
             Err(NoMemory) => println!(rt; "no memory")?,
         }
     }
     match (
-        call(rt, alloc, TWICE.0, &NoGate),
-        call(rt, alloc, TWICE.0, &NoGate),
+        call(&rt, rt.alloc(), TWICE.0, &NoGate),
+        call(&rt, rt.alloc(), TWICE.0, &NoGate),
     ) {
-        (Ok(first), Ok(second)) => show_twice(rt, &first, &second)?,
+        (Ok(first), Ok(second)) => show_twice(&rt, &first, &second)?,
         _ => println!(rt; "no memory")?,
     }
-    match call(rt, alloc, REPLAYED, &NoGate) {
-        Ok(shown) => show_replays(rt, alloc, REPLAYED, &shown.ending)?,
+    match call(&rt, rt.alloc(), REPLAYED, &NoGate) {
+        Ok(shown) => show_replays(&rt, REPLAYED, &shown.ending)?,
         Err(NoMemory) => println!(rt; "no memory")?,
     }
-    match call(rt, alloc, THINNED, &NoGate) {
-        Ok(shown) => show_thinned(rt, alloc, THINNED, &shown.ending)?,
+    match call(&rt, rt.alloc(), THINNED, &NoGate) {
+        Ok(shown) => show_thinned(&rt, THINNED, &shown.ending)?,
         Err(NoMemory) => println!(rt; "no memory")?,
     }
-    show_crews(rt, alloc)
+    show_crews(&rt, rt.alloc())
 }

@@ -1,7 +1,7 @@
 //! Two workers on two threads: many runs of one program, and one in which each worker is held until the other has come and worked.
 
-use crate::called::calls::{Shown, call};
-use crate::called::meeting::Meeting;
+use crate::calls::{Shown, call};
+use crate::meeting::Meeting;
 use ak_crew::{Gate, NoGate};
 use ak_words::NoMemory;
 use std::alloc::Global;
