@@ -21,7 +21,7 @@ use flat_meaning::Stop;
 use struct_ir::InstrKind;
 
 /// What a thread stands before.
-#[derive(Clone, Copy, Debug, PartialEq, Eq)]
+#[derive(Clone, Copy, PartialEq, Eq)]
 pub(crate) enum Before {
     /// A safepoint.
     Safe,

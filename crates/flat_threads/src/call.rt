@@ -10,7 +10,7 @@ use crate::program::Program;
 use struct_ir::Instr;
 
 /// A call: the instruction before which it stands, and where in its thread's arrays what it has begins.
-#[derive(Clone, Copy, Debug, PartialEq, Eq)]
+#[derive(Clone, Copy)]
 pub(crate) struct Call {
     /// The number of its function.
     pub function: u32,
@@ -72,7 +72,7 @@ impl Call {
 }
 
 /// How far a thread is.
-#[derive(Clone, Copy, Debug, PartialEq, Eq)]
+#[derive(Clone, Copy)]
 pub(crate) enum Phase {
     /// It hasn't begun, or has ended.
     Away,

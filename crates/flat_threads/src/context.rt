@@ -23,7 +23,7 @@ use struct_ir::linear::Instr;
 use struct_ir::{Place, StepNode};
 
 /// A thread's context: its number, how far it is, and its calls, in memory that is reserved once.
-#[derive(Debug, Drop)]
+#[derive(Drop)]
 pub struct Context {
     pub(crate) number: u32,
     pub(crate) phase: Phase,

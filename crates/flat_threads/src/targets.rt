@@ -1,5 +1,5 @@
 /// The word in the base of a place, and the address to which the place leads.
-#[derive(Clone, Copy, Debug, PartialEq, Eq)]
+#[derive(Clone, Copy, PartialEq, Eq)]
 pub struct Target {
     /// The word.
     pub pointer: u64,

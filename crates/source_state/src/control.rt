@@ -9,7 +9,6 @@ use source_tree::tree::{Callee, SharedArgs, SharedExpr, SharedRow, SharedStmt};
 use std::rc::Rc;
 
 /// A loop, at its place: its condition, its step and its body (C11 6.8.5).
-#[derive(Drop)]
 pub struct LoopParts {
     /// The place of its statement.
     pub place: u32,
@@ -21,8 +20,19 @@ pub struct LoopParts {
     pub body: Rc<SharedStmt>,
 }
 
+// Written out: a drop that is derived is proved again in each crate that holds such a value.
+impl Drop for LoopParts {
+    fn drop(self) {
+        let Self {
+            place: _,
+            condition: _,
+            step: _,
+            body: _,
+        } = self;
+    }
+}
+
 /// A compound assignment.
-#[derive(Drop)]
 pub struct Updating {
     /// The place of its left side.
     pub place: u32,
@@ -34,8 +44,18 @@ pub struct Updating {
     pub ty: Rc<CType>,
 }
 
+impl Drop for Updating {
+    fn drop(self) {
+        let Self {
+            place: _,
+            operator: _,
+            op: _,
+            ty: _,
+        } = self;
+    }
+}
+
 /// Values in order, linked from the last one.
-#[derive(Drop)]
 pub enum Values {
     /// There are none.
     None,
@@ -43,8 +63,16 @@ pub enum Values {
     More(Value, Rc<Values>),
 }
 
+impl Drop for Values {
+    fn drop(self) {
+        match self {
+            Self::None => {}
+            Self::More(_, _) => {}
+        }
+    }
+}
+
 /// What is left to do in a call once a statement is done.
-#[derive(Drop)]
 pub enum Todo {
     /// The body's end.
     Leaves,
@@ -62,8 +90,21 @@ pub enum Todo {
     InStep(Rc<LoopParts>, Rc<Todo>),
 }
 
+impl Drop for Todo {
+    fn drop(self) {
+        match self {
+            Self::Leaves => {}
+            Self::ThenRow(_, _, _) => {}
+            Self::ThenEnd(_, _) => {}
+            Self::ThenEndFirst(_, _) => {}
+            Self::ThenLoop(_, _) => {}
+            Self::InBody(_, _) => {}
+            Self::InStep(_, _) => {}
+        }
+    }
+}
+
 /// What a value is used for.
-#[derive(Drop)]
 pub enum Use {
     /// The left operand of an operation.
     FirstOf(u32, Binary, Rc<SharedExpr>, Rc<Use>),
@@ -109,6 +150,35 @@ pub enum Use {
     ToCaller,
     /// A value that nothing uses.
     ToNowhere(Rc<Todo>),
+}
+
+impl Drop for Use {
+    fn drop(self) {
+        match self {
+            Self::FirstOf(_, _, _, _) => {}
+            Self::SecondOf(_, _, _, _) => {}
+            Self::OnlyOf(_, _, _) => {}
+            Self::PlaceRead(_, _, _) => {}
+            Self::FirstTest(_, _, _, _) => {}
+            Self::SecondTest(_, _) => {}
+            Self::Choice(_, _, _, _) => {}
+            Self::Argument(_, _, _, _, _, _) => {}
+            Self::DroppedArgument(_, _, _, _, _) => {}
+            Self::ToLocal(_, _) => {}
+            Self::LeftPlace(_, _, _) => {}
+            Self::ToPlace(_, _, _) => {}
+            Self::StructLeft(_, _, _, _) => {}
+            Self::StructRight(_, _, _, _) => {}
+            Self::UpdateLeft(_, _, _) => {}
+            Self::UpdateLocal(_, _, _) => {}
+            Self::UpdateRight(_, _, _) => {}
+            Self::UpdateRead(_, _, _, _) => {}
+            Self::IfTest(_, _, _, _, _) => {}
+            Self::LoopTest(_, _, _) => {}
+            Self::ToCaller => {}
+            Self::ToNowhere(_) => {}
+        }
+    }
 }
 
 /// What waits for a call's value.

@@ -4,9 +4,9 @@ ghost use Rattle.std.specs.Prelude.{◌≡◌, ◌∷◌, [], ◌++◌, IfOk};
 ghost use Rattle.c_meaning.specs.Control as control;
 ghost use Rattle.source_tree.specs.SharedViews.{expr_of, args_of};
 ghost use Rattle.source_state.specs.Operations.{unary_of, binary_of};
-ghost use Rattle.source_state.specs.Views.{use_of, wait_of, values_of, callee_of};
+ghost use Rattle.source_state.specs.Views.{use_of, todo_of, wait_of, values_of, callee_of};
 
-use crate::control::{Use, Values, Wait};
+use crate::control::{Todo, Use, Values, Wait};
 use crate::operations::{Binary, Unary};
 use ak_words::NoMemory;
 use block_store::{Access, Value};
@@ -110,28 +110,46 @@ pub fn after_argument(
     ensures { IfOk result (λ after. use_of after.value ≡ control.argument place (callee_of callee.now.value) (values_of before.now.value) (args_of rest.now.value) (wait_of wait.now)) }
 {
     match wait {
-        Wait::Wanted(at, k) => Ok(Rc::new(
-            alloc,
-            Use::Argument(
-                place,
-                callee.clone()?,
-                before.clone()?,
-                rest.clone()?,
-                *at,
-                k.clone()?,
-            ),
-        )?),
-        Wait::Dropped(k) => Ok(Rc::new(
-            alloc,
-            Use::DroppedArgument(
-                place,
-                callee.clone()?,
-                before.clone()?,
-                rest.clone()?,
-                k.clone()?,
-            ),
-        )?),
+        Wait::Wanted(at, k) => wanted_argument(alloc, place, callee, before, rest, *at, k),
+        Wait::Dropped(k) => dropped_argument(alloc, place, callee, before, rest, k),
     }
+}
+
+// Behind an argument of a call whose value is used.
+fn wanted_argument(
+    alloc: Global,
+    place: u32,
+    callee: &Rc<Callee>,
+    before: &Rc<Values>,
+    rest: &Rc<SharedArgs>,
+    at: u32,
+    k: &Rc<Use>,
+) -> Result<Rc<Use>, NoMemory>
+    ensures { IfOk result (λ after. use_of after.value ≡ control.argument place (callee_of callee.now.value) (values_of before.now.value) (args_of rest.now.value) (control.wanted at (use_of k.now.value))) }
+{
+    let callee = callee.clone()?;
+    let before = before.clone()?;
+    let rest = rest.clone()?;
+    let k = k.clone()?;
+    Ok(Rc::new(alloc, Use::Argument(place, callee, before, rest, at, k))?)
+}
+
+// Behind an argument of a call whose value is dropped.
+fn dropped_argument(
+    alloc: Global,
+    place: u32,
+    callee: &Rc<Callee>,
+    before: &Rc<Values>,
+    rest: &Rc<SharedArgs>,
+    k: &Rc<Todo>,
+) -> Result<Rc<Use>, NoMemory>
+    ensures { IfOk result (λ after. use_of after.value ≡ control.argument place (callee_of callee.now.value) (values_of before.now.value) (args_of rest.now.value) (control.dropped (todo_of k.now.value))) }
+{
+    let callee = callee.clone()?;
+    let before = before.clone()?;
+    let rest = rest.clone()?;
+    let k = k.clone()?;
+    Ok(Rc::new(alloc, Use::DroppedArgument(place, callee, before, rest, k))?)
 }
 
 /// Values with one more at their end.

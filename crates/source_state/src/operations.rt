@@ -5,7 +5,6 @@ use c_tree::typed::CType;
 use std::rc::Rc;
 
 /// An operation on one value.
-#[derive(Drop)]
 pub enum Unary {
     /// A conversion to a type.
     Converts(Rc<CType>),
@@ -17,8 +16,19 @@ pub enum Unary {
     Selects(u32),
 }
 
+impl Drop for Unary {
+    fn drop(self) {
+        match self {
+            Self::Converts(_) => {}
+            Self::Negates => {}
+            Self::Tests => {}
+            Self::Selects(_) => {}
+        }
+    }
+}
+
 /// An operation on two values.
-#[derive(Clone, Copy, Debug, PartialEq, Eq)]
+#[derive(Clone, Copy, PartialEq, Eq)]
 pub enum Binary {
     /// An operator on numbers.
     Numbers(Op),

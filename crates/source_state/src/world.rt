@@ -3,7 +3,7 @@ use ak_words::Rule;
 use block_store::{Access, Cell, Ptr, Value};
 
 /// How far a thread is.
-#[derive(Clone, Copy, Debug, PartialEq, Eq)]
+#[derive(Clone, Copy, PartialEq, Eq)]
 pub enum Stage {
     /// It runs.
     Running,
@@ -14,7 +14,7 @@ pub enum Stage {
 }
 
 /// A thread that was made.
-#[derive(Clone, Copy, Debug, PartialEq, Eq)]
+#[derive(Clone, Copy, PartialEq, Eq)]
 pub struct ThreadRecord {
     /// The function that it began with.
     pub function: u32,
@@ -25,7 +25,7 @@ pub struct ThreadRecord {
 }
 
 /// Bytes of a block that an action reached.
-#[derive(Clone, Copy, Debug, PartialEq, Eq)]
+#[derive(Clone, Copy, PartialEq, Eq)]
 pub struct Reached {
     /// The block's name.
     pub block: u64,
@@ -51,7 +51,7 @@ pub struct World {
 }
 
 /// A part of what one call prints.
-#[derive(Debug, Drop)]
+#[derive(Drop)]
 pub enum Printed {
     /// These bytes.
     Bytes(Vec<u8>),
@@ -60,7 +60,7 @@ pub enum Printed {
 }
 
 /// An action, with its operands' values (C11 5.1.2.3 p2: side effects, and this project's profile).
-#[derive(Debug, Drop)]
+#[derive(Drop)]
 pub enum SharedAction {
     /// An access that reads.
     Load(Ptr, Access),

@@ -45,6 +45,7 @@ pub enum Callee {
     Library(Lib),
 }
 
+// Written out: a drop that is derived is proved again in each crate that holds such a value.
 impl Drop for Callee {
     fn drop(self) {
         match self {
