@@ -9,7 +9,7 @@ use Rattle.struct_ir.specs.Nodes.{Act, set, call, step, look, safepoint, begin_o
 use Rattle.struct_ir.specs.Flow.{Here, does, tests, passes, round, returns}
 use Rattle.struct_ir.specs.Structured.{Position, structured}
 use Rattle.struct_ir.specs.Machine.{Point}
-use Rattle.struct_ir.specs.Threads.{Thread, Outcome, went, ended, blocked, broke, unfit, served, finished, left_call, stop_at, stop_event, local_event, and_then, turn}
+use Rattle.struct_ir.specs.Threads.{Thread, Outcome, went, ended, blocked, broke, unfit, served, finished, left_call, stop_at, stop_event, local_event, and_then}
 use Rattle.struct_ir.specs.meaning.Blocks.{Own, Fault, broken, wrong_kind, blocks_machine}
 use Rattle.struct_ir.specs.meaning.Threads.{blocks_world, start_in, served_by, served_if, action_of, result_of, finished_with, over, program_of, turned}
 use Rattle.flat_meaning.specs.Order.{pick}

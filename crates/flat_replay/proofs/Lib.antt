@@ -36,6 +36,7 @@ pub mod StepAccesses
 pub mod TurnAccesses
 pub mod ServeAccesses
 pub mod Accesses
+pub mod AccessRows
 pub mod Whole
 pub mod Transport
 pub mod Source

@@ -8,3 +8,4 @@ pub mod Accesses
 pub mod Rows
 pub mod Finals
 pub mod inner
+pub mod AccessRows

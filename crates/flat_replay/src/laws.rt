@@ -2,6 +2,7 @@
 
 ghost use Rattle.std.specs.Prelude.{◌≡◌};
 ghost use Rattle.ak_trace.specs.Rows.{full_journal};
+ghost use Rattle.flat_replay.specs.AccessRows.{OtherNamesDontStand};
 ghost use Rattle.flat_replay.specs.Attempts.{attempts_from};
 ghost use Rattle.flat_replay.specs.Laws.{AJournalIsOfEvents, AccessesOfJournalsStay, BarriersOfARunKeepObjects, JournalsMeanTheSource, JournalsOfCheckedCodeAreMeant, SmallProgramsFit};
 ghost use Rattle.flat_replay.specs.Rows.{full_attempts, BreaksStand, EndsStand, LastsStand, MeaningsStand, TriesStand};
@@ -30,6 +31,14 @@ pub fn accesses_of_journals_stay()
     ensures { AccessesOfJournalsStay }
 {
     flat_simulation::laws::events_of_linear_code();
+}
+
+/// Behind a store to an array, with a name for the array at an address where nothing lies, a state of the machine doesn't stand for the
+/// source's, whatever ids were handed out.
+pub fn other_names_do_not_stand()
+    ensures { OtherNamesDontStand }
+{
+    flat_simulation::laws::other_names_are_refused();
 }
 
 /// A journal of checked code that replays has the code's own meaning over named blocks: where no rule of C is broken, what it printed is
