@@ -1,5 +1,5 @@
 -- What a journal of checked code means for the code it means for each program of which that keeps every turn.
-use Rattle.std.proofs.Common.{◌≡◌, length, Option, Some, None, sym}
+use Rattle.std.proofs.Common.{length, Option, Some, None, sym}
 use Rattle.block_store.specs.Runs.{own_at}
 use Rattle.c_meaning.specs.Alike.{AsDeep}
 use Rattle.c_meaning.specs.Control.{Control}

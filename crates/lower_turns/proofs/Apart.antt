@@ -4,7 +4,6 @@ use Rattle.std.specs.Prelude.{None}
 use Rattle.ak_words.specs.Wrapped.{residue, wrapped_value}
 use Rattle.block_store.specs.declared.values.Answer.{Answer}
 use Rattle.block_store.specs.declared.values.Answer.TheVariants as answers
-use Rattle.block_store.specs.Actions.{World}
 use Rattle.block_store.specs.Runs.{Program, State, Pick, picked, Shown, it_begins, it_went, it_was_unfit, no_such_turn, shown_then, shown_from}
 use Rattle.block_store.specs.Runs as runs
 use Rattle.c_tree.specs.Typed.{empty, no_stmts}

@@ -1,7 +1,7 @@
 -- Code from its own first world on: it begins as the program does, goes on as that does, and is as deep in calls.
 use Rattle.std.proofs.Common.{◌≡◌, ℕ, suc, List, [], ◌∷◌, ◌++◌, length, map, refl, sym, ap, ◌∙◌}
 use Rattle.block_store.specs.Blocks.{global_block, literal_block}
-use Rattle.block_store.specs.Actions.{World, first_world}
+use Rattle.block_store.specs.Actions.{first_world}
 use Rattle.block_store.specs.Runs as runs
 use Rattle.block_store.specs.Runs.{Pick, Run}
 use Rattle.c_tree.specs.Typed as tree
