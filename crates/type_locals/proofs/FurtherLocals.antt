@@ -1,62 +1,21 @@
 -- The locals of a function: those that are in memory, and the numbers that all get.
 use Rattle.std.proofs.Common.{◌≡◌, ℕ, zero, suc, ◌+◌, ◌≤◌, ◌<◌, Bool, true, false, ◌||◌, List, [], ◌∷◌, ◌++◌, Option, Some, None, map, length, get_or, drop, slice_get, refl, sym, ap, ◌∙◌, append_assoc, if◌then◌else◌, arith}
-use Rattle.std.specs.Prelude.{nat_eq, nat_lt, ◌==◌}
+use Rattle.std.specs.Prelude.{nat_eq, nat_lt}
 use Rattle.std.specs.Option.{option_map}
 use Rattle.std.proofs.lemmas.Bool.Decides.{nat_tests}
 use Rattle.std.proofs.lemmas.List.{map-append, length-map, at_drop_more, drop-map}
-use Rattle.std.proofs.lemmas.List.Folds.{list_any-append}
 use Rattle.c_tree.specs.declared.typed.CType.{CType}
 use Rattle.c_tree.specs.declared.typed.Local.{Local as CodeLocal}
 use Rattle.c_tree.specs.declared.typed.Stmt.{Stmt as CodeStmt}
-use Rattle.c_tree.specs.declared.typed.Func.{Func as CodeFunc}
 use Rattle.c_tree.specs.Typed.{Ty, Local, Func, Stmts, more_stmts, stmts_of}
-use Rattle.c_tree.specs.TypedViews.{type_view, local_view, stmt_view, func_view}
+use Rattle.c_tree.specs.TypedViews.{type_view, local_view, stmt_view}
 use Rattle.type_locals.specs.declared.numbering.Numbers.{Numbers}
 use Rattle.type_locals.specs.declared.locals.Param.{Param as CodeParam}
 use Rattle.type_locals.specs.declared.locals.Further.{Further as CodeFurther}
 use Rattle.c_typing.specs.Numbering.{Param, is_in, addressed_params, place_among, or_number, number_of, is_block, locals_from, copies, func_of, renumbered_stmt, renumbered_stmts}
 use Rattle.type_locals.specs.LocalViews.{param_view, params_view}
-use Rattle.type_locals.specs.inner.Numbers.{or_more, new_number, further_view, furthers_view, table_from, locals_view, param_local, further_local, copy_of, followed}
+use Rattle.type_locals.specs.inner.Numbers.{or_more, new_number, further_view, furthers_view, table_from, locals_view, param_local, further_local, copy_of, followed, func}
 use Rattle.type_locals.proofs.TypedTrees.{stmts_renumbered}
-
--- ---- numbers, each once
-
-same_number : (k x : ℕ) (ks : List ℕ) → nat_eq k x ≡ true → is_in x ks ≡ is_in k ks
-same_number k x ks h = let e : k ≡ x = grind (arith, nat_tests) in ap (λ j. is_in j ks) (sym e)
-
-or_true : (b c : Bool) → b ≡ true → (b || c) ≡ (b || (true || c))
-or_true true c h = refl
-or_true false c h = cc
-
-or_known : (k x : ℕ) (ks : List ℕ) (rest t : Bool) → nat_eq k x ≡ t → is_in x ks ≡ true → (is_in k ks || rest) ≡ (is_in k ks || (t || rest))
-or_known k x ks rest true e h = or_true (is_in k ks) rest (sym (same_number k x ks e) ∙ h)
-or_known k x ks rest false e h = refl
-
-or_more_true : (a b c : Bool) → ((a || (b || false)) || c) ≡ (a || (b || c))
-or_more_true true b c = refl
-or_more_true false true c = refl
-or_more_true false false c = refl
-
-one_more_in : (k x : ℕ) (ks : List ℕ) (rest b : Bool) → is_in x ks ≡ b → (is_in k (if b then ks else ks ++ x ∷ []) || rest) ≡ (is_in k ks || (nat_eq k x || rest))
-one_more_in k x ks rest true h = or_known k x ks rest (nat_eq k x) refl h
-one_more_in k x ks rest false h = ap (λ b. b || rest) (list_any-append (λ m. k == m) ks (x ∷ [])) ∙ or_more_true (is_in k ks) (nat_eq k x) rest
-
--- one more of the numbers is among them
-pub in_more : (k i : ℕ) (all ks new : List ℕ) (x d : ℕ) → i < length all → x ≡ get_or all i d → new ≡ (if is_in x ks then ks else ks ++ x ∷ [])
-    → (is_in k ks || is_in k (drop i all)) ≡ is_in k all → (is_in k new || is_in k (drop (i + 1) all)) ≡ is_in k all
-in_more k i all ks new x d h at is so_far =
-    let here : is_in k (drop i all) ≡ (nat_eq k (get_or all i d) || is_in k (drop (i + 1) all)) = at_drop_more (is_in k) all i d h in
-    ap (λ l. is_in k l || is_in k (drop (i + 1) all)) is
-    ∙ one_more_in k x ks (is_in k (drop (i + 1) all)) (is_in x ks) refl
-    ∙ ap (λ y. is_in k ks || (nat_eq k y || is_in k (drop (i + 1) all))) at
-    ∙ ap (λ b. is_in k ks || b) (sym here) ∙ so_far
-
-or_false : (b : Bool) → (b || false) ≡ b
-or_false true = refl
-or_false false = refl
-
-pub in_all : (k : ℕ) (all ks rest : List ℕ) → rest ≡ [] → (is_in k ks || is_in k rest) ≡ is_in k all → is_in k ks ≡ is_in k all
-in_all k all ks rest none h = sym (or_false (is_in k ks)) ∙ ap (λ l. is_in k ks || is_in k l) (sym none) ∙ h
 
 -- what is said of numbers goes by which are among them
 pub same_params : (ns ms : List ℕ) → ((k : ℕ) → is_in k ns ≡ is_in k ms) → (k : ℕ) (ps : List Param) → addressed_params k ps ns ≡ addressed_params k ps ms
@@ -154,20 +113,19 @@ locals_are n types behind ns a b d ab abd x y p q r s e f =
     ∙ ap (λ l. (x ++ y) ++ l) (r ∙ ap (λ ts. locals_from n ns (map type_view ts)) s ∙ ap (locals_from n ns) (sym (drop-map type_view n types)))
 
 -- the declaration of a further local
-followed_push : (all : List CodeStmt) (s : CodeStmt) (rest : Stmts) → followed (all ++ s ∷ []) rest ≡ followed all (more_stmts (stmt_view s) rest)
+pub followed_push : (all : List CodeStmt) (s : CodeStmt) (rest : Stmts) → followed (all ++ s ∷ []) rest ≡ followed all (more_stmts (stmt_view s) rest)
 followed_push [] s rest = refl
 followed_push (x ∷ all) s rest = ap (more_stmts (stmt_view x)) (followed_push all s rest)
 
-pub copy_more : (params i number : ℕ) (xs : List CodeFurther) (all new : List CodeStmt) (s : CodeStmt) (d : CodeFurther) (whole : Stmts) (body : Stmts)
-    → i < length xs → number ≡ params + i → new ≡ all ++ s ∷ [] → stmt_view s ≡ copy_of number (further_view (get_or xs i d))
+pub copy_more : (params i number : ℕ) (xs : List CodeFurther) (all new : List CodeStmt) (d : CodeFurther) (whole : Stmts) (body : Stmts)
+    → i < length xs → number ≡ params + i → ((b : Stmts) → followed new b ≡ followed all (more_stmts (copy_of number (further_view (get_or xs i d))) b))
     → followed all (copies params i (furthers_view (drop i xs)) body) ≡ whole → followed new (copies params (i + 1) (furthers_view (drop (i + 1) xs)) body) ≡ whole
-copy_more params i number xs all new s d whole body h num is seen so_far =
+copy_more params i number xs all new d whole body h num is so_far =
     let here : copies params i (furthers_view (drop i xs)) body ≡ more_stmts (copy_of (params + i) (further_view (get_or xs i d))) (copies params (i + 1) (furthers_view (drop (i + 1) xs)) body) =
     at_drop_more (λ l. copies params i (furthers_view l) body) xs i d h
     ∙ one_on (λ j. more_stmts (copy_of (params + i) (further_view (get_or xs i d))) (copies params j (furthers_view (drop (i + 1) xs)) body)) i in
-    ap (λ l. followed l (copies params (i + 1) (furthers_view (drop (i + 1) xs)) body)) is
-    ∙ followed_push all s (copies params (i + 1) (furthers_view (drop (i + 1) xs)) body)
-    ∙ ap (λ y. followed all (more_stmts y (copies params (i + 1) (furthers_view (drop (i + 1) xs)) body))) (seen ∙ ap (λ j. copy_of j (further_view (get_or xs i d))) num)
+    is (copies params (i + 1) (furthers_view (drop (i + 1) xs)) body)
+    ∙ ap (λ j. followed all (more_stmts (copy_of j (further_view (get_or xs i d))) (copies params (i + 1) (furthers_view (drop (i + 1) xs)) body))) num
     ∙ ap (followed all) (sym here) ∙ so_far
 
 followed_is : (cs bs : List CodeStmt) → stmts_of (map stmt_view (cs ++ bs)) ≡ followed cs (stmts_of (map stmt_view bs))
@@ -279,40 +237,52 @@ numbers_are ps ns m = number_by ps ns m (nat_lt m (length ps)) refl
 
 -- ---- the function
 
-pub func_is : (params : List CodeParam) (types : List CType) (ns keys : List ℕ) (r : Ty) (body : List CodeStmt) (f : CodeFunc) (numbers : Numbers) (fs : List CodeFurther) (cs bs : List CodeStmt) (count : ℕ)
-    → ((k : ℕ) → is_in k keys ≡ is_in k ns) → count ≡ length params
-    → furthers_view fs ≡ addressed_params 0 (params_view params) keys
-    → numbers.params.items ≡ table_from 0 (length params) (params_view params) keys → numbers.further ≡ length fs
-    → locals_view f.locals.items ≡ map param_local (params_view params) ++ map further_local (furthers_view fs) ++ locals_from (length params) keys (drop (length params) (map type_view types))
+-- the body, behind the declarations of the further locals
+pub body_is : (f : ℕ → ℕ) (count : ℕ) (fs : List CodeFurther) (body bs cs all : List CodeStmt)
+    → map stmt_view bs ≡ map (λ s. renumbered_stmt f (stmt_view s)) body
     → ((b : Stmts) → followed cs b ≡ copies count 0 (furthers_view fs) b)
-    → map stmt_view bs ≡ map (λ s. renumbered_stmt (new_number numbers) (stmt_view s)) body
-    → f.params ≡ count → type_view f.result ≡ r → f.body.items ≡ cs ++ bs
-    → func_view f ≡ func_of (params_view params) (map type_view types) ns r (stmts_of (map stmt_view body))
-func_is params types ns keys r body f numbers fs cs bs count same counted taken listed_ many locals made renumbered_ ps_is r_is body_is =
+    → all ≡ cs ++ bs
+    → stmts_of (map stmt_view all) ≡ copies count 0 (furthers_view fs) (renumbered_stmts f (stmts_of (map stmt_view body)))
+body_is f count fs body bs cs all renumbered_ made is =
+    ap (λ l. stmts_of (map stmt_view l)) is ∙ followed_is cs bs ∙ ap (λ l. followed cs (stmts_of l)) renumbered_ ∙ ap (followed cs) (stmts_renumbered f body)
+    ∙ made (renumbered_stmts f (stmts_of (map stmt_view body)))
+
+-- the function, as what is made of the parameters whose address is taken, and of the other locals
+abbrev made_of : List Param → List (ℕ × Param) → List Local → Ty → Stmts → Func
+made_of ps fs others r b = func (length ps) (map param_local ps ++ map further_local fs ++ others) r (copies (length ps) 0 fs (renumbered_stmts (number_of (length ps) fs) b))
+
+-- it goes by which numbers are said to have their address taken
+pub same_func : (ns ms : List ℕ) → ((k : ℕ) → is_in k ns ≡ is_in k ms) → (ps : List Param) (ts : List Ty) (r : Ty) (b : Stmts) → func_of ps ts ns r b ≡ func_of ps ts ms r b
+same_func ns ms h ps ts r b =
+    ap (λ fs. made_of ps fs (locals_from (length ps) ns (drop (length ps) ts)) r b) (same_params ns ms h 0 ps)
+    ∙ ap (λ l. made_of ps (addressed_params 0 ps ms) l r b) (same_locals ns ms h (length ps) (drop (length ps) ts))
+
+pub func_is : (params : List CodeParam) (types : List CType) (ns : List ℕ) (r : Ty) (body : List CodeStmt) (ls : List CodeLocal) (b : Stmts) (numbers : Numbers) (fs : List CodeFurther) (count : ℕ)
+    → count ≡ length params
+    → furthers_view fs ≡ addressed_params 0 (params_view params) ns
+    → numbers.params.items ≡ table_from 0 (length params) (params_view params) ns → numbers.further ≡ length fs
+    → locals_view ls ≡ map param_local (params_view params) ++ map further_local (furthers_view fs) ++ locals_from (length params) ns (drop (length params) (map type_view types))
+    → b ≡ copies count 0 (furthers_view fs) (renumbered_stmts (new_number numbers) (stmts_of (map stmt_view body)))
+    → func (length params) (locals_view ls) r b ≡ func_of (params_view params) (map type_view types) ns r (stmts_of (map stmt_view body))
+func_is params types ns r body ls b numbers fs count counted taken listed_ many locals bodied =
     let ps = params_view params in
     let n : length params ≡ length ps = sym (length-map params param_view) in
-    let further : furthers_view fs ≡ addressed_params 0 ps ns = taken ∙ same_params keys ns same 0 ps in
-    let len : length fs ≡ length (addressed_params 0 ps keys) = sym (length-map fs further_view) ∙ ap length taken in
+    let len : length fs ≡ length (addressed_params 0 ps ns) = sym (length-map fs further_view) ∙ ap length taken in
     let number_is : (m : ℕ) → new_number numbers m ≡ number_of (length ps) (addressed_params 0 ps ns) m = (λ m.
     ap (λ t. or_more numbers.further m (slice_get t m)) listed_
-    ∙ ap (λ j. or_more j m (slice_get (table_from 0 (length params) ps keys) m)) (many ∙ len)
-    ∙ ap (λ j. or_more (length (addressed_params 0 ps keys)) m (slice_get (table_from 0 j ps keys) m)) n
-    ∙ numbers_are ps keys m
-    ∙ ap (λ l. number_of (length ps) l m) (same_params keys ns same 0 ps)) in
+    ∙ ap (λ j. or_more j m (slice_get (table_from 0 (length params) ps ns) m)) (many ∙ len)
+    ∙ ap (λ j. or_more (length (addressed_params 0 ps ns)) m (slice_get (table_from 0 j ps ns) m)) n
+    ∙ numbers_are ps ns m) in
     let numbering : new_number numbers ≡ number_of (length ps) (addressed_params 0 ps ns) = (λ i. λ m. number_is m i) in
-    let all_locals : map local_view f.locals.items ≡ map param_local ps ++ map further_local (addressed_params 0 ps ns) ++ locals_from (length ps) ns (drop (length ps) (map type_view types)) =
+    let all_locals : locals_view ls ≡ map param_local ps ++ map further_local (addressed_params 0 ps ns) ++ locals_from (length ps) ns (drop (length ps) (map type_view types)) =
     locals
-    ∙ ap (λ l. map param_local ps ++ map further_local l ++ locals_from (length params) keys (drop (length params) (map type_view types))) further
-    ∙ ap (λ l. map param_local ps ++ map further_local (addressed_params 0 ps ns) ++ l) (same_locals keys ns same (length params) (drop (length params) (map type_view types)))
+    ∙ ap (λ l. map param_local ps ++ map further_local l ++ locals_from (length params) ns (drop (length params) (map type_view types))) taken
     ∙ ap (λ j. map param_local ps ++ map further_local (addressed_params 0 ps ns) ++ locals_from j ns (drop j (map type_view types))) n in
-    let whole_body : stmts_of (map stmt_view f.body.items) ≡ copies (length ps) 0 (addressed_params 0 ps ns) (renumbered_stmts (number_of (length ps) (addressed_params 0 ps ns)) (stmts_of (map stmt_view body))) =
-    ap (λ l. stmts_of (map stmt_view l)) body_is ∙ followed_is cs bs ∙ ap (λ l. followed cs (stmts_of l)) renumbered_ ∙ ap (followed cs) (stmts_renumbered (new_number numbers) body)
-    ∙ made (renumbered_stmts (new_number numbers) (stmts_of (map stmt_view body)))
+    let whole_body : b ≡ copies (length ps) 0 (addressed_params 0 ps ns) (renumbered_stmts (number_of (length ps) (addressed_params 0 ps ns)) (stmts_of (map stmt_view body))) =
+    bodied
     ∙ ap (λ j. copies j 0 (furthers_view fs) (renumbered_stmts (new_number numbers) (stmts_of (map stmt_view body)))) (counted ∙ n)
-    ∙ ap (λ l. copies (length ps) 0 l (renumbered_stmts (new_number numbers) (stmts_of (map stmt_view body)))) further
+    ∙ ap (λ l. copies (length ps) 0 l (renumbered_stmts (new_number numbers) (stmts_of (map stmt_view body)))) taken
     ∙ ap (λ g. copies (length ps) 0 (addressed_params 0 ps ns) (renumbered_stmts g (stmts_of (map stmt_view body)))) numbering in
-    let make : ℕ → List Local → Ty → Stmts → Func = (λ a b c d. record { params = a; locals = b; result = c; body = d }) in
-    ap (λ a. make a (map local_view f.locals.items) (type_view f.result) (stmts_of (map stmt_view f.body.items))) (ps_is ∙ counted ∙ n)
-    ∙ ap (λ b. make (length ps) b (type_view f.result) (stmts_of (map stmt_view f.body.items))) all_locals
-    ∙ ap (λ c. make (length ps) (map param_local ps ++ map further_local (addressed_params 0 ps ns) ++ locals_from (length ps) ns (drop (length ps) (map type_view types))) c (stmts_of (map stmt_view f.body.items))) r_is
-    ∙ ap (λ d. make (length ps) (map param_local ps ++ map further_local (addressed_params 0 ps ns) ++ locals_from (length ps) ns (drop (length ps) (map type_view types))) r d) whole_body
+    ap (λ a. func a (locals_view ls) r b) n
+    ∙ ap (λ l. func (length ps) l r b) all_locals
+    ∙ ap (func (length ps) (map param_local ps ++ map further_local (addressed_params 0 ps ns) ++ locals_from (length ps) ns (drop (length ps) (map type_view types))) r) whole_body

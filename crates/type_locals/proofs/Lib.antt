@@ -1,3 +1,4 @@
 pub mod TypedTrees
 pub mod LoopHeaders
 pub mod FurtherLocals
+pub mod Marked

@@ -17,10 +17,10 @@ headed_push place (y ∷ []) x loop = refl
 headed_push place (y ∷ z ∷ xs) x loop = ap (λ l. at_stmt place (block (stmts_of l))) (row_push y (z ∷ xs) x loop)
 
 -- the last of these is taken
-pub headed_pop : (place : ℕ) (all rest : List CodeStmt) (x whole inside : CodeStmt) (loop : Stmt → Stmt) → all ≡ rest ++ x ∷ [] → stmt_view inside ≡ loop (stmt_view x)
-    → stmt_view whole ≡ enclosed place (map stmt_view rest) (stmt_view inside) → stmt_view whole ≡ headed place (map stmt_view all) loop
-headed_pop place all rest x whole inside loop is made h =
-    h ∙ ap (enclosed place (map stmt_view rest)) made ∙ sym (headed_push place (map stmt_view rest) (stmt_view x) loop)
+pub headed_pop : (place : ℕ) (all rest : List CodeStmt) (x : CodeStmt) (loop : Stmt → Stmt) → all ≡ rest ++ x ∷ []
+    → enclosed place (map stmt_view rest) (loop (stmt_view x)) ≡ headed place (map stmt_view all) loop
+headed_pop place all rest x loop is =
+    sym (headed_push place (map stmt_view rest) (stmt_view x) loop)
     ∙ ap (λ l. headed place l loop) (sym (ap (map stmt_view) is ∙ map-append stmt_view rest (x ∷ [])))
 
 -- a block of statements that are there

@@ -1,11 +1,13 @@
 //! The header of a `for` (C11 6.8.5.3).
 ghost use Rattle.std.specs.Prelude.{◌≡◌, IfOk, map};
 ghost use Rattle.std.specs.Option.{option_map};
+ghost use Rattle.c_tree.specs.Typed as typed_trees;
 ghost use Rattle.c_tree.specs.Typed.{at_stmt, for_, empty};
 ghost use Rattle.c_tree.specs.TypedViews.{optional_expr_view, boxed_expr_view, stmt_view, boxed_stmt_view};
 ghost use Rattle.c_typing.specs.Statements.{headed};
 ghost use Rattle.type_locals.specs.inner.Blocks.{enclosed};
 
+use crate::boxes::{boxed, put};
 use c_tree::typed::{Expr, Stmt, StmtNode};
 use std::alloc::{AllocError, Global};
 
@@ -41,9 +43,9 @@ fn enclosed(
     if before.is_empty() {
         return Ok(last);
     }
-    before.push(Box::into_inner(last))?;
+    put(&mut before, Box::into_inner(last))?;
     let node = StmtNode::Block(before);
-    Ok(Box::new(alloc, Stmt { place, node })?)
+    boxed(alloc, Stmt { place, node })
 }
 
 // A `for` with its first clause.
@@ -58,7 +60,17 @@ fn loop_of(
     ensures { IfOk result (λ s. boxed_stmt_view s ≡ at_stmt place (for_ (boxed_stmt_view first) (option_map boxed_expr_view condition) (boxed_stmt_view step) (boxed_stmt_view body))) }
 {
     let node = StmtNode::For(first, unboxed(condition), step, body);
-    Ok(Box::new(alloc, Stmt { place, node })?)
+    boxed(alloc, Stmt { place, node })
+}
+
+// The last statement of a header, which is its loop's first clause; nothing where it has none.
+fn first_of(alloc: Global, place: u32, header: &mut Vec<Stmt>) -> Result<Box<Stmt>, AllocError>
+    ensures { IfOk result (λ first. (loop : typed_trees.Stmt → typed_trees.Stmt) → enclosed place (map stmt_view header.new.items) (loop (boxed_stmt_view first)) ≡ headed place (map stmt_view header.old.items) loop) }
+{
+    match header.pop() {
+        Some(first) => boxed(alloc, first),
+        None => boxed(alloc, nothing(place)),
+    }
 }
 
 /// A `for` with its header: where that declares several locals, one block holds them all.
@@ -72,15 +84,7 @@ pub fn headed(
 ) -> Result<Box<Stmt>, AllocError>
     ensures { IfOk result (λ s. boxed_stmt_view s ≡ headed place (map stmt_view header.items) (λ first. at_stmt place (for_ first (option_map boxed_expr_view condition) (boxed_stmt_view step) (boxed_stmt_view body)))) }
 {
-    match header.pop() {
-        Some(first) => {
-            let first = Box::new(alloc, first)?;
-            let inside = loop_of(alloc, place, first, condition, step, body)?;
-            enclosed(alloc, place, header, inside)
-        }
-        None => {
-            let first = Box::new(alloc, nothing(place))?;
-            loop_of(alloc, place, first, condition, step, body)
-        }
-    }
+    let first = first_of(alloc, place, &mut header)?;
+    let inside = loop_of(alloc, place, first, condition, step, body)?;
+    enclosed(alloc, place, header, inside)
 }

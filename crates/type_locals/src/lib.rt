@@ -4,6 +4,8 @@
 //! Stands on c_typing's definitions and on c_tree.
 #![tactic(auto)]
 
+pub mod boxes;
 pub mod headers;
 pub mod locals;
+mod marks;
 pub mod numbering;

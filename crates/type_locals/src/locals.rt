@@ -1,15 +1,17 @@
 //! Which locals of a function are in memory, and the function once its whole body is known.
-ghost use Rattle.std.specs.Prelude.{◌≡◌, ◌++◌, ℕ, IfOk, map, drop, length};
-ghost use Rattle.c_tree.specs.Typed.{Stmts, stmts_of};
+ghost use Rattle.std.specs.Prelude.{◌≡◌, ◌++◌, IfOk, OnOk, map, drop, length};
+ghost use Rattle.c_tree.specs.Typed.{Ty, Stmts, more_stmts, stmts_of};
 ghost use Rattle.c_tree.specs.TypedViews.{type_view, stmt_view, func_view};
-ghost use Rattle.c_typing.specs.Numbering.{is_in, addressed_params, is_block, locals_from, copies, func_of};
+ghost use Rattle.c_typing.specs.Numbering.{addressed_params, is_block, locals_from, copies, func_of, renumbered_stmts};
 ghost use Rattle.type_locals.specs.LocalViews.{params_view};
-ghost use Rattle.type_locals.specs.inner.Numbers.{further_view, furthers_view, param_local, further_local, locals_view, table_from, copy_of, followed};
+ghost use Rattle.type_locals.specs.inner.Marking.{marked};
+ghost use Rattle.type_locals.specs.inner.Numbers.{further_view, furthers_view, param_local, further_local, locals_view, table_from, copy_of, followed, new_number, func};
 
+use crate::boxes::put;
+use crate::marks::Marks;
 use crate::numbering::Numbers;
 use c_tree::copies::copy_type;
 use c_tree::typed::{CType, Expr, ExprNode, Func, Local, Stmt, StmtNode};
-use indexmap::IndexSet;
 use std::alloc::{AllocError, Global};
 
 /// A parameter of a function: the place of its name, and its type.
@@ -33,29 +35,18 @@ fn number(length: usize) -> Result<u32, AllocError>
     u32::try_from(length).map_err(|_| AllocError)
 }
 
-// These numbers, each once.
-fn each_once(alloc: Global, numbers: &[u32]) -> Result<IndexSet<u32>, AllocError>
-    ensures { IfOk result (λ set. (k : ℕ) → is_in k set.keys ≡ is_in k numbers.now) }
-{
-    let mut set = IndexSet::new(alloc);
-    'numbers: for n in numbers {
-        set.insert(*n)?;
-    }
-    Ok(set)
-}
-
 // The parameters whose address is taken.
 fn further_params<'a>(
     alloc: Global,
     params: &'a [Param],
-    addressed: &IndexSet<u32>,
+    addressed: &Marks,
 ) -> Result<Vec<Further<'a>>, AllocError>
-    ensures { IfOk result (λ v. furthers_view v.items ≡ addressed_params 0 (params_view params.now) addressed.now.keys) }
+    ensures { IfOk result (λ v. furthers_view v.items ≡ addressed_params 0 (params_view params.now) (marked addressed.now)) }
 {
     let mut all = Vec::new(alloc);
     for (k, param) in params.iter().enumerate() {
         let number = number(k)?;
-        if addressed.contains(&number) {
+        if addressed.has(number) {
             all.push(Further { number, param })?;
         }
     }
@@ -63,14 +54,14 @@ fn further_params<'a>(
 }
 
 // The numbers that the parameters get in the body: one whose address is taken is a further local.
-fn table(alloc: Global, params: &[Param], addressed: &IndexSet<u32>) -> Result<Vec<u32>, AllocError>
-    ensures { IfOk result (λ v. v.items ≡ table_from 0 (length params.now) (params_view params.now) addressed.now.keys) }
+fn table(alloc: Global, params: &[Param], addressed: &Marks) -> Result<Vec<u32>, AllocError>
+    ensures { IfOk result (λ v. v.items ≡ table_from 0 (length params.now) (params_view params.now) (marked addressed.now)) }
 {
     let mut all = Vec::new(alloc);
     let mut next = number(params.len())?;
     for (k, _) in params.iter().enumerate() {
         let number = number(k)?;
-        if addressed.contains(&number) {
+        if addressed.has(number) {
             all.push(next)?;
             next = next.checked_add(1).ok_or(AllocError)?;
         } else {
@@ -122,15 +113,15 @@ fn others_of(
     alloc: Global,
     from: usize,
     types: &[CType],
-    addressed: &IndexSet<u32>,
+    addressed: &Marks,
 ) -> Result<Vec<Local>, AllocError>
-    ensures { IfOk result (λ v. locals_view v.items ≡ locals_from from addressed.now.keys (map type_view types.now)) }
+    ensures { IfOk result (λ v. locals_view v.items ≡ locals_from from (marked addressed.now) (map type_view types.now)) }
 {
     let mut all = Vec::new(alloc);
     let mut n = number(from)?;
     'types: for t in types {
         let ty = copy_type(alloc, t)?;
-        let in_memory = is_block(t) || addressed.contains(&n);
+        let in_memory = is_block(t) || addressed.has(n);
         all.push(Local { ty, in_memory })?;
         n = n.checked_add(1).ok_or(AllocError)?;
     }
@@ -154,9 +145,9 @@ fn locals_of(
     params: &[Param],
     further: &[Further<'_>],
     types: &[CType],
-    addressed: &IndexSet<u32>,
+    addressed: &Marks,
 ) -> Result<Vec<Local>, AllocError>
-    ensures { IfOk result (λ v. locals_view v.items ≡ map param_local (params_view params.now) ++ map further_local (furthers_view further.now) ++ locals_from (length params.now) addressed.now.keys (drop (length params.now) (map type_view types.now))) }
+    ensures { IfOk result (λ v. locals_view v.items ≡ map param_local (params_view params.now) ++ map further_local (furthers_view further.now) ++ locals_from (length params.now) (marked addressed.now) (drop (length params.now) (map type_view types.now))) }
 {
     let mut all = params_of(alloc, params)?;
     let mut more = further_of(alloc, further)?;
@@ -166,31 +157,106 @@ fn locals_of(
     Ok(all)
 }
 
-// The declaration of a further local, from its parameter, at the place of that one's name.
-fn copied(alloc: Global, number: u32, x: &Further<'_>) -> Result<Stmt, AllocError>
-    ensures { IfOk result (λ s. stmt_view s ≡ copy_of number (further_view x.now)) }
+// The declaration of a further local, from its parameter, at the place of that one's name, behind others.
+fn copied(
+    alloc: Global,
+    number: u32,
+    x: &Further<'_>,
+    all: &mut Vec<Stmt>,
+) -> Result<(), AllocError>
+    ensures { OnOk result ((body : Stmts) → followed all.new.items body ≡ followed all.old.items (more_stmts (copy_of number (further_view x.now)) body)) }
 {
     let value = Expr {
         place: x.param.place,
         ty: copy_type(alloc, &x.param.ty)?,
         node: ExprNode::Local(x.number),
     };
-    Ok(Stmt {
+    let declared = Stmt {
         place: x.param.place,
         node: StmtNode::Declare(number, Some(value)),
+    };
+    put(all, declared)
+}
+
+// The declarations of the further locals, from a number on, behind those that are there.
+fn copies(
+    alloc: Global,
+    params: u32,
+    further: &[Further<'_>],
+    all: &mut Vec<Stmt>,
+) -> Result<(), AllocError>
+    ensures { OnOk result ((body : Stmts) → followed all.new.items body ≡ followed all.old.items (copies params 0 (furthers_view further.now) body)) }
+{
+    for (i, x) in further.iter().enumerate() {
+        let number = params.checked_add(number(i)?).ok_or(AllocError)?;
+        copied(alloc, number, x, all)?;
+    }
+    Ok(())
+}
+
+// The body, its locals with these numbers, behind the declarations of the further locals.
+fn body_of(
+    alloc: Global,
+    params: u32,
+    further: &[Further<'_>],
+    numbers: &Numbers,
+    body: &mut Vec<Stmt>,
+) -> Result<(), AllocError>
+    ensures { OnOk result (stmts_of (map stmt_view body.new.items) ≡ copies params 0 (furthers_view further.now) (renumbered_stmts (new_number numbers.now) (stmts_of (map stmt_view body.old.items)))) }
+{
+    numbers.statements(body)?;
+    let mut all = Vec::new(alloc);
+    copies(alloc, params, further, &mut all)?;
+    all.append(body)?;
+    *body = all;
+    Ok(())
+}
+
+// The numbers that the locals get, where these parameters have their address taken.
+fn numbers_of(
+    alloc: Global,
+    params: &[Param],
+    further: &[Further<'_>],
+    addressed: &Marks,
+) -> Result<Numbers, AllocError>
+    ensures { IfOk result (λ n. (n.params.items ≡ table_from 0 (length params.now) (params_view params.now) (marked addressed.now)) × (n.further ≡ length further.now)) }
+{
+    let further = number(further.len())?;
+    Ok(Numbers {
+        params: table(alloc, params, addressed)?,
+        further,
     })
 }
 
-// The declarations of the further locals, from a number on.
-fn copies(alloc: Global, params: u32, further: &[Further<'_>]) -> Result<Vec<Stmt>, AllocError>
-    ensures { IfOk result (λ v. (body : Stmts) → followed v.items body ≡ copies params 0 (furthers_view further.now) body) }
+// The locals, and the body's numbers for them, where these have their address taken.
+fn settled_by(
+    alloc: Global,
+    params: &[Param],
+    types: &[CType],
+    addressed: &Marks,
+    body: &mut Vec<Stmt>,
+) -> Result<Vec<Local>, AllocError>
+    ensures { IfOk result (λ v. (t : Ty) → func (length params.now) (locals_view v.items) t (stmts_of (map stmt_view body.new.items)) ≡ func_of (params_view params.now) (map type_view types.now) (marked addressed.now) t (stmts_of (map stmt_view body.old.items))) }
 {
-    let mut all = Vec::new(alloc);
-    for (i, x) in further.iter().enumerate() {
-        let number = params.checked_add(number(i)?).ok_or(AllocError)?;
-        all.push(copied(alloc, number, x)?)?;
-    }
-    Ok(all)
+    let count = number(params.len())?;
+    let further = further_params(alloc, params, addressed)?;
+    let numbers = numbers_of(alloc, params, &further, addressed)?;
+    body_of(alloc, count, &further, &numbers, body)?;
+    locals_of(alloc, params, &further, types, addressed)
+}
+
+// The locals, and the body's numbers for them.
+fn settled(
+    alloc: Global,
+    params: &[Param],
+    types: &[CType],
+    addressed: &[u32],
+    body: &mut Vec<Stmt>,
+) -> Result<Vec<Local>, AllocError>
+    ensures { IfOk result (λ v. (t : Ty) → func (length params.now) (locals_view v.items) t (stmts_of (map stmt_view body.new.items)) ≡ func_of (params_view params.now) (map type_view types.now) addressed.now t (stmts_of (map stmt_view body.old.items))) }
+{
+    let addressed = Marks::of(alloc, addressed)?;
+    settled_by(alloc, params, types, &addressed, body)
 }
 
 /// A function of these parameters, whose locals have these types, the parameters' first, and whose
@@ -205,21 +271,12 @@ pub fn func_of(
 ) -> Result<Func, AllocError>
     ensures { IfOk result (λ f. func_view f ≡ func_of (params_view params.now) (map type_view types.now) addressed.now (type_view returned) (stmts_of (map stmt_view body.items))) }
 {
-    let addressed = each_once(alloc, addressed)?;
     let count = number(params.len())?;
-    let further = further_params(alloc, params, &addressed)?;
-    let numbers = Numbers {
-        params: table(alloc, params, &addressed)?,
-        further: number(further.len())?,
-    };
-    let locals = locals_of(alloc, params, &further, types, &addressed)?;
-    let mut all = copies(alloc, count, &further)?;
-    numbers.statements(&mut body)?;
-    all.append(&mut body)?;
+    let locals = settled(alloc, params, types, addressed, &mut body)?;
     Ok(Func {
         params: count,
         locals,
         result: returned,
-        body: all,
+        body,
     })
 }

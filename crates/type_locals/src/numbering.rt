@@ -32,52 +32,56 @@ impl Numbers {
         ensures { OnOk result (expr_view e.new ≡ renumbered (new_number self.now) (expr_view e.old)) }
     {
         match &mut e.node {
-            ExprNode::Num(_) | ExprNode::Null | ExprNode::Literal(_) | ExprNode::Global(_) => {}
-            ExprNode::Local(n) => *n = self.of(*n)?,
-            ExprNode::Deref(e) => self.renumber(e)?,
-            ExprNode::Member(e, _) => self.renumber(e)?,
-            ExprNode::AddrOf(e) => self.renumber(e)?,
-            ExprNode::Decay(e) => self.renumber(e)?,
-            ExprNode::Convert(e) => self.renumber(e)?,
-            ExprNode::Not(e) => self.renumber(e)?,
+            ExprNode::Num(_) | ExprNode::Null | ExprNode::Literal(_) | ExprNode::Global(_) => {
+                Ok(())
+            }
+            ExprNode::Local(n) => {
+                *n = self.of(*n)?;
+                Ok(())
+            }
+            ExprNode::Deref(e) => self.renumber(e),
+            ExprNode::Member(e, _) => self.renumber(e),
+            ExprNode::AddrOf(e) => self.renumber(e),
+            ExprNode::Decay(e) => self.renumber(e),
+            ExprNode::Convert(e) => self.renumber(e),
+            ExprNode::Not(e) => self.renumber(e),
             ExprNode::Binary(_, a, b) => {
                 self.renumber(a)?;
-                self.renumber(b)?;
+                self.renumber(b)
             }
             ExprNode::AndAlso(a, b) => {
                 self.renumber(a)?;
-                self.renumber(b)?;
+                self.renumber(b)
             }
             ExprNode::OrElse(a, b) => {
                 self.renumber(a)?;
-                self.renumber(b)?;
+                self.renumber(b)
             }
             ExprNode::Choose(e, a, b) => {
                 self.renumber(e)?;
                 self.renumber(a)?;
-                self.renumber(b)?;
+                self.renumber(b)
             }
             ExprNode::PtrAdd(p, n) => {
                 self.renumber(p)?;
-                self.renumber(n)?;
+                self.renumber(n)
             }
             ExprNode::PtrSub(p, n) => {
                 self.renumber(p)?;
-                self.renumber(n)?;
+                self.renumber(n)
             }
             ExprNode::PtrDiff(p, q) => {
                 self.renumber(p)?;
-                self.renumber(q)?;
+                self.renumber(q)
             }
             ExprNode::PtrCompare(_, p, q) => {
                 self.renumber(p)?;
-                self.renumber(q)?;
+                self.renumber(q)
             }
-            ExprNode::PtrTest(p) => self.renumber(p)?,
-            ExprNode::Call(_, args) => self.row(args)?,
-            ExprNode::Lib(_, args) => self.row(args)?,
+            ExprNode::PtrTest(p) => self.renumber(p),
+            ExprNode::Call(_, args) => self.row(args),
+            ExprNode::Lib(_, args) => self.row(args),
         }
-        Ok(())
     }
 
     // The same of expressions in a row.
@@ -107,42 +111,41 @@ impl Numbers {
         ensures { OnOk result (stmt_view s.new ≡ renumbered_stmt (new_number self.now) (stmt_view s.old)) }
     {
         match &mut s.node {
-            StmtNode::Break | StmtNode::Continue | StmtNode::Empty => {}
-            StmtNode::Block(body) => self.statements(body)?,
+            StmtNode::Break | StmtNode::Continue | StmtNode::Empty => Ok(()),
+            StmtNode::Block(body) => self.statements(body),
             StmtNode::Declare(n, init) => {
                 *n = self.of(*n)?;
-                self.optional(init)?;
+                self.optional(init)
             }
             StmtNode::If(e, then, other) => {
                 self.renumber(e)?;
                 self.renumber_stmt(then)?;
                 match other {
-                    Some(s) => self.renumber_stmt(s)?,
-                    None => {}
+                    Some(s) => self.renumber_stmt(s),
+                    None => Ok(()),
                 }
             }
             StmtNode::While(e, s) => {
                 self.renumber(e)?;
-                self.renumber_stmt(s)?;
+                self.renumber_stmt(s)
             }
             StmtNode::For(first, e, step, s) => {
                 self.renumber_stmt(first)?;
                 self.optional(e)?;
                 self.renumber_stmt(step)?;
-                self.renumber_stmt(s)?;
+                self.renumber_stmt(s)
             }
-            StmtNode::Return(value) => self.optional(value)?,
+            StmtNode::Return(value) => self.optional(value),
             StmtNode::Assign(left, right) => {
                 self.renumber(left)?;
-                self.renumber(right)?;
+                self.renumber(right)
             }
             StmtNode::Update(left, _, right) => {
                 self.renumber(left)?;
-                self.renumber(right)?;
+                self.renumber(right)
             }
-            StmtNode::Eval(e) => self.renumber(e)?,
+            StmtNode::Eval(e) => self.renumber(e),
         }
-        Ok(())
     }
 
     /// Gives the locals of statements in a row their numbers.

@@ -2,7 +2,7 @@
 use Rattle.std.specs.Prelude.{ℕ, ◌+◌, false, true, if◌then◌else◌, List, [], ◌∷◌, map, Option, Some, None, slice_get}
 use Rattle.c_tree.specs.declared.typed.Local.{Local as CodeLocal}
 use Rattle.c_tree.specs.declared.typed.Stmt.{Stmt as CodeStmt}
-use Rattle.c_tree.specs.Typed.{Local, Stmt, at_stmt, declare, at, local, Stmts, more_stmts}
+use Rattle.c_tree.specs.Typed.{Ty, Local, Func, Stmt, at_stmt, declare, at, local, Stmts, more_stmts}
 use Rattle.c_tree.specs.TypedViews.{local_view, stmt_view}
 use Rattle.type_locals.specs.declared.numbering.Numbers.{Numbers}
 use Rattle.type_locals.specs.declared.locals.Further.{Further as CodeFurther}
@@ -56,3 +56,9 @@ copy_of number x = at_stmt x.1.place (declare number (Some (at x.1.place x.1.ty 
 abbrev pub followed : List CodeStmt → Stmts → Stmts
 followed [] rest = rest
 followed (s ∷ ss) rest = more_stmts (stmt_view s) (followed ss rest)
+
+-- ---- the function
+
+-- a function of so many parameters, with these locals, this type of result and this body
+abbrev pub func : ℕ → List Local → Ty → Stmts → Func
+func params locals t body = record { params = params; locals = locals; result = t; body = body }
