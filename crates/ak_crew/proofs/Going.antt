@@ -3,7 +3,8 @@ use Rattle.std.proofs.Common.{◌≡◌, ℕ, ◌||◌, Bool, true, false, cond,
 use Rattle.std.specs.Prelude.{◌⊎◌}
 use mathlib.Core.Logic.{inl, inr}
 use Rattle.turn_lock.specs.declared.lock.Pass.{Pass}
-use Rattle.turn_lock.specs.Locks.{seen_of, worker_of}
+use Rattle.turn_lock.specs.declared.lock.TurnLock.{TurnLock}
+use Rattle.turn_lock.specs.Locks.{IsPassOf, first_of, seen_of, worker_of}
 use Rattle.ak_trace.specs.declared.endings.End.{End}
 use Rattle.flat_rules.specs.Machine.{Machine}
 use Rattle.flat_rules.specs.States.{Mood, free, asked}
@@ -15,9 +16,10 @@ use Rattle.world_rules.specs.declared.calls.Acted.{Acted}
 use Rattle.world_rules.specs.declared.calls.Acted.TheVariants as acted
 use Rattle.world_rules.specs.declared.calls.Call.TheVariants as call
 use Rattle.world_rules.specs.Whole.{Whole}
-use Rattle.world_rules.specs.Allowed.{IsOut, IsOver, MovedOn, MayCall, FoundSays, ActedSays}
+use Rattle.world_rules.specs.Allowed.{IsOut, MovedOn, MayCall, FoundSays, ActedSays}
 use Rattle.world_rules.specs.Sound.{MayWork}
 use Rattle.ak_world.specs.Turns.{Finds, Acts, FoundWorks, ActedWorks}
+use Rattle.ak_crew.specs.Overs.{FoundOver}
 
 -- how a thread goes on that was asked home, or not
 abbrev pub mood_of : Bool → Mood
@@ -94,6 +96,8 @@ module _ {S K C : Type 0} (machine : K → Machine S C) (shared_of : K → S →
   pub works_first : (k : K) → k ≡ first.code → (c : C) → answer ≡ found.Work c → MayWork machine shared_of context_of k c
   works_first k code c is = subst (λ (z : K). MayWork machine shared_of context_of z c) (sym code) (subst (FoundWorks machine shared_of context_of first) is finds.works)
 
-  -- the run is over
-  pub over_seen : (end : End) → answer ≡ found.Over end → IsOver machine first (seen_of after) end
-  over_seen end is = subst (FoundSays machine first (seen_of after) (worker_of after)) is finds.says
+-- the worker found the run over
+pub over_found : {S K C Call Reply : Type 0} (machine : K → Machine S C) (shared_of : K → S → Type 0) (context_of : K → C → Type 0) (lock : TurnLock (Whole S K C) Call Reply) (before after : Pass (Whole S K C)) (answer : Found C)
+    → IsPassOf lock before → worker_of after ≡ worker_of before → Finds machine shared_of context_of (first_of lock) before after answer → (end : End) → answer ≡ found.Over end → FoundOver machine shared_of context_of lock after
+over_found machine shared_of context_of lock before after answer of_lock same finds end is =
+    record { before = before; of_lock = of_lock; same = same; end = end; finds = subst (Finds machine shared_of context_of (first_of lock) before after) is finds }

@@ -1,9 +1,8 @@
 //! The workers together.
-ghost use Rattle.std.specs.Prelude.{◌≡◌, ℕ, length, slice_get, Some};
-ghost use Rattle.ak_trace.specs.declared.endings.End.{End};
-ghost use Rattle.turn_lock.specs.Locks.{IsPassOf, AllPasses, first_of, passes_of, seen_of, worker_of};
-ghost use Rattle.world_rules.specs.Allowed.{IsOver};
+ghost use Rattle.std.specs.Prelude.{◌≡◌, length};
+ghost use Rattle.turn_lock.specs.Locks.{IsPassOf, AllPasses, first_of, passes_of, worker_of};
 ghost use Rattle.ak_world.specs.Turns.{SawOver};
+ghost use Rattle.ak_crew.specs.Overs.{FoundOver, EachFoundOver};
 
 use crate::gate::Gate;
 use crate::working::work;
@@ -32,6 +31,7 @@ pub fn run<
     requires code { code.now ≡ (first_of world.now.lock).code }
     requires all { (length passes.old ≡ passes_of world.now.lock) × AllPasses world.now.lock passes.old }
     ensures all { (length passes.new ≡ length passes.old) × AllPasses world.now.lock passes.new }
+    ensures each { EachFoundOver F.machine F.shared_of F.context_of world.now.lock passes.new }
     ensures over { SawOver F.machine F.shared_of F.context_of (first_of world.now.lock) passes.new }
 {
     let workers = passes.len();
@@ -41,7 +41,7 @@ pub fn run<
         workers,
         &|_number: usize, pass: &mut Pass<World<F, Code, Context>>|
             requires { (code.now ≡ (first_of world.now.lock).code) × IsPassOf world.now.lock pass.now }
-            ensures { IsPassOf world.entry.now.lock pass.exit.now × (worker_of pass.exit.now ≡ worker_of pass.entry.now) × ((end : End) × IsOver F.machine (first_of world.entry.now.lock) (seen_of pass.exit.now) end) }
+            ensures { IsPassOf world.entry.now.lock pass.exit.now × (worker_of pass.exit.now ≡ worker_of pass.entry.now) × FoundOver F.machine F.shared_of F.context_of world.entry.now.lock pass.exit.now }
         { work(rt, code, world, pass, gate) },
     );
 }

@@ -1,8 +1,7 @@
 //! What a worker does.
 ghost use Rattle.std.specs.Prelude.{◌≡◌};
-ghost use Rattle.ak_trace.specs.declared.endings.End.{End};
-ghost use Rattle.turn_lock.specs.Locks.{IsPassOf, first_of, seen_of, worker_of};
-ghost use Rattle.world_rules.specs.Allowed.{IsOver};
+ghost use Rattle.turn_lock.specs.Locks.{IsPassOf, first_of, worker_of};
+ghost use Rattle.ak_crew.specs.Overs.{FoundOver};
 
 use crate::carrying::carry;
 use crate::gate::{Gate, Point};
@@ -23,7 +22,7 @@ pub(crate) fn work<F: Flat<Code, Context> + Drop, Code: Drop, Context: Drop, R: 
     requires code { code.now ≡ (first_of world.now.lock).code }
     requires pass { IsPassOf world.now.lock pass.old }
     ensures pass { IsPassOf world.now.lock pass.new × (worker_of pass.new ≡ worker_of pass.old) }
-    ensures over { (end : End) × IsOver F.machine (first_of world.now.lock) (seen_of pass.new) end }
+    ensures over { FoundOver F.machine F.shared_of F.context_of world.now.lock pass.new }
 {
     let worker = pass.worker();
     let backoff = Backoff::new();

@@ -20,3 +20,4 @@ pub mod Rooms
 pub mod Nulls
 pub mod ServedNulls
 pub mod ToldNulls
+pub mod Limits

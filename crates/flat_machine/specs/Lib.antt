@@ -9,6 +9,7 @@ pub mod Sweeping
 pub mod Reports
 pub mod Machine
 pub mod Replays
+pub mod Limits
 pub mod Nulls
 pub mod Laws
 pub mod inner

@@ -1,6 +1,7 @@
 //! Laws of the machine's calls, as contracts of functions that do nothing.
 
 ghost use Rattle.flat_machine.specs.Laws.{ActIsItsEvent, BarrierIsItsEvent, ChoicesAreLeast, MachineIsFlat};
+ghost use Rattle.flat_machine.specs.Limits.{JournalsFit};
 ghost use Rattle.flat_machine.specs.Nulls.{NullAtAct, NullAtBarrier};
 ghost use Rattle.flat_machine.specs.Readiness.{WaitsAreTold};
 
@@ -30,4 +31,9 @@ pub fn machine_is_flat()
 pub fn nulls_have_their_cause()
     ensures act { NullAtAct }
     ensures barrier { NullAtBarrier }
+{}
+
+/// No journal that replays has more entries than the settings allow.
+pub fn journals_are_within_their_limit()
+    ensures { JournalsFit }
 {}

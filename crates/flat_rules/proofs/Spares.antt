@@ -11,10 +11,10 @@ use Rattle.ak_trace.specs.declared.endings.End.TheVariants.{TurnLimit}
 use Rattle.flat_rules.specs.Rules.{Rules}
 use Rattle.flat_rules.specs.Machine.{Machine, Acted}
 use Rattle.flat_rules.specs.Entries.{served_entry, barrier_entry}
-use Rattle.flat_rules.specs.States.{State, Place, Mood, free, asked, at_home, homes_of, start, or_else, waits_for_room}
+use Rattle.flat_rules.specs.States.{State, Place, Mood, free, asked, at_home, homes_of, start, or_else, waits_for_room, kept_free}
 use Rattle.flat_rules.specs.Events.{Event, Goes, on, back, away, goes, turn_event, turned_by, places_after}
-use Rattle.flat_rules.specs.Replays.{step, run, replay, settled}
-use Rattle.flat_rules.specs.Laws.{ServesFew, SpareIsLeft, TurnLimitAt65}
+use Rattle.flat_rules.specs.Replays.{event_at, step, run, replay, settled}
+use Rattle.flat_rules.specs.Laws.{ServesFew, SpareIsLeft, EventsFit, JournalsFit, TurnLimitAt65}
 use Rattle.flat_rules.specs.inner.Cases.{Cases, Holds, event_holds, same_number}
 use Rattle.flat_rules.specs.inner.Steps.{IsNext, IsFirst, step_cases, run_keeps, same_kind}
 
@@ -109,12 +109,23 @@ module _ {S C : Type 0} (m : Machine S C) (settings : Rules) (few : ServesFew m)
   run_counts : (shared : S) (log : List Entry) (s : State S C) → run m settings log (start m settings shared) ≡ Some s → Counts log s
   run_counts shared log s is = run_keeps m settings Counts counts [] log (start m settings shared) s (begins_counting shared) is
 
+  event_fits : (log : List Entry) (s : State S C) (k w t : ℕ) (v : Event S C) → Counts log s → event_at m settings s k w t ≡ Some v → length v.entries ≤ kept_free
+  event_fits log s k w t v c event =
+      let h : Modest s v = subst (Holds m settings s w (Modest s)) event (event_holds m settings s w (Modest s) (modest s w) k t) in
+      let a = h.entries in let b = c.places in omega arith
+
   replay_counts : (shared : S) (log : List Entry) (s : State S C) → replay m settings shared log ≡ Some s → Counts log s × (length s.due ≡ 0)
   replay_counts shared log s is = option_and_then_some (settled m settings) (run m settings log (start m settings shared)) s is (λ x ran done. let r = settled_run x s done in let e = r.0 in let d = r.1 in
       (subst (Counts log) e (run_counts shared log x ran), subst (λ (z : State S C). length z.due ≡ 0) e d))
 
 pub spare_is_left : (S C : Type 0) → SpareIsLeft S C
 spare_is_left S C m settings shared log s few is = let r = replay_counts m settings few shared log s is in let a = r.0.all in let b = r.1 in omega arith
+
+pub events_fit : (S C : Type 0) → EventsFit S C
+events_fit S C m settings shared log s kind worker thread v few ran event = event_fits m settings few log s kind worker thread v (run_counts m settings few shared log s ran) event
+
+pub journals_fit : (S C : Type 0) → JournalsFit S C
+journals_fit S C m settings shared log s few ran = let a = (run_counts m settings few shared log s ran).all in omega arith
 
 pub turn_limit_at_65 : (S C : Type 0) → TurnLimitAt65 S C
 turn_limit_at_65 S C m settings shared log s few big none is low = let r = replay_counts m settings few shared log s is in let a = r.0.all in let b = r.1 in let h = r.0.high big none in omega arith

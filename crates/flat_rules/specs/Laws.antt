@@ -1,11 +1,12 @@
 -- Laws of the rules.
-use Rattle.std.specs.Prelude.{◌≡◌, ◌+◌, ◌==◌, ◌<◌, ◌≤◌, true, List, [], ◌∷◌, length, count_by, Option, Some}
+use Rattle.std.specs.Prelude.{◌≡◌, ℕ, ◌+◌, ◌==◌, ◌<◌, ◌≤◌, true, List, [], ◌∷◌, length, count_by, Option, Some}
 use Rattle.ak_trace.specs.declared.entry.Entry.{Entry}
 use Rattle.ak_trace.specs.Kinds as kind
 use Rattle.flat_rules.specs.Rules.{Rules}
 use Rattle.flat_rules.specs.Machine.{Machine}
-use Rattle.flat_rules.specs.States.{State, none_out, kept_free}
-use Rattle.flat_rules.specs.Replays.{run, replay}
+use Rattle.flat_rules.specs.States.{State, none_out, start, kept_free}
+use Rattle.flat_rules.specs.Events.{Event}
+use Rattle.flat_rules.specs.Replays.{event_at, run, replay}
 
 -- a barrier serves at most those at home
 abbrev pub ServesFew : {S C : Type 0} → Machine S C → Type 0
@@ -15,6 +16,15 @@ module _ (S C : Type 0) where
   -- the spare is the journal's limit less its entries
   abbrev pub SpareIsLeft : Type 0
   SpareIsLeft = (m : Machine S C) (settings : Rules) (shared : S) (log : List Entry) (s : State S C) → ServesFew m → replay m settings shared log ≡ Some s → s.spare + length log ≡ settings.entries
+
+  -- in each state of a run, one event has no more entries than are kept free for it
+  abbrev pub EventsFit : Type 0
+  EventsFit = (m : Machine S C) (settings : Rules) (shared : S) (log : List Entry) (s : State S C) (kind worker thread : ℕ) (v : Event S C)
+      → ServesFew m → run m settings log (start m settings shared) ≡ Some s → event_at m settings s kind worker thread ≡ Some v → length v.entries ≤ kept_free
+
+  -- no journal is longer than its limit, within an event too
+  abbrev pub JournalsFit : Type 0
+  JournalsFit = (m : Machine S C) (settings : Rules) (shared : S) (log : List Entry) (s : State S C) → ServesFew m → run m settings log (start m settings shared) ≡ Some s → length log ≤ settings.entries
 
   -- a run without a barrier meets TurnLimit with just 65 entries left
   abbrev pub TurnLimitAt65 : Type 0

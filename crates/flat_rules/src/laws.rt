@@ -1,7 +1,7 @@
 //! Laws of the rules, and journals worked by hand.
 ghost use Rattle.std.specs.Prelude.{◌≡◌, [], ◌∷◌, ◌++◌, replicate, Some, None, pos, drop, take};
 ghost use Rattle.ak_trace.specs.declared.endings.End.TheVariants.{Done, AllBlocked, TurnLimit};
-ghost use Rattle.flat_rules.specs.Laws.{SpareIsLeft, TurnLimitAt65, BarriersAlone};
+ghost use Rattle.flat_rules.specs.Laws.{SpareIsLeft, EventsFit, JournalsFit, TurnLimitAt65, BarriersAlone};
 ghost use Rattle.flat_rules.specs.Draws.{draws, seeded};
 ghost use Rattle.flat_rules.specs.Toys.{safe, spin, store, lock, alloc, stop, start};
 ghost use Rattle.flat_rules.specs.Rows.{told, ends_as, done_journal, blocked_journal, spin_journal, every_journal, room_journal, schedule_journal, start_and_join, pick_journal, asked_journal};
@@ -58,6 +58,16 @@ pub fn a_draw_that_asks()
 /// A law: the spare that the replay counts is the journal's limit less its entries.
 pub fn spare_is_what_is_left<S, C>()
     ensures { SpareIsLeft S C }
+{}
+
+/// A law: one event adds at most 66 entries.
+pub fn one_event_adds_few_entries<S, C>()
+    ensures { EventsFit S C }
+{}
+
+/// A law: no journal is longer than its limit.
+pub fn journals_are_within_their_limit<S, C>()
+    ensures { JournalsFit S C }
 {}
 
 /// A law: a run without a barrier meets TurnLimit with just 65 entries left, as with 935 entries of 1,000.
