@@ -14,7 +14,7 @@ use Rattle.lower_turns.specs.Turns.{KeepsEveryTurn}
 use Rattle.ak_trace.specs.declared.endings.End.{End}
 use Rattle.flat_rules.specs.declared.settings.Settings.{Settings}
 use Rattle.flat_machine.specs.Replays.{Final, final_of}
-use Rattle.flat_replay.specs.Accesses.{AccessesStay}
+use Rattle.flat_replay.specs.Accesses.{AccessesKeep}
 use Rattle.flat_replay.specs.Barriers.{BarriersKeep}
 use Rattle.flat_replay.specs.Meaning.{whole_run, IsClean, IsFirstBreak, IsAsMeant, IsUpToABreak}
 use Rattle.run_words.specs.Wanted.{settings_of, wanted_of}
@@ -75,8 +75,8 @@ pub record OfATree (typed : Typed) (checked : Ir) (code : LinearCode) (settings 
   pub what_the_text_means : IsClean (program typed) (start typed) depth log final.end → IsAsMeant (program typed) (start typed) depth log settings final
   -- where the first rule is broken after so many turns, the output of the tree's run of these is what was printed first
   pub up_to_the_first_rule : (turns : ℕ) → IsFirstBreak (program typed) (start typed) depth log final.end turns → IsUpToABreak (program typed) (start typed) depth log turns final
-  -- up to there each byte that a step reads or writes is of a block, at an offset, that the source's turn reaches
-  pub no_access_leaves_its_object : AccessesStay checked code settings log
+  -- up to there, entry by entry, each byte that a step reads or writes is of a block, at an offset, that the source's turn reaches
+  pub no_access_leaves_its_object : AccessesKeep checked code settings log
 
 -- what is said of a run
 pub record OfARun (checked : Ir) (code : LinearCode) (settings : Settings) (log : List Entry) : Type 0 where

@@ -1,4 +1,4 @@
--- What an action of valid code does: it fits, the sub-heaps keep their shape, and only what isn't left waiting ends the run.
+-- What an action of valid code does: it fits, the sub-heaps keep their shape, and only what isn't left waiting ends the run; and only a malloc is given an id.
 use Rattle.std.proofs.Common.{◌≡◌, ℕ, ◌+◌, ◌==◌, Bool, true, false, cond, List, [], ◌∷◌, length, map, Option, Some, None, refl, ◌∙◌, arith}
 use Rattle.std.specs.Prelude.{nat_lt, slice_get}
 use Rattle.std.proofs.lemmas.List.{length-map}
@@ -17,6 +17,7 @@ use Rattle.flat_meaning.specs.Actions.{acted, is_free, joined_at, joined_if, joi
 use Rattle.flat_meaning.specs.Image.{Layout}
 use Rattle.flat_meaning.specs.Memory.{Made, Memory, beginning, with_thread, written}
 use Rattle.flat_meaning.specs.Printing.{Read, read_parts, reads, outside, too_long}
+use Rattle.flat_meaning.specs.Start.{chosen_id}
 use Rattle.flat_meaning.specs.Words.{Target, Words, word_at}
 use Rattle.flat_machine.specs.Choices.{action_choice, got_or, least_free, lowest_fit, malloc_choice, room_or, served_choice}
 
@@ -32,16 +33,21 @@ same_heaps m = record { count = refl; size = refl; most = refl }
 pub more_heaps : (m n o : Memory) → SameHeaps m n → SameHeaps n o → SameHeaps m o
 more_heaps m n o h k = record { count = k.count ∙ h.count; size = k.size ∙ h.size; most = k.most ∙ h.most }
 
--- what is done keeps it, and nothing ends the run that was left waiting
+-- what is done keeps it, what waits was given no id, and what ends the run was given no choice
 abbrev pub Sound : Choice → Memory → Done → Type 0
 Sound c m (went word after) = SameHeaps m after
-Sound c m waits = Unit {0}
+Sound c m waits = chosen_id c ≡ []
 Sound c m unfit = ⊥
-Sound c m (over f) = c ≡ wait → ⊥
+Sound c m (over f) = c ≡ plain
+
+-- an action that is no malloc is given no id
+abbrev pub GivesNone : Choice → Action → Type 0
+GivesNone c malloc = Unit {0}
+GivesNone c action = chosen_id c ≡ []
 
 module _ (m : Memory) where
-  never : plain ≡ wait → ⊥
-  never e = cc
+  never : plain ≡ plain
+  never = refl
 
   either : (b : Bool) (d e : Done) → Sound plain m d → Sound plain m e → Sound plain m (cond b d e)
   either true d e h k = h
@@ -72,7 +78,7 @@ module _ (m : Memory) where
   joined_with_sound to word = either (to.pointer == 0) _ _ (record { count = refl; size = refl; most = refl }) (writes_sound kinds.Join (first_outside m.storage.bytes to.address 4) (Some 0) to.address (low_bytes 4 word))
 
   joined_at_sound : (to : Target) (o : Option ℕ) → Sound plain m (joined_at to o m)
-  joined_at_sound to None = tt
+  joined_at_sound to None = refl
   joined_at_sound to (Some word) = joined_with_sound to word
 
   joined_sound : (to : Target) (o : Option Made) → Sound plain m (joined_if to o m)
@@ -83,7 +89,7 @@ module _ (m : Memory) where
   allocated_sound plain size goes = absurd (goes refl)
   allocated_sound (got id place) size goes = record { count = refl; size = refl; most = refl }
   allocated_sound null size goes = record { count = refl; size = refl; most = refl }
-  allocated_sound wait size goes = tt
+  allocated_sound wait size goes = refl
 
   module _ (y : Layout) (n : ℕ) where
     load_sound : (how : Access) (ps : List Target) (ws : List ℕ) → length ps ≡ 1 → length ws ≡ 0 → Sound plain m (acted y n plain (load how) ps ws m)
@@ -117,7 +123,7 @@ module _ (m : Memory) where
     lock_sound [] ws e f = absurd (omega (arith, e))
     lock_sound (a ∷ []) [] e f =
         let d = went None (written m a.address (low_bytes 8 (n + 1))) in
-        within_sound kinds.Lock (first_outside m.storage.bytes a.address 8) (cond (is_free m a.address) d waits) (either (is_free m a.address) d waits (record { count = refl; size = refl; most = refl }) tt)
+        within_sound kinds.Lock (first_outside m.storage.bytes a.address 8) (cond (is_free m a.address) d waits) (either (is_free m a.address) d waits (record { count = refl; size = refl; most = refl }) refl)
     lock_sound (a ∷ []) (w ∷ ws) e f = absurd (omega (arith, f))
     lock_sound (a ∷ b ∷ ps) ws e f = absurd (omega (arith, e))
 
@@ -169,6 +175,21 @@ module _ (m : Memory) where
       action_sound destroy ps ts e f = destroy_sound ps (map (word_at l) ts) e (words ts 0 f)
       action_sound (start function) ps ts e f = start_sound function ps (map (word_at l) ts) e (words ts 1 f)
       action_sound join ps ts e f = join_sound ps (map (word_at l) ts) e (words ts 1 f)
+
+-- ---- only a malloc is given an id
+
+pub gives_none : (rule : (size : ℕ) → Choice) (l : Words) (a : Action) (ts : List ℕ) → GivesNone (action_choice rule l a ts) a
+gives_none rule l (load how) ts = refl
+gives_none rule l (store how) ts = refl
+gives_none rule l (copy_bytes align same) ts = refl
+gives_none rule l malloc ts = tt
+gives_none rule l free ts = refl
+gives_none rule l (print pieces) ts = refl
+gives_none rule l lock ts = refl
+gives_none rule l unlock ts = refl
+gives_none rule l destroy ts = refl
+gives_none rule l (start function) ts = refl
+gives_none rule l join ts = refl
 
 -- ---- the rules for mallocs choose something
 

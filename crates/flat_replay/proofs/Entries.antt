@@ -1,4 +1,4 @@
--- What entries tell: the turns that were made, and those that were tried.
+-- What entries tell: the turns that were made, those that were tried, and the ids that were handed out.
 use Rattle.std.proofs.Common.{◌≡◌, ℕ, zero, suc, ◌+◌, ◌==◌, ◌&&◌, true, List, [], ◌∷◌, ◌++◌, length, map, replicate, refl, sym, ap, ◌∙◌, arith, append_assoc}
 use Rattle.std.proofs.lemmas.Bool.{and_parts}
 use Rattle.std.proofs.lemmas.Grind.{flat_map-append}
@@ -14,12 +14,14 @@ use Rattle.flat_meaning.specs.Accesses.{Choice, plain, null, wait}
 use Rattle.flat_meaning.specs.Events.{Serve}
 use Rattle.flat_meaning.specs.Journals.{journal_picks, told}
 use Rattle.flat_meaning.specs.Order.{choice_answer, pick}
+use Rattle.flat_meaning.specs.Start.{chosen_id, served_ids}
 use Rattle.flat_rules.specs.Entries.{how_of, served_entry, served_with, turn_entry}
 use Rattle.flat_rules.specs.Machine.{Turned, looked, stepped, got, got_null, made_thread, refused_thread, found_busy, wants_room, rested, ended, trapped, passed_limit, lacked_stack}
 use Rattle.flat_rules.specs.Replays.{same_entry}
 use Rattle.flat_rules.specs.inner.Cases.{same_number}
 use Rattle.flat_machine.specs.Sweeping.{object_got, served_of}
 use Rattle.flat_replay.specs.Attempts.{attempts_at, attempts_from}
+use Rattle.flat_replay.specs.Ids.{entry_ids, ids_told}
 
 -- entries with the same fields
 pub same_is : (a b : Entry) → same_entry a b ≡ true → a ≡ b
@@ -61,6 +63,9 @@ attempts-append (e ∷ log) es turns =
     ap (λ (as' : List (ℕ × ℕ)). attempts_at turns e ++ as') (attempts-append log es mid ∙ ap (λ (n : ℕ). attempts_from mid log ++ attempts_from n es) same)
     ∙ sym (append_assoc (attempts_at turns e) (attempts_from mid log) (attempts_from (turns + length (turns_of e ++ order log)) es))
 
+pub ids-append : (log es : List Entry) → ids_told (log ++ es) ≡ ids_told log ++ ids_told es
+ids-append log es = flat_map-append entry_ids log es
+
 -- ---- a turn
 
 -- the turn that its step makes
@@ -78,6 +83,11 @@ turned_picks t (ended value) = pick t answers.Plain ∷ []
 turned_picks t (trapped word kind) = []
 turned_picks t passed_limit = []
 turned_picks t lacked_stack = []
+
+-- the id that it hands out
+abbrev pub turned_ids : Turned → List ℕ
+turned_ids (got id place) = id ∷ []
+turned_ids turned = []
 
 -- and that which it tries
 abbrev pub turned_tries : (thread : ℕ) → Turned → (position : ℕ) → List (ℕ × ℕ)
@@ -129,7 +139,32 @@ turn_attempts w t local (trapped word kind) turns = refl
 turn_attempts w t local passed_limit turns = refl
 turn_attempts w t local lacked_stack turns = refl
 
+pub turn_ids : (w t local : ℕ) (turned : Turned) → ids_told (turn_entry w t local turned ∷ []) ≡ turned_ids turned
+turn_ids w t local looked = refl
+turn_ids w t local stepped = refl
+turn_ids w t local (got id place) = refl
+turn_ids w t local got_null = refl
+turn_ids w t local (made_thread number) = refl
+turn_ids w t local refused_thread = refl
+turn_ids w t local found_busy = refl
+turn_ids w t local wants_room = refl
+turn_ids w t local rested = refl
+turn_ids w t local (ended value) = refl
+turn_ids w t local (trapped word kind) = refl
+turn_ids w t local passed_limit = refl
+turn_ids w t local lacked_stack = refl
+
 -- ---- a barrier
+
+serve_entry_ids : (w thread : ℕ) (c : Choice) → entry_ids (served_with w thread (object_got c)) ≡ chosen_id c
+serve_entry_ids w thread plain = refl
+serve_entry_ids w thread (chosen.got id place) = refl
+serve_entry_ids w thread null = refl
+serve_entry_ids w thread wait = refl
+
+pub serves_ids : (w : ℕ) (vs : List Serve) → ids_told (map (served_entry w) (map served_of vs)) ≡ served_ids vs
+serves_ids w [] = refl
+serves_ids w (v ∷ vs) = λ i. serve_entry_ids w v.thread v.choice i ++ serves_ids w vs i
 
 serve_entry_picks : (w thread : ℕ) (c : Choice) (es : List Entry) → journal_picks (served_with w thread (object_got c) ∷ es) ≡ pick thread (choice_answer c) ∷ journal_picks es
 serve_entry_picks w thread plain es = refl

@@ -14,12 +14,15 @@ use Rattle.flat_meaning.specs.Journals.{journal_picks}
 use Rattle.flat_meaning.specs.Local.{Came, goes_for}
 use Rattle.flat_meaning.specs.Memory.{Made}
 use Rattle.flat_meaning.specs.Order.{picks_of_serves}
+use Rattle.flat_meaning.specs.Simulation.{IsLoadable}
 use Rattle.flat_meaning.specs.Stages.{Stage}
+use Rattle.flat_meaning.specs.Start.{served_ids}
 use Rattle.flat_rules.specs.Entries.{home_entry, out_entry}
 use Rattle.flat_rules.specs.Events.{Event, barrier_event, most_local, turn_event}
-use Rattle.flat_rules.specs.Lawful.{Sweeps}
+use Rattle.flat_rules.specs.Lawful.{Lives, Sweeps}
 use Rattle.flat_rules.specs.Machine.{Machine}
 use Rattle.flat_rules.specs.Replays.{run, settled, step}
+use Rattle.flat_rules.specs.declared.settings.Settings.{Settings}
 use Rattle.flat_rules.specs.Rules.{Rules, rules_of}
 use Rattle.flat_rules.specs.States.{Place, unbegun, home, out, State, Mood, free, asked, must, homes_of, is_out, place_at, start}
 use Rattle.flat_rules.specs.inner.Cases.{Cases, Holds, event_holds, same_number}
@@ -43,12 +46,13 @@ use Rattle.flat_machine.specs.lemmas.MachineIsFlat.{machine_is_flat}
 use Rattle.flat_machine.proofs.Slid.{plan_keeps}
 use Rattle.flat_simulation.proofs.Loaded.{first_consistent}
 use Rattle.flat_replay.specs.Attempts.{attempts_from}
+use Rattle.flat_replay.specs.Ids.{ids_told}
 use Rattle.flat_replay.specs.Journals.{IsOfEvents, context_in}
 use Rattle.flat_replay.specs.Laws.{AJournalIsOfEvents}
 use Rattle.flat_replay.proofs.Barriers.{opened}
 use Rattle.flat_replay.proofs.Consistent.{Good, all_good, barrier_here, good_keeps}
 use Rattle.flat_replay.proofs.Doings.{SameHeaps, more_heaps}
-use Rattle.flat_replay.proofs.Entries.{same_is, serves_attempts, serves_picks}
+use Rattle.flat_replay.proofs.Entries.{same_is, serves_attempts, serves_ids, serves_picks}
 use Rattle.flat_replay.proofs.LocalTurns.{GoesAlone, goes_alone_to}
 use Rattle.flat_replay.proofs.Segments.{Comes, none_come}
 use Rattle.flat_threads.proofs.Settings.{local_ignores_settings}
@@ -61,7 +65,7 @@ module _ (code : LinearCode) (rules : Rules) where
   m = machine_of code
 
   module _ (program : IsProgram code) (x : State Shared Context) (good : Good code rules x) (going : x.ending ≡ None) (w : ℕ) where
-    sits : Sit m (IsContextOf code) x.shared None x.places
+    pub sits : Sit m (IsContextOf code) x.shared None x.places
     sits = subst (λ (e : Option End). Sit m (IsContextOf code) x.shared e x.places) going good.held.each
 
     abbrev ts : List Made
@@ -69,15 +73,17 @@ module _ (code : LinearCode) (rules : Rules) where
 
     -- ---- a thread goes out, or comes home
 
-    still : (t : ℕ) (q : Place Context) (last draw : ℕ) (es : List Entry) → [] ≡ journal_picks es → ((turns : ℕ) → [] ≡ attempts_from turns es)
+    still : (t : ℕ) (q : Place Context) (last draw : ℕ) (es : List Entry) → [] ≡ journal_picks es → ((turns : ℕ) → [] ≡ attempts_from turns es) → [] ≡ ids_told es
         → ((t2 : Made) → slice_get x.shared.memory.threads t ≡ Some t2 → stage_home t2 (context_in q) ≡ stage_home t2 (context_in (place_at x.places t))) → Goes_on code x (record x { places = set x.places t q; last = last; x = draw }) es
-    still t q last draw es picks tries same_stage = record {
+    still t q last draw es picks tries ids same_stage = record {
       state = standing_in x;
       picks = [];
       tries = λ turns. [];
+      given = [];
       comes = none_come (image_of code x.shared) (standing_in x);
       order = picks;
       attempts = tries;
+      ids = ids;
       stands = record {
         memory = refl;
         ending = sym going;
@@ -92,15 +98,15 @@ module _ (code : LinearCode) (rules : Rules) where
     begins t c at last draw =
         let h : SitsAt m (IsContextOf code) x.shared None t (unbegun c) = subst (SitsAt m (IsContextOf code) x.shared None t) at (sits t) in
         let blank : c.stage ≡ None = blank_stage code c.stage c.stop h.0.progress in
-        still t _ last draw (out_entry w t ∷ []) refl (λ turns. refl) (λ t2 is.
+        still t _ last draw (out_entry w t ∷ []) refl (λ turns. refl) refl (λ t2 is.
         ap (λ (o : Option Made). stage_or t2 (stage_of_made o)) (ap (slice_get x.shared.memory.threads) h.0.thread ∙ is)
         ∙ sym (ap (stage_home t2) (ap context_in at) ∙ ap (stage_or t2) blank))
 
     leaves : (t : ℕ) (c : Context) → place_at x.places t ≡ home c → (last draw : ℕ) → Goes_on code x (record x { places = set x.places t (out w c 0 free); last = last; x = draw }) (out_entry w t ∷ [])
-    leaves t c at last draw = still t _ last draw (out_entry w t ∷ []) refl (λ turns. refl) (λ t2 is. sym (ap (stage_home t2) (ap context_in at)))
+    leaves t c at last draw = still t _ last draw (out_entry w t ∷ []) refl (λ turns. refl) refl (λ t2 is. sym (ap (stage_home t2) (ap context_in at)))
 
     comes : (t n : ℕ) (c : Context) → place_at x.places t ≡ out w c n must → Goes_on code x (record x { places = set x.places t (home c) }) (home_entry w t ∷ [])
-    comes t n c at = still t (home c) x.last x.x (home_entry w t ∷ []) refl (λ turns. refl) (λ t2 is. sym (ap (stage_home t2) (ap context_in at)))
+    comes t n c at = still t (home c) x.last x.x (home_entry w t ∷ []) refl (λ turns. refl) refl (λ t2 is. sym (ap (stage_home t2) (ap context_in at)))
 
     -- ---- a turn
 
@@ -124,19 +130,39 @@ module _ (code : LinearCode) (rules : Rules) where
           came
           (local_ignores_settings code x.shared.output_limit h.count h.size h.most c.number k stage ∙ e)
 
-    turned : (t n k : ℕ) (mood : Mood) (c : Context) → place_at x.places t ≡ out w c n mood → (k ≡ 0) ⊎ (k ≡ most_local) → Turns t n mood (gone_on code k c)
-    turned t n k mood c at bound = by (came_from code k c.number c.stage) refl (moved m (IsSharedOf code) (IsContextOf code) rules (machine_is_flat code) x good.held going w t n k c mood at bound) where
+    -- where a thread that is out goes to alone, and stops
+    pub record GoesTo (t n k : ℕ) (mood : Mood) (c : Context) : Type 0 where
+      pub came : Came Spot
+      pub is : came_from code k c.number c.stage ≡ Some came
+      pub number : c.number ≡ t
+      pub there : place_at x.places c.number ≡ out w c n mood
+      pub lives : Lives m (IsSharedOf code) (IsContextOf code) x.shared (stopped_at c (Some came))
+      pub goes : GoesAlone (image_of code x.shared) c.number k (standing_in x) 0 came
+
+    pub goes_to : (t n k : ℕ) (mood : Mood) (c : Context) → place_at x.places t ≡ out w c n mood → (k ≡ 0) ⊎ (k ≡ most_local) → GoesTo t n k mood c
+    goes_to t n k mood c at bound = by (came_from code k c.number c.stage) refl (moved m (IsSharedOf code) (IsContextOf code) rules (machine_is_flat code) x good.held going w t n k c mood at bound) where
       out_there : SitsAt m (IsContextOf code) x.shared None t (out w c n mood)
       out_there = subst (SitsAt m (IsContextOf code) x.shared None t) at (sits t)
 
-      by : (o : Option (Came Spot)) → came_from code k c.number c.stage ≡ o → Moved m (IsContextOf code) t (stopped_at c o) → Turns t n mood (stopped_at c o)
+      by : (o : Option (Came Spot)) → came_from code k c.number c.stage ≡ o → Moved m (IsContextOf code) t (stopped_at c o) → GoesTo t n k mood c
       by None e mv = absurd (let bad = sym out_there.0.progress ∙ mv.progress in cc)
       by (Some came) e mv =
           let there : place_at x.places c.number ≡ out w c n mood = ap (place_at x.places) mv.thread ∙ at in
-          let made : c.number < length x.shared.memory.threads = omega (arith, out_there.2, mv.thread) in
-          let l = lives m (IsContextOf code) (IsSharedOf code) (machine_is_flat code) x.shared x.places good.held.of_ good.held.few sits w n c (stopped_at c (Some came)) mood there mv.of_ mv.progress in
-          subst (λ (z : ℕ). Turns z n mood (stopped_at c (Some came))) mv.thread
-          (turn_told code program rules x going good.held.few good.held.places sits c.number came.turns came.stage came.stop c.wait w n c mood there l k (alone n k c mood there made came e))
+          record {
+            came = came;
+            is = e;
+            number = mv.thread;
+            there = there;
+            lives = lives m (IsContextOf code) (IsSharedOf code) (machine_is_flat code) x.shared x.places good.held.of_ good.held.few sits w n c (stopped_at c (Some came)) mood there mv.of_ mv.progress;
+            goes = alone n k c mood there (omega (arith, out_there.2, mv.thread)) came e;
+          }
+
+    turned : (t n k : ℕ) (mood : Mood) (c : Context) → place_at x.places t ≡ out w c n mood → (k ≡ 0) ⊎ (k ≡ most_local) → Turns t n mood (gone_on code k c)
+    turned t n k mood c at bound =
+        let g = goes_to t n k mood c at bound in
+        subst (λ (z : ℕ). Turns z n mood (gone_on code k c)) g.number
+        (subst (λ (o : Option (Came Spot)). Turns c.number n mood (stopped_at c o)) (sym g.is)
+        (turn_told code program rules x going good.held.few good.held.places sits c.number g.came.turns g.came.stage g.came.stop c.wait w n c mood g.there g.lives k g.goes))
 
     -- ---- a barrier
 
@@ -177,10 +203,12 @@ module _ (code : LinearCode) (rules : Rules) where
             state = at_home b.shared b.homes;
             picks = map serve_pick serves;
             tries = λ turns. [];
-            comes = subst (λ (z : events.State Spot). Comes (image_of code x.shared) z (at_home b.shared b.homes) (map serve_pick serves) (λ turns. [])) here_is
-                (record { events = barrier_of (image_of code x.shared) here ∷ []; allowed = the_barrier.allowed; after = sym the_barrier.after; order = append-nil _ ∙ served.0; attempts = λ turns. refl });
+            given = served_ids serves;
+            comes = subst (λ (z : events.State Spot). Comes (image_of code x.shared) z (at_home b.shared b.homes) (map serve_pick serves) (λ turns. []) (served_ids serves)) here_is
+                (record { events = barrier_of (image_of code x.shared) here ∷ []; allowed = the_barrier.allowed; after = sym the_barrier.after; order = append-nil _ ∙ served.0; attempts = λ turns. refl; ids = append-nil _ });
             order = sym (serves_picks w serves);
             attempts = λ turns. sym (serves_attempts w serves (turns + 0));
+            ids = sym (serves_ids w serves);
             stands = record { memory = refl; ending = sym going; stages = λ none. ap (stages_home b.shared.memory.threads) (sym (all_after code x.places b.homes swept.kept quiet)) };
             same = same_limits x.shared.output_limit x.shared.memory b.shared.memory (more_heaps x.shared.memory slid.memory b.shared.memory (record { count = kept.0; size = kept.1; most = kept.2 }) served.1);
           }
@@ -243,16 +271,12 @@ is_settled code rules x y is = by (length x.due == 0) refl is where
   by true e is = let same : x ≡ y = cc in (same, sym (ap (λ (z : State Shared Context). z.due) same) ∙ none x.due (same_number (length x.due) 0 e))
   by false e is = absurd cc
 
-pub a_journal_is_of_events : AJournalIsOfEvents
-a_journal_is_of_events code s program loadable log x replays =
-    option_and_then_some (settled (machine_of code) (rules_of s)) (run (machine_of code) (rules_of s) log first) x replays (λ z ran is.
-    let end_ = is_settled code (rules_of s) z x is in
-    let h : Holding code (rules_of s) program (settings_limits s) log z = run_keeps (machine_of code) (rules_of s) (Holding code (rules_of s) program (settings_limits s)) (keeps code (rules_of s) program (settings_limits s)) [] log first z at_start ran in
-    of_events x end_.1 (subst (Holding code (rules_of s) program (settings_limits s) log) end_.0 h))
+-- a run of entries holds
+pub holding : (code : LinearCode) (s : Settings) (program : IsProgram code) → IsLoadable (linear_image code (settings_limits s)).layout → (log : List Entry) (x : State Shared Context)
+    → run (machine_of code) (rules_of s) log (start (machine_of code) (rules_of s) (first_shared code (settings_limits s))) ≡ Some x → Holding code (rules_of s) program (settings_limits s) log x
+holding code s program loadable log x ran =
+    run_keeps (machine_of code) (rules_of s) (Holding code (rules_of s) program (settings_limits s)) (keeps code (rules_of s) program (settings_limits s)) [] log (start (machine_of code) (rules_of s) (first_shared code (settings_limits s))) x at_start ran
   where
-    first : State Shared Context
-    first = start (machine_of code) (rules_of s) (first_shared code (settings_limits s))
-
     at_start : Holding code (rules_of s) program (settings_limits s) [] (start (machine_of code) (rules_of s) (first_shared code (settings_limits s)))
     at_start = record {
       good = all_good code (rules_of s) (first_shared code (settings_limits s)) (opened code s program loadable) (first_consistent (linear_image code (settings_limits s)).layout loadable) [] (start (machine_of code) (rules_of s) (first_shared code (settings_limits s))) refl;
@@ -264,9 +288,19 @@ a_journal_is_of_events code s program loadable log x replays =
       };
     }
 
+-- where no entry is due, what was told is of the entries so far
+pub told_now : (code : LinearCode) (limits : Limits) (log : List Entry) (x : State Shared Context) → x.due ≡ [] → Told code limits (log ++ x.due) x → Told code limits log x
+told_now code limits log x none told = subst (λ (es : List Entry). Told code limits es x) (ap (λ (due : List Entry). log ++ due) none ∙ append-nil log) told
+
+pub a_journal_is_of_events : AJournalIsOfEvents
+a_journal_is_of_events code s program loadable log x replays =
+    option_and_then_some (settled (machine_of code) (rules_of s)) (run (machine_of code) (rules_of s) log (start (machine_of code) (rules_of s) (first_shared code (settings_limits s)))) x replays (λ z ran is.
+    let end_ = is_settled code (rules_of s) z x is in
+    of_events x end_.1 (subst (Holding code (rules_of s) program (settings_limits s) log) end_.0 (holding code s program loadable log z ran)))
+  where
     of_events : (x : State Shared Context) → x.due ≡ [] → Holding code (rules_of s) program (settings_limits s) log x → IsOfEvents code s log x
     of_events x none h =
-        let told : Told code (settings_limits s) log x = subst (λ (es : List Entry). Told code (settings_limits s) es x) (ap (λ (due : List Entry). log ++ due) none ∙ append-nil log) h.told in
+        let told : Told code (settings_limits s) log x = told_now code (settings_limits s) log x none h.told in
         record {
           events = told.comes.events;
           allowed = told.comes.allowed;
@@ -276,4 +310,5 @@ a_journal_is_of_events code s program loadable log x replays =
           image = ap (linear_image code) told.same;
           order = told.comes.order;
           attempts = told.comes.attempts 0;
+          ids = told.comes.ids;
         }

@@ -32,6 +32,9 @@ pub mod Runs
 pub mod Outputs
 pub mod FirstTurns
 pub mod FirstBreak
+pub mod StepAccesses
+pub mod TurnAccesses
+pub mod ServeAccesses
 pub mod Accesses
 pub mod Whole
 pub mod Transport

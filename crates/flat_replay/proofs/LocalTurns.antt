@@ -99,13 +99,14 @@ module _ (x : Image Spot) (thread most : ℕ) where
     abbrev next : Stage Spot → Stage Spot
     next stage = going (gone x thread stage).thread
 
-    pub one_go : (stage : Stage Spot) → own_at s.own thread ≡ Some stage → can_go x stage ≡ true → Comes x s (moved_to (next stage)) (turns_alone (gone x thread stage).turns) (λ turns. [])
+    pub one_go : (stage : Stage Spot) → own_at s.own thread ≡ Some stage → can_go x stage ≡ true → Comes x s (moved_to (next stage)) (turns_alone (gone x thread stage).turns) (λ turns. []) []
     one_go stage own can = record {
       events = events.local thread ∷ [];
       allowed = ((on_, subst (MayGo x) (sym own) can), tt);
       after = ap (put_if s thread (gone_effect x thread)) own ∙ ap (λ (b : Bool). put s thread (cond b (no_effect s.memory (next stage)) (no_effect s.memory stage))) can ∙ put_there (next stage);
       order = append-nil _ ∙ ap (picks_of_local x thread) own ∙ ap (λ (b : Bool). cond b (local_picks thread (gone x thread stage).turns) []) can ∙ local_alone (gone x thread stage).turns (gone_one stage);
       attempts = λ turns. refl;
+      ids = refl;
     }
 
     stays : (stage : Stage Spot) → own_at s.own thread ≡ Some stage → s ≡ moved_to stage
@@ -121,13 +122,13 @@ module _ (x : Image Spot) (thread most : ℕ) where
   pub record GoesAlone (s : State Spot) (turns : ℕ) (came : Came Spot) : Type 0 where
     pub did : ℕ
     pub is : came.turns ≡ turns + did
-    pub comes : Comes x s (record { memory = s.memory; own = set s.own thread (Some came.stage); end = None }) (turns_alone did) (λ turns. [])
+    pub comes : Comes x s (record { memory = s.memory; own = set s.own thread (Some came.stage); end = None }) (turns_alone did) (λ turns. []) []
 
   here_stops : (s : State Spot) → s.end ≡ None → length s.own ≡ length s.memory.threads → (stage : Stage Spot) → own_at s.own thread ≡ Some stage → (turns : ℕ) (stop : Stop) → GoesAlone s turns (record { stage = stage; turns = turns; stop = stop })
   here_stops s on_ each stage own turns stop = record {
     did = 0;
     is = omega arith;
-    comes = subst (λ (z : State Spot). Comes x s z [] (λ turns. [])) (stays s on_ each stage own) (none_come x s);
+    comes = subst (λ (z : State Spot). Comes x s z [] (λ turns. []) []) (stays s on_ each stage own) (none_come x s);
   }
 
   further_on : (s : State Spot) → (on_ : s.end ≡ None) → (each : length s.own ≡ length s.memory.threads) → (stage : Stage Spot) → own_at s.own thread ≡ Some stage → can_go x stage ≡ true → (turns : ℕ) (came : Came Spot)
@@ -137,10 +138,10 @@ module _ (x : Image Spot) (thread most : ℕ) where
     is = omega (arith, rest.is);
     comes =
         let mid = moved_to s on_ each (going (gone x thread stage).thread) in
-        let both = joins x s mid _ _ _ _ _ (one_go s on_ each stage own can) rest.comes in
+        let both = joins x s mid _ _ _ _ _ [] [] (one_go s on_ each stage own can) rest.comes in
         let same : record { memory = s.memory; own = set (set s.own thread (Some (going (gone x thread stage).thread))) thread (Some came.stage); end = None } ≡ record { memory = s.memory; own = set s.own thread (Some came.stage); end = None } = λ i. record { memory = s.memory; own = set_twice s.own thread (Some (going (gone x thread stage).thread)) (Some came.stage) i; end = None } in
-        subst (λ (ps : List Pick). Comes x s (record { memory = s.memory; own = set s.own thread (Some came.stage); end = None }) ps (λ turns. [])) (replicate-plus (gone x thread stage).turns rest.did)
-        (subst (λ (z : State Spot). Comes x s z (turns_alone (gone x thread stage).turns ++ turns_alone rest.did) (λ turns. [])) same both);
+        subst (λ (ps : List Pick). Comes x s (record { memory = s.memory; own = set s.own thread (Some came.stage); end = None }) ps (λ turns. []) []) (replicate-plus (gone x thread stage).turns rest.did)
+        (subst (λ (z : State Spot). Comes x s z (turns_alone (gone x thread stage).turns ++ turns_alone rest.did) (λ turns. []) []) same both);
   }
 
   by_stop : {R : Type 0} (turns : ℕ) (stage : Stage Spot) (came : Came Spot) (o : Option Stop) → stop_at x most turns stage ≡ o → (further : Option (Came Spot)) → stopped_or stage turns o further ≡ Some came

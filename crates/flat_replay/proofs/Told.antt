@@ -41,9 +41,10 @@ use Rattle.flat_machine.specs.lemmas.Lawful.{blank_stage, works_stage}
 use Rattle.flat_machine.specs.lemmas.MachineIsFlat.{machine_is_flat}
 use Rattle.flat_machine.proofs.ActEvents.{act_is_its_event}
 use Rattle.flat_replay.specs.Attempts.{attempts_from}
+use Rattle.flat_replay.specs.Ids.{ids_told}
 use Rattle.flat_replay.specs.Journals.{context_in, stages_in}
 use Rattle.flat_replay.proofs.Doings.{SameHeaps}
-use Rattle.flat_replay.proofs.Entries.{attempts-append, length-picks, picks-append, turn_attempts, turn_picks, turned_picks, turned_tries}
+use Rattle.flat_replay.proofs.Entries.{attempts-append, ids-append, length-picks, picks-append, turn_attempts, turn_ids, turn_picks, turned_ids, turned_picks, turned_tries}
 use Rattle.flat_replay.proofs.LocalTurns.{GoesAlone, set_twice}
 use Rattle.flat_replay.proofs.Segments.{Comes, joins}
 use Rattle.flat_replay.proofs.Stages.{IsBlank, context_at, map-set, stages_more, stages_set}
@@ -68,9 +69,11 @@ module _ (code : LinearCode) where
     pub state : events.State Spot
     pub picks : List Pick
     pub tries : ℕ → List (ℕ × ℕ)
-    pub comes : Comes (image_of code x.shared) (standing_in x) state picks tries
+    pub given : List ℕ
+    pub comes : Comes (image_of code x.shared) (standing_in x) state picks tries given
     pub order : picks ≡ journal_picks es
     pub attempts : (turns : ℕ) → tries turns ≡ attempts_from turns es
+    pub ids : given ≡ ids_told es
     pub stands : StandsIn state y
     pub same : limits_of y.shared ≡ limits_of x.shared
 
@@ -81,24 +84,25 @@ module _ (code : LinearCode) (limits : Limits) where
   -- the events from the start on
   pub record Told (log : List Entry) (x : State Shared Context) : Type 0 where
     pub state : events.State Spot
-    pub comes : Comes loaded (first_state loaded) state (journal_picks log) (λ turns. attempts_from turns log)
+    pub comes : Comes loaded (first_state loaded) state (journal_picks log) (λ turns. attempts_from turns log) (ids_told log)
     pub stands : StandsIn state x
     pub same : limits_of x.shared ≡ limits
 
-  recast : (s t : events.State Spot) (p p2 : List Pick) (q q2 : ℕ → List (ℕ × ℕ)) → p ≡ p2 → ((turns : ℕ) → q turns ≡ q2 turns) → Comes loaded s t p q → Comes loaded s t p2 q2
-  recast s t p p2 q q2 e f c = record { events = c.events; allowed = c.allowed; after = c.after; order = c.order ∙ e; attempts = λ turns. c.attempts turns ∙ f turns }
+  recast : (s t : events.State Spot) (p p2 : List Pick) (q q2 : ℕ → List (ℕ × ℕ)) (g g2 : List ℕ) → p ≡ p2 → ((turns : ℕ) → q turns ≡ q2 turns) → g ≡ g2 → Comes loaded s t p q g → Comes loaded s t p2 q2 g2
+  recast s t p p2 q q2 g g2 e f i c = record { events = c.events; allowed = c.allowed; after = c.after; order = c.order ∙ e; attempts = λ turns. c.attempts turns ∙ f turns; ids = c.ids ∙ i }
 
   pub told_more : (log es : List Entry) (x y : State Shared Context) → x.ending ≡ None → Told log x → Goes_on code x y es → Told (log ++ es) y
   told_more log es x y going told g =
       let here_is : standing_in x ≡ told.state = λ i. record { memory = sym told.stands.memory i; own = sym (told.stands.stages going) i; end = sym (told.stands.ending ∙ going) i } in
-      let one : Comes loaded (standing_in x) g.state g.picks g.tries = subst (λ (limits : Limits). Comes (linear_image code limits) (standing_in x) g.state g.picks g.tries) told.same g.comes in
-      let two : Comes loaded told.state g.state g.picks g.tries = subst (λ (z : events.State Spot). Comes loaded z g.state g.picks g.tries) here_is one in
-      let all = joins loaded (first_state loaded) told.state g.state (journal_picks log) g.picks (λ turns. attempts_from turns log) g.tries told.comes two in
+      let one : Comes loaded (standing_in x) g.state g.picks g.tries g.given = subst (λ (limits : Limits). Comes (linear_image code limits) (standing_in x) g.state g.picks g.tries g.given) told.same g.comes in
+      let two : Comes loaded told.state g.state g.picks g.tries g.given = subst (λ (z : events.State Spot). Comes loaded z g.state g.picks g.tries g.given) here_is one in
+      let all = joins loaded (first_state loaded) told.state g.state (journal_picks log) g.picks (λ turns. attempts_from turns log) g.tries (ids_told log) g.given told.comes two in
       record {
         state = g.state;
-        comes = recast (first_state loaded) g.state _ _ _ _
+        comes = recast (first_state loaded) g.state _ _ _ _ _ _
             (ap (λ (ps : List Pick). journal_picks log ++ ps) g.order ∙ sym (picks-append log es))
             (λ turns. ap (λ (as' : List (ℕ × ℕ)). attempts_from turns log ++ as') (g.attempts (turns + length (journal_picks log)) ∙ ap (λ (n : ℕ). attempts_from (turns + n) es) (length-picks log)) ∙ sym (attempts-append log es turns))
+            (ap (λ (l : List ℕ). ids_told log ++ l) g.ids ∙ sym (ids-append log es))
             all;
         stands = g.stands;
         same = g.same ∙ told.same;
@@ -169,7 +173,7 @@ module _ (code : LinearCode) (program : IsProgram code) (rules : Rules) (x : Sta
       inside : n < length x.places
       inside = omega (arith, lives.made, few, many)
 
-      own_there : own_at os n ≡ Some stage
+      pub own_there : own_at os n ≡ Some stage
       own_there = own_at_set (stages_in x) n (Some stage) below
 
       stage_is : stage ≡ stopped.at_stage
@@ -178,17 +182,17 @@ module _ (code : LinearCode) (program : IsProgram code) (rules : Rules) (x : Sta
       stops : stop_at (own_image code) stopped.most stopped.turns stage ≡ Some stop
       stops = ap (stop_at (own_image code) stopped.most stopped.turns) stage_is ∙ stopped.stops
 
-      says : TurnSays image moved n (events_of image n x.shared.memory stage stop) e turned
+      pub says : TurnSays image moved n (events_of image n x.shared.memory stage stop) e turned
       says = turn_says code program x.shared os n stage own_there lives.context.stage lives.made stop stopped.most stopped.turns stops
 
-      the_event : IsTheEvent image moved n stage stop
+      pub the_event : IsTheEvent image moved n stage stop
       the_event =
           let h = x.shared.memory.storage.heaps in
           act_is_its_event image moved n stopped.most stopped.turns stage stop refl (length-set (stages_in x) n (Some stage) ∙ long) own_there
           (same_stop code x.shared.output_limit h.count h.size h.most n stopped.most stopped.turns stage ∙ stops)
 
-      step_comes : Comes image moved behind (turned_picks n turned) (turned_tries n turned)
-      step_comes = record { events = events_of image n x.shared.memory stage stop; allowed = the_event.allowed; after = the_event.after; order = says.order; attempts = says.attempts }
+      step_comes : Comes image moved behind (turned_picks n turned) (turned_tries n turned) (turned_ids turned)
+      step_comes = record { events = events_of image n x.shared.memory stage stop; allowed = the_event.allowed; after = the_event.after; order = says.order; attempts = says.attempts; ids = says.ids }
 
       -- ---- the stages behind it
 
@@ -225,7 +229,7 @@ module _ (code : LinearCode) (program : IsProgram code) (rules : Rules) (x : Sta
       ending_is : behind.end ≡ ends_with n turned
       ending_is = end_now e.end ∙ says.end_
 
-      stands_by : (k : ℕ) (g : Goes) → goes turned ≡ g → StandsIn behind (turned_by (machine_of code) rules x w n k mood (acted_by code x.shared d) g)
+      pub stands_by : (k : ℕ) (g : Goes) → goes turned ≡ g → StandsIn behind (turned_by (machine_of code) rules x w n k mood (acted_by code x.shared d) g)
       stands_by k on is = record { memory = refl; ending = ending_is; stages = λ none. stages_behind (out w _ k _) (stays_there (λ f. let bad : on ≡ away = sym is ∙ f in cc)) }
       stands_by k back is = record { memory = refl; ending = ending_is; stages = λ none. stages_behind (out w _ k _) (stays_there (λ f. let bad : back ≡ away = sym is ∙ f in cc)) }
       stands_by k away is = record { memory = refl; ending = ending_is; stages = λ none. stages_behind gone (λ t. sym (says.gone is none)) }
@@ -242,9 +246,11 @@ module _ (code : LinearCode) (program : IsProgram code) (rules : Rules) (x : Sta
             state = behind;
             picks = _;
             tries = _;
-            comes = joins image (standing_in x) moved behind _ _ _ _ alone.comes step_comes;
+            given = _;
+            comes = joins image (standing_in x) moved behind _ _ _ _ _ _ alone.comes step_comes;
             order = ap (λ (k : ℕ). replicate k (pick n answers.Plain) ++ turned_picks n turned) (sym ends) ∙ sym (turn_picks w n turns turned);
             attempts = λ before. ap (λ (k : ℕ). turned_tries n turned (before + k)) (length-replicate alone.did (pick n answers.Plain) ∙ sym ends) ∙ sym (turn_attempts w n turns turned before);
+            ids = sym (turn_ids w n turns turned);
             stands = stands_by (count + 1) (goes turned) refl;
             same = limits_by (count + 1) (goes turned);
           }

@@ -31,6 +31,7 @@ use Rattle.flat_meaning.specs.Machine.{given, words_machine, words_world}
 use Rattle.flat_meaning.specs.Memory.{Made, Memory, beginning, ended_if, thread_ended, with_result}
 use Rattle.flat_meaning.specs.Order.{Attempt, action_answer, act_picks, answer_here, attempts_of, made_answer, order_of, pick, pick_if, picks_of_act, tried_answer, tried_at, tried_before, tried_if}
 use Rattle.flat_meaning.specs.Stages.{Before, Stage, before, before_here, before_return, calls, can_go, going, landed, looks, nothing, room_for, safe, starts, steps, thread_at, turn_over, waiting}
+use Rattle.flat_meaning.specs.Start.{chosen_id, ids_of}
 use Rattle.flat_meaning.specs.Words.{Words, target_of, word_at}
 use Rattle.flat_rules.specs.Events.{away, ends_with, goes}
 use Rattle.flat_rules.specs.Machine as turns
@@ -45,8 +46,8 @@ use Rattle.flat_machine.specs.lemmas.Goes.{Pending, looks_so, does_so, returns_s
 use Rattle.flat_machine.specs.lemmas.Outcomes.{AreThreads, same, one_more, threads_are}
 use Rattle.flat_machine.specs.lemmas.Steps.{choice_at, done_at, last_call, leave_effect_is, leave_turned_is, look_effect_is, look_turned_is, outcome_at, step_effect_is, step_turned_is}
 use Rattle.flat_replay.specs.Attempts.{placed}
-use Rattle.flat_replay.proofs.Doings.{SameHeaps, Sound, action_sound, malloc_goes, same_heaps}
-use Rattle.flat_replay.proofs.Entries.{turned_picks, turned_tries}
+use Rattle.flat_replay.proofs.Doings.{GivesNone, SameHeaps, Sound, action_sound, gives_none, malloc_goes, same_heaps}
+use Rattle.flat_replay.proofs.Entries.{turned_ids, turned_picks, turned_tries}
 
 -- ---- threads that were made
 
@@ -117,6 +118,7 @@ pub record TurnSays (x : Image Spot) (s : State Spot) (n : ℕ) (es : List Event
   pub threads : KeptThreads s.memory.threads e.memory.threads
   pub order : order_of x es s ≡ turned_picks n turned
   pub attempts : (position : ℕ) → map placed (attempts_of x es position s) ≡ turned_tries n turned position
+  pub ids : ids_of es ≡ turned_ids turned
 
 -- attempts at a position
 abbrev tries_at : (position : ℕ) → List Pick → List (ℕ × ℕ)
@@ -130,41 +132,43 @@ record Parts (x : Image Spot) (n : ℕ) (m : Memory) (c : Choice) (h : Here) (o 
   pub threads : KeptThreads m.threads e.memory.threads
   pub picks : pick_if n (answer_here x m c h) o ≡ turned_picks n turned
   pub tries : (position : ℕ) → tries_at position (tried_if n c h o) ≡ turned_tries n turned position
+  pub ids : chosen_id c ≡ turned_ids turned
 
 -- ---- a step that was done
 
 module _ (x : Image Spot) (n : ℕ) (m : Memory) where
-  record DoneSays (answer : _) (turned : turns.Turned) : Type 0 where
+  record DoneSays (given : List ℕ) (answer : _) (turned : turns.Turned) : Type 0 where
     pub on_ : None ≡ ends_with n turned
     pub stays : goes turned ≡ away → ⊥
     pub picks : pick n answer ∷ [] ≡ turned_picks n turned
     pub tries : (position : ℕ) → [] ≡ turned_tries n turned position
+    pub ids : given ≡ turned_ids turned
 
-  stepped_says : DoneSays answers.Plain turns.stepped
-  stepped_says = record { on_ = refl; stays = λ e. cc; picks = refl; tries = λ position. refl }
+  stepped_says : (given : List ℕ) → given ≡ [] → DoneSays given answers.Plain turns.stepped
+  stepped_says given none = record { on_ = refl; stays = λ e. cc; picks = refl; tries = λ position. refl; ids = none }
 
-  malloc_says : (c : Choice) → DoneSays (action_answer x m c malloc) (malloc_turned c)
-  malloc_says plain = record { on_ = refl; stays = λ e. cc; picks = refl; tries = λ position. refl }
-  malloc_says (got id place) = record { on_ = refl; stays = λ e. cc; picks = refl; tries = λ position. refl }
-  malloc_says null = record { on_ = refl; stays = λ e. cc; picks = refl; tries = λ position. refl }
-  malloc_says wait = record { on_ = refl; stays = λ e. cc; picks = refl; tries = λ position. refl }
+  malloc_says : (c : Choice) → DoneSays (chosen_id c) (action_answer x m c malloc) (malloc_turned c)
+  malloc_says plain = record { on_ = refl; stays = λ e. cc; picks = refl; tries = λ position. refl; ids = refl }
+  malloc_says (got id place) = record { on_ = refl; stays = λ e. cc; picks = refl; tries = λ position. refl; ids = refl }
+  malloc_says null = record { on_ = refl; stays = λ e. cc; picks = refl; tries = λ position. refl; ids = refl }
+  malloc_says wait = record { on_ = refl; stays = λ e. cc; picks = refl; tries = λ position. refl; ids = refl }
 
-  start_says : (b : Bool) (made : ℕ) → DoneSays (made_answer b) (start_turned b made)
-  start_says true made = record { on_ = refl; stays = λ e. cc; picks = refl; tries = λ position. refl }
-  start_says false made = record { on_ = refl; stays = λ e. cc; picks = refl; tries = λ position. refl }
+  start_says : (given : List ℕ) → given ≡ [] → (b : Bool) (made : ℕ) → DoneSays given (made_answer b) (start_turned b made)
+  start_says given none true made = record { on_ = refl; stays = λ e. cc; picks = refl; tries = λ position. refl; ids = none }
+  start_says given none false made = record { on_ = refl; stays = λ e. cc; picks = refl; tries = λ position. refl; ids = none }
 
-  done_says : (c : Choice) (a : Action) → DoneSays (action_answer x m c a) (done_turned x m c a)
-  done_says c (load how) = stepped_says
-  done_says c (store how) = stepped_says
-  done_says c (copy_bytes align eq) = stepped_says
-  done_says c malloc = malloc_says c
-  done_says c free = stepped_says
-  done_says c (print pieces) = stepped_says
-  done_says c lock = stepped_says
-  done_says c unlock = stepped_says
-  done_says c destroy = stepped_says
-  done_says c (start function) = start_says (may_start x.layout.limits.threads m) (length m.threads)
-  done_says c join = stepped_says
+  done_says : (c : Choice) (a : Action) → GivesNone c a → DoneSays (chosen_id c) (action_answer x m c a) (done_turned x m c a)
+  done_says c (load how) none = stepped_says (chosen_id c) none
+  done_says c (store how) none = stepped_says (chosen_id c) none
+  done_says c (copy_bytes align eq) none = stepped_says (chosen_id c) none
+  done_says c malloc none = malloc_says c
+  done_says c free none = stepped_says (chosen_id c) none
+  done_says c (print pieces) none = stepped_says (chosen_id c) none
+  done_says c lock none = stepped_says (chosen_id c) none
+  done_says c unlock none = stepped_says (chosen_id c) none
+  done_says c destroy none = stepped_says (chosen_id c) none
+  done_says c (start function) none = start_says (chosen_id c) none (may_start x.layout.limits.threads m) (length m.threads)
+  done_says c join none = stepped_says (chosen_id c) none
 
   none_tried : (c : Choice) (h : Here) (t : Thread Spot Words) (after : Memory) → tried_if n c h (went t after) ≡ []
   none_tried plain h t after = refl
@@ -185,9 +189,9 @@ module _ (x : Image Spot) (n : ℕ) (m : Memory) where
     abbrev PartsOf : Outcome Spot Words Fault Memory → Type 0
     PartsOf o = Parts x n m c h o (effects.acted n stage t (own_list node) m o) (outcome_turned x n m c h o)
 
-    went_parts : (q : Thread Spot Words) (after : Memory) → SameHeaps m after → KeptThreads m.threads after.threads → PartsOf (went q after)
-    went_parts q after heaps threads =
-        let says = done_says c node.action in
+    went_parts : GivesNone c node.action → (q : Thread Spot Words) (after : Memory) → SameHeaps m after → KeptThreads m.threads after.threads → PartsOf (went q after)
+    went_parts none q after heaps threads =
+        let says = done_says c node.action none in
         record {
           end_ = says.on_;
           gone = λ e f. absurd (says.stays e);
@@ -195,13 +199,14 @@ module _ (x : Image Spot) (n : ℕ) (m : Memory) where
           threads = threads;
           picks = says.picks;
           tries = λ position. ap (tries_at position) (none_tried c h q after) ∙ says.tries position;
+          ids = says.ids;
         }
 
-    blocked_parts : (d : Choice) → Parts x n m d h blocked (no_effect m (waiting t)) (blocked_turned d)
-    blocked_parts plain = record { end_ = refl; gone = λ e f. absurd cc; heaps = same_heaps m; threads = same_threads m.threads; picks = refl; tries = λ position. refl }
-    blocked_parts (got id at) = record { end_ = refl; gone = λ e f. absurd cc; heaps = same_heaps m; threads = same_threads m.threads; picks = refl; tries = λ position. refl }
-    blocked_parts null = record { end_ = refl; gone = λ e f. absurd cc; heaps = same_heaps m; threads = same_threads m.threads; picks = refl; tries = λ position. refl }
-    blocked_parts wait = record { end_ = refl; gone = λ e f. absurd cc; heaps = same_heaps m; threads = same_threads m.threads; picks = refl; tries = λ position. refl }
+    blocked_parts : (d : Choice) → chosen_id d ≡ [] → Parts x n m d h blocked (no_effect m (waiting t)) (blocked_turned d)
+    blocked_parts plain none = record { end_ = refl; gone = λ e f. absurd cc; heaps = same_heaps m; threads = same_threads m.threads; picks = refl; tries = λ position. refl; ids = refl }
+    blocked_parts (got id at) none = absurd cc
+    blocked_parts null none = record { end_ = refl; gone = λ e f. absurd cc; heaps = same_heaps m; threads = same_threads m.threads; picks = refl; tries = λ position. refl; ids = refl }
+    blocked_parts wait none = record { end_ = refl; gone = λ e f. absurd cc; heaps = same_heaps m; threads = same_threads m.threads; picks = refl; tries = λ position. refl; ids = refl }
 
     tried_fault : (d : Choice) (f : Fault) → (d ≡ wait → ⊥) → tried_if {P = Spot} n d h (broke f) ≡ pick n (tried_answer h) ∷ []
     tried_fault plain f goes_on = refl
@@ -209,16 +214,21 @@ module _ (x : Image Spot) (n : ℕ) (m : Memory) where
     tried_fault null f goes_on = refl
     tried_fault wait f goes_on = absurd (goes_on refl)
 
-    broke_parts : (f : Fault) → (c ≡ wait → ⊥) → PartsOf (broke f)
-    broke_parts (actions.trap word kind) goes_on = record { end_ = refl; gone = λ e f. absurd cc; heaps = same_heaps m; threads = same_threads m.threads; picks = refl; tries = λ position. ap (tries_at position) (tried_fault c (actions.trap word kind) goes_on) }
-    broke_parts actions.output_limit goes_on = record { end_ = refl; gone = λ e f. absurd cc; heaps = same_heaps m; threads = same_threads m.threads; picks = refl; tries = λ position. ap (tries_at position) (tried_fault c actions.output_limit goes_on) }
+    no_wait : c ≡ plain → c ≡ wait → ⊥
+    no_wait is e = let bad : plain ≡ wait = sym is ∙ e in cc
 
-    by_done : (d : actions.Done) → Sound c m d → ((word : Option ℕ) (after : Memory) → d ≡ actions.went word after → KeptThreads m.threads after.threads) → PartsOf (outcome_at x n m place node t d)
-    by_done (actions.went None after) sound threads = went_parts _ after sound (threads None after refl)
-    by_done (actions.went (Some word) after) sound threads = went_parts _ after sound (threads (Some word) after refl)
-    by_done actions.waits sound threads = blocked_parts c
-    by_done actions.unfit sound threads = absurd sound
-    by_done (actions.over f) sound threads = broke_parts f sound
+    broke_parts : (f : Fault) → c ≡ plain → PartsOf (broke f)
+    broke_parts (actions.trap word kind) is =
+        record { end_ = refl; gone = λ e f. absurd cc; heaps = same_heaps m; threads = same_threads m.threads; picks = refl; tries = λ position. ap (tries_at position) (tried_fault c (actions.trap word kind) (no_wait is)); ids = ap chosen_id is }
+    broke_parts actions.output_limit is =
+        record { end_ = refl; gone = λ e f. absurd cc; heaps = same_heaps m; threads = same_threads m.threads; picks = refl; tries = λ position. ap (tries_at position) (tried_fault c actions.output_limit (no_wait is)); ids = ap chosen_id is }
+
+    by_done : GivesNone c node.action → (d : actions.Done) → Sound c m d → ((word : Option ℕ) (after : Memory) → d ≡ actions.went word after → KeptThreads m.threads after.threads) → PartsOf (outcome_at x n m place node t d)
+    by_done none (actions.went None after) sound threads = went_parts none _ after sound (threads None after refl)
+    by_done none (actions.went (Some word) after) sound threads = went_parts none _ after sound (threads (Some word) after refl)
+    by_done none actions.waits sound threads = blocked_parts c sound
+    by_done none actions.unfit sound threads = absurd sound
+    by_done none (actions.over f) sound threads = broke_parts f sound
 
 -- ---- in a call
 
@@ -260,7 +270,7 @@ module _ (code : LinearCode) (program : IsProgram code) (sh : Shared) (os : List
   -- ---- no step
 
   spent_says : Says Spent
-  spent_says = record { end_ = refl; gone = λ e f. absurd cc; heaps = same_heaps m; threads = same_threads m.threads; order = refl; attempts = λ position. refl }
+  spent_says = record { end_ = refl; gone = λ e f. absurd cc; heaps = same_heaps m; threads = same_threads m.threads; order = refl; attempts = λ position. refl; ids = refl }
 
   module _ (inside : IsInCall (Some stage)) where
     act_order : (c : Choice) (b : Before) → before x t ≡ b → order_of x (act n c ∷ []) s ≡ act_picks x m n c t b
@@ -281,7 +291,7 @@ module _ (code : LinearCode) (program : IsProgram code) (sh : Shared) (os : List
         subst (λ (es : List Event). TurnSays x s n es (effect_if x n m (Some stage) (Some AtStep)) (turned_of x n m (Some stage) (Some AtStep))) (sym es)
         (subst (λ (e : Effect Spot). TurnSays x s n (events.look n ∷ []) e (turned_of x n m (Some stage) (Some AtStep))) (sym e)
         (subst (TurnSays x s n (events.look n ∷ []) _) (sym u)
-        (record { end_ = refl; gone = λ e f. absurd cc; heaps = same_heaps m; threads = same_threads m.threads; order = refl; attempts = λ position. refl })))
+        (record { end_ = refl; gone = λ e f. absurd cc; heaps = same_heaps m; threads = same_threads m.threads; order = refl; attempts = λ position. refl; ids = refl })))
 
     -- ---- a step
 
@@ -304,6 +314,7 @@ module _ (code : LinearCode) (program : IsProgram code) (sh : Shared) (os : List
           threads = parts.threads;
           order = act_order c steps before_is ∙ ap (λ (h : Here). pick_if n (answer_here x m c h) (outcome_here c h)) here_is ∙ parts.picks;
           attempts = λ position. act_tries c steps before_is position ∙ ap (λ (h : Here). tries_at position (tried_if n c h (outcome_here c h))) here_is ∙ parts.tries position;
+          ids = append-nil (chosen_id c) ∙ parts.ids;
         })))
 
     module _ (all : IsThreadOf code (thread_at (image_of code sh) stage)) where
@@ -321,7 +332,7 @@ module _ (code : LinearCode) (program : IsProgram code) (sh : Shared) (os : List
           let c : Choice = choice_at x n m place node t.top.own in
           let sound : Sound c m (done_at x n m place node t.top.own) = action_sound m x.layout n (malloc_choice m.storage) (malloc_goes m.storage) t.top.own node.action (map (target_of t.top.own) node.places) node.temps places temps in
           from_parts c (does place (step node)) _ _ here_is refl refl (step_effect_is x n m place node stage inside here_is) (step_turned_is x n m place node stage inside here_is)
-          (by_done x n m stage t place node c (done_at x n m place node t.top.own) sound
+          (by_done x n m stage t place node c (gives_none (malloc_choice m.storage) t.top.own node.action node.temps) (done_at x n m place node t.top.own) sound
           (λ word after e. kept_by node.action _ m.threads after.threads (threads_are x.layout n m c node.action (map (target_of t.top.own) node.places) (map (word_at t.top.own) node.temps) word after e)))
 
       -- ---- the return of its first function
@@ -339,6 +350,7 @@ module _ (code : LinearCode) (program : IsProgram code) (sh : Shared) (os : List
             threads = ended_threads m.threads n word;
             picks = refl;
             tries = λ position. refl;
+            ids = refl;
           }))
 
       pending_says : (most ends : ℕ) → n < length m.threads → Pending (own_image code) most ends t ((linear code.funcs).here t.top.at) → Says AtStep
@@ -365,6 +377,7 @@ module _ (code : LinearCode) (program : IsProgram code) (sh : Shared) (os : List
           threads = same_threads m.threads;
           order = act_order plain (calls function) before_is;
           attempts = λ position. act_tries plain (calls function) before_is position ∙ ap (λ (b : Bool). tries_at position (cond b [] (pick n answers.Plain ∷ []))) full;
+          ids = refl;
         })
     lacks_room turn_over before_is most ends e = absurd cc
     lacks_room nothing before_is most ends e = absurd cc
@@ -388,6 +401,7 @@ module _ (code : LinearCode) (program : IsProgram code) (sh : Shared) (os : List
         attempts = λ position.
             ap (map placed) (append-nil (map (λ (p : Pick). record { turn = p; position = position }) (tried_at x m n plain (own_at os n))))
             ∙ ap (λ o. tries_at position (tried_at x m n plain o)) own ∙ ap (λ (b : Bool). tries_at position (cond b [] (pick n answers.Plain ∷ []))) full;
+        ids = refl;
       })
 
 -- ---- whatever the thread stands before

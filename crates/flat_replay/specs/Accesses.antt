@@ -1,28 +1,146 @@
--- What the steps of a journal read and write.
-use Rattle.std.specs.Prelude.{◌≡◌, List, ◌∷◌, ◌++◌, Some}
+-- What the steps of a journal read and write, entry by entry: of its own turns, in the states that its replay has there.
+use Rattle.std.specs.Prelude.{◌≡◌, ℕ, true, List, [], ◌∷◌, ◌++◌, All, replicate, set, Some, None}
+use Rattle.ak_trace.specs.declared.endings.End.TheVariants as ends
 use Rattle.ak_trace.specs.declared.entry.Entry.{Entry}
-use Rattle.block_store.specs.Runs.{run}
+use Rattle.ak_trace.specs.Kinds as kind
+use Rattle.ak_words.specs.Prefix.{IsPrefix}
+use Rattle.block_store.specs.declared.values.Answer.TheVariants as answers
+use Rattle.block_store.specs.Runs as runs
+use Rattle.block_store.specs.Runs.{Pick, own_at, picked, run}
 use Rattle.struct_ir.specs.Nodes.{Ir}
 use Rattle.struct_ir.specs.Instrs.{LinearCode}
+use Rattle.struct_ir.specs.Linear.{Spot}
+use Rattle.struct_ir.specs.Structured.{Position}
+use Rattle.struct_ir.specs.Threads.{Thread}
+use Rattle.struct_ir.specs.meaning.Blocks.{Own}
 use Rattle.struct_ir.specs.meaning.Start.{start}
 use Rattle.struct_ir.specs.meaning.Threads.{program_of}
-use Rattle.flat_meaning.specs.Events.{Event, after_all, first_state}
-use Rattle.flat_meaning.specs.Order.{order_of}
-use Rattle.flat_meaning.specs.Simulation.{UpToABreak}
+use Rattle.flat_meaning.specs.declared.endings.Stop.{Stop}
+use Rattle.flat_meaning.specs.Accesses.{Choice}
+use Rattle.flat_meaning.specs.Allowed.{StandsBefore}
+use Rattle.flat_meaning.specs.Events as events
+use Rattle.flat_meaning.specs.Events.{Serve, act, after, after_all, after_serves, moved_state}
+use Rattle.flat_meaning.specs.Image.{Image}
+use Rattle.flat_meaning.specs.Journals.{journal_picks}
+use Rattle.flat_meaning.specs.Names.{Name, ids_in}
+use Rattle.flat_meaning.specs.Order.{order_of, pick, picks_of, picks_of_serve, picks_of_serves, tried_by}
+use Rattle.flat_meaning.specs.Reaching.{Unbroken, Waits, Broken}
+use Rattle.flat_meaning.specs.Simulation.{AllComeOut, IsTrap, UpToABreak}
+use Rattle.flat_meaning.specs.Stages.{Stage, steps, thread_at, waiting}
+use Rattle.flat_meaning.specs.Stands.{WorldStands}
+use Rattle.flat_meaning.specs.Start.{first_names, served_ids}
+use Rattle.flat_meaning.specs.Words.{Words}
 use Rattle.flat_rules.specs.declared.settings.Settings.{Settings}
-use Rattle.flat_rules.specs.States.{State}
+use Rattle.flat_rules.specs.Events.{most_local}
+use Rattle.flat_rules.specs.Replays.{step}
+use Rattle.flat_rules.specs.Rules.{rules_of}
+use Rattle.flat_rules.specs.States.{Mood, free, asked, must, State, out, place_at, homes_of, none_out}
 use Rattle.flat_threads.specs.Contexts.{Context}
+use Rattle.flat_threads.specs.Going.{gone_on}
+use Rattle.flat_machine.specs.Laws.{events_of}
+use Rattle.flat_machine.specs.Machine.{machine_of}
 use Rattle.flat_machine.specs.Replays.{replay}
-use Rattle.flat_machine.specs.Shares.{Shared}
-use Rattle.flat_simulation.specs.LinearSteps.{Follows}
-use Rattle.flat_replay.specs.Journals.{IsOfEvents, image_for}
+use Rattle.flat_machine.specs.Shares.{Shared, image_of}
+use Rattle.flat_machine.specs.Sweeping.{at_home, sweep_moves, sweep_serves}
+use Rattle.flat_simulation.specs.LinearSteps.{HasBegun, HasStack, PrintsPast, Enters, StepTouches}
+use Rattle.flat_replay.specs.Ids.{ids_told}
+use Rattle.flat_replay.specs.Journals.{stages_in}
 
--- events that a journal tells of; and before each of them, unless one of the turns so far broke a rule, the machine follows the source: what
--- is shared stands for the source's world, and each byte that the next step reads or writes is of a block, at an offset, that its turn
--- reaches
-pub record AccessesStay (p : Ir) (code : LinearCode) (s : Settings) (log : List Entry) : Type 0 where
-  pub last : State Shared Context
-  pub leads : replay code s log ≡ Some last
-  pub told : IsOfEvents code s log last
-  pub follows : (before : List Event) (e : Event) (more : List Event) → told.events ≡ before ++ e ∷ more
-      → UpToABreak (run (program_of p) (start p) (order_of (image_for code s) before (first_state (image_for code s)))) (λ u. Follows (image_for code s) p u (after_all (image_for code s) before (first_state (image_for code s))))
+-- ---- the machine's states at an entry
+
+-- each thread where its context says, but for one, which has gone on to this stage
+abbrev pub gone_to : State Shared Context → (thread : ℕ) → Stage Spot → events.State Spot
+gone_to x thread stage = record { memory = x.shared.memory; own = set (stages_in x) thread (Some stage); end = None }
+
+-- how many turns a thread goes on alone at most
+abbrev pub bound_of : Mood → ℕ
+bound_of free = most_local
+bound_of asked = 0
+bound_of must = 0
+
+-- all threads at home, behind a barrier's moves
+abbrev pub swept_first : LinearCode → State Shared Context → events.State Spot
+swept_first code x = let s = at_home x.shared (homes_of x.places) in moved_state (sweep_moves (image_of code x.shared) s) s
+
+-- ---- a step in a state
+
+-- by names of the globals and literals, and of the objects that got these ids, in this order, what is shared stands for the source's
+-- world; the source has each thread that the machine has, and each of its stack objects that has begun lies at its place in its call
+pub record StandsBy (y : Image Spot) (p : Ir) (given : List ℕ) (u : runs.State (Thread Position Own)) (s : events.State Spot) : Type 0 where
+  pub names : List Name
+  pub loaded : IsPrefix (first_names y.layout) names
+  pub ids : ids_in names ≡ given
+  pub world : WorldStands names u.world s.memory
+  pub stacks : (thread : ℕ) (stage : Stage Spot) → own_at s.own thread ≡ Some stage → HasStack y p thread names u stage
+
+-- of each of these turns of a thread, unless it breaks a rule: what the step touches are bytes of blocks that the turn reaches
+abbrev pub TurnsTouch : Image Spot → Ir → List Name → runs.State (Thread Position Own) → events.State Spot → Thread Position Own → Thread Spot Words → List Pick → Type 0
+TurnsTouch y p names u s t q turns = All (λ (k : Pick). Unbroken (picked (program_of p) u k) → StepTouches y p names u s k t q) turns
+
+-- a thread's step, with what is chosen for it, done or tried: what it touches is what its turn reaches, unless that breaks a rule; where it
+-- waits for a mutex or a thread, its turn waits, or breaks a rule; where it traps, its turn breaks one; where it would print more than may
+-- be printed, its turn does; and where its call has no room, its turn enters that
+pub record ActStays (y : Image Spot) (p : Ir) (given : List ℕ) (u : runs.State (Thread Position Own)) (s : events.State Spot) (thread : ℕ) (choice : Choice) (stage : Stage Spot) : Type 0 where
+  pub stands : StandsBy y p given u s
+  pub own : Thread Position Own
+  pub at : own_at u.own thread ≡ Some own
+  pub touches : StandsBefore y (Some stage) steps → TurnsTouch y p stands.names u s own (thread_at y stage) (picks_of y s (act thread choice) ++ tried_by y s (act thread choice))
+  pub waits : (after y s (act thread choice)).end ≡ None → AllComeOut p u Waits (tried_by y s (act thread choice))
+  pub traps : IsTrap (after y s (act thread choice)).end → AllComeOut p u Broken (tried_by y s (act thread choice))
+  pub prints : (after y s (act thread choice)).end ≡ Some ends.OutputLimit → AllComeOut p u (PrintsPast y.layout.limits.output) (tried_by y s (act thread choice))
+  pub calls : (number : ℕ) → HasBegun stage → (after y s (act thread choice)).end ≡ Some (ends.StackLimit number) → AllComeOut p u (Enters own) (tried_by y s (act thread choice))
+
+-- a malloc that is served, of a thread that waits there
+pub record ServeStays (y : Image Spot) (p : Ir) (given : List ℕ) (u : runs.State (Thread Position Own)) (s : events.State Spot) (v : Serve) (q : Thread Spot Words) : Type 0 where
+  pub stands : StandsBy y p given u s
+  pub own : Thread Position Own
+  pub at : own_at u.own v.thread ≡ Some own
+  pub touches : TurnsTouch y p stands.names u s own q (picks_of_serve y s.memory v (Some (waiting q)))
+
+-- ---- an entry of a turn
+
+-- what the journal leads to, where the entry's thread is out with the entry's worker; where that goes to alone, in as many turns as the
+-- entry tells; the machine's event there, if it has one, which does what the entry does and whose turn is the entry's; and unless a turn
+-- broke a rule, of the journal so far or of the thread's own, how its step stays in the run of these turns
+pub record TurnStays (p : Ir) (code : LinearCode) (s : Settings) (log : List Entry) (e : Entry) : Type 0 where
+  pub here : State Shared Context
+  pub leads : replay code s log ≡ Some here
+  pub context : Context
+  pub count : ℕ
+  pub mood : Mood
+  pub is_out : place_at here.places e.thread ≡ out e.worker context count mood
+  pub stage : Stage Spot
+  pub comes_to : (gone_on code (bound_of mood) context).stage ≡ Some stage
+  pub stop : Stop
+  pub stops : (gone_on code (bound_of mood) context).stop ≡ Some stop
+  pub alone : (gone_on code (bound_of mood) context).turns ≡ e.local
+  pub next : State Shared Context
+  pub goes : step (machine_of code) (rules_of s) here e ≡ Some next
+  pub memory : let y = image_of code here.shared in next.shared.memory ≡ (after_all y (events_of y e.thread here.shared.memory stage stop) (gone_to here e.thread stage)).memory
+  pub ending : let y = image_of code here.shared in next.ending ≡ (after_all y (events_of y e.thread here.shared.memory stage stop) (gone_to here e.thread stage)).end
+  pub turns : let y = image_of code here.shared in
+      journal_picks (e ∷ []) ≡ replicate e.local (pick e.thread answers.Plain) ++ order_of y (events_of y e.thread here.shared.memory stage stop) (gone_to here e.thread stage)
+  pub keeps : let y = image_of code here.shared in (choice : Choice) → events_of y e.thread here.shared.memory stage stop ≡ act e.thread choice ∷ []
+      → UpToABreak (run (program_of p) (start p) (journal_picks log ++ replicate e.local (pick e.thread answers.Plain))) (λ u. ActStays y p (ids_told log) u (gone_to here e.thread stage) e.thread choice stage)
+
+-- ---- an entry of a barrier
+
+-- what the journal leads to, where no thread is out; and of each malloc that is then served, behind the moves and the mallocs before it, by
+-- which thread it waits, and unless a turn so far broke a rule, how it stays
+pub record ServesStay (p : Ir) (code : LinearCode) (s : Settings) (log : List Entry) (e : Entry) : Type 0 where
+  pub here : State Shared Context
+  pub leads : replay code s log ≡ Some here
+  pub alone : none_out (machine_of code) (rules_of s) here ≡ true
+  pub next : State Shared Context
+  pub goes : step (machine_of code) (rules_of s) here e ≡ Some next
+  pub memory : let y = image_of code here.shared in next.shared.memory ≡ (after_serves y (sweep_serves y (at_home here.shared (homes_of here.places))) (swept_first code here)).memory
+  pub keeps : let y = image_of code here.shared in (vs : List Serve) (v : Serve) (us : List Serve) → sweep_serves y (at_home here.shared (homes_of here.places)) ≡ vs ++ v ∷ us
+      → (q : Thread Spot Words) × (own_at (after_serves y vs (swept_first code here)).own v.thread ≡ Some (waiting q))
+      × UpToABreak (run (program_of p) (start p) (journal_picks log ++ picks_of_serves y vs (swept_first code here))) (λ u. ServeStays y p (ids_told log ++ served_ids vs) u (after_serves y vs (swept_first code here)) v q)
+
+-- ---- a journal
+
+-- each entry of a turn, and each of a barrier. (A Look reads a word of the table and no byte: its event has no turn here.)
+pub record AccessesKeep (p : Ir) (code : LinearCode) (s : Settings) (log : List Entry) : Type 0 where
+  pub turns : (front : List Entry) (e : Entry) (more : List Entry) → log ≡ front ++ e ∷ more → e.kind ≡ kind.turn → TurnStays p code s front e
+  pub served : (front : List Entry) (e : Entry) (more : List Entry) → log ≡ front ++ e ∷ more → e.kind ≡ kind.barrier → ServesStay p code s front e

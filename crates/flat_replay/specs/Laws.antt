@@ -21,7 +21,7 @@ use Rattle.flat_machine.specs.Replays.{replay, final_at}
 use Rattle.flat_machine.specs.Shares.{Shared}
 use Rattle.flat_machine.specs.Start.{settings_limits}
 use Rattle.flat_replay.specs.Barriers.{BarriersKeep}
-use Rattle.flat_replay.specs.Accesses.{AccessesStay}
+use Rattle.flat_replay.specs.Accesses.{AccessesKeep}
 use Rattle.flat_replay.specs.Journals.{IsOfEvents}
 use Rattle.flat_replay.specs.Meaning.{IsMeaning}
 
@@ -55,7 +55,8 @@ JournalsMeanTheSource =
 
 -- ---- accesses
 
--- of checked code: unless a rule was broken before, no step of a journal reads or writes a byte outside the blocks that its turn reaches
+-- of checked code: unless a rule was broken before, no step that an entry of a journal tells of reads or writes a byte outside the blocks
+-- that its turn reaches
 abbrev pub AccessesOfJournalsStay : Type 0
 AccessesOfJournalsStay =
-    (p : Ir) → IsChecked p → (code : LinearCode) → IsEmitted p code → AllLawful code.funcs → IsProgram code → (s : Settings) (log : List Entry) (x : State Shared Context) → replay code s log ≡ Some x → AccessesStay p code s log
+    (p : Ir) → IsChecked p → (code : LinearCode) → IsEmitted p code → AllLawful code.funcs → IsProgram code → (s : Settings) (log : List Entry) (x : State Shared Context) → replay code s log ≡ Some x → AccessesKeep p code s log

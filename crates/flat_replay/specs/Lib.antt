@@ -1,6 +1,7 @@
 pub mod Barriers
 pub mod Laws
 pub mod Attempts
+pub mod Ids
 pub mod Meaning
 pub mod Journals
 pub mod Accesses

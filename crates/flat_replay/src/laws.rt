@@ -18,13 +18,14 @@ pub fn small_programs_fit()
 {}
 
 /// A journal that replays is of events of the machine that may come, one after the other: they lead to what threads share, to the end of
-/// the run and to each thread's stage, and the turns that they make, and those that they try, are those of the journal.
+/// the run and to each thread's stage, and the turns that they make, those that they try, and the ids that they hand out are those of the
+/// journal.
 pub fn a_journal_is_of_events()
     ensures { AJournalIsOfEvents }
 {}
 
-/// Of checked code: unless a turn before broke a rule of C, each byte that a step of a journal reads or writes is of a block, at an offset,
-/// that the source's turn reaches.
+/// Of checked code, entry by entry: unless a turn so far broke a rule of C, each byte that the step of a Turn entry reads or writes, or a
+/// malloc that a barrier serves, is of a block, at an offset, that the source's turn reaches; and where the blocks of that turn lie is told.
 pub fn accesses_of_journals_stay()
     ensures { AccessesOfJournalsStay }
 {

@@ -1,7 +1,7 @@
 -- In a state that stands for the source's, whatever step may come next follows the source's turn.
 use Rattle.std.proofs.Common.{◌≡◌, ◌≢◌, ℕ, List, [], ◌∷◌, ◌++◌, map, Option, Some, None, refl, sym, subst, ◌∙◌}
 use Rattle.std.specs.Prelude.{All}
-use Rattle.std.proofs.lemmas.List.Elements.{All-append}
+use Rattle.std.proofs.lemmas.List.Elements.{All-append, All-weaker}
 use Rattle.block_store.specs.declared.values.Answer.{Answer}
 use Rattle.block_store.specs.Actions.{World}
 use Rattle.block_store.specs.Runs as runs
@@ -21,12 +21,13 @@ use Rattle.flat_meaning.specs.Actions as actions_of_words
 use Rattle.flat_meaning.specs.Machine.{words_machine, words_world, served_by}
 use Rattle.flat_meaning.specs.Stages.{Stage, starts, going, waiting, landed, thread_at, Before, steps, before_here, before}
 use Rattle.flat_meaning.specs.Effects.{stop_of}
-use Rattle.flat_meaning.specs.Events.{State}
-use Rattle.flat_meaning.specs.Allowed.{MayDo, MayAct, MayStep, MayStepAt, StandsBefore}
-use Rattle.flat_meaning.specs.Order.{pick, pick_if, answer_of, tried_if, act_picks, tried_before, picks_of_act, tried_at}
+use Rattle.flat_meaning.specs.Events.{State, act}
+use Rattle.flat_meaning.specs.Allowed.{MayDo, MayAct, MayStep, MayStepAt, StandsBefore, IsAllowed}
+use Rattle.flat_meaning.specs.Order.{pick, pick_if, answer_of, tried_if, act_picks, tried_before, picks_of, picks_of_act, tried_by, tried_at}
 use Rattle.flat_meaning.specs.Names.{Name}
 use Rattle.flat_meaning.specs.Reaching.{Unbroken, StepReaches}
 use Rattle.flat_meaning.specs.Simulation.{StepsFollow}
+use Rattle.flat_simulation.specs.inner.Owning.{StepOwns}
 use Rattle.flat_simulation.specs.inner.Programs.{IsImage}
 use Rattle.flat_simulation.specs.inner.Threads.{StateStands, TurnsAlike}
 use Rattle.flat_simulation.proofs.ActsAlike.{begun_stands, at_step}
@@ -120,7 +121,7 @@ module _ (p : Ir) (limits : Limits) (image : IsImage (structured_image p limits)
     k = (thread_there p limits image names u s stand takes goes_on thread g e).0
 
     abbrev R : Pick → Type 0
-    R r = Unbroken (picked (program_of p) u r) → StepReaches y p names u m r k t
+    R r = Unbroken (picked (program_of p) u r) → StepOwns y p names u m r k t
 
     stops_here : before y t ≡ steps → IsStop h
     stops_here is = by_here h t.callers is
@@ -160,7 +161,7 @@ module _ (p : Ir) (limits : Limits) (image : IsImage (structured_image p limits)
 
   module _ (thread : ℕ) (choice : Choice) (t : Thread Position Own) (source_is : own_at u.own thread ≡ Some t) (g : Stage Position) (e : own_at s.own thread ≡ Some g) (q : Thread Position Words) (is : thread_at y g ≡ q) where
     abbrev Reaching : Pick → Type 0
-    Reaching r = Unbroken (picked (program_of p) u r) → StepReaches y p names u m r t q
+    Reaching r = Unbroken (picked (program_of p) u r) → StepOwns y p names u m r t q
 
     begun_reach : (b : Before) → b ≡ steps → StandsBefore y (Some g) steps → MayStep y m choice q b → All Reaching (act_picks y m thread choice q b ++ tried_before y m thread choice q b)
     begun_reach b is_step at may =
@@ -169,28 +170,37 @@ module _ (p : Ir) (limits : Limits) (image : IsImage (structured_image p limits)
         let both : Some there.0 ≡ Some t = sym there.1 ∙ source_is in
         let same : there.0 ≡ t = cc in
         subst (λ z. All Reaching (act_picks y m thread choice q z ++ tried_before y m thread choice q z)) (sym is_step)
-        (subst (λ z. All (λ r. Unbroken (picked (program_of p) u r) → StepReaches y p names u m r z q) (act_picks y m thread choice q steps ++ tried_before y m thread choice q steps)) same (of_thread q is acts at))
+        (subst (λ z. All (λ r. Unbroken (picked (program_of p) u r) → StepOwns y p names u m r z q) (act_picks y m thread choice q steps ++ tried_before y m thread choice q steps)) same (of_thread q is acts at))
       where
         of_thread : (r : Thread Position Words) → thread_at y g ≡ r → MayAct m.storage r.top.own choice (structured.here r.top.at) → StandsBefore y (Some g) steps
-            → All (λ z. Unbroken (picked (program_of p) u z) → StepReaches y p names u m z (thread_there p limits image names u s stand takes goes_on thread g e).0 r) (act_picks y m thread choice r steps ++ tried_before y m thread choice r steps)
+            → All (λ z. Unbroken (picked (program_of p) u z) → StepOwns y p names u m z (thread_there p limits image names u s stand takes goes_on thread g e).0 r) (act_picks y m thread choice r steps ++ tried_before y m thread choice r steps)
         of_thread r same acts at =
-            subst (λ z. All (λ v. Unbroken (picked (program_of p) u v) → StepReaches y p names u m v (thread_there p limits image names u s stand takes goes_on thread g e).0 z) (act_picks y m thread choice z steps ++ tried_before y m thread choice z steps)) same
+            subst (λ z. All (λ v. Unbroken (picked (program_of p) u v) → StepOwns y p names u m v (thread_there p limits image names u s stand takes goes_on thread g e).0 z) (act_picks y m thread choice z steps ++ tried_before y m thread choice z steps)) same
             (all_reach thread choice g e at (subst (λ z. MayAct m.storage z.top.own choice (structured.here z.top.at)) (sym same) acts))
 
   any_reach : (thread : ℕ) (choice : Choice) (t : Thread Position Own) → own_at u.own thread ≡ Some t → (g : Stage Position) → own_at s.own thread ≡ Some g → StandsBefore y (Some g) steps → MayStepAt y m choice (Some g)
-      → All (λ r. Unbroken (picked (program_of p) u r) → StepReaches y p names u m r t (thread_at y g)) (picks_of_act y m thread choice (Some g) ++ tried_at y m thread choice (Some g))
+      → All (λ r. Unbroken (picked (program_of p) u r) → StepOwns y p names u m r t (thread_at y g)) (picks_of_act y m thread choice (Some g) ++ tried_at y m thread choice (Some g))
   any_reach thread choice t i (starts function argument) e at may = absurd at
   any_reach thread choice t i (going q) e at may = begun_reach thread choice t i (going q) e q refl (before y q) at at may
   any_reach thread choice t i (waiting q) e at may = begun_reach thread choice t i (waiting q) e q refl (before y q) at at may
   any_reach thread choice t i (landed list q) e at may = begun_reach thread choice t i (landed list q) e q refl (before y q) at at may
 
+-- and each block that the turn has made by then and that lives is an object of its call
+pub steps_own : (p : Ir) (limits : Limits) → IsImage (structured_image p limits) p → (names : List Name) (u : runs.State (Thread Position Own)) (s : State Position) → StateStands (structured_image p limits) p names u s → TakeAnswers p u
+    → (thread : ℕ) (choice : Choice) (t : Thread Position Own) (stage : Stage Position) → own_at u.own thread ≡ Some t → own_at s.own thread ≡ Some stage → IsAllowed (structured_image p limits) s (act thread choice) → StandsBefore (structured_image p limits) (own_at s.own thread) steps
+    → All (λ r. Unbroken (picked (program_of p) u r) → StepOwns (structured_image p limits) p names u s.memory r t (thread_at (structured_image p limits) stage)) (picks_of (structured_image p limits) s (act thread choice) ++ tried_by (structured_image p limits) s (act thread choice))
+steps_own p limits image names u s stand takes thread choice t stage i e may at =
+    subst (λ o. All (λ r. Unbroken (picked (program_of p) u r) → StepOwns (structured_image p limits) p names u s.memory r t (thread_at (structured_image p limits) stage))
+    (picks_of_act (structured_image p limits) s.memory thread choice o ++ tried_at (structured_image p limits) s.memory thread choice o)) (sym e)
+    (any_reach p limits image names u s stand takes may.0 thread choice t i stage e (subst (λ o. StandsBefore (structured_image p limits) o steps) e at) (subst (λ o. MayStepAt (structured_image p limits) s.memory choice o) e may.1))
+
 pub steps_follow : (p : Ir) (limits : Limits) → IsImage (structured_image p limits) p → (names : List Name) (u : runs.State (Thread Position Own)) (s : State Position) → StateStands (structured_image p limits) p names u s → TakeAnswers p u
     → StepsFollow (structured_image p limits) p names u s
 steps_follow p limits image names u s stand takes = record {
   reaches = λ thread choice t stage i e may at.
-      subst (λ o. All (λ r. Unbroken (picked (program_of p) u r) → StepReaches (structured_image p limits) p names u s.memory r t (thread_at (structured_image p limits) stage))
-      (picks_of_act (structured_image p limits) s.memory thread choice o ++ tried_at (structured_image p limits) s.memory thread choice o)) (sym e)
-      (any_reach p limits image names u s stand takes may.0 thread choice t i stage e (subst (λ o. StandsBefore (structured_image p limits) o steps) e at) (subst (λ o. MayStepAt (structured_image p limits) s.memory choice o) e may.1));
+      All-weaker (λ r. Unbroken (picked (program_of p) u r) → StepOwns (structured_image p limits) p names u s.memory r t (thread_at (structured_image p limits) stage))
+      (λ r. Unbroken (picked (program_of p) u r) → StepReaches (structured_image p limits) p names u s.memory r t (thread_at (structured_image p limits) stage)) (λ r owns unbroken. (owns unbroken).step)
+      (picks_of (structured_image p limits) s (act thread choice) ++ tried_by (structured_image p limits) s (act thread choice)) (steps_own p limits image names u s stand takes thread choice t stage i e may at);
   waits = λ thread choice may end. act_waits p limits image names u s stand takes may.0 thread choice may end;
   traps = λ thread choice may end. act_breaks p limits image names u s stand takes may.0 thread choice may end;
 }

@@ -1,5 +1,5 @@
 -- After events of linear code what threads share stands for the source's world, and whatever step may come next follows the source's turn.
-use Rattle.std.proofs.Common.{◌≡◌, ℕ, List, [], ◌∷◌, ◌++◌, length, Some, refl, sym, ap, subst, ◌∙◌, arith, append-nil}
+use Rattle.std.proofs.Common.{◌≡◌, ℕ, List, [], ◌∷◌, ◌++◌, length, Option, Some, None, refl, sym, ap, subst, ◌∙◌, arith, append-nil}
 use Rattle.std.specs.Prelude.{All}
 use Rattle.std.proofs.lemmas.List.{length-append}
 use Rattle.std.proofs.lemmas.List.Elements.{All-weaker}
@@ -23,28 +23,31 @@ use Rattle.flat_meaning.specs.Order.{picks_of, tried_by, order_of}
 use Rattle.flat_meaning.specs.Allowed.{StandsBefore, IsAllowed, AreAllowed}
 use Rattle.flat_meaning.specs.Emitted.{AreOne, ComeToTheSame, CallsAreGuarded}
 use Rattle.flat_meaning.specs.Names.{Name}
-use Rattle.flat_meaning.specs.Reaching.{Unbroken, Waits, Broken, StaysInBlocks, StepReaches, reached_in}
-use Rattle.flat_meaning.specs.Stands.{WorldStands}
+use Rattle.flat_meaning.specs.Reaching.{Unbroken, Waits, Broken, StaysInBlocks, reached_in}
+use Rattle.flat_meaning.specs.Stands.{PointStands, WorldStands, StageStands}
 use Rattle.flat_meaning.specs.Simulation as structured_code
 use Rattle.flat_meaning.specs.Simulation.{AllComeOut, IsTrap, UpToABreak, IsChecked, EachTurnTakesAnAnswer}
-use Rattle.flat_meaning.specs.Start.{ids_of}
+use Rattle.flat_meaning.specs.Start.{ids_of, AreMadeBy}
 use Rattle.flat_meaning.specs.Touched.{touched_at}
-use Rattle.flat_simulation.specs.LinearSteps.{PrintsPast, Enters, StepTouches, StepsFollow, Follows}
+use Rattle.flat_simulation.specs.LinearSteps.{MallocsFit, PrintsPast, Enters, StepTouches, StepsFollow, HasStack, Follows}
 use Rattle.flat_simulation.specs.inner.EventRuns.{Leads}
 use Rattle.flat_simulation.specs.inner.Kept.{EventsKeep}
-use Rattle.flat_simulation.specs.inner.Level.{image, StatesMatch}
+use Rattle.flat_simulation.specs.inner.Level.{image, StagesMatch, StatesMatch}
 use Rattle.flat_simulation.specs.inner.Next.{Next}
+use Rattle.flat_simulation.specs.inner.Owning.{StepOwns}
 use Rattle.flat_simulation.specs.inner.Programs.{IsImage}
 use Rattle.flat_simulation.specs.inner.Threads.{StateStands}
 use Rattle.flat_simulation.proofs.AllEvents.{Stood, all_stand, events_stand}
 use Rattle.flat_simulation.proofs.EventKinds.{stands_begun, stands_at}
-use Rattle.flat_simulation.proofs.First.{names, first_stands}
+use Rattle.flat_simulation.proofs.First.{names, first_stands, first_ids}
 use Rattle.flat_simulation.proofs.Follow.{TakeAnswers}
-use Rattle.flat_simulation.proofs.Followed.{steps_follow}
+use Rattle.flat_simulation.proofs.Followed.{steps_follow, steps_own}
 use Rattle.flat_simulation.proofs.Full.{act_enters}
 use Rattle.flat_simulation.proofs.GoingAlike.{before_same}
 use Rattle.flat_simulation.proofs.LinearActs.{MeetsStage, ActAlike, act_alike}
 use Rattle.flat_simulation.proofs.Made.{world_agrees}
+use Rattle.flat_simulation.proofs.Public.{state_stands}
+use Rattle.flat_simulation.proofs.Lying.{stage_lies}
 use Rattle.flat_simulation.proofs.OneProgram.{have_matching}
 use Rattle.flat_simulation.proofs.PastLimit.{act_prints}
 use Rattle.flat_simulation.proofs.Programs.{checked_image}
@@ -78,14 +81,14 @@ module _ (p : Ir) (limits : Limits) (its : IsImage (structured_image p limits) p
 
   module _ (names : List Name) (order : List Pick) (u : runs.State (Thread Position Own)) (s : State Position) (now : Stood p limits its takes_answers keep names order u s) where
     -- events that make no turn leave the source where it is
-    no_turn : (later : State Position) (leads : Leads x s later [] []) → Next p limits names (ids_of leads.events) later u
+    no_turn : (later : State Position) (leads : Leads x s later [] [] []) → Next p limits names (ids_of leads.events) later u
     no_turn later leads =
         subst (λ (q : State Position). Next p limits names (ids_of leads.events) q u) leads.ends
         (subst (λ picks. UpToABreak (run_from P picks (length order) u) (Next p limits names (ids_of leads.events) (after_all x leads.events s))) leads.order
         (all_stand p limits its takes_answers keep leads.events names order u s now leads.allowed))
 
     -- and the same names
-    still_stands : (later : State Position) → Leads x s later [] [] → StateStands x p names u later
+    still_stands : (later : State Position) → Leads x s later [] [] [] → StateStands x p names u later
     still_stands later leads =
         let n = no_turn later leads in
         let each : length n.all ≡ length names = n.stands.world.blocks.names_stand.each ∙ sym now.stand.world.blocks.names_stand.each in
@@ -117,17 +120,20 @@ module _ (p : Ir) (limits : Limits) (its : IsImage (structured_image p limits) p
 
         module _ (t : Thread Position Own) (h : Stage Spot) (g : MeetsStage x.layout structured D (start_in p) code' R one guarded a.came thread h) where
           -- what the first touches the second does
-          touches : (k : Pick) → StepReaches x p names u a.came.memory k t (thread_at x g.stage) → StepTouches y p names u r k t (thread_at y h)
-          touches k z = record {
+          touches : (k : Pick) → StepOwns x p names u a.came.memory k t (thread_at x g.stage) → StepTouches y p names u r k t (thread_at y h)
+          touches k owns = let z = owns.step in record {
             made = z.made;
             stop = z.stop;
             stops = z.stops;
+            here = g.same.top.same.here ∙ ap structured.here z.stands.here;
+            stands = subst (λ (T : Type 0). T) (λ i. PointStands x k.thread (names ++ z.made) (sym a.memory i).storage z.stop (record { at = z.stands.here i; own = sym g.same.top.own i })) z.stands;
+            begun = owns.begun;
             reaches = subst (λ (T : Type 0). T)
                 (λ i. StaysInBlocks (names ++ z.made) (sym a.memory i).storage (touched_at x.layout (sym g.same.top.own i) (sym a.memory i) (sym g.same.top.same.here i)) (reached_in u.world z.stop.own (structured.here z.stop.at) (picked P u k))) z.reaches;
           }
 
           abbrev Reaching : Pick → Type 0
-          Reaching k = Unbroken (picked P u k) → StepReaches x p names u a.came.memory k t (thread_at x g.stage)
+          Reaching k = Unbroken (picked P u k) → StepOwns x p names u a.came.memory k t (thread_at x g.stage)
 
           abbrev Touching : Pick → Type 0
           Touching k = Unbroken (picked P u k) → StepTouches y p names u r k t (thread_at y h)
@@ -138,7 +144,7 @@ module _ (p : Ir) (limits : Limits) (its : IsImage (structured_image p limits) p
               let at : StandsBefore x (own_at a.came.own thread) steps = subst (λ o. StandsBefore x o steps) (sym g.at) (stands_at x g.stage g.begun steps is') in
               let turns = picks_of x a.came (act thread choice) ++ tried_by x a.came (act thread choice) in
               subst (λ l. All Touching l) (λ i. a.picks i ++ a.tried i)
-              (All-weaker Reaching Touching (λ k f unbroken. touches k (f unbroken)) turns (follow.reaches thread choice t g.stage i g.at a.allowed at))
+              (All-weaker Reaching Touching (λ k f unbroken. touches k (f unbroken)) turns (steps_own p limits its names u a.came stands takes thread choice t g.stage i g.at a.allowed at))
 
       -- ---- whatever step may come next
 
@@ -168,9 +174,19 @@ module _ (p : Ir) (limits : Limits) (its : IsImage (structured_image p limits) p
             (act_enters p limits its names u a.came (stands thread choice a) takes a.allowed.0 thread number choice t g.stage i g.at g.begun a.allowed (a.end ∙ end));
       }
 
-      linear_follows : Follows y p u r
-      linear_follows = record {
+      lies : r.end ≡ None → (thread : ℕ) (h : Stage Spot) → own_at r.own thread ≡ Some h → HasStack y p thread names u h
+      lies open_ thread h f = by (own_at u.own thread) refl (own_at s.own thread) ((state_stands x p its names u s now.stand).threads thread) (subst (λ o. StagesMatch structured D R (own_at s.own thread) o) f ((match.stages open_).each thread))
+        where
+          by : (o : Option (Thread Position Own)) → own_at u.own thread ≡ o → (g : Option (Stage Position)) → StageStands x p thread names u.world.blocks s.memory.storage o g → StagesMatch structured D R g (Some h) → HasStack y p thread names u h
+          by (Some t) e g there alike_ = record { own = t; at = e; lies = stage_lies x.layout p D code' R thread names u.world.blocks s.memory.storage now.stand.world.blocks.names_stand.each t g h there alike_ }
+          by None e (Some g) there alike_ = absurd there
+          by None e None there alike_ = absurd alike_
+
+      linear_follows : (ds : List Event) → AreMadeBy y ds names → Follows y p ds u r
+      linear_follows ds made = record {
         names = names;
+        made = made;
+        stacks = lies;
         world = subst (λ m. WorldStands names u.world m) (sym match.memory) (world_agrees x.layout p names u.world s.memory now.stand.world);
         steps = linear_steps_follow;
       }
@@ -179,7 +195,7 @@ module _ (p : Ir) (limits : Limits) (its : IsImage (structured_image p limits) p
 
 -- events of structured code that come to the same as linear code's, after which that follows the source
 abbrev pub Found : (p : Ir) → Image Position → Image Spot → List Event → Type 0
-Found p x y ds = (es : List Event) × ComeToTheSame x es y ds × UpToABreak (runs.run (program_of p) (start p) (order_of x es (first_state x))) (λ u. Follows y p u (after_all y ds (first_state y)))
+Found p x y ds = (es : List Event) × ComeToTheSame x es y ds × UpToABreak (runs.run (program_of p) (start p) (order_of x es (first_state x))) (λ u. Follows y p ds u (after_all y ds (first_state y)))
 
 module _ (p : Ir) (c : IsChecked p) (output heaps heap ids : ℕ) (shape : IsShape heaps heap ids) where
   abbrev its_limits : Limits
@@ -188,9 +204,9 @@ module _ (p : Ir) (c : IsChecked p) (output heaps heap ids : ℕ) (shape : IsSha
   abbrev first : Image Position
   first = structured_image p its_limits
 
-  found_at : (D : Flow Spot) (code' : ℕ → Spot) (R : Position → Spot → Type 0) → AreOne first (image D code' first.layout) R → CallsAreGuarded (image D code' first.layout)
+  found_at : (D : Flow Spot) (code' : ℕ → Spot) (R : Position → Spot → Type 0) → AreOne first (image D code' first.layout) R → CallsAreGuarded (image D code' first.layout) → MallocsFit D
       → (ds : List Event) → AreAllowed (image D code' first.layout) ds (first_state (image D code' first.layout)) → Found p first (image D code' first.layout) ds
-  found_at D code' R one guarded ds may =
+  found_at D code' R one guarded fit ds may =
       let y = image D code' first.layout in
       let f = have_matching first.layout structured D (start_in p) code' R one guarded ds may in
       let es = f.0 in
@@ -204,11 +220,12 @@ module _ (p : Ir) (c : IsChecked p) (output heaps heap ids : ℕ) (shape : IsSha
       let all = events_stand p its_limits its c.answers keep begin (first_state first) (first_stands p c output heaps heap ids shape) (first_state_comes p its_limits) es f.1.allowed in (
         es,
         f.1,
-        up_to (runs.run (program_of p) (start p) order) (Next p its_limits begin (ids_of es) s) (λ u. Follows y p u r) (λ u reached n.
-            linear_follows p its_limits its c.answers keep n.all order u s (record { stand = n.stands; come = come; reached = reached }) D code' R one guarded r f.2) all,
+        up_to (runs.run (program_of p) (start p) order) (Next p its_limits begin (ids_of es) s) (λ u. Follows y p ds u r) (λ u reached n.
+            linear_follows p its_limits its c.answers keep n.all order u s (record { stand = n.stands; come = come; reached = reached }) D code' R one guarded r f.2 ds
+            (record { loaded = n.first; ids = n.ids ∙ ap (λ l. l ++ ids_of es) (first_ids p c output heaps heap ids shape) ∙ f.3 fit })) all,
       )
 
-  pub linear_found : (y : Image Spot) (R : Position → Spot → Type 0) → AreOne first y R → CallsAreGuarded y → (ds : List Event) → AreAllowed y ds (first_state y) → Found p first y ds
-  linear_found y R one guarded =
-      subst (λ (z : Image Spot). AreOne first z R → CallsAreGuarded z → (ds : List Event) → AreAllowed z ds (first_state z) → Found p first z ds) (λ i. record { flow = y.flow; start = y.start; layout = sym one.layout i })
-      (λ (o : AreOne first (image y.flow y.start first.layout) R) (g : CallsAreGuarded (image y.flow y.start first.layout)). found_at y.flow y.start R o g) one guarded
+  pub linear_found : (y : Image Spot) (R : Position → Spot → Type 0) → AreOne first y R → CallsAreGuarded y → MallocsFit y.flow → (ds : List Event) → AreAllowed y ds (first_state y) → Found p first y ds
+  linear_found y R one guarded fit =
+      subst (λ (z : Image Spot). AreOne first z R → CallsAreGuarded z → MallocsFit z.flow → (ds : List Event) → AreAllowed z ds (first_state z) → Found p first z ds) (λ i. record { flow = y.flow; start = y.start; layout = sym one.layout i })
+      (λ (o : AreOne first (image y.flow y.start first.layout) R) (g : CallsAreGuarded (image y.flow y.start first.layout)). found_at y.flow y.start R o g) one guarded fit

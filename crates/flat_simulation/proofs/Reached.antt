@@ -29,24 +29,24 @@ use Rattle.flat_simulation.proofs.Printed.{PartStands, PartsStand, are_joined, p
 
 -- ---- elements of lists
 
-any_one : {A : Type 0} (P : A → Type 0) (x : A) → Any P (x ∷ []) → P x
+pub any_one : {A : Type 0} (P : A → Type 0) (x : A) → Any P (x ∷ []) → P x
 any_one P x (zero, z, below, at, holds) = let is : x ≡ z = at in subst P (sym is) holds
 any_one P x (suc k, z, below, at, holds) = absurd (omega (arith, below))
 
-one_any : {A : Type 0} (P : A → Type 0) (x : A) → P x → Any P (x ∷ [])
+pub one_any : {A : Type 0} (P : A → Type 0) (x : A) → P x → Any P (x ∷ [])
 one_any P x holds = (0, x, omega arith, refl, holds)
 
-none_any : {A : Type 0} (P : A → Type 0) → Any P [] → ⊥
+pub none_any : {A : Type 0} (P : A → Type 0) → Any P [] → ⊥
 none_any P (k, z, below, at, holds) = omega (arith, below)
 
-any_left : {A : Type 0} (P : A → Type 0) (xs ys : List A) → Any P xs → Any P (xs ++ ys)
+pub any_left : {A : Type 0} (P : A → Type 0) (xs ys : List A) → Any P xs → Any P (xs ++ ys)
 any_left P xs ys (k, z, below, at, holds) = (k, z, omega (arith, below, length-append xs ys), get_or_append_left xs ys z k below ∙ at, holds)
 
-any_right : {A : Type 0} (P : A → Type 0) (xs ys : List A) → Any P ys → Any P (xs ++ ys)
+pub any_right : {A : Type 0} (P : A → Type 0) (xs ys : List A) → Any P ys → Any P (xs ++ ys)
 any_right P xs ys (k, z, below, at, holds) =
     (length xs + k, z, omega (arith, below, length-append xs ys), get_or-append_right xs ys (length xs) (length xs + k) z refl (omega arith) ∙ ap (λ i. slice_index_or ys i z) (omega arith) ∙ at, holds)
 
-any_either : {A : Type 0} (P : A → Type 0) (xs ys : List A) → Any P (xs ++ ys) → Any P xs ⊎ Any P ys
+pub any_either : {A : Type 0} (P : A → Type 0) (xs ys : List A) → Any P (xs ++ ys) → Any P xs ⊎ Any P ys
 any_either P xs ys (k, z, below, at, holds) = elim (cases_lt k (length xs)) [
   | inl first ↦ inl (k, z, first, sym (get_or_append_left xs ys z k first) ∙ at, holds)
   | inr past ↦ inr (k - length xs, z, omega (arith, below, past, length-append xs ys), sym (get_or-append_right xs ys (length xs) k z refl past) ∙ at, holds)

@@ -28,6 +28,7 @@ use Rattle.flat_simulation.specs.inner.Programs.{IsImage}
 use Rattle.flat_simulation.specs.inner.Worlds.{WorldStands}
 use Rattle.flat_simulation.specs.inner.Threads.{ThreadStands}
 use Rattle.flat_simulation.specs.inner.Operands.{StaysIf}
+use Rattle.flat_simulation.specs.inner.Owning.{StepOwns}
 use Rattle.flat_simulation.specs.inner.Kept.{source_turn}
 use Rattle.flat_simulation.proofs.Public.{point_stands}
 use Rattle.flat_simulation.proofs.Reached.{nothing_stays}
@@ -125,21 +126,22 @@ module _ (p : Ir) (limits : Limits) (image : IsImage (structured_image p limits)
     here_stays (returns temp) e at t =
         subst (λ z. StaysInBlocks t.made_names m.storage (touched_at x.layout q.top.own m z) (reached_in w t.own z (Some (turned (source_turn p thread answer k w))))) (sym e) (nothing_stays t.made_names m.storage _)
 
-    pub step_reaches : before x q ≡ steps → StepReaches x p names u m (pick thread answer) k q
+    pub step_reaches : before x q ≡ steps → StepOwns x p names u m (pick thread answer) k q
     step_reaches at = elim (stops_or_breaks x p image thread names w m world k q stand stop) [
       | inl t ↦ reaches t
       | inr b ↦ absurd (no_fault b.0 (turn_breaks x p image thread (start_in p) names w m world k q stand stop answer b.0 b.1))
     ]
       where
-        reaches : Stop → StepReaches x p names u m (pick thread answer) k q
+        reaches : Stop → StepOwns x p names u m (pick thread answer) k q
         reaches t =
             let more = t.far.aged.first in
             let stays : StaysInBlocks t.made_names m.storage (touched_at x.layout q.top.own m h) (reached_in w t.own h (picked (program_of p) u (pick thread answer)))
             = subst (λ o. StaysInBlocks t.made_names m.storage (touched_at x.layout q.top.own m h) (reached_in w t.own h o)) (sym is_picked) (here_stays h refl at t) in
-            record {
+            let step : StepReaches x p names u m (pick thread answer) k q = record {
               made = more.0;
               stop = record { at = q.top.at; own = t.own };
               stops = t.runs;
               stands = subst (λ ns. PointStands x thread ns m.storage (record { at = q.top.at; own = t.own }) q.top) more.1 (point_stands x p thread t.made_names _ m.storage (record { at = q.top.at; own = t.own }) q.top t.stands);
               reaches = subst (λ ns. StaysInBlocks ns m.storage (touched_at x.layout q.top.own m h) (reached_in w t.own h (picked (program_of p) u (pick thread answer)))) more.1 stays;
-            }
+            } in
+            record { step = step; begun = t.far.begun }

@@ -17,3 +17,4 @@ pub mod Threads
 pub mod Operands
 pub mod Kept
 pub mod Next
+pub mod Owning

@@ -4,6 +4,8 @@ ghost use Rattle.flat_meaning.specs.Simulation.{BarriersKeepObjects, EventsFollo
 ghost use Rattle.flat_simulation.specs.LinearEvents.{EventsOfLinearCode, LinearCodeFollowsTurns};
 ghost use Rattle.flat_simulation.specs.PinRows.{CopyRowsHold, NestedRowsHold, ReuseRowsHold};
 ghost use Rattle.flat_simulation.specs.StandingRows.{OthersDont, StatesStand};
+ghost use Rattle.flat_simulation.specs.TouchRows.{OthersAreRefused};
+ghost use Rattle.flat_simulation.specs.TouchedAlone.{StepsTouchAlone};
 
 /// Of every program that fits in memory, after all allowed events and whatever rules of C were broken: objects and table agree, and the
 /// moves of any barrier that may come next keep each object's bytes, at the address that the table then has, and the place of each
@@ -44,4 +46,18 @@ pub fn small_codes_keep_their_pins()
 pub fn small_states_stand()
     ensures stand { StatesStand }
     ensures others { OthersDont }
+{}
+
+/// What a step touches is all that it touches. Whatever the code, the thread, its stage, what is chosen and the memory, of a thread's step,
+/// its Look and a malloc that is served: no byte changes but those that are listed as written; and with other bytes, that are the same where
+/// they are listed as read, the same comes of the thread, of the run and of all that is no byte, and each byte is the same then, or stayed in
+/// both.
+pub fn steps_touch_alone()
+    ensures { StepsTouchAlone }
+{}
+
+/// A small code that stores to an array of its call: a store behind the array is to bytes of a block by some names, and to none by those by
+/// which the call stands; and by a name for another address the call's objects don't lie.
+pub fn other_names_are_refused()
+    ensures { OthersAreRefused }
 {}

@@ -1,0 +1,125 @@
+-- From what follows after events to what is said of an entry: the step of a turn, and a malloc that is served.
+use Rattle.std.proofs.Common.{◌≡◌, ℕ, List, [], ◌∷◌, ◌++◌, Option, Some, None, refl, sym, ap, subst, ◌∙◌, arith, length-append}
+use Rattle.std.specs.Prelude.{All}
+use Rattle.std.proofs.lemmas.List.{get_or_append_left}
+use Rattle.block_store.specs.Runs as runs
+use Rattle.block_store.specs.Runs.{Pick, own_at, picked, run}
+use Rattle.struct_ir.specs.Nodes.{Ir}
+use Rattle.struct_ir.specs.Linear.{Spot}
+use Rattle.struct_ir.specs.Structured.{Position}
+use Rattle.struct_ir.specs.Threads.{Thread}
+use Rattle.struct_ir.specs.meaning.Blocks.{Own}
+use Rattle.struct_ir.specs.meaning.Start.{start}
+use Rattle.struct_ir.specs.meaning.Threads.{program_of}
+use Rattle.ak_trace.specs.declared.endings.End.{End}
+use Rattle.flat_meaning.specs.Accesses.{Choice}
+use Rattle.flat_meaning.specs.Allowed.{AreAllowed, IsAllowed, MayServe, MayServeAll, MayStep, MayStepAt, StandsBefore}
+use Rattle.flat_meaning.specs.Events.{State, Serve, Event, act, after_all, after_serve, after_serves, end_or, first_state, put_if}
+use Rattle.flat_meaning.specs.Effects.{serve_effect}
+use Rattle.flat_meaning.specs.Image.{Image}
+use Rattle.flat_meaning.specs.Memory.{Memory}
+use Rattle.flat_meaning.specs.Order.{act_picks, order_of, picks_of, picks_of_act, picks_of_serve, tried_by}
+use Rattle.flat_meaning.specs.Reaching.{Unbroken}
+use Rattle.flat_meaning.specs.Simulation.{UpToABreak}
+use Rattle.flat_meaning.specs.Stages.{Stage, before, going, landed, starts, steps, thread_at, waiting}
+use Rattle.flat_meaning.specs.Start.{ids_of}
+use Rattle.flat_meaning.specs.Words.{Words}
+use Rattle.flat_simulation.specs.LinearSteps.{Follows, StepTouches}
+use Rattle.flat_simulation.proofs.StepKinds.{malloc_before}
+use Rattle.flat_simulation.proofs.Whole.{up_to}
+use Rattle.flat_replay.specs.Accesses.{ActStays, ServeStays, StandsBy, TurnsTouch}
+use Rattle.flat_replay.proofs.Segments.{Comes}
+
+-- of all, the first are so
+all_first : {A : Type 0} (P : A → Type 0) (xs ys : List A) → All P (xs ++ ys) → All P xs
+all_first P xs ys h k d below = subst P (get_or_append_left xs ys d k below) (h k d (omega (arith, below, length-append xs ys)))
+
+module _ (y : Image Spot) where
+  -- a barrier that serves but the first of these mallocs may come, too; and then the others may be served
+  pub serves_front : (vs ws : List Serve) (s : State Spot) → MayServeAll y (vs ++ ws) s → MayServeAll y vs s × MayServeAll y ws (after_serves y vs s)
+  serves_front [] ws s may = (tt, may)
+  serves_front (v ∷ vs) ws s may = let r = serves_front vs ws (after_serve y s v) may.1 in ((may.0, r.0), r.1)
+
+  -- where the run goes on behind them, it did before
+  none_now : (now past : Option End) → end_or now past ≡ None → past ≡ None
+  none_now None past e = e
+  none_now (Some end) past e = absurd cc
+
+  put_on : (s : State Spot) (v : Serve) (o : Option (Stage Spot)) → (put_if s v.thread (serve_effect y v.thread v.choice) o).end ≡ None → s.end ≡ None
+  put_on s v None e = e
+  put_on s v (Some stage) e = none_now (serve_effect y v.thread v.choice stage s.memory).end s.end e
+
+  pub serves_on : (vs : List Serve) (s : State Spot) → (after_serves y vs s).end ≡ None → s.end ≡ None
+  serves_on [] s e = e
+  serves_on (v ∷ vs) s e = put_on s v (own_at s.own v.thread) (serves_on vs (after_serve y s v) e)
+
+  -- a malloc that may be served is of a thread that waits
+  pub record Waiting (m : Memory) (choice : Choice) (o : Option (Stage Spot)) : Type 0 where
+    pub thread : Thread Spot Words
+    pub is : o ≡ Some (waiting thread)
+    pub may : MayServe y m choice (Some (waiting thread))
+
+  pub waits_there : (m : Memory) (choice : Choice) (o : Option (Stage Spot)) → MayServe y m choice o → Waiting m choice o
+  waits_there m choice None may = absurd may
+  waits_there m choice (Some (starts function argument)) may = absurd may
+  waits_there m choice (Some (going t)) may = absurd may
+  waits_there m choice (Some (waiting t)) may = record { thread = t; is = refl; may = may }
+  waits_there m choice (Some (landed list t)) may = absurd may
+
+  -- it is a step that may be done
+  served_steps : (m : Memory) (choice : Choice) (q : Thread Spot Words) → MayServe y m choice (Some (waiting q)) → before y q ≡ steps
+  served_steps m choice q may = malloc_before q.callers (y.flow.here q.top.at) may.0
+
+  served_acts : (m : Memory) (choice : Choice) (q : Thread Spot Words) → MayServe y m choice (Some (waiting q)) → MayStepAt y m choice (Some (waiting q))
+  served_acts m choice q may = subst (MayStep y m choice q) (sym (served_steps m choice q may)) may.2
+
+  module _ (p : Ir) (ds : List Event) (given : List ℕ) (u : runs.State (Thread Position Own)) (s : State Spot) (f : Follows y p ds u s) (ids : ids_of ds ≡ given) where
+    abbrev stands_by : s.end ≡ None → StandsBy y p given u s
+    stands_by open_ = record { names = f.names; loaded = f.made.loaded; ids = f.made.ids ∙ ids; world = f.world; stacks = f.stacks open_ }
+
+    touch_in : (thread : ℕ) (choice : Choice) (stage : Stage Spot) (at : own_at s.own thread ≡ Some stage) (may : IsAllowed y s (act thread choice)) → StandsBefore y (Some stage) steps
+        → TurnsTouch y p f.names u s (f.stacks may.0 thread stage at).own (thread_at y stage) (picks_of y s (act thread choice) ++ tried_by y s (act thread choice))
+    touch_in thread choice stage at may is =
+        let h = f.stacks may.0 thread stage at in
+        f.steps.reaches thread choice h.own stage h.at at may (subst (λ o. StandsBefore y o steps) (sym at) is)
+
+    -- a step that may come next
+    act_stays : (thread : ℕ) (choice : Choice) (stage : Stage Spot) → own_at s.own thread ≡ Some stage → IsAllowed y s (act thread choice) → ActStays y p given u s thread choice stage
+    act_stays thread choice stage at may = let h = f.stacks may.0 thread stage at in record {
+      stands = stands_by may.0;
+      own = h.own;
+      at = h.at;
+      touches = touch_in thread choice stage at may;
+      waits = f.steps.waits thread choice may;
+      traps = f.steps.traps thread choice may;
+      prints = f.steps.prints thread choice may;
+      calls = λ number begun end. f.steps.calls thread number choice h.own stage h.at at begun may end;
+    }
+
+    -- a malloc that may be served next
+    serve_stays : (v : Serve) (q : Thread Spot Words) → s.end ≡ None → own_at s.own v.thread ≡ Some (waiting q) → MayServe y s.memory v.choice (Some (waiting q)) → ServeStays y p given u s v q
+    serve_stays v q open_ at may =
+        let h = f.stacks open_ v.thread (waiting q) at in
+        let is = served_steps s.memory v.choice q may in
+        let acts : IsAllowed y s (act v.thread v.choice) = (open_, subst (MayStepAt y s.memory v.choice) (sym at) (served_acts s.memory v.choice q may)) in
+        let all = touch_in v.thread v.choice (waiting q) at acts is in
+        let own = h.own in
+        let first : TurnsTouch y p f.names u s own q (picks_of y s (act v.thread v.choice)) = all_first (λ (k : Pick). Unbroken (picked (program_of p) u k) → StepTouches y p f.names u s k own q) (picks_of y s (act v.thread v.choice)) (tried_by y s (act v.thread v.choice)) all in
+        let same : picks_of y s (act v.thread v.choice) ≡ picks_of_serve y s.memory v (Some (waiting q)) = ap (picks_of_act y s.memory v.thread v.choice) at ∙ ap (act_picks y s.memory v.thread v.choice q) is in
+        record { stands = stands_by open_; own = own; at = h.at; touches = subst (TurnsTouch y p f.names u s own q) same first }
+
+  module _ (p : Ir) (follows : (es : List Event) → AreAllowed y es (first_state y) → UpToABreak (run (program_of p) (start p) (order_of y es (first_state y))) (λ u. Follows y p es u (after_all y es (first_state y))))
+      (r : State Spot) (picks : List Pick) (tries : ℕ → List (ℕ × ℕ)) (given : List ℕ) (c : Comes y (first_state y) r picks tries given) where
+    there : UpToABreak (run (program_of p) (start p) picks) (λ u. Follows y p c.events u r)
+    there =
+        subst (λ (o : List Pick). UpToABreak (run (program_of p) (start p) o) (λ u. Follows y p c.events u r)) c.order
+        (subst (λ (z : State Spot). UpToABreak (run (program_of p) (start p) (order_of y c.events (first_state y))) (λ u. Follows y p c.events u z)) c.after (follows c.events c.allowed))
+
+    -- in the run of these turns, unless one breaks a rule
+    pub run_act_stays : (thread : ℕ) (choice : Choice) (stage : Stage Spot) → own_at r.own thread ≡ Some stage → IsAllowed y r (act thread choice) → UpToABreak (run (program_of p) (start p) picks) (λ u. ActStays y p given u r thread choice stage)
+    run_act_stays thread choice stage at may =
+        up_to (run (program_of p) (start p) picks) (λ u. Follows y p c.events u r) (λ u. ActStays y p given u r thread choice stage) (λ u reached f. act_stays p c.events given u r f c.ids thread choice stage at may) there
+
+    pub run_serve_stays : (v : Serve) (q : Thread Spot Words) → r.end ≡ None → own_at r.own v.thread ≡ Some (waiting q) → MayServe y r.memory v.choice (Some (waiting q)) → UpToABreak (run (program_of p) (start p) picks) (λ u. ServeStays y p given u r v q)
+    run_serve_stays v q open_ at may =
+        up_to (run (program_of p) (start p) picks) (λ u. Follows y p c.events u r) (λ u. ServeStays y p given u r v q) (λ u reached f. serve_stays p c.events given u r f c.ids v q open_ at may) there

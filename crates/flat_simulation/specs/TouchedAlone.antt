@@ -1,0 +1,55 @@
+-- What a step touches is all that it touches: no byte changes but those that it writes, and no byte matters to it but those that it reads.
+use Rattle.std.specs.Prelude.{◌≡◌, ◌⊎◌, ℕ, List, length, true, false}
+use Rattle.flat_store.specs.Flat.{HasByte, byte_at}
+use Rattle.struct_ir.specs.Linear.{Spot}
+use Rattle.flat_meaning.specs.Accesses.{Choice}
+use Rattle.flat_meaning.specs.Effects.{Effect, act_effect, look_effect, serve_effect}
+use Rattle.flat_meaning.specs.Image.{Image}
+use Rattle.flat_meaning.specs.Memory.{Memory, with_storage}
+use Rattle.flat_meaning.specs.Stages.{Stage, thread_at}
+use Rattle.flat_meaning.specs.Touched.{Touched, Touches, touched_at}
+
+-- the same but for its bytes
+abbrev pub with_other : Memory → (bytes : List ℕ) → Memory
+with_other m bytes = with_storage m (record m.storage { bytes = bytes })
+
+-- what the step at which a stage stands reads and writes
+abbrev pub touched_there : Image Spot → Memory → Stage Spot → List Touched
+touched_there y m stage = let p = (thread_at y stage).top in touched_at y.layout p.own m (y.flow.here p.at)
+
+-- as many bytes, of which each is as it was that isn't written
+pub record ChangesWritten (touched : List Touched) (old new : List ℕ) : Type 0 where
+  pub size : length new ≡ length old
+  pub others : (address : ℕ) → HasByte old address → ¬ Touches touched true address → byte_at new address ≡ byte_at old address
+
+-- as many bytes, of which each is the same that is read
+pub record ReadsSame (touched : List Touched) (old other : List ℕ) : Type 0 where
+  pub size : length other ≡ length old
+  pub same : (address : ℕ) → HasByte old address → Touches touched false address → byte_at other address ≡ byte_at old address
+
+-- the same came of memories with these bytes and with those: the same but for bytes, of which each is the same now, or stayed in both
+pub record SameMemory (old other : List ℕ) (m n : Memory) : Type 0 where
+  pub is : n ≡ with_other m n.storage.bytes
+  pub bytes : (address : ℕ) → HasByte old address
+      → (byte_at n.storage.bytes address ≡ byte_at m.storage.bytes address) ⊎ ((byte_at m.storage.bytes address ≡ byte_at old address) × (byte_at n.storage.bytes address ≡ byte_at other address))
+
+-- and the same of the thread and of the run
+pub record SameEffect (old other : List ℕ) (e f : Effect Spot) : Type 0 where
+  pub stage : f.stage ≡ e.stage
+  pub end : f.end ≡ e.end
+  pub memory : SameMemory old other e.memory f.memory
+
+-- of what is done to a memory: only the written bytes change, and whatever the bytes that aren't read, the same comes of it
+pub record TouchesAlone (touched : List Touched) (effect : Memory → Effect Spot) (m : Memory) : Type 0 where
+  pub writes : ChangesWritten touched m.storage.bytes (effect m).memory.storage.bytes
+  pub reads : (other : List ℕ) → ReadsSame touched m.storage.bytes other → SameEffect m.storage.bytes other (effect m) (effect (with_other m other))
+
+-- a thread's step, with whatever is chosen for it, its Look, and a malloc that is served
+pub record StepTouchesAlone (y : Image Spot) (thread : ℕ) (choice : Choice) (stage : Stage Spot) (m : Memory) : Type 0 where
+  pub acts : TouchesAlone (touched_there y m stage) (act_effect y thread choice stage) m
+  pub looks : TouchesAlone (touched_there y m stage) (look_effect y thread stage) m
+  pub serves : TouchesAlone (touched_there y m stage) (serve_effect y thread choice stage) m
+
+-- whatever the code, the thread, its stage, the choice and the memory
+abbrev pub StepsTouchAlone : Type 0
+StepsTouchAlone = (y : Image Spot) (thread : ℕ) (choice : Choice) (stage : Stage Spot) (m : Memory) → StepTouchesAlone y thread choice stage m
