@@ -1,36 +1,37 @@
 -- What the call comes to, from what `alaska` promises of it.
-use Rattle.std.proofs.Common.{◌≡◌, ◌≢◌, refl, sym, ap, subst, ◌∙◌, ℕ, ◌<◌, List, [], length, Option, Some, None, inl, inr, arith}
-use Rattle.std.specs.Prelude.{IsSome}
+use Rattle.std.proofs.Common.{◌≡◌, refl, sym, ap, subst, ◌∙◌, ℕ, ◌<◌, List, [], ◌++◌, length, Option, Some, None, inl, inr, arith}
 use Rattle.std.specs.Option.{option_map}
 use Rattle.ak_trace.specs.declared.entry.Entry.{Entry}
 use Rattle.clap.proofs.OnLiterals.{clap_on_literals}
-use Rattle.block_store.specs.Runs.{no_run}
+use Rattle.c_tree.specs.Typed.{Typed}
 use Rattle.c_meaning.specs.Meaning.{program, start}
 use Rattle.c_lex.specs.declared.refusal.Kind.{Kind}
 use Rattle.alaska_run.specs.Reading.{OneTree, NotBoth}
 use Rattle.alaska_run.specs.Built.{IsTreeOf}
 use Rattle.lower_forms.specs.Programs.{lowered}
-use Rattle.struct_ir.specs.Nodes.{Ir}
+use Rattle.lower_turns.specs.Turns.{KeepsEveryTurn}
+use Rattle.struct_ir.specs.Erased.{ir_erased}
 use Rattle.ak_trace.specs.declared.endings.End.{End}
 use Rattle.flat_rules.specs.declared.settings.Settings.{Settings}
-use Rattle.flat_rules.specs.declared.settings.Mode.TheVariants.{Run}
+use Rattle.flat_rules.specs.declared.settings.Mode.{Mode}
+use Rattle.flat_rules.specs.declared.settings.Mode.TheVariants.{Run, Churn}
 use Rattle.flat_machine.specs.Replays.{Final}
-use Rattle.flat_replay.specs.Meaning.{whole_run, IsAsMeant}
+use Rattle.flat_replay.specs.Meaning.{IsAsMeant}
 use Rattle.run_words.specs.Command.{alaska, are_taken, value_in}
 use Rattle.run_words.specs.Wanted.{Wanted, settings_of, wanted_by, wanted_of}
 use Rattle.run_words.specs.Numbers.{number_in}
 use Rattle.run_notes.specs.declared.status.Status.{Status}
 use Rattle.run_notes.specs.declared.status.Status.TheVariants as statuses
 use Rattle.run_notes.specs.Statuses.{status_of}
-use Rattle.run_notes.specs.Lines.{fault_line}
 use Rattle.run_notes.specs.Reports.{report_text}
 use Rattle.run_edges.specs.Files.{Shelved, IsWhole}
 use Rattle.run_edges.specs.Sinks.{Channel, Gained, GainedFront}
 use Rattle.run_edges.specs.Writing.{after_note_fault, Written}
 use Rattle.alaska_run.specs.Ending.{Ending, WantedMemory}
-use Rattle.alaska_run.specs.Sources.{Read, Failed, IsAll, source_of, source_in, name_in}
+use Rattle.alaska_run.specs.Sources.{Read, Failed, IsAll, source_of, source_in}
 use Rattle.alaska_run.specs.Faults.{IsRefused, IsFault}
-use Rattle.alaska_run.specs.Headline.{Headline, IsCodeOf, IsRun, IsWithoutARun, depth}
+use Rattle.alaska_run.specs.Modes.{IsCompiledTo, IsCodeBy, IsTheEnd, IsAnswerBy, IsWorkBy, IsWorkIn}
+use Rattle.alaska_run.specs.Headline.{Headline, OfATree, WithARun, WithoutARun, CameToNoRun, depth}
 use Rattle.heap_text.specs.Text.{text, tree}
 use Rattle.heap_text.specs.Read.{IsTheTree}
 use Rattle.heap_text.specs.Runs.{RunsAreKnown}
@@ -75,6 +76,15 @@ named_by : (file : List ℕ → Shelved) (o : Option Settings) (w : Wanted) → 
 named_by file None w e = absurd (cc e)
 named_by file (Some s) w e = ap (source_of file) (same_some (wanted_of s) w e)
 
+-- no mode does anything but run
+no_work_by : (mode : Mode) (e : Ending) (judged : Status) (output line : List ℕ) → IsWorkBy mode e judged output line → ⊥
+no_work_by Run e judged output line h = h
+no_work_by Churn e judged output line h = h
+
+no_work : (o : Option Settings) (e : Ending) (judged : Status) (output line : List ℕ) → IsWorkIn o e judged output line → ⊥
+no_work None e judged output line h = h
+no_work (Some s) e judged output line h = no_work_by s.mode e judged output line h
+
 -- nothing, and all, are first parts
 nothing_first : (out : Channel) → Gained out [] → GainedFront out answer
 nothing_first out h = ([], (answer, refl), h)
@@ -96,7 +106,16 @@ module _ (one_tree : OneTree) (not_both : NotBoth) (the_tree : IsTheTree) (known
 
   -- ---- where the call ran
 
-  module _ (log : List Entry) (journal : e.journal ≡ Some log) (end : End) (f : Final) (run : IsRun e log end f) where
+  module _ (log : List Entry) (journal : e.journal ≡ Some log) where
+    abbrev run : WithARun file out note e log
+    run = h.with_a_run log journal
+
+    abbrev end : End
+    end = run.the_run.end
+
+    abbrev f : Final
+    f = run.the_run.final
+
     no_want : WantedMemory e → ⊥
     no_want w = let no : Some log ≡ None = sym journal ∙ w.journal in absurd (cc no)
 
@@ -105,6 +124,9 @@ module _ (one_tree : OneTree) (not_both : NotBoth) (the_tree : IsTheTree) (known
       | inl s ↦ same_some (wanted_of run.settings) heap_wanted (sym (ap (option_map wanted_of) run.has_settings) ∙ (s ∙ wants))
       | inr w ↦ absurd (no_want w)
     ]
+
+    mode_is : run.settings.mode ≡ Run
+    mode_is = ap (λ (w : Wanted). w.mode) settings_are
 
     defaults : AreDefaults run.settings
     defaults = record {
@@ -120,17 +142,20 @@ module _ (one_tree : OneTree) (not_both : NotBoth) (the_tree : IsTheTree) (known
     named : source_in file e.settings ≡ Some (Read (file heap_name))
     named = ap (source_in file) run.has_settings ∙ ap (source_of file) settings_are
 
-    made : (checked : Ir) × (e.checked ≡ Some checked) × IsSome e.journal × IsCodeOf file e checked run.code
-    made = h.the_code.ran run.code run.has_code
-
     text_is : e.text ≡ text
-    text_is = let is : made.3.source ≡ Read (file heap_name) = same_some made.3.source (Read (file heap_name)) (sym made.3.from ∙ named) in whole_is (subst (λ s. IsAll s e.text) is made.3.whole)
+    text_is =
+        let code = run.the_code in
+        let is : code.source ≡ Read (file heap_name) = same_some code.source (Read (file heap_name)) (sym code.from ∙ named) in
+        whole_is (subst (λ s. IsAll s e.text) is code.whole)
 
-    typed_is : made.3.typed ≡ tree
-    typed_is = let built = made.3.built in (one_tree e.text (of_text text_is).tokens built.tree.tokens tree made.3.typed (of_text text_is).read built.tree.read).1
+    made : IsCompiledTo e.text run.checked run.code
+    made = subst (λ (mode : Mode). IsCodeBy mode e.text run.checked run.code) mode_is run.the_code.of_text
 
-    texts_code : IsTextsCode made.0 run.code
-    texts_code = let built = made.3.built in record {
+    typed_is : made.0 ≡ tree
+    typed_is = (one_tree e.text (of_text text_is).tokens made.1.tree.tokens tree made.0 (of_text text_is).read made.1.tree.read).1
+
+    texts_code : IsTextsCode run.checked run.code
+    texts_code = let built = made.1 in record {
       left = built.prepared.erased ∙ ap lowered typed_is;
       due = built.prepared.due;
       slots = built.prepared.slots;
@@ -140,24 +165,30 @@ module _ (one_tree : OneTree) (not_both : NotBoth) (the_tree : IsTheTree) (known
     }
 
     has_room : HasRoom log f
-    has_room = room made.0 run.code texts_code run.settings defaults log f run.replays
+    has_room = room run.checked run.code texts_code run.settings defaults log f run.the_run.the_same_order.replays
 
-    a_run : (turns : ℕ) → whole_run (program tree) (start tree) depth log ≢ no_run turns
-    a_run = h.the_same_order.a_run tree (of_text text_is) log end f journal run
+    keeps : KeepsEveryTurn tree (ir_erased run.checked)
+    keeps = subst (λ (t : Typed). KeepsEveryTurn t (ir_erased run.checked)) typed_is made.1.erased_turns
+
+    of_the_tree : OfATree tree run.checked run.code run.settings log f
+    of_the_tree = run.the_run.of_each_tree tree keeps
 
     meant : IsAsMeant (program tree) (start tree) depth log run.settings f
-    meant = h.what_the_text_means tree (of_text text_is) log end f journal run (clean known log f has_room a_run)
+    meant = of_the_tree.what_the_text_means (clean known log f has_room of_the_tree.a_run)
 
-    ended : Ended known log f has_room a_run end
-    ended = ended_so known log f has_room a_run run.settings (ap (λ (w : Wanted). w.output) settings_are) meant end run.ended
+    ended : Ended known log f has_room of_the_tree.a_run end
+    ended = ended_so known log f has_room of_the_tree.a_run run.settings (ap (λ (w : Wanted). w.output) settings_are) meant end run.the_run.the_same_order.ended
+
+    answered : IsTheEnd end run.judged run.behind
+    answered = subst (λ (mode : Mode). IsAnswerBy mode e end run.judged run.behind) mode_is run.answer
 
     ran_so : CameTo (file heap_name) out note e
-    ran_so = by (h.what_it_wrote log end f journal run)
+    ran_so = by run.what_it_wrote
       where
-        by : Written (status_of end) e.status f.output (report_text end f.report) out note → CameTo (file heap_name) out note e
-        by (inl w) = printed (w.status_is ∙ ap status_of ended.is) (subst (Gained out) ended.output w.out_gained)
+        by : Written run.judged e.status f.output (report_text end f.report ++ run.behind) out note → CameTo (file heap_name) out note e
+        by (inl w) = printed (w.status_is ∙ (answered.0 ∙ ap status_of ended.is)) (subst (Gained out) ended.output w.out_gained)
         by (inr (inl w)) = unwritten w.status_is (inl w.fault) (subst (GainedFront out) ended.output w.out_gained)
-        by (inr (inr w)) = unwritten (w.status_is ∙ ap (λ end. after_note_fault (status_of end)) ended.is) (inr w.fault) (all_first out (subst (Gained out) ended.output w.out_gained))
+        by (inr (inr w)) = unwritten (w.status_is ∙ ap after_note_fault (answered.0 ∙ ap status_of ended.is)) (inr w.fault) (all_first out (subst (Gained out) ended.output w.out_gained))
 
   -- ---- where nothing ran
 
@@ -201,15 +232,18 @@ module _ (one_tree : OneTree) (not_both : NotBoth) (the_tree : IsTheTree) (known
     by_want judged status (inr (inl w)) = absurd (w.some refl)
     by_want judged status (inr (inr w)) = wanted status w.out_gained
 
-  stopped_so : IsWithoutARun words file out note e → CameTo (file heap_name) out note e
-  stopped_so w = elim h.the_text.settings [
-    | inl s ↦ by_judged (fault_line (name_in e.settings) e.text w.judged) w.judged (named_by file e.settings heap_wanted (s ∙ wants)) w.fault w.written
-    | inr m ↦ by_want (fault_line (name_in e.settings) e.text w.judged) w.judged m.status w.written
-  ]
+  stopped_so : WithoutARun words file out note e → CameTo (file heap_name) out note e
+  stopped_so w =
+      let s : CameToNoRun words file e w.judged w.output w.line = elim w.why [ inl s ↦ s | inr k ↦ absurd (no_work e.settings e w.judged w.output w.line k) ] in
+      let nothing : Written w.judged e.status [] w.line out note = subst (λ (output : List ℕ). Written w.judged e.status output w.line out note) s.no_output w.written in
+      elim h.the_text.settings [
+        | inl is ↦ by_judged w.line w.judged (named_by file e.settings heap_wanted (is ∙ wants)) s.cause nothing
+        | inr m ↦ by_want w.line w.judged m.status nothing
+      ]
 
   pub came_to : CameTo (file heap_name) out note e
   came_to = by e.journal refl
     where
       by : (journal : Option (List Entry)) → e.journal ≡ journal → CameTo (file heap_name) out note e
       by None is = stopped_so (h.without_a_run is)
-      by (Some log) is = let r = h.the_same_order.replays log is in ran_so log is r.0 r.1 r.2
+      by (Some log) is = ran_so log is

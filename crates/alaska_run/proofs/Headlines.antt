@@ -1,22 +1,24 @@
 -- The headline, of each course that a call takes.
-use Rattle.std.proofs.Common.{◌≡◌, ℕ, List, [], Option, Some, None, refl, sym, ap, subst, ◌∙◌, ◌⊎◌, inl, inr, codes}
-use Rattle.std.specs.Prelude.{IsSome}
+use Rattle.std.proofs.Common.{◌≡◌, ℕ, List, [], ◌++◌, Option, Some, None, refl, sym, ap, subst, ◌∙◌, inl, inr, codes}
+use Rattle.std.proofs.lemmas.List.{append-nil}
 use Rattle.std.specs.Option.{option_map}
 use Rattle.std.specs.Arc.{arc_value}
 use Rattle.ak_trace.specs.declared.entry.Entry.{Entry}
 use Rattle.c_tree.specs.Typed.{Typed}
 use Rattle.c_meaning.specs.Meaning.{program, start}
-use Rattle.alaska_run.specs.Reading.{IsRead, OneTree}
-use Rattle.alaska_run.specs.Built.{IsBuilt, IsTreeOf}
+use Rattle.alaska_run.specs.Built.{IsBuilt}
 use Rattle.struct_ir.specs.Nodes.{Ir}
 use Rattle.struct_ir.specs.Instrs.{LinearCode}
+use Rattle.struct_ir.specs.Erased.{ir_erased}
+use Rattle.lower_turns.specs.Turns.{KeepsEveryTurn}
 use Rattle.pin_checker.specs.CheckedViews.{program_in}
 use Rattle.ak_trace.specs.declared.endings.End.{End}
 use Rattle.ak_trace.specs.declared.endings.End.TheVariants as ends
+use Rattle.flat_rules.specs.declared.settings.Mode.{Mode}
+use Rattle.flat_rules.specs.declared.settings.Mode.TheVariants.{Run, Churn}
 use Rattle.flat_rules.specs.declared.settings.Settings.{Settings}
-use Rattle.flat_machine.specs.Replays.{Final, final_at, final_of}
-use Rattle.flat_replay.specs.Accesses.{AccessesKeep}
-use Rattle.flat_replay.specs.Barriers.{BarriersKeep}
+use Rattle.flat_machine.specs.Replays.{final_at}
+use Rattle.flat_machine.proofs.Limits.{journals_fit}
 use Rattle.flat_replay.specs.Laws.{AccessesOfJournalsStay, JournalsMeanTheSource}
 use Rattle.flat_replay.specs.Meaning.{IsMeaning}
 use Rattle.run_words.specs.Wanted.{wanted_of}
@@ -34,16 +36,19 @@ use Rattle.alaska_run.specs.declared.running.Ran.{Ran}
 use Rattle.alaska_run.specs.Ending.{Ending}
 use Rattle.alaska_run.specs.Sources.{Source, source_in, name_in, IsAll}
 use Rattle.alaska_run.specs.Faults.{IsFault}
-use Rattle.alaska_run.specs.Headline.{Headline, IsTextOf, IsCodeOf, IsRun, depth}
+use Rattle.alaska_run.specs.Modes.{IsCompiledTo, IsCodeBy, IsTheEnd, IsAnswerBy}
+use Rattle.alaska_run.specs.Headline.{Headline, IsOrUnwritten, IsTextOf, OfATree, OfARun, WithARun, depth}
 use Rattle.alaska_run.specs.inner.Courses.{IsStopped, IsOpened, HasRun}
 
-pub none_there : {A : Type 0} (o : Option A) → o ≡ None → IsSome o → ⊥
-none_there None e h = cc h
-none_there (Some a) e h = cc e
+-- ---- the rows of the modes
 
-pub some_there : {A : Type 0} (o : Option A) (a : A) → o ≡ Some a → IsSome o
-some_there None a e = cc e
-some_there (Some b) a e = refl
+compiled_by : (mode : Mode) (text : List ℕ) (checked : Ir) (code : LinearCode) → IsCompiledTo text checked code → IsCodeBy mode text checked code
+compiled_by Run text checked code h = h
+compiled_by Churn text checked code h = h
+
+answer_by : (mode : Mode) (e : Ending) (end : End) (judged : Status) (behind : List ℕ) → IsTheEnd end judged behind → IsAnswerBy mode e end judged behind
+answer_by Run e end judged behind h = h
+answer_by Churn e end judged behind h = h
 
 -- ---- what a sink's fault makes of a status
 
@@ -56,10 +61,23 @@ run_fault ends.TurnLimit = refl
 run_fault ends.OutputLimit = refl
 run_fault (ends.StackLimit thread) = refl
 
-pub status_then : (end : End) (status : Status) (output line : List ℕ) (out note : Channel) → Written (status_of end) status output line out note → (status ≡ status_of end) ⊎ (status ≡ statuses.WriteFault)
-status_then end status output line out note (inl w) = inl w.status_is
-status_then end status output line out note (inr (inl w)) = inr w.status_is
-status_then end status output line out note (inr (inr w)) = inr (w.status_is ∙ run_fault end)
+judged_then : (judged status : Status) (output line : List ℕ) (out note : Channel) → after_note_fault judged ≡ statuses.WriteFault → Written judged status output line out note → IsOrUnwritten judged status
+judged_then judged status output line out note fault (inl w) = inl w.status_is
+judged_then judged status output line out note fault (inr (inl w)) = inr w.status_is
+judged_then judged status output line out note fault (inr (inr w)) = inr (w.status_is ∙ fault)
+
+-- a fault of reading stays one, or becomes a fault of writing
+unread_then : (judged status : Status) (output line : List ℕ) (out note : Channel) → Written judged status output line out note → IsOrUnwritten statuses.ReadFault judged → IsOrUnwritten statuses.ReadFault status
+unread_then judged status output line out note w (inl h) =
+    judged_then statuses.ReadFault status output line out note refl (subst (λ (z : Status). Written z status output line out note) h w)
+unread_then judged status output line out note w (inr h) =
+    elim (judged_then statuses.WriteFault status output line out note refl (subst (λ (z : Status). Written z status output line out note) h w)) [ inl a ↦ inr a | inr a ↦ inr a ]
+
+-- so what a text is stays so
+text_then : (source : Source) (text : List ℕ) (judged status : Status) (output line : List ℕ) (out note : Channel) → Written judged status output line out note → IsTextOf source text judged → IsTextOf source text status
+text_then source text judged status output line out note w (inl h) = inl h
+text_then source text judged status output line out note w (inr (inl h)) = inr (inl h)
+text_then source text judged status output line out note w (inr (inr h)) = inr (inr (record { failed = h.failed; none = h.none; told = unread_then judged status output line out note w h.told }))
 
 -- want of memory stays what it is
 memory_then : (status : Status) (line : List ℕ) (out note : Channel) → Written statuses.NoMemory status [] line out note → status ≡ statuses.NoMemory
@@ -72,125 +90,93 @@ memory_then status line out note (inr (inr w)) = w.status_is
 module _ (words : List (List ℕ)) (file : List ℕ → Shelved) (out note : Channel) (x : Opened) (r : Ran) (e : Ending) (o : IsOpened words file x) (h : HasRun x r)
     (es : e.settings ≡ Some x.settings) (et : e.text ≡ x.text.items) (ec : e.checked ≡ Some (program_in x.checked)) (ek : e.code ≡ Some (arc_value x.code)) (ej : e.journal ≡ Some r.journal.entries)
     (w : Written r.status e.status r.output.items r.line.items out note)
-    (meant : JournalsMeanTheSource) (stay : AccessesOfJournalsStay) (once : OneTree) where
+    (meant : JournalsMeanTheSource) (stay : AccessesOfJournalsStay) where
+  abbrev checked : Ir
+  checked = program_in x.checked
+
+  abbrev code : LinearCode
+  code = arc_value x.code
+
+  abbrev log : List Entry
+  log = r.journal.entries
+
+  -- ---- the text and its code
+
   whole : IsAll o.source e.text
   whole = subst (λ (t : List ℕ). IsAll o.source t) (sym et) o.whole
 
   from : source_in file e.settings ≡ Some o.source
   from = ap (source_in file) es ∙ o.from
 
-  text_of : (source : Source) → source_in file e.settings ≡ Some source → IsTextOf source e.text
-  text_of source n = let same : o.source ≡ source = cc (sym from ∙ n) in subst (λ (z : Source). IsTextOf z e.text) same (inl whole)
+  text_of : (source : Source) → source_in file e.settings ≡ Some source → IsTextOf source e.text e.status
+  text_of source n = let same : o.source ≡ source = cc (sym from ∙ n) in subst (λ (z : Source). IsTextOf z e.text e.status) same (inl whole)
 
-  code_is : (code : LinearCode) → e.code ≡ Some code → arc_value x.code ≡ code
-  code_is code k = cc (sym ek ∙ k)
+  compiled : IsCompiledTo e.text checked code
+  compiled = (o.typed, subst (λ (t : List ℕ). IsBuilt t o.typed checked code) (sym et) o.built)
 
-  is_code : IsCodeOf file e (program_in x.checked) (arc_value x.code)
-  is_code = record { source = o.source; from = from; whole = whole; typed = o.typed; built = subst (λ (t : List ℕ). IsBuilt t o.typed (program_in x.checked) (arc_value x.code)) (sym et) o.built }
+  -- ---- the run
 
-  log_is : (log : List Entry) → e.journal ≡ Some log → r.journal.entries ≡ log
-  log_is log l = cc (sym ej ∙ l)
+  -- what it means to each tree of which the code keeps every turn
+  meaning : (typed : Typed) → KeepsEveryTurn typed (ir_erased checked) → IsMeaning (program typed) (start typed) depth log x.settings h.final
+  meaning typed keeps =
+      subst (IsMeaning (program typed) (start typed) depth log x.settings) h.final_is
+      (meant typed checked keeps o.built.sound code o.built.emitted o.built.lawful o.ready.program x.settings log h.last h.leads)
 
-  is_run : (log : List Entry) → e.journal ≡ Some log → IsRun e log h.end h.final
-  is_run log l = record {
-    settings = x.settings;
-    code = arc_value x.code;
-    has_settings = es;
-    has_code = ek;
-    replays = subst (λ (z : List Entry). final_of (arc_value x.code) x.settings z ≡ Some h.final) (log_is log l) (ap (option_map (final_at (arc_value x.code) x.settings r.journal.entries)) h.leads ∙ ap (λ f. Some f) h.final_is);
-    ended = h.ended;
+  of_each_tree : (typed : Typed) → KeepsEveryTurn typed (ir_erased checked) → OfATree typed checked code x.settings log h.final
+  of_each_tree typed keeps = let m = meaning typed keeps in record {
+    a_run = m.a_run;
+    what_the_text_means = m.clean;
+    up_to_the_first_rule = m.broken;
+    no_access_leaves_its_object = stay checked o.built.sound code o.built.emitted o.built.lawful o.ready.program x.settings log h.last h.leads;
   }
 
-  -- a journal has one last state, and one end
-  same_final : (log : List Entry) (end : End) (f : Final) → e.journal ≡ Some log → IsRun e log end f → h.final ≡ f
-  unfolding is_run
-  same_final log end f l run =
-      let s : x.settings ≡ run.settings = cc (sym es ∙ run.has_settings) in
-      let k : arc_value x.code ≡ run.code = code_is run.code run.has_code in
-      let a : final_of run.code x.settings log ≡ Some h.final = subst (λ (z : LinearCode). final_of z x.settings log ≡ Some h.final) k (is_run log l).replays in
-      let b : final_of run.code run.settings log ≡ Some h.final = subst (λ (z : Settings). final_of run.code z log ≡ Some h.final) s a in
-      cc (sym b ∙ run.replays)
+  of_the_run : OfARun checked code x.settings log
+  of_the_run = record {
+    end = h.end;
+    final = h.final;
+    the_same_order = record { within = journals_fit code x.settings log h.last h.leads; replays = ap (option_map (final_at code x.settings log)) h.leads ∙ ap (λ f. Some f) h.final_is; ended = h.ended };
+    of_each_tree = of_each_tree;
+    no_pinned_object_every_handle = h.keeps;
+  }
 
-  same_end : (log : List Entry) (end : End) (f : Final) → e.journal ≡ Some log → IsRun e log end f → h.end ≡ end
-  same_end log end f l run = let a : Some h.end ≡ Some end = sym h.ended ∙ ap (λ (z : Final). z.end) (same_final log end f l run) ∙ run.ended in cc a
+  -- ---- what was written
 
-  wrote : Written (status_of h.end) e.status h.final.output (report_text h.end h.final.report) out note
+  wrote : Written (status_of h.end) e.status h.final.output (report_text h.end h.final.report ++ []) out note
   wrote =
       let a : Written (status_of h.end) e.status r.output.items r.line.items out note = subst (λ (z : Status). Written z e.status r.output.items r.line.items out note) h.status w in
       let b : Written (status_of h.end) e.status h.final.output r.line.items out note = subst (λ (z : List ℕ). Written (status_of h.end) e.status z r.line.items out note) h.output a in
-      subst (λ (z : List ℕ). Written (status_of h.end) e.status h.final.output z out note) h.line b
+      subst (λ (z : List ℕ). Written (status_of h.end) e.status h.final.output z out note) (h.line ∙ sym (append-nil (report_text h.end h.final.report))) b
 
-  wrote_of : (log : List Entry) (end : End) (f : Final) → e.journal ≡ Some log → IsRun e log end f → Written (status_of end) e.status f.output (report_text end f.report) out note
-  wrote_of log end f l run =
-      let a : Written (status_of h.end) e.status f.output (report_text h.end f.report) out note = subst (λ (z : Final). Written (status_of h.end) e.status z.output (report_text h.end z.report) out note) (same_final log end f l run) wrote in
-      subst (λ (z : End). Written (status_of z) e.status f.output (report_text z f.report) out note) (same_end log end f l run) a
+  -- ---- the whole
 
-  -- and its barriers keep objects
-  keeps : (log : List Entry) (end : End) (f : Final) → e.journal ≡ Some log → (run : IsRun e log end f) → BarriersKeep run.code run.settings log
-  keeps log end f l run =
-      let s : x.settings ≡ run.settings = cc (sym es ∙ run.has_settings) in
-      let k : arc_value x.code ≡ run.code = code_is run.code run.has_code in
-      let a : BarriersKeep (arc_value x.code) x.settings log = subst (λ (z : List Entry). BarriersKeep (arc_value x.code) x.settings z) (log_is log l) h.keeps in
-      let b : BarriersKeep run.code x.settings log = subst (λ (z : LinearCode). BarriersKeep z x.settings log) k a in
-      subst (λ (z : Settings). BarriersKeep run.code z log) s b
-
-  -- ---- what the text means
-
-  -- the text's tree is the one that was compiled
-  tree_is : (typed : Typed) → IsTreeOf e.text typed → o.typed ≡ typed
-  tree_is typed tree = sym (once x.text.items o.built.tree.tokens tree.tokens o.typed typed o.built.tree.read (subst (λ (t : List ℕ). IsRead t tree.tokens typed) et tree.read)).1
-
-  -- the run's journal means what that tree means
-  its_meaning : IsMeaning (program o.typed) (start o.typed) depth r.journal.entries x.settings h.final
-  its_meaning =
-      subst (IsMeaning (program o.typed) (start o.typed) depth r.journal.entries x.settings) h.final_is
-      (meant o.typed (program_in x.checked) o.built.erased_turns o.built.sound (arc_value x.code) o.built.emitted o.built.lawful o.ready.program x.settings r.journal.entries h.last h.leads)
-
-  -- so does any that is told of it
-  meaning : (typed : Typed) → IsTreeOf e.text typed → (log : List Entry) (end : End) (f : Final) → e.journal ≡ Some log → (run : IsRun e log end f) → IsMeaning (program typed) (start typed) depth log run.settings f
-  meaning typed tree log end f l run =
-      let s : x.settings ≡ run.settings = cc (sym es ∙ run.has_settings) in
-      let a : IsMeaning (program o.typed) (start o.typed) depth log x.settings h.final = subst (λ (z : List Entry). IsMeaning (program o.typed) (start o.typed) depth z x.settings h.final) (log_is log l) its_meaning in
-      let b : IsMeaning (program o.typed) (start o.typed) depth log x.settings f = subst (IsMeaning (program o.typed) (start o.typed) depth log x.settings) (same_final log end f l run) a in
-      let c : IsMeaning (program o.typed) (start o.typed) depth log run.settings f = subst (λ (z : Settings). IsMeaning (program o.typed) (start o.typed) depth log z f) s b in
-      subst (λ (t : Typed). IsMeaning (program t) (start t) depth log run.settings f) (tree_is typed tree) c
-
-  -- and its accesses stay in their objects
-  accesses : (log : List Entry) (end : End) (f : Final) → e.journal ≡ Some log → (run : IsRun e log end f) → (checked : Ir) → e.checked ≡ Some checked → AccessesKeep checked run.code run.settings log
-  accesses log end f l run checked is =
-      let s : x.settings ≡ run.settings = cc (sym es ∙ run.has_settings) in
-      let k : arc_value x.code ≡ run.code = code_is run.code run.has_code in
-      let p : program_in x.checked ≡ checked = cc (sym ec ∙ is) in
-      let a : AccessesKeep (program_in x.checked) (arc_value x.code) x.settings r.journal.entries = stay (program_in x.checked) o.built.sound (arc_value x.code) o.built.emitted o.built.lawful o.ready.program x.settings r.journal.entries h.last h.leads in
-      let b : AccessesKeep (program_in x.checked) (arc_value x.code) x.settings log = subst (AccessesKeep (program_in x.checked) (arc_value x.code) x.settings) (log_is log l) a in
-      let c : AccessesKeep (program_in x.checked) run.code x.settings log = subst (λ (z : LinearCode). AccessesKeep (program_in x.checked) z x.settings log) k b in
-      let d : AccessesKeep (program_in x.checked) run.code run.settings log = subst (λ (z : Settings). AccessesKeep (program_in x.checked) run.code z log) s c in
-      subst (λ (z : Ir). AccessesKeep z run.code run.settings log) p d
+  with_it : WithARun file out note e log
+  unfolding of_the_run
+  with_it = record {
+    settings = x.settings;
+    checked = checked;
+    code = code;
+    has_settings = es;
+    has_checked = ec;
+    has_code = ek;
+    the_code = record { source = o.source; from = from; whole = whole; of_text = compiled_by x.settings.mode e.text checked code compiled };
+    the_run = of_the_run;
+    judged = status_of h.end;
+    behind = [];
+    answer = answer_by x.settings.mode e h.end (status_of h.end) [] (refl, refl);
+    what_it_wrote = wrote;
+    how_it_ended = judged_then (status_of h.end) e.status h.final.output (report_text h.end h.final.report ++ []) out note (run_fault h.end) wrote;
+  }
 
   pub of_run : Headline words file out note e
   of_run = record {
     the_text = record { settings = inl (ap (option_map wanted_of) es ∙ sym o.settings); text = text_of; none = λ n. absurd (let z : Some x.settings ≡ None = sym es ∙ n in cc z) };
-    the_code = record {
-      ran = λ code k. (program_in x.checked, ec, some_there e.journal _ ej, subst (λ (z : LinearCode). IsCodeOf file e (program_in x.checked) z) (code_is code k) is_code);
-      checked = λ z. some_there e.code _ ek;
-      journal = λ z. some_there e.code _ ek;
-    };
-    the_same_order = record { replays = λ log l. (h.end, h.final, is_run log l); a_run = λ typed tree log end f l run. (meaning typed tree log end f l run).a_run };
-    what_it_wrote = wrote_of;
-    without_a_run = λ none. absurd (let z : Some r.journal.entries ≡ None = sym ej ∙ none in cc z);
-    how_it_ended = λ log end f l run. status_then end e.status f.output (report_text end f.report) out note (wrote_of log end f l run);
-    what_the_text_means = λ typed tree log end f l run. (meaning typed tree log end f l run).clean;
-    up_to_the_first_rule = λ typed tree log end f l run. (meaning typed tree log end f l run).broken;
-    no_access_leaves_its_object = accesses;
-    no_pinned_object_every_handle = keeps;
+    with_a_run = λ other l. let same : log ≡ other = cc (sym ej ∙ l) in subst (λ (z : List Entry). WithARun file out note e z) same with_it;
+    without_a_run = λ none. absurd (let z : Some log ≡ None = sym ej ∙ none in cc z);
   }
 
 -- ---- no run
 
 module _ (words : List (List ℕ)) (file : List ℕ → Shelved) (out note : Channel) (e : Ending) (ec : e.checked ≡ None) (ek : e.code ≡ None) (ej : e.journal ≡ None) where
-  no_code : (code : LinearCode) → e.code ≡ Some code → ⊥
-  no_code code k = let z : None ≡ Some code = sym ek ∙ k in cc z
-
   no_log : (log : List Entry) → e.journal ≡ Some log → ⊥
   no_log log l = let z : None ≡ Some log = sym ej ∙ l in cc z
 
@@ -198,22 +184,21 @@ module _ (words : List (List ℕ)) (file : List ℕ → Shelved) (out note : Cha
   of_stopped x s es et w = record {
     the_text = record {
       settings = inl (ap (option_map wanted_of) es ∙ s.settings);
-      text = λ source n. subst (λ (t : List ℕ). IsTextOf source t) (sym et) (s.text source (ap (source_in file) (sym es) ∙ n));
+      text = λ source n. subst (λ (t : List ℕ). IsTextOf source t e.status) (sym et) (text_then source x.text.items x.status e.status [] x.line.items out note w (s.text source (ap (source_in file) (sym es) ∙ n)));
       none = λ n. et ∙ s.none (sym es ∙ n);
     };
-    the_code = record { ran = λ code k. absurd (no_code code k); checked = λ z. absurd (none_there e.checked ec z); journal = λ z. absurd (none_there e.journal ej z) };
-    the_same_order = record { replays = λ log l. absurd (no_log log l); a_run = λ typed tree log end f l run. absurd (no_log log l) };
-    what_it_wrote = λ log end f l run. absurd (no_log log l);
+    with_a_run = λ log l. absurd (no_log log l);
     without_a_run = λ none.
-        let P : Option Settings → List ℕ → Type 0 = λ o t. IsFault words file o t x.status × Written x.status e.status [] (fault_line (name_in o) t x.status) out note in
-        let here : P x.settings x.text.items = (s.fault, subst (λ (z : List ℕ). Written x.status e.status [] z out note) s.line w) in
+        let P : Option Settings → List ℕ → Type 0 = λ o t. IsFault words file o t x.status × (x.line.items ≡ fault_line (name_in o) t x.status) in
+        let here : P x.settings x.text.items = (s.fault, s.line) in
         let there : P e.settings e.text = subst (λ (t : List ℕ). P e.settings t) (sym et) (subst (λ (o : Option Settings). P o x.text.items) (sym es) here) in
-        record { judged = x.status; fault = there.0; written = there.1 };
-    how_it_ended = λ log end f l run. absurd (no_log log l);
-    what_the_text_means = λ typed tree log end f l run. absurd (no_log log l);
-    up_to_the_first_rule = λ typed tree log end f l run. absurd (no_log log l);
-    no_access_leaves_its_object = λ log end f l run. absurd (no_log log l);
-    no_pinned_object_every_handle = λ log end f l run. absurd (no_log log l);
+        record {
+          judged = x.status;
+          output = [];
+          line = x.line.items;
+          why = inl (record { cause = there.0; no_checked = ec; no_code = ek; no_output = refl; line_is = there.1 });
+          written = w;
+        };
   }
 
   pub of_no_memory : e.settings ≡ None → e.text ≡ [] → Written statuses.NoMemory e.status [] (codes "alaska: out of memory\n") out note → Headline words file out note e
@@ -223,13 +208,12 @@ module _ (words : List (List ℕ)) (file : List ℕ → Shelved) (out note : Cha
       text = λ source n. absurd (let z : None ≡ Some source = ap (source_in file) (sym es) ∙ n in cc z);
       none = λ n. et;
     };
-    the_code = record { ran = λ code k. absurd (no_code code k); checked = λ z. absurd (none_there e.checked ec z); journal = λ z. absurd (none_there e.journal ej z) };
-    the_same_order = record { replays = λ log l. absurd (no_log log l); a_run = λ typed tree log end f l run. absurd (no_log log l) };
-    what_it_wrote = λ log end f l run. absurd (no_log log l);
-    without_a_run = λ none. record { judged = statuses.NoMemory; fault = tt; written = w };
-    how_it_ended = λ log end f l run. absurd (no_log log l);
-    what_the_text_means = λ typed tree log end f l run. absurd (no_log log l);
-    up_to_the_first_rule = λ typed tree log end f l run. absurd (no_log log l);
-    no_access_leaves_its_object = λ log end f l run. absurd (no_log log l);
-    no_pinned_object_every_handle = λ log end f l run. absurd (no_log log l);
+    with_a_run = λ log l. absurd (no_log log l);
+    without_a_run = λ none. record {
+      judged = statuses.NoMemory;
+      output = [];
+      line = codes "alaska: out of memory\n";
+      why = inl (record { cause = tt; no_checked = ec; no_code = ek; no_output = refl; line_is = refl });
+      written = w;
+    };
   }

@@ -28,15 +28,15 @@ where_ok P Q (Err e) f h = h
 
 module _ (words : List (List ℕ)) (file : List ℕ → Shelved) (s : Settings) (source : Source) (text : List ℕ) (said : settings_of words ≡ Some (wanted_of s)) (from : source_of file (wanted_of s) ≡ Some source) where
   -- the text of the one source that the settings have
-  of_source : IsTextOf source text → (other : Source) → source_in file (Some s) ≡ Some other → IsTextOf other text
-  of_source h other e = let same : source ≡ other = cc (sym from ∙ e) in subst (λ (z : Source). IsTextOf z text) same h
+  of_source : (status : Status) → IsTextOf source text status → (other : Source) → source_in file (Some s) ≡ Some other → IsTextOf other text status
+  of_source status h other e = let same : source ≡ other = cc (sym from ∙ e) in subst (λ (z : Source). IsTextOf z text status) same h
 
   -- a call that comes to no run, of these settings
-  pub stopped : (status : Status) (x : Stopped) → IsTextOf source text → IsFault words file (Some s) text status → IsStoppedWith status (Some s) text x → IsStopped words file x
+  pub stopped : (status : Status) (x : Stopped) → IsTextOf source text status → IsFault words file (Some s) text status → IsStoppedWith status (Some s) text x → IsStopped words file x
   stopped status x of fault w =
-      let P : Option Settings → List ℕ → Status → Type 0 = λ o t u. (option_map wanted_of o ≡ settings_of words) × ((z : Source) → source_in file o ≡ Some z → IsTextOf z t)
+      let P : Option Settings → List ℕ → Status → Type 0 = λ o t u. (option_map wanted_of o ≡ settings_of words) × ((z : Source) → source_in file o ≡ Some z → IsTextOf z t u)
       × (o ≡ None → t ≡ []) × IsFault words file o t u × (x.line.items ≡ fault_line (name_in o) t u) in
-      let here : P (Some s) text status = (sym said, of_source of, (λ e. absurd cc), fault, w.line) in
+      let here : P (Some s) text status = (sym said, of_source status of, (λ e. absurd cc), fault, w.line) in
       let a : P x.settings text status = subst (λ o. P o text status) (sym w.settings_are) here in
       let b : P x.settings x.text.items status = subst (λ t. P x.settings t status) (sym w.text_is) a in
       let c : P x.settings x.text.items x.status = subst (λ u. P x.settings x.text.items u) (sym w.status_is) b in
@@ -58,7 +58,7 @@ module _ (words : List (List ℕ)) (file : List ℕ → Shelved) (s : Settings) 
       stopped (statuses.Refused h.reason.place h.reason.kind) x (inl whole) (source, from, inl (whole, h.refuses)) h.stopped
 
   -- and one that was not
-  pub not_run : (status : Status) → IsTextOf source text → IsFault words file (Some s) text status → (x : Course) → IsStoppedAs status (Some s) text x → IsCourse words file x
+  pub not_run : (status : Status) → IsTextOf source text status → IsFault words file (Some s) text status → (x : Course) → IsStoppedAs status (Some s) text x → IsCourse words file x
   not_run status of fault (courses.Stopped x) h = stopped status x of fault h
   not_run status of fault (courses.Opened x) h = absurd h
 

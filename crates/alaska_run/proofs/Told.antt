@@ -1,5 +1,6 @@
 -- What the headline says of each status.
 use Rattle.std.proofs.Common.{◌≡◌, ◌≢◌, ℕ, ◌<◌, ◌≤◌, List, length, Option, Some, None, refl, sym, ap, subst, ◌∙◌, ◌⊎◌, inl, inr, arith}
+use Rattle.std.specs.Prelude.{IsSome}
 use Rattle.std.specs.Option.{option_map}
 use Rattle.ak_trace.specs.declared.entry.Entry.{Entry}
 use Rattle.c_lex.specs.declared.refusal.Refusal.{Refusal}
@@ -8,8 +9,12 @@ use Rattle.c_lex.specs.declared.refusal.Kind.TheVariants.{TooLong}
 use Rattle.c_tree.specs.Typed.{Typed}
 use Rattle.alaska_run.specs.Reading.{Refuses, NotBoth, OneReason}
 use Rattle.alaska_run.specs.Built.{IsTreeOf}
+use Rattle.struct_ir.specs.Nodes.{Ir}
+use Rattle.struct_ir.specs.Instrs.{LinearCode}
 use Rattle.ak_trace.specs.declared.endings.End.{End}
 use Rattle.ak_trace.specs.declared.endings.End.TheVariants as ends
+use Rattle.flat_rules.specs.declared.settings.Mode.{Mode}
+use Rattle.flat_rules.specs.declared.settings.Mode.TheVariants.{Run, Churn}
 use Rattle.flat_rules.specs.declared.settings.Settings.{Settings}
 use Rattle.run_words.specs.Wanted.{Wanted, settings_of, wanted_of}
 use Rattle.run_notes.specs.declared.status.Status.{Status}
@@ -21,13 +26,37 @@ use Rattle.run_edges.specs.Writing.{after_note_fault}
 use Rattle.alaska_run.specs.Ending.{Ending, WantedMemory}
 use Rattle.alaska_run.specs.Sources.{Source, Read, Made, source_of, source_in, Tells, IsAll, IsFirst, Failed}
 use Rattle.alaska_run.specs.Faults.{IsFault, IsRefused}
-use Rattle.alaska_run.specs.Headline.{Headline, IsWithoutARun}
+use Rattle.alaska_run.specs.Modes.{IsCompiledTo, IsCodeBy, IsAnswerBy, IsWorkBy, IsWorkIn}
+use Rattle.alaska_run.specs.Headline.{Headline, IsOrUnwritten, WithARun, WithoutARun, CameToNoRun}
 use Rattle.alaska_run.specs.Answers.{Causes, Answers, IsUnlessMemory, IsTold}
-use Rattle.alaska_run.proofs.Headlines.{none_there, some_there}
 
 there_or_not : {A : Type 0} (o : Option A) → (o ≡ None) ⊎ ((a : A) × (o ≡ Some a))
 there_or_not None = inl refl
 there_or_not (Some a) = inr (a, refl)
+
+some_there : {A : Type 0} (o : Option A) (a : A) → o ≡ Some a → IsSome o
+some_there None a e = cc e
+some_there (Some b) a e = refl
+
+-- ---- the rows of the modes
+
+pub compiled_in : (mode : Mode) (text : List ℕ) (checked : Ir) (code : LinearCode) → IsCodeBy mode text checked code → IsCompiledTo text checked code
+compiled_in Run text checked code h = h
+compiled_in Churn text checked code h = h
+
+pub judged_in : (mode : Mode) (e : Ending) (end : End) (judged : Status) (behind : List ℕ) → IsAnswerBy mode e end judged behind → judged ≡ status_of end
+judged_in Run e end judged behind h = h.0
+judged_in Churn e end judged behind h = h.0
+
+no_work_by : (mode : Mode) (e : Ending) (judged : Status) (output line : List ℕ) → IsWorkBy mode e judged output line → ⊥
+no_work_by Run e judged output line h = h
+no_work_by Churn e judged output line h = h
+
+no_work : (o : Option Settings) (e : Ending) (judged : Status) (output line : List ℕ) → IsWorkIn o e judged output line → ⊥
+no_work None e judged output line h = h
+no_work (Some settings) e judged output line h = no_work_by settings.mode e judged output line h
+
+-- ---- the ends of a run
 
 -- no end of a run is one of these
 not_usage : (end : End) → status_of end ≢ statuses.Usage
@@ -105,29 +134,35 @@ first_longer (Made made) text bytes first told = absurd first
 module _ (words : List (List ℕ)) (file : List ℕ → Shelved) (out note : Channel) (e : Ending) (h : Headline words file out note e) where
   -- ---- with a run
   module _ (log : List Entry) (l : e.journal ≡ Some log) where
-    abbrev end : End
-    end = (h.the_same_order.replays log l).0
+    abbrev run : WithARun file out note e log
+    run = h.with_a_run log l
 
-    run_status : (e.status ≡ status_of end) ⊎ (e.status ≡ statuses.WriteFault)
-    run_status = h.how_it_ended log end (h.the_same_order.replays log l).1 l (h.the_same_order.replays log l).2
+    judged_so : run.judged ≡ status_of run.the_run.end
+    judged_so = judged_in run.settings.mode e run.the_run.end run.judged run.behind run.answer
+
+    run_status : IsOrUnwritten (status_of run.the_run.end) e.status
+    run_status = subst (λ (z : Status). IsOrUnwritten z e.status) judged_so run.how_it_ended
 
     never : (s : Status) → ((end : End) → status_of end ≢ s) → s ≢ statuses.WriteFault → e.status ≡ s → ⊥
-    never s other not is = elim run_status [ inl a ↦ other end (sym a ∙ is) | inr b ↦ not (sym is ∙ b) ]
+    never s other not is = elim run_status [ inl a ↦ other run.the_run.end (sym a ∙ is) | inr b ↦ not (sym is ∙ b) ]
 
     run_fault : e.status ≡ statuses.WriteFault → WriteFailed out ⊎ WriteFailed note
-    run_fault is = elim (h.what_it_wrote log end (h.the_same_order.replays log l).1 l (h.the_same_order.replays log l).2) [
-      | inl w ↦ absurd (not_write_fault end (sym w.status_is ∙ is))
+    run_fault is = elim run.what_it_wrote [
+      | inl w ↦ absurd (not_write_fault run.the_run.end (sym judged_so ∙ sym w.status_is ∙ is))
       | inr x ↦ elim x [ inl w ↦ inl w.fault | inr w ↦ inr w.fault ]
     ]
 
   -- ---- without one
   module _ (none : e.journal ≡ None) where
-    abbrev w : IsWithoutARun words file out note e
+    abbrev w : WithoutARun words file out note e
     w = h.without_a_run none
+
+    stopped : CameToNoRun words file e w.judged w.output w.line
+    stopped = elim w.why [ inl s ↦ s | inr k ↦ absurd (no_work e.settings e w.judged w.output w.line k) ]
 
     -- the status is the judged one, or note failed
     judged : (e.status ≡ w.judged) ⊎ ((e.status ≡ after_note_fault w.judged) × WriteFailed note)
-    judged = elim w.written [ inl a ↦ inl a.status_is | inr x ↦ elim x [ inl a ↦ absurd (a.some refl) | inr a ↦ inr (a.status_is, a.fault) ] ]
+    judged = elim w.written [ inl a ↦ inl a.status_is | inr x ↦ elim x [ inl a ↦ absurd (a.some stopped.no_output) | inr a ↦ inr (a.status_is, a.fault) ] ]
 
     judged_as : (s : Status) → s ≢ statuses.NoMemory → s ≢ statuses.WriteFault → e.status ≡ s → w.judged ≡ s
     judged_as s other not is = elim judged [
@@ -136,7 +171,7 @@ module _ (words : List (List ℕ)) (file : List ℕ → Shelved) (out note : Cha
     ]
 
     fault_at : (s : Status) → w.judged ≡ s → IsFault words file e.settings e.text s
-    fault_at s is = subst (λ (z : Status). IsFault words file e.settings e.text z) is w.fault
+    fault_at s is = subst (λ (z : Status). IsFault words file e.settings e.text z) is stopped.cause
 
     no_run_fault : e.status ≡ statuses.WriteFault → WriteFailed out ⊎ WriteFailed note
     no_run_fault is = elim judged [ inl a ↦ absurd (fault_at statuses.WriteFault (sym a ∙ is)) | inr b ↦ inr b.1 ]
@@ -177,7 +212,7 @@ module _ (words : List (List ℕ)) (file : List ℕ → Shelved) (out note : Cha
     by_cause none (statuses.StackLimit thread) is f = absurd f
 
     caused : e.journal ≡ None → G ⊎ WantedMemory e
-    caused none = elim (judged none) [ inl a ↦ by_cause none (w none).judged a (w none).fault | inr b ↦ absurd (kept b.1) ]
+    caused none = elim (judged none) [ inl a ↦ by_cause none (w none).judged a (stopped none).cause | inr b ↦ absurd (kept b.1) ]
 
   -- the source is the one that the words have
   module _ (bytes : List ℕ) (t : IsTold words file out note bytes) where
@@ -201,15 +236,13 @@ module _ (words : List (List ℕ)) (file : List ℕ → Shelved) (out note : Cha
 
     -- a run is of a text that is all of its source, and has a tree
     ran_whole : (log : List Entry) → e.journal ≡ Some log → (typed : Typed) × (e.text ≡ bytes) × IsTreeOf e.text typed × (length e.text ≤ most_bytes)
-    ran_whole log l = elim (there_or_not e.code) [
-      | inl n ↦ absurd (none_there e.code n (h.the_code.journal (some_there e.journal log l)))
-      | inr k ↦
-          let code = h.the_code.ran k.0 k.1 in
-          elim (same_source code.3.source code.3.from) [
-            | inl s ↦ (code.3.typed, is_bytes code.3.source s code.3.whole, code.3.built.tree, all_short code.3.source e.text code.3.whole)
-            | inr m ↦ absurd (let z : Some log ≡ None = sym l ∙ m.journal in cc z)
-          ]
-    ]
+    ran_whole log l =
+        let run = h.with_a_run log l in
+        let code = run.the_code in
+        elim (same_source code.source code.from) [
+          | inl s ↦ (let made = compiled_in run.settings.mode e.text run.checked run.code code.of_text in (made.0, is_bytes code.source s code.whole, made.1.tree, all_short code.source e.text code.whole))
+          | inr m ↦ absurd (let z : Some log ≡ None = sym l ∙ m.journal in cc z)
+        ]
 
     -- a refusal of a text that is not too long
     module _ (short : length bytes ≤ most_bytes) where
@@ -247,7 +280,7 @@ module _ (words : List (List ℕ)) (file : List ℕ → Shelved) (out note : Cha
             (λ source f failed. plainly none source f)
             (λ place kind is source f r. plainly none source f) n)
         | inr l ↦ inr (elim h.the_text.settings [
-          | inl a ↦ absurd (let run = (h.the_same_order.replays l.0 l.1).2 in plain_some e.settings run.settings run.has_settings (a ∙ none))
+          | inl a ↦ absurd (let run = h.with_a_run l.0 l.1 in plain_some e.settings run.settings run.has_settings (a ∙ none))
           | inr m ↦ m
         ])
       ];

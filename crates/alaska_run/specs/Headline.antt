@@ -1,15 +1,16 @@
 -- What a call of `alaska` promises, part by part: what it wrote and how it ended is what its journal replays to, on the text's own code and
--- under the settings of its words.
-use Rattle.std.specs.Prelude.{◌≡◌, ◌≢◌, ℕ, ◌⊎◌, List, [], length, IsSome, Some, None}
+-- under the settings of its words. What only one mode says stands in Modes.antt.
+use Rattle.std.specs.Prelude.{◌≡◌, ◌≢◌, ℕ, ◌≤◌, ◌⊎◌, List, [], ◌++◌, length, Some, None}
 use Rattle.std.specs.Option.{option_map}
 use Rattle.ak_trace.specs.declared.entry.Entry.{Entry}
 use Rattle.block_store.specs.Runs.{no_run}
 use Rattle.c_tree.specs.Typed.{Typed}
 use Rattle.c_meaning.specs.Control.{Control}
 use Rattle.c_meaning.specs.Meaning.{program, start}
-use Rattle.alaska_run.specs.Built.{IsBuilt, IsTreeOf}
 use Rattle.struct_ir.specs.Nodes.{Ir}
+use Rattle.struct_ir.specs.Erased.{ir_erased}
 use Rattle.struct_ir.specs.Instrs.{LinearCode}
+use Rattle.lower_turns.specs.Turns.{KeepsEveryTurn}
 use Rattle.ak_trace.specs.declared.endings.End.{End}
 use Rattle.flat_rules.specs.declared.settings.Settings.{Settings}
 use Rattle.flat_machine.specs.Replays.{Final, final_of}
@@ -19,7 +20,6 @@ use Rattle.flat_replay.specs.Meaning.{whole_run, IsClean, IsFirstBreak, IsAsMean
 use Rattle.run_words.specs.Wanted.{settings_of, wanted_of}
 use Rattle.run_notes.specs.declared.status.Status.{Status}
 use Rattle.run_notes.specs.declared.status.Status.TheVariants as statuses
-use Rattle.run_notes.specs.Statuses.{status_of}
 use Rattle.run_notes.specs.Lines.{fault_line}
 use Rattle.run_notes.specs.Reports.{report_text}
 use Rattle.run_edges.specs.Files.{Shelved}
@@ -28,112 +28,122 @@ use Rattle.run_edges.specs.Writing.{Written}
 use Rattle.alaska_run.specs.Ending.{Ending, WantedMemory}
 use Rattle.alaska_run.specs.Sources.{Source, source_in, name_in, IsAll, IsFirst, Failed}
 use Rattle.alaska_run.specs.Faults.{IsFault}
+use Rattle.alaska_run.specs.Modes.{IsCodeBy, IsAnswerBy, IsWorkIn}
+
+-- ---- the status
+
+-- the status is the judged one, or a fault of writing, as a sink failed
+abbrev pub IsOrUnwritten : (judged status : Status) → Type 0
+IsOrUnwritten judged status = (status ≡ judged) ⊎ (status ≡ statuses.WriteFault)
 
 -- ---- the text
 
+-- a read of its source failed, there is no text, and the status says so
+pub record IsUnread (source : Source) (text : List ℕ) (status : Status) : Type 0 where
+  pub failed : Failed source
+  pub none : text ≡ []
+  pub told : IsOrUnwritten statuses.ReadFault status
+
 -- the text is all of its source; or its first bytes, where it has more than a text may have; or none, where it couldn't be read
-abbrev pub IsTextOf : Source → List ℕ → Type 0
-IsTextOf source text = IsAll source text ⊎ IsFirst source text ⊎ (Failed source × (text ≡ []))
+abbrev pub IsTextOf : Source → List ℕ → Status → Type 0
+IsTextOf source text status = IsAll source text ⊎ IsFirst source text ⊎ IsUnread source text status
 
 -- the settings are those of the words, and the text is that of the file that they name or, in mode churn, of their seed and their size
 pub record TheText (words : List (List ℕ)) (file : List ℕ → Shelved) (e : Ending) : Type 0 where
   pub settings : (option_map wanted_of e.settings ≡ settings_of words) ⊎ WantedMemory e
-  pub text : (source : Source) → source_in file e.settings ≡ Some source → IsTextOf source e.text
+  pub text : (source : Source) → source_in file e.settings ≡ Some source → IsTextOf source e.text e.status
   pub none : e.settings ≡ None → e.text ≡ []
 
--- ---- the code
+-- ---- a run, by its code, checked and as it ran, its settings and its journal
 
--- the code is that of the text: checked code that is safe for moves and that, with its Looks, safepoints and lists and without them, keeps
--- every turn of the text's typed tree; and the machine's code, which does the same
-pub record IsCodeOf (file : List ℕ → Shelved) (e : Ending) (checked : Ir) (code : LinearCode) : Type 0 where
-  pub source : Source
-  pub from : source_in file e.settings ≡ Some source
-  pub whole : IsAll source e.text
-  pub typed : Typed
-  pub built : IsBuilt e.text typed checked code
-
--- where one of the code, the checked code and the journal is there, all are
-pub record TheCode (file : List ℕ → Shelved) (e : Ending) : Type 0 where
-  pub ran : (code : LinearCode) → e.code ≡ Some code → (checked : Ir) × (e.checked ≡ Some checked) × IsSome e.journal × IsCodeOf file e checked code
-  pub checked : IsSome e.checked → IsSome e.code
-  pub journal : IsSome e.journal → IsSome e.code
-
--- ---- the run
-
--- a journal is that of a run of the code under the settings: it replays to this last state, in which the run is over
-pub record IsRun (e : Ending) (log : List Entry) (end : End) (f : Final) : Type 0 where
-  pub settings : Settings
-  pub code : LinearCode
-  pub has_settings : e.settings ≡ Some settings
-  pub has_code : e.code ≡ Some code
-  pub replays : final_of code settings log ≡ Some f
-  pub ended : f.end ≡ Some end
-
--- what is said of each typed tree of the text, of which there is one, and of a journal that is there, with the settings and its last state
-abbrev pub OfTheText : Ending → (Typed → List Entry → Settings → Final → Type 0) → Type 0
-OfTheText e Says = (typed : Typed) → IsTreeOf e.text typed → (log : List Entry) (end : End) (f : Final) → e.journal ≡ Some log → (run : IsRun e log end f) → Says typed log run.settings f
+-- the journal is that of a run of the code under the settings: within its limit, it replays to this last state, in which the run is over,
+-- with this end
+pub record IsRun (code : LinearCode) (settings : Settings) (log : List Entry) (end : End) (final : Final) : Type 0 where
+  pub within : length log ≤ settings.entries
+  pub replays : final_of code settings log ≡ Some final
+  pub ended : final.end ≡ Some end
 
 -- how many calls of a thread of the source wait
 abbrev pub depth : Control → ℕ
 depth c = length c.callers
 
--- a journal that is there is that of a run; and the text has a run of its order, told its answers
-pub record TheSameOrder (e : Ending) : Type 0 where
-  pub replays : (log : List Entry) → e.journal ≡ Some log → (end : End) × (f : Final) × IsRun e log end f
-  pub a_run : OfTheText e (λ typed log s f. (turns : ℕ) → whole_run (program typed) (start typed) depth log ≢ no_run turns)
+-- what is said of a run to a typed tree of which its checked code keeps every turn
+pub record OfATree (typed : Typed) (checked : Ir) (code : LinearCode) (settings : Settings) (log : List Entry) (final : Final) : Type 0 where
+  -- the tree has a run of the journal's order, told its answers, or breaks a rule of C in it
+  pub a_run : (turns : ℕ) → whole_run (program typed) (start typed) depth log ≢ no_run turns
+  -- where no rule is broken, what was printed is the output of that run, and the end is that of the table
+  pub what_the_text_means : IsClean (program typed) (start typed) depth log final.end → IsAsMeant (program typed) (start typed) depth log settings final
+  -- where the first rule is broken after so many turns, the output of the tree's run of these is what was printed first
+  pub up_to_the_first_rule : (turns : ℕ) → IsFirstBreak (program typed) (start typed) depth log final.end turns → IsUpToABreak (program typed) (start typed) depth log turns final
+  -- up to there, entry by entry, each byte that a step reads or writes is of a block, at an offset, that the source's turn reaches
+  pub no_access_leaves_its_object : AccessesKeep checked code settings log
 
--- out gained just what the run printed, and note its report, as far as the sinks took them
-abbrev pub WhatItWrote : (out note : Channel) → Ending → Type 0
-WhatItWrote out note e = (log : List Entry) (end : End) (f : Final) → e.journal ≡ Some log → IsRun e log end f → Written (status_of end) e.status f.output (report_text end f.report) out note
+-- what is said of a run
+pub record OfARun (checked : Ir) (code : LinearCode) (settings : Settings) (log : List Entry) : Type 0 where
+  pub end : End
+  pub final : Final
+  -- the journal is that of a run, and this is its last state
+  pub the_same_order : IsRun code settings log end final
+  -- what it means to each typed tree of which the checked code, without its Looks, safepoints, slots and lists, keeps every turn
+  pub of_each_tree : (typed : Typed) → KeepsEveryTurn typed (ir_erased checked) → OfATree typed checked code settings log final
+  -- at each barrier no pinned object moves, and the object of every id in use keeps its bytes, at the address that the table then has
+  pub no_pinned_object_every_handle : BarriersKeep code settings log
 
--- the status is the run's end, or a sink failed
-abbrev pub HowItEnded : Ending → Type 0
-HowItEnded e = (log : List Entry) (end : End) (f : Final) → e.journal ≡ Some log → IsRun e log end f → (e.status ≡ status_of end) ⊎ (e.status ≡ statuses.WriteFault)
+-- ---- a call with a run
 
--- ---- what the text means
+-- the text is all of its source, and the code is its own, as the mode has it
+pub record TheCode (file : List ℕ → Shelved) (e : Ending) (settings : Settings) (checked : Ir) (code : LinearCode) : Type 0 where
+  pub source : Source
+  pub from : source_in file e.settings ≡ Some source
+  pub whole : IsAll source e.text
+  pub of_text : IsCodeBy settings.mode e.text checked code
 
--- where a journal is clean, what was printed is the output of the text's run of its order, and the end is that of the table
-abbrev pub WhatTheTextMeans : Ending → Type 0
-WhatTheTextMeans e = OfTheText e (λ typed log s f. IsClean (program typed) (start typed) depth log f.end → IsAsMeant (program typed) (start typed) depth log s f)
-
--- where a rule of C is broken first after so many turns, the output of the text's run of these is what was printed first
-abbrev pub UpToTheFirstRule : Ending → Type 0
-UpToTheFirstRule e = OfTheText e (λ typed log s f. (turns : ℕ) → IsFirstBreak (program typed) (start typed) depth log f.end turns → IsUpToABreak (program typed) (start typed) depth log turns f)
-
--- ---- objects
-
--- entry by entry, up to the first rule that is broken: each byte that a step reads or writes is of a block, at an offset, that the source's
--- turn reaches
-abbrev pub NoAccessLeavesItsObject : Ending → Type 0
-NoAccessLeavesItsObject e = (log : List Entry) (end : End) (f : Final) → e.journal ≡ Some log → (run : IsRun e log end f) → (checked : Ir) → e.checked ≡ Some checked → AccessesKeep checked run.code run.settings log
-
--- at each barrier of a run no pinned object moves, and the object of every id in use keeps its bytes, at the address that the table then has
-abbrev pub NoPinnedObjectEveryHandle : Ending → Type 0
-NoPinnedObjectEveryHandle e = (log : List Entry) (end : End) (f : Final) → e.journal ≡ Some log → (run : IsRun e log end f) → BarriersKeep run.code run.settings log
-
--- ---- without a run
-
--- nothing was printed, and note gained the one line that tells why, as far as it took it
-pub record IsWithoutARun (words : List (List ℕ)) (file : List ℕ → Shelved) (out note : Channel) (e : Ending) : Type 0 where
+-- where this journal is there
+pub record WithARun (file : List ℕ → Shelved) (out note : Channel) (e : Ending) (log : List Entry) : Type 0 where
+  -- so are settings, checked code and the code that ran
+  pub settings : Settings
+  pub checked : Ir
+  pub code : LinearCode
+  pub has_settings : e.settings ≡ Some settings
+  pub has_checked : e.checked ≡ Some checked
+  pub has_code : e.code ≡ Some code
+  -- the code is the text's
+  pub the_code : TheCode file e settings checked code
+  -- the journal is that of its run
+  pub the_run : OfARun checked code settings log
+  -- how the mode answers a run that ended so: the status before anything is written, and what note is to take behind the report
   pub judged : Status
-  pub fault : IsFault words file e.settings e.text judged
-  pub written : Written judged e.status [] (fault_line (name_in e.settings) e.text judged) out note
+  pub behind : List ℕ
+  pub answer : IsAnswerBy settings.mode e the_run.end judged behind
+  -- out gained just what the run printed, and note its report and what stands behind it, as far as the sinks took them
+  pub what_it_wrote : Written judged e.status the_run.final.output (report_text the_run.end the_run.final.report ++ behind) out note
+  -- the status is that, or a sink failed
+  pub how_it_ended : IsOrUnwritten judged e.status
+
+-- ---- a call without one
+
+-- the call came to no run: for this cause; no code is there; out is to take nothing, and note the one line that tells why
+pub record CameToNoRun (words : List (List ℕ)) (file : List ℕ → Shelved) (e : Ending) (judged : Status) (output line : List ℕ) : Type 0 where
+  pub cause : IsFault words file e.settings e.text judged
+  pub no_checked : e.checked ≡ None
+  pub no_code : e.code ≡ None
+  pub no_output : output ≡ []
+  pub line_is : line ≡ fault_line (name_in e.settings) e.text judged
 
 -- where there is no journal
-abbrev pub WithoutARun : (words : List (List ℕ)) → (List ℕ → Shelved) → (out note : Channel) → Ending → Type 0
-WithoutARun words file out note e = e.journal ≡ None → IsWithoutARun words file out note e
+pub record WithoutARun (words : List (List ℕ)) (file : List ℕ → Shelved) (out note : Channel) (e : Ending) : Type 0 where
+  pub judged : Status
+  pub output : List ℕ
+  pub line : List ℕ
+  -- the call came to no run, or its mode does something else
+  pub why : CameToNoRun words file e judged output line ⊎ IsWorkIn e.settings e judged output line
+  -- out gained just that output, and note that line, as far as the sinks took them
+  pub written : Written judged e.status output line out note
 
 -- ---- the whole
 
 -- what a call with these words wrote, and how it ended
 pub record Headline (words : List (List ℕ)) (file : List ℕ → Shelved) (out note : Channel) (e : Ending) : Type 0 where
   pub the_text : TheText words file e
-  pub the_code : TheCode file e
-  pub the_same_order : TheSameOrder e
-  pub what_it_wrote : WhatItWrote out note e
-  pub without_a_run : WithoutARun words file out note e
-  pub how_it_ended : HowItEnded e
-  pub what_the_text_means : WhatTheTextMeans e
-  pub up_to_the_first_rule : UpToTheFirstRule e
-  pub no_access_leaves_its_object : NoAccessLeavesItsObject e
-  pub no_pinned_object_every_handle : NoPinnedObjectEveryHandle e
+  pub with_a_run : (log : List Entry) → e.journal ≡ Some log → WithARun file out note e log
+  pub without_a_run : e.journal ≡ None → WithoutARun words file out note e

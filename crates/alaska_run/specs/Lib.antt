@@ -1,6 +1,7 @@
 pub mod Ending
 pub mod Sources
 pub mod Faults
+pub mod Modes
 pub mod Headline
 pub mod Answers
 pub mod inner

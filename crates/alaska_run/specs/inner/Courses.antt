@@ -39,7 +39,7 @@ use Rattle.run_notes.specs.Statuses.{status_of}
 -- a call that comes to no run
 pub record IsStopped (words : List (List ℕ)) (file : List ℕ → Shelved) (x : Stopped) : Type 0 where
   pub settings : option_map wanted_of x.settings ≡ settings_of words
-  pub text : (source : Source) → source_in file x.settings ≡ Some source → IsTextOf source x.text.items
+  pub text : (source : Source) → source_in file x.settings ≡ Some source → IsTextOf source x.text.items x.status
   pub none : x.settings ≡ None → x.text.items ≡ []
   pub fault : IsFault words file x.settings x.text.items x.status
   pub line : x.line.items ≡ fault_line (name_in x.settings) x.text.items x.status

@@ -26,7 +26,7 @@ returns-in-Ok-Opened-clause-headline g c =
     (ap (option_map program_in) (c.end_run.ensures.code.0 ∙ ap (λ z. Some z) r.checked))
     (ap (option_map arc_value) (c.end_run.ensures.code.1 ∙ ap (λ z. Some z) r.code))
     (ap (option_map (λ k. k.entries)) c.end_run.ensures.journal)
-    c.end_run.ensures.written c.journals_mean_the_source.ensures c.accesses_of_journals_stay.ensures c.read_each_text_once.ensures.one_tree
+    c.end_run.ensures.written c.journals_mean_the_source.ensures c.accesses_of_journals_stay.ensures
 
 pub returns-in-Ok-Opened-clause-answers : goal.returns-in-Ok-Opened-clause-answers
 returns-in-Ok-Opened-clause-answers g c = answers _ _ _ _ _ (returns-in-Ok-Opened-clause-headline g c) c.read_each_text_once.ensures.not_both c.read_each_text_once.ensures.one_reason

@@ -33,4 +33,4 @@ returns-in-Fault g c = λ words said.
     let from : source_of file (wanted_of c.args.settings) ≡ Some (Read (file name)) = source_read file words (wanted_of c.args.settings) said c.requires ∙ ap (λ n. Some (Read (file n))) (sym c.file_name.ensures) in
     let failed : ReadFailed (file name) = subst (IsReadFrom (file name)) c.in-Fault.is c.in_ok-text.ensures in
     where_ok _ _ c.stop_with-in-Fault.result
-    (not_run words file c.args.settings (Read (file name)) c.new.result.items said from statuses.ReadFault (inr (inr (failed, c.new.ensures.items))) (Read (file name), from, failed)) c.stop_with-in-Fault.ensures
+    (not_run words file c.args.settings (Read (file name)) c.new.result.items said from statuses.ReadFault (inr (inr (record { failed = failed; none = c.new.ensures.items; told = inl refl }))) (Read (file name), from, failed)) c.stop_with-in-Fault.ensures
