@@ -1,11 +1,11 @@
 -- What a pick comes to, and the threads' own behind it.
-use Rattle.std.proofs.Common.{◌≡◌, ◌≤◌, ◌<◌, ◌+◌, ◌&&◌, ℕ, zero, suc, List, [], ◌∷◌, ◌++◌, length, map, set, drop, get_or, Option, Some, None, IsSome, refl, sym, ap, ◌∙◌, arith, append_assoc, append-nil}
+use Rattle.std.proofs.Common.{◌≡◌, ◌≤◌, ◌<◌, ◌+◌, ◌&&◌, ◌==◌, Bool, true, false, ℕ, ℤ, zero, suc, List, [], ◌∷◌, ◌++◌, length, map, set, drop, get_or, Option, Some, None, IsSome, refl, sym, ap, subst, ◌∙◌, arith, append_assoc, append-nil}
 use Rattle.std.proofs.lemmas.List.{set-set, length-set, length-map, map-set, map-append, set_past, drop_all, length_push, get_or-map}
 use Rattle.std.proofs.lemmas.Option.{slice_get-map}
 use Rattle.std.specs.List.{slice_get}
 use Rattle.std.specs.Option.{is_some, option_map}
 use Rattle.block_store.specs.Actions as actions
-use Rattle.block_store.specs.Runs.{Turn, Program, State, Pick, begun, turn_if, picked, own_at}
+use Rattle.block_store.specs.Runs.{Turn, went, ended, blocked, unfit, broke, Program, State, Pick, begun, turn_if, picked, own_at}
 use Rattle.c_tree.specs.Typed as tree
 use Rattle.c_meaning.specs.Control.{Control}
 use Rattle.c_meaning.specs.Meaning.{program}
@@ -17,8 +17,9 @@ use Rattle.block_meaning.specs.declared.thread.Own.{Own}
 use Rattle.block_meaning.specs.declared.thread.Outcome.{Outcome}
 use Rattle.block_meaning.specs.declared.thread.Outcome.TheVariants as outcomes
 use Rattle.block_meaning.specs.Threads.{control_of, owns_of}
-use Rattle.block_meaning.specs.Running.{left_by, answered, answered_if, state_in}
+use Rattle.block_meaning.specs.Running.{left_by, answered, answered_if, ended_by, ended_with, IsAsBefore, state_in}
 use Rattle.block_meaning.specs.declared.running.Turned.{Turned}
+use Rattle.block_meaning.specs.declared.running.Turned.TheVariants as turneds
 use Rattle.block_meaning.proofs.Lists.{drop_read, own_within, own_past}
 use Rattle.block_meaning.specs.inner.Turns.{turn_of, Stays}
 use Rattle.block_meaning.specs.inner.Starts.{owns_behind}
@@ -141,3 +142,18 @@ turn_leaves typed items mid behind w new p old own o h there turned stays out ba
     ∙ left typed (owns_of items) p.thread o own new (control_of old) (world_of w) (sym there) stays
     ∙ ap (λ (t : Turn Control). left_by typed (state_in items w) p.thread (Some t)) turned
     ∙ ap (left_by typed (state_in items w) p.thread) (sym (picked_of (program typed) (state_in items w) p (control_of old) h (sym there)))
+
+-- the end of a thread is no turn that came to nothing
+end_is_some : (is_main : Bool) (value : Option ℤ) (t : Turned) (s after : State Control) → ended_by is_main value ≡ Some t → IsAsBefore t s after
+end_is_some true None t s after e = absurd (cc e)
+end_is_some true (Some z) t s after e = let same : turneds.Ended z ≡ t = cc e in subst (λ (x : Turned). IsAsBefore x s after) same tt
+end_is_some false value t s after e = let same : turneds.Went ≡ t = cc e in subst (λ (x : Turned). IsAsBefore x s after) same tt
+
+-- a turn that came to nothing leaves the state as it was
+pub as_before : (typed : tree.Typed) (s after : State Control) (thread : ℕ) (o : Option (Turn Control)) (t : Turned) → answered_if thread o ≡ Some t → after ≡ left_by typed s thread o → IsAsBefore t s after
+as_before typed s after thread None t e left = absurd (cc e)
+as_before typed s after thread (Some (went own w)) t e left = let same : turneds.Went ≡ t = cc e in subst (λ (x : Turned). IsAsBefore x s after) same tt
+as_before typed s after thread (Some (ended w)) t e left = end_is_some (thread == 0) (ended_with w 0) t s after e
+as_before typed s after thread (Some blocked) t e left = let same : turneds.Blocked ≡ t = cc e in subst (λ (x : Turned). IsAsBefore x s after) same left
+as_before typed s after thread (Some unfit) t e left = let same : turneds.Unfit ≡ t = cc e in subst (λ (x : Turned). IsAsBefore x s after) same left
+as_before typed s after thread (Some (broke rule place)) t e left = let same : turneds.Broke rule place ≡ t = cc e in subst (λ (x : Turned). IsAsBefore x s after) same left

@@ -1,5 +1,5 @@
 -- What a run of a program is, as a caller of the interpreter sees it.
-use Rattle.std.specs.Prelude.{ℕ, ◌==◌, Bool, if◌then◌else◌, List, slice_get, Option, Some, None, ℤ}
+use Rattle.std.specs.Prelude.{◌≡◌, ℕ, ◌==◌, Bool, if◌then◌else◌, List, slice_get, Option, Some, None, ℤ}
 use Rattle.ak_words.specs.IntType.{int}
 use Rattle.ak_words.specs.Wrapped.{wrapped_value}
 use Rattle.block_store.specs.Actions as actions
@@ -67,6 +67,14 @@ left_by typed s thread (Some (runs.ended w)) = runs.next_state (program typed) s
 left_by typed s thread (Some runs.blocked) = s
 left_by typed s thread (Some runs.unfit) = s
 left_by typed s thread (Some (runs.broke rule place)) = s
+
+-- A turn that waits, that doesn't take its answer or that breaks a rule leaves the state as it was: what was printed, how each thread has ended, which blocks there are, and where each thread is
+abbrev pub IsAsBefore : Turned → (before after : runs.State Control) → Type 0
+IsAsBefore turneds.Went before after = Unit {0}
+IsAsBefore turneds.Blocked before after = after ≡ before
+IsAsBefore turneds.Unfit before after = after ≡ before
+IsAsBefore (turneds.Broke rule place) before after = after ≡ before
+IsAsBefore (turneds.Ended value) before after = Unit {0}
 
 -- the state of these threads in this world
 abbrev pub state_in : List (Option Own) → World → runs.State Control

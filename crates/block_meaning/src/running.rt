@@ -9,7 +9,7 @@ ghost use Rattle.c_tree.specs.TypedViews.{typed_view};
 ghost use Rattle.c_meaning.specs.Meaning.{program, start};
 ghost use Rattle.source_state.specs.Worlds.{reached_of};
 ghost use Rattle.block_meaning.specs.Counts.{HasFewDeclarations, MakesFew, ReachesFew};
-ghost use Rattle.block_meaning.specs.Running.{running_of, answered_if, left_by, ended_with};
+ghost use Rattle.block_meaning.specs.Running.{running_of, answered_if, left_by, ended_with, IsAsBefore};
 
 use crate::begin::begun;
 use crate::first::first_store;
@@ -120,7 +120,8 @@ impl SourceRun {
     }
 
     /// One turn of a thread that runs, under an answer. Where no function has more than n declarations, it makes at most
-    /// n blocks, and one.
+    /// n blocks, and one. A turn that waits, that doesn't take its answer or that breaks a rule leaves all as it was: each
+    /// call answers as before it.
     ///
     /// # Errors
     ///
@@ -129,6 +130,7 @@ impl SourceRun {
         requires { IsSome (picked (program (running_of self.old).typed) (running_of self.old).state (record { thread = thread; answer = answer })) }
         ensures answer { IfOk result (λ t. answered_if thread (picked (program (running_of self.old).typed) (running_of self.old).state (record { thread = thread; answer = answer })) ≡ Some t) }
         ensures state { OnOk result ((running_of self.new).state ≡ left_by (running_of self.old).typed (running_of self.old).state thread (picked (program (running_of self.old).typed) (running_of self.old).state (record { thread = thread; answer = answer }))) }
+        ensures stays { IfOk result (λ t. IsAsBefore t (running_of self.old).state (running_of self.new).state) }
         ensures made { OnOk result ((n : ℕ) → ReachesFew n (running_of self.old).typed (running_of self.old).state → MakesFew n (running_of self.old).typed (running_of self.old).state (running_of self.new).state) }
         ensures program { (running_of self.new).typed ≡ (running_of self.old).typed }
         ensures wanting { (running_of self.old).out_of_memory ≡ true → is_err result ≡ true }
