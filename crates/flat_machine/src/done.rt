@@ -9,7 +9,7 @@ use flat_threads::Wait;
 use handle_words::make;
 
 /// What comes of an action.
-#[derive(Clone, Copy, Debug, PartialEq, Eq)]
+#[derive(Clone, Copy)]
 pub(crate) enum Done {
     /// It is done, and gives a word or none.
     Went(Option<u64>, Turned),

@@ -9,7 +9,7 @@ use ak_trace::{End, Entry, TrapKind, how, kind};
 use flat_rules::Step;
 
 /// How a thread's pending step went.
-#[derive(Clone, Copy, Debug, PartialEq, Eq)]
+#[derive(Clone, Copy)]
 pub(crate) enum Turned {
     /// A pointer was translated.
     Looked,
