@@ -31,7 +31,7 @@ sum_of_sources() {
   ) 2>/dev/null | sha256sum
 }
 
-# bin/alaska was proved and built of the sources as they stand.
-is_current() {
-  [ -x "$here/bin/alaska" ] && [ -f "$here/bin/sources" ] && [ "$(sum_of_sources)" = "$(cat "$here/bin/sources")" ]
+# bin/alaska was proved and built of the sources with this sum.
+is_current() { # the sum
+  [ -x "$here/bin/alaska" ] && [ -f "$here/bin/sources" ] && [ "$1" = "$(cat "$here/bin/sources")" ]
 }
