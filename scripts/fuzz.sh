@@ -1,0 +1,121 @@
+#!/usr/bin/env bash
+# Runs the program over texts that are changed at random: those of examples/, in which tokens and bytes are deleted, doubled and exchanged, and in
+# one run of four words of the command line too. Each run is of one worker with 1000 entries, and must end in 20 seconds, by no signal, with a
+# status of README's table and what that table says of standard error.
+# Use: scripts/fuzz.sh SECONDS [SEED]      prints how many runs had each status and how many texts were compiled. It ends with 0 where each run
+#   was as it must be and a tenth or more of the texts were compiled. The texts, words and outputs of the runs at fault lie in a folder that it names.
+# The same seed gives the same texts in the same order. It runs $ALASKA, or else bin/alaska, or else the program that ./alaska builds once without a proof.
+set -eu
+[ $# -gt 0 ] || { echo "use: scripts/fuzz.sh SECONDS [SEED]" >&2; exit 2; }
+here=$(cd "$(dirname "$0")/.." && pwd)
+. "$here/scripts/built.sh"
+find_program take_unproved
+python3 /dev/fd/3 "$program" "$here/examples" "$1" "${2:-1}" 3<<'END'
+import collections, glob, os, random, re, subprocess, sys, tempfile, time
+
+# What stands on standard error, by status: README's table. Those of a text that was compiled are in RAN.
+NOTES = {
+    0: rb"ended: done \d+\n", 2: rb"usage: alaska FILE \[options\]\n", 3: rb".*:\d+:\d+: refused: .*\n", 4: rb"alaska: can't read .*\n",
+    5: rb"", 6: rb"ended: trap \w+ \d+\n", 7: rb"ended: all blocked\n", 8: rb"ended: turn limit\n", 9: rb"ended: output limit\n",
+    10: rb"ended: stack limit \d+\n", 11: rb"alaska: out of memory\n",
+}
+RAN = 0, 6, 7, 8, 9, 10
+REPORT = rb"threads: \d+\nentries: \d+\nbarriers: \d+\nmoved: .*\nlive: .*\nextent: .*\nlast barrier: .*\n"
+TOKEN = re.compile(r'[A-Za-z_]\w*|\d+|"(?:\\.|[^"\\\n])*"|//[^\n]*|/\*.*?\*/|\s+|[-+<>=!&|]{2}|.', re.S)
+OPTIONS = {
+    "workers": "1 2 4 16 0 17", "schedule": "0 7 18446744073709551615 18446744073709551616", "every": "1 3 100 0 1000000",
+    "subheap": "4096 65536 16777216 5000", "subheaps": "1 2 16 256 257", "ids": "1 2 1000 1048576 0", "output": "1 3 1000 16777216",
+    "mode": "run churn walk", "seed": "0 1 99", "size": "1 3 40 4000",
+}
+
+
+def kind(token):
+    """Tells which tokens may stand in a token's place and often leave a text that compiles."""
+    if token[0].isdigit():
+        return "number"
+    if token[0].isalpha() or token[0] == "_":
+        return "type" if token in ("int", "char", "long") else "name"
+    return "operator" if re.fullmatch(r"[-+*/%<>&|^]|[<>=!]=|<<|>>|&&|\|\|", token) else token
+
+
+def change(draw, parts):
+    """Deletes, doubles or exchanges one of the parts, in place."""
+    at, other = draw.randrange(len(parts)), draw.randrange(len(parts))
+    how = draw.choice(("delete", "double", "exchange"))
+    if how == "exchange":
+        parts[at], parts[other] = parts[other], parts[at]
+    else:
+        parts[at : at + 1] = [parts[at]] * 2 * (how == "double")
+
+
+def replace(draw, parts):
+    """Puts another token of its kind in a token's place."""
+    at = draw.randrange(len(parts))
+    parts[at] = draw.choice([it for it in parts if kind(it) == kind(parts[at])])
+
+
+def text_of(draw, texts):
+    """Returns a changed text: by tokens and then, in one of four, by bytes."""
+    tokens = TOKEN.findall(draw.choice(texts))
+    for _ in range(draw.choice((1, 1, 2, 3, 6))):
+        (replace if draw.random() < 0.6 else change)(draw, tokens)
+    text = list("".join(tokens).encode())
+    for _ in range(draw.choice((0, 0, 0, 1, 3)) if text else 0):
+        change(draw, text)
+        text = text or [draw.randrange(256)]
+    return bytes(text)
+
+
+def words_of(draw):
+    """Returns further words: none in three of four, else options with values, some of them changed by bytes."""
+    words = []
+    for _ in range(draw.choice((0, 0, 0, 0, 0, 0, 1, 2))):
+        name = draw.choice(sorted(OPTIONS))
+        words += [f"--{name}", draw.choice(OPTIONS[name].split())]
+        if draw.random() < 0.2:
+            letters = list(words.pop(draw.choice((-1, -2))))
+            change(draw, letters)
+            words.append("".join(letters))
+    return [os.fsencode(it) for it in words]
+
+
+def judge(program, text, words):
+    """Runs the program; returns its status, or None where it gave no answer, its outputs, and whether all is as it must be."""
+    with open("text.c", "wb") as it:
+        it.write(text)
+    command = [program, "text.c", *words, "--workers=1", "--entries=1000"]
+    try:
+        ran = subprocess.run(command, stdin=subprocess.DEVNULL, capture_output=True, timeout=20)
+    except subprocess.TimeoutExpired:
+        return None, b"", b"", False
+    note = NOTES.get(ran.returncode, rb"(?!)") + REPORT * (ran.returncode in RAN)
+    return ran.returncode, ran.stdout, ran.stderr, re.fullmatch(note, ran.stderr) is not None
+
+
+def main(program, examples, seconds, seed):
+    draw, end, counts, kept = random.Random(int(seed)), time.time() + float(seconds), collections.Counter(), []
+    texts = [open(it).read() for it in sorted(glob.glob(f"{examples}/*.c"))]
+    folder = None
+    while time.time() < end:
+        text, words = text_of(draw, texts), words_of(draw)
+        status, out, note, good = judge(program, text, words)
+        counts[status] += 1
+        if not good:
+            folder = folder or tempfile.mkdtemp(prefix="alaska-fuzz-", dir="/tmp")
+            kept.append(f"{folder}/{sum(counts.values())}")
+            for name, what in ("c", text), ("words", b"\n".join(words)), ("out", out), ("note", b"status %s\n" % str(status).encode() + note):
+                with open(f"{kept[-1]}.{name}", "wb") as it:
+                    it.write(what)
+    whole, ran = sum(counts.values()), sum(counts[it] for it in RAN)
+    for status in sorted(counts, key=lambda it: (it is None, it)):
+        print(f"{'no answer' if status is None else f'status {status}':<12}{counts[status]:>8}")
+    print(f"{whole} runs with seed {seed}, {ran} of texts that were compiled ({100 * ran / max(whole, 1):.1f} %), {len(kept)} at fault")
+    if kept:
+        print(f"what they ran is kept in {folder}")
+    if ran * 10 < whole:
+        print("fewer than a tenth were compiled")
+    return 1 if kept or ran * 10 < whole or not whole else 0
+
+
+sys.exit(main(*sys.argv[1:]))
+END

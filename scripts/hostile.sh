@@ -1,0 +1,168 @@
+#!/usr/bin/env bash
+# Runs the program over what may harm it: C texts that break rules and pass limits, files that can't be read, outputs that can't be written,
+# texts that are none, words that are wrong, and little memory. Each run is of one worker with 1000 entries, and has 20 seconds.
+# Use: scripts/hostile.sh      prints a line for each case that went another way, and how many there were; ends with 0 where none did.
+# It runs $ALASKA, or else bin/alaska, or else the program that ./alaska builds once without a proof. A program that is built with checks takes no
+# `ulimit -v`; that part is then left out, and a line says so.
+set -u
+here=$(cd "$(dirname "$0")/.." && pwd)
+. "$here/scripts/built.sh"
+find_program take_unproved
+cases=0
+wrong=0
+small=(--workers 1 --entries 1000)
+alaska=(timeout -k 1 20 "$program")
+
+# Compares the run that just ended, of which out and note were written.
+judge() { # name status-that-is-wanted status-that-came what-out-is what-note-has
+  local why=
+  cases=$((cases + 1))
+  [ "$2" = "$3" ] || why="status $3 in place of $2"
+  [ "$4" = - ] || [ "$4" = "$(cat out)" ] || why="$why, printed '$(head -c 80 out)' in place of '$4'"
+  case $5 in
+    -) ;;
+    '') [ -s note ] && why="$why, a report where none is wanted" ;;
+    *) grep -qF -e "$5" note || why="$why, no '$5' in the report" ;;
+  esac
+  [ -z "$why" ] && return
+  wrong=$((wrong + 1))
+  printf '%s: %s\n' "$1" "${why#, }"
+  sed 's/^/  /' note | head -n 3
+}
+
+text() { # status what-is-printed what-the-report-has text words..
+  printf '%s\n' "$4" >text.c
+  "${alaska[@]}" text.c "${small[@]}" "${@:5}" >out 2>note
+  judge "$4 ${*:5}" "$1" $? "$2" "$3"
+}
+
+file() { # status what-the-report-has file words..
+  "${alaska[@]}" "$3" "${small[@]}" "${@:4}" >out 2>note
+  judge "file ${3:0:60}" "$1" $? '' "$2"
+}
+
+words() { # words..: none that are settings
+  "${alaska[@]}" "$@" >out 2>note
+  judge "words ${*@Q}" 2 $? '' 'usage: alaska FILE [options]'
+}
+
+# Texts that break rules, and texts that pass limits.
+text 6 '' 'ended: trap store 104198400' 'int main(void){char *p=malloc(16);p[100000000]=1;return 0;}'
+text 0 '' 'ended: done 0' 'int main(void){char *p=malloc(16);p[20]=1;return 0;}'
+text 0 1 'barriers: 0' 'int main(void){char *p=malloc(16777217);printf("%d\n",p==NULL);return 0;}'
+text 0 '64 1' 'threads: 64' 'int f(void *v){return 0;}int main(void){thrd_t t;int k=0;int r=0;while(r==0){r=thrd_create(&t,f,NULL);k++;}printf("%d %d\n",k,r);return 0;}'
+text 6 '' 'ended: trap load 0' 'int main(void){int *p=NULL;return *p;}'
+text 6 '' 'ended: trap free 9223372036854775808' 'int main(void){char *p=malloc(8);free(p);free(p);return 0;}' --ids 1
+text 6 before 'ended: trap print 0' 'int main(void){char *p=NULL;printf("before\n");printf("%s",p);return 0;}'
+text 7 '' 'ended: all blocked' 'mtx_t m;int main(void){mtx_init(&m,mtx_plain);mtx_lock(&m);mtx_lock(&m);return 0;}'
+text 8 '' 'ended: turn limit' 'int main(void){while(1);return 0;}'
+text 9 '' 'ended: output limit' 'int main(void){printf("ab");return 0;}' --output 1
+text 10 '' 'ended: stack limit 0' 'int f(int n){return f(n+1);}int main(void){return f(0);}'
+text 0 '' 'ended: done 0' 'int main(void){int z=0;int a=1/z;int b=a%z;int c=1<<99;return 0;}'
+text 0 '' 'ended: done 2147483647' 'int main(void){int a=2147483647;return a;}'
+
+# Files that can't be read.
+mkdir folder
+file 4 "alaska: can't read folder" folder
+file 4 "alaska: can't read missing.c" missing.c
+file 4 "alaska: can't read " ''
+file 4 "alaska: can't read " "$(printf 'n%.0s' {1..5000})"
+file 4 "alaska: can't read text.c/below" text.c/below
+file 4 "alaska: can't read /proc/self/mem" /proc/self/mem
+cp "$program" readable
+echo 'int main(void) { return 0; }' >hidden.c
+chmod 000 hidden.c
+as_nobody=()
+[ "$(id -u)" != 0 ] || as_nobody=(setpriv --reuid=65534 --regid=65534 --clear-groups)
+"${as_nobody[@]}" timeout 20 ./readable hidden.c "${small[@]}" >out 2>note
+judge 'a file that may not be read' 4 $? '' "alaska: can't read hidden.c"
+
+# Outputs that can't be written. Where standard output fails, nothing goes to standard error.
+cat >prints.c <<'C'
+int main(void) { printf("%d\n", 42); return 0; }
+C
+prints=("${alaska[@]}" prints.c "${small[@]}")
+: >out
+"${prints[@]}" >/dev/full 2>note; judge 'a full standard output' 5 $? - ''
+"${prints[@]}" >&- 2>note; judge 'a closed standard output' 5 $? - ''
+"${prints[@]}" >out 2>/dev/full; judge 'a full standard error' 5 $? 42 -
+"${prints[@]}" >out 2>&-; judge 'a closed standard error' 5 $? 42 -
+"${prints[@]}" <&- >&- 2>&-; judge 'nothing is open' 5 $? - -
+{ sleep 1; "${prints[@]}" 2>note; echo $? >status; } | true
+judge 'a pipe that nobody reads' 5 "$(cat status)" - ''
+: >note
+"${alaska[@]}" missing.c 2>/dev/full >out; judge 'no report of a missing file' 5 $? '' -
+"${alaska[@]}" 2>/dev/full >out; judge 'no usage' 5 $? '' -
+
+# Texts that are none.
+head -c 104857600 /dev/zero | tr '\0' ' ' >big.c
+file 3 'refused: TooLong' big.c
+rm big.c
+file 3 'refused: TooLong' /dev/zero
+printf '\377\376\0\001' >bytes.c
+file 3 'bytes.c:1:1: refused: BadByte' bytes.c
+head -c 1000000 "$program" >program.c
+file 3 'refused: ' program.c
+: >empty.c
+file 3 'empty.c:1:1: refused: ' empty.c
+file 3 'refused: ' /dev/null
+awk 'BEGIN { printf "int main(void){return "; for (i = 0; i < 50000; i++) printf "("; }' >deep.c
+file 3 'refused: TooDeep' deep.c
+
+# Words that are no settings.
+words
+words text.c prints.c
+words text.c --workers
+words text.c --workers 0
+words text.c --workers 17
+words text.c --workers=1x
+words text.c --workers -1
+words text.c --entries 999
+words text.c --entries 99999999999999999999999999
+words text.c --every 0
+words text.c --subheap 5000
+words text.c --subheap 16777216 --subheaps 17
+words text.c --output ''
+words text.c --nothing 1
+words text.c --mode walk
+words text.c --seed 1
+words --mode churn --size 3
+words --mode churn --seed 1 --size 0
+words text.c --mode churn --seed 1 --size 3
+words text.c $'\377\376'
+words $(printf 'word%.0s ' {1..100})
+words "$(printf 'w%.0s' {1..100000})" --nothing
+
+# Little memory, in steps of 64 KiB: from where the C library loads, so that the program answers, till 20 runs in a row are the usual one.
+# Each ends as usual, or for want of memory.
+little() { # workers
+  local kib=1024 usual=0 status=127
+  while [ $status != 2 ] && [ $status != 11 ] && [ $kib -lt 1048576 ]; do
+    kib=$((kib + 64))
+    { (ulimit -v $kib; exec "$program") >out 2>note; } 2>/dev/null
+    status=$?
+  done
+  echo "$1 workers: the C library loads from $kib KiB of addresses on"
+  while [ $usual -lt 20 ] && [ $kib -lt 1048576 ]; do
+    (ulimit -v $kib; exec "${alaska[@]}" prints.c --workers "$1" --entries 1000) >out 2>note
+    status=$?
+    if [ $status = 11 ]; then
+      usual=0
+      judge "ulimit -v $kib, $1 workers" 11 11 '' 'alaska: out of memory'
+    else
+      usual=$((usual + 1))
+      judge "ulimit -v $kib, $1 workers" 0 $status 42 'ended: done 0'
+    fi
+    kib=$((kib + 64))
+  done
+  echo "$1 workers: each run is the usual one from $((kib - 1280)) KiB on"
+}
+if [ "$checked" = yes ]; then
+  echo "this program was built with checks: it isn't run with little memory"
+else
+  little 1
+  little 4
+fi
+
+echo "$cases cases, $wrong went another way"
+[ $wrong = 0 ]
