@@ -1,4 +1,6 @@
-//! How a run ends.
+//! How a run ends, and how a check does.
+
+use ak_words::Rule;
 
 /// Which access, or free, a trap is of.
 #[derive(Clone, Copy, Debug, PartialEq, Eq)]
@@ -36,4 +38,35 @@ pub enum End {
     OutputLimit,
     /// A call of this thread would need more than is left.
     StackLimit(u32),
+}
+
+/// What a check finds: how the source's run in its order ends, after so many turns.
+#[derive(Clone, Copy, Debug, PartialEq, Eq)]
+pub enum Verdict {
+    /// The next turn breaks a rule of C.
+    Broke {
+        /// The rule.
+        rule: Rule,
+        /// Where in the text, as a byte offset from 0.
+        place: u32,
+        /// How many turns were done before.
+        turns: u32,
+    },
+    /// Main returned.
+    Ended {
+        /// Its value.
+        exit: i32,
+        /// How many turns were done.
+        turns: u32,
+    },
+    /// Each thread that has not ended waits for a mutex or for another thread.
+    AllBlocked {
+        /// How many turns were done.
+        turns: u32,
+    },
+    /// As many turns were done as were asked for.
+    TurnsSpent {
+        /// How many these are.
+        turns: u32,
+    },
 }

@@ -7,7 +7,7 @@ use Rattle.struct_ir.specs.Linear.{linear, entry_of}
 use Rattle.struct_ir.specs.Pins.{PinSafe}
 use Rattle.struct_ir.specs.Placed.{all_due}
 use Rattle.struct_ir.specs.Safe.{EveryFunc}
-use Rattle.pin_flow.specs.Funcs.{IsExact, IsExactAtPoints, IsHoisted, IsHoistedAtPoints}
+use Rattle.pin_flow.specs.Funcs.{IsExact, IsExactAtPoints, IsHoisted, IsHoistedAtPoints, IsHoistedThroughout}
 use Rattle.pin_flow.specs.Slots.{HasOwnSlots}
 use Rattle.pin_checker.specs.Safe.{IsSafe}
 use Rattle.struct_ir.specs.Emitted.{IsEmitted}
@@ -24,9 +24,11 @@ pub record IsPrepared (given ready : Ir) : Type 0 where
   pub slots : EveryFunc HasOwnSlots ready
   -- no Look stands in a loop that doesn't assign its register, and none where a slot is available for it
   pub hoisted : EveryFunc IsHoisted ready
+  -- this holds of each Look also by the paths to its own place
+  pub throughout : EveryFunc IsHoistedThroughout ready
   -- each list has just the slots that are available there and used later, and those that its act uses
   pub exact : EveryFunc IsExact ready
-  -- both hold at each point of the code by itself, also where the same is left to do at another
+  -- hoisting and lists are so at each point of the code by itself, also where the same is left to do at another
   pub hoisted_at_points : EveryFunc IsHoistedAtPoints ready
   pub exact_at_points : EveryFunc IsExactAtPoints ready
 

@@ -9,6 +9,14 @@ pub enum Mode {
     Run,
     /// It runs a text that it makes itself.
     Churn,
+    /// It says which rule of C a file breaks first.
+    Check,
+    /// It runs a file, and says whether two of its accesses race.
+    Race,
+    /// It writes the code of a file.
+    Build,
+    /// It runs code that was written so.
+    Load,
 }
 
 /// What the program is told. By its type each number is in its range.
