@@ -37,9 +37,11 @@ storing = begin_object 0 ∷ set 0 (object 0) ∷ set 1 (constant int (pos 41)) 
 abbrev pub source : Ir
 source = record { globals = []; literals = []; funcs = record { params = 0; temps = 8; slots = 2; objects = record { size = 8; align = 8 } ∷ []; nodes = row storing (Some 1) } ∷ []; main = 0 }
 
+-- its code for the machine
 abbrev pub code : LinearCode
 code = record { globals = []; literals = []; funcs = record { params = 0; temps = 8; slots = 2; objects = record { size = 8; align = 8 } ∷ []; instrs = instrs storing (Some 1) } ∷ []; main = 0 }
 
+-- the machine that runs that code
 abbrev pub machine : Image Spot
 machine = linear_image code (small 10)
 
@@ -47,6 +49,7 @@ machine = linear_image code (small 10)
 abbrev pub begins : runs.State (Thread Position Own)
 begins = runs.first_state (program_of source) (start source)
 
+-- main's thread there
 abbrev pub its_thread : Thread Position Own
 its_thread = (program_of source).begins 0 Null
 
