@@ -17,15 +17,16 @@ import collections, glob, os, random, re, subprocess, sys, tempfile, time
 NOTES = {
     0: rb"ended: done \d+\n", 2: rb"usage: alaska FILE \[options\]\n", 3: rb".*:\d+:\d+: refused: .*\n", 4: rb"alaska: can't read .*\n",
     5: rb"", 6: rb"ended: trap \w+ \d+\n", 7: rb"ended: all blocked\n", 8: rb"ended: turn limit\n", 9: rb"ended: output limit\n",
-    10: rb"ended: stack limit \d+\n", 11: rb"alaska: out of memory\n",
+    10: rb"ended: stack limit \d+\n", 11: rb"alaska: out of memory\n", 12: rb".*:\d+:\d+: broke C\d+ after \d+ turns\n",
 }
+CHECKED = rb"checked: (done -?\d+|all blocked|turns spent) after \d+ turns\n"
 RAN = 0, 6, 7, 8, 9, 10
 REPORT = rb"threads: \d+\nentries: \d+\nbarriers: \d+\nmoved: .*\nlive: .*\nextent: .*\nlast barrier: .*\n"
 TOKEN = re.compile(r'[A-Za-z_]\w*|\d+|"(?:\\.|[^"\\\n])*"|//[^\n]*|/\*.*?\*/|\s+|[-+<>=!&|]{2}|.', re.S)
 OPTIONS = {
     "workers": "1 2 4 16 0 17", "schedule": "0 7 18446744073709551615 18446744073709551616", "every": "1 3 100 0 1000000",
     "subheap": "4096 65536 16777216 5000", "subheaps": "1 2 16 256 257", "ids": "1 2 1000 1048576 0", "output": "1 3 1000 16777216",
-    "mode": "run churn walk", "seed": "0 1 99", "size": "1 3 40 4000",
+    "mode": "run check check churn walk", "seed": "0 1 99", "size": "1 3 40 4000",
 }
 
 
@@ -89,6 +90,8 @@ def judge(program, text, words):
     except subprocess.TimeoutExpired:
         return None, b"", b"", False
     note = NOTES.get(ran.returncode, rb"(?!)") + REPORT * (ran.returncode in RAN)
+    if ran.returncode == 0 and re.search(rb"check", b" ".join(words)):
+        note += b"|" + CHECKED
     return ran.returncode, ran.stdout, ran.stderr, re.fullmatch(note, ran.stderr) is not None
 
 
@@ -106,7 +109,7 @@ def main(program, examples, seconds, seed):
             for name, what in ("c", text), ("words", b"\n".join(words)), ("out", out), ("note", b"status %s\n" % str(status).encode() + note):
                 with open(f"{kept[-1]}.{name}", "wb") as it:
                     it.write(what)
-    whole, ran = sum(counts.values()), sum(counts[it] for it in RAN)
+    whole, ran = sum(counts.values()), sum(counts[it] for it in (*RAN, 12))
     for status in sorted(counts, key=lambda it: (it is None, it)):
         print(f"{'no answer' if status is None else f'status {status}':<12}{counts[status]:>8}")
     print(f"{whole} runs with seed {seed}, {ran} of texts that were compiled ({100 * ran / max(whole, 1):.1f} %), {len(kept)} at fault")

@@ -61,6 +61,19 @@ text 10 '' 'ended: stack limit 0' 'int f(int n){return f(n+1);}int main(void){re
 text 0 '' 'ended: done 0' 'int main(void){int z=0;int a=1/z;int b=a%z;int c=1<<99;return 0;}'
 text 0 '' 'ended: done 2147483647' 'int main(void){int a=2147483647;return a;}'
 
+# The same and others, checked: there is no machine, no stack and no limit but that of turns.
+text 12 '' 'text.c:1:35: broke C5 after 0 turns' 'int main(void){int *p=NULL;return *p;}' --mode check
+text 12 before 'text.c:1:48: broke C5 after 1 turns' 'int main(void){char *p=NULL;printf("before\n");printf("%s",p);return 0;}' --mode check
+text 12 '' 'text.c:1:42: broke C10 after 2 turns' 'int main(void){char *p=malloc(8);free(p);free(p);return 0;}' --mode check
+text 12 '' 'text.c:1:37: broke C13 after 1 turns' 'mtx_t m;int main(void){mtx_lock(&m);mtx_lock(&m);return 0;}' --mode check
+text 0 1 'checked: done 0 after 3 turns' 'int main(void){char *p=malloc(16777217);printf("%d\n",p==NULL);return 0;}' --mode check
+text 0 '64 1' 'checked: done 0 after ' 'int f(void *v){return 0;}int main(void){thrd_t t;int k=0;int r=0;while(r==0){r=thrd_create(&t,f,NULL);k++;}printf("%d %d\n",k,r);return 0;}' --mode check
+text 0 '' 'checked: all blocked after 3 turns' 'mtx_t m;int f(void *v){mtx_lock(&m);return 0;}int main(void){thrd_t t;mtx_lock(&m);thrd_create(&t,f,NULL);thrd_join(t,NULL);return 0;}' --mode check
+text 0 '' 'checked: turns spent after 1000 turns' 'int main(void){while(1);return 0;}' --mode check
+text 0 '' 'checked: turns spent after 1000 turns' 'int f(int n){return f(n+1);}int main(void){return f(0);}' --mode check
+text 0 ab 'checked: done 0 after 2 turns' 'int main(void){printf("ab");return 0;}' --mode check --output 1
+text 0 '' 'checked: done 2147483647 after 1 turns' 'int main(void){int a=2147483647;return a;}' --mode check --schedule 18446744073709551615
+
 # Files that can't be read.
 mkdir folder
 file 4 "alaska: can't read folder" folder
@@ -69,6 +82,9 @@ file 4 "alaska: can't read " ''
 file 4 "alaska: can't read " "$(printf 'n%.0s' {1..5000})"
 file 4 "alaska: can't read text.c/below" text.c/below
 file 4 "alaska: can't read /proc/self/mem" /proc/self/mem
+file 4 "alaska: can't read folder" folder --mode check
+file 4 "alaska: can't read missing.c" missing.c --mode check
+file 4 "alaska: can't read " '' --mode check
 cp "$program" readable
 echo 'int main(void) { return 0; }' >hidden.c
 chmod 000 hidden.c
@@ -85,7 +101,9 @@ prints=("${alaska[@]}" prints.c "${small[@]}")
 : >out
 "${prints[@]}" >/dev/full 2>note; judge 'a full standard output' 5 $? - ''
 "${prints[@]}" >&- 2>note; judge 'a closed standard output' 5 $? - ''
+"${prints[@]}" --mode check >/dev/full 2>note; judge 'a full standard output of a check' 5 $? - ''
 "${prints[@]}" >out 2>/dev/full; judge 'a full standard error' 5 $? 42 -
+"${prints[@]}" --mode check >out 2>/dev/full; judge 'a full standard error of a check' 5 $? 42 -
 "${prints[@]}" >out 2>&-; judge 'a closed standard error' 5 $? 42 -
 "${prints[@]}" <&- >&- 2>&-; judge 'nothing is open' 5 $? - -
 { sleep 1; "${prints[@]}" 2>note; echo $? >status; } | true
@@ -101,6 +119,7 @@ rm big.c
 file 3 'refused: TooLong' /dev/zero
 printf '\377\376\0\001' >bytes.c
 file 3 'bytes.c:1:1: refused: BadByte' bytes.c
+file 3 'bytes.c:1:1: refused: BadByte' bytes.c --mode check
 head -c 1000000 "$program" >program.c
 file 3 'refused: ' program.c
 : >empty.c
@@ -108,6 +127,7 @@ file 3 'empty.c:1:1: refused: ' empty.c
 file 3 'refused: ' /dev/null
 awk 'BEGIN { printf "int main(void){return "; for (i = 0; i < 50000; i++) printf "("; }' >deep.c
 file 3 'refused: TooDeep' deep.c
+file 3 'refused: TooDeep' deep.c --mode check
 
 # Words that are no settings.
 words
@@ -126,6 +146,14 @@ words text.c --output ''
 words text.c --nothing 1
 words text.c --mode walk
 words text.c --seed 1
+words --mode check
+words text.c prints.c --mode check
+words text.c --mode Check
+words text.c --mode check --seed 1
+words text.c --mode check --size 3
+words text.c --mode check --entries 999
+words text.c --mode check --entries 16000001
+words text.c --mode check --mode check
 words --mode churn --size 3
 words --mode churn --seed 1 --size 0
 words text.c --mode churn --seed 1 --size 3
