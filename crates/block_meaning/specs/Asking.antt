@@ -1,10 +1,10 @@
 -- What a turn asks for that doesn't take Plain: what it's given where it's told Got.
-use Rattle.std.specs.Prelude.{ℕ, ◌≡◌, ◌≤◌, ◌^◌, ◌==◌, if◌then◌else◌, List, [], ◌∷◌, length, MatchOption, Option, Some, None}
+use Rattle.std.specs.Prelude.{ℕ, ◌≡◌, ◌≤◌, ◌^◌, ◌==◌, if◌then◌else◌, [], ◌∷◌, length, MatchOption, Option, Some, None}
 use Rattle.block_store.specs.declared.values.Answer.{Answer}
 use Rattle.block_store.specs.declared.values.Answer.TheVariants as answers
 use Rattle.block_store.specs.Actions.{World}
 use Rattle.block_store.specs.Blocks.{Block, Blocks}
-use Rattle.block_store.specs.Runs.{Program, State, Turn, went, unfit, broke, picked}
+use Rattle.block_store.specs.Runs.{Program, State, Turn, went, unfit, picked}
 
 -- what a turn asks for: nothing; so many bytes; more bytes than a block can have, 2^32 or more; or that a thread is made
 pub data Wish : Type 0 where
@@ -24,23 +24,23 @@ size_of_last [] = 0
 size_of_last (b ∷ []) = size_of_block b
 size_of_last (b ∷ next ∷ more) = size_of_last (next ∷ more)
 
--- by what a turn comes to that is told None: what gets no block of any size takes None all the same
+-- by what a turn comes to that is told None: what no block of any size can hold takes None all the same; what takes no answer at all
+-- asks for nothing
 abbrev pub wish_by_none : {A : Type 0} → Option (Turn A) → Wish
-wish_by_none (Some (went own after)) = too_many_bytes
-wish_by_none t = nothing
+wish_by_none (Some unfit) = nothing
+wish_by_none t = too_many_bytes
 
 -- by what it comes to in this world where it's told Got: there is a thread more, or else a block, the last one that was made in the
--- turn; the place for a thread's number may break a rule; and no block has 2^32 bytes
-abbrev pub wish_by_got : {A : Type 0} → World → (if_got if_none : Option (Turn A)) → Wish
-wish_by_got w (Some (went own after)) if_none = if length after.threads == length w.threads then some_bytes (size_of_last after.blocks) else a_thread
-wish_by_got w (Some (broke rule place)) if_none = a_thread
-wish_by_got w (Some unfit) if_none = wish_by_none if_none
-wish_by_got w if_got if_none = nothing
+-- turn; no block has 2^32 bytes; and else it's a thread, since the place for its number may break a rule
+abbrev pub wish_by_got : {A : Type 0} → World → (granted refused : Option (Turn A)) → Wish
+wish_by_got w (Some (went own after)) refused = if length after.threads == length w.threads then some_bytes (size_of_last after.blocks) else a_thread
+wish_by_got w (Some unfit) refused = wish_by_none refused
+wish_by_got w granted refused = a_thread
 
 -- by what it comes to under each answer: what takes Plain asks for nothing
-abbrev pub wish_by : {A : Type 0} → World → (plain if_got if_none : Option (Turn A)) → Wish
-wish_by w (Some unfit) if_got if_none = wish_by_got w if_got if_none
-wish_by w plain if_got if_none = nothing
+abbrev pub wish_by : {A : Type 0} → World → (plain granted refused : Option (Turn A)) → Wish
+wish_by w (Some unfit) granted refused = wish_by_got w granted refused
+wish_by w plain granted refused = nothing
 
 -- what the next turn of a thread comes to under an answer
 abbrev pub told : {A : Type 0} → Program A → State A → (thread : ℕ) → Answer → Option (Turn A)

@@ -1,5 +1,5 @@
 -- What a check finds of a program: how its run in the seeded order ends.
-use Rattle.std.specs.Prelude.{ℕ, ◌≡◌, ◌≤◌, ◌<◌, ◌↔◌, List, length, Option, Some, None, IsSome, ℤ}
+use Rattle.std.specs.Prelude.{ℕ, ◌≡◌, ◌≤◌, ◌<◌, ◌↔◌, length, Some, None, IsSome, ℤ}
 use Rattle.ak_words.specs.declared.rule.Rule.{Rule}
 use Rattle.ak_trace.specs.declared.endings.Verdict.TheVariants as verdicts
 use Rattle.block_store.specs.declared.values.Answer.TheVariants as answers

@@ -5,7 +5,10 @@
 #![tactic(auto)]
 
 mod checking;
+mod choosing;
+pub mod laws;
 mod report;
+mod threads;
 
 pub use ak_trace::Verdict;
 pub use block_store::Answer;
