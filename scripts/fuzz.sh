@@ -1,16 +1,17 @@
 #!/usr/bin/env bash
 # Runs the program over texts that are changed at random: those of examples/, in which tokens and bytes are deleted, doubled and exchanged, and in
-# one run of four words of the command line too. Each run is of one worker with 1000 entries, and must end in 20 seconds, by no signal, with a
+# one run of four words of the command line too. Each run is of one worker with 1000 entries, and must end in EACH seconds, by no signal, with a
 # status of README's table and what that table says of standard error.
-# Use: scripts/fuzz.sh SECONDS [SEED]      prints how many runs had each status and how many texts were compiled. It ends with 0 where each run
+# Use: scripts/fuzz.sh SECONDS [SEED [EACH]]      prints how many runs had each status and how many texts were compiled. It ends with 0 where each run
 #   was as it must be and a tenth or more of the texts were compiled. The texts, words and outputs of the runs at fault lie in a folder that it names.
-# The same seed gives the same texts in the same order. It runs $ALASKA, or else bin/alaska, or else the program that ./alaska builds once without a proof.
+# SEED is 1 and EACH 20 where they are left out. The same seed gives the same texts in the same order.
+# It runs $ALASKA, or else bin/alaska, or else the program that ./alaska builds once without a proof.
 set -eu
-[ $# -gt 0 ] || { echo "use: scripts/fuzz.sh SECONDS [SEED]" >&2; exit 2; }
+[ $# -gt 0 ] || { echo "use: scripts/fuzz.sh SECONDS [SEED [EACH]]" >&2; exit 2; }
 here=$(cd "$(dirname "$0")/.." && pwd)
 . "$here/scripts/built.sh"
 find_program take_unproved
-python3 /dev/fd/3 "$program" "$here/examples" "$1" "${2:-1}" 3<<'END'
+python3 /dev/fd/3 "$program" "$here/examples" "$1" "${2:-1}" "${3:-20}" 3<<'END'
 import collections, glob, os, random, re, subprocess, sys, tempfile, time
 
 # What stands on standard error, by status: README's table. Those of a text that was compiled are in RAN.
@@ -80,13 +81,13 @@ def words_of(draw):
     return [os.fsencode(it) for it in words]
 
 
-def judge(program, text, words):
+def judge(program, text, words, each):
     """Runs the program; returns its status, or None where it gave no answer, its outputs, and whether all is as it must be."""
     with open("text.c", "wb") as it:
         it.write(text)
     command = [program, "text.c", *words, "--workers=1", "--entries=1000"]
     try:
-        ran = subprocess.run(command, stdin=subprocess.DEVNULL, capture_output=True, timeout=20)
+        ran = subprocess.run(command, stdin=subprocess.DEVNULL, capture_output=True, timeout=each)
     except subprocess.TimeoutExpired:
         return None, b"", b"", False
     note = NOTES.get(ran.returncode, rb"(?!)") + REPORT * (ran.returncode in RAN)
@@ -95,13 +96,13 @@ def judge(program, text, words):
     return ran.returncode, ran.stdout, ran.stderr, re.fullmatch(note, ran.stderr) is not None
 
 
-def main(program, examples, seconds, seed):
+def main(program, examples, seconds, seed, each):
     draw, end, counts, kept = random.Random(int(seed)), time.time() + float(seconds), collections.Counter(), []
     texts = [open(it).read() for it in sorted(glob.glob(f"{examples}/*.c"))]
     folder = None
     while time.time() < end:
         text, words = text_of(draw, texts), words_of(draw)
-        status, out, note, good = judge(program, text, words)
+        status, out, note, good = judge(program, text, words, float(each))
         counts[status] += 1
         if not good:
             folder = folder or tempfile.mkdtemp(prefix="alaska-fuzz-", dir="/tmp")

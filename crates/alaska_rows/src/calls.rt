@@ -13,8 +13,8 @@ use std::thread::Threads;
 // The most bytes that a sink in memory takes.
 const ROOM: usize = 1_000_000;
 
-// The words between blanks.
-fn words_of(alloc: Global, row: &str) -> Result<Vec<String>, AllocError> {
+/// The words between blanks.
+pub fn words_of(alloc: Global, row: &str) -> Result<Vec<String>, AllocError> {
     let mut words = Vec::new(alloc);
     for word in row.split(' ') {
         words.push(String::from_str(alloc, word)?)?;

@@ -1,17 +1,25 @@
-//! Takes the call `alaska` through worked programs under their words, and prints what each wrote and how it ended; then has two workers on
-//! two threads run one program many times, and once where each worker is held until the other has come and worked.
+//! Takes the call `alaska` through worked programs under their words, and prints what each wrote and how it ended; through programs that leave
+//! their objects, a shelf and sinks that fail, and a text that is cut before each of its bytes; then has two workers on two threads run one
+//! program many times, and once where each worker is held until the other has come and worked.
 //! Promises nothing upward: it is a program, whose output is held against what was worked out by hand, and is the same whatever the workers do.
-//! Stands on alaska_run and ak_crew, over real files and sinks in memory.
+//! Stands on alaska_run and ak_crew, over real files, a shelf in memory and sinks in memory.
 #![tactic(auto)]
 
 mod calls;
 mod crews;
+mod cuts;
+mod faults;
+mod in_memory;
 mod meeting;
 mod replays;
+mod wild;
 
 use crate::calls::{Shown, call};
 use crate::crews::show_crews;
+use crate::cuts::show_cuts;
+use crate::faults::show_faults;
 use crate::replays::{show_replays, show_thinned};
+use crate::wild::show_wild;
 use ak_crew::NoGate;
 use ak_words::NoMemory;
 use std::io;
@@ -91,7 +99,7 @@ fn is_shown(line: &str, words: &str) -> bool {
 }
 
 // The lines of note that are shown.
-fn show_lines(rt: &HostRuntime, note: &[u8], words: &str) -> io::Result<()> {
+fn show_lines<R: Print>(rt: &R, note: &[u8], words: &str) -> io::Result<()> {
     let text = str::from_utf8(note).unwrap_or("?");
     for line in text.lines() {
         if is_shown(line, words) {
@@ -101,7 +109,7 @@ fn show_lines(rt: &HostRuntime, note: &[u8], words: &str) -> io::Result<()> {
     Ok(())
 }
 
-fn show(rt: &HostRuntime, row: &Row, shown: &Shown) -> io::Result<()> {
+fn show<R: Print>(rt: &R, row: &Row, shown: &Shown) -> io::Result<()> {
     println!(rt; "> {}", row.0)?;
     print!(rt; "{}", str::from_utf8(shown.out.bytes()).unwrap_or("?"))?;
     show_lines(rt, shown.note.bytes(), row.1)?;
@@ -138,5 +146,8 @@ fn main(rt: HostRuntime) -> io::Result<()> {
         Ok(shown) => show_thinned(&rt, THINNED, &shown.ending)?,
         Err(NoMemory) => println!(rt; "no memory")?,
     }
+    show_wild(&rt, rt.alloc())?;
+    show_faults(&rt, rt.alloc())?;
+    show_cuts(&rt, rt.alloc())?;
     show_crews(&rt, rt.alloc())
 }

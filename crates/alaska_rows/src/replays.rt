@@ -44,13 +44,15 @@ fn entries_of(ending: &Ending) -> u32 {
     }
 }
 
-// Replays the journal without each of its first entries, one at a time; how many replays that were.
-fn replay_thinned(alloc: Global, ending: &Ending) -> Result<u32, NoMemory> {
-    let places = TAKEN.min(entries_of(ending));
-    for place in 0..places {
-        let _ = replayed(alloc, ending, place)?;
+// Replays the journal without each of its first entries, one at a time; how many of these replays come to nothing.
+fn count_refused(alloc: Global, ending: &Ending) -> Result<u32, NoMemory> {
+    let mut refused = 0;
+    for place in 0..TAKEN.min(entries_of(ending)) {
+        if replayed(alloc, ending, place)?.is_none() {
+            refused = u32::wrapping_add(refused, 1);
+        }
     }
-    Ok(places)
+    Ok(refused)
 }
 
 fn show_replay(rt: &HostRuntime, told: &Result<Option<Final>, NoMemory>) -> io::Result<()> {
@@ -78,11 +80,14 @@ pub fn show_replays(rt: &HostRuntime, call: &str, ending: &Ending) -> io::Result
     show_replay(rt, &replayed(rt.alloc(), ending, 0))
 }
 
-/// The journal of a run without each of its first entries, one at a time: how many replays there were, and what comes of it without the first.
+/// The journal of a run without each of its first entries, one at a time: how many of these come to nothing, and what comes of it without the
+/// first. Where each thread of the run ended, all come to nothing. Without a step that was done, its thread isn't at its end where the journal
+/// says so; without one that rested or waited, the thread goes home for no cause; without its going out or home, it works at home or goes out
+/// twice; and without a barrier, the next thread goes out while one is wanted.
 pub fn show_thinned(rt: &HostRuntime, call: &str, ending: &Ending) -> io::Result<()> {
     println!(rt; "> the journal of {call} without one of its first {TAKEN} entries")?;
-    match replay_thinned(rt.alloc(), ending) {
-        Ok(places) => println!(rt; "{places} replays")?,
+    match count_refused(rt.alloc(), ending) {
+        Ok(refused) => println!(rt; "{refused} come to nothing")?,
         Err(NoMemory) => println!(rt; "no memory")?,
     }
     println!(rt; "> without its first entry")?;
