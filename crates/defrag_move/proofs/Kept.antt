@@ -25,7 +25,7 @@ use Rattle.defrag_move.proofs.Owners.{Matches, Matches-gone, Matches-moved, Matc
 -- ---- objects lie within the bytes
 
 module _ (count size : ℕ) (some : 0 < size) where
-  end_within : (bytes at : ℕ) → LiesInOne count size bytes at → at + bytes ≤ count * size
+  pub end_within : (bytes at : ℕ) → LiesInOne count size bytes at → at + bytes ≤ count * size
   end_within bytes at lies =
       let number : at / size < count = (div-lt_iff_lt-mul some).1 lies.0 in
       omega (arith, lies.1, mul-le (at / size + 1) size count size (omega arith) (omega arith))

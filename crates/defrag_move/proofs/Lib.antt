@@ -7,3 +7,4 @@ pub mod Steps
 pub mod Places
 pub mod Turns
 pub mod Choices
+pub mod Filled

@@ -30,7 +30,7 @@ value_in None some = absurd (false≢true some)
 value_in (Some x) some = (x, refl)
 
 -- with one object more that doesn't pass, and that does where no other one does
-find-with_object_other : (p : Object → Bool) (new : Object) (xs : List Object) → p new ≡ false → find p (with_object new xs) ≡ find p xs
+pub find-with_object_other : (p : Object → Bool) (new : Object) (xs : List Object) → p new ≡ false → find p (with_object new xs) ≡ find p xs
 find-with_object_other p new [] other = rw other refl
 find-with_object_other p new (x ∷ xs) other =
     elim (ltb new.at x.at) as (λ t. find p (cond t (new ∷ x ∷ xs) (x ∷ with_object new xs)) ≡ find p (x ∷ xs)) [
@@ -38,7 +38,7 @@ find-with_object_other p new (x ∷ xs) other =
       | false ↦ ap (λ (r : Option Object). cond (p x) (Some x) r) (find-with_object_other p new xs other)
     ]
 
-find-with_object_new : (p : Object → Bool) (new : Object) (xs : List Object) → p new ≡ true → Each (λ x. p x ≡ false) xs → find p (with_object new xs) ≡ Some new
+pub find-with_object_new : (p : Object → Bool) (new : Object) (xs : List Object) → p new ≡ true → Each (λ x. p x ≡ false) xs → find p (with_object new xs) ≡ Some new
 find-with_object_new p new [] is each = rw is refl
 find-with_object_new p new (x ∷ xs) is each =
     elim (ltb new.at x.at) as (λ t. find p (cond t (new ∷ x ∷ xs) (x ∷ with_object new xs)) ≡ Some new) [

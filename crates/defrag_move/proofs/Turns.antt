@@ -55,7 +55,7 @@ not_past [] i below none = absurd (omega (arith, below))
 -- ---- one move
 
 -- the first object at or above a place where one starts is that one
-find-placed : (count size from at : ℕ) (xs : List Object) (o : Object) → StandFrom count size from xs → object_at at xs ≡ Some o → find (λ x. leb at x.at) xs ≡ Some o
+pub find-placed : (count size from at : ℕ) (xs : List Object) (o : Object) → StandFrom count size from xs → object_at at xs ≡ Some o → find (λ x. leb at x.at) xs ≡ Some o
 find-placed count size from at [] o stand found = absurd (none-some o found)
 find-placed count size from at (x ∷ xs) o stand found = elim (cases_eq x.at at) [
   | inl here ↦

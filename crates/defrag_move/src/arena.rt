@@ -9,7 +9,8 @@ ghost use Rattle.sub_heaps.specs.SubHeaps.{IsShape};
 ghost use Rattle.move_plan.specs.Holding.{is_pinned};
 ghost use Rattle.sub_heaps.specs.Moving.{AreLegal, IsAllowed, after_moves};
 ghost use Rattle.arena_meaning.specs.Arena.{IsConsistent, IsLiveStart, object_of, place_named, places_named, start_behind};
-ghost use Rattle.arena_meaning.specs.Changes.{IsAnswer, after_alloc, with_places, without_id};
+ghost use Rattle.sub_heaps.specs.ByPlace.{object_at};
+ghost use Rattle.arena_meaning.specs.Changes.{IsAnswer, after_alloc, after_alloc_copy, after_alloc_zero, is_live_start, with_filled, with_places, without_id};
 ghost use Rattle.arena_meaning.specs.Moves.{KeepsObjects, after_plan, moved};
 
 use ak_words::NoMemory;
@@ -92,6 +93,48 @@ impl Arena {
                 Alloced::NoGap
             }
         }
+    }
+
+    /// The same as [`Arena::alloc`], and each byte of the new object is 0.
+    pub fn alloc_zero(&mut self, bytes: u64) -> Alloced
+        ensures answer { IsAnswer self.old bytes result }
+        ensures after { self.new ≡ after_alloc_zero self.old bytes result }
+        ensures consistent { IsConsistent self.new }
+    {
+        let _consistent = &self.heaps;
+        let taken = self.alloc(bytes);
+        if let Alloced::Got { place, .. } = taken {
+            let size = self.size_at(place);
+            self.clear_bytes(place, size);
+        }
+        taken
+    }
+
+    /// The same as [`Arena::alloc`], and where a word is the handle of a live object's start
+    /// ([`Arena::is_live`]), the new object has that one's bytes, as far as both reach. The old object stays.
+    pub fn alloc_copy(&mut self, word: u64, bytes: u64) -> Alloced
+        ensures answer { IsAnswer self.old bytes result }
+        ensures after { self.new ≡ after_alloc_copy self.old word bytes result }
+        ensures consistent { IsConsistent self.new }
+    {
+        let Some(from) = self.live_start(word) else {
+            return self.alloc(bytes);
+        };
+        let taken = self.alloc(bytes);
+        if let Alloced::Got { place, .. } = taken {
+            let size = self.size_at(from).min(self.size_at(place));
+            self.copy_bytes(place, from, size);
+        }
+        taken
+    }
+
+    /// Whether a word is the handle of a live object's start.
+    pub fn is_live(&self, word: u64) -> bool
+        ensures test { result ≡ is_live_start self.now word }
+        ensures live { (result ≡ true) ↔ IsLiveStart self.now word }
+        ensures consistent { IsConsistent self.now }
+    {
+        self.live_start(word).is_some()
     }
 
     /// Ends the object whose start a word is the handle of, and does nothing at 0. At any other word the error comes, and nothing
@@ -224,6 +267,46 @@ impl Arena {
             self.place_of(id(word))
         } else {
             None
+        }
+    }
+
+    // The size of the object that starts at a place.
+    fn size_at(&self, place: u32) -> u32
+        requires { IsSome (object_at place self.now.heaps.objects) }
+        ensures size { IfSome (object_at place self.now.heaps.objects) (λ o. result ≡ o.size) }
+        ensures consistent { IsConsistent self.now }
+    {
+        let Some(object) = self.heaps.next_object(place) else {
+            unreachable!()
+        };
+        object.size
+    }
+
+    // Makes the `n` bytes from a place on 0.
+    fn clear_bytes(&mut self, place: u32, n: u32)
+        requires { place + n ≤ self.old.heaps.count * self.old.heaps.size }
+        ensures cleared { self.new ≡ with_filled self.old place (replicate n 0) }
+        ensures consistent { IsConsistent self.new }
+    {
+        let at = self.start + u64::from(place);
+        match self.bytes.clear(at, u64::from(n)) {
+            Ok(()) => {}
+            Err(_) => unreachable!(),
+        }
+    }
+
+    // Leaves from one place on the `n` bytes that stood from another on.
+    fn copy_bytes(&mut self, to: u32, from: u32, n: u32)
+        requires to { to + n ≤ self.old.heaps.count * self.old.heaps.size }
+        requires from { from + n ≤ self.old.heaps.count * self.old.heaps.size }
+        ensures copied { self.new ≡ with_filled self.old to (bytes_from self.old.bytes (self.old.start + from) n) }
+        ensures consistent { IsConsistent self.new }
+    {
+        let target = self.start + u64::from(to);
+        let source = self.start + u64::from(from);
+        match self.bytes.copy(target, source, u64::from(n)) {
+            Ok(()) => {}
+            Err(_) => unreachable!(),
         }
     }
 

@@ -89,6 +89,23 @@ impl Flat {
         Ok(())
     }
 
+    /// Makes the `n` bytes from `at` on 0. The error names the first of these addresses that has no
+    /// byte, and nothing is written.
+    pub fn clear(&mut self, at: u64, n: u64) -> Result<(), OutsideFlat>
+        ensures within { IsOk result ↔ HasBytes self.old at n }
+        ensures cleared { OnOk result (self.new ≡ with_bytes self.old at (replicate n 0)) }
+        ensures others { OnOk result (ChangesOnly self.old self.new at n) }
+        ensures outside { IfErr result (λ e. first_outside self.old at n ≡ Some e.0) }
+        ensures unchanged { OnErr result (self.new ≡ self.old) }
+    {
+        if n == 0 {
+            return Ok(());
+        }
+        let start = index_of(&self.bytes, at, n)?;
+        self.bytes[start..start + n as usize].fill(0);
+        Ok(())
+    }
+
     /// How many bytes stand from `at` on before the first zero byte, or none where the first
     /// `most + 1` bytes hold no zero. The error names the first address that has no byte, where
     /// that comes before either.

@@ -191,3 +191,47 @@ fn pins_what_handles_name(rt: HostRuntime) -> Result<(), Fail> {
     let mut arena = Arena::new(rt.alloc(), 0, 1, 64, 3)?;
     pin_one(&rt, rt.alloc(), &mut arena)
 }
+
+// Marks both ends of the first object, and of where the last will be.
+fn mark_ends(arena: &mut Arena) -> Result<(), OutsideFlat> {
+    arena.store(8192, 8, 6)?;
+    arena.store(8200, 8, 7)?;
+    arena.store(8256, 8, 8)?;
+    arena.store(8312, 8, 9)
+}
+
+// What so many pairs of bytes hold, eight each, from an address on.
+fn held(arena: &Arena, at: [u64; 2]) -> [Result<u64, OutsideFlat>; 2] {
+    let [first, last] = at;
+    [arena.flat().load(first, 8), arena.flat().load(last, 8)]
+}
+
+// Takes a larger copy of the first object, and frees that one once no id is left.
+fn take_a_copy(rt: &impl Abort, arena: &mut Arena) {
+    let word = make(0, 0);
+    let copied = arena.alloc_copy(word, 40);
+    assert_eq!(rt; copied, Alloced::Got { id: 1, place: 16 });
+    assert_eq!(rt; held(arena, [8208, 8216]), [Ok(6), Ok(7)]);
+    check_answers(rt, arena, &[(16, Alloced::NoId)]);
+    let none = [arena.alloc_copy(word, 16), arena.alloc_zero(16)];
+    assert_eq!(rt; none, [Alloced::NoId; 2]);
+    assert_eq!(rt;
+        [arena.is_live(word), arena.is_live(word + 8)],
+        [true, false]
+    );
+    assert_eq!(rt; arena.free(word), Ok(()));
+    assert_eq!(rt; [arena.is_live(word), arena.is_live(0)], [false, false]);
+}
+
+#[test]
+fn copies_and_clears_new_objects(rt: HostRuntime) -> Result<(), Fail> {
+    let mut arena = Arena::new(rt.alloc(), 4096, 1, 4096, 2)?;
+    check_answers(&rt, &mut arena, &[(16, Alloced::Got { id: 0, place: 0 })]);
+    mark_ends(&mut arena)?;
+    take_a_copy(&rt, &mut arena);
+    let cleared = arena.alloc_zero(64);
+    assert_eq!(rt; cleared, Alloced::Got { id: 0, place: 64 });
+    assert_eq!(rt; held(&arena, [8256, 8312]), [Ok(0), Ok(0)]);
+    assert_eq!(rt; held(&arena, [8208, 8192]), [Ok(6), Ok(6)]);
+    Ok(())
+}
