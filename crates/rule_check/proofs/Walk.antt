@@ -155,6 +155,13 @@ found_so typed now w seed turns x threads order s after n h found =
     (subst (λ (l : List ℕ). IsFound now s (looked_at (draw_before seed (length order)) l) n after) h.listed
     (subst (λ (d : ℕ). IsFound now s (looked_at d threads) n after) (draws_next typed now w seed turns x threads order s h) found))
 
+-- what was found by the draw, among the threads and as the code holds them
+pub as_held : (now : Typed) (s after : State Control) (x drew : ℕ) (threads held : List ℕ) (n m : Option Next) → drew ≡ next_draw x → held ≡ threads → m ≡ n → IsFound now s (looked_at (drew / 65536) held) m after → IsFound now s (looked_at (next_draw x / 65536) threads) n after
+as_held now s after x drew threads held n m d e f found =
+    subst (λ (y : ℕ). IsFound now s (looked_at (y / 65536) threads) n after) d
+    (subst (λ (l : List ℕ). IsFound now s (looked_at (drew / 65536) l) n after) e
+    (subst (λ (o : Option Next). IsFound now s (looked_at (drew / 65536) held) o after) f found))
+
 -- all wait
 pub all_blocked : (typed now : Typed) (w : World) (seed turns most x : ℕ) (threads : List ℕ) (order : List Pick) (s after : State Control) → Goes typed now w seed turns x threads order s → turns < most → IsFound now s (looked_at (next_draw x / 65536) threads) None after
     → IsCheck (program typed) w seed most (reported (verdicts.AllBlocked turns) order after)

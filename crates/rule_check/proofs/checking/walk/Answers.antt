@@ -1,28 +1,25 @@
-use Rattle.std.proofs.Common.{◌≡◌, ◌<◌, ◌+◌, ◌/◌, ◌∷◌, ◌++◌, [], ℕ, List, length, map, Option, Some, None, ℤ, w32, to_z, of_z, rules, sym, subst, ◌∙◌}
+use Rattle.std.proofs.Common.{◌≡◌, ◌<◌, ◌+◌, ◌∷◌, ◌++◌, [], ℕ, List, length, map, Some, None, ℤ, w32, to_z, of_z, rules, sym, subst, ◌∙◌}
 use Rattle.std.proofs.lemmas.Int.{ints}
 use Rattle.ak_trace.specs.declared.endings.Verdict.TheVariants as verdicts
 use Rattle.block_store.specs.Runs.{Pick}
 use Rattle.c_meaning.specs.Meaning.{program, start}
 use Rattle.block_meaning.specs.Running.{running_of}
-use Rattle.flat_rules.specs.Draws.{next_draw}
-use Rattle.rule_check.specs.declared.choosing.Next.{Next}
 use Rattle.rule_check.specs.Reports.{pick_of}
-use Rattle.rule_check.specs.Seeded.{looked_at}
 use Rattle.rule_check.specs.Checks.{IsCheck}
-use Rattle.rule_check.specs.inner.Steps.{AllRun, IsFound}
+use Rattle.rule_check.specs.inner.Steps.{AllRun}
 use Rattle.rule_check.proofs.Running.{all_run, some_runs}
 use Rattle.rule_check.proofs.Verdicts.{reported}
-use Rattle.rule_check.proofs.Walk.{Goes, all_blocked, breaks_rule, main_ends, main_goes, goes_more, pushed}
+use Rattle.rule_check.proofs.Walk.{Goes, as_held, all_blocked, breaks_rule, main_ends, main_goes, goes_more, pushed}
 use Rattle.rule_check.proofs.checking.walk.Goals as goal
 
 pub next_turn-requires-clause-all : goal.next_turn-requires-clause-all
 next_turn-requires-clause-all c =
-    let own = ((running_of c.loop-turns.run).state).own in
+    let own = (running_of c.loop-turns.run).state.own in
     subst (AllRun own) (sym (c.deref.ensures.value ∙ c.loop-turns.invariant.listed)) (all_run own)
 
 pub next_turn-requires-clause-some : goal.next_turn-requires-clause-some
 next_turn-requires-clause-some c =
-    let own = ((running_of c.loop-turns.run).state).own in
+    let own = (running_of c.loop-turns.run).state.own in
     subst (λ (l : List ℕ). 0 < length l) (sym (c.deref.ensures.value ∙ c.loop-turns.invariant.listed)) (some_runs own c.loop-turns.invariant.main)
 
 pub returns-in_default : goal.returns-in_default
@@ -31,12 +28,8 @@ returns-in_default c =
     let s = (running_of c.loop-turns.run).state in
     let after = (running_of c.next_turn.new.run).state in
     let l = c.loop-turns.threads.items in
-    let place = c.next_draw-x.result / 65536 in
     let now = (running_of c.loop-turns.run).typed in
-    let found : IsFound now s (looked_at (next_draw c.loop-turns.x / 65536) l) None after =
-    subst (λ (x : ℕ). IsFound now s (looked_at (x / 65536) l) None after) c.next_draw-x.ensures
-    (subst (λ (m : List ℕ). IsFound now s (looked_at place m) None after) c.deref.ensures.value
-    (subst (λ (n : Option Next). IsFound now s (looked_at place c.deref.result.now) n after) c.in_default.is c.in_ok-next.ensures.found)) in
+    let found = as_held now s after c.loop-turns.x c.next_draw-x.result l c.deref.result.now None c.in_ok-next.field-0 c.next_draw-x.ensures c.deref.ensures.value c.in_default.is c.in_ok-next.ensures.found in
     all_blocked typed now (start typed) c.args.seed c.loop-turns.turns c.args.most c.loop-turns.x l (map pick_of c.loop-turns.order.items) s after
     c.loop-turns.invariant c.loop-turns-test.true found
 
@@ -46,12 +39,8 @@ returns-in-Broke c =
     let s = (running_of c.loop-turns.run).state in
     let after = (running_of c.next_turn.new.run).state in
     let l = c.loop-turns.threads.items in
-    let place = c.next_draw-x.result / 65536 in
     let now = (running_of c.loop-turns.run).typed in
-    let found : IsFound now s (looked_at (next_draw c.loop-turns.x / 65536) l) (Some c.in-Some.next) after =
-    subst (λ (x : ℕ). IsFound now s (looked_at (x / 65536) l) (Some c.in-Some.next) after) c.next_draw-x.ensures
-    (subst (λ (m : List ℕ). IsFound now s (looked_at place m) (Some c.in-Some.next) after) c.deref.ensures.value
-    (subst (λ (n : Option Next). IsFound now s (looked_at place c.deref.result.now) n after) c.in-Some.is c.in_ok-next.ensures.found)) in
+    let found = as_held now s after c.loop-turns.x c.next_draw-x.result l c.deref.result.now (Some c.in-Some.next) c.in_ok-next.field-0 c.next_draw-x.ensures c.deref.ensures.value c.in-Some.is c.in_ok-next.ensures.found in
     breaks_rule typed now (start typed) c.args.seed c.loop-turns.turns c.args.most c.loop-turns.x l (map pick_of c.loop-turns.order.items) s after c.in-Some.next c.in-Broke.rule c.in-Broke.place
     c.loop-turns.invariant c.loop-turns-test.true found c.in-Broke.is
 
@@ -61,12 +50,8 @@ follow-requires c =
     let s = (running_of c.loop-turns.run).state in
     let after = (running_of c.next_turn.new.run).state in
     let l = c.loop-turns.threads.items in
-    let place = c.next_draw-x.result / 65536 in
     let now = (running_of c.loop-turns.run).typed in
-    let found : IsFound now s (looked_at (next_draw c.loop-turns.x / 65536) l) (Some c.in-Some.next) after =
-    subst (λ (x : ℕ). IsFound now s (looked_at (x / 65536) l) (Some c.in-Some.next) after) c.next_draw-x.ensures
-    (subst (λ (m : List ℕ). IsFound now s (looked_at place m) (Some c.in-Some.next) after) c.deref.ensures.value
-    (subst (λ (n : Option Next). IsFound now s (looked_at place c.deref.result.now) n after) c.in-Some.is c.in_ok-next.ensures.found)) in
+    let found = as_held now s after c.loop-turns.x c.next_draw-x.result l c.deref.result.now (Some c.in-Some.next) c.in_ok-next.field-0 c.next_draw-x.ensures c.deref.ensures.value c.in-Some.is c.in_ok-next.ensures.found in
     main_goes typed now (start typed) c.args.seed c.loop-turns.turns c.loop-turns.x l (map pick_of c.loop-turns.order.items) s after c.in-Some.next
     c.loop-turns.invariant found c.in-Went.is
 
@@ -76,12 +61,8 @@ returns-in-Ended c =
     let s = (running_of c.loop-turns.run).state in
     let after = (running_of c.next_turn.new.run).state in
     let l = c.loop-turns.threads.items in
-    let place = c.next_draw-x.result / 65536 in
     let now = (running_of c.loop-turns.run).typed in
-    let found : IsFound now s (looked_at (next_draw c.loop-turns.x / 65536) l) (Some c.in-Some.next) after =
-    subst (λ (x : ℕ). IsFound now s (looked_at (x / 65536) l) (Some c.in-Some.next) after) c.next_draw-x.ensures
-    (subst (λ (m : List ℕ). IsFound now s (looked_at place m) (Some c.in-Some.next) after) c.deref.ensures.value
-    (subst (λ (n : Option Next). IsFound now s (looked_at place c.deref.result.now) n after) c.in-Some.is c.in_ok-next.ensures.found)) in
+    let found = as_held now s after c.loop-turns.x c.next_draw-x.result l c.deref.result.now (Some c.in-Some.next) c.in_ok-next.field-0 c.next_draw-x.ensures c.deref.ensures.value c.in-Some.is c.in_ok-next.ensures.found in
     let same : to_z w32 (of_z w32 c.in-Ended.exit) ≡ c.in-Ended.exit = search (rules, ints) in
     subst (λ (z : ℤ). IsCheck (program typed) (start typed) c.args.seed c.args.most (reported (verdicts.Ended z (c.loop-turns.turns + 1)) (map pick_of c.push-in-Ended.new.self.items) after)) (sym same)
     (subst (λ (o : List Pick). IsCheck (program typed) (start typed) c.args.seed c.args.most (reported (verdicts.Ended c.in-Ended.exit (c.loop-turns.turns + 1)) o after)) (sym (pushed c.loop-turns.order.items c.push-in-Ended.new.self.items c.in-Some.next.thread c.in-Some.next.answer c.in_ok-push-in-Ended.ensures.items))
@@ -94,13 +75,9 @@ loop-turns-preserved c =
     let s = (running_of c.loop-turns.run).state in
     let after = (running_of c.next_turn.new.run).state in
     let l = c.loop-turns.threads.items in
-    let place = c.next_draw-x.result / 65536 in
     let now = (running_of c.loop-turns.run).typed in
     let later = (running_of c.next_turn.new.run).typed in
-    let found : IsFound now s (looked_at (next_draw c.loop-turns.x / 65536) l) (Some c.in-Some.next) after =
-    subst (λ (x : ℕ). IsFound now s (looked_at (x / 65536) l) (Some c.in-Some.next) after) c.next_draw-x.ensures
-    (subst (λ (m : List ℕ). IsFound now s (looked_at place m) (Some c.in-Some.next) after) c.deref.ensures.value
-    (subst (λ (n : Option Next). IsFound now s (looked_at place c.deref.result.now) n after) c.in-Some.is c.in_ok-next.ensures.found)) in
+    let found = as_held now s after c.loop-turns.x c.next_draw-x.result l c.deref.result.now (Some c.in-Some.next) c.in_ok-next.field-0 c.next_draw-x.ensures c.deref.ensures.value c.in-Some.is c.in_ok-next.ensures.found in
     let w = start typed in
     let order = map pick_of c.loop-turns.order.items in
     let p : Pick = record { thread = c.in-Some.next.thread; answer = c.in-Some.next.answer } in

@@ -15,7 +15,7 @@ loop-thread-preserved c =
     let s = (running_of c.args.run.now).state in
     let t = c.loop-thread.thread in
     let below : t < length s.own = omega (arith, c.loop-thread-test.true, c.in-Ok.ensures, c.threads.ensures) in
-    let runs : c.runs.result ≡ is_some (own_at s.own t) = c.runs.ensures answers.Plain ∙ runs_as (program ((running_of c.args.run.now).typed)) s (record { thread = t; answer = answers.Plain }) c.requires in
+    let runs : c.runs.result ≡ is_some (own_at s.own t) = c.runs.ensures answers.Plain ∙ runs_as (program (running_of c.args.run.now).typed) s (record { thread = t; answer = answers.Plain }) c.requires in
     let goes = λ (l : List ℕ). l ++ running_from (t + 1) (drop (t + 1) s.own) ≡ running s.own in
     elim c.if-runs.branch [
       | then-runs+in_ok-push w ↦
