@@ -1,8 +1,11 @@
-//! Measures what is done with a C text: it is read, lowered and made the machine's code, or its thread 0 is run by the interpreter of the source.
+//! Measures what is done with a C text: it is read, lowered and made the machine's code, or its thread 0 is run by the interpreter of the source, or it
+//! is checked.
 
+mod checking;
 mod compiling;
 mod running;
 
+use crate::texts::checking::show_check;
 use crate::texts::compiling::show_compiled;
 use crate::texts::running::show_run;
 use ak_io::FileShelf;
@@ -49,4 +52,14 @@ pub fn run(rt: &HostRuntime, name: Option<&str>) -> io::Result<()> {
     let text = load(rt, name)?;
     let text = &text[..text.len().min(MOST_BYTES)];
     show_run(rt, text)
+}
+
+/// Checks the text of a file, or a small one where none is named.
+pub fn check(rt: &HostRuntime, name: Option<&str>) -> io::Result<()> {
+    let Some(name) = name else {
+        return show_check(rt, ROUNDS);
+    };
+    let text = load(rt, name)?;
+    let text = &text[..text.len().min(MOST_BYTES)];
+    show_check(rt, text)
 }

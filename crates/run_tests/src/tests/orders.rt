@@ -1,7 +1,7 @@
 //! Programs of more threads, in many orders.
 
-use super::running::{answered, run_of};
-use block_meaning::{SourceRun, Turned};
+use super::running::{answered, run_of, step};
+use block_meaning::{Answer, SourceRun, Turned};
 use std::test::Fail;
 
 const COUNTERS: &[u8] = b"struct acc{mtx_t m;long n;};\n\
@@ -39,5 +39,23 @@ fn two_threads_count_in_a_hundred_orders(rt: HostRuntime) -> Result<(), Fail> {
         assert_eq!(rt; turned, Some(Turned::Ended(0)), "in order {seed}");
         assert_eq!(rt; run.output(), b"2000\n".as_slice());
     }
+    Ok(())
+}
+
+const ALLOCATIONS: &[u8] =
+    b"int main(void){char *p=malloc(5);char *q=malloc(8589934592);return q==NULL;}\n";
+
+#[test]
+fn allocations_tell_their_bytes(rt: HostRuntime) -> Result<(), Fail> {
+    let mut run = run_of(rt.alloc(), ALLOCATIONS)?;
+    assert_eq!(rt; run.asked(), None);
+    assert_eq!(rt; step(&mut run, 0, Answer::Plain), Some(Turned::Unfit));
+    assert_eq!(rt; run.asked(), Some(5));
+    assert_eq!(rt; step(&mut run, 0, Answer::Got), Some(Turned::Went));
+    assert_eq!(rt; run.asked(), None);
+    assert_eq!(rt; step(&mut run, 0, Answer::Plain), Some(Turned::Unfit));
+    assert_eq!(rt; run.asked(), Some(8589934592));
+    assert_eq!(rt; step(&mut run, 0, Answer::None), Some(Turned::Went));
+    assert_eq!(rt; run.threads(), 1);
     Ok(())
 }
