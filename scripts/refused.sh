@@ -1,12 +1,13 @@
 #!/usr/bin/env bash
-# Refuses each allocation of a run in turn, over three programs: a print, two threads that count under a mutex, and one that counts the words of a
-# text in objects. Where an allocation is refused the status is 11, nothing is printed, and standard error has `alaska: out of memory` and a newline.
+# Refuses each allocation of a run in turn, over four programs: a print, two threads that count under a mutex, one that counts the words of a
+# text in objects, and three threads on three workers that fill a table, with barriers between. Where an allocation is refused the status is 11,
+# nothing is printed, and standard error has `alaska: out of memory` and a newline.
 # From some number on, since the world was opened, no run changes: that is looked at for the 50 numbers behind the last that was refused.
 # Use: scripts/refused.sh [STRIDE]      prints for each program how many allocations were refused, and ends with 0 where each run was as it must be.
 #   With a STRIDE only each STRIDE-th is refused.
 # It runs $ALASKA, or else bin/alaska, or else a program that it builds once without a proof. A proved program calls malloc, and a library that stands
 # before the C library refuses it (cc is needed). In one that is built here the number of the allocation that fails stands in its file, and is written
-# anew for each run; since such a run takes seconds, 5 numbers behind the last are looked at. There are 100 ids, each of which takes an allocation.
+# anew for each run; since such a run takes seconds, 5 numbers behind the last are looked at. There are few ids, since each takes an allocation.
 set -eu
 here=$(cd "$(dirname "$0")/.." && pwd)
 . "$here/scripts/built.sh"
@@ -62,12 +63,12 @@ P
 }
 
 # Runs the program; the status is its own.
-run() { # number-of-the-allocation-that-is-refused file
+run() { # number-of-the-allocation-that-is-refused file words..
   if [ "$checked" = no ]; then
-    timeout 60 env REFUSED="$1" LD_PRELOAD="$work/refuse.so" "$program" "$2" --entries 20000 --ids 100 >out 2>note
+    timeout 60 env REFUSED="$1" LD_PRELOAD="$work/refuse.so" "$program" "${@:2}" >out 2>note
   else
     write_number "$1" || exit 1
-    timeout 60 ./numbered "$2" --entries 20000 --ids 100 >out 2>note
+    timeout 60 ./numbered "${@:2}" >out 2>note
   fi
 }
 
@@ -76,16 +77,25 @@ fault() { # what number
   wrong=$((wrong + 1))
 }
 
-each() { # file
+# What standard error has, or of several workers the lines that no order of them changes.
+report() { # words..
+  case " $* " in
+    *' --workers '*) grep -E '^(ended|threads|live|alaska):' note || true ;;
+    *) cat note ;;
+  esac
+}
+
+each() { # file words..
   local name number=1 refused=0 last=none usual=0 status=0
   name=$(basename "$1")
-  run "$never" "$1" || status=$?
-  cp out usual.out && cp note usual.note
+  run "$never" "$@" || status=$?
+  cp out usual.out && report "$@" >usual.note
   [ "$status" = 0 ] || { cat note >&2; exit 1; }
   while [ $usual -lt "$behind" ]; do
     status=0
-    run $number "$1" || status=$?
-    if [ $status = 0 ] && cmp -s out usual.out && cmp -s note usual.note; then
+    run $number "$@" || status=$?
+    report "$@" >reported
+    if [ $status = 0 ] && cmp -s out usual.out && cmp -s reported usual.note; then
       usual=$((usual + 1))
     else
       [ $status = 11 ] && [ ! -s out ] && [ "$(cat note; echo .)" = $'alaska: out of memory\n.' ] || fault "$name" $number "status $status, $(head -n 1 note)"
@@ -97,7 +107,9 @@ each() { # file
   echo "$name: $refused allocations refused, the last is number $last"
 }
 
-each "$here/examples/answer.c"
-each "$here/examples/threads.c"
-each "$here/examples/words.c"
+few=(--entries 20000 --ids 100)
+each "$here/examples/answer.c" "${few[@]}"
+each "$here/examples/threads.c" "${few[@]}"
+each "$here/examples/words.c" "${few[@]}"
+each "$here/crates/alaska_rows/data/table.c" --entries 200000 --ids 400 --workers 3 --every 500
 [ $wrong = 0 ]
