@@ -12,9 +12,10 @@ use Rattle.lower_forms.specs.Programs.{lowered}
 use Rattle.lower_turns.specs.Turns.{KeepsEveryTurn}
 use Rattle.struct_ir.specs.Erased.{ir_erased}
 use Rattle.ak_trace.specs.declared.endings.End.{End}
+use Rattle.ak_trace.specs.declared.endings.Verdict.{Verdict}
 use Rattle.flat_rules.specs.declared.settings.Settings.{Settings}
 use Rattle.flat_rules.specs.declared.settings.Mode.{Mode}
-use Rattle.flat_rules.specs.declared.settings.Mode.TheVariants.{Run, Churn}
+use Rattle.flat_rules.specs.declared.settings.Mode.TheVariants.{Run, Churn, Check, Race, Build, Load}
 use Rattle.flat_machine.specs.Replays.{Final}
 use Rattle.flat_replay.specs.Meaning.{IsAsMeant}
 use Rattle.run_words.specs.Command.{alaska, are_taken, value_in}
@@ -31,7 +32,7 @@ use Rattle.alaska_run.specs.Ending.{Ending, WantedMemory}
 use Rattle.alaska_run.specs.Sources.{Read, Failed, IsAll, source_of, source_in}
 use Rattle.alaska_run.specs.Faults.{IsRefused, IsFault}
 use Rattle.alaska_run.specs.Modes.{IsCompiledTo, IsCodeBy, IsTheEnd, IsAnswerBy, IsWorkBy, IsWorkIn}
-use Rattle.alaska_run.specs.Headline.{Headline, OfATree, WithARun, WithoutARun, CameToNoRun, depth}
+use Rattle.alaska_run.specs.Headline.{Headline, OfATree, WithARun, WithoutARun, CameToNoRun, DidItsWork, depth}
 use Rattle.heap_text.specs.Text.{text, tree}
 use Rattle.heap_text.specs.Read.{IsTheTree}
 use Rattle.heap_text.specs.Runs.{RunsAreKnown}
@@ -76,14 +77,32 @@ named_by : (file : List ℕ → Shelved) (o : Option Settings) (w : Wanted) → 
 named_by file None w e = absurd (cc e)
 named_by file (Some s) w e = ap (source_of file) (same_some (wanted_of s) w e)
 
--- no mode does anything but run
-no_work_by : (mode : Mode) (e : Ending) (judged : Status) (output line : List ℕ) → IsWorkBy mode e judged output line → ⊥
-no_work_by Run e judged output line h = h
-no_work_by Churn e judged output line h = h
+-- mode run does nothing but run
+no_work : (o : Option Settings) (e : Ending) (judged : Status) (output line : List ℕ) → option_map wanted_of o ≡ Some heap_wanted → IsWorkIn o e judged output line → ⊥
+no_work None e judged output line is h = h
+no_work (Some s) e judged output line is h =
+    let same : wanted_of s ≡ heap_wanted = same_some (wanted_of s) heap_wanted is in
+    subst (λ (mode : Mode). IsWorkBy mode s e judged output line) (ap (λ (w : Wanted). w.mode) same) h
 
-no_work : (o : Option Settings) (e : Ending) (judged : Status) (output line : List ℕ) → IsWorkIn o e judged output line → ⊥
-no_work None e judged output line h = h
-no_work (Some s) e judged output line h = no_work_by s.mode e judged output line h
+-- what a mode does that runs nothing is a check
+a_check : (mode : Mode) (s : Settings) (e : Ending) (judged : Status) (output line : List ℕ) → IsWorkBy mode s e judged output line → (found : Verdict) × (judged ≡ statuses.Checked found)
+a_check Run s e judged output line h = absurd h
+a_check Churn s e judged output line h = absurd h
+a_check Check s e judged output line h = (h.report.verdict, h.judged_is)
+a_check Race s e judged output line h = absurd h
+a_check Build s e judged output line h = absurd h
+a_check Load s e judged output line h = absurd h
+
+a_check_in : (o : Option Settings) (e : Ending) (judged : Status) (output line : List ℕ) → IsWorkIn o e judged output line → (found : Verdict) × (judged ≡ statuses.Checked found)
+a_check_in None e judged output line h = absurd h
+a_check_in (Some s) e judged output line h = a_check s.mode s e judged output line h
+
+-- whose status is no want of memory
+not_wanted : (judged status : Status) (output line : List ℕ) (out note : Channel) (found : Verdict) → judged ≡ statuses.Checked found → Written judged status output line out note → status ≡ statuses.NoMemory → ⊥
+not_wanted judged status output line out note found is (inl w) m = let z : statuses.Checked found ≡ statuses.NoMemory = sym is ∙ (sym w.status_is ∙ m) in absurd (cc z)
+not_wanted judged status output line out note found is (inr (inl w)) m = let z : statuses.WriteFault ≡ statuses.NoMemory = sym w.status_is ∙ m in absurd (cc z)
+not_wanted judged status output line out note found is (inr (inr w)) m =
+    let z : statuses.WriteFault ≡ statuses.NoMemory = sym (ap after_note_fault is) ∙ (sym w.status_is ∙ m) in absurd (cc z)
 
 -- nothing, and all, are first parts
 nothing_first : (out : Channel) → Gained out [] → GainedFront out answer
@@ -225,6 +244,7 @@ module _ (one_tree : OneTree) (not_both : NotBoth) (the_tree : IsTheTree) (known
     by_judged statuses.TurnLimit named fault w = absurd fault
     by_judged statuses.OutputLimit named fault w = absurd fault
     by_judged (statuses.StackLimit thread) named fault w = absurd fault
+    by_judged (statuses.Checked found) named fault w = absurd fault
 
     -- memory was wanting before the settings were there
     by_want : (judged : Status) → e.status ≡ statuses.NoMemory → Written judged e.status [] line out note → CameTo (file heap_name) out note e
@@ -232,14 +252,22 @@ module _ (one_tree : OneTree) (not_both : NotBoth) (the_tree : IsTheTree) (known
     by_want judged status (inr (inl w)) = absurd (w.some refl)
     by_want judged status (inr (inr w)) = wanted status w.out_gained
 
-  stopped_so : WithoutARun words file out note e → CameTo (file heap_name) out note e
-  stopped_so w =
-      let s : CameToNoRun words file e w.judged w.output w.line = elim w.why [ inl s ↦ s | inr k ↦ absurd (no_work e.settings e w.judged w.output w.line k) ] in
+  came_to_no_run : (w : WithoutARun words file out note e) → CameToNoRun words file e w.judged w.output w.line → CameTo (file heap_name) out note e
+  came_to_no_run w s =
       let nothing : Written w.judged e.status [] w.line out note = subst (λ (output : List ℕ). Written w.judged e.status output w.line out note) s.no_output w.written in
       elim h.the_text.settings [
         | inl is ↦ by_judged w.line w.judged (named_by file e.settings heap_wanted (is ∙ wants)) s.cause nothing
         | inr m ↦ by_want w.line w.judged m.status nothing
       ]
+
+  did_no_work : (w : WithoutARun words file out note e) → DidItsWork file e w.judged w.output w.line → ⊥
+  did_no_work w d = elim h.the_text.settings [
+    | inl is ↦ no_work e.settings e w.judged w.output w.line (is ∙ wants) d.work
+    | inr m ↦ (let found = a_check_in e.settings e w.judged w.output w.line d.work in not_wanted w.judged e.status w.output w.line out note found.0 found.1 w.written m.status)
+  ]
+
+  stopped_so : WithoutARun words file out note e → CameTo (file heap_name) out note e
+  stopped_so w = elim w.why [ inl s ↦ came_to_no_run w s | inr d ↦ absurd (did_no_work w d) ]
 
   pub came_to : CameTo (file heap_name) out note e
   came_to = by e.journal refl

@@ -21,7 +21,7 @@ use std::io;
 #[derive(Clone, Copy)]
 struct Row(&'static str, &'static str);
 
-const ROWS: [Row; 38] = [
+const ROWS: [Row; 49] = [
     Row("alaska nothing.c", "all"),
     Row("alaska answer.c", "all"),
     Row("alaska heap.c", "ended live"),
@@ -72,6 +72,17 @@ const ROWS: [Row; 38] = [
     Row("alaska integers.c", "ended"),
     Row("alaska fragmented.c", "all"),
     Row("alaska fragmented.c --every 100", "all"),
+    Row("alaska null_load.c --mode check", "all"),
+    Row("alaska answer.c --mode check", "all"),
+    Row("alaska lock_twice.c --mode check", "all"),
+    Row("alaska waiting.c --mode check", "all"),
+    Row("alaska forever.c --mode check --entries 1000", "all"),
+    Row("alaska spinning.c --mode check", "all"),
+    Row("alaska spinning.c --mode check --schedule 1", "all"),
+    Row("alaska deep_128.c --mode check", "all"),
+    Row("alaska absent.c --mode check", "all"),
+    Row("alaska answer.c --mode check --seed 1", "all"),
+    Row("alaska answer.c --mode race", "all"),
 ];
 
 // The call that is made twice: what it writes is the same at each.

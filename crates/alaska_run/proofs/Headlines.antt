@@ -1,5 +1,5 @@
 -- The headline, of each course that a call takes.
-use Rattle.std.proofs.Common.{◌≡◌, ℕ, List, [], ◌++◌, Option, Some, None, refl, sym, ap, subst, ◌∙◌, inl, inr, codes}
+use Rattle.std.proofs.Common.{◌≡◌, ◌≢◌, ℕ, true, List, [], ◌++◌, Option, Some, None, refl, sym, ap, subst, ap₂, ◌∙◌, ◌⊎◌, inl, inr, codes}
 use Rattle.std.proofs.lemmas.List.{append-nil}
 use Rattle.std.specs.Option.{option_map}
 use Rattle.std.specs.Arc.{arc_value}
@@ -15,13 +15,14 @@ use Rattle.pin_checker.specs.CheckedViews.{program_in}
 use Rattle.ak_trace.specs.declared.endings.End.{End}
 use Rattle.ak_trace.specs.declared.endings.End.TheVariants as ends
 use Rattle.flat_rules.specs.declared.settings.Mode.{Mode}
-use Rattle.flat_rules.specs.declared.settings.Mode.TheVariants.{Run, Churn}
+use Rattle.flat_rules.specs.declared.settings.Mode.TheVariants.{Run, Churn, Check, Race, Build, Load}
 use Rattle.flat_rules.specs.declared.settings.Settings.{Settings}
 use Rattle.flat_machine.specs.Replays.{final_at}
 use Rattle.flat_machine.proofs.Limits.{journals_fit}
 use Rattle.flat_replay.specs.Laws.{AccessesOfJournalsStay, JournalsMeanTheSource}
 use Rattle.flat_replay.specs.Meaning.{IsMeaning}
-use Rattle.run_words.specs.Wanted.{wanted_of}
+use Rattle.run_words.specs.Wanted.{Wanted, fits_mode_of, wanted_of}
+use Rattle.run_notes.specs.Checks.{check_line}
 use Rattle.run_notes.specs.declared.status.Status.{Status}
 use Rattle.run_notes.specs.declared.status.Status.TheVariants as statuses
 use Rattle.run_notes.specs.Statuses.{status_of}
@@ -30,25 +31,36 @@ use Rattle.run_notes.specs.Reports.{report_text}
 use Rattle.run_edges.specs.Files.{Shelved}
 use Rattle.run_edges.specs.Sinks.{Channel}
 use Rattle.run_edges.specs.Writing.{Written, after_note_fault}
+use Rattle.alaska_run.specs.declared.checking.Worked.{Worked}
 use Rattle.alaska_run.specs.declared.preparing.Opened.{Opened}
 use Rattle.alaska_run.specs.declared.preparing.Stopped.{Stopped}
 use Rattle.alaska_run.specs.declared.running.Ran.{Ran}
 use Rattle.alaska_run.specs.Ending.{Ending}
 use Rattle.alaska_run.specs.Sources.{Source, source_in, name_in, IsAll}
 use Rattle.alaska_run.specs.Faults.{IsFault}
-use Rattle.alaska_run.specs.Modes.{IsCompiledTo, IsCodeBy, IsTheEnd, IsAnswerBy}
+use Rattle.alaska_run.specs.Modes.{IsCompiledTo, IsCodeBy, IsTheEnd, IsAnswerBy, IsACheck, IsWorkBy, IsWorkIn}
 use Rattle.alaska_run.specs.Headline.{Headline, IsOrUnwritten, IsTextOf, OfATree, OfARun, WithARun, depth}
-use Rattle.alaska_run.specs.inner.Courses.{IsStopped, IsOpened, HasRun}
+use Rattle.alaska_run.specs.inner.Courses.{IsStopped, IsOpened, IsWorked, HasRun}
+use Rattle.alaska_run.proofs.Words.{fits}
 
 -- ---- the rows of the modes
 
-compiled_by : (mode : Mode) (text : List ℕ) (checked : Ir) (code : LinearCode) → IsCompiledTo text checked code → IsCodeBy mode text checked code
-compiled_by Run text checked code h = h
-compiled_by Churn text checked code h = h
+-- words want a run of modes run and churn alone, where they don't want a check
+runs_by : (mode : Mode) (w : Wanted) → fits_mode_of mode w ≡ true → mode ≢ Check → (mode ≡ Run) ⊎ (mode ≡ Churn)
+runs_by Run w f n = inl refl
+runs_by Churn w f n = inr refl
+runs_by Check w f n = absurd (n refl)
+runs_by Race w f n = cc f
+runs_by Build w f n = cc f
+runs_by Load w f n = cc f
 
-answer_by : (mode : Mode) (e : Ending) (end : End) (judged : Status) (behind : List ℕ) → IsTheEnd end judged behind → IsAnswerBy mode e end judged behind
-answer_by Run e end judged behind h = h
-answer_by Churn e end judged behind h = h
+compiled_by : (mode : Mode) (text : List ℕ) (checked : Ir) (code : LinearCode) → (mode ≡ Run) ⊎ (mode ≡ Churn) → IsCompiledTo text checked code → IsCodeBy mode text checked code
+compiled_by mode text checked code (inl m) h = subst (λ (z : Mode). IsCodeBy z text checked code) (sym m) h
+compiled_by mode text checked code (inr m) h = subst (λ (z : Mode). IsCodeBy z text checked code) (sym m) h
+
+answer_by : (mode : Mode) (e : Ending) (end : End) (judged : Status) (behind : List ℕ) → (mode ≡ Run) ⊎ (mode ≡ Churn) → IsTheEnd end judged behind → IsAnswerBy mode e end judged behind
+answer_by mode e end judged behind (inl m) h = subst (λ (z : Mode). IsAnswerBy z e end judged behind) (sym m) h
+answer_by mode e end judged behind (inr m) h = subst (λ (z : Mode). IsAnswerBy z e end judged behind) (sym m) h
 
 -- ---- what a sink's fault makes of a status
 
@@ -149,6 +161,9 @@ module _ (words : List (List ℕ)) (file : List ℕ → Shelved) (out note : Cha
 
   -- ---- the whole
 
+  runs : (x.settings.mode ≡ Run) ⊎ (x.settings.mode ≡ Churn)
+  runs = runs_by x.settings.mode (wanted_of x.settings) (fits words (wanted_of x.settings) o.settings) o.mode
+
   with_it : WithARun file out note e log
   unfolding of_the_run
   with_it = record {
@@ -158,11 +173,11 @@ module _ (words : List (List ℕ)) (file : List ℕ → Shelved) (out note : Cha
     has_settings = es;
     has_checked = ec;
     has_code = ek;
-    the_code = record { source = o.source; from = from; whole = whole; of_text = compiled_by x.settings.mode e.text checked code compiled };
+    the_code = record { source = o.source; from = from; whole = whole; of_text = compiled_by x.settings.mode e.text checked code runs compiled };
     the_run = of_the_run;
     judged = status_of h.end;
     behind = [];
-    answer = answer_by x.settings.mode e h.end (status_of h.end) [] (refl, refl);
+    answer = answer_by x.settings.mode e h.end (status_of h.end) [] runs (refl, refl);
     what_it_wrote = wrote;
     how_it_ended = judged_then (status_of h.end) e.status h.final.output (report_text h.end h.final.report ++ []) out note (run_fault h.end) wrote;
   }
@@ -172,6 +187,56 @@ module _ (words : List (List ℕ)) (file : List ℕ → Shelved) (out note : Cha
     the_text = record { settings = inl (ap (option_map wanted_of) es ∙ sym o.settings); text = text_of; none = λ n. absurd (let z : Some x.settings ≡ None = sym es ∙ n in cc z) };
     with_a_run = λ other l. let same : log ≡ other = cc (sym ej ∙ l) in subst (λ (z : List Entry). WithARun file out note e z) same with_it;
     without_a_run = λ none. absurd (let z : Some log ≡ None = sym ej ∙ none in cc z);
+  }
+
+-- ---- a check
+
+module _ (words : List (List ℕ)) (file : List ℕ → Shelved) (out note : Channel) (x : Worked) (e : Ending) (o : IsWorked words file x)
+    (es : e.settings ≡ Some x.settings) (et : e.text ≡ x.text.items) (ec : e.checked ≡ Some (program_in x.checked)) (ek : e.code ≡ Some (arc_value x.code)) (ej : e.journal ≡ None)
+    (w : Written x.status e.status x.output.items x.line.items out note) where
+  all_of_it : IsAll o.source e.text
+  all_of_it = subst (λ (t : List ℕ). IsAll o.source t) (sym et) o.whole
+
+  its_source : source_in file e.settings ≡ Some o.source
+  its_source = ap (source_in file) es ∙ o.from
+
+  its_text : (source : Source) → source_in file e.settings ≡ Some source → IsTextOf source e.text e.status
+  its_text source n = let same : o.source ≡ source = cc (sym its_source ∙ n) in subst (λ (z : Source). IsTextOf z e.text e.status) same (inl all_of_it)
+
+  its_line : x.line.items ≡ check_line (name_in e.settings) e.text o.report.verdict
+  its_line = o.found.line ∙ ap₂ (λ (name text : List ℕ). check_line name text o.report.verdict) (ap name_in (sym es)) (sym et)
+
+  a_check : IsACheck x.settings e x.status x.output.items x.line.items
+  a_check = record {
+    typed = o.typed;
+    checked = program_in x.checked;
+    code = arc_value x.code;
+    has_checked = ec;
+    has_code = ek;
+    built = subst (λ (t : List ℕ). IsBuilt t o.typed (program_in x.checked) (arc_value x.code)) (sym et) o.built;
+    report = o.report;
+    found = o.found.found;
+    judged_is = o.found.status;
+    output_is = o.found.output;
+    line_is = its_line;
+  }
+
+  work : IsWorkIn e.settings e x.status x.output.items x.line.items
+  work =
+      let a : IsWorkBy x.settings.mode x.settings e x.status x.output.items x.line.items = subst (λ (m : Mode). IsWorkBy m x.settings e x.status x.output.items x.line.items) (sym o.mode) a_check in
+      subst (λ (z : Option Settings). IsWorkIn z e x.status x.output.items x.line.items) (sym es) a
+
+  pub of_worked : Headline words file out note e
+  of_worked = record {
+    the_text = record { settings = inl (ap (option_map wanted_of) es ∙ sym o.settings); text = its_text; none = λ n. absurd (let z : Some x.settings ≡ None = sym es ∙ n in cc z) };
+    with_a_run = λ log l. absurd (let z : None ≡ Some log = sym ej ∙ l in cc z);
+    without_a_run = λ none. record {
+      judged = x.status;
+      output = x.output.items;
+      line = x.line.items;
+      why = inr (record { source = o.source; from = its_source; whole = all_of_it; work = work });
+      written = w;
+    };
   }
 
 -- ---- no run

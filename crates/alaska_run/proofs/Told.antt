@@ -13,8 +13,9 @@ use Rattle.struct_ir.specs.Nodes.{Ir}
 use Rattle.struct_ir.specs.Instrs.{LinearCode}
 use Rattle.ak_trace.specs.declared.endings.End.{End}
 use Rattle.ak_trace.specs.declared.endings.End.TheVariants as ends
+use Rattle.ak_trace.specs.declared.endings.Verdict.{Verdict}
 use Rattle.flat_rules.specs.declared.settings.Mode.{Mode}
-use Rattle.flat_rules.specs.declared.settings.Mode.TheVariants.{Run, Churn}
+use Rattle.flat_rules.specs.declared.settings.Mode.TheVariants.{Run, Churn, Check, Race, Build, Load}
 use Rattle.flat_rules.specs.declared.settings.Settings.{Settings}
 use Rattle.run_words.specs.Wanted.{Wanted, settings_of, wanted_of}
 use Rattle.run_notes.specs.declared.status.Status.{Status}
@@ -26,8 +27,8 @@ use Rattle.run_edges.specs.Writing.{after_note_fault}
 use Rattle.alaska_run.specs.Ending.{Ending, WantedMemory}
 use Rattle.alaska_run.specs.Sources.{Source, Read, Made, source_of, source_in, Tells, IsAll, IsFirst, Failed}
 use Rattle.alaska_run.specs.Faults.{IsFault, IsRefused}
-use Rattle.alaska_run.specs.Modes.{IsCompiledTo, IsCodeBy, IsAnswerBy, IsWorkBy, IsWorkIn}
-use Rattle.alaska_run.specs.Headline.{Headline, IsOrUnwritten, WithARun, WithoutARun, CameToNoRun}
+use Rattle.alaska_run.specs.Modes.{IsCompiledTo, IsCodeBy, IsAnswerBy, IsACheck, IsWorkBy, IsWorkIn, IsDoneBy}
+use Rattle.alaska_run.specs.Headline.{Headline, IsOrUnwritten, WithARun, WithoutARun, DidItsWork}
 use Rattle.alaska_run.specs.Answers.{Causes, Answers, IsUnlessMemory, IsTold}
 
 there_or_not : {A : Type 0} (o : Option A) → (o ≡ None) ⊎ ((a : A) × (o ≡ Some a))
@@ -43,18 +44,59 @@ some_there (Some b) a e = refl
 pub compiled_in : (mode : Mode) (text : List ℕ) (checked : Ir) (code : LinearCode) → IsCodeBy mode text checked code → IsCompiledTo text checked code
 compiled_in Run text checked code h = h
 compiled_in Churn text checked code h = h
+compiled_in Check text checked code h = absurd h
+compiled_in Race text checked code h = absurd h
+compiled_in Build text checked code h = absurd h
+compiled_in Load text checked code h = absurd h
 
 pub judged_in : (mode : Mode) (e : Ending) (end : End) (judged : Status) (behind : List ℕ) → IsAnswerBy mode e end judged behind → judged ≡ status_of end
 judged_in Run e end judged behind h = h.0
 judged_in Churn e end judged behind h = h.0
+judged_in Check e end judged behind h = absurd h
+judged_in Race e end judged behind h = absurd h
+judged_in Build e end judged behind h = absurd h
+judged_in Load e end judged behind h = absurd h
 
-no_work_by : (mode : Mode) (e : Ending) (judged : Status) (output line : List ℕ) → IsWorkBy mode e judged output line → ⊥
-no_work_by Run e judged output line h = h
-no_work_by Churn e judged output line h = h
+-- where there is a journal, all is done
+run_done : (mode : Mode) (e : Ending) (end : End) (judged : Status) (behind : List ℕ) → IsAnswerBy mode e end judged behind → IsSome e.journal → IsDoneBy mode e
+run_done Run e end judged behind h j = j
+run_done Churn e end judged behind h j = j
+run_done Check e end judged behind h j = absurd h
+run_done Race e end judged behind h j = absurd h
+run_done Build e end judged behind h j = absurd h
+run_done Load e end judged behind h j = absurd h
 
-no_work : (o : Option Settings) (e : Ending) (judged : Status) (output line : List ℕ) → IsWorkIn o e judged output line → ⊥
-no_work None e judged output line h = h
-no_work (Some settings) e judged output line h = no_work_by settings.mode e judged output line h
+-- what a mode does that runs nothing is a check
+work_by : (mode : Mode) (s : Settings) (e : Ending) (judged : Status) (output line : List ℕ) → IsWorkBy mode s e judged output line → (mode ≡ Check) × IsACheck s e judged output line
+work_by Run s e judged output line h = absurd h
+work_by Churn s e judged output line h = absurd h
+work_by Check s e judged output line h = (refl, h)
+work_by Race s e judged output line h = absurd h
+work_by Build s e judged output line h = absurd h
+work_by Load s e judged output line h = absurd h
+
+-- a check of a text that is all of its source, and has a tree: its status tells what was found
+record ACheck (file : List ℕ → Shelved) (e : Ending) (judged : Status) : Type 0 where
+  settings : Settings
+  has_settings : e.settings ≡ Some settings
+  mode : settings.mode ≡ Check
+  source : Source
+  from : source_in file e.settings ≡ Some source
+  whole : IsAll source e.text
+  typed : Typed
+  tree : IsTreeOf e.text typed
+  found : Verdict
+  judged_is : judged ≡ statuses.Checked found
+
+check_in : (file : List ℕ → Shelved) (e : Ending) (judged : Status) (output line : List ℕ) (source : Source) → source_in file e.settings ≡ Some source → IsAll source e.text
+    → (o : Option Settings) → e.settings ≡ o → IsWorkIn o e judged output line → ACheck file e judged
+check_in file e judged output line source from whole None is h = absurd h
+check_in file e judged output line source from whole (Some s) is h =
+    let k = work_by s.mode s e judged output line h in
+    record { settings = s; has_settings = is; mode = k.0; source = source; from = from; whole = whole; typed = k.1.typed; tree = k.1.built.tree; found = k.1.report.verdict; judged_is = k.1.judged_is }
+
+check_of : (file : List ℕ → Shelved) (e : Ending) (judged : Status) (output line : List ℕ) → DidItsWork file e judged output line → ACheck file e judged
+check_of file e judged output line d = check_in file e judged output line d.source d.from d.whole e.settings refl d.work
 
 -- ---- the ends of a run
 
@@ -104,6 +146,7 @@ after_note statuses.TurnLimit = inr refl
 after_note statuses.OutputLimit = inr refl
 after_note (statuses.StackLimit thread) = inr refl
 after_note statuses.NoMemory = inl refl
+after_note (statuses.Checked found) = inr refl
 
 -- what plain settings have the text come from
 source_of_plain : (file : List ℕ → Shelved) (o : Option Settings) (w : Wanted) → option_map wanted_of o ≡ Some w → source_in file o ≡ source_of file w
@@ -157,37 +200,47 @@ module _ (words : List (List ℕ)) (file : List ℕ → Shelved) (out note : Cha
     abbrev w : WithoutARun words file out note e
     w = h.without_a_run none
 
-    stopped : CameToNoRun words file e w.judged w.output w.line
-    stopped = elim w.why [ inl s ↦ s | inr k ↦ absurd (no_work e.settings e w.judged w.output w.line k) ]
-
-    -- the status is the judged one, or note failed
-    judged : (e.status ≡ w.judged) ⊎ ((e.status ≡ after_note_fault w.judged) × WriteFailed note)
-    judged = elim w.written [ inl a ↦ inl a.status_is | inr x ↦ elim x [ inl a ↦ absurd (a.some stopped.no_output) | inr a ↦ inr (a.status_is, a.fault) ] ]
+    -- the status is the judged one, or out failed, or note
+    judged : (e.status ≡ w.judged) ⊎ ((e.status ≡ statuses.WriteFault) × WriteFailed out) ⊎ ((e.status ≡ after_note_fault w.judged) × WriteFailed note)
+    judged = elim w.written [ inl a ↦ inl a.status_is | inr x ↦ inr (elim x [ inl a ↦ inl (a.status_is, a.fault) | inr a ↦ inr (a.status_is, a.fault) ]) ]
 
     judged_as : (s : Status) → s ≢ statuses.NoMemory → s ≢ statuses.WriteFault → e.status ≡ s → w.judged ≡ s
     judged_as s other not is = elim judged [
       | inl a ↦ sym a ∙ is
-      | inr b ↦ elim (after_note w.judged) [ inl m ↦ absurd (other (sym is ∙ b.0 ∙ m)) | inr m ↦ absurd (not (sym is ∙ b.0 ∙ m)) ]
+      | inr x ↦ elim x [
+        | inl b ↦ absurd (not (sym is ∙ b.0))
+        | inr b ↦ elim (after_note w.judged) [ inl m ↦ absurd (other (sym is ∙ b.0 ∙ m)) | inr m ↦ absurd (not (sym is ∙ b.0 ∙ m)) ]
+      ]
     ]
 
-    fault_at : (s : Status) → w.judged ≡ s → IsFault words file e.settings e.text s
-    fault_at s is = subst (λ (z : Status). IsFault words file e.settings e.text z) is stopped.cause
+    -- a judged status that no check has is that of a call that came to no run
+    fault_at : (s : Status) → ((found : Verdict) → s ≢ statuses.Checked found) → w.judged ≡ s → IsFault words file e.settings e.text s
+    fault_at s other is = elim w.why [
+      | inl c ↦ subst (λ (z : Status). IsFault words file e.settings e.text z) is c.cause
+      | inr d ↦ (let k = check_of file e w.judged w.output w.line d in absurd (other k.found (sym is ∙ k.judged_is)))
+    ]
+
+    fault_as : (s : Status) → s ≢ statuses.NoMemory → s ≢ statuses.WriteFault → ((found : Verdict) → s ≢ statuses.Checked found) → e.status ≡ s → IsFault words file e.settings e.text s
+    fault_as s other not checked is = fault_at s checked (judged_as s other not is)
 
     no_run_fault : e.status ≡ statuses.WriteFault → WriteFailed out ⊎ WriteFailed note
-    no_run_fault is = elim judged [ inl a ↦ absurd (fault_at statuses.WriteFault (sym a ∙ is)) | inr b ↦ inr b.1 ]
+    no_run_fault is = elim judged [
+      | inl a ↦ absurd (fault_at statuses.WriteFault (λ found z. cc z) (sym a ∙ is))
+      | inr x ↦ elim x [ inl b ↦ inl b.1 | inr b ↦ inr b.1 ]
+    ]
 
   pub causes : Causes words file out note e
   causes = record {
     usage = λ is. elim (there_or_not e.journal) [
-      | inl n ↦ fault_at n statuses.Usage (judged_as n statuses.Usage (λ z. cc z) (λ z. cc z) is)
+      | inl n ↦ fault_as n statuses.Usage (λ z. cc z) (λ z. cc z) (λ found z. cc z) is
       | inr l ↦ absurd (never l.0 l.1 statuses.Usage not_usage (λ z. cc z) is)
     ];
     refused = λ place kind is. elim (there_or_not e.journal) [
-      | inl n ↦ fault_at n (statuses.Refused place kind) (judged_as n (statuses.Refused place kind) (λ z. cc z) (λ z. cc z) is)
+      | inl n ↦ fault_as n (statuses.Refused place kind) (λ z. cc z) (λ z. cc z) (λ found z. cc z) is
       | inr l ↦ absurd (never l.0 l.1 (statuses.Refused place kind) (λ end. not_refused end place kind) (λ z. cc z) is)
     ];
     read_fault = λ is. elim (there_or_not e.journal) [
-      | inl n ↦ fault_at n statuses.ReadFault (judged_as n statuses.ReadFault (λ z. cc z) (λ z. cc z) is)
+      | inl n ↦ fault_as n statuses.ReadFault (λ z. cc z) (λ z. cc z) (λ found z. cc z) is
       | inr l ↦ absurd (never l.0 l.1 statuses.ReadFault not_read_fault (λ z. cc z) is)
     ];
     write_fault = λ is. elim (there_or_not e.journal) [ inl n ↦ no_run_fault n is | inr l ↦ run_fault l.0 l.1 is ];
@@ -195,8 +248,8 @@ module _ (words : List (List ℕ)) (file : List ℕ → Shelved) (out note : Cha
 
   -- ---- where nothing failed
 
-  -- what holds of each cause but want of memory holds, or memory was wanting
-  module _ (kept : WriteFailed note → ⊥) (G : Type 0) (usage : e.status ≡ statuses.Usage → settings_of words ≡ None → G) (read : (source : Source) → source_in file e.settings ≡ Some source → Failed source → G)
+  -- what holds of each cause but want of memory, and of a check, holds, or memory was wanting
+  module _ (out_kept : WriteFailed out → ⊥) (note_kept : WriteFailed note → ⊥) (G : Type 0) (checked : ACheck file e e.status → G) (usage : e.status ≡ statuses.Usage → settings_of words ≡ None → G) (read : (source : Source) → source_in file e.settings ≡ Some source → Failed source → G)
       (refused : (place : ℕ) (kind : Kind) → e.status ≡ statuses.Refused place kind → (source : Source) → source_in file e.settings ≡ Some source → IsRefused source e.text place kind → G) where
     by_cause : (none : e.journal ≡ None) (s : Status) → e.status ≡ s → IsFault words file e.settings e.text s → G ⊎ WantedMemory e
     by_cause none statuses.Usage is f = inl (usage is f)
@@ -210,9 +263,16 @@ module _ (words : List (List ℕ)) (file : List ℕ → Shelved) (out note : Cha
     by_cause none statuses.TurnLimit is f = absurd f
     by_cause none statuses.OutputLimit is f = absurd f
     by_cause none (statuses.StackLimit thread) is f = absurd f
+    by_cause none (statuses.Checked found) is f = absurd f
+
+    by_why : (none : e.journal ≡ None) → e.status ≡ (w none).judged → G ⊎ WantedMemory e
+    by_why none is = elim (w none).why [
+      | inl c ↦ by_cause none (w none).judged is c.cause
+      | inr d ↦ (let k = check_of file e (w none).judged (w none).output (w none).line d in inl (checked (subst (ACheck file e) (sym is) k)))
+    ]
 
     caused : e.journal ≡ None → G ⊎ WantedMemory e
-    caused none = elim (judged none) [ inl a ↦ by_cause none (w none).judged a (stopped none).cause | inr b ↦ absurd (kept b.1) ]
+    caused none = elim (judged none) [ inl a ↦ by_why none a | inr x ↦ elim x [ inl b ↦ absurd (out_kept b.1) | inr b ↦ absurd (note_kept b.1) ] ]
 
   -- the source is the one that the words have
   module _ (bytes : List ℕ) (t : IsTold words file out note bytes) where
@@ -233,6 +293,27 @@ module _ (words : List (List ℕ)) (file : List ℕ → Shelved) (out note : Cha
 
     is_bytes : (source : Source) → t.source ≡ source → IsAll source e.text → e.text ≡ bytes
     is_bytes source s all = all_told source e.text bytes all (told_as source s)
+
+    -- a text that is all of its source is these bytes
+    whole_bytes : (source : Source) → source_in file e.settings ≡ Some source → IsAll source e.text → (e.text ≡ bytes) ⊎ WantedMemory e
+    whole_bytes source n whole = elim (same_source source n) [ inl s ↦ inl (is_bytes source s whole) | inr m ↦ inr m ]
+
+    -- the mode of the settings is the one that the words want
+    same_mode : (s : Settings) → e.settings ≡ Some s → (s.mode ≡ t.wanted.mode) ⊎ WantedMemory e
+    same_mode s is = elim h.the_text.settings [
+      | inl a ↦ inl (let b : Some (wanted_of s) ≡ Some t.wanted = sym (ap (option_map wanted_of) is) ∙ a ∙ t.words_are in let c : wanted_of s ≡ t.wanted = cc b in ap (λ (z : Wanted). z.mode) c)
+      | inr m ↦ inr m
+    ]
+
+    -- what is done by the mode of the settings is done by that
+    done_by : (s : Settings) → e.settings ≡ Some s → IsDoneBy s.mode e → IsDoneBy t.wanted.mode e ⊎ WantedMemory e
+    done_by s is d = elim (same_mode s is) [ inl m ↦ inl (subst (λ (z : Mode). IsDoneBy z e) m d) | inr m ↦ inr m ]
+
+    run_is_done : (log : List Entry) → e.journal ≡ Some log → IsDoneBy t.wanted.mode e ⊎ WantedMemory e
+    run_is_done log l = let r = h.with_a_run log l in done_by r.settings r.has_settings (run_done r.settings.mode e r.the_run.end r.judged r.behind r.answer (some_there e.journal log l))
+
+    check_is_done : ACheck file e e.status → IsDoneBy t.wanted.mode e ⊎ WantedMemory e
+    check_is_done k = done_by k.settings k.has_settings (subst (λ (z : Mode). IsDoneBy z e) (sym k.mode) (k.found, k.judged_is))
 
     -- a run is of a text that is all of its source, and has a tree
     ran_whole : (log : List Entry) → e.journal ≡ Some log → (typed : Typed) × (e.text ≡ bytes) × IsTreeOf e.text typed × (length e.text ≤ most_bytes)
@@ -275,7 +356,8 @@ module _ (words : List (List ℕ)) (file : List ℕ → Shelved) (out note : Cha
     pub answers : Answers words file out note e
     answers = record {
       usage = λ none out_kept note_kept. elim (there_or_not e.journal) [
-        | inl n ↦ flat (caused note_kept (IsUnlessMemory e statuses.Usage)
+        | inl n ↦ flat (caused out_kept note_kept (IsUnlessMemory e statuses.Usage)
+            (λ k. plainly none k.source k.from)
             (λ is z. inl is)
             (λ source f failed. plainly none source f)
             (λ place kind is source f r. plainly none source f) n)
@@ -285,13 +367,17 @@ module _ (words : List (List ℕ)) (file : List ℕ → Shelved) (out note : Cha
         ])
       ];
       complete = λ bytes typed t short tree. elim (there_or_not e.journal) [
-        | inl n ↦ (let c = caused t.kept.note_kept (⊥ ⊎ WantedMemory e) (λ is z. absurd (no_usage bytes t z)) (λ source f failed. inr (no_read bytes t source f failed))
-            (λ place kind is source f r. elim (refused_bytes bytes t short place kind source f r) [ inl q ↦ absurd (not_both bytes tree.tokens typed _ tree.read q) | inr m ↦ inr m ]) n in
-            elim c [ inl d ↦ elim d [ inl z ↦ absurd z | inr m ↦ inr m ] | inr m ↦ inr m ])
-        | inr l ↦ inl (some_there e.journal l.0 l.1)
+        | inl n ↦ flat (caused t.kept.out_kept t.kept.note_kept (IsDoneBy t.wanted.mode e ⊎ WantedMemory e) (check_is_done bytes t) (λ is z. absurd (no_usage bytes t z)) (λ source f failed. inr (no_read bytes t source f failed))
+            (λ place kind is source f r. elim (refused_bytes bytes t short place kind source f r) [ inl q ↦ absurd (not_both bytes tree.tokens typed _ tree.read q) | inr m ↦ inr m ]) n)
+        | inr l ↦ run_is_done bytes t l.0 l.1
       ];
       refused = λ bytes r t short refuses. elim (there_or_not e.journal) [
-        | inl n ↦ flat (caused t.kept.note_kept (IsUnlessMemory e (statuses.Refused r.place r.kind)) (λ is z. absurd (no_usage bytes t z)) (λ source f failed. inr (no_read bytes t source f failed))
+        | inl n ↦ flat (caused t.kept.out_kept t.kept.note_kept (IsUnlessMemory e (statuses.Refused r.place r.kind))
+            (λ k. elim (whole_bytes bytes t k.source k.from k.whole) [
+              | inl b ↦ absurd (not_both e.text k.tree.tokens k.typed r k.tree.read (subst (λ (z : List ℕ). Refuses z r) (sym b) refuses))
+              | inr m ↦ inr m
+            ])
+            (λ is z. absurd (no_usage bytes t z)) (λ source f failed. inr (no_read bytes t source f failed))
             (λ place kind is source f q. elim (refused_bytes bytes t short place kind source f q) [
               | inl p ↦ inl (is ∙ ap (λ (z : Refusal). statuses.Refused z.place z.kind) (one_reason bytes _ r p refuses))
               | inr m ↦ inr m
@@ -299,7 +385,12 @@ module _ (words : List (List ℕ)) (file : List ℕ → Shelved) (out note : Cha
         | inr l ↦ (let x = ran_whole bytes t l.0 l.1 in absurd (not_both e.text x.2.tokens x.0 r x.2.read (subst (λ (z : List ℕ). Refuses z r) (sym x.1) refuses)))
       ];
       too_long = λ bytes t long. elim (there_or_not e.journal) [
-        | inl n ↦ flat (caused t.kept.note_kept (IsUnlessMemory e (statuses.Refused most_bytes TooLong)) (λ is z. absurd (no_usage bytes t z)) (λ source f failed. inr (no_read bytes t source f failed))
+        | inl n ↦ flat (caused t.kept.out_kept t.kept.note_kept (IsUnlessMemory e (statuses.Refused most_bytes TooLong))
+            (λ k. elim (whole_bytes bytes t k.source k.from k.whole) [
+              | inl b ↦ absurd (let same = ap length b in let short = all_short k.source e.text k.whole in omega (arith, same, short, long))
+              | inr m ↦ inr m
+            ])
+            (λ is z. absurd (no_usage bytes t z)) (λ source f failed. inr (no_read bytes t source f failed))
             (λ place kind is source f q. elim (refused_long bytes t long place kind source f q) [
               | inl p ↦ inl (is ∙ ap (λ (z : ℕ). statuses.Refused z kind) p.0 ∙ ap (λ (z : Kind). statuses.Refused most_bytes z) p.1)
               | inr m ↦ inr m

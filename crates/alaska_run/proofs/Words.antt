@@ -1,9 +1,9 @@
 -- Where words that are settings have the text come from.
-use Rattle.std.proofs.Common.{◌≡◌, ℕ, Bool, true, false, ◌&&◌, List, [], Option, Some, None, refl, ap, subst, ◌∙◌}
+use Rattle.std.proofs.Common.{◌≡◌, ◌≢◌, ℕ, Bool, true, false, ◌&&◌, List, [], Option, Some, None, refl, ap, subst, ◌∙◌}
 use Rattle.std.specs.Prelude.{if◌then◌else◌, is_none, is_some, unwrap_or}
 use Rattle.std.specs.Option.{option_map}
 use Rattle.flat_rules.specs.declared.settings.Mode.{Mode}
-use Rattle.flat_rules.specs.declared.settings.Mode.TheVariants.{Run, Churn}
+use Rattle.flat_rules.specs.declared.settings.Mode.TheVariants.{Run, Churn, Check, Race, Build, Load}
 use Rattle.run_words.specs.Command.{are_taken, value_in}
 use Rattle.run_words.specs.Wanted.{Wanted, wanted_by, has_bounded_heap, fits_mode, fits_mode_of, only_if, settings_of}
 use Rattle.run_churn.specs.Text as churn
@@ -28,7 +28,7 @@ both true b e = (refl, e)
 both false b e = absurd cc
 
 -- settings are those of their mode
-fits : (words : List (List ℕ)) (w : Wanted) → settings_of words ≡ Some w → fits_mode w ≡ true
+pub fits : (words : List (List ℕ)) (w : Wanted) → settings_of words ≡ Some w → fits_mode w ≡ true
 unfolding settings_of
 fits words w e = (passed fits_mode (only_if has_bounded_heap (wanted_by (value_in words))) w (taken (are_taken words) _ w e)).1
 
@@ -40,9 +40,17 @@ module _ (file : List ℕ → Shelved) where
   a_file None e = absurd cc
   a_file (Some name) e = refl
 
-  -- those of mode run name a file
-  pub source_read : (words : List (List ℕ)) (w : Wanted) → settings_of words ≡ Some w → w.mode ≡ Run → source_of file w ≡ Some (Read (file (unwrap_or w.file [])))
-  source_read words w e m = ap (λ (z : Mode). source_by z file w) m ∙ a_file w.file (both (is_some w.file) _ (fits_as words w Run e m)).0
+  a_file_by : (mode : Mode) (w : Wanted) → fits_mode_of mode w ≡ true → mode ≢ Churn → source_by mode file w ≡ Some (Read (file (unwrap_or w.file [])))
+  a_file_by Run w f n = a_file w.file (both (is_some w.file) _ f).0
+  a_file_by Churn w f n = absurd (n refl)
+  a_file_by Check w f n = a_file w.file (both (is_some w.file) _ f).0
+  a_file_by Race w f n = cc f
+  a_file_by Build w f n = cc f
+  a_file_by Load w f n = cc f
+
+  -- those of each mode but churn name a file
+  pub source_read : (words : List (List ℕ)) (w : Wanted) → settings_of words ≡ Some w → w.mode ≢ Churn → source_of file w ≡ Some (Read (file (unwrap_or w.file [])))
+  source_read words w e m = a_file_by w.mode w (fits words w e) m
 
   a_text : (seed size : Option ℕ) → is_some seed ≡ true → is_some size ≡ true → churned seed size ≡ Some (Made (churn.text (unwrap_or seed 0) (unwrap_or size 1)))
   a_text None size d z = absurd cc

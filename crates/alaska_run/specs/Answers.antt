@@ -1,5 +1,5 @@
 -- When each status comes: only where it has its cause, and just there where nothing failed and memory sufficed.
-use Rattle.std.specs.Prelude.{◌≡◌, ℕ, ◌<◌, ◌≤◌, ◌⊎◌, List, length, IsSome, Some, None}
+use Rattle.std.specs.Prelude.{◌≡◌, ℕ, ◌<◌, ◌≤◌, ◌⊎◌, List, length, Some, None}
 use Rattle.c_lex.specs.declared.refusal.Refusal.{Refusal}
 use Rattle.c_lex.specs.declared.refusal.Kind.{Kind}
 use Rattle.c_lex.specs.declared.refusal.Kind.TheVariants.{TooLong}
@@ -14,6 +14,7 @@ use Rattle.run_edges.specs.Sinks.{Channel, WriteFailed}
 use Rattle.alaska_run.specs.Ending.{Ending, WantedMemory}
 use Rattle.alaska_run.specs.Sources.{Source, source_of, source_in, Tells, Failed}
 use Rattle.alaska_run.specs.Faults.{IsRefused}
+use Rattle.alaska_run.specs.Modes.{IsDoneBy}
 
 -- no read of the source failed, and no write
 pub record NothingFailed (source : Source) (out note : Channel) : Type 0 where
@@ -49,8 +50,8 @@ pub record IsTold (words : List (List ℕ)) (file : List ℕ → Shelved) (out n
 pub record Answers (words : List (List ℕ)) (file : List ℕ → Shelved) (out note : Channel) (e : Ending) : Type 0 where
   -- words that are no settings are usage
   pub usage : settings_of words ≡ None → (WriteFailed out → ⊥) → (WriteFailed note → ⊥) → IsUnlessMemory e statuses.Usage
-  -- a text of the subset is run
-  pub complete : (bytes : List ℕ) (typed : Typed) → IsTold words file out note bytes → length bytes ≤ most_bytes → IsTreeOf bytes typed → IsSome e.journal ⊎ WantedMemory e
+  -- to a text of the subset is done what the mode does: it is run or, in mode check, checked
+  pub complete : (bytes : List ℕ) (typed : Typed) (told : IsTold words file out note bytes) → length bytes ≤ most_bytes → IsTreeOf bytes typed → IsDoneBy told.wanted.mode e ⊎ WantedMemory e
   -- another text is refused, for the one reason that it has
   pub refused : (bytes : List ℕ) (r : Refusal) → IsTold words file out note bytes → length bytes ≤ most_bytes → Refuses bytes r → IsUnlessMemory e (statuses.Refused r.place r.kind)
   -- and so is one that is too long

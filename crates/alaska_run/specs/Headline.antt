@@ -130,13 +130,20 @@ pub record CameToNoRun (words : List (List ℕ)) (file : List ℕ → Shelved) (
   pub no_output : output ≡ []
   pub line_is : line ≡ fault_line (name_in e.settings) e.text judged
 
+-- the call did what its mode does that runs nothing, to a text that is all of its source
+pub record DidItsWork (file : List ℕ → Shelved) (e : Ending) (judged : Status) (output line : List ℕ) : Type 0 where
+  pub source : Source
+  pub from : source_in file e.settings ≡ Some source
+  pub whole : IsAll source e.text
+  pub work : IsWorkIn e.settings e judged output line
+
 -- where there is no journal
 pub record WithoutARun (words : List (List ℕ)) (file : List ℕ → Shelved) (out note : Channel) (e : Ending) : Type 0 where
   pub judged : Status
   pub output : List ℕ
   pub line : List ℕ
   -- the call came to no run, or its mode does something else
-  pub why : CameToNoRun words file e judged output line ⊎ IsWorkIn e.settings e judged output line
+  pub why : CameToNoRun words file e judged output line ⊎ DidItsWork file e judged output line
   -- out gained just that output, and note that line, as far as the sinks took them
   pub written : Written judged e.status output line out note
 

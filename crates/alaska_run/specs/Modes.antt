@@ -1,17 +1,24 @@
--- What each mode says of a call, a line a mode: whose the code is that ran, what is answered beside a run, and what is done without one.
+-- What each mode says of a call, a line a mode: whose the code is that ran, what is answered beside a run, what is done without one, and what
+-- a text of the subset comes to. Modes race, build and load do nothing yet, since no words want them.
 -- Where a mode has its text from is told in Sources.antt.
-use Rattle.std.specs.Prelude.{◌≡◌, ℕ, List, [], Option, Some, None}
+use Rattle.std.specs.Prelude.{◌≡◌, ℕ, List, [], Option, Some, None, IsSome, unwrap_or}
 use Rattle.c_tree.specs.Typed.{Typed}
 use Rattle.struct_ir.specs.Nodes.{Ir}
 use Rattle.struct_ir.specs.Instrs.{LinearCode}
 use Rattle.ak_trace.specs.declared.endings.End.{End}
+use Rattle.ak_trace.specs.declared.endings.Verdict.{Verdict}
 use Rattle.flat_rules.specs.declared.settings.Mode.{Mode}
-use Rattle.flat_rules.specs.declared.settings.Mode.TheVariants.{Run, Churn}
+use Rattle.flat_rules.specs.declared.settings.Mode.TheVariants.{Run, Churn, Check}
 use Rattle.flat_rules.specs.declared.settings.Settings.{Settings}
+use Rattle.rule_check.specs.Checks.{IsCheckOf}
+use Rattle.rule_check.specs.Reports.{Report}
+use Rattle.run_notes.specs.Checks.{check_line}
 use Rattle.run_notes.specs.declared.status.Status.{Status}
+use Rattle.run_notes.specs.declared.status.Status.TheVariants as statuses
 use Rattle.run_notes.specs.Statuses.{status_of}
 use Rattle.alaska_run.specs.Built.{IsBuilt}
 use Rattle.alaska_run.specs.Ending.{Ending}
+use Rattle.alaska_run.specs.Sources.{name_in}
 
 -- ---- whose the code is
 
@@ -19,10 +26,11 @@ use Rattle.alaska_run.specs.Ending.{Ending}
 abbrev pub IsCompiledTo : (text : List ℕ) → Ir → LinearCode → Type 0
 IsCompiledTo text checked code = (typed : Typed) × IsBuilt text typed checked code
 
--- what a text and the code that ran have to do with each other
+-- what a text and the code that ran have to do with each other; in the other modes no code runs
 abbrev pub IsCodeBy : Mode → (text : List ℕ) → Ir → LinearCode → Type 0
 IsCodeBy Run text checked code = IsCompiledTo text checked code
 IsCodeBy Churn text checked code = IsCompiledTo text checked code
+IsCodeBy mode text checked code = ⊥
 
 -- ---- with a run
 
@@ -34,15 +42,42 @@ IsTheEnd end judged behind = (judged ≡ status_of end) × (behind ≡ [])
 abbrev pub IsAnswerBy : Mode → Ending → End → (judged : Status) → (behind : List ℕ) → Type 0
 IsAnswerBy Run e end judged behind = IsTheEnd end judged behind
 IsAnswerBy Churn e end judged behind = IsTheEnd end judged behind
+IsAnswerBy mode e end judged behind = ⊥
 
 -- ---- without one
 
--- what a mode does that runs nothing: the status before anything is written, and what out and note are to take. These two do nothing but run
-abbrev pub IsWorkBy : Mode → Ending → (judged : Status) → (output line : List ℕ) → Type 0
-IsWorkBy Run e judged output line = ⊥
-IsWorkBy Churn e judged output line = ⊥
+-- what mode check does: the source's run of the text's own typed tree is checked, and no code runs
+pub record IsACheck (settings : Settings) (e : Ending) (judged : Status) (output line : List ℕ) : Type 0 where
+  -- checked and code are what this tree is compiled to
+  pub typed : Typed
+  pub checked : Ir
+  pub code : LinearCode
+  pub has_checked : e.checked ≡ Some checked
+  pub has_code : e.code ≡ Some code
+  pub built : IsBuilt e.text typed checked code
+  -- this is found of the tree, in the order that the schedule's seed gives, or the seed 0, and in as many turns as a journal may have entries
+  pub report : Report
+  pub found : IsCheckOf typed (unwrap_or settings.schedule 0) settings.entries report
+  -- the status tells what was found, out takes what was printed until then, and note the line of what was found
+  pub judged_is : judged ≡ statuses.Checked report.verdict
+  pub output_is : output ≡ report.output
+  pub line_is : line ≡ check_line (name_in e.settings) e.text report.verdict
+
+-- what a mode does that runs nothing: the status before anything is written, and what out and note are to take. Modes run and churn do nothing but run
+abbrev pub IsWorkBy : Mode → Settings → Ending → (judged : Status) → (output line : List ℕ) → Type 0
+IsWorkBy Check settings e judged output line = IsACheck settings e judged output line
+IsWorkBy mode settings e judged output line = ⊥
 
 -- the mode is that of the settings, where there are any
 abbrev pub IsWorkIn : Option Settings → Ending → (judged : Status) → (output line : List ℕ) → Type 0
 IsWorkIn None e judged output line = ⊥
-IsWorkIn (Some settings) e judged output line = IsWorkBy settings.mode e judged output line
+IsWorkIn (Some settings) e judged output line = IsWorkBy settings.mode settings e judged output line
+
+-- ---- a text of the subset
+
+-- what a mode makes of it, where nothing failed and memory sufficed: a run, of which there is a journal, or what a check found
+abbrev pub IsDoneBy : Mode → Ending → Type 0
+IsDoneBy Run e = IsSome e.journal
+IsDoneBy Churn e = IsSome e.journal
+IsDoneBy Check e = (found : Verdict) × (e.status ≡ statuses.Checked found)
+IsDoneBy mode e = ⊥

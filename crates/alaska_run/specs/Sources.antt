@@ -1,8 +1,8 @@
--- Where the text of a call comes from: in mode run from the file that the words name, in mode churn from their seed and their size.
+-- Where the text of a call comes from: in mode churn from the seed and the size that the words give, in each other mode from the file that they name.
 use Rattle.std.specs.Prelude.{◌≡◌, ℕ, ◌≤◌, List, [], length, Option, Some, None, codes, unwrap_or, option_and_then}
 use Rattle.std.specs.Option.{option_map}
 use Rattle.flat_rules.specs.declared.settings.Mode.{Mode}
-use Rattle.flat_rules.specs.declared.settings.Mode.TheVariants.{Run, Churn}
+use Rattle.flat_rules.specs.declared.settings.Mode.TheVariants.{Churn}
 use Rattle.flat_rules.specs.declared.settings.Settings.{Settings}
 use Rattle.run_words.specs.Wanted.{Wanted, wanted_of}
 use Rattle.run_churn.specs.Text as churn
@@ -20,8 +20,8 @@ churned _ _ = None
 
 -- what a mode has the text come from
 abbrev pub source_by : Mode → (List ℕ → Shelved) → Wanted → Option Source
-source_by Run file w = option_map (λ name. Read (file name)) w.file
 source_by Churn file w = churned w.seed w.size
+source_by mode file w = option_map (λ name. Read (file name)) w.file
 
 -- what the text comes from that is wanted
 abbrev pub source_of : (List ℕ → Shelved) → Wanted → Option Source
@@ -33,8 +33,8 @@ source_in file settings = option_and_then (λ s. source_of file (wanted_of s)) s
 
 -- its name in the line of a fault: that of the file, or `churn`
 abbrev pub name_by : Mode → Wanted → List ℕ
-name_by Run w = unwrap_or w.file []
 name_by Churn w = codes "churn"
+name_by mode w = unwrap_or w.file []
 
 -- and none without settings
 abbrev pub name_in : Option Settings → List ℕ

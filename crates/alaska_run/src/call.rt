@@ -10,6 +10,7 @@ ghost use Rattle.run_edges.specs.Files.{shelved};
 ghost use Rattle.run_edges.specs.Sinks.{channel};
 ghost use Rattle.run_edges.specs.Writing.{Written};
 
+use crate::checking::Worked;
 use crate::ending::Ending;
 use crate::preparing::{Course, Stopped, prepare};
 use crate::running::{Ran, run_opened};
@@ -47,6 +48,32 @@ fn end_run<O: Sink, N: Sink>(ran: Ran, out: &mut O, note: &mut N) -> Ending
         checked: Some(checked),
         code: Some(code),
         journal: Some(journal),
+    }
+}
+
+// Writes what a mode did that runs nothing.
+fn end_worked<O: Sink, N: Sink>(worked: Worked, out: &mut O, note: &mut N) -> Ending
+    ensures written { Written worked.status result.status worked.output.items worked.line.items (channel O.contents O.faults out.old out.new) (channel N.contents N.faults note.old note.new) }
+    ensures words { (result.settings ≡ Some worked.settings) × (result.text ≡ worked.text) }
+    ensures code { (result.checked ≡ Some worked.checked) × (result.code ≡ Some worked.code) }
+    ensures journal { result.journal ≡ None }
+{
+    let Worked {
+        status,
+        settings,
+        text,
+        checked,
+        code,
+        output: printed,
+        line,
+    } = worked;
+    Ending {
+        status: write_ending(status, &printed, &line, out, note),
+        settings: Some(settings),
+        text,
+        checked: Some(checked),
+        code: Some(code),
+        journal: None,
     }
 }
 
@@ -94,7 +121,10 @@ fn end_without_memory<O: Sink, N: Sink>(alloc: Global, out: &mut O, note: &mut N
 /// takes what the program printed, in one piece, and `note` the report, or one line that tells why nothing ran. A worker goes through `gate`
 /// before each of its calls.
 ///
-/// Where `out` fails, `note` is not written. Once the world was opened no memory is taken.
+/// In mode check no code runs: the source's run of the text's own typed tree is checked, in the order of the schedule's seed, and `note` takes
+/// the line of the first rule that it breaks, or of how it ends.
+///
+/// Where `out` fails, `note` is not written. Once the world was opened no memory is taken; a check may come to want of memory.
 pub fn alaska<R: Threads + Wait + Sync, F: Shelf, O: Sink, N: Sink, G: Gate>(
     rt: &R,
     alloc: Global,
@@ -127,6 +157,7 @@ pub fn alaska<R: Threads + Wait + Sync, F: Shelf, O: Sink, N: Sink, G: Gate>(
     flat_replay::laws::accesses_of_journals_stay();
     match prepare(alloc, words, shelf) {
         Ok(Course::Opened(opened)) => end_run(run_opened(rt, opened, gate), out, note),
+        Ok(Course::Worked(worked)) => end_worked(worked, out, note),
         Ok(Course::Stopped(stopped)) => end_stopped(stopped, out, note),
         Err(NoMemory) => end_without_memory(alloc, out, note),
     }

@@ -18,8 +18,8 @@ pub struct Ending {
     pub text: Vec<u8>,
     /// Its code with translations, safepoints and pin lists, safe for moves.
     pub checked: Option<Checked>,
-    /// The code that was run.
+    /// The machine's code of it, which ran where there is a journal.
     pub code: Option<Arc<Program, Global>>,
-    /// The journal of the run, as it stood under the workers' lock.
+    /// The journal of the run, as it stood under the workers' lock; none in mode check, which runs nothing.
     pub journal: Option<Kept>,
 }

@@ -1,6 +1,7 @@
-//! What comes before a run: the words, the text, its code, and the world that the workers share.
+//! What comes before anything is written, but for a run: the words, the text, its code, and the world that the workers share or what a check
+//! finds.
 
-ghost use Rattle.std.specs.Prelude.{◌≡◌, ◌≤◌, ℕ, List, [], map, string_bytes, length, unwrap_or, option_map, IfOk, Some, None};
+ghost use Rattle.std.specs.Prelude.{◌≡◌, ◌≢◌, ◌≤◌, ℕ, List, [], map, string_bytes, length, unwrap_or, option_map, IfOk, Some, None};
 ghost use Rattle.std.specs.Arc.{arc_value};
 ghost use Rattle.alaska_run.specs.Reading.{Refuses};
 ghost use Rattle.c_tree.specs.TypedViews.{typed_view};
@@ -14,6 +15,7 @@ ghost use Rattle.alaska_run.specs.Headline.{IsTextOf};
 ghost use Rattle.run_edges.specs.Files.{Shelved, shelved};
 ghost use Rattle.alaska_run.specs.inner.Courses.{IsCourse, IsCourseOf, IsReady, IsStoppedAs};
 
+use crate::checking::{Worked, check_text};
 use crate::{Built, compile};
 use ak_io::Shelf;
 use ak_words::NoMemory;
@@ -27,7 +29,6 @@ use run_notes::{Status, fault_line};
 use run_words::read_settings;
 use std::alloc::Global;
 use std::sync::Arc;
-use struct_ir::linear::Code;
 use turn_lock::Pass;
 
 // How many bytes a report has at most.
@@ -59,6 +60,7 @@ pub(crate) struct Opened {
 pub(crate) enum Course {
     Stopped(Stopped),
     Opened(Opened),
+    Worked(Worked),
 }
 
 // The name of the file that the settings give, or none.
@@ -71,13 +73,13 @@ fn file_name(settings: &Settings) -> &str
     }
 }
 
-// The name of the text in the line of a fault.
-fn text_name(settings: &Settings) -> &str
+/// The name of the text in its lines.
+pub(crate) fn text_name(settings: &Settings) -> &str
     ensures { result.now ≡ name_in (Some settings.now) }
 {
     match settings.mode {
-        Mode::Run => file_name(settings),
         Mode::Churn => "churn",
+        _ => file_name(settings),
     }
 }
 
@@ -118,12 +120,16 @@ fn open_world(
     alloc: Global,
     settings: Settings,
     text: Vec<u8>,
-    checked: Checked,
-    code: Code,
+    built: Built,
 ) -> Result<Opened, NoMemory>
     ensures ready { IfOk result IsReady }
-    ensures kept { IfOk result (λ x. (x.settings ≡ settings) × (x.text ≡ text) × (x.checked ≡ checked) × (arc_value x.code ≡ code_view code)) }
+    ensures kept { IfOk result (λ x. (x.settings ≡ settings) × (x.text ≡ text) × (x.checked ≡ built.checked) × (arc_value x.code ≡ code_view built.code)) }
 {
+    let Built {
+        typed: _,
+        checked,
+        code,
+    } = built;
     let code = Arc::new(alloc, Program::load(alloc, code)?)?;
     let (world, passes) = SharedWorld::open(alloc, Arc::clone(&code)?, &settings)?;
     let line = Vec::with_capacity(alloc, REPORT_BYTES)?;
@@ -138,19 +144,24 @@ fn open_world(
     })
 }
 
+// What the mode does with a text that is compiled: it is checked, or the world is opened in which it is to run.
+fn begin(alloc: Global, settings: Settings, text: Vec<u8>, built: Built) -> Result<Course, NoMemory>
+    requires { IsBuilt text.items (typed_view built.typed) (program_in built.checked) (code_view built.code) }
+    ensures { IfOk result (IsCourseOf settings text.items) }
+{
+    match settings.mode {
+        Mode::Check => Ok(Course::Worked(check_text(alloc, settings, text, built)?)),
+        _ => Ok(Course::Opened(open_world(alloc, settings, text, built)?)),
+    }
+}
+
 // A text that is all of its source.
 fn compile_text(alloc: Global, settings: Settings, text: Vec<u8>) -> Result<Course, NoMemory>
     requires { length text.items ≤ 1048576 }
     ensures { IfOk result (IsCourseOf settings text.items) }
 {
     match compile(alloc, &text) {
-        Ok(
-            Built {
-                typed: _,
-                checked,
-                code,
-            },
-        ) => { Ok(Course::Opened(open_world(alloc, settings, text, checked, code)?)) }
+        Ok(built) => begin(alloc, settings, text, built),
         Err(CompileFault::Refused(refusal)) => {
             stop_with(
                 alloc,
@@ -163,13 +174,13 @@ fn compile_text(alloc: Global, settings: Settings, text: Vec<u8>) -> Result<Cour
     }
 }
 
-// The file that settings of mode run name, compiled, and the world opened.
+// The file that the settings name, compiled, and what the mode does with it begun.
 fn prepare_file<F: Shelf>(
     alloc: Global,
     settings: Settings,
     shelf: &mut F,
 ) -> Result<Course, NoMemory>
-    requires { settings.mode ≡ Mode.Run }
+    requires { settings.mode ≢ Mode.Churn }
     ensures { (words : List (List ℕ)) → settings_of words ≡ Some (wanted_of settings) → IfOk result (IsCourse words (shelved F.contents F.faults shelf.old shelf.new)) }
 {
     match read_text(alloc, shelf, file_name(&settings))? {
@@ -199,7 +210,7 @@ fn prepare_churn(alloc: Global, settings: Settings) -> Result<Course, NoMemory>
     compile_text(alloc, settings, text)
 }
 
-/// Reads the words, then reads the file or, in mode churn, makes the text; compiles it and opens the world.
+/// Reads the words, then reads the file or, in mode churn, makes the text; compiles it, and opens the world or, in mode check, checks it.
 pub(crate) fn prepare<F: Shelf>(
     alloc: Global,
     words: &[String],
@@ -213,7 +224,7 @@ pub(crate) fn prepare<F: Shelf>(
         return stopped_by_words(alloc);
     };
     match settings.mode {
-        Mode::Run => prepare_file(alloc, settings, shelf),
         Mode::Churn => prepare_churn(alloc, settings),
+        _ => prepare_file(alloc, settings, shelf),
     }
 }

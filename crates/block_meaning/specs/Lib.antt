@@ -1,4 +1,5 @@
 pub mod Threads
 pub mod Running
 pub mod Counts
+pub mod Asking
 pub mod inner

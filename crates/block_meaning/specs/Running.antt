@@ -16,10 +16,11 @@ use Rattle.block_meaning.specs.declared.running.SourceRun.{SourceRun}
 use Rattle.block_meaning.specs.declared.running.Turned.{Turned}
 use Rattle.block_meaning.specs.declared.running.Turned.TheVariants as turneds
 
--- a run: the program, the state that it has come to, and whether memory was wanting
+-- a run: the program, the state that it has come to, the bytes that its last turn asked for, and whether memory was wanting
 pub record Running : Type 0 where
   pub typed : tree.Typed
   pub state : runs.State Control
+  pub asked : Option ℕ
   pub out_of_memory : Bool
 
 -- the number that a thread's first function has returned, as an int
@@ -80,6 +81,6 @@ IsAsBefore (turneds.Ended value) before after = Unit {0}
 abbrev pub state_in : List (Option Own) → World → runs.State Control
 state_in all w = record { world = world_of w; own = owns_of all }
 
--- what a run is: its program, the state that it has come to, and whether memory was wanting
+-- what a run is: its program, the state that it has come to, what its last turn asked for, and whether memory was wanting
 abbrev pub running_of : SourceRun → Running
-running_of r = record { typed = program_of r.program; state = state_in r.threads.items r.world; out_of_memory = r.out_of_memory }
+running_of r = record { typed = program_of r.program; state = state_in r.threads.items r.world; asked = r.asked; out_of_memory = r.out_of_memory }

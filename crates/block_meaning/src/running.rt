@@ -8,6 +8,7 @@ ghost use Rattle.block_store.specs.declared.values.Answer.{Answer};
 ghost use Rattle.c_tree.specs.TypedViews.{typed_view};
 ghost use Rattle.c_meaning.specs.Meaning.{program, start};
 ghost use Rattle.source_state.specs.Worlds.{reached_of};
+ghost use Rattle.block_meaning.specs.Asking.{wish, AreAskedOf};
 ghost use Rattle.block_meaning.specs.Counts.{HasFewDeclarations, MakesFew, ReachesFew};
 ghost use Rattle.block_meaning.specs.Running.{running_of, answered_if, left_by, ended_with, IsAsBefore};
 
@@ -46,6 +47,8 @@ pub struct SourceRun {
     world: World,
     // What each thread that was made has of its own: none once it has ended.
     threads: Vec<Option<Own>>,
+    // The bytes that the last turn asked for, if it was told Plain and is an allocation.
+    asked: Option<u64>,
     // Whether memory was wanting.
     out_of_memory: bool,
 }
@@ -55,6 +58,7 @@ impl SourceRun {
     pub fn new(alloc: Global, typed: Typed) -> Result<SourceRun, NoMemory>
         ensures program { IfOk result (λ run. (running_of run).typed ≡ typed_view typed) }
         ensures state { IfOk result (λ run. (running_of run).state ≡ first_state (program (typed_view typed)) (start (typed_view typed))) }
+        ensures asked { IfOk result (λ run. (running_of run).asked ≡ None) }
         ensures memory { IfOk result (λ run. (running_of run).out_of_memory ≡ false) }
         ensures few { IfOk result (λ run. (n : ℕ) → HasFewDeclarations n (typed_view typed) → ReachesFew n (running_of run).typed (running_of run).state) }
     {
@@ -79,6 +83,7 @@ impl SourceRun {
                 reached: Vec::new(alloc),
             },
             threads,
+            asked: None,
             out_of_memory: false,
         })
     }
@@ -88,6 +93,27 @@ impl SourceRun {
         ensures { result.now ≡ (running_of self.now).state.world.output }
     {
         &self.world.output
+    }
+
+    /// What was printed, where the run isn't used any more.
+    pub fn into_output(self) -> Vec<u8>
+        ensures { result.items ≡ (running_of self).state.world.output }
+    {
+        let SourceRun {
+            world,
+            alloc: _,
+            program: _,
+            threads: _,
+            asked: _,
+            out_of_memory: _,
+        } = self;
+        let World {
+            output,
+            store: _,
+            threads: _,
+            reached: _,
+        } = world;
+        output
     }
 
     /// What the last action reached that was done, in order; nothing before the first.
@@ -102,6 +128,21 @@ impl SourceRun {
         ensures { result ≡ length (running_of self.now).state.world.blocks }
     {
         self.world.store.store().names()
+    }
+
+    /// How many threads were made.
+    pub fn threads(&self) -> u64
+        ensures { result ≡ length (running_of self.now).state.own }
+    {
+        self.threads.len() as u64
+    }
+
+    /// The bytes that the last turn asked for, where it's an allocation that was told Plain, which it doesn't take: at most
+    /// 2^64 - 1, which stands for each greater number, too. Nothing of another turn, and before the first.
+    pub fn asked(&self) -> Option<u64>
+        ensures { result ≡ (running_of self.now).asked }
+    {
+        self.asked
     }
 
     /// What the first function of a thread has returned, as an `int`; nothing of a thread that wasn't made or runs.
@@ -131,6 +172,7 @@ impl SourceRun {
         ensures answer { IfOk result (λ t. answered_if thread (picked (program (running_of self.old).typed) (running_of self.old).state (record { thread = thread; answer = answer })) ≡ Some t) }
         ensures state { OnOk result ((running_of self.new).state ≡ left_by (running_of self.old).typed (running_of self.old).state thread (picked (program (running_of self.old).typed) (running_of self.old).state (record { thread = thread; answer = answer }))) }
         ensures stays { IfOk result (λ t. IsAsBefore t (running_of self.old).state (running_of self.new).state) }
+        ensures asked { IfOk result (λ t. AreAskedOf answer (wish (program (running_of self.old).typed) (running_of self.old).state thread) (running_of self.new).asked) }
         ensures made { OnOk result ((n : ℕ) → ReachesFew n (running_of self.old).typed (running_of self.old).state → MakesFew n (running_of self.old).typed (running_of self.old).state (running_of self.new).state) }
         ensures program { (running_of self.new).typed ≡ (running_of self.old).typed }
         ensures wanting { (running_of self.old).out_of_memory ≡ true → is_err result ≡ true }
@@ -142,6 +184,7 @@ impl SourceRun {
         match take(
             &mut self.threads,
             &mut self.world,
+            &mut self.asked,
             self.alloc,
             &self.program,
             thread,

@@ -9,6 +9,7 @@ ghost use Rattle.c_meaning.specs.Meaning as meaning;
 ghost use Rattle.source_tree.specs.SharedViews.{program_of};
 ghost use Rattle.source_state.specs.Worlds.{stage_of, world_of};
 ghost use Rattle.block_meaning.specs.Threads.{control_of, owns_of};
+ghost use Rattle.block_meaning.specs.Asking.{wish, AreAskedOf};
 ghost use Rattle.block_meaning.specs.Running.{answered, answered_if, left_by, ended_by, ended_with, returned_at, state_in};
 ghost use Rattle.block_meaning.specs.inner.Turns.{turn_of};
 ghost use Rattle.block_meaning.specs.inner.Starts.{owns_behind};
@@ -158,11 +159,12 @@ fn come_back(
     }
 }
 
-/// One turn of a thread that runs, under an answer.
+/// One turn of a thread that runs, under an answer, with the bytes that it asked for, if it was told Plain and is an allocation.
 #[tactic(auto, using(crate::proofs::Picks::picked_of, crate::proofs::Picks::left))]
 pub fn take(
     threads: &mut Vec<Option<Own>>,
     world: &mut World,
+    asked: &mut Option<u64>,
     alloc: Global,
     program: &SharedProgram,
     thread: u32,
@@ -171,11 +173,12 @@ pub fn take(
     requires { IsSome (runs.picked (meaning.program (program_of program.now)) (state_in threads.old.items world.old) (record { thread = thread; answer = answer })) }
     ensures answer { IfOk result (λ t. answered_if thread (runs.picked (meaning.program (program_of program.now)) (state_in threads.old.items world.old) (record { thread = thread; answer = answer })) ≡ Some t) }
     ensures state { OnOk result (state_in threads.new.items world.new ≡ left_by (program_of program.now) (state_in threads.old.items world.old) thread (runs.picked (meaning.program (program_of program.now)) (state_in threads.old.items world.old) (record { thread = thread; answer = answer }))) }
+    ensures asked { OnOk result (AreAskedOf answer (wish (meaning.program (program_of program.now)) (state_in threads.old.items world.old) thread) asked.new) }
 {
     let Some(mut own) = take_own(threads, thread) else {
         return Err(NoMemory);
     };
-    let o = take_turn(&mut own, world, alloc, program, thread, answer)?;
+    let o = take_turn(&mut own, world, asked, alloc, program, thread, answer)?;
     let turned = come_back(o, own, threads, world, alloc, program, thread)?;
     Ok(turned)
 }

@@ -1,11 +1,13 @@
 //! One turn of a thread.
 
-ghost use Rattle.std.specs.Prelude.{◌≡◌, IfOk, OnOk};
+ghost use Rattle.std.specs.Prelude.{◌≡◌, ◌-◌, ◌^◌, IfOk, OnOk, Some, min};
+ghost use Rattle.block_store.specs.declared.values.Answer.TheVariants as answers;
 ghost use Rattle.c_meaning.specs.Turns as turns;
 ghost use Rattle.source_tree.specs.SharedViews.{program_of};
 ghost use Rattle.source_state.specs.Worlds.{world_of};
 ghost use Rattle.block_meaning.specs.Threads.{control_of};
-ghost use Rattle.block_meaning.specs.inner.Turns.{turn_of, Reaches, Stays};
+ghost use Rattle.block_meaning.specs.Asking.{wish_by, AreAskedOf};
+ghost use Rattle.block_meaning.specs.inner.Turns.{turn_of, asked_under, Reaches, Stays};
 
 use crate::perform::perform;
 use crate::thread::{At, Outcome, Own};
@@ -13,7 +15,7 @@ use ak_words::{NoMemory, Rule};
 use block_store::Answer;
 use source_assignments::Exit;
 use source_state::control::Pending;
-use source_state::{KeptStore, Locals, World};
+use source_state::{KeptStore, Locals, SharedAction, World};
 use source_statements::{finish, give, rounds};
 use source_tree::tree::SharedProgram;
 use std::alloc::Global;
@@ -61,10 +63,33 @@ fn undo(locals: &mut Locals, store: &mut KeptStore)
     store.undo();
 }
 
-/// One turn of a thread, with what it has of its own and what it shares.
+// A number, or the greatest that there is of its type where it's greater.
+fn capped(n: u128) -> u64
+    ensures { result ≡ min n (2 ^ 64 - 1) }
+{
+    if n > u64::MAX as u128 {
+        u64::MAX
+    } else {
+        n as u64
+    }
+}
+
+// The bytes that a turn asks for which is told this answer, by what ends it.
+fn asked_under(answer: Answer, q: &Pending) -> Option<u64>
+    ensures { result ≡ asked_under answer q.now }
+{
+    match (answer, q) {
+        (Answer::Plain, Pending::Act(_, SharedAction::Allocate(size, _), _)) => Some(capped(*size)),
+        (_, _) => None,
+    }
+}
+
+/// One turn of a thread, with what it has of its own and what it shares, and with the bytes that it asked for, if it was told Plain
+/// and is an allocation.
 pub fn take_turn(
     own: &mut Own,
     world: &mut World,
+    asked: &mut Option<u64>,
     alloc: Global,
     program: &SharedProgram,
     thread: u32,
@@ -72,6 +97,7 @@ pub fn take_turn(
 ) -> Result<Outcome, NoMemory>
     ensures turned { IfOk result (λ o. turn_of o own.new world.new ≡ turns.turn (program_of program.now) thread answer (control_of own.old) (world_of world.old)) }
     ensures stays { IfOk result (λ o. Stays o (control_of own.old) (control_of own.new) (world_of world.old) (world_of world.new)) }
+    ensures asked { OnOk result (AreAskedOf answer (wish_by (world_of world.old) (Some (turns.turn (program_of program.now) thread answers.Plain (control_of own.old) (world_of world.old))) (Some (turns.turn (program_of program.now) thread answers.Got (control_of own.old) (world_of world.old))) (Some (turns.turn (program_of program.now) thread answers.None (control_of own.old) (world_of world.old)))) asked.new) }
 {
     own.locals.keep();
     world.store.keep();
@@ -83,6 +109,7 @@ pub fn take_turn(
         &mut own.locals,
         &mut world.store,
     )?;
+    *asked = asked_under(answer, &q);
     let o = perform(own, world, alloc, program, thread, answer, q)?;
     match o {
         Outcome::Went => Ok(Outcome::Went),

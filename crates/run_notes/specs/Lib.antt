@@ -1,4 +1,5 @@
 pub mod Statuses
 pub mod Reports
 pub mod Lines
+pub mod Checks
 pub mod Rows

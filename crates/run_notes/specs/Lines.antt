@@ -35,10 +35,13 @@ kind_number (kinds.OutsideSubset feature) = 32 ∷ decimal feature
 kind_number (kinds.TooMany count) = 32 ∷ decimal count
 kind_number _ = []
 
+-- a place of a text, as the head of a line: the name of its file, its line and its column
+abbrev pub place_text : (name text : List ℕ) → ℕ → List ℕ
+place_text name text place = name ++ codes ":" ++ decimal (line_at text place) ++ codes ":" ++ decimal (column_at text place) ++ codes ": "
+
 -- the line of a text that is refused, of the file with this name
 abbrev pub refusal_line : (name text : List ℕ) → ℕ → Kind → List ℕ
-refusal_line name text place kind = name ++ codes ":" ++ decimal (line_at text place)
-    ++ codes ":" ++ decimal (column_at text place) ++ codes ": refused: " ++ kind_name kind ++ kind_number kind ++ codes "\n"
+refusal_line name text place kind = place_text name text place ++ codes "refused: " ++ kind_name kind ++ kind_number kind ++ codes "\n"
 
 -- the line of a status before any run, of the file with this name and this text; a run that ended has a report, and a fault of writing has no line
 abbrev pub fault_line : (name text : List ℕ) → Status → List ℕ

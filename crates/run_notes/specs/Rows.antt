@@ -1,5 +1,5 @@
 -- Texts of note, as they are written.
-use Rattle.std.specs.Prelude.{◌≡◌, pos, negsuc, [], ◌++◌, codes, replicate, Some, None, refl}
+use Rattle.std.specs.Prelude.{◌≡◌, pos, negsuc, [], ◌∷◌, ◌++◌, map, codes, replicate, Some, None, refl}
 use Rattle.std.specs.Fmt.{digits}
 use Rattle.c_lex.specs.declared.refusal.Kind.TheVariants.{TooDeep, UnknownName, OutsideSubset}
 use Rattle.ak_trace.specs.declared.endings.End.TheVariants.{Done, Trap, AllBlocked, TurnLimit, OutputLimit, StackLimit}
@@ -8,6 +8,10 @@ use Rattle.run_notes.specs.declared.status.Status.TheVariants as statuses
 use Rattle.run_report.specs.declared.report.Report.{Report}
 use Rattle.run_notes.specs.Reports.{report_text, end_text}
 use Rattle.run_notes.specs.Lines.{fault_line}
+use Rattle.ak_words.specs.declared.rule.Rule.TheVariants.{C5, C13}
+use Rattle.ak_trace.specs.declared.endings.Verdict.TheVariants as verdicts
+use Rattle.run_notes.specs.Checks.{check_line}
+use Rattle.run_notes.specs.Statuses.{number_of}
 
 -- the report of a main that ends at once
 abbrev pub short_run : Report
@@ -69,3 +73,22 @@ no_main_line = refl
 
 pub unread_line : fault_line (codes "a.c") [] statuses.ReadFault ≡ codes "alaska: can't read a.c\n"
 unread_line = refl
+
+-- a load through null, a second lock by the thread that holds the mutex, and runs that break no rule
+pub null_line : check_line (codes "a.c") (codes "int main(void){int *p=NULL;return *p;}") (verdicts.Broke C5 34 0) ≡ codes "a.c:1:35: broke C5 after 0 turns\n"
+unfolding digits
+null_line = refl
+
+pub second_lock_line : check_line (codes "a.c") (codes "mtx_t m;int main(void){mtx_lock(&m);mtx_lock(&m);return 0;}") (verdicts.Broke C13 36 1) ≡ codes "a.c:1:37: broke C13 after 1 turns\n"
+unfolding digits
+second_lock_line = refl
+
+pub checked_lines : check_line [] [] (verdicts.Ended (pos 6) 2) ++ check_line [] [] (verdicts.Ended (negsuc 0) 0) ++ check_line [] [] (verdicts.AllBlocked 3)
+    ++ check_line [] [] (verdicts.TurnsSpent 1000)
+    ≡ codes "checked: done 6 after 2 turns\nchecked: done -1 after 0 turns\nchecked: all blocked after 3 turns\nchecked: turns spent after 1000 turns\n"
+unfolding digits
+checked_lines = refl
+
+pub numbers_of_checks : map number_of (statuses.Checked (verdicts.Broke C5 34 0) ∷ statuses.Checked (verdicts.Ended (pos 6) 2) ∷ statuses.Checked (verdicts.AllBlocked 3)
+    ∷ statuses.Checked (verdicts.TurnsSpent 1000) ∷ []) ≡ 12 ∷ 0 ∷ 0 ∷ 0 ∷ []
+numbers_of_checks = refl

@@ -2,8 +2,17 @@
 use Rattle.std.specs.Prelude.{ℕ}
 use Rattle.ak_trace.specs.declared.endings.End.{End}
 use Rattle.ak_trace.specs.declared.endings.End.TheVariants as ends
+use Rattle.ak_trace.specs.declared.endings.Verdict.{Verdict}
+use Rattle.ak_trace.specs.declared.endings.Verdict.TheVariants as verdicts
 use Rattle.run_notes.specs.declared.status.Status.{Status}
 use Rattle.run_notes.specs.declared.status.Status.TheVariants as statuses
+
+-- a check ends the program with 12 where it found a broken rule, and else with 0
+abbrev pub number_of_check : Verdict → ℕ
+number_of_check (verdicts.Broke rule place turns) = 12
+number_of_check (verdicts.Ended exit turns) = 0
+number_of_check (verdicts.AllBlocked turns) = 0
+number_of_check (verdicts.TurnsSpent turns) = 0
 
 -- the number that the program ends with
 abbrev pub number_of : Status → ℕ
@@ -18,6 +27,7 @@ number_of statuses.TurnLimit = 8
 number_of statuses.OutputLimit = 9
 number_of (statuses.StackLimit thread) = 10
 number_of statuses.NoMemory = 11
+number_of (statuses.Checked verdict) = number_of_check verdict
 
 -- the status of a run that ended so, where all was written
 abbrev pub status_of : End → Status

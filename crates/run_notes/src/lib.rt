@@ -1,14 +1,16 @@
 //! What is told of a run at its end: its status, with the number that the program ends with, and the text of note.
-//! Promises upward: the report of a run that ended, the one line of a run that never began, and the status of each end, exactly.
-//! Stands on ak_words, c_lex for the kinds of refusals, flat_meaning for the ends of a run, run_report and itoa.
+//! Promises upward: the report of a run that ended, the one line of a run that never began, the line of a check, and the status of each end, exactly.
+//! Stands on ak_words for the rules of C, c_lex for the kinds of refusals, ak_trace for the ends of a run and of a check, run_report and itoa.
 #![tactic(auto)]
 
+mod checks;
 mod ends;
 mod lines;
 mod pieces;
 mod report;
 mod status;
 
+pub use checks::check_line;
 pub use ends::status_of;
 pub use lines::fault_line;
 pub use report::push_report;

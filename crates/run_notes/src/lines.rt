@@ -1,5 +1,5 @@
 ghost use Rattle.std.specs.Prelude.{◌≡◌, ◌++◌, ◌==◌, [], length, not, reverse, take_while, IfOk, OnOk};
-ghost use Rattle.run_notes.specs.Lines.{column_at, fault_line, kind_name, kind_number, line_at, refusal_line};
+ghost use Rattle.run_notes.specs.Lines.{column_at, fault_line, kind_name, kind_number, line_at, place_text, refusal_line};
 
 use crate::status::Status;
 use ak_words::NoMemory;
@@ -33,8 +33,8 @@ fn column_number(text: &[u8], place: usize) -> usize
     tail_len(&text[..place.min(text.len())]) + 1
 }
 
-// Writes a number at the end of a line.
-fn push_number<I: Integer>(line: &mut Vec<u8>, number: I) -> Result<(), NoMemory>
+/// Writes a number at the end of a line.
+pub fn push_number<I: Integer>(line: &mut Vec<u8>, number: I) -> Result<(), NoMemory>
     ensures { OnOk result (line.new.items ≡ line.old.items ++ I.text number) }
 {
     let mut buffer = Buffer::new();
@@ -76,7 +76,25 @@ fn push_number_of_kind(line: &mut Vec<u8>, kind: Kind) -> Result<(), NoMemory>
     }
 }
 
-// The line of a refusal: the file, the line and the column of its place, and its kind.
+/// A place of a text, as the head of a line: the file, the line and the column.
+pub fn line_at_place(
+    alloc: Global,
+    name: &str,
+    text: &[u8],
+    place: u32,
+) -> Result<Vec<u8>, NoMemory>
+    ensures { IfOk result (λ line. line.items ≡ place_text name.now text.now place) }
+{
+    let mut line = Vec::from_slice(alloc, name.as_bytes())?;
+    line.extend_from_slice(b":")?;
+    push_number(&mut line, line_number(text, place as usize))?;
+    line.extend_from_slice(b":")?;
+    push_number(&mut line, column_number(text, place as usize))?;
+    line.extend_from_slice(b": ")?;
+    Ok(line)
+}
+
+// The line of a refusal: its place, and its kind.
 fn line_of_refusal(
     alloc: Global,
     name: &str,
@@ -86,12 +104,8 @@ fn line_of_refusal(
 ) -> Result<Vec<u8>, NoMemory>
     ensures { IfOk result (λ line. line.items ≡ refusal_line name.now text.now place kind) }
 {
-    let mut line = Vec::from_slice(alloc, name.as_bytes())?;
-    line.extend_from_slice(b":")?;
-    push_number(&mut line, line_number(text, place as usize))?;
-    line.extend_from_slice(b":")?;
-    push_number(&mut line, column_number(text, place as usize))?;
-    line.extend_from_slice(b": refused: ")?;
+    let mut line = line_at_place(alloc, name, text, place)?;
+    line.extend_from_slice(b"refused: ")?;
     line.extend_from_slice(name_of_kind(kind))?;
     push_number_of_kind(&mut line, kind)?;
     line.push(b'\n')?;

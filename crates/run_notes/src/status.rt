@@ -1,4 +1,7 @@
-use ak_trace::TrapKind;
+ghost use Rattle.std.specs.Prelude.{◌≡◌};
+ghost use Rattle.run_notes.specs.Statuses.{number_of_check};
+
+use ak_trace::{TrapKind, Verdict};
 use c_lex::Kind;
 
 /// How a call of `alaska` ended.
@@ -26,13 +29,26 @@ pub enum Status {
     StackLimit(u32),
     /// Want of memory.
     NoMemory,
+    /// The text was checked against the rules of C, and this was found.
+    Checked(Verdict),
+}
+
+// The number that the program ends with after a check.
+fn number_of_check(verdict: Verdict) -> u8
+    ensures { result ≡ number_of_check verdict }
+{
+    match verdict {
+        Verdict::Broke { .. } => 12,
+        Verdict::Ended { .. } | Verdict::AllBlocked { .. } | Verdict::TurnsSpent { .. } => 0,
+    }
 }
 
 impl Status {
     ghost use Rattle.std.specs.Prelude.{◌≡◌};
     ghost use Rattle.run_notes.specs.Statuses.{number_of};
 
-    /// The number that the program ends with: 0 exactly where `main` of the C program ended and all was written.
+    /// The number that the program ends with: 0 exactly where `main` of the C program ended, or a check found no broken rule, and all was
+    /// written.
     pub fn number(self) -> u8
         ensures { result ≡ number_of self }
     {
@@ -48,6 +64,7 @@ impl Status {
             Status::OutputLimit => 9,
             Status::StackLimit(_) => 10,
             Status::NoMemory => 11,
+            Status::Checked(verdict) => number_of_check(verdict),
         }
     }
 }

@@ -1,7 +1,7 @@
 -- Words worked by hand.
 use Rattle.std.specs.Prelude.{◌≡◌, ℕ, List, [], ◌∷◌, codes, map, Some, None, replicate, refl}
 use Rattle.clap.proofs.OnLiterals.{clap_on_literals}
-use Rattle.flat_rules.specs.declared.settings.Mode.TheVariants.{Run, Churn}
+use Rattle.flat_rules.specs.declared.settings.Mode.TheVariants.{Run, Churn, Check}
 use Rattle.run_words.specs.Numbers.{number_in}
 use Rattle.run_words.specs.Command.{alaska, are_taken, value_in}
 use Rattle.run_words.specs.Wanted.{Wanted, settings_of, wanted_by}
@@ -58,6 +58,12 @@ pub churn : settings_of (called (codes "--mode" ∷ codes "churn" ∷ codes "--s
 unfolding settings_of are_taken alaska value_in wanted_by number_in clap_on_literals
 churn = refl
 
+-- mode check has a file, and may have each option but the seed and the size of a text that is made
+pub check : settings_of (called (codes "a.c" ∷ codes "--mode" ∷ codes "check" ∷ codes "--schedule" ∷ codes "7" ∷ codes "--entries=1000" ∷ []))
+    ≡ Some (record plain { mode = Check; schedule = Some 7; entries = 1000 })
+unfolding settings_of are_taken alaska value_in wanted_by number_in clap_on_literals
+check = refl
+
 -- wrong words: no file, a number out of its range, no power of two, a mode without its options
 abbrev pub wrong_words : List (List (List ℕ))
 wrong_words = map called ([]
@@ -93,3 +99,17 @@ more_wrong_words = map called ((codes "--help" ∷ [])
 pub more_wrong_words_want_nothing : map settings_of more_wrong_words ≡ replicate 15 None
 unfolding settings_of are_taken alaska value_in wanted_by number_in clap_on_literals
 more_wrong_words_want_nothing = refl
+
+-- and of modes: a check without a file, or with a seed or a size, and the modes that have no word yet
+abbrev pub wrong_modes : List (List (List ℕ))
+wrong_modes = map called ((codes "--mode" ∷ codes "check" ∷ [])
+    ∷ (codes "a.c" ∷ codes "--mode" ∷ codes "check" ∷ codes "--seed" ∷ codes "1" ∷ [])
+    ∷ (codes "a.c" ∷ codes "--mode" ∷ codes "check" ∷ codes "--size" ∷ codes "3" ∷ [])
+    ∷ (codes "a.c" ∷ codes "--mode" ∷ codes "race" ∷ [])
+    ∷ (codes "a.c" ∷ codes "--mode" ∷ codes "build" ∷ [])
+    ∷ (codes "a.c" ∷ codes "--mode" ∷ codes "load" ∷ [])
+    ∷ [])
+
+pub wrong_modes_want_nothing : map settings_of wrong_modes ≡ replicate 6 None
+unfolding settings_of are_taken alaska value_in wanted_by number_in clap_on_literals
+wrong_modes_want_nothing = refl

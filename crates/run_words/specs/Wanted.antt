@@ -1,9 +1,9 @@
 -- What the words of a command line want.
-use Rattle.std.specs.Prelude.{ℕ, ◌*◌, ◌&&◌, Bool, List, codes, nat_le, Option, Some, None, is_none, is_some, option_and_then, option_map, string_bytes, if◌then◌else◌}
+use Rattle.std.specs.Prelude.{ℕ, ◌*◌, ◌&&◌, Bool, false, List, codes, nat_le, Option, Some, None, is_none, is_some, option_and_then, option_map, string_bytes, if◌then◌else◌}
 use Rattle.std.specs.Str.{bytes_eq}
 use Rattle.flat_rules.specs.Ranges.{is_sub_heap_size}
 use Rattle.flat_rules.specs.declared.settings.Mode.{Mode}
-use Rattle.flat_rules.specs.declared.settings.Mode.TheVariants.{Run, Churn}
+use Rattle.flat_rules.specs.declared.settings.Mode.TheVariants.{Run, Churn, Check, Race, Build, Load}
 use Rattle.flat_rules.specs.declared.settings.Settings.{Settings}
 use Rattle.run_words.specs.Numbers.{◌to◌, number_if_given, number_or}
 use Rattle.run_words.specs.Command.{are_taken, value_in}
@@ -40,9 +40,11 @@ wanted_of s = record {
   size = s.size;
 }
 
--- the mode of that name
+-- the mode of that name; modes race, build and load have none yet
 abbrev pub mode_named : List ℕ → Option Mode
-mode_named name = if bytes_eq name (codes "run") then Some Run else (if bytes_eq name (codes "churn") then Some Churn else None)
+mode_named name = if bytes_eq name (codes "run") then Some Run
+    else (if bytes_eq name (codes "churn") then Some Churn
+    else (if bytes_eq name (codes "check") then Some Check else None))
 
 -- the mode, which is run where the words name none
 abbrev pub mode_or_run : Option (List ℕ) → Option Mode
@@ -87,10 +89,22 @@ wanted_by value = do
 abbrev pub has_bounded_heap : Wanted → Bool
 has_bounded_heap w = is_sub_heap_size w.subheap && nat_le (w.subheaps * w.subheap) 268435456
 
--- mode run has a file and neither a seed nor a size; mode churn has no file, and both
+-- there is a file, and neither a seed nor a size
+abbrev pub has_a_file : Wanted → Bool
+has_a_file w = is_some w.file && (is_none w.seed && is_none w.size)
+
+-- there is no file, but a seed and a size
+abbrev pub has_a_size : Wanted → Bool
+has_a_size w = is_none w.file && (is_some w.seed && is_some w.size)
+
+-- modes run and check have a file; mode churn has none, but a seed and a size; nothing can be wanted of the others yet
 abbrev pub fits_mode_of : Mode → Wanted → Bool
-fits_mode_of Run w = is_some w.file && (is_none w.seed && is_none w.size)
-fits_mode_of Churn w = is_none w.file && (is_some w.seed && is_some w.size)
+fits_mode_of Run w = has_a_file w
+fits_mode_of Churn w = has_a_size w
+fits_mode_of Check w = has_a_file w
+fits_mode_of Race w = false
+fits_mode_of Build w = false
+fits_mode_of Load w = false
 
 -- FILE, the seed and the size are there as the mode wants them
 abbrev pub fits_mode : Wanted → Bool

@@ -1,7 +1,7 @@
 ghost use Rattle.std.specs.Prelude.{◌≡◌, map, string_bytes, option_map, codes, IfOk};
 ghost use Rattle.clap.specs.Matches.{first_value, found_of};
 ghost use Rattle.flat_rules.specs.Ranges.{is_sub_heap_size};
-ghost use Rattle.run_words.specs.Wanted.{fits_mode, has_bounded_heap, mode_or_run, only_if, settings_of, wanted_by, wanted_of};
+ghost use Rattle.run_words.specs.Wanted.{fits_mode, has_a_file, has_a_size, has_bounded_heap, mode_or_run, only_if, settings_of, wanted_by, wanted_of};
 
 use crate::command::parse;
 use crate::numbers::Bounds;
@@ -39,6 +39,7 @@ fn mode_or_run(matches: &ArgMatches) -> Option<Mode>
     match matches.get_str("mode") {
         None | Some("run") => Some(Mode::Run),
         Some("churn") => Some(Mode::Churn),
+        Some("check") => Some(Mode::Check),
         Some(_) => None,
     }
 }
@@ -90,15 +91,28 @@ fn file_of(alloc: Global, matches: &ArgMatches) -> Result<Option<String>, NoMemo
     }
 }
 
-// Whether the settings are those of their mode.
+// Whether there is a file, and neither a seed nor a size.
+fn has_a_file(settings: &Settings) -> bool
+    ensures { result ≡ has_a_file (wanted_of settings.now) }
+{
+    settings.file.is_some() && settings.seed.is_none() && settings.size.is_none()
+}
+
+// Whether there is no file, but a seed and a size.
+fn has_a_size(settings: &Settings) -> bool
+    ensures { result ≡ has_a_size (wanted_of settings.now) }
+{
+    settings.file.is_none() && settings.seed.is_some() && settings.size.is_some()
+}
+
+// Whether the settings are those of their mode. Nothing can be wanted of modes race, build and load yet.
 fn fits_mode(settings: &Settings) -> bool
     ensures { result ≡ fits_mode (wanted_of settings.now) }
 {
     match settings.mode {
-        Mode::Run => settings.file.is_some() && settings.seed.is_none() && settings.size.is_none(),
-        Mode::Churn => settings.file.is_none()
-            && settings.seed.is_some()
-            && settings.size.is_some(),
+        Mode::Run | Mode::Check => has_a_file(settings),
+        Mode::Churn => has_a_size(settings),
+        Mode::Race | Mode::Build | Mode::Load => false,
     }
 }
 

@@ -1,5 +1,5 @@
 -- What comes of words and text before anything is written, and what a run comes to.
-use Rattle.std.specs.Prelude.{◌≡◌, ℕ, ◌≤◌, List, [], Option, Some, None, vec_len, vec_capacity}
+use Rattle.std.specs.Prelude.{◌≡◌, ◌≢◌, ℕ, ◌≤◌, List, [], Option, Some, None, unwrap_or, vec_len, vec_capacity}
 use Rattle.std.specs.Option.{option_map}
 use Rattle.std.specs.Arc.{arc_value}
 use Rattle.c_lex.specs.declared.refusal.Refusal.{Refusal}
@@ -11,6 +11,7 @@ use Rattle.struct_ir.specs.Whole.{plain_bytes}
 use Rattle.pin_checker.specs.CheckedViews.{program_in}
 use Rattle.turn_lock.specs.Locks.{AllPasses, first_of, passes_of}
 use Rattle.ak_trace.specs.declared.endings.End.{End}
+use Rattle.flat_rules.specs.declared.settings.Mode.TheVariants.{Check}
 use Rattle.flat_rules.specs.declared.settings.Settings.{Settings}
 use Rattle.flat_rules.specs.Rules.{rules_of}
 use Rattle.flat_rules.specs.States.{State}
@@ -21,6 +22,9 @@ use Rattle.flat_replay.specs.Barriers.{BarriersKeep}
 use Rattle.flat_threads.specs.Contexts.{Context, IsProgram}
 use Rattle.world_rules.specs.Whole.{Whole}
 use Rattle.run_words.specs.Wanted.{settings_of, wanted_of}
+use Rattle.rule_check.specs.Checks.{IsCheckOf}
+use Rattle.rule_check.specs.Reports.{Report}
+use Rattle.alaska_run.specs.declared.checking.Worked.{Worked}
 use Rattle.alaska_run.specs.declared.preparing.Course.{Course}
 use Rattle.alaska_run.specs.declared.preparing.Course.TheVariants as courses
 use Rattle.alaska_run.specs.declared.preparing.Opened.{Opened}
@@ -31,6 +35,7 @@ use Rattle.run_notes.specs.declared.status.Status.TheVariants as statuses
 use Rattle.alaska_run.specs.Sources.{Source, source_of, source_in, name_in, IsAll}
 use Rattle.alaska_run.specs.Faults.{IsFault}
 use Rattle.alaska_run.specs.Headline.{IsTextOf}
+use Rattle.run_notes.specs.Checks.{check_line}
 use Rattle.run_notes.specs.Lines.{fault_line}
 use Rattle.run_edges.specs.Files.{Shelved}
 use Rattle.run_notes.specs.Reports.{report_text}
@@ -66,9 +71,29 @@ pub record IsOpened (words : List (List ℕ)) (file : List ℕ → Shelved) (x :
   pub source : Source
   pub from : source_of file (wanted_of x.settings) ≡ Some source
   pub whole : IsAll source x.text.items
+  pub mode : x.settings.mode ≢ Check
   pub typed : Typed
   pub built : IsBuilt x.text.items typed (program_in x.checked) (arc_value x.code)
   pub ready : IsReady x
+
+-- this tree was checked under the settings, and this is what was found of it
+pub record IsFound (typed : Typed) (report : Report) (x : Worked) : Type 0 where
+  pub found : IsCheckOf typed (unwrap_or x.settings.schedule 0) x.settings.entries report
+  pub status : x.status ≡ statuses.Checked report.verdict
+  pub output : x.output.items ≡ report.output
+  pub line : x.line.items ≡ check_line (name_in (Some x.settings)) x.text.items report.verdict
+
+-- the text of a source is compiled, and its tree is checked
+pub record IsWorked (words : List (List ℕ)) (file : List ℕ → Shelved) (x : Worked) : Type 0 where
+  pub settings : settings_of words ≡ Some (wanted_of x.settings)
+  pub source : Source
+  pub from : source_of file (wanted_of x.settings) ≡ Some source
+  pub whole : IsAll source x.text.items
+  pub mode : x.settings.mode ≡ Check
+  pub typed : Typed
+  pub built : IsBuilt x.text.items typed (program_in x.checked) (arc_value x.code)
+  pub report : Report
+  pub found : IsFound typed report x
 
 -- a call that comes to no run, with this status, of these settings and this text
 pub record IsStoppedWith (status : Status) (settings : Option Settings) (text : List ℕ) (x : Stopped) : Type 0 where
@@ -81,14 +106,26 @@ pub record IsStoppedWith (status : Status) (settings : Option Settings) (text : 
 abbrev pub IsStoppedAs : Status → Option Settings → List ℕ → Course → Type 0
 IsStoppedAs status settings text (courses.Stopped x) = IsStoppedWith status settings text x
 IsStoppedAs status settings text (courses.Opened x) = ⊥
+IsStoppedAs status settings text (courses.Worked x) = ⊥
 
 -- the text is compiled and the world is opened, or it is none of the subset
 pub record IsOpenedOf (settings : Settings) (text : List ℕ) (x : Opened) : Type 0 where
   pub settings_are : x.settings ≡ settings
   pub text_is : x.text.items ≡ text
+  pub mode : settings.mode ≢ Check
   pub typed : Typed
   pub built : IsBuilt text typed (program_in x.checked) (arc_value x.code)
   pub ready : IsReady x
+
+-- the text is compiled, and its tree is checked
+pub record IsWorkedOf (settings : Settings) (text : List ℕ) (x : Worked) : Type 0 where
+  pub settings_are : x.settings ≡ settings
+  pub text_is : x.text.items ≡ text
+  pub mode : settings.mode ≡ Check
+  pub typed : Typed
+  pub built : IsBuilt text typed (program_in x.checked) (arc_value x.code)
+  pub report : Report
+  pub found : IsFound typed report x
 
 -- the text is none of the subset, and this is its refusal
 pub record IsRefusedOf (settings : Settings) (text : List ℕ) (x : Stopped) : Type 0 where
@@ -96,15 +133,17 @@ pub record IsRefusedOf (settings : Settings) (text : List ℕ) (x : Stopped) : T
   pub refuses : Refuses text reason
   pub stopped : IsStoppedWith (statuses.Refused reason.place reason.kind) (Some settings) text x
 
--- what a text that was read whole comes to: a run, or its refusal
+-- what a text that was read whole comes to: a run, what a check finds, or its refusal
 abbrev pub IsCourseOf : Settings → List ℕ → Course → Type 0
 IsCourseOf settings text (courses.Stopped x) = IsRefusedOf settings text x
 IsCourseOf settings text (courses.Opened x) = IsOpenedOf settings text x
+IsCourseOf settings text (courses.Worked x) = IsWorkedOf settings text x
 
 -- what words and file come to
 abbrev pub IsCourse : (words : List (List ℕ)) → (List ℕ → Shelved) → Course → Type 0
 IsCourse words file (courses.Stopped x) = IsStopped words file x
 IsCourse words file (courses.Opened x) = IsOpened words file x
+IsCourse words file (courses.Worked x) = IsWorked words file x
 
 -- a run of what was opened is over
 pub record HasRun (x : Opened) (r : Ran) : Type 0 where

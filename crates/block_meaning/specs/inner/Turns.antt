@@ -1,6 +1,7 @@
 -- What the code's turns come to.
-use Rattle.std.specs.Prelude.{ℕ, ◌≡◌, List}
+use Rattle.std.specs.Prelude.{ℕ, ◌-◌, ◌^◌, ◌≡◌, min, List, Option, Some, None}
 use Rattle.block_store.specs.declared.values.Answer.{Answer}
+use Rattle.block_store.specs.declared.values.Answer.TheVariants as answers
 use Rattle.block_store.specs.Actions as actions
 use Rattle.block_store.specs.Blocks.{Blocks}
 use Rattle.block_store.specs.Runs as runs
@@ -9,7 +10,10 @@ use Rattle.c_meaning.specs.Turns as turns
 use Rattle.source_state.specs.declared.world.World.{World}
 use Rattle.source_state.specs.Worlds.{world_of}
 use Rattle.source_tree.specs.declared.tree.SharedProgram.{SharedProgram}
+use Rattle.source_state.specs.declared.world.SharedAction.{SharedAction}
+use Rattle.source_state.specs.declared.world.SharedAction.TheVariants as acts
 use Rattle.source_state.specs.declared.control.Pending.{Pending}
+use Rattle.source_state.specs.declared.control.Pending.TheVariants as pendings
 use Rattle.source_expressions.specs.Ends.{Rest, here_at, ends}
 use Rattle.source_expressions.specs.Progress.{now_in}
 use Rattle.block_meaning.specs.declared.thread.At.{At}
@@ -63,3 +67,19 @@ Stays outcomes.Ended own new_own w new_w = Unit {0}
 Stays outcomes.Blocked own new_own w new_w = (new_own ≡ own) × (new_w ≡ w)
 Stays outcomes.Unfit own new_own w new_w = (new_own ≡ own) × (new_w ≡ w)
 Stays (outcomes.Broke rule place) own new_own w new_w = (new_own ≡ own) × (new_w ≡ w)
+
+-- the bytes that an action asks for, if it's an allocation: what is greater than a u64 can hold is told as the greatest that it can
+abbrev pub bytes_of : SharedAction → Option ℕ
+bytes_of (acts.Allocate size first) = Some (min size (2 ^ 64 - 1))
+bytes_of action = None
+
+-- the same of what ends a turn
+abbrev pub bytes_asked : Pending → Option ℕ
+bytes_asked (pendings.Act place action next) = bytes_of action
+bytes_asked q = None
+
+-- and of a turn that is told this answer
+abbrev pub asked_under : Answer → Pending → Option ℕ
+asked_under answers.Plain q = bytes_asked q
+asked_under answers.Got q = None
+asked_under answers.None q = None

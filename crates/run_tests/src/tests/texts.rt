@@ -1,9 +1,9 @@
 use ak_io::{MemShelf, MemSink};
-use ak_trace::{End, TrapKind};
-use ak_words::NoMemory;
+use ak_trace::{End, TrapKind, Verdict};
+use ak_words::{NoMemory, Rule};
 use c_lex::Kind;
 use run_edges::{TextRead, read_text, write_ending};
-use run_notes::{Status, fault_line, push_report, status_of};
+use run_notes::{Status, check_line, fault_line, push_report, status_of};
 use run_report::{LastBarrier, Report};
 use std::alloc::Global;
 use std::process::Abort;
@@ -98,6 +98,24 @@ fn lines(rt: HostRuntime) -> Result<(), Fail> {
     let refused = Status::Refused(22, Kind::OutsideSubset(2));
     let line = b"a.c:1:23: refused: OutsideSubset 2\n";
     has_line(&rt, alloc, b"int main(void){return 1.5;}", refused, line)?;
+    Ok(())
+}
+
+#[test]
+fn lines_of_a_check(rt: HostRuntime) -> Result<(), Fail> {
+    let broke = Verdict::Broke {
+        rule: Rule::C5,
+        place: 34,
+        turns: 0,
+    };
+    let text = b"int main(void){int *p=NULL;return *p;}";
+    let line = check_line(rt.alloc(), "a.c", text, broke)?;
+    assert!(rt; line.as_slice() == b"a.c:1:35: broke C5 after 0 turns\n");
+    assert_eq!(rt; Status::Checked(broke).number(), 12);
+    let ended = Verdict::Ended { exit: -1, turns: 2 };
+    let line = check_line(rt.alloc(), "a.c", b"", ended)?;
+    assert!(rt; line.as_slice() == b"checked: done -1 after 2 turns\n");
+    assert_eq!(rt; Status::Checked(ended).number(), 0);
     Ok(())
 }
 

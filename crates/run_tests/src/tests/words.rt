@@ -73,3 +73,14 @@ fn mode_churn(rt: HostRuntime) -> Result<(), Fail> {
     are_wrong(&rt, rt.alloc(), "a.c --mode churn --seed 1 --size 3")?;
     Ok(())
 }
+
+#[test]
+fn mode_check(rt: HostRuntime) -> Result<(), Fail> {
+    let settings = wanted(rt.alloc(), "a.c --mode check --schedule 7")?.ok_or("wrong words")?;
+    assert!(rt; settings.mode == Mode::Check);
+    assert_eq!(rt; settings.schedule, Some(7));
+    are_wrong(&rt, rt.alloc(), "--mode check")?;
+    are_wrong(&rt, rt.alloc(), "a.c --mode check --seed 1")?;
+    are_wrong(&rt, rt.alloc(), "a.c --mode race")?;
+    Ok(())
+}

@@ -5,11 +5,12 @@ use Rattle.pin_checker.specs.CheckedViews.{program_in}
 use Rattle.run_edges.specs.Files.{shelved}
 use Rattle.run_edges.specs.Sinks.{channel}
 use Rattle.run_edges.specs.Writing.{Written}
+use Rattle.alaska_run.specs.declared.checking.Worked.{Worked}
 use Rattle.alaska_run.specs.declared.preparing.Opened.{Opened}
 use Rattle.alaska_run.specs.declared.preparing.Stopped.{Stopped}
 use Rattle.alaska_run.specs.Ending.{ending_view}
-use Rattle.alaska_run.specs.inner.Courses.{IsCourse, IsOpened, IsStopped, HasRun}
-use Rattle.alaska_run.proofs.Headlines.{of_run, of_stopped}
+use Rattle.alaska_run.specs.inner.Courses.{IsCourse, IsOpened, IsStopped, IsWorked, HasRun}
+use Rattle.alaska_run.proofs.Headlines.{of_run, of_stopped, of_worked}
 use Rattle.alaska_run.proofs.Told.{causes, answers}
 use Rattle.alaska_run.proofs.call.alaska.Goals as goal
 
@@ -30,6 +31,25 @@ returns-in-Ok-Opened-clause-headline g c =
 
 pub returns-in-Ok-Opened-clause-answers : goal.returns-in-Ok-Opened-clause-answers
 returns-in-Ok-Opened-clause-answers g c = answers _ _ _ _ _ (returns-in-Ok-Opened-clause-headline g c) c.read_each_text_once.ensures.not_both c.read_each_text_once.ensures.one_reason
+
+pub returns-in-Ok-Worked-clause-headline : goal.returns-in-Ok-Worked-clause-headline
+returns-in-Ok-Worked-clause-headline g c =
+    let words = map string_bytes c.args.words.now in
+    let file = shelved g.F.Shelf.contents g.F.Shelf.faults c.args.shelf.now c.prepare.new.shelf in
+    let out = channel g.O.Sink.contents g.O.Sink.faults c.args.out.now c.end_worked.new.out in
+    let note = channel g.N.Sink.contents g.N.Sink.faults c.args.note.now c.end_worked.new.note in
+    let o : IsWorked words file c.in-Ok-Worked.worked = subst (IsCourse words file) c.in-Ok-Worked.field-0-is c.in-Ok-Worked.ensures.course in
+    let P : Worked → Type 0 = λ z. Written z.status c.end_worked.result.status z.output.items z.line.items out note × (c.end_worked.result.settings ≡ Some z.settings) × (c.end_worked.result.text ≡ z.text)
+    × (c.end_worked.result.checked ≡ Some z.checked) × (c.end_worked.result.code ≡ Some z.code) in
+    let w : P c.in-Ok-Worked.worked = subst P c.in-Ok-Worked.worked-is (c.end_worked.ensures.written, c.end_worked.ensures.words.0, c.end_worked.ensures.words.1, c.end_worked.ensures.code.0, c.end_worked.ensures.code.1) in
+    of_worked words file out note c.in-Ok-Worked.worked (ending_view c.end_worked.result) o w.1 (ap (λ t. t.items) w.2) (ap (option_map program_in) w.3) (ap (option_map arc_value) w.4)
+    (ap (option_map (λ k. k.entries)) c.end_worked.ensures.journal) w.0
+
+pub returns-in-Ok-Worked-clause-causes : goal.returns-in-Ok-Worked-clause-causes
+returns-in-Ok-Worked-clause-causes g c = causes _ _ _ _ _ (returns-in-Ok-Worked-clause-headline g c)
+
+pub returns-in-Ok-Worked-clause-answers : goal.returns-in-Ok-Worked-clause-answers
+returns-in-Ok-Worked-clause-answers g c = answers _ _ _ _ _ (returns-in-Ok-Worked-clause-headline g c) c.read_each_text_once.ensures.not_both c.read_each_text_once.ensures.one_reason
 
 pub returns-in-Ok-Stopped-clause-headline : goal.returns-in-Ok-Stopped-clause-headline
 returns-in-Ok-Stopped-clause-headline g c =

@@ -1,17 +1,7 @@
 use Rattle.std.proofs.Common.{map, string_bytes}
 use Rattle.run_edges.specs.Files.{shelved}
-use Rattle.alaska_run.proofs.Prepared.{said, one_mode}
+use Rattle.alaska_run.proofs.Prepared.{said}
 use Rattle.alaska_run.proofs.preparing.prepare.Goals as goal
-
-pub returns-in-Run-clause-course : goal.returns-in-Run-clause-course
-returns-in-Run-clause-course g c =
-    let words = map string_bytes c.args.words.now in
-    c.prepare_file.ensures words (said words _ c.in-Some.settings c.in_ok-settings.ensures c.in-Some.is)
-
-pub returns-in-Run-clause-unread : goal.returns-in-Run-clause-unread
-returns-in-Run-clause-unread g c = λ wanted is churn.
-    let words = map string_bytes c.args.words.now in
-    absurd (one_mode words _ wanted (said words _ c.in-Some.settings c.in_ok-settings.ensures c.in-Some.is) is c.in-Run.is churn)
 
 pub returns-in-Churn-clause-course : goal.returns-in-Churn-clause-course
 returns-in-Churn-clause-course g c =

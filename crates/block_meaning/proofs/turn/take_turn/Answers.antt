@@ -2,6 +2,7 @@ use Rattle.std.proofs.Common.{ap, sym, subst, ◌∙◌}
 use Rattle.source_state.specs.Kept.{Kept}
 use Rattle.source_state.specs.Variables.{KeptLocals}
 use Rattle.block_meaning.specs.declared.thread.Outcome.{Outcome}
+use Rattle.block_meaning.proofs.Asked.{turn_asks}
 use Rattle.block_meaning.proofs.Reaching.{turn_taken, mid_own, mid_world, stays_back}
 use Rattle.block_meaning.proofs.turn.take_turn.Goals as goal
 use Rattle.block_meaning.specs.inner.Turns.{turn_of, Untouched}
@@ -51,3 +52,23 @@ returns-in-Broke-clause-stays c =
     (subst (λ (o : Outcome). Untouched o (mid_own c.args.own.now c.reach.new.locals) c.perform.new.own (mid_world c.args.world.now c.reach.new.store) c.perform.new.world) c.in-Broke.is c.in_ok-o.ensures.untouched)
     (c.in_ok-q.ensures.locals ∙ ap (λ (k : KeptLocals). k.kept) c.keep.ensures) (c.in_ok-q.ensures.store ∙ ap (λ (k : Kept). k.kept) c.keep-2.ensures)
     (ap (λ (k : KeptLocals). k.now) c.undo-in-Broke.ensures.locals) (ap (λ (k : Kept). k.now) c.undo-in-Broke.ensures.store)
+
+pub returns-in-Went-clause-asked : goal.returns-in-Went-clause-asked
+returns-in-Went-clause-asked c =
+    turn_asks c.args.program.now c.args.thread c.args.answer c.args.own.now c.args.world.now _ _ _ _ _ _ c.in_ok-q.ensures.reaches (ap (λ (k : KeptLocals). k.now) c.keep.ensures) (ap (λ (k : Kept). k.now) c.keep-2.ensures) c.asked_under.ensures
+
+pub returns-in-Ended-clause-asked : goal.returns-in-Ended-clause-asked
+returns-in-Ended-clause-asked c =
+    turn_asks c.args.program.now c.args.thread c.args.answer c.args.own.now c.args.world.now _ _ _ _ _ _ c.in_ok-q.ensures.reaches (ap (λ (k : KeptLocals). k.now) c.keep.ensures) (ap (λ (k : Kept). k.now) c.keep-2.ensures) c.asked_under.ensures
+
+pub returns-in-Blocked-clause-asked : goal.returns-in-Blocked-clause-asked
+returns-in-Blocked-clause-asked c =
+    turn_asks c.args.program.now c.args.thread c.args.answer c.args.own.now c.args.world.now _ _ _ _ _ _ c.in_ok-q.ensures.reaches (ap (λ (k : KeptLocals). k.now) c.keep.ensures) (ap (λ (k : Kept). k.now) c.keep-2.ensures) c.asked_under.ensures
+
+pub returns-in-Unfit-clause-asked : goal.returns-in-Unfit-clause-asked
+returns-in-Unfit-clause-asked c =
+    turn_asks c.args.program.now c.args.thread c.args.answer c.args.own.now c.args.world.now _ _ _ _ _ _ c.in_ok-q.ensures.reaches (ap (λ (k : KeptLocals). k.now) c.keep.ensures) (ap (λ (k : Kept). k.now) c.keep-2.ensures) c.asked_under.ensures
+
+pub returns-in-Broke-clause-asked : goal.returns-in-Broke-clause-asked
+returns-in-Broke-clause-asked c =
+    turn_asks c.args.program.now c.args.thread c.args.answer c.args.own.now c.args.world.now _ _ _ _ _ _ c.in_ok-q.ensures.reaches (ap (λ (k : KeptLocals). k.now) c.keep.ensures) (ap (λ (k : Kept). k.now) c.keep-2.ensures) c.asked_under.ensures

@@ -1,0 +1,1 @@
+int main(void){int *p=NULL;return *p;}

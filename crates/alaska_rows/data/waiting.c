@@ -1,0 +1,1 @@
+mtx_t m;int f(void *v){mtx_lock(&m);return 0;}int main(void){mtx_lock(&m);thrd_t t;thrd_create(&t,f,NULL);thrd_join(t,NULL);return 0;}
