@@ -1,0 +1,13 @@
+pub mod Written
+pub mod Known
+pub mod Rows
+pub mod Paths
+pub mod Alone
+pub mod Locals
+pub mod Acts
+pub mod Turns
+pub mod Replays
+pub mod Main
+pub mod Room
+pub mod Clean
+pub mod Derived

@@ -1,0 +1,5 @@
+pub mod Text
+pub mod Read
+pub mod Runs
+pub mod Room
+pub mod Prints

@@ -1,9 +1,0 @@
-pub mod Rows
-pub mod Paths
-pub mod Alone
-pub mod Locals
-pub mod Acts
-pub mod Turns
-pub mod Replays
-pub mod Main
-pub mod Room

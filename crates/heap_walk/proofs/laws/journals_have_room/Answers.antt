@@ -1,5 +1,0 @@
-use Rattle.heap_walk.proofs.Room.{journals_have_room}
-use Rattle.heap_walk.proofs.laws.journals_have_room.Goals as goal
-
-pub returns : goal.returns
-returns c = journals_have_room c.bases_have_own_slots.ensures.kept
