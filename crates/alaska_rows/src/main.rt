@@ -1,14 +1,17 @@
-//! Takes the call `alaska` through worked programs under their words, and prints what each wrote and how it ended; then has two workers on
-//! two threads run one program many times, and once where each worker is held until the other has come and worked.
+//! Takes the call `alaska` through worked programs under their words, and prints what each wrote and how it ended; checks sixteen programs that
+//! each break a rule of C; then has two workers on two threads run one program many times, and once where each worker is held until the other has
+//! come and worked.
 //! Promises nothing upward: it is a program, whose output is held against what was worked out by hand, and is the same whatever the workers do.
 //! Stands on alaska_run and ak_crew, over real files and sinks in memory.
 #![tactic(auto)]
 
+mod broken_rules;
 mod calls;
 mod crews;
 mod meeting;
 mod replays;
 
+use crate::broken_rules::show_broken;
 use crate::calls::{Shown, call};
 use crate::crews::show_crews;
 use crate::replays::{show_replays, show_thinned};
@@ -134,6 +137,7 @@ fn main(rt: HostRuntime) -> io::Result<()> {
             Err(NoMemory) => println!(rt; "no memory")?,
         }
     }
+    show_broken(&rt, rt.alloc())?;
     match (
         call(&rt, rt.alloc(), TWICE.0, &NoGate),
         call(&rt, rt.alloc(), TWICE.0, &NoGate),
