@@ -1,10 +1,11 @@
-//! Takes the call `alaska` through worked programs under their words, and prints what each wrote and how it ended; through programs that leave
-//! their objects, a shelf and sinks that fail, and a text that is cut before each of its bytes; then has two workers on two threads run one
-//! program many times, and once where each worker is held until the other has come and worked.
+//! Takes the call `alaska` through worked programs under their words, and prints what each wrote and how it ended; through sixteen checks, each of
+//! a program that breaks a rule of C; through programs that leave their objects, a shelf and sinks that fail, and a text that is cut before each of
+//! its bytes; then has two workers on two threads run one program many times, and once where each worker is held until the other has come and worked.
 //! Promises nothing upward: it is a program, whose output is held against what was worked out by hand, and is the same whatever the workers do.
 //! Stands on alaska_run and ak_crew, over real files, a shelf in memory and sinks in memory.
 #![tactic(auto)]
 
+mod broken_rules;
 mod calls;
 mod crews;
 mod cuts;
@@ -14,6 +15,7 @@ mod meeting;
 mod replays;
 mod wild;
 
+use crate::broken_rules::show_broken;
 use crate::calls::{Shown, call};
 use crate::crews::show_crews;
 use crate::cuts::show_cuts;
@@ -142,6 +144,7 @@ fn main(rt: HostRuntime) -> io::Result<()> {
             Err(NoMemory) => println!(rt; "no memory")?,
         }
     }
+    show_broken(&rt, rt.alloc())?;
     match (
         call(&rt, rt.alloc(), TWICE.0, &NoGate),
         call(&rt, rt.alloc(), TWICE.0, &NoGate),
