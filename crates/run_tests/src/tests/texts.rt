@@ -110,11 +110,11 @@ fn lines_of_a_check(rt: HostRuntime) -> Result<(), Fail> {
     };
     let text = b"int main(void){int *p=NULL;return *p;}";
     let line = check_line(rt.alloc(), "a.c", text, broke)?;
-    assert!(rt; line.as_slice() == b"a.c:1:35: broke C5 after 0 turns\n");
+    assert!(rt; line.as_slice() == b"a.c:1:35: broke C5 after 0 turns\n".as_slice());
     assert_eq!(rt; Status::Checked(broke).number(), 12);
     let ended = Verdict::Ended { exit: -1, turns: 2 };
     let line = check_line(rt.alloc(), "a.c", b"", ended)?;
-    assert!(rt; line.as_slice() == b"checked: done -1 after 2 turns\n");
+    assert!(rt; line.as_slice() == b"checked: done -1 after 2 turns\n".as_slice());
     assert_eq!(rt; Status::Checked(ended).number(), 0);
     Ok(())
 }
