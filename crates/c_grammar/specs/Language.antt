@@ -4,9 +4,9 @@ use Rattle.std.specs.List.{AllByRecursion}
 use Rattle.c_lex.specs.declared.token.Word.{Word}
 use Rattle.c_lex.specs.declared.token.Word.TheVariants as words
 use Rattle.c_lex.specs.declared.token.Mark.TheVariants.{Ellipsis}
-use Rattle.c_lex.specs.declared.token.TokenKind.{TokenKind}
-use Rattle.c_lex.specs.declared.token.TokenKind.TheVariants as kinds
-use Rattle.c_lex.specs.declared.token.Token.{Token}
+use Rattle.c_grammar.specs.declared.terminal.TerminalKind.{TerminalKind}
+use Rattle.c_grammar.specs.declared.terminal.TerminalKind.TheVariants as kinds
+use Rattle.c_grammar.specs.declared.terminal.Terminal.{Terminal}
 use Rattle.c_lex.specs.declared.refusal.Refusal.{Refusal}
 use Rattle.c_lex.specs.declared.refusal.Kind.{Kind}
 use Rattle.c_lex.specs.declared.refusal.Kind.TheVariants.{UnexpectedToken, TooDeep, OutsideSubset}
@@ -25,12 +25,6 @@ refusal_of_word words.Imaginary = OutsideSubset 2
 refusal_of_word words.Union = OutsideSubset 3
 refusal_of_word words.Goto = OutsideSubset 4
 refusal_of_word words.Volatile = OutsideSubset 6
-refusal_of_word words.Typedef = OutsideSubset 7
-refusal_of_word words.Enum = OutsideSubset 7
-refusal_of_word words.Switch = OutsideSubset 8
-refusal_of_word words.Case = OutsideSubset 8
-refusal_of_word words.Default = OutsideSubset 8
-refusal_of_word words.Do = OutsideSubset 8
 refusal_of_word words.Atomic = OutsideSubset 9
 refusal_of_word words.Extern = OutsideSubset 10
 refusal_of_word words.Static = OutsideSubset 10
@@ -45,7 +39,7 @@ refusal_of_word words.ThreadLocal = OutsideSubset 10
 refusal_of_word _ = UnexpectedToken
 
 -- how a token is refused that may not stand where it does
-abbrev pub refusal_of : TokenKind → Kind
+abbrev pub refusal_of : TerminalKind → Kind
 refusal_of (kinds.Word w) = refusal_of_word w
 refusal_of (kinds.Mark Ellipsis) = OutsideSubset 5
 refusal_of _ = UnexpectedToken
@@ -53,22 +47,22 @@ refusal_of _ = UnexpectedToken
 -- ---- files
 
 -- the file of the grammar that the tokens spell, within the limits, and the only one
-pub record Parses (ts : List Token) (f : File) : Type 0 where
+pub record Parses (ts : List Terminal) (f : File) : Type 0 where
   pub fits : IsFile f
   pub spelt : Spelt (leaves f) ts
   pub within : AllByRecursion (λ l. over l ≡ None) (leaves f)
   pub only : (g : File) → IsFile g → Spelt (leaves g) ts → g ≡ f
 
 -- some file of the grammar begins so
-abbrev pub BeginsFile : List Token → Type 0
+abbrev pub BeginsFile : List Terminal → Type 0
 BeginsFile front = (f : File) × IsFile f × Begins (leaves f) front
 
 -- some file of the grammar begins so, within the limits so far
-abbrev pub BeginsFileWithin : List Token → Type 0
+abbrev pub BeginsFileWithin : List Terminal → Type 0
 BeginsFileWithin front = (f : File) × IsFile f × BeginsWithin (leaves f) front
 
 -- what may stand behind these tokens: the leaf that follows them in a file that begins with them
-pub record Next (front : List Token) : Type 0 where
+pub record Next (front : List Terminal) : Type 0 where
   pub file : File
   pub fits : IsFile file
   pub before : List Leaf
@@ -78,7 +72,7 @@ pub record Next (front : List Token) : Type 0 where
   pub spelt : Spelt before front
 
 -- something may stand behind these tokens, and whatever may lies deeper than 128 levels
-pub record AllTooDeep (front : List Token) : Type 0 where
+pub record AllTooDeep (front : List Terminal) : Type 0 where
   pub some : Next front
   pub each : (n : Next front) → 128 < n.leaf.level
 
@@ -88,16 +82,16 @@ or_too_deep (OutsideSubset f) = TooDeep
 or_too_deep k = k
 
 -- how a token is refused that may not stand behind these tokens
-abbrev pub IsRefusalBehind : List Token → Token → Kind → Type 0
+abbrev pub IsRefusalBehind : List Terminal → Terminal → Kind → Type 0
 IsRefusalBehind front t k = (AllTooDeep front × (k ≡ or_too_deep (refusal_of t.kind))) ⊎ ((AllTooDeep front → ⊥) × (k ≡ refusal_of t.kind))
 
 -- with the token behind them the tokens begin no file
-pub record IsUnexpected (front : List Token) (t : Token) (k : Kind) : Type 0 where
+pub record IsUnexpected (front : List Terminal) (t : Terminal) (k : Kind) : Type 0 where
   pub kind : IsRefusalBehind front t k
   pub no_file : BeginsFile (front ++ t ∷ []) → ⊥
 
 -- with the token behind them the tokens begin a file, in which the token is the first over a limit
-pub record IsOver (front : List Token) (t : Token) (k : Kind) : Type 0 where
+pub record IsOver (front : List Terminal) (t : Terminal) (k : Kind) : Type 0 where
   pub file : File
   pub fits : IsFile file
   pub before : List Leaf
@@ -109,10 +103,10 @@ pub record IsOver (front : List Token) (t : Token) (k : Kind) : Type 0 where
   pub fault : over leaf ≡ Some k
 
 -- the refusal is for the first token up to which, itself included, the tokens begin no file within the limits
-pub record RefusesTokens (ts : List Token) (r : Refusal) : Type 0 where
-  pub front : List Token
-  pub token : Token
-  pub behind : List Token
+pub record RefusesTokens (ts : List Terminal) (r : Refusal) : Type 0 where
+  pub front : List Terminal
+  pub token : Terminal
+  pub behind : List Terminal
   pub is : ts ≡ front ++ token ∷ behind
   pub place : token.from ≡ r.place
   pub before : BeginsFileWithin front
