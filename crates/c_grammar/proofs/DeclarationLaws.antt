@@ -1,11 +1,11 @@
 -- The laws of declarations (C11 6.7): declarators with their initialisers, and specifiers before them.
-use Rattle.std.proofs.Common.{subst, ◌≡◌, ℕ, zero, suc, ◌+◌, List, [], ◌∷◌, ◌++◌, Option, Some, None, Bool, true, false, refl, sym, ap, ◌∙◌, arith, append_assoc}
+use Rattle.std.proofs.Common.{subst, ◌≡◌, ℕ, zero, suc, ◌+◌, List, [], ◌∷◌, ◌++◌, None, Bool, true, false, refl, sym, ap, ◌∙◌, arith, append_assoc}
 use Rattle.std.specs.Prelude.{◌||◌}
 use Rattle.std.specs.List.{AllByRecursion}
 use Rattle.c_lex.specs.declared.token.Mark.TheVariants as marks
-use Rattle.c_tree.specs.Syntax.{Expr, null, Spec, Declarator, declarator, no_exprs, InitDeclarator, specs_of}
+use Rattle.c_tree.specs.Syntax.{Spec, Declarator, declarator, no_exprs, InitDeclarator, specs_of}
 use Rattle.c_grammar.specs.Leaves.{Leaf, at, some_mark}
-use Rattle.c_grammar.specs.Grammar.{HasSpecs, on_spec, on_each, on_commas, on_full, on_value, on_init_declarator, on_declaration, IsExpr, IsDeclarator, StartsBareFirst, IsValue, IsInitDeclarator, IsDeclaration, as_name}
+use Rattle.c_grammar.specs.Grammar.{HasSpecs, on_spec, on_each, on_commas, on_init_declarator, on_declaration, IsDeclarator, StartsBareFirst, IsValue, IsInitDeclarator, IsDeclaration, as_name}
 use Rattle.c_grammar.specs.inner.Readers.{Sort, Reads}
 use Rattle.c_grammar.specs.inner.Tokens.{is_mark, begins_type}
 use Rattle.c_grammar.specs.inner.Reading.{Level, level_at, init_by, initialised, declared, bare_declared, declaration}
@@ -14,10 +14,10 @@ use Rattle.c_grammar.proofs.Lawful.{Class, Info, Lawful, starts, both, if_empty}
 use Rattle.c_grammar.proofs.Joints.{TooDeepFor, Makes, tree, known, narrow, too_deep_lawful}
 use Rattle.c_grammar.proofs.Loops.{option_class, FromIs, from_class}
 use Rattle.c_grammar.proofs.TokenLaws.{Room, plain_class, mark_sign, mark_lawful}
-use Rattle.c_grammar.proofs.TreeClasses.{expr_class, goes_expr, LevelLawful}
+use Rattle.c_grammar.proofs.TreeClasses.{LevelLawful}
 use Rattle.c_grammar.proofs.StatementClasses.{declaration_class}
 use Rattle.c_grammar.proofs.MemberLaws.{BeginsDeep, spec_deep, spec_at, deep_behind, at_behind}
-use Rattle.c_grammar.proofs.ValueLaws.{value_class, goes_init, values_info, values_lawful, value_spelt, value_after, value_there, there_value}
+use Rattle.c_grammar.proofs.ValueLaws.{value_class, goes_init, values_lawful, value_spelt, value_after, value_there, there_value}
 use Rattle.c_grammar.proofs.MoreJoints.{joined, comma_rows, commas_lawful, flat_after, some_spelt, commas_spelt}
 use Rattle.c_grammar.proofs.EnumLaws.{no_name}
 use Rattle.c_grammar.proofs.SpecLaws.{specs_class, specs_lawful, specs_some, some_specs, one_spec}

@@ -8,7 +8,7 @@ use Rattle.c_tree.specs.declared.syntax.Pointer.{Pointer}
 use Rattle.c_tree.specs.declared.syntax.Pointer.TheVariants.{Star, Const, Restrict}
 use Rattle.c_grammar.proofs.Sorts.{apart}
 use Rattle.c_tree.specs.Syntax.{Expr, null, Exprs, no_exprs, exprs_of, Declarator, declarator}
-use Rattle.c_grammar.specs.Leaves.{Leaf, at, derivation_at, name_at, some_mark}
+use Rattle.c_grammar.specs.Leaves.{Leaf, at, derivation_at, some_mark}
 use Rattle.c_grammar.specs.Grammar.{on, on_pointers, stars, on_dims, IsExpr, AreExprs, StartsBare, StartsBareIn, IsDeclarator, Naming, as_name, as_any, as_bare, declared_at, on_declared}
 use Rattle.c_grammar.specs.inner.Readers.{Sort, nothing, pushed}
 use Rattle.c_grammar.specs.inner.Tokens.{is_mark, is_pointer, is_tag, tok}

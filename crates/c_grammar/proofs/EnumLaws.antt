@@ -8,7 +8,7 @@ use Rattle.c_tree.specs.declared.syntax.Name.{Name}
 use Rattle.c_tree.specs.Syntax.{Expr, Enumerator, enumerator, valued, Enumerators, no_enumerators, more_enumerators, enumerators_of}
 use Rattle.c_grammar.specs.Leaves.{Leaf, at, name_at, some_mark}
 use Rattle.c_grammar.specs.Grammar.{on_enumerator, on_enumerators, has_comma, AreParted, HasEnumerators, IsExpr, IsEnumerator, AreEnumerators}
-use Rattle.c_grammar.specs.inner.Readers.{Sort, Reads, made, chain_by, pushed}
+use Rattle.c_grammar.specs.inner.Readers.{Sort, made, chain_by, pushed}
 use Rattle.c_grammar.specs.inner.Tokens.{is_mark}
 use Rattle.c_grammar.specs.inner.Reading.{Level, is_name, enumerator_by, enumerated, parted, begins_enumerator, enumerators}
 use Rattle.c_grammar.proofs.Lawful.{Class, Info, Lawful, starts, both}

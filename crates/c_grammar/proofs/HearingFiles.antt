@@ -1,5 +1,5 @@
 -- What a look at the tokens of a file tells of its names: declarations, statements, typedefs and the file.
-use Rattle.std.proofs.Common.{◌≡◌, ℕ, zero, ◌+◌, List, [], ◌∷◌, ◌++◌, Option, Some, None, Bool, true, false, refl, sym, ap, subst, ◌∙◌}
+use Rattle.std.proofs.Common.{◌≡◌, ℕ, zero, ◌+◌, List, [], ◌∷◌, ◌++◌, Option, Some, None, true, false, refl, sym, ap, subst, ◌∙◌}
 use Rattle.std.specs.List.{AllByRecursion}
 use Rattle.c_lex.specs.declared.token.Mark.TheVariants as marks
 use Rattle.c_lex.specs.declared.token.Word.TheVariants as words
@@ -7,10 +7,10 @@ use Rattle.c_tree.specs.declared.syntax.Name.{Name}
 use Rattle.c_tree.specs.declared.syntax.Storage.{Storage}
 use Rattle.c_tree.specs.Syntax.{Expr, Spec, word, struct, struct_body, unnamed_struct, enum, enum_body, unnamed_enum, alias, Declarator, declarator, InitDeclarator, Declaration, ParamDim, Param, Simple, before, after, assign, eval, ForFirst, first_declare, first_simple, first_nothing, Stmt, block, declare, empty, if_then, if_else, while, for, break, continue, return, simple, Stmts, no_stmts, more_stmts, Body, Rest, nothing, function, variables, External, types_by, external_of, File, specs_of, do_while, switch, case_label, default_label}
 use Rattle.c_grammar.specs.Leaves.{Leaf, at, derivation_at, name_at, mark_at, word_at, some_word, some_mark, declares, the_end}
-use Rattle.c_grammar.specs.Grammar.{mark_of_step, mark_of_assign, word_of_storage, counted, on, on_pointers, stars, on_dims, on_spec, on_members, on_enumerators, on_declarator, on_more, on_commas, on_each, on_full, on_value, on_init_declarator, on_declaration, on_size, on_param_dims, on_name, on_param, on_simple, on_maybe, on_first, on_bracketed, on_stmt, on_stmts, on_storage, on_body, on_rest, on_types, on_typedef, on_external, name_of_declarator, leaves, IsExternal, IsFile, Naming, as_name, as_any, declared_at, naming_of, typed_row, on_declared}
+use Rattle.c_grammar.specs.Grammar.{mark_of_step, mark_of_assign, word_of_storage, counted, on, on_pointers, stars, on_dims, on_spec, on_members, on_enumerators, on_declarator, on_more, on_commas, on_each, on_full, on_value, on_init_declarator, on_declaration, on_size, on_param_dims, on_name, on_param, on_simple, on_maybe, on_first, on_bracketed, on_stmt, on_stmts, on_storage, on_body, on_rest, on_types, on_external, name_of_declarator, leaves, IsExternal, IsFile, Naming, as_name, as_any, declared_at, naming_of, typed_row, on_declared}
 use Rattle.c_grammar.specs.Names.{Names, spelling, with_name, first_types}
 use Rattle.c_grammar.specs.inner.Marking.{Scan, start}
-use Rattle.c_grammar.proofs.Hearing.{behind_sign, run, Heard, run_append, heard_append, Still, still_none, still, still_append, still_shift, firm_pointers, firm_dims, still_pointers, still_wrap, still_expr, still_spec, still_members, still_enumerators, storage_stays, step_stays, assign_stays, firm_none, firm_wrap, firm_type_word, still_declared, behind_declared, types_declared, heard_first, run_first}
+use Rattle.c_grammar.proofs.Hearing.{run, Heard, run_append, heard_append, Still, still_none, still, still_append, still_shift, firm_pointers, firm_dims, still_pointers, still_wrap, still_expr, still_spec, still_members, still_enumerators, storage_stays, step_stays, assign_stays, firm_none, firm_wrap, firm_type_word, still_declared, behind_declared, types_declared, heard_first, run_first}
 
 -- ---- lists
 

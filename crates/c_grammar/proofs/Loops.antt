@@ -10,7 +10,7 @@ use Rattle.c_grammar.specs.inner.Readers.{past, stop, spent, Got, Reading, got, 
 use Rattle.c_grammar.proofs.Sorts.{apart, are_apart, inside, is_inside}
 use Rattle.c_grammar.proofs.Runs.{Within, Met, Over, within_append, within_split, within_shorter, stopped_behind, over_split}
 use Rattle.c_grammar.proofs.Steadiness.{Takes, chain_steady, link_turn_advances, repeat_goes, repeat_ends, repeat_fails}
-use Rattle.c_grammar.proofs.Lawful.{Class, Info, Took, Begun, SoundAt, Follows, sort_of_sign, HeadIn, Headed, Lawful, if_empty, spelt_told, told_more, info_at, more_head}
+use Rattle.c_grammar.proofs.Lawful.{Class, Info, Took, Begun, SoundAt, Follows, HeadIn, Headed, Lawful, if_empty, spelt_told, told_more, info_at, more_head}
 use Rattle.c_grammar.proofs.Joints.{narrow, empty_info, nothing_lawful, Makes, tree, chosen}
 
 -- ---- the links behind a tree

@@ -13,12 +13,13 @@ use Rattle.c_lex.specs.declared.refusal.Kind.TheVariants.{TooDeep}
 use Rattle.c_lex.specs.contracts.token.Word.{the_type as word_type}
 use Rattle.c_tree.specs.declared.syntax.TypeWord.{TypeWord}
 use Rattle.c_tree.specs.Syntax.{Spec, word, struct, struct_body, unnamed_struct, enum, enum_body, unnamed_enum, alias, Specs, no_specs, more_specs, specs_of, TypeName, type_name, Member, members_of, Declarator, declarator, no_exprs, Declarators, no_declarators, more_declarators, declarators_of}
-use Rattle.c_grammar.specs.Leaves.{Leaf, at, word_at, type_at, some_mark, IsSpelt, over}
+use Rattle.c_grammar.specs.Leaves.{Leaf, at, word_at, type_at, some_mark, over}
+use Rattle.c_grammar.specs.inner.Terminals.{IsSpelt}
 use Rattle.c_grammar.specs.Grammar.{word_of_type, on_spec, on_specs, on_pointers, on_type, on_member, on_declarators, on_more_declarators, HasSpecs, AreSpecs, IsSpec, HasDeclarators, AreDeclarators, IsDeclarator, Naming, as_any, as_bare, naming_of, typed_row, on_declared}
 use Rattle.c_grammar.specs.inner.Readers.{a_word, sort_of_kind, sort, Sort}
 use Rattle.c_grammar.specs.inner.Tokens.{is_some, type_of_word, begins_type, is_mark}
 use Rattle.c_grammar.specs.inner.Reading.{Level, membered, typed, any_declared, commas, bare_declared, declared}
-use Rattle.c_grammar.proofs.Lawful.{Class, Lawful, both, sort_of_sign, told, Info, info_at, before_by}
+use Rattle.c_grammar.proofs.Lawful.{Class, Lawful, both, told, Info, info_at, before_by}
 use Rattle.c_grammar.proofs.Joints.{Makes, tree, known, TooDeepFor}
 use Rattle.c_grammar.proofs.Loops.{row_leaves, FromIs, from_class, Rows, rest_class, chain_info, row_from_lawful}
 use Rattle.c_grammar.proofs.TokenLaws.{Room, plain_class, mark_sign, mark_lawful, type_back, type_forth}

@@ -9,7 +9,7 @@ use Rattle.c_tree.specs.Syntax.{Expr, Declarator, Stmt, declare, empty}
 use Rattle.c_grammar.specs.Grammar.{stars, rank, as_name}
 use Rattle.c_grammar.specs.inner.Readers.{Reads, Sort, ◌&◌, made, full, maybe, pushed}
 use Rattle.c_grammar.specs.inner.Tokens.{tok, name_of, word_is, mark_is, word_place, mark_place, step_of, assign_of, storage_of, end_of, is_mark, is_word, begins_type, begins_expr, begins_simple, is_storage}
-use Rattle.c_grammar.specs.inner.Reading.{Level, commas, either_by, either, declared, bare_declared, level_at, value, initialised, declaration, TailStart, Stepped, Assigned, Nothing, tail_start, tail_by, simple_tail, is_step, simply, condition, first, StmtStart, ABlock, AnEmpty, AnIf, AWhile, AFor, ABreak, AContinue, AReturn, ASimple, stmt_start, begins_stmt, begins_item, items, stmt_by, stmt_at, param_dim, is_name, param_behind, param, params, body, variable_rest, named_rest, external_rest, typedef, external, begins_external, file, typed, ADo, ASwitch, label, is_label, begins_entry, entries}
+use Rattle.c_grammar.specs.inner.Reading.{Level, commas, either_by, either, declared, bare_declared, level_at, initialised, declaration, TailStart, Stepped, Assigned, Nothing, tail_start, tail_by, simple_tail, is_step, simply, condition, first, StmtStart, ABlock, AnEmpty, AnIf, AWhile, AFor, ABreak, AContinue, AReturn, ASimple, stmt_start, begins_stmt, begins_item, items, stmt_by, stmt_at, param_dim, is_name, param_behind, param, params, body, variable_rest, named_rest, external_rest, typedef, external, begins_external, file, typed, ADo, ASwitch, label, is_label, begins_entry, entries}
 use Rattle.c_grammar.proofs.Sorts.{is_inside}
 use Rattle.c_grammar.proofs.Steadiness.{Takes}
 use Rattle.c_grammar.proofs.Sinking.{Sinks, take_takes, Fine, Nested, Enters, enters_nested, enters, less_fine, fine_nothing, fine_both, nested_both, fine_made, nested_made, fine_full, nested_full, fine_tok, behind_tok, nested_derived, nested_too_deep, nested_room, fine_choice, fine_maybe, fine_either, fine_chain, takes_both, takes_made, takes_choice, fine_as}

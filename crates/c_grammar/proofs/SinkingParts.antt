@@ -1,5 +1,5 @@
 -- Where whatever may stand in a place lies too deep, for the productions of expressions, types and declarators.
-use Rattle.std.proofs.Common.{◌≡◌, ℕ, zero, suc, ◌+◌, List, [], ◌∷◌, length, Option, Some, None, Ok, Bool, true, false, refl}
+use Rattle.std.proofs.Common.{◌≡◌, ℕ, zero, suc, ◌+◌, List, [], ◌∷◌, length, Option, Some, Ok, Bool, true, false, refl}
 use denote.Enum.Bare.{sameb}
 use Rattle.c_lex.specs.declared.token.Word.TheVariants as words
 use Rattle.c_lex.specs.declared.token.Mark.{Mark}

@@ -1,5 +1,5 @@
 -- The laws of specifiers (C11 6.7.1 to 6.7.3), with what is between the braces of a struct or an enum.
-use Rattle.std.proofs.Common.{◌≡◌, ℕ, suc, ◌+◌, List, [], ◌∷◌, ◌++◌, Option, Some, None, Bool, true, false, refl, sym, ap, subst, ◌∙◌, inl, inr, ◌⊎◌, arith}
+use Rattle.std.proofs.Common.{◌≡◌, ℕ, suc, ◌+◌, List, [], ◌∷◌, ◌++◌, Some, Bool, true, false, refl, sym, ap, subst, inl, inr, ◌⊎◌, arith}
 use Rattle.std.proofs.lemmas.List.{append-nil}
 use Rattle.std.specs.Prelude.{◌||◌}
 use Rattle.std.specs.List.{AllByRecursion}
@@ -9,19 +9,18 @@ use Rattle.c_lex.specs.declared.token.Word.TheVariants as words
 use Rattle.c_lex.specs.declared.token.Mark.TheVariants as marks
 use Rattle.c_lex.specs.contracts.token.Word.{the_type as word_type}
 use Rattle.c_grammar.specs.declared.terminal.Terminal.{Terminal}
-use Rattle.c_tree.specs.declared.syntax.Name.{Name}
 use Rattle.c_tree.specs.declared.syntax.TypeWord.TheVariants as types
 use Rattle.c_tree.specs.Syntax.{Spec, word, struct, struct_body, unnamed_struct, enum, enum_body, unnamed_enum, alias, Enumerator, Member, Members, no_members, more_members, members_row, Enumerators, enumerators_of, Specs, no_specs, more_specs, specs_of}
-use Rattle.c_grammar.specs.Leaves.{Leaf, at, tag_at, type_at, some_mark}
+use Rattle.c_grammar.specs.Leaves.{Leaf, at, type_at, some_mark}
 use Rattle.c_grammar.specs.Grammar.{on_spec, on_specs, on_member, on_members, OneNamed, HasSpecs, HasMembers, HasEnumerators, IsSpec, AreSpecs, IsMember, AreMembers, AreEnumerators, IsSpecList, typed_by}
 use Rattle.c_grammar.specs.inner.Readers.{Sort, a_word, got, made, pushed}
-use Rattle.c_grammar.specs.inner.Tokens.{is_some, is_word, is_mark, type_of_word, type_name_of, is_type_name, begins_type_word, begins_type, tok}
+use Rattle.c_grammar.specs.inner.Tokens.{is_some, is_word, is_mark, type_of_word, is_type_name, begins_type_word, begins_type}
 use Rattle.c_grammar.specs.inner.Reading.{Level, Tagged, by_tag, by_both, by_body, SpecStart, TypeWords, StructWord, EnumWord, if_spec, spec_start, members, struct_by, enum_by, spec_by, spec, spec_behind, typed, begins_spec, specs}
 use Rattle.c_grammar.proofs.Lawful.{Class, Info, Lawful, Follows, starts, both, info_at}
 use Rattle.c_grammar.proofs.Runs.{Within}
-use Rattle.c_grammar.proofs.Joints.{Makes, tree, known, narrow, chosen, nothing_lawful}
-use Rattle.c_grammar.proofs.Loops.{row_leaves, from_leaves, FromIs, Rows, from_class, row_from_lawful, from_pushed_leaves, pushed_after, Link, Built, base, LinkedBy, chained_by, chain_complete, built_behind, all_pushed, all_before, OptionIs, option_class, maybe_lawful}
-use Rattle.c_grammar.proofs.TokenLaws.{Room, plain_class, word_place_sign, word_place_lawful, tag_lawful, mark_lawful, mark_sign, is_type_word, type_word_sign, type_word_lawful, type_name_lawful, shallow}
+use Rattle.c_grammar.proofs.Joints.{Makes, tree, known, narrow, chosen}
+use Rattle.c_grammar.proofs.Loops.{row_leaves, from_leaves, FromIs, Rows, from_class, row_from_lawful, from_pushed_leaves, pushed_after, Link, Built, base, LinkedBy, chained_by, chain_complete, built_behind, all_pushed, all_before}
+use Rattle.c_grammar.proofs.TokenLaws.{Room, plain_class, word_place_sign, word_place_lawful, mark_lawful, mark_sign, is_type_word, type_word_sign, type_word_lawful, type_name_lawful, shallow}
 use Rattle.c_grammar.proofs.Respelling.{retold}
 use Rattle.c_grammar.proofs.Sorts.{is_inside}
 use Rattle.c_grammar.proofs.TreeClasses.{member_class, member_info, LevelLawful}

@@ -1,5 +1,5 @@
 -- The laws of a value behind =, of a variable or an enumerator (C11 6.7.2.2, 6.7.9).
-use Rattle.std.proofs.Common.{◌≡◌, ℕ, Option, Some, None, Bool, true, false, refl, [], ◌∷◌}
+use Rattle.std.proofs.Common.{◌≡◌, ℕ, Option, Some, None, Bool, true, false, refl, ◌∷◌}
 use Rattle.std.specs.Prelude.{◌||◌}
 use Rattle.c_lex.specs.declared.token.Mark.TheVariants as marks
 use Rattle.c_tree.specs.Syntax.{Expr, null}

@@ -1,17 +1,18 @@
--- What it is for tokens to be a file of the language, and where they cease to be one.
-use Rattle.std.specs.Prelude.{◌≡◌, ◌<◌, ◌⊎◌, List, [], ◌∷◌, ◌++◌, Some, None}
+-- What it is for the tokens of a text to be a file of the language, and where they cease to be one. Names are told from those of types.
+use Rattle.std.specs.Prelude.{◌≡◌, ℕ, ◌<◌, ◌⊎◌, List, [], ◌∷◌, ◌++◌, Some, None}
 use Rattle.std.specs.List.{AllByRecursion}
 use Rattle.c_lex.specs.declared.token.Word.{Word}
 use Rattle.c_lex.specs.declared.token.Word.TheVariants as words
 use Rattle.c_lex.specs.declared.token.Mark.TheVariants.{Ellipsis}
-use Rattle.c_grammar.specs.declared.terminal.TerminalKind.{TerminalKind}
-use Rattle.c_grammar.specs.declared.terminal.TerminalKind.TheVariants as kinds
-use Rattle.c_grammar.specs.declared.terminal.Terminal.{Terminal}
+use Rattle.c_lex.specs.declared.token.TokenKind.{TokenKind}
+use Rattle.c_lex.specs.declared.token.TokenKind.TheVariants as kinds
+use Rattle.c_lex.specs.declared.token.Token.{Token}
 use Rattle.c_lex.specs.declared.refusal.Refusal.{Refusal}
 use Rattle.c_lex.specs.declared.refusal.Kind.{Kind}
 use Rattle.c_lex.specs.declared.refusal.Kind.TheVariants.{UnexpectedToken, TooDeep, OutsideSubset}
 use Rattle.c_tree.specs.Syntax.{File}
-use Rattle.c_grammar.specs.Leaves.{Leaf, over, Spelt, Begins, BeginsWithin}
+use Rattle.c_grammar.specs.Leaves.{Leaf, over}
+use Rattle.c_grammar.specs.Names.{first_types, Spelt, Begins, BeginsWithin}
 use Rattle.c_grammar.specs.Grammar.{leaves, IsFile}
 
 -- ---- features that are left out
@@ -39,7 +40,7 @@ refusal_of_word words.ThreadLocal = OutsideSubset 10
 refusal_of_word _ = UnexpectedToken
 
 -- how a token is refused that may not stand where it does
-abbrev pub refusal_of : TerminalKind → Kind
+abbrev pub refusal_of : TokenKind → Kind
 refusal_of (kinds.Word w) = refusal_of_word w
 refusal_of (kinds.Mark Ellipsis) = OutsideSubset 5
 refusal_of _ = UnexpectedToken
@@ -47,34 +48,34 @@ refusal_of _ = UnexpectedToken
 -- ---- files
 
 -- the file of the grammar that the tokens spell, within the limits, and the only one
-pub record Parses (ts : List Terminal) (f : File) : Type 0 where
+pub record Parses (text : List ℕ) (ts : List Token) (f : File) : Type 0 where
   pub fits : IsFile f
-  pub spelt : Spelt (leaves f) ts
+  pub spelt : Spelt text first_types (leaves f) ts
   pub within : AllByRecursion (λ l. over l ≡ None) (leaves f)
-  pub only : (g : File) → IsFile g → Spelt (leaves g) ts → g ≡ f
+  pub only : (g : File) → IsFile g → Spelt text first_types (leaves g) ts → g ≡ f
 
 -- some file of the grammar begins so
-abbrev pub BeginsFile : List Terminal → Type 0
-BeginsFile front = (f : File) × IsFile f × Begins (leaves f) front
+abbrev pub BeginsFile : List ℕ → List Token → Type 0
+BeginsFile text front = (f : File) × IsFile f × Begins text first_types (leaves f) front
 
 -- some file of the grammar begins so, within the limits so far
-abbrev pub BeginsFileWithin : List Terminal → Type 0
-BeginsFileWithin front = (f : File) × IsFile f × BeginsWithin (leaves f) front
+abbrev pub BeginsFileWithin : List ℕ → List Token → Type 0
+BeginsFileWithin text front = (f : File) × IsFile f × BeginsWithin text first_types (leaves f) front
 
 -- what may stand behind these tokens: the leaf that follows them in a file that begins with them
-pub record Next (front : List Terminal) : Type 0 where
+pub record Next (text : List ℕ) (front : List Token) : Type 0 where
   pub file : File
   pub fits : IsFile file
   pub before : List Leaf
   pub leaf : Leaf
   pub behind : List Leaf
   pub is : leaves file ≡ before ++ leaf ∷ behind
-  pub spelt : Spelt before front
+  pub spelt : Spelt text first_types before front
 
 -- something may stand behind these tokens, and whatever may lies deeper than 128 levels
-pub record AllTooDeep (front : List Terminal) : Type 0 where
-  pub some : Next front
-  pub each : (n : Next front) → 128 < n.leaf.level
+pub record AllTooDeep (text : List ℕ) (front : List Token) : Type 0 where
+  pub some : Next text front
+  pub each : (n : Next text front) → 128 < n.leaf.level
 
 -- where whatever may stand there lies too deep, that is told before a feature that is left out
 abbrev pub or_too_deep : Kind → Kind
@@ -82,32 +83,32 @@ or_too_deep (OutsideSubset f) = TooDeep
 or_too_deep k = k
 
 -- how a token is refused that may not stand behind these tokens
-abbrev pub IsRefusalBehind : List Terminal → Terminal → Kind → Type 0
-IsRefusalBehind front t k = (AllTooDeep front × (k ≡ or_too_deep (refusal_of t.kind))) ⊎ ((AllTooDeep front → ⊥) × (k ≡ refusal_of t.kind))
+abbrev pub IsRefusalBehind : List ℕ → List Token → Token → Kind → Type 0
+IsRefusalBehind text front t k = (AllTooDeep text front × (k ≡ or_too_deep (refusal_of t.kind))) ⊎ ((AllTooDeep text front → ⊥) × (k ≡ refusal_of t.kind))
 
 -- with the token behind them the tokens begin no file
-pub record IsUnexpected (front : List Terminal) (t : Terminal) (k : Kind) : Type 0 where
-  pub kind : IsRefusalBehind front t k
-  pub no_file : BeginsFile (front ++ t ∷ []) → ⊥
+pub record IsUnexpected (text : List ℕ) (front : List Token) (t : Token) (k : Kind) : Type 0 where
+  pub kind : IsRefusalBehind text front t k
+  pub no_file : BeginsFile text (front ++ t ∷ []) → ⊥
 
 -- with the token behind them the tokens begin a file, in which the token is the first over a limit
-pub record IsOver (front : List Terminal) (t : Terminal) (k : Kind) : Type 0 where
+pub record IsOver (text : List ℕ) (front : List Token) (t : Token) (k : Kind) : Type 0 where
   pub file : File
   pub fits : IsFile file
   pub before : List Leaf
   pub leaf : Leaf
   pub behind : List Leaf
   pub is : leaves file ≡ before ++ leaf ∷ behind
-  pub spelt : Spelt (before ++ leaf ∷ []) (front ++ t ∷ [])
+  pub spelt : Spelt text first_types (before ++ leaf ∷ []) (front ++ t ∷ [])
   pub within : AllByRecursion (λ l. over l ≡ None) before
   pub fault : over leaf ≡ Some k
 
 -- the refusal is for the first token up to which, itself included, the tokens begin no file within the limits
-pub record RefusesTokens (ts : List Terminal) (r : Refusal) : Type 0 where
-  pub front : List Terminal
-  pub token : Terminal
-  pub behind : List Terminal
+pub record RefusesTokens (text : List ℕ) (ts : List Token) (r : Refusal) : Type 0 where
+  pub front : List Token
+  pub token : Token
+  pub behind : List Token
   pub is : ts ≡ front ++ token ∷ behind
   pub place : token.from ≡ r.place
-  pub before : BeginsFileWithin front
-  pub cause : IsUnexpected front token r.kind ⊎ IsOver front token r.kind
+  pub before : BeginsFileWithin text front
+  pub cause : IsUnexpected text front token r.kind ⊎ IsOver text front token r.kind

@@ -1,6 +1,6 @@
 -- Small files with names of types, worked out by hand: their tokens with the trees or the refusals that the definitions give. In all texts
 -- but the first each token is one byte.
-use Rattle.std.specs.Prelude.{◌≡◌, ℕ, ◌+◌, pos, List, [], ◌∷◌, ◌++◌, codes, Some, None}
+use Rattle.std.specs.Prelude.{ℕ, ◌+◌, pos, List, [], ◌∷◌, ◌++◌, codes, Some, None, true, false}
 use Rattle.ak_words.specs.declared.operation.Op.TheVariants as ops
 use Rattle.ak_words.specs.IntType.{int}
 use Rattle.ak_words.specs.Num.{num}
@@ -16,9 +16,9 @@ use Rattle.c_tree.specs.declared.syntax.TypeWord.TheVariants as types
 use Rattle.c_tree.specs.declared.syntax.Pointer.TheVariants as pointers
 use Rattle.c_tree.specs.declared.syntax.BinaryOp.TheVariants as binaries
 use Rattle.c_tree.specs.Syntax as trees
-use Rattle.c_grammar.specs.Texts.{ParsesIn, RefusesIn}
+use Rattle.c_grammar.specs.Language.{Parses, RefusesTokens}
 
--- ---- R15-2: typedef int T;int main(void){int T=1;return 0;}
+-- ---- typedef int T;int main(void){int T=1;return 0;}
 
 abbrev pub long_text : List ℕ
 long_text = codes "typedef int T;int main(void){int T=1;return 0;}"
@@ -149,24 +149,68 @@ switch_file = file_of (trees.external_of [] (trees.word 0 types.Int ∷ []) (tre
       (trees.more_stmts (trees.case_label 15 (trees.conditional 17 (one_at 16) (one_at 18) (one_at 20))) (trees.more_stmts (trees.empty 22) trees.no_stmts)))) ∷ trees.do_while 24 (trees.empty 25) (one_at 28) ∷ [];
 }))) ∷ [])
 
+-- enum k{A,B=1,};struct{enum k k;}x;
+abbrev pub enum_kinds : List TokenKind
+enum_kinds = Word words.Enum ∷ Name ∷ Mark marks.OpenBrace ∷ Name ∷ Mark marks.Comma ∷ Name ∷ Mark marks.Assign ∷ one ∷ Mark marks.Comma ∷ Mark marks.CloseBrace ∷ Mark marks.Semicolon
+    ∷ Word words.Struct ∷ Mark marks.OpenBrace ∷ Word words.Enum ∷ Name ∷ Name ∷ Mark marks.Semicolon ∷ Mark marks.CloseBrace ∷ Name ∷ Mark marks.Semicolon ∷ End ∷ []
+
+abbrev pub enum_file : trees.File
+enum_file = file_of (trees.external_of [] (trees.enum_body 0 (at 1) (trees.more_enumerators (trees.enumerator (at 3) true) (trees.more_enumerators (trees.valued (at 5) (one_at 7) true) trees.no_enumerators)) ∷ []) trees.nothing
+    ∷ trees.external_of [] (trees.unnamed_struct 11 (trees.more_members (trees.members_of (trees.more_specs (trees.enum 13 (at 14)) trees.no_specs) (trees.more_declarators (trees.declarator [] (at 15) trees.no_exprs) trees.no_declarators)) trees.no_members) ∷ [])
+    (trees.variables (record { declarator = trees.declarator [] (at 18) trees.no_exprs; value = None } ∷ [])) ∷ [])
+
+-- typedef enum{A}T;
+abbrev pub unnamed_kinds : List TokenKind
+unnamed_kinds = Word words.Typedef ∷ Word words.Enum ∷ Mark marks.OpenBrace ∷ Name ∷ Mark marks.CloseBrace ∷ Name ∷ Mark marks.Semicolon ∷ End ∷ []
+
+abbrev pub unnamed_file : trees.File
+unnamed_file = file_of (trees.types_by (trees.unnamed_enum 1 (trees.more_enumerators (trees.enumerator (at 3) false) trees.no_enumerators) ∷ []) (trees.declarator [] (at 5) trees.no_exprs ∷ []) ∷ [])
+
+-- enum{}; and enum{A,,}; and enum{A B};
+abbrev pub none_kinds : List TokenKind
+none_kinds = Word words.Enum ∷ Mark marks.OpenBrace ∷ Mark marks.CloseBrace ∷ Mark marks.Semicolon ∷ End ∷ []
+
+abbrev pub commas_kinds : List TokenKind
+commas_kinds = Word words.Enum ∷ Mark marks.OpenBrace ∷ Name ∷ Mark marks.Comma ∷ Mark marks.Comma ∷ Mark marks.CloseBrace ∷ Mark marks.Semicolon ∷ End ∷ []
+
+abbrev pub beside_kinds : List TokenKind
+beside_kinds = Word words.Enum ∷ Mark marks.OpenBrace ∷ Name ∷ Name ∷ Mark marks.CloseBrace ∷ Mark marks.Semicolon ∷ End ∷ []
+
+-- int f(){enum{A}x;}
+abbrev pub inside_kinds : List TokenKind
+inside_kinds = body (Word words.Enum ∷ Mark marks.OpenBrace ∷ Name ∷ Mark marks.CloseBrace ∷ Name ∷ close)
+
+-- typedef int T;enum{T};
+abbrev pub taken_kinds : List TokenKind
+taken_kinds = first (Word words.Enum ∷ Mark marks.OpenBrace ∷ Name ∷ Mark marks.CloseBrace ∷ Mark marks.Semicolon ∷ End ∷ [])
+
 pub record TextRows : Type 0 where
-  -- R15-2
-  pub refused : RefusesIn long_text (long_front ++ token Name 33 34 ∷ long_rest ++ token End 47 47 ∷ []) (record { place = 33; kind = UnexpectedToken })
+  -- a type's name is no name of a variable
+  pub refused : RefusesTokens long_text (long_front ++ token Name 33 34 ∷ long_rest ++ token End 47 47 ∷ []) (record { place = 33; kind = UnexpectedToken })
   -- the same marks with and without a typedef before them
-  pub cast : ParsesIn (codes "tiT;if(){(T)x;}") (bytes 0 cast_kinds) cast_file
-  pub group : RefusesIn (codes "if(){(x)x;}") (bytes 0 group_kinds) (record { place = 8; kind = UnexpectedToken })
-  pub declaration : ParsesIn (codes "tiT;if(){T*x;}") (bytes 0 (first star_kinds)) declaration_file
-  pub product : ParsesIn (codes "if(){T*x;}") (bytes 0 star_kinds) product_file
+  pub cast : Parses (codes "tiT;if(){(T)x;}") (bytes 0 cast_kinds) cast_file
+  pub group : RefusesTokens (codes "if(){(x)x;}") (bytes 0 group_kinds) (record { place = 8; kind = UnexpectedToken })
+  pub declaration : Parses (codes "tiT;if(){T*x;}") (bytes 0 (first star_kinds)) declaration_file
+  pub product : Parses (codes "if(){T*x;}") (bytes 0 star_kinds) product_file
   -- from directly after its declarator on, not before
-  pub comma : ParsesIn (codes "tiT,*U[s(T)];") (bytes 0 comma_kinds) comma_file
-  pub own : ParsesIn (codes "tiT[s(T)];") (bytes 0 own_kinds) own_file
+  pub comma : Parses (codes "tiT,*U[s(T)];") (bytes 0 comma_kinds) comma_file
+  pub own : Parses (codes "tiT[s(T)];") (bytes 0 own_kinds) own_file
   -- a specifier only where no type stands before it
-  pub const : ParsesIn (codes "tiT;cTx;") (bytes 0 const_kinds) const_file
-  pub twice : RefusesIn (codes "tiT;iTx;") (bytes 0 twice_kinds) (record { place = 5; kind = UnexpectedToken })
-  pub again : RefusesIn (codes "tiT;TT;") (bytes 0 again_kinds) (record { place = 5; kind = UnexpectedToken })
+  pub const : Parses (codes "tiT;cTx;") (bytes 0 const_kinds) const_file
+  pub twice : RefusesTokens (codes "tiT;iTx;") (bytes 0 twice_kinds) (record { place = 5; kind = UnexpectedToken })
+  pub again : RefusesTokens (codes "tiT;TT;") (bytes 0 again_kinds) (record { place = 5; kind = UnexpectedToken })
   -- any name in a typedef or a struct, but directly behind specifiers without a type no type's
-  pub anew : ParsesIn (codes "tiT;tiT;") (bytes 0 anew_kinds) anew_file
-  pub bare : RefusesIn (codes "tiT;tcT;") (bytes 0 bare_kinds) (record { place = 7; kind = UnexpectedToken })
-  pub node : ParsesIn (codes "tsnn;sn{n*n;in;};") (bytes 0 node_kinds) node_file
+  pub anew : Parses (codes "tiT;tiT;") (bytes 0 anew_kinds) anew_file
+  pub bare : RefusesTokens (codes "tiT;tcT;") (bytes 0 bare_kinds) (record { place = 7; kind = UnexpectedToken })
+  pub node : Parses (codes "tsnn;sn{n*n;in;};") (bytes 0 node_kinds) node_file
   -- labels
-  pub switch : ParsesIn (codes "if(){s(1){C1:D:C1?1:1:;}d;w(1);}") (bytes 0 switch_kinds) switch_file
+  pub switch : Parses (codes "if(){s(1){C1:D:C1?1:1:;}d;w(1);}") (bytes 0 switch_kinds) switch_file
+  -- one comma between each two enumerators, and at most one behind the last; a struct or an enum may have no tag
+  pub enum : Parses (codes "ek{A,B=1,};s{ekk;}x;") (bytes 0 enum_kinds) enum_file
+  pub unnamed : Parses (codes "te{A}T;") (bytes 0 unnamed_kinds) unnamed_file
+  pub none : RefusesTokens (codes "e{};") (bytes 0 none_kinds) (record { place = 2; kind = UnexpectedToken })
+  pub commas : RefusesTokens (codes "e{A,,};") (bytes 0 commas_kinds) (record { place = 4; kind = UnexpectedToken })
+  pub beside : RefusesTokens (codes "e{AB};") (bytes 0 beside_kinds) (record { place = 3; kind = UnexpectedToken })
+  -- their braces stand at file scope alone, and no enumerator has a type's name
+  pub inside : RefusesTokens (codes "if(){e{A}x;}") (bytes 0 inside_kinds) (record { place = 6; kind = UnexpectedToken })
+  pub taken : RefusesTokens (codes "tiT;e{T};") (bytes 0 taken_kinds) (record { place = 6; kind = UnexpectedToken })

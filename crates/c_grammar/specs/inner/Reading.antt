@@ -9,7 +9,6 @@ use Rattle.c_grammar.specs.declared.terminal.Terminal.{Terminal}
 use Rattle.c_tree.specs.declared.syntax.Name.{Name}
 use Rattle.c_tree.specs.declared.syntax.Pointer.{Pointer}
 use Rattle.c_tree.specs.declared.syntax.Pointer.TheVariants.{Star, Const, Restrict}
-use Rattle.c_tree.specs.declared.syntax.Storage.{Storage}
 use Rattle.c_tree.specs.declared.syntax.StepOp.{StepOp}
 use Rattle.c_tree.specs.declared.syntax.AssignOp.{AssignOp}
 use Rattle.c_tree.specs.Syntax.{Expr, name, call, int, char, text, null, group, prefix, sizeof_type, sizeof_expr, cast, index, member, arrow, binary, conditional, TypeName, type_name, Spec, word, struct, struct_body, unnamed_struct, enum, enum_body, unnamed_enum, alias, Enumerator, enumerator, valued, enumerator_of, enumerators_of, Member, members_of, Declarator, declarator, InitDeclarator, Declaration, ParamDim, Param, Simple, before, after, assign, eval, ForFirst, first_declare, first_simple, first_nothing, Stmt, block, declare, empty, if_then, if_else, while, for, break, continue, return, simple, Body, Rest, function, variables, External, types_by, external_of, File, exprs_of, specs_of, members_row, declarators_of, stmts_of, do_while, switch, case_label, default_label}
