@@ -1,6 +1,6 @@
 -- Declarations and statements, by the room that the code counts.
 use Rattle.std.proofs.Common.{◌≡◌, ℕ, zero, suc, ◌-◌, ◌<◌, List, Result, Ok, Err, refl, sym, ap, subst, ◌∙◌, arith}
-use Rattle.c_lex.specs.declared.token.Token.{Token}
+use Rattle.c_grammar.specs.declared.terminal.Terminal.{Terminal}
 use Rattle.c_tree.specs.Syntax.{Declaration, Simple, Stmt}
 use Rattle.parse_tokens.specs.declared.parser.Parser.{Parser}
 use Rattle.parse_tokens.specs.declared.parser.Stop.{Stop}
@@ -50,7 +50,7 @@ declaration_zero : (room : ℕ) → room ≡ 0 → declaration room ≡ too_deep
 unfolding declaration
 declaration_zero room h = ap declaration h
 
-pub no_declaration : (room : ℕ) (c : ℕ) (ts : List Token) (e : Stop) → room ≡ 0 → Fails {A = Unit {0}} e (too_deep begins_type c ts) → Fails e (declaration room c ts)
+pub no_declaration : (room : ℕ) (c : ℕ) (ts : List Terminal) (e : Stop) → room ≡ 0 → Fails {A = Unit {0}} e (too_deep begins_type c ts) → Fails e (declaration room c ts)
 no_declaration room c ts e h f =
     let P : Reads Declaration → Type 0 = λ r. Fails e (r c ts) in
     subst P (sym (declaration_zero room h)) (deep_any _ _ begins_type c ts e f)
@@ -59,7 +59,7 @@ simple_zero : (room : ℕ) → room ≡ 0 → simply room ≡ too_deep begins_si
 unfolding simply
 simple_zero room h = ap simply h
 
-pub no_simple : (room : ℕ) (c : ℕ) (ts : List Token) (e : Stop) → room ≡ 0 → Fails {A = Unit {0}} e (too_deep begins_simple c ts) → Fails e (simply room c ts)
+pub no_simple : (room : ℕ) (c : ℕ) (ts : List Terminal) (e : Stop) → room ≡ 0 → Fails {A = Unit {0}} e (too_deep begins_simple c ts) → Fails e (simply room c ts)
 no_simple room c ts e h f =
     let P : Reads Simple → Type 0 = λ r. Fails e (r c ts) in
     subst P (sym (simple_zero room h)) (deep_any _ _ begins_simple c ts e f)
@@ -68,7 +68,7 @@ stmt_zero : (room : ℕ) → room ≡ 0 → stmt_at room ≡ too_deep begins_stm
 unfolding stmt_at
 stmt_zero room h = ap stmt_at h
 
-pub no_stmt : (room : ℕ) (c : ℕ) (ts : List Token) (e : Stop) → room ≡ 0 → Fails {A = Unit {0}} e (too_deep begins_stmt c ts) → Fails e (stmt_at room c ts)
+pub no_stmt : (room : ℕ) (c : ℕ) (ts : List Terminal) (e : Stop) → room ≡ 0 → Fails {A = Unit {0}} e (too_deep begins_stmt c ts) → Fails e (stmt_at room c ts)
 no_stmt room c ts e h f =
     let P : Reads Stmt → Type 0 = λ r. Fails e (r c ts) in
     subst P (sym (stmt_zero room h)) (deep_any _ _ begins_stmt c ts e f)
@@ -81,5 +81,5 @@ moves_as view reads other old new (Ok a) e h = e ∙ h
 moves_as view reads other old new (Err s) e h = subst (Fails s) (sym e) h
 
 -- a statement that begins so
-pub stmt_begins : (room : ℕ) → 0 < room → (s : StmtStart) (c : ℕ) (ts : List Token) → peek stmt_start c ts ≡ got s c ts → stmt_at room c ts ≡ stmt_by room (room - 1) (stmt_at (room - 1)) s c ts
+pub stmt_begins : (room : ℕ) → 0 < room → (s : StmtStart) (c : ℕ) (ts : List Terminal) → peek stmt_start c ts ≡ got s c ts → stmt_at room c ts ≡ stmt_by room (room - 1) (stmt_at (room - 1)) s c ts
 stmt_begins room h s c ts e = ap (λ (r : Reads Stmt). r c ts) (stmt_is room h) ∙ chooses stmt_start (stmt_by room (room - 1) (stmt_at (room - 1))) c ts s e

@@ -1,6 +1,6 @@
 //! Trees of statements and declarations.
 
-ghost use Rattle.std.specs.Prelude.{◌≡◌};
+ghost use Rattle.std.specs.Prelude.{◌≡◌, map};
 ghost use Rattle.std.specs.Option.{option_map};
 ghost use Rattle.c_tree.specs.Syntax as trees;
 ghost use Rattle.c_tree.specs.SyntaxViews.{boxed_expr_view, expr_view, declarator_view, declaration_view, simple_view, for_first_view, stmt_view, boxed_stmt_view};
@@ -191,6 +191,50 @@ pub fn while_of(
         body,
     };
     boxed_stmt(alloc, stmt)
+}
+
+/// `"do" stmt "while" "(" expr ")" ";"`
+pub fn do_of(
+    alloc: Global,
+    place: u32,
+    body: Box<Stmt>,
+    condition: Box<Expr>,
+) -> Result<Box<Stmt>, Stop>
+    ensures { Makes boxed_stmt_view (trees.do_while place (boxed_stmt_view body) (boxed_expr_view condition)) result }
+{
+    let condition = Box::into_inner(condition);
+    let stmt = Stmt::DoWhile {
+        place,
+        body,
+        condition,
+    };
+    boxed_stmt(alloc, stmt)
+}
+
+/// `"switch" "(" expr ")" "{" { label | stmt } "}"`
+pub fn switch_of(
+    alloc: Global,
+    place: u32,
+    condition: Box<Expr>,
+    entries: Vec<Stmt>,
+) -> Result<Box<Stmt>, Stop>
+    ensures { Makes boxed_stmt_view (trees.switch place (boxed_expr_view condition) (trees.stmts_of (map stmt_view entries.items))) result }
+{
+    let condition = Box::into_inner(condition);
+    let stmt = Stmt::Switch {
+        place,
+        condition,
+        entries,
+    };
+    boxed_stmt(alloc, stmt)
+}
+
+/// `"case" expr ":"`
+pub fn case_of(alloc: Global, place: u32, value: Box<Expr>) -> Result<Box<Stmt>, Stop>
+    ensures { Makes boxed_stmt_view (trees.case_label place (boxed_expr_view value)) result }
+{
+    let value = Box::into_inner(value);
+    boxed_stmt(alloc, Stmt::Case { place, value })
 }
 
 /// What stands between the brackets of a `for`.

@@ -1,47 +1,18 @@
 //! Declarations (C11 6.7): declarators with their initialisers.
 
 ghost use Rattle.std.specs.Prelude.{◌-◌, ◌<◌, [], ◌∷◌, map};
-ghost use Rattle.std.specs.Option.{option_map};
-ghost use Rattle.c_tree.specs.SyntaxViews.{boxed_expr_view, init_declarator_view, declaration_view};
+ghost use Rattle.c_tree.specs.SyntaxViews.{init_declarator_view, declaration_view};
 ghost use Rattle.c_parse.specs.inner.Boxes.{boxed_initialised_view};
 ghost use Rattle.parse_tokens.specs.inner.Moves.{Moves, Takes, Keeps};
-ghost use Rattle.c_grammar.specs.inner.Reading.{level_at, value, declaration};
-ghost use Rattle.c_parse.specs.inner.Parts.{initialiser, first_initialised, next_initialised, more_initialised};
+ghost use Rattle.c_grammar.specs.inner.Reading.{declaration};
+ghost use Rattle.c_parse.specs.inner.Parts.{first_initialised, next_initialised, more_initialised};
 
 use crate::building::initialised;
 use c_lex::Mark;
-use c_tree::syntax::{Declaration, Expr, InitDeclarator};
+use c_tree::syntax::{Declaration, InitDeclarator};
 use parse_expressions::boxes::put_inner;
-use parse_expressions::expressions::full_expr;
-use parse_expressions::types::{bare_declared, declared, specs};
+use parse_expressions::types::{bare_declared, declared, initialiser, specs};
 use parse_tokens::parser::{Parser, Stop};
-
-/// `"=" expr`
-#[tactic(auto, unfolding(c_grammar::specs::inner::Reading::value))]
-fn value(parser: &mut Parser<'_>, room: u32, braces: bool) -> Result<Box<Expr>, Stop>
-    ensures reads { Moves boxed_expr_view (value room (level_at braces room)) parser.old parser.new result }
-    ensures takes { Takes parser.old parser.new result }
-{
-    parser.expected(Mark::Assign, room)?;
-    full_expr(parser, room, braces)
-}
-
-/// `[ "=" expr ]`
-#[tactic(auto, using(parse_expressions::proofs::CodeLoops::chooses, parse_expressions::proofs::CodeLoops::choice_fails))]
-pub fn initialiser(
-    parser: &mut Parser<'_>,
-    room: u32,
-    braces: bool,
-) -> Result<Option<Box<Expr>>, Stop>
-    ensures reads { Moves (option_map boxed_expr_view) (initialiser braces room) parser.old parser.new result }
-    ensures keeps { Keeps parser.old parser.new result }
-{
-    if !parser.is_next(Mark::Assign)? {
-        return Ok(None);
-    }
-    let value = value(parser, room, braces)?;
-    Ok(Some(value))
-}
 
 /// `ptr NAME dims [ "=" expr ]`, behind specifiers.
 #[tactic(auto, unfolding(c_grammar::specs::inner::Reading::initialised))]

@@ -7,23 +7,23 @@ ghost use Rattle.c_parse.specs.inner.Boxes.{boxed_initialised_view, boxed_param_
 ghost use Rattle.parse_tokens.specs.inner.Moves.{Moves, Takes, Keeps};
 ghost use Rattle.c_grammar.specs.inner.Readers.{maybe};
 ghost use Rattle.c_grammar.specs.inner.Tokens.{tok, name_of};
-ghost use Rattle.c_grammar.specs.inner.Reading.{is_name, param_dim, param, params, body, variable_rest, named_rest, external_rest, external, file};
-ghost use Rattle.c_parse.specs.inner.Parts.{param_dims, next_param, param_row, maybe_params, storage_row, first_variable, function_rest, declared_rest, external_row, whole_file};
+ghost use Rattle.c_grammar.specs.inner.Reading.{is_name, param_dim, param, params, body, variable_rest, named_rest, external_rest, typedef, external, file};
+ghost use Rattle.c_parse.specs.inner.Parts.{param_dims, next_param, param_row, maybe_params, storage_row, first_variable, function_rest, declared_rest, other_external, external_row, whole_file};
 
 use crate::building;
 use crate::building::initialised;
-use crate::declarations::{initialiser, more_initialised};
+use crate::declarations::more_initialised;
 use crate::parts::maybe_expr;
 use crate::starts::is_external_next;
 use crate::statements::block;
-use c_lex::Mark;
+use c_lex::{Mark, Word};
 use c_tree::syntax::{
     Block, Declarator, External, InitDeclarator, Name, Param, ParamDim, Pointer, Program, Rest,
     Storage,
 };
 use parse_expressions::boxes::{one, put, put_inner};
 use parse_expressions::pointers::{bare_pointers, stars};
-use parse_expressions::types::{dims, specs};
+use parse_expressions::types::{any_declared, are_typed, dims, initialiser, specs};
 use parse_tokens::parser::{Parser, Stop};
 
 /// The room at file scope: a file is of level 0, and 128 levels may lie in it.
@@ -254,20 +254,44 @@ fn storage_row(parser: &mut Parser<'_>) -> Result<Vec<Storage>, Stop>
     Ok(all)
 }
 
-/// `external`
-#[tactic(auto, unfolding(c_grammar::specs::inner::Reading::external))]
-fn external(parser: &mut Parser<'_>) -> Result<External, Stop>
-    ensures reads { Moves external_view external parser.old parser.new result }
+/// `"typedef" specs ptr TNAME dims { "," ptr TNAME dims } ";"`
+#[tactic(auto, unfolding(c_grammar::specs::inner::Reading::typedef))]
+fn typedef(parser: &mut Parser<'_>) -> Result<External, Stop>
+    ensures reads { Moves external_view typedef parser.old parser.new result }
+    ensures takes { Takes parser.old parser.new result }
+{
+    parser.expected_word(Word::Typedef, FILE)?;
+    let specs = specs(parser, FILE, true)?;
+    let typed = are_typed(&specs);
+    let declarators = any_declared(parser, typed, FILE)?;
+    Ok(External::Typedef { specs, declarators })
+}
+
+/// `{ "static" | "inline" } specs` and the rest
+fn other_external(parser: &mut Parser<'_>) -> Result<External, Stop>
+    ensures reads { Moves external_view other_external parser.old parser.new result }
     ensures takes { Takes parser.old parser.new result }
 {
     let storage = storage_row(parser)?;
     let specs = specs(parser, FILE, true)?;
     let rest = external_rest(parser)?;
-    Ok(External {
+    Ok(External::Other {
         storage,
         specs,
         rest,
     })
+}
+
+/// `external`
+#[tactic(auto, unfolding(c_grammar::specs::inner::Reading::external), using(parse_expressions::proofs::CodeLoops::chooses, parse_expressions::proofs::CodeLoops::choice_fails))]
+fn external(parser: &mut Parser<'_>) -> Result<External, Stop>
+    ensures reads { Moves external_view external parser.old parser.new result }
+    ensures takes { Takes parser.old parser.new result }
+{
+    if parser.is_word_next(Word::Typedef)? {
+        return typedef(parser);
+    }
+    other_external(parser)
 }
 
 /// `{ external }`

@@ -8,18 +8,18 @@ ghost use Rattle.c_parse.specs.inner.Boxes.{boxed_simple_view, boxed_first_view}
 ghost use Rattle.c_grammar.specs.inner.Readers.{full, maybe};
 ghost use Rattle.c_grammar.specs.inner.Tokens.{begins_simple};
 ghost use Rattle.parse_tokens.specs.inner.Moves.{Moves, Takes, Keeps};
-ghost use Rattle.c_grammar.specs.inner.Reading.{simply, simple_of, condition, first, items, stmt_at, stmt_by, ABlock, AnIf, AWhile, AFor};
-ghost use Rattle.c_parse.specs.inner.Parts.{behind, assigned, simple_first_at, short_first_at, for_condition, for_step, for_head, head_view, empty_at, break_at, continue_at, return_at, simple_stmt_at, block_view, item_at, item_row, otherwise};
+ghost use Rattle.c_grammar.specs.inner.Reading.{simply, simple_of, condition, first, items, label, entries, stmt_at, stmt_by, ABlock, AnIf, AWhile, AFor, ADo, ASwitch};
+ghost use Rattle.c_parse.specs.inner.Parts.{behind, assigned, simple_first_at, short_first_at, for_condition, for_step, for_head, head_view, empty_at, break_at, continue_at, return_at, simple_stmt_at, block_view, item_at, item_row, case_at, default_at, entry_at, entry_row, otherwise};
 
 use crate::building::{
-    ForHead, after, assign, before, boxed_stmt, eval, first_declare, first_nothing, first_simple,
-    for_of, if_of, return_of, simple_of, while_of,
+    ForHead, after, assign, before, boxed_stmt, case_of, do_of, eval, first_declare, first_nothing,
+    first_simple, for_of, if_of, return_of, simple_of, switch_of, while_of,
 };
 use crate::declarations::declaration;
 use crate::parts::{marked, maybe_expr};
 use crate::starts::{
-    StmtStart, TailStart, is_item_next, no_room_for_simple, no_room_for_stmt, stmt_start,
-    tail_start,
+    StmtStart, TailStart, is_entry_next, is_item_next, is_label_next, no_room_for_simple,
+    no_room_for_stmt, stmt_start, tail_start,
 };
 use c_lex::{Mark, Word};
 use c_tree::syntax::{Block, Expr, ForFirst, Simple, Stmt};
@@ -242,6 +242,41 @@ fn simple_stmt(parser: &mut Parser<'_>, room: u32) -> Result<Box<Stmt>, Stop>
     simple_of(parser.alloc, simple)
 }
 
+// Labels.
+
+/// `"case" expr ":"`
+fn case_label(parser: &mut Parser<'_>, room: u32) -> Result<Box<Stmt>, Stop>
+    ensures reads { Moves boxed_stmt_view (case_at room) parser.old parser.new result }
+    ensures takes { Takes parser.old parser.new result }
+{
+    let place = parser.place_of_word(Word::Case, room)?;
+    let value = full_expr(parser, room, false)?;
+    parser.expected(Mark::Colon, room)?;
+    case_of(parser.alloc, place, value)
+}
+
+/// `"default" ":"`
+fn default_label(parser: &mut Parser<'_>, room: u32) -> Result<Box<Stmt>, Stop>
+    ensures reads { Moves boxed_stmt_view (default_at room) parser.old parser.new result }
+    ensures takes { Takes parser.old parser.new result }
+{
+    let place = parser.place_of_word(Word::Default, room)?;
+    parser.expected(Mark::Colon, room)?;
+    boxed_stmt(parser.alloc, Stmt::Default { place })
+}
+
+/// `"case" expr ":" | "default" ":"`
+#[tactic(auto, unfolding(c_grammar::specs::inner::Reading::label), using(parse_expressions::proofs::CodeLoops::chooses, parse_expressions::proofs::CodeLoops::choice_fails))]
+fn label(parser: &mut Parser<'_>, room: u32) -> Result<Box<Stmt>, Stop>
+    ensures reads { Moves boxed_stmt_view (label room) parser.old parser.new result }
+    ensures takes { Takes parser.old parser.new result }
+{
+    if parser.is_word_next(Word::Case)? {
+        return case_label(parser, room);
+    }
+    default_label(parser, room)
+}
+
 // Statements with statements in them, which lie one level deeper.
 
 /// `stmt`
@@ -260,6 +295,8 @@ fn stmt(parser: &mut Parser<'_>, room: u32) -> Result<Box<Stmt>, Stop>
         StmtStart::If => if_stmt(parser, room),
         StmtStart::While => while_stmt(parser, room),
         StmtStart::For => for_stmt(parser, room),
+        StmtStart::Do => do_stmt(parser, room),
+        StmtStart::Switch => switch_stmt(parser, room),
         StmtStart::Break => break_off(parser, room),
         StmtStart::Continue => go_on(parser, room),
         StmtStart::Return => return_back(parser, room),
@@ -320,6 +357,47 @@ fn block_stmt(parser: &mut Parser<'_>, room: u32) -> Result<Box<Stmt>, Stop>
     boxed_stmt(parser.alloc, Stmt::Block { place, items })
 }
 
+/// `label | stmt`
+#[cycle(statements)]
+#[tactic(auto, using(parse_expressions::proofs::CodeLoops::chooses, parse_expressions::proofs::CodeLoops::choice_fails))]
+fn entry(parser: &mut Parser<'_>, room: u32) -> Result<Box<Stmt>, Stop>
+    ensures reads { Moves boxed_stmt_view (entry_at room) parser.old parser.new result }
+    ensures takes { Takes parser.old parser.new result }
+{
+    if is_label_next(parser)? {
+        return label(parser, room);
+    }
+    stmt(parser, room)
+}
+
+/// `{ label | stmt }`
+#[cycle(statements)]
+#[tactic(auto, using(parse_expressions::proofs::CodeLoops::chooses, parse_expressions::proofs::CodeLoops::choice_fails), unfolding(c_grammar::specs::inner::Readers::turns))]
+fn entry_row(parser: &mut Parser<'_>, room: u32) -> Result<Vec<Stmt>, Stop>
+    ensures reads { Moves (λ all. map stmt_view all.items) (entry_row room) parser.old parser.new result }
+    ensures keeps { Keeps parser.old parser.new result }
+{
+    let mut all = Vec::new(parser.alloc);
+    'entries: while is_entry_next(parser)? {
+        let entry = entry(parser, room)?;
+        put_inner(&mut all, entry)?;
+    }
+    Ok(all)
+}
+
+/// `"{" { label | stmt } "}"`
+#[cycle(statements)]
+#[tactic(auto, unfolding(c_grammar::specs::inner::Reading::entries))]
+fn entries(parser: &mut Parser<'_>, room: u32) -> Result<Vec<Stmt>, Stop>
+    ensures reads { Moves (λ all. map stmt_view all.items) (entries room (stmt_at room)) parser.old parser.new result }
+    ensures takes { Takes parser.old parser.new result }
+{
+    parser.expected(Mark::OpenBrace, room)?;
+    let all = entry_row(parser, room)?;
+    parser.expected(Mark::CloseBrace, room)?;
+    Ok(all)
+}
+
 /// `[ "else" stmt ]`
 #[cycle(statements)]
 #[tactic(auto, using(parse_expressions::proofs::CodeLoops::chooses, parse_expressions::proofs::CodeLoops::choice_fails))]
@@ -374,4 +452,32 @@ fn for_stmt(parser: &mut Parser<'_>, room: u32) -> Result<Box<Stmt>, Stop>
     let head = for_head(parser, room - 1)?;
     let body = stmt(parser, room - 1)?;
     for_of(parser.alloc, place, head, body)
+}
+
+/// `"do" stmt "while" "(" expr ")" ";"`
+#[cycle(statements)]
+fn do_stmt(parser: &mut Parser<'_>, room: u32) -> Result<Box<Stmt>, Stop>
+    requires { 0 < room }
+    ensures reads { Moves boxed_stmt_view (stmt_by room (room - 1) (stmt_at (room - 1)) ADo) parser.old parser.new result }
+    ensures takes { Takes parser.old parser.new result }
+{
+    let place = parser.place_of_word(Word::Do, room)?;
+    let body = stmt(parser, room - 1)?;
+    parser.expected_word(Word::While, room)?;
+    let condition = condition(parser, room - 1)?;
+    parser.expected(Mark::Semicolon, room)?;
+    do_of(parser.alloc, place, body, condition)
+}
+
+/// `"switch" "(" expr ")" "{" { label | stmt } "}"`
+#[cycle(statements)]
+fn switch_stmt(parser: &mut Parser<'_>, room: u32) -> Result<Box<Stmt>, Stop>
+    requires { 0 < room }
+    ensures reads { Moves boxed_stmt_view (stmt_by room (room - 1) (stmt_at (room - 1)) ASwitch) parser.old parser.new result }
+    ensures takes { Takes parser.old parser.new result }
+{
+    let place = parser.place_of_word(Word::Switch, room)?;
+    let condition = condition(parser, room - 1)?;
+    let entries = entries(parser, room - 1)?;
+    switch_of(parser.alloc, place, condition, entries)
 }

@@ -1,14 +1,20 @@
 //! The parser, whole: the file that tokens are, or where they cease to be one.
 
-ghost use Rattle.std.specs.Prelude.{◌≡◌, IfOk};
+ghost use Rattle.std.specs.Prelude.{◌≡◌, ◌≤◌, length, All, IfOk};
 ghost use Rattle.c_lex.specs.Refusals.{IfRefused};
 ghost use Rattle.c_tree.specs.SyntaxViews.{view};
 ghost use Rattle.c_grammar.specs.Laws.{EndOnce};
-ghost use Rattle.c_grammar.specs.Language.{refusal_of_word, refusal_of, or_too_deep, Parses, RefusesTokens};
+ghost use Rattle.c_grammar.specs.Language.{refusal_of_word, or_too_deep, Parses, RefusesTokens};
+ghost use Rattle.c_grammar.specs.inner.TerminalFiles.{refusal_of, Parses as ParsesTerminals, RefusesTokens as RefusesTerminals};
+ghost use Rattle.mark_types.specs.inner.Looks.{IsInText};
+ghost use Rattle.c_parse.specs.inner.Ends.{EndsWithEnd};
 
 use crate::files::whole_file;
-use c_lex::{CompileFault, Kind, Mark, Refusal, Token, TokenKind, Word};
+use ak_words::NoMemory;
+use c_grammar::terminal::{Terminal, TerminalKind};
+use c_lex::{CompileFault, Kind, Mark, Refusal, Token, Word};
 use c_tree::syntax::Program;
+use mark_types::marked;
 use parse_tokens::parser::{Parser, Stop};
 use std::alloc::Global;
 
@@ -21,8 +27,6 @@ fn refusal_of_word(word: Word) -> Kind
         Word::Union => Kind::OutsideSubset(3),
         Word::Goto => Kind::OutsideSubset(4),
         Word::Volatile => Kind::OutsideSubset(6),
-        Word::Typedef | Word::Enum => Kind::OutsideSubset(7),
-        Word::Switch | Word::Case | Word::Default | Word::Do => Kind::OutsideSubset(8),
         Word::Atomic => Kind::OutsideSubset(9),
         Word::Extern
         | Word::Static
@@ -38,13 +42,13 @@ fn refusal_of_word(word: Word) -> Kind
     }
 }
 
-/// How a token is refused that may not stand where it does.
-fn refusal_of(kind: TokenKind) -> Kind
+/// How a terminal is refused that may not stand where it does.
+fn refusal_of(kind: TerminalKind) -> Kind
     ensures { result ≡ refusal_of kind }
 {
     match kind {
-        TokenKind::Word(word) => refusal_of_word(word),
-        TokenKind::Mark(Mark::Ellipsis) => Kind::OutsideSubset(5),
+        TerminalKind::Word(word) => refusal_of_word(word),
+        TerminalKind::Mark(Mark::Ellipsis) => Kind::OutsideSubset(5),
         _ => Kind::UnexpectedToken,
     }
 }
@@ -59,41 +63,55 @@ fn or_too_deep(kind: Kind) -> Kind
     }
 }
 
-/// The file of the grammar that the tokens of a text are, or the refusal of the first token that is none of a file's.
-///
-/// The tokens end with their one `End`, as those that `c_lex::lex` gives do.
-pub fn parse(alloc: Global, tokens: &[Token]) -> Result<Program, CompileFault>
-    requires { EndOnce tokens.now }
-    // The tokens spell this file of the grammar, within the limits, and no other.
-    ensures found { IfOk result (λ program. Parses tokens.now (view program)) }
-    // Some file begins with the tokens before the refused one, and none within the limits with it behind them.
-    ensures refused { IfRefused result (λ r. RefusesTokens tokens.now r) }
+/// The file of the grammar that the terminals are, or the refusal of the first that is none of a file's.
+fn parse_terminals(alloc: Global, terminals: &[Terminal]) -> Result<Program, CompileFault>
+    requires { EndsWithEnd terminals.now }
+    ensures found { IfOk result (λ program. ParsesTerminals terminals.now (view program)) }
+    ensures refused { IfRefused result (λ r. RefusesTerminals terminals.now r) }
 {
     let mut parser = Parser {
-        rest: tokens,
+        rest: terminals,
         count: 0,
         alloc,
     };
     match whole_file(&mut parser) {
         Ok(program) => Ok(program),
         Err(Stop::Unexpected(left)) => {
-            let token = tokens[tokens.len() - left];
+            let terminal = terminals[terminals.len() - left];
             Err(CompileFault::Refused(Refusal {
-                place: token.from,
-                kind: refusal_of(token.kind),
+                place: terminal.from,
+                kind: refusal_of(terminal.kind),
             }))
         }
         Err(Stop::Sunk(left)) => {
-            let token = tokens[tokens.len() - left];
+            let terminal = terminals[terminals.len() - left];
             Err(CompileFault::Refused(Refusal {
-                place: token.from,
-                kind: or_too_deep(refusal_of(token.kind)),
+                place: terminal.from,
+                kind: or_too_deep(refusal_of(terminal.kind)),
             }))
         }
         Err(Stop::Over(kind, left)) => {
-            let place = tokens[tokens.len() - left].from;
+            let place = terminals[terminals.len() - left].from;
             Err(CompileFault::Refused(Refusal { place, kind }))
         }
         Err(Stop::NoMemory) => Err(CompileFault::NoMemory),
+    }
+}
+
+/// The file of the grammar that the tokens of a text are, or the refusal of the first token that is none of a file's.
+///
+/// The tokens end with their one `End`, lie in the text and are as few, as those that `c_lex::lex` gives do.
+pub fn parse(alloc: Global, text: &[u8], tokens: &[Token]) -> Result<Program, CompileFault>
+    requires end { EndOnce tokens.now }
+    requires inside { All (IsInText text.now) tokens.now }
+    requires few { length tokens.now ≤ 1048577 }
+    // The tokens spell this file of the grammar, within the limits, and no other.
+    ensures found { IfOk result (λ program. Parses text.now tokens.now (view program)) }
+    // Some file begins with the tokens before the refused one, and none within the limits with it behind them.
+    ensures refused { IfRefused result (λ r. RefusesTokens text.now tokens.now r) }
+{
+    match marked(alloc, text, tokens) {
+        Ok(terminals) => parse_terminals(alloc, &terminals),
+        Err(NoMemory) => Err(CompileFault::NoMemory),
     }
 }

@@ -1,5 +1,5 @@
 -- The tree of a program as it is written, without where it lies in memory: one node a production of the grammar.
-use Rattle.std.specs.Prelude.{ℕ, List, [], ◌∷◌, Option}
+use Rattle.std.specs.Prelude.{ℕ, List, [], ◌∷◌, Option, Some, None, Bool}
 use Rattle.ak_words.specs.declared.number.Num.{Num}
 use Rattle.c_tree.specs.declared.syntax.Name.{Name}
 use Rattle.c_tree.specs.declared.syntax.Span.{Span}
@@ -47,11 +47,29 @@ mutual
     word : (place : ℕ) (w : TypeWord) → Spec
     struct : (place : ℕ) (tag : Name) → Spec
     struct_body : (place : ℕ) (tag : Name) (members : Members) → Spec
+    -- a struct without a tag
+    unnamed_struct : (place : ℕ) (members : Members) → Spec
+    -- an enum by its tag, with its enumerators, and with these and no tag (C11 6.7.2.2)
+    enum : (place : ℕ) (tag : Name) → Spec
+    enum_body : (place : ℕ) (tag : Name) (list : Enumerators) → Spec
+    unnamed_enum : (place : ℕ) (list : Enumerators) → Spec
+    -- the name of a type (C11 6.7.8)
+    alias : (n : Name) → Spec
 
   -- specifiers in a row
   pub data Specs : Type 0 where
     no_specs : Specs
     more_specs : (s : Spec) (rest : Specs) → Specs
+
+  -- an enumerator, without a value of its own or with one, and whether a comma stands behind it (C11 6.7.2.2)
+  pub data Enumerator : Type 0 where
+    enumerator : (n : Name) (comma : Bool) → Enumerator
+    valued : (n : Name) (value : Expr) (comma : Bool) → Enumerator
+
+  -- enumerators in a row: what stands between the braces of an enum (C11 6.7.2.2)
+  pub data Enumerators : Type 0 where
+    no_enumerators : Enumerators
+    more_enumerators : (e : Enumerator) (rest : Enumerators) → Enumerators
 
   -- members of a struct that are declared together (C11 6.7.2.1)
   pub data Member : Type 0 where
@@ -111,7 +129,7 @@ pub data ForFirst : Type 0 where
   first_nothing : ForFirst
 
 mutual
-  -- a statement, or a declaration among the items of a body; the place is that of the first token
+  -- a statement, a declaration among the items of a body, or a label of a switch; the place is that of the first token
   pub data Stmt : Type 0 where
     block : (place : ℕ) (items : Stmts) → Stmt
     declare : (d : Declaration) → Stmt
@@ -120,6 +138,13 @@ mutual
     if_else : (place : ℕ) (condition : Expr) (then otherwise : Stmt) → Stmt
     while : (place : ℕ) (condition : Expr) (body : Stmt) → Stmt
     for : (place : ℕ) (first : ForFirst) (condition : Option Expr) (step : Option Simple) (body : Stmt) → Stmt
+    -- do, and the statement before its condition (C11 6.8.5.2)
+    do_while : (place : ℕ) (body : Stmt) (condition : Expr) → Stmt
+    -- a switch, with the labels and statements between its braces in order (C11 6.8.4.2)
+    switch : (place : ℕ) (condition : Expr) (entries : Stmts) → Stmt
+    -- the labels of a switch
+    case_label : (place : ℕ) (value : Expr) → Stmt
+    default_label : (place : ℕ) → Stmt
     break : (place : ℕ) → Stmt
     continue : (place : ℕ) → Stmt
     return : (place : ℕ) (value : Option Expr) → Stmt
@@ -143,11 +168,10 @@ pub data Rest : Type 0 where
   function : (pointers : List Pointer) (n : Name) (params : List Param) (body : Option Body) → Rest
   variables : (declarators : List InitDeclarator) → Rest
 
--- an external declaration
-pub record External : Type 0 where
-  pub storage : List Storage
-  pub specs : List Spec
-  pub rest : Rest
+-- an external declaration: one that makes names of types (C11 6.7.8), or another
+pub data External : Type 0 where
+  types_by : (specs : List Spec) (declarators : List Declarator) → External
+  external_of : (storage : List Storage) (specs : List Spec) (rest : Rest) → External
 
 -- a file: its external declarations in order
 pub record File : Type 0 where
@@ -164,6 +188,16 @@ exprs_of (e ∷ es) = more_exprs e (exprs_of es)
 abbrev pub specs_of : List Spec → Specs
 specs_of [] = no_specs
 specs_of (s ∷ ss) = more_specs s (specs_of ss)
+
+-- an enumerator, with a value of its own where there is one
+abbrev pub enumerator_of : Name → Option Expr → Bool → Enumerator
+enumerator_of n None comma = enumerator n comma
+enumerator_of n (Some value) comma = valued n value comma
+
+-- enumerators of a list, in a row
+abbrev pub enumerators_of : List Enumerator → Enumerators
+enumerators_of [] = no_enumerators
+enumerators_of (e ∷ es) = more_enumerators e (enumerators_of es)
 
 -- declarations of members of a list, in a row
 abbrev pub members_row : List Member → Members

@@ -3,9 +3,10 @@ use Rattle.std.specs.Prelude.{ℕ, map, Option, Some, None, Box}
 use Rattle.std.specs.Option.{option_map}
 use Rattle.std.specs.declared.alloc.Global.{Global}
 use Rattle.c_tree.specs.declared.syntax.Expr.{Expr as CodeExpr, fold-Expr}
-use Rattle.c_tree.specs.declared.syntax.Expr.TheOpen.{Expr-F, Spec-F, Declarator-F, Member-F, TypeName-F}
+use Rattle.c_tree.specs.declared.syntax.Expr.TheOpen.{Expr-F, Spec-F, Declarator-F, Enumerator-F, Member-F, TypeName-F}
 use Rattle.c_tree.specs.declared.syntax.Spec.{Spec as CodeSpec, fold-Spec}
 use Rattle.c_tree.specs.declared.syntax.Declarator.{Declarator as CodeDeclarator, fold-Declarator}
+use Rattle.c_tree.specs.declared.syntax.Enumerator.{Enumerator as CodeEnumerator, fold-Enumerator}
 use Rattle.c_tree.specs.declared.syntax.Member.{Member as CodeMember, fold-Member}
 use Rattle.c_tree.specs.declared.syntax.TypeName.{TypeName as CodeTypeName, fold-TypeName}
 use Rattle.c_tree.specs.declared.syntax.InitDeclarator.{InitDeclarator as CodeInitDeclarator}
@@ -22,12 +23,13 @@ use Rattle.c_tree.specs.declared.syntax.Block.{Block as CodeBlock}
 use Rattle.c_tree.specs.declared.syntax.Rest.{Rest as CodeRest}
 use Rattle.c_tree.specs.declared.syntax.Rest.TheVariants as rests
 use Rattle.c_tree.specs.declared.syntax.External.{External as CodeExternal}
+use Rattle.c_tree.specs.declared.syntax.External.TheVariants as externals
 use Rattle.c_tree.specs.declared.syntax.Program.{Program}
 use Rattle.c_tree.specs.Syntax as trees
 
 -- one node of the code's tree, the trees in it seen already
-abbrev pub LayerOf : (Type 0 → Type 0 → Type 0 → Type 0 → Type 0 → Type 0) → Type 0
-LayerOf F = F trees.Expr trees.Spec trees.Declarator trees.Member trees.TypeName
+abbrev pub LayerOf : (Type 0 → Type 0 → Type 0 → Type 0 → Type 0 → Type 0 → Type 0) → Type 0
+LayerOf F = F trees.Expr trees.Spec trees.Declarator trees.Enumerator trees.Member trees.TypeName
 
 -- one layer of an expression, the trees in it seen already
 abbrev pub expr_layer : LayerOf Expr-F → trees.Expr
@@ -53,10 +55,19 @@ abbrev pub spec_layer : LayerOf Spec-F → trees.Spec
 spec_layer (Spec-F.Word place w) = trees.word place w
 spec_layer (Spec-F.Struct place tag) = trees.struct place tag
 spec_layer (Spec-F.StructBody place tag members) = trees.struct_body place tag (trees.members_row members.items)
+spec_layer (Spec-F.UnnamedStruct place members) = trees.unnamed_struct place (trees.members_row members.items)
+spec_layer (Spec-F.Enum place tag) = trees.enum place tag
+spec_layer (Spec-F.EnumBody place tag list) = trees.enum_body place tag (trees.enumerators_of list.items)
+spec_layer (Spec-F.UnnamedEnum place list) = trees.unnamed_enum place (trees.enumerators_of list.items)
+spec_layer (Spec-F.Alias n) = trees.alias n
 
 -- one layer of a declarator, the trees in it seen already
 abbrev pub declarator_layer : LayerOf Declarator-F → trees.Declarator
 declarator_layer d = trees.declarator d.pointers.items d.name (trees.exprs_of d.dims.items)
+
+-- one layer of an enumerator, the trees in it seen already
+abbrev pub enumerator_layer : LayerOf Enumerator-F → trees.Enumerator
+enumerator_layer e = trees.enumerator_of e.name e.value e.comma
 
 -- one layer of a declaration of members, the trees in it seen already
 abbrev pub member_layer : LayerOf Member-F → trees.Member
@@ -68,7 +79,7 @@ type_name_layer t = trees.type_name (trees.specs_of t.specs.items) t.pointers.it
 
 -- the expression that one of the code stands for
 abbrev pub expr_view : CodeExpr → trees.Expr
-expr_view = fold-Expr trees.Expr trees.Spec trees.Declarator trees.Member trees.TypeName expr_layer spec_layer declarator_layer member_layer type_name_layer
+expr_view = fold-Expr trees.Expr trees.Spec trees.Declarator trees.Enumerator trees.Member trees.TypeName expr_layer spec_layer declarator_layer enumerator_layer member_layer type_name_layer
 
 -- the expression in a box
 abbrev pub boxed_expr_view : Box CodeExpr Global → trees.Expr
@@ -76,19 +87,23 @@ boxed_expr_view b = expr_view b.value
 
 -- the specifier that one of the code stands for
 abbrev pub spec_view : CodeSpec → trees.Spec
-spec_view = fold-Spec trees.Expr trees.Spec trees.Declarator trees.Member trees.TypeName expr_layer spec_layer declarator_layer member_layer type_name_layer
+spec_view = fold-Spec trees.Expr trees.Spec trees.Declarator trees.Enumerator trees.Member trees.TypeName expr_layer spec_layer declarator_layer enumerator_layer member_layer type_name_layer
 
 -- the declarator that one of the code stands for
 abbrev pub declarator_view : CodeDeclarator → trees.Declarator
-declarator_view = fold-Declarator trees.Expr trees.Spec trees.Declarator trees.Member trees.TypeName expr_layer spec_layer declarator_layer member_layer type_name_layer
+declarator_view = fold-Declarator trees.Expr trees.Spec trees.Declarator trees.Enumerator trees.Member trees.TypeName expr_layer spec_layer declarator_layer enumerator_layer member_layer type_name_layer
+
+-- the enumerator that one of the code stands for
+abbrev pub enumerator_view : CodeEnumerator → trees.Enumerator
+enumerator_view = fold-Enumerator trees.Expr trees.Spec trees.Declarator trees.Enumerator trees.Member trees.TypeName expr_layer spec_layer declarator_layer enumerator_layer member_layer type_name_layer
 
 -- the declaration of members that one of the code stands for
 abbrev pub member_view : CodeMember → trees.Member
-member_view = fold-Member trees.Expr trees.Spec trees.Declarator trees.Member trees.TypeName expr_layer spec_layer declarator_layer member_layer type_name_layer
+member_view = fold-Member trees.Expr trees.Spec trees.Declarator trees.Enumerator trees.Member trees.TypeName expr_layer spec_layer declarator_layer enumerator_layer member_layer type_name_layer
 
 -- the name of a type that one of the code stands for
 abbrev pub type_name_view : CodeTypeName → trees.TypeName
-type_name_view = fold-TypeName trees.Expr trees.Spec trees.Declarator trees.Member trees.TypeName expr_layer spec_layer declarator_layer member_layer type_name_layer
+type_name_view = fold-TypeName trees.Expr trees.Spec trees.Declarator trees.Enumerator trees.Member trees.TypeName expr_layer spec_layer declarator_layer enumerator_layer member_layer type_name_layer
 
 -- ---- declarations
 
@@ -142,6 +157,10 @@ stmt_layer (Stmt-F.If place condition then otherwise) = if_layer place condition
 stmt_layer (Stmt-F.While place condition body) = trees.while place (expr_view condition) body.value
 stmt_layer (Stmt-F.For place first condition step body) =
     trees.for place (for_first_view first) (option_map expr_view condition) (option_map simple_view step) body.value
+stmt_layer (Stmt-F.DoWhile place body condition) = trees.do_while place body.value (expr_view condition)
+stmt_layer (Stmt-F.Switch place condition entries) = trees.switch place (expr_view condition) (trees.stmts_of entries.items)
+stmt_layer (Stmt-F.Case place value) = trees.case_label place (expr_view value)
+stmt_layer (Stmt-F.Default place) = trees.default_label place
 stmt_layer (Stmt-F.Break place) = trees.break place
 stmt_layer (Stmt-F.Continue place) = trees.continue place
 stmt_layer (Stmt-F.Return place value) = trees.return place (option_map expr_view value)
@@ -170,7 +189,8 @@ rest_view (rests.Variables declarators) = trees.variables (map init_declarator_v
 
 -- an external declaration
 abbrev pub external_view : CodeExternal → trees.External
-external_view e = record { storage = e.storage.items; specs = map spec_view e.specs.items; rest = rest_view e.rest }
+external_view (externals.Typedef specs declarators) = trees.types_by (map spec_view specs.items) (map declarator_view declarators.items)
+external_view (externals.Other storage specs rest) = trees.external_of storage.items (map spec_view specs.items) (rest_view rest)
 
 -- a program
 abbrev pub view : Program → trees.File

@@ -104,6 +104,12 @@ node_of (at place ty node) = node
 
 -- ---- statements (6.8)
 
+-- a label of a switch: a value of this type, or default; `at` is the index of the statement at which the label stands, or their
+-- number where none stands behind it (6.8.1)
+pub data Label : Type 0 where
+  case_at : (t : IntType) (value : ℤ) (at : ℕ) → Label
+  default_at : (at : ℕ) → Label
+
 -- a statement has a place in the text and what it does; update is a compound assignment, ++ or --
 mutual
   -- a statement: its place in the text, and what it does
@@ -118,6 +124,8 @@ mutual
     if_else : (condition : Expr) (then_ else_ : Stmt) → StmtNode
     while_ : (condition : Expr) (body : Stmt) → StmtNode
     for_ : (first : Stmt) (condition : Option Expr) (step body : Stmt) → StmtNode
+    do_while : (body : Stmt) (condition : Expr) → StmtNode
+    switch : (e : Expr) (labels : List Label) (body : Stmts) → StmtNode
     break_ : StmtNode
     continue_ : StmtNode
     return_ : (value : Option Expr) → StmtNode

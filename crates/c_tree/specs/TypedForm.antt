@@ -10,7 +10,7 @@ use Rattle.c_tree.specs.Typed.{Ty, void, integer, mutex, pointer, array, structu
 use Rattle.c_tree.specs.Typed.{Lib, print, malloc, free, copy, start, join, mutex_init, mutex_lock, mutex_unlock, mutex_destroy}
 use Rattle.c_tree.specs.Typed.{Expr, at, ExprNode, num, null, literal, global, local, deref, member, address_of, decay, convert, not_, binary, and_also, or_else, choose}
 use Rattle.c_tree.specs.Typed.{pointer_add, pointer_sub, pointer_diff, pointer_compare, pointer_test, call, lib, Exprs, no_exprs, more_exprs, type_of, node_of}
-use Rattle.c_tree.specs.Typed.{Stmt, at_stmt, StmtNode, block, declare, if_, if_else, while_, for_, break_, continue_, return_, assign, update, evaluate, empty, Stmts, no_stmts, more_stmts}
+use Rattle.c_tree.specs.Typed.{Stmt, at_stmt, StmtNode, block, declare, if_, if_else, while_, for_, break_, continue_, return_, assign, update, evaluate, empty, do_while, switch, Label, case_at, default_at, Stmts, no_stmts, more_stmts}
 use Rattle.c_tree.specs.Typed.{Init, zero_bytes, number, literal_at, GlobalVar, Local, Func, Typed}
 use Rattle.c_tree.specs.TypedLayout.{greatest_object, layout_size, size_in, IsSized, laid_out}
 
@@ -258,36 +258,90 @@ pub record Inside : Type 0 where
   pub params : ℕ
   pub result : Ty
 
--- a statement is well formed, in a loop or not
+-- what may stand there: a break, in a loop or a switch, and a continue, in a loop (6.8.6.2, 6.8.6.3)
+pub record Jumps : Type 0 where
+  pub breaks : Bool
+  pub continues : Bool
+
+-- directly in the body of a function: neither
+abbrev pub in_function : Jumps
+in_function = record { breaks = false; continues = false }
+
+-- in the body of a loop
+abbrev pub in_loop : Jumps
+in_loop = record { breaks = true; continues = true }
+
+-- between the braces of a switch that stands there
+abbrev pub in_switch : Jumps → Jumps
+in_switch j = record { breaks = true; continues = j.continues }
+
+-- ---- the labels of a switch (6.8.4.2)
+
+-- how many statements stand in the row
+abbrev pub stmts_count : Stmts → ℕ
+stmts_count no_stmts = 0
+stmts_count (more_stmts s rest) = stmts_count rest + 1
+
+-- no statement of the row is a declaration: a jump to a label could pass it
+abbrev pub AreNoDeclarations : Stmts → Type 0
+AreNoDeclarations no_stmts = Unit {0}
+AreNoDeclarations (more_stmts s rest) = IsNoDeclaration s × AreNoDeclarations rest
+
+-- the type of a switch's expression, after its promotion
+abbrev pub IsSwitched : Ty → Type 0
+IsSwitched (integer t) = IsPromoted t
+IsSwitched t = ⊥
+
+-- a label of a switch of this type and so many statements: a value of the type, at one of them or behind the last
+abbrev pub IsLabel : Ty → (count : ℕ) → Label → Type 0
+IsLabel t count (case_at s value n) = (t ≡ integer s) × IsInRange s value × (n ≤ count)
+IsLabel t count (default_at n) = n ≤ count
+
+-- two labels of one switch: two values, or only one of them a default
+abbrev pub Differ : Label → Label → Type 0
+Differ (case_at s a m) (case_at t b n) = a ≡ b → ⊥
+Differ (default_at m) (default_at n) = ⊥
+Differ l m = Unit {0}
+
+-- each two of the labels differ
+abbrev pub AreApart : List Label → Type 0
+AreApart [] = Unit {0}
+AreApart (l ∷ rest) = AllByRecursion (Differ l) rest × AreApart rest
+
+-- a statement is well formed, where these jumps may stand
 abbrev mutual
   -- a statement is well formed if what it does is
-  pub IsWell : Inside → (in_loop : Bool) → Stmt → Type 0
-  IsWell f in_loop (at_stmt place node) = IsWellNode f in_loop node
+  pub IsWell : Inside → (jumps : Jumps) → Stmt → Type 0
+  IsWell f j (at_stmt place node) = IsWellNode f j node
 
-  -- what a statement does is well formed: its parts are, of the types that it needs, and a break or continue is in a loop (C11 6.8)
-  pub IsWellNode : Inside → Bool → StmtNode → Type 0
-  IsWellNode f in_loop (block body) = AreWell f in_loop body
-  IsWellNode f in_loop (declare n init) = (f.params ≤ n) × IsNth f.context.locals n (λ l. IfTyped f.context (λ t. Fits t l.ty × IsScalar t) init)
-  IsWellNode f in_loop (if_ e one) = IsTyped f.context e × IsScalar (type_of e) × IsWell f in_loop one × IsNoDeclaration one
-  IsWellNode f in_loop (if_else e one other) = IsTyped f.context e × IsScalar (type_of e) × IsWell f in_loop one × IsNoDeclaration one
-      × IsWell f in_loop other × IsNoDeclaration other
-  IsWellNode f in_loop (while_ e body) = IsTyped f.context e × IsScalar (type_of e) × IsWell f true body × IsNoDeclaration body
-  IsWellNode f in_loop (for_ first e step body) = IsWell f in_loop first × IsFirst first × IfTyped f.context IsScalar e
-      × IsWell f in_loop step × IsStep step × IsWell f true body × IsNoDeclaration body
-  IsWellNode f in_loop break_ = in_loop ≡ true
-  IsWellNode f in_loop continue_ = in_loop ≡ true
-  IsWellNode f in_loop (return_ value) = IsReturned f.context f.result value
-  IsWellNode f in_loop (assign left right) = IsTyped f.context left × IsTyped f.context right × IsLvalue (node_of left) × Fits (type_of right) (type_of left)
+  -- what a statement does is well formed: its parts are, of the types that it needs, and a break or continue is
+  -- where it may stand (C11 6.8)
+  pub IsWellNode : Inside → Jumps → StmtNode → Type 0
+  IsWellNode f j (block body) = AreWell f j body
+  IsWellNode f j (declare n init) = (f.params ≤ n) × IsNth f.context.locals n (λ l. IfTyped f.context (λ t. Fits t l.ty × IsScalar t) init)
+  IsWellNode f j (if_ e one) = IsTyped f.context e × IsScalar (type_of e) × IsWell f j one × IsNoDeclaration one
+  IsWellNode f j (if_else e one other) = IsTyped f.context e × IsScalar (type_of e) × IsWell f j one × IsNoDeclaration one
+      × IsWell f j other × IsNoDeclaration other
+  IsWellNode f j (while_ e body) = IsTyped f.context e × IsScalar (type_of e) × IsWell f in_loop body × IsNoDeclaration body
+  IsWellNode f j (for_ first e step body) = IsWell f j first × IsFirst first × IfTyped f.context IsScalar e
+      × IsWell f j step × IsStep step × IsWell f in_loop body × IsNoDeclaration body
+  IsWellNode f j (do_while body e) = IsWell f in_loop body × IsNoDeclaration body × IsTyped f.context e × IsScalar (type_of e)
+  IsWellNode f j (switch e labels body) = IsTyped f.context e × IsSwitched (type_of e) × AllByRecursion (IsLabel (type_of e) (stmts_count body)) labels
+      × AreApart labels × (length labels ≤ 1024) × AreWell f (in_switch j) body × AreNoDeclarations body
+  IsWellNode f j break_ = j.breaks ≡ true
+  IsWellNode f j continue_ = j.continues ≡ true
+  IsWellNode f j (return_ value) = IsReturned f.context f.result value
+  IsWellNode f j (assign left right) = IsTyped f.context left × IsTyped f.context right × IsLvalue (node_of left) × Fits (type_of right) (type_of left)
       × IsSized f.context.structs (type_of left)
-  IsWellNode f in_loop (update left op right) = IsTyped f.context left × IsTyped f.context right × IsLvalue (node_of left)
+  IsWellNode f j (update left op right) = IsTyped f.context left × IsTyped f.context right × IsLvalue (node_of left)
       × CanUpdate f.context.structs op (type_of left) (type_of right)
-  IsWellNode f in_loop (evaluate e) = IsTyped f.context e
-  IsWellNode f in_loop empty = Unit {0}
+  IsWellNode f j (evaluate e) = IsTyped f.context e
+  IsWellNode f j empty = Unit {0}
 
   -- each statement of a row is well formed
-  pub AreWell : Inside → Bool → Stmts → Type 0
-  AreWell f in_loop no_stmts = Unit {0}
-  AreWell f in_loop (more_stmts s rest) = IsWell f in_loop s × AreWell f in_loop rest
+  pub AreWell : Inside → Jumps → Stmts → Type 0
+  AreWell f j no_stmts = Unit {0}
+  AreWell f j (more_stmts s rest) = IsWell f j s × AreWell f j rest
 
 -- ---- programs
 
@@ -320,7 +374,7 @@ pub record IsFunc (t : Typed) (f : Func) : Type 0 where
   -- 1,024 of the text, and one for each parameter whose address is taken
   pub few_locals : length f.locals ≤ 1040
   pub result : IsResult f.result
-  pub body : AreWell (record { context = context_of t f; params = f.params; result = f.result }) false f.body
+  pub body : AreWell (record { context = context_of t f; params = f.params; result = f.result }) in_function f.body
 
 -- its members lie as they must, and each has a size
 pub record IsLayout (structs : List Layout) (l : Layout) : Type 0 where

@@ -4,7 +4,7 @@ use Rattle.ak_words.specs.declared.operation.Op.TheVariants.{Add}
 use Rattle.ak_words.specs.IntType.{char, int, unsigned_long}
 use Rattle.c_tree.specs.Typed.{Ty, void, integer, pointer, array, structure, Layout, Piece, bytes, signed, unsigned, hexadecimal, character, text}
 use Rattle.c_tree.specs.Typed.{Expr, at, num, null, global, local, deref, address_of, binary, at_stmt, assign, declare, return_, no_stmts, more_stmts, Stmt, Func, Typed}
-use Rattle.c_tree.specs.TypedForm.{IsTyped, Inside, IsWell, IsLayout, IsWellFormed}
+use Rattle.c_tree.specs.TypedForm.{IsTyped, Inside, in_function, IsWell, IsLayout, IsWellFormed}
 use Rattle.c_tree.specs.TypedLayout.{size_in, align_in, laid_out}
 use Rattle.c_tree.specs.TypedPrinting.{parts}
 
@@ -89,8 +89,8 @@ pub record TypedRowsHold : Type 0 where
   pub of_array : IsTyped (among (node ∷ [])).context (pointed (array (structure 0) 2))
   pub of_no_array : IsTyped (among (named ∷ [])).context (pointed (array (structure 0) 2)) → ⊥
   -- a struct is copied once it is declared
-  pub copy : IsWell (among (node ∷ [])) false copied
-  pub no_copy : IsWell (among (named ∷ [])) false copied → ⊥
+  pub copy : IsWell (among (node ∷ [])) in_function copied
+  pub no_copy : IsWell (among (named ∷ [])) in_function copied → ⊥
   -- what is laid out with the size that it itself says it has, and is no struct of a program, since it lies in itself
   pub laid_in_itself : IsLayout inside_itself (of_eight (structure 0))
   pub not_in_itself : (t : Typed) → t.structs ≡ inside_itself → IsWellFormed t → ⊥

@@ -1,6 +1,7 @@
 -- What the code's typed trees are.
 use Rattle.std.specs.Prelude.{ℕ, List, map, Option, Some, None, Box}
 use Rattle.std.specs.declared.alloc.Global.{Global}
+use Rattle.ak_words.specs.declared.number.Num.{Num}
 use Rattle.c_tree.specs.declared.typed.CType.{CType}
 use Rattle.c_tree.specs.declared.typed.CType.TheVariants as types
 use Rattle.c_tree.specs.declared.typed.Layout.{Layout as CodeLayout}
@@ -11,6 +12,7 @@ use Rattle.c_tree.specs.declared.typed.Lib.TheVariants as libs
 use Rattle.c_tree.specs.declared.typed.Expr.{Expr as CodeExpr}
 use Rattle.c_tree.specs.declared.typed.ExprNode.{ExprNode as CodeExprNode, Row_of-Expr, end_of-Expr, more_of-Expr}
 use Rattle.c_tree.specs.declared.typed.ExprNode.TheVariants as exprs
+use Rattle.c_tree.specs.declared.typed.Label.{Label as CodeLabel}
 use Rattle.c_tree.specs.declared.typed.Stmt.{Stmt as CodeStmt}
 use Rattle.c_tree.specs.declared.typed.StmtNode.{StmtNode as CodeStmtNode, Row_of-Stmt, end_of-Stmt, more_of-Stmt, Held-StmtNode-If-2, None', Some'}
 use Rattle.c_tree.specs.declared.typed.StmtNode.TheVariants as stmts
@@ -111,6 +113,15 @@ abbrev pub optional_expr_view : Option CodeExpr → Option trees.Expr
 optional_expr_view None = None
 optional_expr_view (Some e) = Some (expr_view e)
 
+-- a label of this value, or default where there is none, at the statement of this index
+abbrev pub label_at : Option Num → ℕ → trees.Label
+label_at None index = trees.default_at index
+label_at (Some n) index = trees.case_at n.ty n.value index
+
+-- the label of a switch that one of the code stands for
+abbrev pub label_view : CodeLabel → trees.Label
+label_view l = label_at l.value l.at
+
 -- an `if`, with an `else` or without
 abbrev mutual
   -- what a statement of the code does
@@ -121,6 +132,8 @@ abbrev mutual
   stmt_node_view (stmts.While' condition p place node) = trees.while_ (expr_view condition) (trees.at_stmt place (stmt_node_view node))
   stmt_node_view (stmts.For' p place node condition q r b s t c) =
       trees.for_ (trees.at_stmt place (stmt_node_view node)) (optional_expr_view condition) (trees.at_stmt r (stmt_node_view b)) (trees.at_stmt t (stmt_node_view c))
+  stmt_node_view (stmts.DoWhile' p place node condition) = trees.do_while (trees.at_stmt place (stmt_node_view node)) (expr_view condition)
+  stmt_node_view (stmts.Switch' e labels shape body) = trees.switch (expr_view e) (map label_view labels.items) (stmt_row_view body)
   stmt_node_view stmts.Break = trees.break_
   stmt_node_view stmts.Continue = trees.continue_
   stmt_node_view (stmts.Return value) = trees.return_ (optional_expr_view value)

@@ -75,20 +75,52 @@ pub enum Spec {
         place: u32,
         word: TypeWord,
     },
-    /// `"struct" NAME`
+    /// `"struct" TNAME`
     Struct {
         place: u32,
         tag: Name,
     },
-    /// `"struct" NAME "{" member { member } "}"`
+    /// `"struct" TNAME "{" member { member } "}"`
     StructBody {
         place: u32,
         tag: Name,
         members: Vec<Member>,
     },
+    /// `"struct" "{" member { member } "}"`
+    UnnamedStruct {
+        place: u32,
+        members: Vec<Member>,
+    },
+    /// `"enum" TNAME`
+    Enum {
+        place: u32,
+        tag: Name,
+    },
+    /// `"enum" TNAME "{" list "}"`
+    EnumBody {
+        place: u32,
+        tag: Name,
+        list: Vec<Enumerator>,
+    },
+    /// `"enum" "{" list "}"`
+    UnnamedEnum {
+        place: u32,
+        list: Vec<Enumerator>,
+    },
+    /// `TYPENAME`: a name that a typedef declared.
+    Alias(Name),
 }
 
-/// `specs ptr NAME dims { "," ptr NAME dims } ";"`: one declarator or more.
+/// An enumerator of a `list`, `NAME [ "=" expr ]`, and whether a comma stands behind it (C11 6.7.2.2).
+#[derive(Drop)]
+#[cycle(syntax)]
+pub struct Enumerator {
+    pub name: Name,
+    pub value: Option<Expr>,
+    pub comma: bool,
+}
+
+/// `specs ptr TNAME dims { "," ptr TNAME dims } ";"`: one declarator or more.
 #[derive(Drop)]
 #[cycle(syntax)]
 pub struct Member {
@@ -96,7 +128,7 @@ pub struct Member {
     pub declarators: Vec<Declarator>,
 }
 
-/// `ptr NAME dims`: a size for each pair of brackets.
+/// `ptr NAME dims`, and of a member or in a typedef `ptr TNAME dims`: a size for each pair of brackets.
 #[derive(Drop)]
 #[cycle(syntax)]
 pub struct Declarator {
@@ -226,13 +258,13 @@ pub enum Expr {
         base: Box<Expr>,
         index: Box<Expr>,
     },
-    /// `postfix "." NAME`
+    /// `postfix "." TNAME`
     Member {
         place: u32,
         base: Box<Expr>,
         member: Name,
     },
-    /// `postfix "->" NAME`
+    /// `postfix "->" TNAME`
     Arrow {
         place: u32,
         base: Box<Expr>,
@@ -328,7 +360,7 @@ pub enum ForFirst {
     Nothing,
 }
 
-/// `stmt`, or a `decl` of a body, with the place of its first token.
+/// `stmt`, a `decl` of a body or a `label` of a switch, with the place of its first token.
 #[derive(Drop)]
 pub enum Stmt {
     /// `"{" { decl | stmt } "}"`
@@ -362,6 +394,27 @@ pub enum Stmt {
         condition: Option<Expr>,
         step: Option<Simple>,
         body: Box<Stmt>,
+    },
+    /// `"do" stmt "while" "(" expr ")" ";"`
+    DoWhile {
+        place: u32,
+        body: Box<Stmt>,
+        condition: Expr,
+    },
+    /// `"switch" "(" expr ")" "{" { label | stmt } "}"`
+    Switch {
+        place: u32,
+        condition: Expr,
+        entries: Vec<Stmt>,
+    },
+    /// `"case" expr ":"`: only among the entries of a switch.
+    Case {
+        place: u32,
+        value: Expr,
+    },
+    /// `"default" ":"`: only among the entries of a switch.
+    Default {
+        place: u32,
     },
     /// `"break" ";"`
     Break {
@@ -405,12 +458,20 @@ pub enum Rest {
     Variables(Vec<InitDeclarator>),
 }
 
-/// `external`: `{ "static" | "inline" } specs` and the rest.
+/// `external`
 #[derive(Drop)]
-pub struct External {
-    pub storage: Vec<Storage>,
-    pub specs: Vec<Spec>,
-    pub rest: Rest,
+pub enum External {
+    /// `"typedef" specs ptr TNAME dims { "," ptr TNAME dims } ";"`: one declarator or more.
+    Typedef {
+        specs: Vec<Spec>,
+        declarators: Vec<Declarator>,
+    },
+    /// `{ "static" | "inline" } specs` and the rest.
+    Other {
+        storage: Vec<Storage>,
+        specs: Vec<Spec>,
+        rest: Rest,
+    },
 }
 
 /// `file`: the external declarations in order.

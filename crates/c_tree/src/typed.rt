@@ -94,6 +94,15 @@ pub struct Func {
     pub body: Vec<Stmt>,
 }
 
+/// A label of a `switch` (C11 6.8.1).
+#[derive(Clone, Copy, Debug)]
+pub struct Label {
+    /// Its value, of the type of the switch's expression; without one it is the `default`.
+    pub value: Option<Num>,
+    /// The index of the statement at which it stands, or their number where none stands behind it.
+    pub at: u32,
+}
+
 /// A statement or declaration, with its place in the text (C11 6.8).
 #[cycle(stmt)]
 #[derive(Drop)]
@@ -118,6 +127,10 @@ pub enum StmtNode {
     While(Expr, Box<Stmt>),
     /// A `for`: its first clause, its condition, its step and its body.
     For(Box<Stmt>, Option<Expr>, Box<Stmt>, Box<Stmt>),
+    /// A `do`, with its body and its condition.
+    DoWhile(Box<Stmt>, Expr),
+    /// A `switch`, with its labels in order and the statements between its braces.
+    Switch(Expr, Vec<Label>, Vec<Stmt>),
     /// A `break`.
     Break,
     /// A `continue`.

@@ -1,24 +1,24 @@
 -- Parts of productions, each of which the code reads by a function of its own, and what it chooses by.
 use Rattle.std.specs.Prelude.{ℕ, ◌+◌, length, List, [], ◌∷◌, Option, Err, Bool, true, false, map}
 use Rattle.std.specs.Option.{option_map}
-use Rattle.c_lex.specs.declared.token.Token.{Token}
+use Rattle.c_grammar.specs.declared.terminal.Terminal.{Terminal}
 use Rattle.c_lex.specs.declared.token.Word.TheVariants as words
 use Rattle.c_lex.specs.declared.token.Mark.TheVariants as marks
 use Rattle.c_tree.specs.declared.syntax.Block.{Block}
 use Rattle.c_tree.specs.declared.syntax.Name.{Name}
 use Rattle.c_tree.specs.declared.syntax.Pointer.{Pointer}
 use Rattle.c_tree.specs.declared.syntax.Storage.{Storage}
-use Rattle.c_tree.specs.Syntax.{Expr, InitDeclarator, Declaration, ParamDim, Param, Simple, before, ForFirst, first_simple, first_nothing, Stmt, declare, empty, break, continue, return, simple, declarator, exprs_of, Rest, function, variables, External, File}
+use Rattle.c_tree.specs.Syntax.{Expr, InitDeclarator, Declaration, ParamDim, Param, Simple, before, ForFirst, first_simple, first_nothing, Stmt, declare, empty, case_label, default_label, break, continue, return, simple, declarator, exprs_of, Rest, function, variables, External, external_of, File}
 use Rattle.c_tree.specs.SyntaxViews.{boxed_expr_view, stmt_view}
 use Rattle.c_parse.specs.declared.building.ForHead.{ForHead}
 use Rattle.c_parse.specs.declared.starts.TailStart.{TailStart}
 use Rattle.c_parse.specs.declared.starts.TailStart.TheVariants as tails
 use Rattle.c_parse.specs.declared.starts.StmtStart.{StmtStart}
 use Rattle.c_parse.specs.declared.starts.StmtStart.TheVariants as stmts
-use Rattle.c_grammar.specs.Grammar.{stars}
+use Rattle.c_grammar.specs.Grammar.{stars, as_name}
 use Rattle.c_grammar.specs.inner.Readers.{Reading, unexpected, stop, got, Reads, ◌>>=◌, nothing, ◌▸◌, ◌&◌, made, full, maybe, links, chain, pushed, row}
 use Rattle.c_grammar.specs.inner.Tokens.{tok, mark_is, word_is, mark_place, word_place, name_of, step_of, storage_of, is_mark, is_word, begins_type, begins_expr, begins_simple, is_storage}
-use Rattle.c_grammar.specs.inner.Reading.{level_at, commas, either, specs, dims, init_by, bare_pointers, declared, bare_declared, value, initialised, declaration, simple_of, simple_tail, is_step, simply, first, stmt_at, begins_item, is_name, param_dim, param, params, body, named_rest, begins_external, external, file}
+use Rattle.c_grammar.specs.inner.Reading.{level_at, commas, either, specs, dims, init_by, bare_pointers, declared, bare_declared, value, initialised, declaration, simple_of, simple_tail, is_step, simply, first, stmt_at, begins_item, is_label, label, begins_entry, is_name, param_dim, param, params, body, named_rest, external_rest, begins_external, external, file}
 use Rattle.c_grammar.specs.inner.Reading as reading
 use Rattle.c_parse.specs.inner.Boxes.{boxed_simple_view, boxed_first_view}
 
@@ -30,21 +30,21 @@ initialiser braces room = maybe (is_mark marks.Assign) (value room (level_at bra
 
 -- ptr NAME dims [ "=" expr ], behind specifiers
 abbrev pub first_initialised : Bool → ℕ → ℕ → Reads InitDeclarator
-first_initialised braces room deeper = initialised room (level_at braces room) (bare_declared room deeper (level_at braces deeper))
+first_initialised braces room deeper = initialised room (level_at braces room) (bare_declared as_name room deeper (level_at braces deeper))
 
 -- "," ptr NAME dims [ "=" expr ]
 abbrev pub next_initialised : Bool → ℕ → ℕ → Reads InitDeclarator
-next_initialised braces room deeper = made (λ (_, a). a) (tok room (mark_is marks.Comma) & initialised room (level_at braces room) (declared room deeper (level_at braces deeper)))
+next_initialised braces room deeper = made (λ (_, a). a) (tok room (mark_is marks.Comma) & initialised room (level_at braces room) (declared as_name room deeper (level_at braces deeper)))
 
 -- these, behind the ones that were read
 abbrev pub more_initialised : Bool → ℕ → ℕ → List InitDeclarator → Reads (List InitDeclarator)
-more_initialised braces room deeper = links (is_mark marks.Comma) (λ _. next_initialised braces room deeper) pushed
+more_initialised braces room deeper = links (λ _. is_mark marks.Comma) (λ _. next_initialised braces room deeper) pushed
 
 -- specs ptr NAME dims rest, where there is room
 abbrev pub declaration_by : ℕ → ℕ → Reads Declaration
 declaration_by room deeper = made (λ (ss, (ds, _)). record { specs = ss; declarators = ds })
     (specs false room deeper (level_at false deeper)
-    & commas room (first_initialised false room deeper) (initialised room (level_at false room) (declared room deeper (level_at false deeper)))
+    & commas room (first_initialised false room deeper) (initialised room (level_at false room) (declared as_name room deeper (level_at false deeper)))
     & tok room (mark_is marks.Semicolon))
 
 -- ---- statements
@@ -116,6 +116,22 @@ item_at room = either begins_type (made declare (declaration room)) (stmt_at roo
 abbrev pub item_row : ℕ → Reads (List Stmt)
 item_row room = row begins_item (item_at room)
 
+-- "case" expr ":" (C11 6.8.1)
+abbrev pub case_at : ℕ → Reads Stmt
+case_at room = made (λ (place, (e, _)). case_label place e) (tok room (word_place words.Case) & full (level_at false room).expr & tok room (mark_is marks.Colon))
+
+-- "default" ":" (C11 6.8.1)
+abbrev pub default_at : ℕ → Reads Stmt
+default_at room = made (λ (place, _). default_label place) (tok room (word_place words.Default) & tok room (mark_is marks.Colon))
+
+-- label | stmt
+abbrev pub entry_at : ℕ → Reads Stmt
+entry_at room = either is_label (label room) (stmt_at room)
+
+-- { label | stmt }
+abbrev pub entry_row : ℕ → Reads (List Stmt)
+entry_row room = row begins_entry (entry_at room)
+
 -- [ "else" stmt ]
 abbrev pub otherwise : ℕ → Reads Stmt → Reads (Option Stmt)
 otherwise room inner = maybe (is_word words.Else) (made (λ (_, t). t) (tok room (word_is words.Else) & inner))
@@ -139,6 +155,8 @@ stmt_start_view stmts.Empty = reading.AnEmpty
 stmt_start_view stmts.If = reading.AnIf
 stmt_start_view stmts.While = reading.AWhile
 stmt_start_view stmts.For = reading.AFor
+stmt_start_view stmts.Do = reading.ADo
+stmt_start_view stmts.Switch = reading.ASwitch
 stmt_start_view stmts.Break = reading.ABreak
 stmt_start_view stmts.Continue = reading.AContinue
 stmt_start_view stmts.Return = reading.AReturn
@@ -187,12 +205,16 @@ declared_rest = made (λ (_, (_, r)). r) (bare_pointers 129 ▸ λ ps. tok 129 n
 abbrev pub storage_row : Reads (List Storage)
 storage_row = row is_storage (tok 129 storage_of)
 
+-- { "static" | "inline" } specs and the rest
+abbrev pub other_external : Reads External
+other_external = made (λ (storage, (ss, r)). external_of storage ss r) (storage_row & specs true 129 128 (level_at true 128) & external_rest)
+
 -- { external }
 abbrev pub external_row : Reads (List External)
 external_row = row begins_external external
 
 -- a file, and nothing behind it
-abbrev pub nothing_behind : File → ℕ → List Token → Reading File
+abbrev pub nothing_behind : File → ℕ → List Terminal → Reading File
 nothing_behind f c [] = got f c []
 nothing_behind f c (t ∷ ts) = Err (stop unexpected (length (t ∷ ts)))
 

@@ -35,6 +35,6 @@ returns-clause-reads c =
 
 pub declarators-init : goal.declarators-init
 declarators-init c = record {
-  going = rw (c.in_ok-put_inner.ensures, c.new-all.ensures.items) (begins (is_mark Comma) (λ _. next_initialised c.args.braces c.args.room (c.args.room - 1)) pushed (boxed_initialised_view c.args.first ∷ []) c.args.parser.now.count c.args.parser.now.rest.now);
+  going = rw (c.in_ok-put_inner.ensures, c.new-all.ensures.items) (begins (λ _. is_mark Comma) (λ _. next_initialised c.args.braces c.args.room (c.args.room - 1)) pushed (boxed_initialised_view c.args.first ∷ []) c.args.parser.now.count c.args.parser.now.rest.now);
   keeps = omega arith;
 }

@@ -10,7 +10,7 @@ use Rattle.c_parse.proofs.declarations.more_initialised.Given as goal
 
 abbrev pub invariant-declarators : goal.invariant-declarators
 invariant-declarators l = record {
-  going : Going (is_mark Comma) (λ _. next_initialised l.braces l.room (l.room - 1)) pushed (more_initialised l.braces l.room (l.room - 1) (boxed_initialised_view l.fn.first ∷ []) l.fn.parser.count l.fn.parser.rest.now) (map init_declarator_view l.all.items) l.parser.count l.parser.rest.now;
+  going : Going (λ _. is_mark Comma) (λ _. next_initialised l.braces l.room (l.room - 1)) pushed (more_initialised l.braces l.room (l.room - 1) (boxed_initialised_view l.fn.first ∷ []) l.fn.parser.count l.fn.parser.rest.now) (map init_declarator_view l.all.items) l.parser.count l.parser.rest.now;
   keeps : length l.parser.rest.now ≤ length l.fn.parser.rest.now;
 }
 

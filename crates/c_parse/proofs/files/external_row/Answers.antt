@@ -7,7 +7,7 @@ use Rattle.c_parse.proofs.files.external_row.Goals as goal
 
 pub externals-init : goal.externals-init
 externals-init c = record {
-  going = rw c.new-all.ensures.items (begins begins_external (λ _. external) pushed [] c.args.parser.now.count c.args.parser.now.rest.now);
+  going = rw c.new-all.ensures.items (begins (λ _. begins_external) (λ _. external) pushed [] c.args.parser.now.count c.args.parser.now.rest.now);
   keeps = omega arith;
 }
 

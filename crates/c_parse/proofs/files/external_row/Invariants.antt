@@ -8,7 +8,7 @@ use Rattle.c_parse.proofs.files.external_row.Given as goal
 
 abbrev pub invariant-externals : goal.invariant-externals
 invariant-externals l = record {
-  going : Going begins_external (λ _. external) pushed (external_row l.fn.parser.count l.fn.parser.rest.now) (map external_view l.all.items) l.parser.count l.parser.rest.now;
+  going : Going (λ _. begins_external) (λ _. external) pushed (external_row l.fn.parser.count l.fn.parser.rest.now) (map external_view l.all.items) l.parser.count l.parser.rest.now;
   keeps : length l.parser.rest.now ≤ length l.fn.parser.rest.now;
 }
 

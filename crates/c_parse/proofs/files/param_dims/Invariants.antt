@@ -10,7 +10,7 @@ use Rattle.c_parse.proofs.files.param_dims.Given as goal
 
 abbrev pub invariant-dims : goal.invariant-dims
 invariant-dims l = record {
-  going : Going (is_mark OpenBracket) (λ front. param_dim 127 (l.before + length front)) pushed (param_dims 127 l.before l.fn.parser.count l.fn.parser.rest.now) (map param_dim_view l.all.items) l.parser.count l.parser.rest.now;
+  going : Going (λ _. is_mark OpenBracket) (λ front. param_dim 127 (l.before + length front)) pushed (param_dims 127 l.before l.fn.parser.count l.fn.parser.rest.now) (map param_dim_view l.all.items) l.parser.count l.parser.rest.now;
   keeps : length l.parser.rest.now ≤ length l.fn.parser.rest.now;
 }
 

@@ -35,6 +35,6 @@ returns-clause-reads c =
 
 pub params-init : goal.params-init
 params-init c = record {
-  going = rw c.in_ok-all.ensures (begins_behind (made (λ a. a ∷ []) (param 128 127)) (is_mark Comma) (λ _. next_param) pushed _ _ _ _ _ (rw c.in_ok-first.ensures.reads refl));
+  going = rw c.in_ok-all.ensures (begins_behind (made (λ a. a ∷ []) (param 128 127)) (λ _. is_mark Comma) (λ _. next_param) pushed _ _ _ _ _ (rw c.in_ok-first.ensures.reads refl));
   takes = c.in_ok-first.ensures.takes;
 }

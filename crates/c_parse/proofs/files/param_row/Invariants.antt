@@ -9,7 +9,7 @@ use Rattle.c_parse.proofs.files.param_row.Given as goal
 
 abbrev pub invariant-params : goal.invariant-params
 invariant-params l = record {
-  going : Going (is_mark Comma) (λ _. next_param) pushed (param_row l.fn.parser.count l.fn.parser.rest.now) (map param_view l.all.items) l.parser.count l.parser.rest.now;
+  going : Going (λ _. is_mark Comma) (λ _. next_param) pushed (param_row l.fn.parser.count l.fn.parser.rest.now) (map param_view l.all.items) l.parser.count l.parser.rest.now;
   takes : length l.parser.rest.now < length l.fn.parser.rest.now;
 }
 

@@ -14,6 +14,6 @@ storages-preserved c =
 
 pub storages-init : goal.storages-init
 storages-init c = record {
-  going = rw c.new-all.ensures.items (begins is_storage (λ _. tok 129 storage_of) pushed [] c.args.parser.now.count c.args.parser.now.rest.now);
+  going = rw c.new-all.ensures.items (begins (λ _. is_storage) (λ _. tok 129 storage_of) pushed [] c.args.parser.now.count c.args.parser.now.rest.now);
   keeps = omega arith;
 }

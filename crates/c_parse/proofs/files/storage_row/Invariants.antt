@@ -7,7 +7,7 @@ use Rattle.c_parse.proofs.files.storage_row.Given as goal
 
 abbrev pub invariant-storages : goal.invariant-storages
 invariant-storages l = record {
-  going : Going is_storage (λ _. tok 129 storage_of) pushed (storage_row l.fn.parser.count l.fn.parser.rest.now) l.all.items l.parser.count l.parser.rest.now;
+  going : Going (λ _. is_storage) (λ _. tok 129 storage_of) pushed (storage_row l.fn.parser.count l.fn.parser.rest.now) l.all.items l.parser.count l.parser.rest.now;
   keeps : length l.parser.rest.now ≤ length l.fn.parser.rest.now;
 }
 

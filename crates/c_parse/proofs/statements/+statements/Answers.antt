@@ -3,15 +3,15 @@ use Rattle.std.proofs.lemmas.List.{map-append}
 use Rattle.std.proofs.lemmas.Result.{err_from_is_err_and}
 use Rattle.c_tree.specs.SyntaxViews.{boxed_stmt_view}
 use Rattle.c_grammar.specs.inner.Readers.{pushed}
-use Rattle.c_grammar.specs.inner.Reading.{begins_item, ABlock, AnEmpty, AnIf, AWhile, AFor, ABreak, AContinue, AReturn, ASimple, stmt_by, stmt_at}
-use Rattle.c_parse.specs.inner.Parts.{item_at, empty_at, break_at, continue_at, return_at, simple_stmt_at}
+use Rattle.c_grammar.specs.inner.Reading.{begins_item, begins_entry, ADo, ASwitch, ABlock, AnEmpty, AnIf, AWhile, AFor, ABreak, AContinue, AReturn, ASimple, stmt_by, stmt_at}
+use Rattle.c_parse.specs.inner.Parts.{item_at, entry_at, empty_at, break_at, continue_at, return_at, simple_stmt_at}
 use Rattle.parse_expressions.proofs.CodeLoops.{begins, goes, ends, end_stops, link_stops}
 use Rattle.c_parse.proofs.CodeStatements.{moves_as, stmt_begins}
 use Rattle.c_parse.proofs.statements.+statements.Goals as goal
 
 pub item_row-items-init : goal.item_row-items-init
 item_row-items-init t c = record {
-  going = rw c.new-all.ensures.items (begins begins_item (λ _. item_at c.args.room) pushed [] c.args.parser.now.count c.args.parser.now.rest.now);
+  going = rw c.new-all.ensures.items (begins (λ _. begins_item) (λ _. item_at c.args.room) pushed [] c.args.parser.now.count c.args.parser.now.rest.now);
   keeps = omega arith;
 }
 
@@ -92,3 +92,45 @@ stmt-returns-in-Return-clause-reads t c =
     let start = rw c.in-Return.is at c.in_ok-stmt_start.ensures in
     let same = stmt_begins c.args.room (omega (arith, c.if-room-eq0.false)) AReturn c.args.parser.now.count c.args.parser.now.rest.now start in
     moves_as boxed_stmt_view (stmt_at c.args.room) (return_at c.args.room) c.args.parser.now c.return_back.new.parser c.return_back.result same c.return_back.ensures.reads
+
+pub entry_row-entries-init : goal.entry_row-entries-init
+entry_row-entries-init t c = record {
+  going = rw c.new-all.ensures.items (begins (λ _. begins_entry) (λ _. entry_at c.args.room) pushed [] c.args.parser.now.count c.args.parser.now.rest.now);
+  keeps = omega arith;
+}
+
+pub entry_row-entries-preserved : goal.entry_row-entries-preserved
+entry_row-entries-preserved t c =
+    let open_ = rw c.if-branch.true at c.in_ok-is_entry_next.ensures in
+    record {
+      going = rw (c.in_ok-put_inner.ensures, map-append) (goes _ _ _ _ _ _ _ _ _ _ c.entries.invariant.going open_ c.in_ok-entry.ensures.reads c.in_ok-entry.ensures.takes);
+      keeps = omega (arith, c.in_ok-entry.ensures.takes, c.entries.invariant.keeps);
+    }
+
+pub entry_row-returns-in_err-is_entry_next-clause-reads : goal.entry_row-returns-in_err-is_entry_next-clause-reads
+entry_row-returns-in_err-is_entry_next-clause-reads t c =
+    let p = err_from_is_err_and c.from_residual.result c.from_residual.ensures.1 in
+    rw (p.1, p.2) (end_stops _ _ _ _ _ _ _ _ c.entries.invariant.going c.in_err-is_entry_next.ensures)
+
+pub entry_row-returns-in_err-entry-clause-reads : goal.entry_row-returns-in_err-entry-clause-reads
+entry_row-returns-in_err-entry-clause-reads t c =
+    let open_ = rw c.if-branch.true at c.in_ok-is_entry_next.ensures in
+    let p = err_from_is_err_and c.from_residual-in_err-entry.result c.from_residual-in_err-entry.ensures.1 in
+    rw (p.1, p.2) (link_stops _ _ _ _ _ _ _ _ c.entries.invariant.going open_ c.in_err-entry.ensures.reads)
+
+pub entry_row-returns-clause-reads : goal.entry_row-returns-clause-reads
+entry_row-returns-clause-reads t c =
+    let closed = rw c.if-branch.false at c.in_ok-is_entry_next.ensures in
+    ends _ _ _ _ _ _ _ c.entries.invariant.going closed
+
+pub stmt-returns-in-Do-clause-reads : goal.stmt-returns-in-Do-clause-reads
+stmt-returns-in-Do-clause-reads t c =
+    let start = rw c.in-Do.is at c.in_ok-stmt_start.ensures in
+    let same = stmt_begins c.args.room (omega (arith, c.if-room-eq0.false)) ADo c.args.parser.now.count c.args.parser.now.rest.now start in
+    moves_as boxed_stmt_view (stmt_at c.args.room) (stmt_by c.args.room (c.args.room - 1) (stmt_at (c.args.room - 1)) ADo) c.args.parser.now c.do_stmt.new.parser c.do_stmt.result same c.do_stmt.ensures.reads
+
+pub stmt-returns-in-Switch-clause-reads : goal.stmt-returns-in-Switch-clause-reads
+stmt-returns-in-Switch-clause-reads t c =
+    let start = rw c.in-Switch.is at c.in_ok-stmt_start.ensures in
+    let same = stmt_begins c.args.room (omega (arith, c.if-room-eq0.false)) ASwitch c.args.parser.now.count c.args.parser.now.rest.now start in
+    moves_as boxed_stmt_view (stmt_at c.args.room) (stmt_by c.args.room (c.args.room - 1) (stmt_at (c.args.room - 1)) ASwitch) c.args.parser.now c.switch_stmt.new.parser c.switch_stmt.result same c.switch_stmt.ensures.reads

@@ -1,65 +1,17 @@
-use Rattle.std.proofs.Common.{sym, subst, arith}
-use Rattle.c_lex.specs.declared.token.Token.{Token}
-use Rattle.c_grammar.specs.Language.{refusal_of, or_too_deep, RefusesTokens}
-use Rattle.c_grammar.specs.inner.Readers.{unexpected, sunk, past}
-use Rattle.c_parse.proofs.CodeFiles.{whole_parses, whole_within, whole_refuses}
+use Rattle.c_parse.proofs.CodeTexts.{ends_told, found_told, refused_told}
 use Rattle.c_parse.proofs.whole.parse.Goals as goal
 
-pub overflow_sub-token : goal.overflow_sub-token
-overflow_sub-token c =
-    let read = rw c.in-Err-Unexpected.field-0-is at c.in-Err-Unexpected.ensures in
-    (whole_within c.args.tokens.now c.requires unexpected c.in-Err-Unexpected.left read).1
+-- the terminals end as the tokens do
+pub parse_terminals-requires : goal.parse_terminals-requires
+parse_terminals-requires c = rw (c.deref.ensures.value, c.in-Ok.ensures) (ends_told c.args.text.now c.args.tokens.now c.requires.end)
 
-pub bounds-tokens-tokens : goal.bounds-tokens-tokens
-bounds-tokens-tokens c =
-    let read = rw c.in-Err-Unexpected.field-0-is at c.in-Err-Unexpected.ensures in
-    let within = whole_within c.args.tokens.now c.requires unexpected c.in-Err-Unexpected.left read in
-    omega (arith, within.0, within.1)
-
-pub overflow_sub-token-in-Err-Sunk : goal.overflow_sub-token-in-Err-Sunk
-overflow_sub-token-in-Err-Sunk c =
-    let read = rw c.in-Err-Sunk.field-0-is at c.in-Err-Sunk.ensures in
-    (whole_within c.args.tokens.now c.requires sunk c.in-Err-Sunk.left read).1
-
-pub bounds-tokens-tokens-in-Err-Sunk : goal.bounds-tokens-tokens-in-Err-Sunk
-bounds-tokens-tokens-in-Err-Sunk c =
-    let read = rw c.in-Err-Sunk.field-0-is at c.in-Err-Sunk.ensures in
-    let within = whole_within c.args.tokens.now c.requires sunk c.in-Err-Sunk.left read in
-    omega (arith, within.0, within.1)
-
-pub overflow_sub-place : goal.overflow_sub-place
-overflow_sub-place c =
-    let read = rw c.in-Err-Over.field-0-is at c.in-Err-Over.ensures in
-    (whole_within c.args.tokens.now c.requires (past c.in-Err-Over.kind) c.in-Err-Over.left read).1
-
-pub bounds-tokens-tokens-in-Err-Over : goal.bounds-tokens-tokens-in-Err-Over
-bounds-tokens-tokens-in-Err-Over c =
-    let read = rw c.in-Err-Over.field-0-is at c.in-Err-Over.ensures in
-    let within = whole_within c.args.tokens.now c.requires (past c.in-Err-Over.kind) c.in-Err-Over.left read in
-    omega (arith, within.0, within.1)
-
-pub bounds-tokens-tokens-in-Err-Over-2 : goal.bounds-tokens-tokens-in-Err-Over-2
-bounds-tokens-tokens-in-Err-Over-2 c =
-    let read = rw c.in-Err-Over.field-0-is at c.in-Err-Over.ensures in
-    let within = whole_within c.args.tokens.now c.requires (past c.in-Err-Over.kind) c.in-Err-Over.left read in
-    omega (arith, within.0, within.1)
-
+-- what is said of the terminals is said of the tokens
 pub returns-in-Ok-clause-found : goal.returns-in-Ok-clause-found
-returns-in-Ok-clause-found c = whole_parses c.args.tokens.now _ _ _ c.in-Ok.ensures
+returns-in-Ok-clause-found c =
+    let told = rw (c.deref.ensures.value, c.in-Ok.ensures) at c.parse_terminals.ensures.found in
+    found_told c.args.text.now c.args.tokens.now c.parse_terminals.result told
 
-pub returns-in-Err-Unexpected-clause-refused : goal.returns-in-Err-Unexpected-clause-refused
-returns-in-Err-Unexpected-clause-refused c =
-    let read = rw c.in-Err-Unexpected.field-0-is at c.in-Err-Unexpected.ensures in
-    let P : Token → Type 0 = λ t. RefusesTokens c.args.tokens.now (record { place = t.from; kind = refusal_of t.kind }) in
-    rw c.refusal_of.ensures (subst P (sym c.index-tokens-tokens.is) (whole_refuses c.args.tokens.now c.requires unexpected c.in-Err-Unexpected.left read c.index-tokens-tokens.result))
-
-pub returns-in-Err-Sunk-clause-refused : goal.returns-in-Err-Sunk-clause-refused
-returns-in-Err-Sunk-clause-refused c =
-    let read = rw c.in-Err-Sunk.field-0-is at c.in-Err-Sunk.ensures in
-    let P : Token → Type 0 = λ t. RefusesTokens c.args.tokens.now (record { place = t.from; kind = or_too_deep (refusal_of t.kind) }) in
-    rw (c.or_too_deep.ensures, c.refusal_of-in-Err-Sunk.ensures) (subst P (sym c.index-tokens-tokens-in-Err-Sunk.is) (whole_refuses c.args.tokens.now c.requires sunk c.in-Err-Sunk.left read c.index-tokens-tokens-in-Err-Sunk.result))
-
-pub returns-in-Err-Over-clause-refused : goal.returns-in-Err-Over-clause-refused
-returns-in-Err-Over-clause-refused c =
-    let read = rw c.in-Err-Over.field-0-is at c.in-Err-Over.ensures in
-    whole_refuses c.args.tokens.now c.requires (past c.in-Err-Over.kind) c.in-Err-Over.left read c.index-tokens-tokens-in-Err-Over.result
+pub returns-in-Ok-clause-refused : goal.returns-in-Ok-clause-refused
+returns-in-Ok-clause-refused c =
+    let told = rw (c.deref.ensures.value, c.in-Ok.ensures) at c.parse_terminals.ensures.refused in
+    refused_told c.args.text.now c.args.tokens.now c.parse_terminals.result told
