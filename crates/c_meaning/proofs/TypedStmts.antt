@@ -1,5 +1,5 @@
 -- Statements come out well, and so does all that follows them.
-use Rattle.std.proofs.Common.{◌≡◌, ℕ, Bool, true, false, List, [], length, Option, Some, None, refl, sym, ap, subst, ◌∙◌}
+use Rattle.std.proofs.Common.{◌≡◌, ℕ, zero, suc, Bool, true, false, List, [], length, Option, Some, None, refl, sym, ap, subst, ◌∙◌}
 use Rattle.std.specs.Prelude.{if◌then◌else◌, slice_get}
 use Rattle.ak_words.specs.declared.operation.Op.{Op}
 use Rattle.ak_words.specs.declared.rule.Rule.TheVariants.{C4}
@@ -11,12 +11,13 @@ use Rattle.block_store.specs.declared.values.Value.{Value}
 use Rattle.block_store.specs.Actions as actions
 use Rattle.c_tree.specs.Typed as tree
 use Rattle.c_tree.specs.TypedLayout.{size_in, align_in}
-use Rattle.c_tree.specs.TypedForm.{IsScalar, Fits, CanUpdate, IsNth, IsLvalue, IsTyped, IsTypedNode, IfTyped, IsReturned, IsWell, IsWellNode, AreWell}
+use Rattle.c_tree.specs.TypedForm.{IsScalar, Fits, CanUpdate, IsNth, IsLvalue, IsTyped, IsTypedNode, IfTyped, IsReturned, Jumps, in_function, in_loop, in_switch, IsSwitched, IsWell, IsWellNode, AreWell}
 use Rattle.c_meaning.specs.Control as control
 use Rattle.c_meaning.specs.Control.{Variable, Loop, Update, Callee, dropped, wanted}
 use Rattle.c_meaning.specs.Values.{access_of_type, is_scalar, truth_of, updated}
-use Rattle.c_meaning.specs.Turns.{Does, Way, after_call, local_at, is_block, variable_at, with_variable, ended_local, ended_locals, made_local, declared_local, declared, declared_by, pointer_in, run, run_node, run_place, run_place_node, run_arguments, nowhere_way, drops_object, run_dropped, run_dropped_node, local_way, place_way, left_way, struct_right_way, struct_left_way, is_struct, assigns_object, assigns, update_read_way, update_right_way, update_left_way, updates_variable, update_local_way, updates, initialises, declares, caller_way, returns, if_way, nothing, row_way, end_way, round_over, step_way, body_way, loop_test_way, rounds_if, rounds, loop_way, while_loop, for_loop, update_of, run_stmt, run_stmt_node, run_row}
-use Rattle.c_meaning.specs.Kinds.{HasKind, HasTypeIf, MayHold, UpdatesBy, IsCalled, IsWellSomewhere, IsTypedLoop}
+use Rattle.c_meaning.specs.Switches.{chosen, starts_at}
+use Rattle.c_meaning.specs.Turns.{Does, Way, after_call, local_at, is_block, variable_at, with_variable, ended_local, ended_locals, made_local, declared_local, declared, declared_by, pointer_in, run, run_node, run_place, run_place_node, run_arguments, nowhere_way, drops_object, run_dropped, run_dropped_node, local_way, place_way, left_way, struct_right_way, struct_left_way, is_struct, assigns_object, assigns, update_read_way, update_right_way, update_left_way, updates_variable, update_local_way, updates, initialises, declares, caller_way, returns, if_way, nothing, row_way, end_way, round_over, step_way, body_way, loop_test_way, rounds_if, rounds, loop_way, while_loop, for_loop, do_loop, leaving, switch_way, starts, switch_test_way, update_of, run_stmt, run_stmt_node, run_row, run_from}
+use Rattle.c_meaning.specs.Kinds.{HasKind, HasTypeIf, MayHold, UpdatesBy, IsNumberKind, IsCalled, IsWellSomewhere, AreWellSomewhere, IsTypedLoop}
 use Rattle.c_meaning.proofs.TypedValues.{not_c4, Anything, kind_type, type_kind, fits_kind, truth_ok, updated_ok, updates_scalar}
 use Rattle.c_meaning.proofs.TypedLocals.{Site, here_at, inside_at, Stands, hold_at, with_now, unset_now, ended_locals_now, local_found, made_now, declared_now}
 use Rattle.c_meaning.proofs.TypedActions.{IsNoValue, load_done, store_done, copy_done}
@@ -275,7 +276,7 @@ mutual
 
 -- ---- ways behind statements
 
-pub row_follows : (s : Site) (rest : tree.Stmts) (run_rest : Answer → Way → Does) (w : Answer → Way) → ((in_loop : Bool) × AreWell (inside_at s) in_loop rest) → Executes s run_rest → Follows s w → Follows s (λ answer. row_way rest (run_rest answer) (w answer))
+pub row_follows : (s : Site) (rest : tree.Stmts) (run_rest : Answer → Way → Does) (w : Answer → Way) → AreWellSomewhere (inside_at s) rest → Executes s run_rest → Follows s w → Follows s (λ answer. row_way rest (run_rest answer) (w answer))
 row_follows s rest run_rest w well r g = record { todo = λ answer. (well, g.todo answer); ends = r w g; breaks = g.breaks; continues = g.continues }
 
 pub end_follows : (s : Site) (numbers : List ℕ) (w : Answer → Way) → Follows s w → Follows s (λ answer. end_way numbers (w answer))
@@ -334,42 +335,92 @@ pub loop_follows : (s : Site) (l : Loop) (run_body run_step : Answer → Way →
     → Follows s (λ answer. loop_way (here_at s answer) l (run_body answer) (run_step answer) (w answer))
 loop_follows s l run_body run_step w f t p q g = record { todo = λ answer. (t, g.todo answer); ends = rounds_fine s l run_body run_step f t p q w g; breaks = g.breaks; continues = g.continues }
 
+-- ---- switches
+
+pub switch_follows : (s : Site) (w : Answer → Way) → Follows s w → Follows s (λ answer. switch_way (w answer))
+switch_follows s w g = record { todo = g.todo; ends = g.ends; breaks = g.ends; continues = g.continues }
+
+starts_fine : (s : Site) (from : Answer → ℕ → Way → Does) (w : Answer → Way) (at : Option ℕ) → ((n : ℕ) → Executes s (λ answer. from answer n)) → Follows s w → IsFine s (λ answer. starts (from answer) (w answer) at)
+starts_fine s from w None r g = g.ends
+starts_fine s from w (Some at) r g = r at (λ answer. switch_way (w answer)) (switch_follows s w g)
+
+pub switch_takes : (s : Site) (labels : List tree.Label) (body : tree.Stmts) (how : Access) (from : Answer → ℕ → Way → Does) (w : Answer → Way) → IsNumberKind how → AreWellSomewhere (inside_at s) body → ((n : ℕ) → Executes s (λ answer. from answer n)) → Follows s w
+    → TakesKind s how (λ answer. switch_test_way labels body (from answer) (w answer))
+switch_takes s labels body how from w k well r g = record {
+  expects = λ answer. (k, well, g.todo answer);
+  goes = λ v h x n. starts_fine s from w (starts_at labels (chosen labels v)) r g x n;
+}
+
+-- the expression of a switch is a number
+switched_scalar : (ty : tree.Ty) → IsSwitched ty → IsScalar ty
+switched_scalar (tree.integer t) h = tt
+switched_scalar ty h = elim h [ ]
+
+switched_kind : (ty : tree.Ty) → IsSwitched ty → IsNumberKind (access_of_type ty)
+switched_kind (tree.integer t) h = tt
+switched_kind ty h = elim h [ ]
+
 -- ---- statements
 
 nothing_fine : (s : Site) → Executes s (λ answer w. w.end)
 nothing_fine s w g = g.ends
 
+leaving_fine : (s : Site) → Executes s (λ answer w. w.breaks)
+leaving_fine s w g = g.breaks
+
+-- the condition of a do
+again_fine : (s : Site) → Stands s → (e : tree.Expr) → IsTyped (context_at s) e → IsScalar (tree.type_of e)
+    → Executes s (λ answer v. run (here_at s answer) e (if_way (tree.place_of e) (nothing (tree.place_of e)) (leaving (tree.place_of e)) (λ u. u.end) (λ u. u.breaks) v))
+again_fine s f e t scalar w g =
+    run_fine s f e t scalar (λ answer. if_way (tree.place_of e) (nothing (tree.place_of e)) (leaving (tree.place_of e)) (λ u. u.end) (λ u. u.breaks) (w answer))
+    (if_takes s (tree.place_of e) (nothing (tree.place_of e)) (leaving (tree.place_of e)) (kind_at e) (λ answer u. u.end) (λ answer u. u.breaks) w (in_loop, tt) (in_loop, refl) (nothing_fine s) (leaving_fine s) g)
+
 mutual
   -- a statement comes out well before all that follows it
-  pub stmt_fine : (s : Site) → Stands s → (in_loop : Bool) (st : tree.Stmt) → IsWell (inside_at s) in_loop st → Executes s (λ answer. run_stmt (here_at s answer) st)
-  stmt_fine s f in_loop (tree.at_stmt place node) t w g x n = node_fine s f in_loop place node t w g x n
+  pub stmt_fine : (s : Site) → Stands s → (j : Jumps) (st : tree.Stmt) → IsWell (inside_at s) j st → Executes s (λ answer. run_stmt (here_at s answer) st)
+  stmt_fine s f j (tree.at_stmt place node) t w g x n = node_fine s f j place node t w g x n
 
-  node_fine : (s : Site) → Stands s → (in_loop : Bool) (place : ℕ) (node : tree.StmtNode) → IsWellNode (inside_at s) in_loop node → Executes s (λ answer. run_stmt_node (here_at s answer) place node)
-  node_fine s f in_loop place (tree.block body) t w g x n = row_fine s f in_loop body t (λ answer. end_way (declared body) (w answer)) (end_follows s (declared body) w g) x n
-  node_fine s f in_loop place (tree.declare number init) t w g x n = declares_fine s place number init f t.1 w g x n
-  node_fine s f in_loop place (tree.if_ e one) t w g x n =
+  node_fine : (s : Site) → Stands s → (j : Jumps) (place : ℕ) (node : tree.StmtNode) → IsWellNode (inside_at s) j node → Executes s (λ answer. run_stmt_node (here_at s answer) place node)
+  node_fine s f j place (tree.block body) t w g x n = row_fine s f j body t (λ answer. end_way (declared body) (w answer)) (end_follows s (declared body) w g) x n
+  node_fine s f j place (tree.declare number init) t w g x n = declares_fine s place number init f t.1 w g x n
+  node_fine s f j place (tree.if_ e one) t w g x n =
       run_fine s f e t.0 t.1 (λ answer. if_way (tree.place_of e) one (nothing place) (run_stmt (here_at s answer) one) (λ v. v.end) (w answer))
-      (if_takes s (tree.place_of e) one (nothing place) (kind_at e) (λ answer. run_stmt (here_at s answer) one) (λ answer v. v.end) w (in_loop, t.2) (in_loop, tt) (stmt_fine s f in_loop one t.2) (nothing_fine s) g) x n
-  node_fine s f in_loop place (tree.if_else e one other) t w g x n =
+      (if_takes s (tree.place_of e) one (nothing place) (kind_at e) (λ answer. run_stmt (here_at s answer) one) (λ answer v. v.end) w (j, t.2) (j, tt) (stmt_fine s f j one t.2) (nothing_fine s) g) x n
+  node_fine s f j place (tree.if_else e one other) t w g x n =
       run_fine s f e t.0 t.1 (λ answer. if_way (tree.place_of e) one other (run_stmt (here_at s answer) one) (run_stmt (here_at s answer) other) (w answer))
-      (if_takes s (tree.place_of e) one other (kind_at e) (λ answer. run_stmt (here_at s answer) one) (λ answer. run_stmt (here_at s answer) other) w (in_loop, t.2) (in_loop, t.4) (stmt_fine s f in_loop one t.2) (stmt_fine s f in_loop other t.4) g) x n
-  node_fine s f in_loop place (tree.while_ e body) t w g x n =
-      rounds_fine s (while_loop place e body) (λ answer. run_stmt (here_at s answer) body) (λ answer v. v.end) f (record { condition = (t.0, t.1); step = (false, tt); body = (true, t.2) })
-      (stmt_fine s f true body t.2) (nothing_fine s) w g x n
-  node_fine s f in_loop place (tree.for_ first e step body) t w g x n =
-      stmt_fine s f in_loop first t.0 (λ answer. loop_way (here_at s answer) (for_loop e step body) (run_stmt (here_at s answer) body) (run_stmt (here_at s answer) step) (end_way (declared_by first []) (w answer)))
+      (if_takes s (tree.place_of e) one other (kind_at e) (λ answer. run_stmt (here_at s answer) one) (λ answer. run_stmt (here_at s answer) other) w (j, t.2) (j, t.4) (stmt_fine s f j one t.2) (stmt_fine s f j other t.4) g) x n
+  node_fine s f j place (tree.while_ e body) t w g x n =
+      rounds_fine s (while_loop place e body) (λ answer. run_stmt (here_at s answer) body) (λ answer v. v.end) f (record { condition = (t.0, t.1); step = (in_function, tt); body = (in_loop, t.2) })
+      (stmt_fine s f in_loop body t.2) (nothing_fine s) w g x n
+  node_fine s f j place (tree.for_ first e step body) t w g x n =
+      stmt_fine s f j first t.0 (λ answer. loop_way (here_at s answer) (for_loop e step body) (run_stmt (here_at s answer) body) (run_stmt (here_at s answer) step) (end_way (declared_by first []) (w answer)))
       (loop_follows s (for_loop e step body) (λ answer. run_stmt (here_at s answer) body) (λ answer. run_stmt (here_at s answer) step) (λ answer. end_way (declared_by first []) (w answer)) f
-      (record { condition = t.2; step = (in_loop, t.3); body = (true, t.5) }) (stmt_fine s f true body t.5) (stmt_fine s f in_loop step t.3) (end_follows s (declared_by first []) w g)) x n
-  node_fine s f in_loop place tree.break_ t w g x n = g.breaks x n
-  node_fine s f in_loop place tree.continue_ t w g x n = g.continues x n
-  node_fine s f in_loop place (tree.return_ value) t w g x n = returns_fine s value f t x n
-  node_fine s f in_loop place (tree.assign left right) t w g x n = assign_fine s left right f t.0 t.1 t.2 t.3 w g x n
-  node_fine s f in_loop place (tree.update left op right) t w g x n = update_fine s place left op right f t.0 t.1 t.2 t.3 w g x n
-  node_fine s f in_loop place (tree.evaluate e) t w g x n = dropped_fine s f e t w g x n
-  node_fine s f in_loop place tree.empty t w g x n = g.ends x n
+      (record { condition = t.2; step = (j, t.3); body = (in_loop, t.5) }) (stmt_fine s f in_loop body t.5) (stmt_fine s f j step t.3) (end_follows s (declared_by first []) w g)) x n
+  node_fine s f j place (tree.do_while body e) t w g x n =
+      rounds_fine s (do_loop body e) (λ answer. run_stmt (here_at s answer) body)
+      (λ answer v. run (here_at s answer) e (if_way (tree.place_of e) (nothing (tree.place_of e)) (leaving (tree.place_of e)) (λ u. u.end) (λ u. u.breaks) v)) f
+      (record { condition = tt; step = (in_loop, (t.2, t.3, tt, tt, refl, tt)); body = (in_loop, t.0) })
+      (stmt_fine s f in_loop body t.0) (again_fine s f e t.2 t.3) w g x n
+  node_fine s f j place (tree.switch e labels body) t w g x n =
+      run_fine s f e t.0 (switched_scalar (tree.type_of e) t.1) (λ answer. switch_test_way labels body (run_from (here_at s answer) body) (w answer))
+      (switch_takes s labels body (kind_at e) (λ answer. run_from (here_at s answer) body) w (switched_kind (tree.type_of e) t.1) (in_switch j, t.5) (from_fine s f (in_switch j) body t.5) g) x n
+  node_fine s f j place tree.break_ t w g x n = g.breaks x n
+  node_fine s f j place tree.continue_ t w g x n = g.continues x n
+  node_fine s f j place (tree.return_ value) t w g x n = returns_fine s value f t x n
+  node_fine s f j place (tree.assign left right) t w g x n = assign_fine s left right f t.0 t.1 t.2 t.3 w g x n
+  node_fine s f j place (tree.update left op right) t w g x n = update_fine s place left op right f t.0 t.1 t.2 t.3 w g x n
+  node_fine s f j place (tree.evaluate e) t w g x n = dropped_fine s f e t w g x n
+  node_fine s f j place tree.empty t w g x n = g.ends x n
 
-  pub row_fine : (s : Site) → Stands s → (in_loop : Bool) (rest : tree.Stmts) → AreWell (inside_at s) in_loop rest → Executes s (λ answer. run_row (here_at s answer) rest)
-  row_fine s f in_loop tree.no_stmts t w g x n = g.ends x n
-  row_fine s f in_loop (tree.more_stmts st rest) t w g x n =
-      stmt_fine s f in_loop st t.0 (λ answer. row_way rest (run_row (here_at s answer) rest) (w answer))
-      (row_follows s rest (λ answer. run_row (here_at s answer) rest) w (in_loop, t.1) (row_fine s f in_loop rest t.1) g) x n
+  pub row_fine : (s : Site) → Stands s → (j : Jumps) (rest : tree.Stmts) → AreWell (inside_at s) j rest → Executes s (λ answer. run_row (here_at s answer) rest)
+  row_fine s f j tree.no_stmts t w g x n = g.ends x n
+  row_fine s f j (tree.more_stmts st rest) t w g x n =
+      stmt_fine s f j st t.0 (λ answer. row_way rest (run_row (here_at s answer) rest) (w answer))
+      (row_follows s rest (λ answer. run_row (here_at s answer) rest) w (j, t.1) (row_fine s f j rest t.1) g) x n
+
+  pub from_fine : (s : Site) → Stands s → (j : Jumps) (rest : tree.Stmts) → AreWell (inside_at s) j rest → (at : ℕ) → Executes s (λ answer. run_from (here_at s answer) rest at)
+  from_fine s f j tree.no_stmts t at w g x n = g.ends x n
+  from_fine s f j (tree.more_stmts st rest) t zero w g x n =
+      stmt_fine s f j st t.0 (λ answer. row_way rest (run_row (here_at s answer) rest) (w answer))
+      (row_follows s rest (λ answer. run_row (here_at s answer) rest) w (j, t.1) (row_fine s f j rest t.1) g) x n
+  from_fine s f j (tree.more_stmts st rest) t (suc at) w g x n = from_fine s f j rest t.1 at w g x n

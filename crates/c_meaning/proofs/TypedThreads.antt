@@ -1,5 +1,5 @@
 -- Whole turns of a thread come out well, and threads begin so.
-use Rattle.std.proofs.Common.{◌≡◌, ◌↔◌, ℕ, zero, suc, ◌^◌, ◌<◌, ◌≤◌, false, List, Option, None, refl, sym, subst, ◌⊎◌, inl, inr, arith}
+use Rattle.std.proofs.Common.{◌≡◌, ◌↔◌, ℕ, zero, suc, ◌^◌, ◌<◌, ◌≤◌, List, Option, None, refl, sym, subst, ◌⊎◌, inl, inr, arith}
 use Rattle.ak_words.specs.IntType.{int}
 use Rattle.ak_words.specs.declared.rule.Rule.TheVariants.{C15}
 use Rattle.block_store.specs.declared.values.Access.{Access}
@@ -11,11 +11,11 @@ use Rattle.block_store.specs.Actions as actions
 use Rattle.block_store.specs.Actions.{World, SharedAction}
 use Rattle.block_store.specs.Runs.{Turn}
 use Rattle.c_tree.specs.Typed as tree
-use Rattle.c_tree.specs.TypedForm.{IsScalar, IsFunc, IsMain, CanStart, IsWellFormed, signature_of}
+use Rattle.c_tree.specs.TypedForm.{in_function, IsScalar, IsFunc, IsMain, CanStart, IsWellFormed, signature_of}
 use Rattle.c_meaning.specs.Control as control
 use Rattle.c_meaning.specs.Control.{Control, Todo, Use, TurnStart}
 use Rattle.c_meaning.specs.Values.{access_of_type}
-use Rattle.c_meaning.specs.Turns.{WayOfUse, read_way, leave_way, run, run_arguments, run_stmt, run_row, way_of, use_of, from_point, turn}
+use Rattle.c_meaning.specs.Turns.{WayOfUse, read_way, leave_way, run, run_arguments, run_stmt, run_row, run_from, way_of, use_of, from_point, turn}
 use Rattle.c_meaning.specs.Meaning.{arguments_if, begins_if}
 use Rattle.c_meaning.specs.Kinds.{IsTypedTodo, Expects, IsTypedPoint, IsTypedControl, IsTypedWorld}
 use Rattle.c_meaning.specs.Sound.{Takes, End, breaking, quiet, acting, FitsEnd, EndsAs, IsChosen, AllocatesTooMuch, IsUnfit, ThreadsBeginTyped, TurnsKeepTypes, TurnsGoOn, SomeAnswerFits}
@@ -25,7 +25,7 @@ use Rattle.c_meaning.proofs.TypedFits.{end_takes}
 use Rattle.c_meaning.proofs.TypedTurns.{Fine, TakesKind, IsFine, Follows, breaks_fine, leaves_fine}
 use Rattle.c_meaning.proofs.TypedCalls.{called_scalar, first_scalar}
 use Rattle.c_meaning.proofs.TypedExprs.{kind_at, run_fine, run_arguments_fine, read_takes, only_takes, second_takes, first_takes, second_test_takes, first_test_takes, choice_takes, argument_takes}
-use Rattle.c_meaning.proofs.TypedStmts.{nowhere_takes, local_takes, place_takes, left_takes, struct_right_takes, struct_left_takes, update_read_takes, update_right_takes, update_left_takes, update_local_takes, caller_takes, row_follows, end_follows, if_takes, step_follows, body_follows, loop_test_takes, rounds_fine, loop_follows, stmt_fine, row_fine}
+use Rattle.c_meaning.proofs.TypedStmts.{nowhere_takes, local_takes, place_takes, left_takes, struct_right_takes, struct_left_takes, update_read_takes, update_right_takes, update_left_takes, update_local_takes, caller_takes, row_follows, end_follows, if_takes, step_follows, body_follows, loop_test_takes, rounds_fine, loop_follows, switch_follows, switch_takes, stmt_fine, row_fine, from_fine}
 
 -- ---- what is left to do
 
@@ -43,6 +43,7 @@ way_follows s f (control.then_loop l k) t =
 way_follows s f (control.in_body l k) t =
     body_follows s l (λ answer. run_stmt (here_at s answer) l.step) (λ answer. way_of (here_at s answer) k) f t.0 (stmt_fine s f t.0.step.0 l.step t.0.step.1) (way_follows s f k t.1)
 way_follows s f (control.in_step l k) t = step_follows s l (λ answer. way_of (here_at s answer) k) f t.0 (way_follows s f k t.1)
+way_follows s f (control.in_switch k) t = switch_follows s (λ answer. way_of (here_at s answer) k) (way_follows s f k t)
 
 -- ---- uses
 
@@ -94,6 +95,8 @@ use_takes s f (control.if_test place one other k) how t =
 use_takes s f (control.loop_test place l k) how t =
     loop_test_takes s place l how (λ answer. run_stmt (here_at s answer) l.body) (λ answer. run_stmt (here_at s answer) l.step) (λ answer. way_of (here_at s answer) k) f t.0
     (stmt_fine s f t.0.body.0 l.body t.0.body.1) (stmt_fine s f t.0.step.0 l.step t.0.step.1) (way_follows s f k t.1)
+use_takes s f (control.switch_test labels body k) how t =
+    switch_takes s labels body how (λ answer. run_from (here_at s answer) body) (λ answer. way_of (here_at s answer) k) t.0 t.1 (from_fine s f t.1.0 body t.1.1) (way_follows s f k t.2)
 use_takes s f control.to_caller how t = takes_of s how (access_of_type s.func.result) (λ answer. use_of (here_at s answer) control.to_caller) (sym t.1) (caller_takes s f t.0)
 use_takes s f (control.to_nowhere k) how t = nowhere_takes s how (λ answer. way_of (here_at s answer) k) (way_follows s f k t)
 
@@ -175,4 +178,4 @@ threads_begin_typed t wf number can argument =
     let f = can.0 in
     let w = at_number (IsFunc t) t.funcs number f wf.funcs can.1 in
     let P : Option tree.Func → Type 0 = λ o. IsTypedControl t (begins_if number argument o) in
-    subst P (sym can.1) (record { func = f; found = can.1; locals = first_hold f (arguments_if f.params argument) (first_arguments t f argument w can.2); point = ((false, w.body), tt); callers = first_result f can.2 })
+    subst P (sym can.1) (record { func = f; found = can.1; locals = first_hold f (arguments_if f.params argument) (first_arguments t f argument w can.2); point = ((in_function, w.body), tt); callers = first_result f can.2 })

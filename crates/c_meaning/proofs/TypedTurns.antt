@@ -14,6 +14,7 @@ use Rattle.block_store.specs.Actions.{World, SharedAction, Done, acted}
 use Rattle.block_store.specs.Runs as runs
 use Rattle.block_store.specs.Runs.{Turn}
 use Rattle.c_tree.specs.Typed as tree
+use Rattle.c_tree.specs.TypedForm.{in_function}
 use Rattle.c_meaning.specs.Control as control
 use Rattle.c_meaning.specs.Control.{Control, Variable, Callee, Wait, wanted, dropped, Caller, TurnStart}
 use Rattle.c_meaning.specs.Library.{action_of, value_of_call}
@@ -136,7 +137,7 @@ enters_fine s number all ty args k f c l waits x n =
       func = g.func;
       found = g.found;
       locals = hold;
-      point = ((false, g.well.body), tt);
+      point = ((in_function, g.well.body), tt);
       callers = (s.func, record { found = f.found; locals = n.locals; waits = subst (λ z. Awaits (inside_at s) z (k answer)) g.result (waits answer) }, f.callers);
     }) n.world)
 

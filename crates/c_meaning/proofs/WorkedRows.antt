@@ -4,6 +4,7 @@ use Rattle.std.specs.Fmt.{digits}
 use Rattle.ak_words.specs.Op.{exact_result, rule_of}
 use Rattle.ak_words.specs.Wrapped.{residue, wrapped_value}
 use Rattle.c_meaning.specs.Rows.{RowsStand, RulesStand, OrdersStand}
+use Rattle.c_meaning.specs.SwitchRows.{SwitchesStand}
 
 pub rows_stand : RowsStand
 unfolding digits residue wrapped_value exact_result rule_of
@@ -65,4 +66,22 @@ orders_stand = record {
   number_formats_is = refl;
   one_waits_is = refl;
   counted_is = refl;
+}
+
+pub switches_stand : SwitchesStand
+unfolding digits residue wrapped_value exact_result rule_of
+switches_stand = record {
+  first = refl;
+  through = refl;
+  second = refl;
+  otherwise = refl;
+  equal_behind = refl;
+  default_in_front = refl;
+  last = refl;
+  none_equal = refl;
+  nearest = refl;
+  continues = refl;
+  rounds = refl;
+  two_rounds = refl;
+  break_in_do = refl;
 }

@@ -41,6 +41,8 @@ pub data Todo : Type 0 where
   then_loop : (l : Loop) (k : Todo) → Todo
   in_body : (l : Loop) (k : Todo) → Todo
   in_step : (l : Loop) (k : Todo) → Todo
+  -- the statements of a switch
+  in_switch : (k : Todo) → Todo
 
 mutual
   -- what a value is used for, as soon as it's there
@@ -70,9 +72,10 @@ mutual
     update_local : (u : Update) (number : ℕ) (k : Todo) → Use
     update_right : (u : Update) (at : Value) (k : Todo) → Use
     update_read : (u : Update) (at by : Value) (k : Todo) → Use
-    -- a condition
+    -- a condition, or what chooses a label of a switch
     if_test : (place : ℕ) (one other : tree.Stmt) (k : Todo) → Use
     loop_test : (place : ℕ) (l : Loop) (k : Todo) → Use
+    switch_test : (labels : List tree.Label) (body : tree.Stmts) (k : Todo) → Use
     -- a returned value; one that nothing uses
     to_caller : Use
     to_nowhere : (k : Todo) → Use

@@ -1,5 +1,5 @@
 -- Of what type the values are that a thread of a well formed program has: in its locals, where they are used, and where they are awaited.
-use Rattle.std.specs.Prelude.{◌≡◌, ℕ, ◌⊎◌, Bool, true, false, List, [], ◌∷◌, slice_get, Option, Some, None}
+use Rattle.std.specs.Prelude.{◌≡◌, ℕ, ◌⊎◌, true, false, List, [], ◌∷◌, slice_get, Option, Some, None}
 use Rattle.std.specs.List.{AllByRecursion}
 use Rattle.ak_words.specs.IntType.{int, long}
 use Rattle.ak_words.specs.Op.{result_type}
@@ -10,10 +10,10 @@ use Rattle.block_store.specs.declared.values.Value.TheVariants as values
 use Rattle.block_store.specs.Actions as actions
 use Rattle.block_store.specs.Actions.{World}
 use Rattle.c_tree.specs.Typed as tree
-use Rattle.c_tree.specs.TypedForm.{IsScalar, AreOperands, CanUpdate, IsNth, IsLvalue, IsTyped, IsTypedNode, IfTyped, InScope, Inside, IsWell, AreWell, context_of, signature_of, IsMain, CanStart}
+use Rattle.c_tree.specs.TypedForm.{IsScalar, AreOperands, CanUpdate, IsNth, IsLvalue, IsTyped, IsTypedNode, IfTyped, InScope, Inside, Jumps, IsWell, AreWell, context_of, signature_of, IsMain, CanStart}
 use Rattle.c_meaning.specs.Values.{Unary, converts, negates, tests, selects, Binary, on_numbers, forward, backward, distance, on_pointers, access_of_type}
-use Rattle.c_meaning.specs.Control.{Variable, unset, holds, lies, Loop, Update, Callee, function, library, Todo, leaves, then_row, then_end, then_loop, in_body, in_step}
-use Rattle.c_meaning.specs.Control.{Use, first_of, second_of, only_of, place_read, first_test, second_test, choice, argument, to_local, left_place, to_place, struct_left, struct_right, update_left, update_local, update_right, update_read, if_test, loop_test, to_caller, to_nowhere}
+use Rattle.c_meaning.specs.Control.{Variable, unset, holds, lies, Loop, Update, Callee, function, library, Todo, leaves, then_row, then_end, then_loop, in_body, in_step, in_switch}
+use Rattle.c_meaning.specs.Control.{Use, first_of, second_of, only_of, place_read, first_test, second_test, choice, argument, to_local, left_place, to_place, struct_left, struct_right, update_left, update_local, update_right, update_read, if_test, loop_test, switch_test, to_caller, to_nowhere}
 use Rattle.c_meaning.specs.Control.{Wait, wanted, dropped, Caller, TurnStart, gives, lacks, begins, round, Control}
 
 -- ---- values and locals
@@ -50,6 +50,11 @@ abbrev pub HasKind : Access → Value → Type 0
 HasKind (accesses.Number t) (values.Num n) = n.ty ≡ t
 HasKind accesses.Pointer (values.Pointer p) = Unit {0}
 HasKind how v = ⊥
+
+-- numbers of some type
+abbrev pub IsNumberKind : Access → Type 0
+IsNumberKind (accesses.Number t) = Unit {0}
+IsNumberKind accesses.Pointer = ⊥
 
 -- an operation on one value takes one of the first kind, and gives one of the second
 abbrev pub TakesOne : Unary → (from to : Access) → Type 0
@@ -93,9 +98,13 @@ StandBefore (v ∷ vs) rest (tree.more_exprs e all) = HasType (tree.type_of e) v
 abbrev pub inside : tree.Typed → tree.Func → Inside
 inside t f = record { context = context_of t f; params = f.params; result = f.result }
 
--- a statement is well formed, in a loop or not
+-- a statement is well formed, where some jumps may stand
 abbrev pub IsWellSomewhere : Inside → tree.Stmt → Type 0
-IsWellSomewhere i s = (in_loop : Bool) × IsWell i in_loop s
+IsWellSomewhere i s = (jumps : Jumps) × IsWell i jumps s
+
+-- so are all of a row
+abbrev pub AreWellSomewhere : Inside → tree.Stmts → Type 0
+AreWellSomewhere i rest = (jumps : Jumps) × AreWell i jumps rest
 
 -- the parts of a loop are well formed
 pub record IsTypedLoop (i : Inside) (l : Loop) : Type 0 where
@@ -106,11 +115,12 @@ pub record IsTypedLoop (i : Inside) (l : Loop) : Type 0 where
 -- what is left to do is well formed
 abbrev pub IsTypedTodo : Inside → Todo → Type 0
 IsTypedTodo i leaves = Unit {0}
-IsTypedTodo i (then_row rest k) = ((in_loop : Bool) × AreWell i in_loop rest) × IsTypedTodo i k
+IsTypedTodo i (then_row rest k) = AreWellSomewhere i rest × IsTypedTodo i k
 IsTypedTodo i (then_end numbers k) = IsTypedTodo i k
 IsTypedTodo i (then_loop l k) = IsTypedLoop i l × IsTypedTodo i k
 IsTypedTodo i (in_body l k) = IsTypedLoop i l × IsTypedTodo i k
 IsTypedTodo i (in_step l k) = IsTypedLoop i l × IsTypedTodo i k
+IsTypedTodo i (in_switch k) = IsTypedTodo i k
 
 -- ---- what a use expects
 
@@ -139,6 +149,7 @@ abbrev mutual
   Expects i how (update_read u at by k) = (how ≡ access_of_type u.ty) × HasKind accesses.Pointer at × ((kind : Access) × UpdatesBy i u kind × HasKind kind by) × IsTypedTodo i k
   Expects i how (if_test place one other k) = IsWellSomewhere i one × IsWellSomewhere i other × IsTypedTodo i k
   Expects i how (loop_test place l k) = IsTypedLoop i l × IsTypedTodo i k
+  Expects i how (switch_test labels body k) = IsNumberKind how × AreWellSomewhere i body × IsTypedTodo i k
   Expects i how to_caller = IsScalar i.result × (access_of_type i.result ≡ how)
   Expects i how (to_nowhere k) = IsTypedTodo i k
 

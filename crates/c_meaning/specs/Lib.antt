@@ -1,5 +1,6 @@
 pub mod Values
 pub mod Library
+pub mod Switches
 pub mod Control
 pub mod Turns
 pub mod Meaning
@@ -7,4 +8,5 @@ pub mod Alike
 pub mod Kinds
 pub mod Sound
 pub mod Rows
+pub mod SwitchRows
 pub mod KindRows

@@ -4,7 +4,7 @@
 --
 -- What follows an expression or a statement is a way: what is left to do, as data, which is kept where a turn ends, and what it does,
 -- which goes on inside a turn.
-use Rattle.std.specs.Prelude.{ℕ, ◌+◌, ◌-◌, Bool, true, false, not, ◌==◌, if◌then◌else◌, List, [], ◌∷◌, ◌++◌, length, map, set, replicate, slice_get, Option, Some, None, Result, Ok, Err, ℤ, pos}
+use Rattle.std.specs.Prelude.{ℕ, zero, suc, ◌+◌, ◌-◌, Bool, true, false, not, ◌==◌, if◌then◌else◌, List, [], ◌∷◌, ◌++◌, length, map, set, replicate, slice_get, Option, Some, None, Result, Ok, Err, ℤ, pos}
 use Rattle.ak_words.specs.declared.operation.Op.{Op}
 use Rattle.ak_words.specs.declared.rule.Rule.{Rule}
 use Rattle.ak_words.specs.declared.rule.Rule.TheVariants.{C4, C15}
@@ -24,8 +24,9 @@ use Rattle.c_tree.specs.Typed as tree
 use Rattle.c_tree.specs.TypedLayout.{size_in, align_in}
 use Rattle.c_meaning.specs.Values.{access_of_type, is_scalar, element_size, member_offset, int_of, truth_of, Unary, converts, negates, tests, selects, Binary, on_numbers, forward, backward, distance, on_pointers, of_one, of_two, updated}
 use Rattle.c_meaning.specs.Library.{action_of, value_of_call}
-use Rattle.c_meaning.specs.Control.{Variable, unset, holds, lies, Loop, Update, Callee, function, library, Todo, leaves, then_row, then_end, then_loop, in_body, in_step}
-use Rattle.c_meaning.specs.Control.{Use, first_of, second_of, only_of, place_read, first_test, second_test, choice, argument, to_local, left_place, to_place, struct_left, struct_right, update_left, update_local, update_right, update_read, if_test, loop_test, to_caller, to_nowhere}
+use Rattle.c_meaning.specs.Switches.{chosen, starts_at}
+use Rattle.c_meaning.specs.Control.{Variable, unset, holds, lies, Loop, Update, Callee, function, library, Todo, leaves, then_row, then_end, then_loop, in_body, in_step, in_switch}
+use Rattle.c_meaning.specs.Control.{Use, first_of, second_of, only_of, place_read, first_test, second_test, choice, argument, to_local, left_place, to_place, struct_left, struct_right, update_left, update_local, update_right, update_read, if_test, loop_test, switch_test, to_caller, to_nowhere}
 use Rattle.c_meaning.specs.Control.{Wait, wanted, dropped, Caller, TurnStart, gives, lacks, begins, round, Control}
 
 -- what stays the same in a turn: the program, the thread's number, the answer that the turn is told, and the function and the callers
@@ -489,6 +490,10 @@ if_way place one other run_one run_other w = record {
 abbrev pub nothing : (place : ℕ) → tree.Stmt
 nothing place = tree.at_stmt place tree.empty
 
+-- a break: the else of a do's condition
+abbrev pub leaving : (place : ℕ) → tree.Stmt
+leaving place = tree.at_stmt place tree.break_
+
 -- the end of a function's body
 abbrev pub leave_way : TurnContext → Way
 leave_way h = record { k = leaves; end = leaves_call h None; breaks = leaves_call h None; continues = leaves_call h None }
@@ -549,6 +554,26 @@ while_loop place e body = record { condition = Some e; step = nothing place; bod
 abbrev pub for_loop : Option tree.Expr → (step body : tree.Stmt) → Loop
 for_loop e step body = record { condition = e; step = step; body = body }
 
+-- the loop of a do: the condition stands behind the body, where a continue leads, too. A round is over where it holds, and the loop is left
+-- where it doesn't (C11 6.8.5.2)
+abbrev pub do_loop : tree.Stmt → tree.Expr → Loop
+do_loop body e = record { condition = None; step = tree.at_stmt (tree.place_of e) (tree.if_else e (nothing (tree.place_of e)) (leaving (tree.place_of e))); body = body }
+
+-- ---- switch (C11 6.8.4.2)
+
+-- behind the statements of a switch: a break leaves it, and a continue goes to the loop around
+abbrev pub switch_way : Way → Way
+switch_way w = record { k = in_switch w.k; end = w.end; breaks = w.end; continues = w.continues }
+
+-- the statements from this one on, if there is one
+abbrev pub starts : (run_from : (at : ℕ) → Way → Does) → Way → Option ℕ → Does
+starts run_from w None x = w.end x
+starts run_from w (Some at) x = run_from at (switch_way w) x
+
+-- once the value is there: the statements from the chosen label on follow
+abbrev pub switch_test_way : List tree.Label → tree.Stmts → (run_from : (at : ℕ) → Way → Does) → Way → WayOfUse
+switch_test_way labels body run_from w = record { k = switch_test labels body w.k; go = λ v x. starts run_from w (starts_at labels (chosen labels v)) x }
+
 -- a compound assignment of this operator to this left side, and where both stand in the text
 abbrev pub update_of : (operator : ℕ) → tree.Expr → Op → Update
 update_of operator left op = record { place = tree.place_of left; operator = operator; op = op; ty = tree.type_of left }
@@ -567,6 +592,9 @@ abbrev mutual
   run_stmt_node h place (tree.while_ e body) w x = rounds h (while_loop place e body) (run_stmt h body) (λ v. v.end) w x
   run_stmt_node h place (tree.for_ first e step body) w x =
       run_stmt h first (loop_way h (for_loop e step body) (run_stmt h body) (run_stmt h step) (end_way (declared_by first []) w)) x
+  run_stmt_node h place (tree.do_while body e) w x =
+      rounds h (do_loop body e) (run_stmt h body) (λ v. run h e (if_way (tree.place_of e) (nothing (tree.place_of e)) (leaving (tree.place_of e)) (λ u. u.end) (λ u. u.breaks) v)) w x
+  run_stmt_node h place (tree.switch e labels body) w x = run h e (switch_test_way labels body (run_from h body) w) x
   run_stmt_node h place tree.break_ w x = w.breaks x
   run_stmt_node h place tree.continue_ w x = w.continues x
   run_stmt_node h place (tree.return_ value) w x = returns h value x
@@ -580,6 +608,12 @@ abbrev mutual
   run_row h tree.no_stmts w x = w.end x
   run_row h (tree.more_stmts s rest) w x = run_stmt h s (row_way rest (run_row h rest) w) x
 
+  -- those from the one of this index on
+  pub run_from : TurnContext → tree.Stmts → (at : ℕ) → Way → Does
+  run_from h tree.no_stmts at w x = w.end x
+  run_from h (tree.more_stmts s rest) zero w x = run_stmt h s (row_way rest (run_row h rest) w) x
+  run_from h (tree.more_stmts s rest) (suc at) w x = run_from h rest at w x
+
 -- ---- what is left to do, carried out
 
 -- what is left to do in a call, as the way that does it
@@ -590,6 +624,7 @@ way_of h (then_end numbers k) = end_way numbers (way_of h k)
 way_of h (then_loop l k) = loop_way h l (run_stmt h l.body) (run_stmt h l.step) (way_of h k)
 way_of h (in_body l k) = body_way h l (run_stmt h l.step) (way_of h k)
 way_of h (in_step l k) = step_way h l (way_of h k)
+way_of h (in_switch k) = switch_way (way_of h k)
 
 -- what a value is used for, as the way that does it
 abbrev pub use_of : TurnContext → Use → WayOfUse
@@ -612,6 +647,7 @@ use_of h (update_right u at k) = update_right_way h u at (way_of h k)
 use_of h (update_read u at by k) = update_read_way h u at by (way_of h k)
 use_of h (if_test place one other k) = if_way place one other (run_stmt h one) (run_stmt h other) (way_of h k)
 use_of h (loop_test place l k) = loop_test_way h place l (run_stmt h l.body) (run_stmt h l.step) (way_of h k)
+use_of h (switch_test labels body k) = switch_test_way labels body (run_from h body) (way_of h k)
 use_of h to_caller = caller_way h
 use_of h (to_nowhere k) = nowhere_way (way_of h k)
 

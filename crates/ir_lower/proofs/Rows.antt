@@ -2,20 +2,27 @@
 use Rattle.std.proofs.Common.{◌≡◌, ℕ, zero, suc, ◌+◌, ◌<◌, ◌≤◌, Bool, true, false, arith, length, List, [], ◌∷◌, ◌++◌, map, Some, refl, ap, sym, ◌∙◌}
 use Rattle.std.specs.Global.{Vec}
 use Rattle.c_tree.specs.declared.typed.Expr.{Expr}
+use Rattle.c_tree.specs.declared.typed.Label.{Label}
 use Rattle.c_tree.specs.declared.typed.Stmt.{Stmt}
 use Rattle.c_tree.specs.declared.typed.StmtNode.{StmtNode}
 use Rattle.c_tree.specs.declared.typed.StmtNode.TheViews as stmt_views
 use Rattle.c_tree.specs.Typed as tree
-use Rattle.lower_forms.specs.Counts.{greatest_row}
-use Rattle.c_tree.specs.TypedViews.{expr_view, stmt_view, stmt_node_view}
+use Rattle.c_meaning.specs.Switches.{default_from}
+use Rattle.c_tree.specs.TypedViews.{expr_view, label_view, stmt_view, stmt_node_view}
 use Rattle.struct_ir.specs.declared.code.Node.{Node}
 use Rattle.struct_ir.specs.Nodes.{Nodes, no_nodes, more_nodes, break_, ret, StackObject}
 use Rattle.struct_ir.specs.Views.{nodes_view, followed}
 use Rattle.struct_ir.proofs.Views.{followed_none}
-use Rattle.lower_forms.specs.Forms.{Frame, first_temp, branches, sets_int, expr_nodes, ends, objects_in, test_nodes, form_nodes, row_nodes}
-use Rattle.lower_forms.specs.Programs.{homes_from, next_home, objects_of, frame_of, registers_of, last_nodes, func_lowered}
-use Rattle.c_tree.proofs.ListedViews.{block_view}
+use Rattle.lower_forms.specs.Forms.{Frame, first_temp, branches, sets_int, expr_nodes, ends, objects_in, test_nodes, choose_nodes, switched, form_nodes, row_nodes, switch_nodes}
+use Rattle.lower_forms.specs.Programs.{objects_of, frame_of, registers_of, last_nodes, func_lowered}
+use Rattle.c_tree.proofs.ListedViews.{block_view, switch_view}
 use Rattle.c_tree.specs.Typed.{stmts_of}
+
+-- a switch
+abbrev pub switch_form : Frame → ℕ → tree.Expr → List tree.Label → tree.Stmts → List ℕ → Nodes → Nodes
+switch_form F place e labels body left r =
+    expr_nodes F e (suc (suc (first_temp F))) (sets_int place (first_temp F) (default_from 0 labels) (choose_nodes place (first_temp F) 0 labels
+    (sets_int place (suc (first_temp F)) 0 (switch_nodes (switched F) place (first_temp F) labels 0 body left r))))
 
 pub block_done : (F : Frame) (place : ℕ) (node : StmtNode) (v : Vec Stmt) (left : List ℕ) (o0 o1 : List Node) (d : List Stmt) → node ≡ stmt_views.Block v → d ≡ v.items
     → ((r : Nodes) → followed o1 r ≡ followed o0 (row_nodes F (stmts_of (map stmt_view d)) (objects_in F (stmts_of (map stmt_view d)) ++ left) (ends place (objects_in F (stmts_of (map stmt_view d))) r)))
@@ -23,6 +30,13 @@ pub block_done : (F : Frame) (place : ℕ) (node : StmtNode) (v : Vec Stmt) (lef
 block_done F place node v left o0 o1 d is e h r =
     h r ∙ ap (λ l. followed o0 (row_nodes F (stmts_of (map stmt_view l)) (objects_in F (stmts_of (map stmt_view l)) ++ left) (ends place (objects_in F (stmts_of (map stmt_view l))) r))) e
     ∙ ap (λ n. followed o0 (form_nodes F place n left r)) (sym (ap stmt_node_view is ∙ block_view v))
+
+pub switch_done : (F : Frame) (place : ℕ) (node : StmtNode) (e : Expr) (labels : Vec Label) (v : Vec Stmt) (left : List ℕ) (o0 o1 : List Node) (dl : List Label) (d : List Stmt) → node ≡ stmt_views.Switch e labels v → dl ≡ labels.items → d ≡ v.items
+    → ((r : Nodes) → followed o1 r ≡ followed o0 (switch_form F place (expr_view e) (map label_view dl) (stmts_of (map stmt_view d)) left r))
+    → (r : Nodes) → followed o1 r ≡ followed o0 (form_nodes F place (stmt_node_view node) left r)
+switch_done F place node e labels v left o0 o1 dl d is el ed h r =
+    h r ∙ (λ i. followed o0 (switch_form F place (expr_view e) (map label_view (el i)) (stmts_of (map stmt_view (ed i))) left r))
+    ∙ ap (λ n. followed o0 (form_nodes F place n left r)) (sym (ap stmt_node_view is ∙ switch_view e labels v))
 
 -- the condition of a loop
 pub tests_done : (F : Frame) (e : Expr) (t : ℕ) (o0 o1 o2 one other : List Node) → t ≡ first_temp F → one ≡ [] → nodes_view other ≡ more_nodes (break_ e.place) no_nodes
@@ -56,22 +70,14 @@ none_without true (suc n) o h = absurd (omega (arith, h))
 
 -- ---- functions
 
-homes_long : (next : ℕ) (ls : List tree.Local) → length (homes_from next ls) ≡ length ls
-homes_long next [] = refl
-homes_long next (l ∷ ls) = ap suc (homes_long (next_home l.in_memory next) ls)
+pub params_fit : (params long g temps : ℕ) → params ≤ long → temps ≡ long + g → params ≤ temps
+params_fit params long g temps h e = omega (arith, h, e)
 
-pub first_is : (structs : List tree.Layout) (f : tree.Func) (F : Frame) (first : ℕ) → F ≡ frame_of structs f → first ≡ first_temp F → first ≡ length f.locals
-first_is structs f F first e h = h ∙ (ap first_temp e ∙ homes_long 0 f.locals)
-
-pub params_fit : (params long first g temps : ℕ) → params ≤ long → first ≡ long → temps ≡ first + g → params ≤ temps
-params_fit params long first g temps h e i = omega (arith, h, e, i)
-
-pub func_done : (structs : List tree.Layout) (b : Bool) (f : tree.Func) (F : Frame) (first g temps : ℕ) (os : List StackObject) (n0 n1 n2 : List Node)
-    → F ≡ frame_of structs f → first ≡ first_temp F → g ≡ greatest_row f.body → temps ≡ first + g → os ≡ objects_of structs f.locals → n0 ≡ []
+pub func_done : (structs : List tree.Layout) (b : Bool) (f : tree.Func) (F : Frame) (temps : ℕ) (os : List StackObject) (n0 n1 n2 : List Node)
+    → F ≡ frame_of structs f → temps ≡ registers_of f → os ≡ objects_of structs f.locals → n0 ≡ []
     → ((r : Nodes) → followed n1 r ≡ followed n0 (row_nodes F f.body [] r)) → nodes_view n2 ≡ followed n1 (last_nodes b temps)
     → record { params = f.params; temps = temps; slots = 0; objects = os; nodes = nodes_view n2 } ≡ func_lowered structs b f
-func_done structs b f F first g temps os n0 n1 n2 eF ef eg et eo e0 h1 h2 =
-    let whole : temps ≡ registers_of f = et ∙ (λ i. first_is structs f F first eF ef i + eg i) in
+func_done structs b f F temps os n0 n1 n2 eF et eo e0 h1 h2 =
     let row : nodes_view n2 ≡ row_nodes (frame_of structs f) f.body [] (last_nodes b (registers_of f))
-    = h2 ∙ h1 (last_nodes b temps) ∙ (λ i. followed (e0 i) (row_nodes (eF i) f.body [] (last_nodes b (whole i)))) in
-    λ i. record { params = f.params; temps = whole i; slots = 0; objects = eo i; nodes = row i }
+    = h2 ∙ h1 (last_nodes b temps) ∙ (λ i. followed (e0 i) (row_nodes (eF i) f.body [] (last_nodes b (et i)))) in
+    λ i. record { params = f.params; temps = et i; slots = 0; objects = eo i; nodes = row i }

@@ -2,7 +2,7 @@
 
 ghost use Rattle.std.specs.Prelude.{◌≡◌, ◌+◌, suc, max, IfOk, map};
 ghost use Rattle.c_tree.specs.TypedViews.{expr_view, expr_node_view, optional_expr_view, stmt_view, stmt_node_view};
-ghost use Rattle.lower_forms.specs.Counts.{count, count_parts, count_all, count_if, greatest, greatest_in, greatest_row};
+ghost use Rattle.lower_forms.specs.Counts.{count, count_parts, count_all, count_if, greatest, greatest_in, greatest_row, switches, switches_by, switches_in};
 ghost use Rattle.c_tree.specs.Typed.{exprs_of, stmts_of};
 
 use ak_words::NoMemory;
@@ -115,6 +115,8 @@ fn greatest_in(node: &StmtNode) -> Result<u32, NoMemory>
         StmtNode::Declare(_, init) => count_if(init),
         StmtNode::If(e, one, None) | StmtNode::While(e, one) => greatest_under(one, e),
         StmtNode::If(e, one, Some(other)) => greatest_of_if(one, other, e),
+        StmtNode::DoWhile(body, e) => greatest_under(body, e),
+        StmtNode::Switch(e, _, body) => greatest_of_switch(body, e),
         StmtNode::For(first, e, step, body) => greatest_of_for(first, step, body, e),
         StmtNode::Break | StmtNode::Continue | StmtNode::Empty => Ok(0),
         StmtNode::Return(value) => count_if(value),
@@ -130,6 +132,13 @@ fn greatest_under(one: &Stmt, e: &Expr) -> Result<u32, NoMemory>
     ensures { IfOk result (λ n. n ≡ max (count (expr_view e.now)) (greatest (stmt_view one.now))) }
 {
     Ok(count(e)?.max(greatest(one)?))
+}
+
+#[cycle(greatest)]
+fn greatest_of_switch(body: &[Stmt], e: &Expr) -> Result<u32, NoMemory>
+    ensures { IfOk result (λ n. n ≡ max (count (expr_view e.now)) (greatest_row (stmts_of (map stmt_view body.now)))) }
+{
+    Ok(count(e)?.max(greatest_row(body)?))
 }
 
 #[cycle(greatest)]
@@ -171,6 +180,74 @@ pub fn greatest_row(all: &[Stmt]) -> Result<u32, NoMemory>
     let mut n = 0;
     for s in all {
         n = n.max(greatest(s)?);
+    }
+    Ok(n)
+}
+
+// The switches in a statement.
+#[cycle(switches)]
+fn switches(s: &Stmt) -> Result<u32, NoMemory>
+    ensures { IfOk result (λ n. n ≡ switches (stmt_view s.now)) }
+{
+    switches_by(&s.node)
+}
+
+#[cycle(switches)]
+fn switches_by(node: &StmtNode) -> Result<u32, NoMemory>
+    ensures { IfOk result (λ n. n ≡ switches_by (stmt_node_view node.now)) }
+{
+    match node {
+        StmtNode::Block(body) => switches_in(body),
+        StmtNode::If(_, one, None) | StmtNode::While(_, one) => switches(one),
+        StmtNode::If(_, one, Some(other)) => switches_of_both(one, other),
+        StmtNode::DoWhile(body, _) => switches(body),
+        StmtNode::For(first, _, step, body) => switches_of_for(first, step, body),
+        StmtNode::Switch(_, _, body) => one_more(body),
+        StmtNode::Declare(_, _)
+        | StmtNode::Break
+        | StmtNode::Continue
+        | StmtNode::Return(_)
+        | StmtNode::Assign(_, _)
+        | StmtNode::Update(_, _, _)
+        | StmtNode::Eval(_)
+        | StmtNode::Empty => Ok(0),
+    }
+}
+
+#[cycle(switches)]
+fn switches_of_both(a: &Stmt, b: &Stmt) -> Result<u32, NoMemory>
+    ensures { IfOk result (λ n. n ≡ switches (stmt_view a.now) + switches (stmt_view b.now)) }
+{
+    sum(switches(a)?, switches(b)?)
+}
+
+#[cycle(switches)]
+fn switches_of_for(first: &Stmt, step: &Stmt, body: &Stmt) -> Result<u32, NoMemory>
+    ensures { IfOk result (λ n. n ≡ switches (stmt_view first.now) + (switches (stmt_view step.now) + switches (stmt_view body.now))) }
+{
+    sum(switches(first)?, switches_of_both(step, body)?)
+}
+
+// A switch, and those in it.
+#[cycle(switches)]
+fn one_more(body: &[Stmt]) -> Result<u32, NoMemory>
+    ensures { IfOk result (λ n. n ≡ suc (switches_in (stmts_of (map stmt_view body.now)))) }
+{
+    after(switches_in(body)?)
+}
+
+/// The switches in these statements.
+///
+/// # Errors
+///
+/// Only want of memory.
+#[cycle(switches)]
+pub fn switches_in(all: &[Stmt]) -> Result<u32, NoMemory>
+    ensures { IfOk result (λ n. n ≡ switches_in (stmts_of (map stmt_view all.now))) }
+{
+    let mut n = 0;
+    for s in all {
+        n = sum(n, switches(s)?)?;
     }
     Ok(n)
 }

@@ -4,6 +4,7 @@
 #![tactic(auto)]
 
 mod counts;
+mod labels;
 mod lowering;
 mod statements;
 

@@ -1,9 +1,11 @@
 //! Functions and programs.
 
-ghost use Rattle.std.specs.Prelude.{◌≡◌, IfOk, true, map};
+ghost use Rattle.std.specs.Prelude.{◌≡◌, ◌+◌, ◌*◌, IfOk, true, map, length, None};
 ghost use Rattle.std.specs.List.{AllByRecursion};
 ghost use Rattle.c_tree.specs.TypedForm.{IsWellFormed};
-ghost use Rattle.c_tree.specs.TypedViews.{layout_view, global_view, local_view, func_view as tree_func_view, typed_view};
+ghost use Rattle.c_tree.specs.Typed.{stmts_of};
+ghost use Rattle.lower_forms.specs.Counts.{greatest_row, switches_in};
+ghost use Rattle.c_tree.specs.TypedViews.{stmt_view, layout_view, global_view, local_view, func_view as tree_func_view, typed_view};
 ghost use Rattle.struct_ir.specs.Views.{object_view, func_view, global_view as ir_global_view, nodes_view, followed};
 ghost use Rattle.struct_ir.specs.WholeViews.{ir_view};
 ghost use Rattle.struct_ir.specs.Erased.{ir_erased};
@@ -12,11 +14,11 @@ ghost use Rattle.lower_forms.specs.Laws.{AllBounded};
 ghost use Rattle.lower_forms.specs.Programs.{HasParams, homes_from, object_of, objects_of, last_nodes, func_lowered, funcs_lowered, global_lowered, globals_lowered, lowered};
 ghost use Rattle.lower_expressions.specs.FrameViews.{frame_view};
 
-use crate::counts::{greatest_row, sum};
+use crate::counts::{greatest_row, sum, switches_in};
 use crate::statements::row;
 use ak_words::NoMemory;
 use c_meaning::types::size_in;
-use c_tree::typed::{Func, GlobalVar, Layout, Local, Typed};
+use c_tree::typed::{Func, GlobalVar, Layout, Local, Stmt, Typed};
 use lower_expressions::frame::Frame;
 use lower_expressions::nodes::{after, put, sets_int};
 use lower_expressions::types::small_align;
@@ -100,8 +102,9 @@ fn lower_func(
     requires { HasParams (tree_func_view f.now) }
     ensures { IfOk result (λ x. func_view x ≡ func_lowered (map layout_view structs.now) is_main (tree_func_view f.now)) }
 {
-    let frame = frame(alloc, structs, &f.locals)?;
-    let temps = sum(frame.first_temp, greatest_row(&f.body)?)?;
+    let homes = homes(alloc, &f.locals)?;
+    let frame = frame(structs, &homes, &f.locals)?;
+    let temps = registers(&f.locals, &f.body)?;
     let mut nodes = Vec::new(alloc);
     row(alloc, &f.body, &frame, &[], &mut nodes)?;
     last(&mut nodes, is_main, temps)?;
@@ -125,19 +128,41 @@ fn last(out: &mut Vec<Node>, is_main: bool, temps: u32) -> Result<(), NoMemory>
     Ok(())
 }
 
-// What stays the same in a function of these locals.
-fn frame<'a>(alloc: Global, structs: &'a [Layout], locals: &[Local]) -> Result<Frame<'a>, NoMemory>
-    ensures { IfOk result (λ f. frame_view f ≡ record { structs = map layout_view structs.now; homes = homes_from 0 (map local_view locals.now) }) }
+// A count that a register's number can be.
+fn small(n: usize) -> Result<u32, NoMemory>
+    ensures { IfOk result (λ m. m ≡ n) }
 {
-    let homes = homes(alloc, locals)?;
-    match u32::try_from(homes.len()) {
-        Ok(first_temp) => Ok(Frame {
-            structs,
-            homes,
-            first_temp,
-        }),
+    match u32::try_from(n) {
+        Ok(m) => Ok(m),
         Err(_) => Err(NoMemory),
     }
+}
+
+// What stays the same in a function of these locals, which have these homes.
+fn frame<'a>(
+    structs: &'a [Layout],
+    homes: &'a [Option<u32>],
+    locals: &[Local],
+) -> Result<Frame<'a>, NoMemory>
+    requires { homes.now ≡ homes_from 0 (map local_view locals.now) }
+    ensures { IfOk result (λ f. frame_view f ≡ record { structs = map layout_view structs.now; homes = homes_from 0 (map local_view locals.now); first = length (map local_view locals.now); flag = None }) }
+{
+    Ok(Frame {
+        structs,
+        homes,
+        first_temp: small(locals.len())?,
+        flag: None,
+    })
+}
+
+// How many registers a function of these locals has.
+fn registers(locals: &[Local], body: &[Stmt]) -> Result<u32, NoMemory>
+    ensures { IfOk result (λ n. n ≡ length (map local_view locals.now) + (greatest_row (stmts_of (map stmt_view body.now)) + 2 * switches_in (stmts_of (map stmt_view body.now)))) }
+{
+    let greatest = greatest_row(body)?;
+    let switches = switches_in(body)?;
+    let few = sum(switches, switches)?;
+    sum(small(locals.len())?, sum(greatest, few)?)
 }
 
 // The stack objects of locals.

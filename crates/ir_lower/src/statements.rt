@@ -1,20 +1,23 @@
 //! Statements.
 
-ghost use Rattle.std.specs.Prelude.{◌≡◌, ◌++◌, [], IfOk, OnOk, map, Some};
+ghost use Rattle.std.specs.Prelude.{◌≡◌, ◌++◌, [], IfOk, OnOk, map, Some, suc};
 ghost use Rattle.c_tree.specs.TypedViews.{expr_view, optional_expr_view, stmt_view};
 ghost use Rattle.struct_ir.specs.Nodes.{Nodes, no_nodes, more_nodes, loop};
 ghost use Rattle.struct_ir.specs.Views.{place_view, nodes_view, followed};
-ghost use Rattle.lower_forms.specs.Forms.{branches, expr_nodes, declared_home, ends, objects_by, objects_in, store_nodes, copy_nodes, object_assign, assign_nodes, update_register, update_at, update_object, update_nodes, test_nodes, declare_nodes, return_nodes, stmt_nodes, row_nodes};
+ghost use Rattle.lower_forms.specs.Forms.{branches, expr_nodes, declared_home, ends, objects_by, objects_in, store_nodes, copy_nodes, object_assign, assign_nodes, update_register, update_at, update_object, update_nodes, test_nodes, declare_nodes, return_nodes, stmt_nodes, row_nodes, looped, switched, sets_int, choose_nodes, switch_nodes, stmt_place, guarded, break_nodes};
+ghost use Rattle.c_tree.specs.TypedViews.{label_view};
+ghost use Rattle.c_meaning.specs.Switches.{default_from};
 ghost use Rattle.lower_expressions.specs.FrameViews.{frame_view};
 ghost use Rattle.c_tree.specs.Typed.{stmts_of};
 
+use crate::labels::{chooses, default_number, marks, sets_number};
 use ak_words::{NoMemory, Op};
 use c_meaning::types::is_struct;
-use c_tree::typed::{Expr, Stmt, StmtNode};
+use c_tree::typed::{Expr, Label, Stmt, StmtNode};
 use lower_expressions::expressions::{dropped, expr, place};
 use lower_expressions::forms::{computes, initialises, loads_at, stores, struct_nodes};
 use lower_expressions::frame::Frame;
-use lower_expressions::nodes::{after, begins, branches, ends, put, rounds, sets};
+use lower_expressions::nodes::{after, begins, branches, ends, put, rounds, sets, sets_int};
 use std::alloc::Global;
 use struct_ir::{Calc, Node, NodeKind, Place};
 
@@ -280,8 +283,33 @@ fn joined(alloc: Global, own: &[u32], left: &[u32]) -> Result<Vec<u32>, NoMemory
     Ok(all)
 }
 
-// A statement is executed; `left` are the stack objects that end where a break or a continue
-// leaves what declares them.
+// What stays the same in a loop.
+fn in_loop<'a>(f: &Frame<'a>) -> Frame<'a>
+    ensures { frame_view result ≡ looped (frame_view f.now) }
+{
+    Frame {
+        structs: f.structs,
+        homes: f.homes,
+        first_temp: f.first_temp,
+        flag: None,
+    }
+}
+
+// A break: it clears the flag of the switch around, or leaves the loop around.
+fn breaks(f: &Frame, at: u32, left: &[u32], out: &mut Vec<Node>) -> Result<(), NoMemory>
+    ensures { OnOk result ((rest : Nodes) → followed out.new.items rest ≡ followed out.old.items (break_nodes f.now.flag at left.now rest)) }
+{
+    match f.flag {
+        None => {
+            ends(out, at, left)?;
+            put(out, at, NodeKind::Break)
+        }
+        Some(flag) => sets_int(out, at, flag, 0),
+    }
+}
+
+// A statement is executed; `left` are the stack objects that end where a continue, or a break that
+// leaves a loop, leaves what declares them.
 #[cycle(stmts)]
 fn stmt(
     alloc: Global,
@@ -297,14 +325,15 @@ fn stmt(
         StmtNode::Declare(n, init) => declares(alloc, f, s.place, *n, init, out),
         StmtNode::If(e, one, None) => if_alone(alloc, one, e, f, left, out),
         StmtNode::If(e, one, Some(other)) => if_else(alloc, one, other, e, f, left, out),
-        StmtNode::While(e, body) => while_loop(alloc, body, s.place, e, f, out),
+        StmtNode::While(e, body) => while_loop(alloc, body, s.place, e, &in_loop(f), out),
+        StmtNode::DoWhile(body, e) => do_loop(alloc, body, s.place, e, &in_loop(f), out),
+        StmtNode::Switch(e, labels, body) => {
+            switch(alloc, body, s.place, e, labels, f, left, out)
+        }
         StmtNode::For(first, e, step, body) => {
             for_loop(alloc, first, body, step, s.place, e, f, left, out)
         }
-        StmtNode::Break => {
-            ends(out, s.place, left)?;
-            put(out, s.place, NodeKind::Break)
-        }
+        StmtNode::Break => breaks(f, s.place, left, out),
         StmtNode::Continue => {
             ends(out, s.place, left)?;
             put(out, s.place, NodeKind::Next)
@@ -405,10 +434,10 @@ fn for_loop(
     left: &[u32],
     out: &mut Vec<Node>,
 ) -> Result<(), NoMemory>
-    ensures { OnOk result ((rest : Nodes) → followed out.new.items rest ≡ followed out.old.items (stmt_nodes (frame_view f.now) (stmt_view first.now) left.now (more_nodes (loop at (test_nodes (frame_view f.now) (optional_expr_view e.now) (stmt_nodes (frame_view f.now) (stmt_view body.now) [] no_nodes)) (stmt_nodes (frame_view f.now) (stmt_view step.now) [] no_nodes)) (ends at (objects_by (frame_view f.now) (stmt_view first.now) []) rest)))) }
+    ensures { OnOk result ((rest : Nodes) → followed out.new.items rest ≡ followed out.old.items (stmt_nodes (frame_view f.now) (stmt_view first.now) left.now (more_nodes (loop at (test_nodes (looped (frame_view f.now)) (optional_expr_view e.now) (stmt_nodes (looped (frame_view f.now)) (stmt_view body.now) [] no_nodes)) (stmt_nodes (looped (frame_view f.now)) (stmt_view step.now) [] no_nodes)) (ends at (objects_by (frame_view f.now) (stmt_view first.now) []) rest)))) }
 {
     stmt(alloc, first, f, left, out)?;
-    for_rounds(alloc, body, step, at, e, f, out)?;
+    for_rounds(alloc, body, step, at, e, &in_loop(f), out)?;
     ends_of(f, first, at, out)
 }
 
@@ -428,6 +457,106 @@ fn for_rounds(
     let round = for_round(alloc, body, f, e)?;
     let last = row_of(alloc, step, f, &[])?;
     rounds(out, at, round, last)
+}
+
+#[cycle(stmts)]
+fn do_loop(
+    alloc: Global,
+    body: &Stmt,
+    at: u32,
+    e: &Expr,
+    f: &Frame,
+    out: &mut Vec<Node>,
+) -> Result<(), NoMemory>
+    ensures { OnOk result ((rest : Nodes) → followed out.new.items rest ≡ followed out.old.items (more_nodes (loop at (stmt_nodes (frame_view f.now) (stmt_view body.now) [] no_nodes) (test_nodes (frame_view f.now) (Some (expr_view e.now)) no_nodes)) rest)) }
+{
+    let round = row_of(alloc, body, f, &[])?;
+    let step = test_alone(alloc, f, e)?;
+    rounds(out, at, round, step)
+}
+
+// A switch: the number of the chosen label, the flag, and the statements.
+#[cycle(stmts)]
+fn switch(
+    alloc: Global,
+    body: &[Stmt],
+    at: u32,
+    e: &Expr,
+    labels: &[Label],
+    f: &Frame,
+    left: &[u32],
+    out: &mut Vec<Node>,
+) -> Result<(), NoMemory>
+    ensures { OnOk result ((rest : Nodes) → followed out.new.items rest ≡ followed out.old.items (expr_nodes (frame_view f.now) (expr_view e.now) (suc (suc f.now.first_temp)) (sets_int at f.now.first_temp (default_from 0 (map label_view labels.now)) (choose_nodes at f.now.first_temp 0 (map label_view labels.now) (sets_int at (suc f.now.first_temp) 0 (switch_nodes (switched (frame_view f.now)) at f.now.first_temp (map label_view labels.now) 0 (stmts_of (map stmt_view body.now)) left.now rest)))))) }
+{
+    let chosen = f.first_temp;
+    let flag = after(chosen)?;
+    let first_temp = after(flag)?;
+    expr(alloc, e, f, first_temp, out)?;
+    sets_number(out, at, chosen, default_number(labels)?)?;
+    chooses(alloc, out, at, chosen, labels)?;
+    sets_int(out, at, flag, 0)?;
+    let inner = Frame {
+        structs: f.structs,
+        homes: f.homes,
+        first_temp,
+        flag: Some(flag),
+    };
+    cases(alloc, body, at, chosen, flag, labels, &inner, left, out)
+}
+
+// The statements of a switch.
+#[cycle(stmts)]
+fn cases(
+    alloc: Global,
+    body: &[Stmt],
+    at: u32,
+    chosen: u32,
+    flag: u32,
+    labels: &[Label],
+    f: &Frame,
+    left: &[u32],
+    out: &mut Vec<Node>,
+) -> Result<(), NoMemory>
+    requires { flag ≡ suc chosen }
+    ensures { OnOk result ((rest : Nodes) → followed out.new.items rest ≡ followed out.old.items (switch_nodes (frame_view f.now) at chosen (map label_view labels.now) 0 (stmts_of (map stmt_view body.now)) left.now rest)) }
+{
+    for (i, s) in body.iter().enumerate() {
+        marks(alloc, out, at, chosen, i, labels)?;
+        let one = row_of(alloc, s, f, left)?;
+        branches(out, s.place, flag, one, Vec::new(alloc))?;
+    }
+    Ok(())
+}
+
+// A statement of a row: in a switch it's executed only while the flag is 1.
+#[cycle(stmts)]
+fn guarded_stmt(
+    alloc: Global,
+    s: &Stmt,
+    f: &Frame,
+    left: &[u32],
+    out: &mut Vec<Node>,
+) -> Result<(), NoMemory>
+    ensures { OnOk result ((rest : Nodes) → followed out.new.items rest ≡ followed out.old.items (guarded f.now.flag (stmt_place (stmt_view s.now)) (stmt_nodes (frame_view f.now) (stmt_view s.now) left.now) rest)) }
+{
+    match f.flag {
+        None => stmt(alloc, s, f, left, out),
+        Some(flag) => {
+            let one = row_of(alloc, s, f, left)?;
+            branches(out, s.place, flag, one, Vec::new(alloc))
+        }
+    }
+}
+
+// A row of a loop's condition alone.
+#[tactic(auto, using(struct_ir::proofs::Views::followed_none))]
+fn test_alone(alloc: Global, f: &Frame, e: &Expr) -> Result<Vec<Node>, NoMemory>
+    ensures { IfOk result (λ row. nodes_view row.items ≡ test_nodes (frame_view f.now) (Some (expr_view e.now)) no_nodes) }
+{
+    let mut row = Vec::new(alloc);
+    tests(alloc, f, e, &mut row)?;
+    Ok(row)
 }
 
 // A row of a statement alone.
@@ -481,7 +610,7 @@ pub fn row(
     ensures { OnOk result ((rest : Nodes) → followed out.new.items rest ≡ followed out.old.items (row_nodes (frame_view f.now) (stmts_of (map stmt_view all.now)) left.now rest)) }
 {
     for s in all {
-        stmt(alloc, s, f, left, out)?;
+        guarded_stmt(alloc, s, f, left, out)?;
     }
     Ok(())
 }

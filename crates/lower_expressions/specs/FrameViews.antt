@@ -6,9 +6,9 @@ use Rattle.lower_expressions.specs.declared.homes.Frame.{Frame}
 use Rattle.lower_expressions.specs.declared.homes.Reach.{Reach}
 use Rattle.lower_expressions.specs.declared.homes.Reach.TheVariants as reaches
 
--- what stays the same in a function
+-- what stays the same in a function, and where a statement stands
 abbrev pub frame_view : Frame → forms.Frame
-frame_view f = record { structs = map layout_view f.structs.now; homes = f.homes.items }
+frame_view f = record { structs = map layout_view f.structs.now; homes = f.homes.now; first = f.first_temp; flag = f.flag }
 
 -- how an object is reached
 abbrev pub reach_view : Reach → forms.Reach

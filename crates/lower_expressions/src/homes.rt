@@ -1,18 +1,17 @@
-ghost use Rattle.std.specs.Prelude.{◌≡◌, length};
-
 use c_tree::typed::Layout;
 
-/// What stays the same in a function.
-#[derive(Drop)]
+/// What stays the same in a function, and where a statement stands.
+#[derive(Clone, Copy)]
 pub struct Frame<'a> {
     /// The structs of the program.
     pub structs: &'a [Layout],
     /// For each local the number of its stack object, or none where it is kept in the register of
     /// its own number.
-    pub homes: Vec<Option<u32>>,
-    /// The first register that holds no local.
+    pub homes: &'a [Option<u32>],
+    /// The first register that holds no local, and nothing of a switch around.
     pub first_temp: u32,
-    pub ghost behind_locals: { first_temp ≡ length homes.items },
+    /// The flag of the switch that a break leaves, or none where it leaves a loop.
+    pub flag: Option<u32>,
 }
 
 /// How an object is reached once the pointer to it is in a register.

@@ -20,13 +20,13 @@ last_flat true zero = omega arith
 last_flat true (suc n) = omega arith
 last_flat false n = omega arith
 
-enough : (m s n : ℕ) → n ≤ (6 + m) * s + 2 → n ≤ 16 * (s + 1) * (m + 1)
+enough : (m s n : ℕ) → n ≤ (8 + m) * s + 2 → n ≤ 16 * (s + 1) * (m + 1)
 enough m s n h = grind (arith, h)
 
 bounded : (structs : List tree.Layout) (b : Bool) (f : tree.Func) → IsBounded structs f (func_lowered structs b f)
 bounded structs b f =
     let m = begun_in (frame_of structs f) f.body in
-    let c = cost_row (frame_of structs f) m f.body [] (last_nodes b (registers_of f)) (omega (arith, inside_begun_in (frame_of structs f) f.body)) in
+    let c = cost_row m (frame_of structs f) f.body [] (last_nodes b (registers_of f)) (omega (arith, inside_begun_in (frame_of structs f) f.body)) in
     let d = deep_row (frame_of structs f) f.body [] (last_nodes b (registers_of f)) in
     record {
       registers = omega arith;

@@ -1,11 +1,13 @@
 -- The code of statements is not deep.
-use Rattle.std.proofs.Common.{ℕ, suc, ◌*◌, List, [], ◌∷◌, ◌++◌, Option, Some, None, arith}
+use Rattle.std.proofs.Common.{ℕ, suc, ◌*◌, ◌==◌, ℤ, Bool, true, false, List, [], ◌∷◌, ◌++◌, Option, Some, None, arith}
 use Rattle.std.specs.Prelude.{max}
+use Rattle.ak_words.specs.declared.int_type.IntType.{IntType}
 use Rattle.ak_words.specs.declared.operation.Op.{Op}
 use Rattle.c_tree.specs.Typed as tree
+use Rattle.c_meaning.specs.Switches.{stands_at}
 use Rattle.c_meaning.specs.Turns.{is_struct}
 use Rattle.struct_ir.specs.Nodes.{Nodes, no_nodes, more_nodes, loop, break_, next_, ret}
-use Rattle.lower_forms.specs.Forms.{Frame, home, begins, ends, objects_by, objects_in, initialises, store_nodes, copy_nodes, own_register, assign_nodes, computes, update_nodes, test_nodes, declare_nodes, return_nodes, stmt_nodes, form_nodes, row_nodes}
+use Rattle.lower_forms.specs.Forms.{Frame, home, looped, switched, first_temp, begins, ends, objects_by, objects_in, initialises, store_nodes, copy_nodes, own_register, assign_nodes, computes, update_nodes, equal_nodes, choose_nodes, begin_if, label_nodes, stmt_place, guarded, break_nodes, test_nodes, declare_nodes, return_nodes, stmt_nodes, form_nodes, row_nodes, switch_nodes}
 use Rattle.lower_forms.specs.Sizes.{expr_depth, depth_if, stmt_depth, stmt_inside, row_depth}
 use Rattle.lower_forms.proofs.DeepExprs.{NoDeeper, deep_step, deep_weak, deep_same, deep_one, deep_branch, deep_either, deep_expr, deep_place, deep_dropped}
 
@@ -75,31 +77,75 @@ module _ (f : Frame) where
   deep_return place None rest = deep_weak _ _ _ _ (deep_ret place None rest) (omega arith)
   deep_return place (Some e) rest = deep_step _ _ _ _ _ (deep_expr f e _ _) (deep_ret place _ rest)
 
-  mutual
-    pub deep_stmt : (st : tree.Stmt) (left : List ℕ) (rest : Nodes) → NoDeeper (stmt_nodes f st left rest) (4 * stmt_depth st) rest
-    deep_stmt (tree.at_stmt place node) left rest = deep_form place node left rest
+-- ---- the labels of a switch
 
-    deep_form : (place : ℕ) (node : tree.StmtNode) (left : List ℕ) (rest : Nodes) → NoDeeper (form_nodes f place node left rest) (4 * suc (stmt_inside node)) rest
-    deep_form place (tree.block body) left rest =
-        deep_weak _ _ _ _ (deep_step _ _ _ _ _ (deep_row body (objects_in f body ++ left) _) (deep_ends place (objects_in f body) rest)) (omega arith)
-    deep_form place (tree.declare n init) left rest = deep_weak _ _ _ _ (deep_declare place n init rest) (omega arith)
-    deep_form place (tree.if_ e one) left rest =
-        deep_weak _ _ _ _ (deep_step _ _ _ _ _ (deep_expr f e _ _) (deep_branch _ _ _ _ rest _ _ (deep_stmt one left no_nodes) (deep_same _))) (omega arith)
-    deep_form place (tree.if_else e one other) left rest =
-        deep_weak _ _ _ _ (deep_step _ _ _ _ _ (deep_expr f e _ _) (deep_branch _ _ _ _ rest _ _ (deep_stmt one left no_nodes) (deep_stmt other left no_nodes))) (omega arith)
-    deep_form place (tree.while_ e body) left rest =
-        deep_weak _ _ _ _ (deep_loop place _ no_nodes rest _ _ (deep_step _ _ _ _ _ (deep_test (Some e) _) (deep_stmt body [] no_nodes)) (deep_same _)) (omega arith)
-    deep_form place (tree.for_ first e last body) left rest =
-        deep_weak _ _ _ _ (deep_step _ _ _ _ _ (deep_stmt first left _) (deep_step _ _ _ _ _ (deep_loop place _ _ _ _ _
-        (deep_step _ _ _ _ _ (deep_test e _) (deep_stmt body [] no_nodes)) (deep_stmt last [] no_nodes)) (deep_ends place (objects_by f first []) rest))) (omega arith)
-    deep_form place tree.break_ left rest = deep_weak _ _ _ _ (deep_step _ _ _ _ _ (deep_ends place left _) (deep_break place rest)) (omega arith)
-    deep_form place tree.continue_ left rest = deep_weak _ _ _ _ (deep_step _ _ _ _ _ (deep_ends place left _) (deep_next place rest)) (omega arith)
-    deep_form place (tree.return_ value) left rest = deep_weak _ _ _ _ (deep_return place value rest) (omega arith)
-    deep_form place (tree.assign a b) left rest = deep_weak _ _ _ _ (deep_assign place (own_register f (tree.node_of a)) a b _ rest) (omega arith)
-    deep_form place (tree.update a op b) left rest = deep_weak _ _ _ _ (deep_update place op (own_register f (tree.node_of a)) a b _ rest) (omega arith)
-    deep_form place (tree.evaluate e) left rest = deep_weak _ _ _ _ (deep_dropped f e _ rest) (omega arith)
-    deep_form place tree.empty left rest = deep_weak _ _ _ _ (deep_same _) (omega arith)
+deep_equal : (place r number : ℕ) (t : IntType) (z : ℤ) (rest : Nodes) → NoDeeper (equal_nodes place r number t z rest) 2 rest
+deep_equal place r number t z rest =
+    deep_weak _ _ _ _ (deep_step _ _ _ _ _ (deep_one _ _ _) (deep_step _ _ _ _ _ (deep_one _ _ _) (deep_branch _ _ _ _ rest _ _ (deep_one _ _ _) (deep_same _)))) (omega arith)
 
-    pub deep_row : (body : tree.Stmts) (left : List ℕ) (rest : Nodes) → NoDeeper (row_nodes f body left rest) (4 * row_depth body) rest
-    deep_row tree.no_stmts left rest = deep_weak _ _ _ _ (deep_same _) (omega arith)
-    deep_row (tree.more_stmts st body) left rest = deep_weak _ _ _ _ (deep_step _ _ _ _ _ (deep_stmt st left _) (deep_row body left rest)) (omega arith)
+deep_choose : (place r number : ℕ) (labels : List tree.Label) (rest : Nodes) → NoDeeper (choose_nodes place r number labels rest) 2 rest
+deep_choose place r number [] rest = deep_weak _ _ _ _ (deep_same _) (omega arith)
+deep_choose place r number (tree.case_at t z at ∷ labels) rest =
+    deep_weak _ _ _ _ (deep_step _ _ _ _ _ (deep_choose place r (suc number) labels _) (deep_equal place r number t z rest)) (omega arith)
+deep_choose place r number (tree.default_at at ∷ labels) rest = deep_choose place r (suc number) labels rest
+
+deep_begin_if : (here : Bool) (place r number : ℕ) (rest : Nodes) → NoDeeper (begin_if here place r number rest) 2 rest
+deep_begin_if true place r number rest =
+    deep_weak _ _ _ _ (deep_step _ _ _ _ _ (deep_one _ _ _) (deep_step _ _ _ _ _ (deep_one _ _ _) (deep_branch _ _ _ _ rest _ _ (deep_one _ _ _) (deep_same _)))) (omega arith)
+deep_begin_if false place r number rest = deep_weak _ _ _ _ (deep_same _) (omega arith)
+
+deep_labels : (place r i number : ℕ) (labels : List tree.Label) (rest : Nodes) → NoDeeper (label_nodes place r i number labels rest) 2 rest
+deep_labels place r i number [] rest = deep_weak _ _ _ _ (deep_same _) (omega arith)
+deep_labels place r i number (label ∷ labels) rest =
+    deep_weak _ _ _ _ (deep_step _ _ _ _ _ (deep_begin_if (stands_at label == i) place r number _) (deep_labels place r i (suc number) labels rest)) (omega arith)
+
+-- under a flag it's one level deeper
+deep_guarded : (flag : Option ℕ) (place : ℕ) (nodes : Nodes → Nodes) (a : ℕ) (rest : Nodes) → ((r : Nodes) → NoDeeper (nodes r) a r) → NoDeeper (guarded flag place nodes rest) (suc a) rest
+deep_guarded None place nodes a rest h = deep_weak _ _ _ _ (h rest) (omega arith)
+deep_guarded (Some flag) place nodes a rest h = deep_weak _ _ _ _ (deep_branch _ _ _ _ rest _ _ (h no_nodes) (deep_same _)) (omega arith)
+
+deep_break_by : (flag : Option ℕ) (place : ℕ) (left : List ℕ) (rest : Nodes) → NoDeeper (break_nodes flag place left rest) 1 rest
+deep_break_by None place left rest = deep_weak _ _ _ _ (deep_step _ _ _ _ _ (deep_ends place left _) (deep_break place rest)) (omega arith)
+deep_break_by (Some flag) place left rest = deep_one _ _ _
+
+mutual
+  pub deep_stmt : (f : Frame) (st : tree.Stmt) (left : List ℕ) (rest : Nodes) → NoDeeper (stmt_nodes f st left rest) (4 * stmt_depth st) rest
+  deep_stmt f (tree.at_stmt place node) left rest = deep_form f place node left rest
+
+  deep_form : (f : Frame) (place : ℕ) (node : tree.StmtNode) (left : List ℕ) (rest : Nodes) → NoDeeper (form_nodes f place node left rest) (4 * suc (stmt_inside node)) rest
+  deep_form f place (tree.block body) left rest =
+      deep_weak _ _ _ _ (deep_step _ _ _ _ _ (deep_row f body (objects_in f body ++ left) _) (deep_ends place (objects_in f body) rest)) (omega arith)
+  deep_form f place (tree.declare n init) left rest = deep_weak _ _ _ _ (deep_declare f place n init rest) (omega arith)
+  deep_form f place (tree.if_ e one) left rest =
+      deep_weak _ _ _ _ (deep_step _ _ _ _ _ (deep_expr f e _ _) (deep_branch _ _ _ _ rest _ _ (deep_stmt f one left no_nodes) (deep_same _))) (omega arith)
+  deep_form f place (tree.if_else e one other) left rest =
+      deep_weak _ _ _ _ (deep_step _ _ _ _ _ (deep_expr f e _ _) (deep_branch _ _ _ _ rest _ _ (deep_stmt f one left no_nodes) (deep_stmt f other left no_nodes))) (omega arith)
+  deep_form f place (tree.while_ e body) left rest =
+      deep_weak _ _ _ _ (deep_loop place _ no_nodes rest _ _ (deep_step _ _ _ _ _ (deep_test (looped f) (Some e) _) (deep_stmt (looped f) body [] no_nodes)) (deep_same _)) (omega arith)
+  deep_form f place (tree.for_ first e last body) left rest =
+      deep_weak _ _ _ _ (deep_step _ _ _ _ _ (deep_stmt f first left _) (deep_step _ _ _ _ _ (deep_loop place _ _ _ _ _
+      (deep_step _ _ _ _ _ (deep_test (looped f) e _) (deep_stmt (looped f) body [] no_nodes)) (deep_stmt (looped f) last [] no_nodes)) (deep_ends place (objects_by f first []) rest))) (omega arith)
+  deep_form f place (tree.do_while body e) left rest =
+      deep_weak _ _ _ _ (deep_loop place _ _ rest _ _ (deep_stmt (looped f) body [] no_nodes) (deep_test (looped f) (Some e) no_nodes)) (omega arith)
+  deep_form f place (tree.switch e labels body) left rest =
+      deep_weak _ _ _ _ (deep_step _ _ _ _ _ (deep_expr f e _ _) (deep_step _ _ _ _ _ (deep_one _ _ _) (deep_step _ _ _ _ _ (deep_choose place (first_temp f) 0 labels _)
+      (deep_step _ _ _ _ _ (deep_one _ _ _) (deep_switch (switched f) place (first_temp f) labels 0 body left rest))))) (omega arith)
+  deep_form f place tree.break_ left rest = deep_weak _ _ _ _ (deep_break_by f.flag place left rest) (omega arith)
+  deep_form f place tree.continue_ left rest = deep_weak _ _ _ _ (deep_step _ _ _ _ _ (deep_ends place left _) (deep_next place rest)) (omega arith)
+  deep_form f place (tree.return_ value) left rest = deep_weak _ _ _ _ (deep_return f place value rest) (omega arith)
+  deep_form f place (tree.assign a b) left rest = deep_weak _ _ _ _ (deep_assign f place (own_register f (tree.node_of a)) a b _ rest) (omega arith)
+  deep_form f place (tree.update a op b) left rest = deep_weak _ _ _ _ (deep_update f place op (own_register f (tree.node_of a)) a b _ rest) (omega arith)
+  deep_form f place (tree.evaluate e) left rest = deep_weak _ _ _ _ (deep_dropped f e _ rest) (omega arith)
+  deep_form f place tree.empty left rest = deep_weak _ _ _ _ (deep_same _) (omega arith)
+
+  pub deep_row : (f : Frame) (body : tree.Stmts) (left : List ℕ) (rest : Nodes) → NoDeeper (row_nodes f body left rest) (suc (4 * row_depth body)) rest
+  deep_row f tree.no_stmts left rest = deep_weak _ _ _ _ (deep_same _) (omega arith)
+  deep_row f (tree.more_stmts st body) left rest =
+      deep_weak _ _ _ _ (deep_step _ _ _ _ _ (deep_guarded f.flag (stmt_place st) (stmt_nodes f st left) _ _ (λ r. deep_stmt f st left r)) (deep_row f body left rest)) (omega arith)
+
+  deep_switch : (f : Frame) (place r : ℕ) (labels : List tree.Label) (i : ℕ) (body : tree.Stmts) (left : List ℕ) (rest : Nodes)
+      → NoDeeper (switch_nodes f place r labels i body left rest) (max 2 (suc (4 * row_depth body))) rest
+  deep_switch f place r labels i tree.no_stmts left rest = deep_weak _ _ _ _ (deep_same _) (omega arith)
+  deep_switch f place r labels i (tree.more_stmts st body) left rest =
+      deep_weak _ _ _ _ (deep_step _ _ _ _ _ (deep_labels place r i 0 labels _) (deep_step _ _ _ _ _
+      (deep_guarded (Some (suc r)) (stmt_place st) (stmt_nodes f st left) _ _ (λ q. deep_stmt f st left q)) (deep_switch f place r labels (suc i) body left rest))) (omega arith)

@@ -46,6 +46,7 @@ printed_pieces (tree.text ∷ pieces) tree.no_exprs h = elim h [ ]
 -- what a function's nodes may name is there, where its tree names it
 pub record Suits (x : Scope) (c : InScope) (f : Frame) : Type 0 where
   pub first : first_temp f ≤ x.temps
+  pub flag : (g : ℕ) → f.flag ≡ Some g → g < x.temps
   pub local : (n : ℕ) (l : tree.Local) → slice_get c.locals n ≡ Some l → n < x.temps
   pub object : (n k : ℕ) → home f n ≡ Some k → nat_lt k x.objects ≡ true
   pub global : (n : ℕ) (ty : tree.Ty) → slice_get c.globals n ≡ Some ty → nat_lt n x.globals ≡ true

@@ -7,7 +7,7 @@ use Rattle.std.proofs.lemmas.Option.{slice_get_within, same_Some}
 use Rattle.std.specs.Prelude.{slice_get, sum_by}
 use Rattle.std.specs.List.{AllByRecursion, list_all}
 use Rattle.c_tree.specs.Typed as tree
-use Rattle.c_tree.specs.TypedForm.{Signature, IsFunc, IsGlobal, IsInit, IsWellFormed, signature_of, context_of, taken}
+use Rattle.c_tree.specs.TypedForm.{in_function, Signature, IsFunc, IsGlobal, IsInit, IsWellFormed, signature_of, context_of, taken}
 use Rattle.c_tree.specs.TypedLayout.{size_in}
 use Rattle.struct_ir.specs.Nodes.{StackObject}
 use Rattle.struct_ir.specs.Erased.{func_erased}
@@ -71,7 +71,8 @@ good_last x false n e = good_none x outside
 module _ (t : tree.Typed) (w : IsWellFormed t) where
   suits : (b : Bool) (f : tree.Func) → IsFunc t f → Suits (scope_of (lowered t) (func_lowered t.structs b f)) (context_of t f) (frame_of t.structs f)
   suits b f h = record {
-    first = omega (arith, homes_long 0 f.locals);
+    first = omega arith;
+    flag = λ g e. absurd cc;
     local = λ n l e. omega (arith, slice_get_within f.locals n l e);
     object = λ n k e. lt-ltb k (length (objects_of t.structs f.locals)) (omega (arith, homes_below t.structs 0 f.locals n k (home_is (slice_get (homes_from 0 f.locals) n) k e)));
     global = λ n ty e. lt-ltb n _ (omega (arith, slice_get_within (map (λ g. g.ty) t.globals) n ty e, length-map t.globals (λ (g : tree.GlobalVar). g.ty), globals_long t.structs t.globals));
@@ -81,7 +82,7 @@ module _ (t : tree.Typed) (w : IsWellFormed t) where
 
   good_func : (b : Bool) (f : tree.Func) → IsFunc t f → Good (scope_of (lowered t) (func_lowered t.structs b f)) outside (func_lowered t.structs b f).nodes
   good_func b f h =
-      good_row _ (context_of t f) (frame_of t.structs f) (suits b f h) f.params f.result f.body false h.body (omega (arith, homes_long 0 f.locals)) outside (in_no_loop outside) [] tt _
+      good_row _ (context_of t f) f.params f.result (frame_of t.structs f) (suits b f h) f.body in_function h.body (omega arith) outside (in_no_loop None outside) [] tt _
       (good_last _ b (registers_of f) refl)
 
   all_valid : (i : ℕ) (fs : List tree.Func) → AllByRecursion (IsFunc t) fs → list_all (λ f. are_nodes (scope_of (lowered t) f) outside f.nodes) (funcs_lowered t.structs t.main i fs) ≡ true

@@ -1,30 +1,37 @@
 -- The code of statements is valid and bare.
-use Rattle.std.proofs.Common.{◌≡◌, ℕ, suc, ◌+◌, ◌<◌, ◌≤◌, Bool, true, false, if◌then◌else◌, List, [], Option, Some, None, refl, ap, ◌&&◌, arith}
+use Rattle.std.proofs.Common.{◌≡◌, ℕ, suc, ◌+◌, ◌*◌, ◌<◌, ◌≤◌, ◌==◌, ℤ, Bool, true, false, if◌then◌else◌, List, [], ◌∷◌, Option, Some, None, refl, ap, subst, ◌&&◌, arith}
 use Rattle.std.proofs.lemmas.Bool.{and_from}
+use Rattle.std.proofs.lemmas.Option.{same_Some}
+use Rattle.std.specs.List.{AllByRecursion}
 use Rattle.std.specs.Prelude.{nat_lt}
 use Rattle.ak_words.specs.declared.int_type.IntType.{IntType}
 use Rattle.ak_words.specs.declared.operation.Op.{Op}
 use Rattle.c_tree.specs.Typed as tree
-use Rattle.c_tree.specs.TypedForm.{InScope, IsScalar, Inside, IsStep, IfTyped, IsTyped, IsTypedNode, IsWell, IsWellNode, AreWell}
+use Rattle.c_tree.specs.TypedForm.{InScope, IsScalar, Inside, IsPromoted, IsStep, IfTyped, IsTyped, IsTypedNode, Jumps, in_function, in_loop, in_switch, stmts_count, IsSwitched, IsLabel, IsWell, IsWellNode, AreWell}
 use Rattle.c_meaning.specs.Values.{is_scalar, operand_types}
+use Rattle.c_meaning.specs.Switches.{default_from, stands_at}
 use Rattle.c_meaning.specs.Turns.{is_struct}
 use Rattle.struct_ir.specs.Nodes.{Nodes, no_nodes, more_nodes, plain, begin_object}
 use Rattle.struct_ir.specs.Valid.{Scope, Around, body_of, latch_of}
-use Rattle.lower_forms.specs.Counts.{count, count_parts, count_if, greatest, greatest_in, greatest_row}
-use Rattle.lower_forms.specs.Forms.{Frame, home, first_temp, behind, reach, is_void, number_type, value_nodes, object_place, dropped_nodes, dropped_value, begins, with_home, home_in, declared_home, objects_by, objects_in, initialises, store_nodes, copy_nodes, own_register, assign_nodes, number_update, computes, update_nodes, test_nodes, stmt_nodes, form_nodes, row_nodes}
+use Rattle.lower_forms.specs.Counts.{count, count_parts, count_if, greatest, greatest_in, greatest_row, switches, switches_by, switches_in}
+use Rattle.lower_forms.specs.Forms.{Frame, looped, switched, home, first_temp, behind, reach, is_void, number_type, value_nodes, object_place, dropped_nodes, dropped_value, begins, with_home, home_in, declared_home, objects_by, objects_in, initialises, store_nodes, copy_nodes, own_register, assign_nodes, number_update, computes, update_nodes, equal_nodes, choose_nodes, begin_if, label_nodes, stmt_place, guarded, break_nodes, test_nodes, stmt_nodes, form_nodes, row_nodes, switch_nodes}
 use Rattle.lower_forms.proofs.Operands.{operand_promoted, moves_fits}
-use Rattle.lower_forms.proofs.Pieces.{Good, below, good_none, good_set, good_branches, good_loop, good_break, good_next, good_ret, good_long, place_in, place_bare, temp_in, load_step, store_step, copy_step, AreObjects, objects_both, good_ends}
+use Rattle.lower_forms.proofs.Pieces.{Good, below, good_none, good_set, good_branches, good_loop, good_break, good_next, good_ret, good_int, good_long, place_in, place_bare, temp_in, load_step, store_step, copy_step, AreObjects, objects_both, good_ends, promoted_is}
 use Rattle.lower_forms.proofs.GoodExprs.{Suits, at_least_one, temps_below, good_call, called, BelowIf, register_below, local_below, reach_fits, good_expr, good_value, good_place, good_object_place, good_args}
 
--- a break and a continue may stand there, where the tree has them
-abbrev pub Loops : Bool → Around → Type 0
-Loops b a = b ≡ true → (a.in_loop ≡ true) × (a.in_body ≡ true)
+-- a break and a continue may stand there, where the tree has them: under a flag a break leaves no loop
+pub record Jumping (j : Jumps) (flag : Option ℕ) (a : Around) : Type 0 where
+  pub breaks : j.breaks ≡ true → flag ≡ None → a.in_loop ≡ true
+  pub continues : j.continues ≡ true → a.in_body ≡ true
 
-pub in_no_loop : (a : Around) → Loops false a
-in_no_loop a e = absurd cc
+pub in_no_loop : (flag : Option ℕ) (a : Around) → Jumping in_function flag a
+in_no_loop flag a = record { breaks = λ e. absurd cc; continues = λ e. absurd cc }
 
-in_a_loop : (b : Bool) → Loops b body_of
-in_a_loop b e = (refl, refl)
+in_a_loop : Jumping in_loop None body_of
+in_a_loop = record { breaks = λ e f. refl; continues = λ e. refl }
+
+in_a_switch : (j : Jumps) (flag : Option ℕ) (g : ℕ) (a : Around) → Jumping j flag a → Jumping (in_switch j) (Some g) a
+in_a_switch j flag g a h = record { breaks = λ e f. absurd cc; continues = h.continues }
 
 module _ (x : Scope) (c : InScope) (f : Frame) (s : Suits x c f) where
   either_good : (a : Around) (b : Bool) (m n : Nodes) → Good x a m → Good x a n → Good x a (if b then m else n)
@@ -77,6 +84,8 @@ module _ (x : Scope) (c : InScope) (f : Frame) (s : Suits x c f) where
   home_fits (tree.if_else e one other) k q = absurd cc
   home_fits (tree.while_ e body) k q = absurd cc
   home_fits (tree.for_ first e last body) k q = absurd cc
+  home_fits (tree.do_while body e) k q = absurd cc
+  home_fits (tree.switch e labels body) k q = absurd cc
   home_fits tree.break_ k q = absurd cc
   home_fits tree.continue_ k q = absurd cc
   home_fits (tree.return_ value) k q = absurd cc
@@ -193,74 +202,141 @@ module _ (x : Scope) (c : InScope) (f : Frame) (s : Suits x c f) where
       good_expr x c f s right i t (omega (arith, k)) a _ (good_set x a _ (suc t) _ _ u (below x n w)
       (good_computes a place op _ _ _ _ _ rest u (omega (arith, k)) w g))
 
-  -- ---- statements
+  -- ---- conditions
 
-  good_test : (e : Option tree.Expr) → IfTyped c IsScalar e → first_temp f + count_if e ≤ x.temps → (rest : Nodes) → Good x body_of rest → Good x body_of (test_nodes f e rest)
-  good_test None h k rest g = g
-  good_test (Some e) h k rest g =
-      good_expr x c f s e h.0 (first_temp f) k body_of _ (good_branches x body_of _ _ _ _ rest (omega (arith, k, at_least_one e)) (good_none x body_of)
-      (good_break x body_of _ no_nodes refl (good_none x body_of)) g)
+  good_test : (e : Option tree.Expr) → IfTyped c IsScalar e → first_temp f + count_if e ≤ x.temps → (a : Around) → a.in_loop ≡ true → (rest : Nodes) → Good x a rest → Good x a (test_nodes f e rest)
+  good_test None h k a l rest g = g
+  good_test (Some e) h k a l rest g =
+      good_expr x c f s e h.0 (first_temp f) k a _ (good_branches x a _ _ _ _ rest (omega (arith, k, at_least_one e)) (good_none x a)
+      (good_break x a _ no_nodes l (good_none x a)) g)
 
-  module _ (params : ℕ) (result : tree.Ty) where
-    abbrev inside : Inside
-    inside = record { context = c; params = params; result = result }
+  -- under a flag, or not
+  good_guarded : (place : ℕ) (a : Around) (nodes : Nodes → Nodes) (rest : Nodes) → ((r : Nodes) → Good x a r → Good x a (nodes r)) → (flag : Option ℕ) → f.flag ≡ flag → Good x a rest → Good x a (guarded flag place nodes rest)
+  good_guarded place a nodes rest h None e g = h rest g
+  good_guarded place a nodes rest h (Some flag) e g = good_branches x a place flag _ _ rest (s.flag flag e) (h no_nodes (good_none x a)) (good_none x a) g
 
-    well_step : (st : tree.Stmt) (b : Bool) → IsStep st → IsWell inside b st → IsWell inside false st
-    well_step (tree.at_stmt place (tree.block body)) b h k = elim h [ ]
-    well_step (tree.at_stmt place (tree.declare n init)) b h k = elim h [ ]
-    well_step (tree.at_stmt place (tree.if_ e one)) b h k = elim h [ ]
-    well_step (tree.at_stmt place (tree.if_else e one other)) b h k = elim h [ ]
-    well_step (tree.at_stmt place (tree.while_ e body)) b h k = elim h [ ]
-    well_step (tree.at_stmt place (tree.for_ first e last body)) b h k = elim h [ ]
-    well_step (tree.at_stmt place tree.break_) b h k = elim h [ ]
-    well_step (tree.at_stmt place tree.continue_) b h k = elim h [ ]
-    well_step (tree.at_stmt place (tree.return_ value)) b h k = elim h [ ]
-    well_step (tree.at_stmt place (tree.assign d e)) b h k = k
-    well_step (tree.at_stmt place (tree.update d op e)) b h k = k
-    well_step (tree.at_stmt place (tree.evaluate e)) b h k = k
-    well_step (tree.at_stmt place tree.empty) b h k = k
+  good_break_by : (place : ℕ) (a : Around) (left : List ℕ) (rest : Nodes) → AreObjects x left → (flag : Option ℕ) → f.flag ≡ flag → (f.flag ≡ None → a.in_loop ≡ true) → Good x a rest → Good x a (break_nodes flag place left rest)
+  good_break_by place a left rest o None e l g = good_ends x a place left _ o (good_break x a place rest (l e) g)
+  good_break_by place a left rest o (Some flag) e l g = good_int x a place flag 0 rest (s.flag flag e) g
 
-    mutual
-      pub good_stmt : (st : tree.Stmt) (b : Bool) → IsWell inside b st → first_temp f + greatest st ≤ x.temps → (a : Around) → Loops b a → (left : List ℕ) → AreObjects x left → (rest : Nodes)
-          → Good x a rest → Good x a (stmt_nodes f st left rest)
-      good_stmt (tree.at_stmt place node) b h k a l left o rest g = good_form place node b h k a l left o rest g
+-- ---- the labels of a switch
 
-      good_form : (place : ℕ) (node : tree.StmtNode) (b : Bool) → IsWellNode inside b node → first_temp f + greatest_in node ≤ x.temps → (a : Around) → Loops b a → (left : List ℕ) → AreObjects x left
-          → (rest : Nodes) → Good x a rest → Good x a (form_nodes f place node left rest)
-      good_form place (tree.block body) b h k a l left o rest g =
-          good_row body b h k a l _ (objects_both x (objects_in f body) left (objects_fit body) o) _ (good_ends x a place (objects_in f body) rest (objects_fit body) g)
-      good_form place (tree.declare n None) b h k a l left o rest g = good_begins a place n (home f n) rest (s.object n) (s.local n h.1.0 h.1.1) g
-      good_form place (tree.declare n (Some e)) b h k a l left o rest g =
-          good_begins a place n (home f n) _ (s.object n) (s.local n h.1.0 h.1.1) (good_expr x c f s e h.1.2.0 (first_temp f) k a _
-          (good_initialises a place (home f n) n _ _ rest (s.object n) (s.local n h.1.0 h.1.1) (omega (arith, k, at_least_one e)) g))
-      good_form place (tree.if_ e one) b h k a l left o rest g =
-          good_expr x c f s e h.0 (first_temp f) (omega (arith, k)) a _ (good_branches x a _ _ _ _ rest (omega (arith, k, at_least_one e))
-          (good_stmt one b h.2 (omega (arith, k)) a l left o no_nodes (good_none x a)) (good_none x a) g)
-      good_form place (tree.if_else e one other) b h k a l left o rest g =
-          good_expr x c f s e h.0 (first_temp f) (omega (arith, k)) a _ (good_branches x a _ _ _ _ rest (omega (arith, k, at_least_one e))
-          (good_stmt one b h.2 (omega (arith, k)) a l left o no_nodes (good_none x a)) (good_stmt other b h.4 (omega (arith, k)) a l left o no_nodes (good_none x a)) g)
-      good_form place (tree.while_ e body) b h k a l left o rest g =
-          good_loop x a place _ no_nodes rest (good_test (Some e) (h.0, h.1) (omega (arith, k)) _
-          (good_stmt body true h.2 (omega (arith, k)) body_of (in_a_loop true) [] tt no_nodes (good_none x body_of))) (good_none x latch_of) g
-      good_form place (tree.for_ first e last body) b h k a l left o rest g =
-          good_stmt first b h.0 (omega (arith, k)) a l left o _ (good_loop x a place _ _ _
-          (good_test e h.2 (omega (arith, k)) _ (good_stmt body true h.5 (omega (arith, k)) body_of (in_a_loop true) [] tt no_nodes (good_none x body_of)))
-          (good_stmt last false (well_step last b h.4 h.3) (omega (arith, k)) latch_of (in_no_loop latch_of) [] tt no_nodes (good_none x latch_of))
-          (good_ends x a place _ rest (by_fits first [] tt) g))
-      good_form place tree.break_ b h k a l left o rest g = good_ends x a place left _ o (good_break x a place rest (l h).0 g)
-      good_form place tree.continue_ b h k a l left o rest g = good_ends x a place left _ o (good_next x a place rest (l h).1 g)
-      good_form place (tree.return_ None) b h k a l left o rest g = good_ret x a place None rest refl g
-      good_form place (tree.return_ (Some e)) b h k a l left o rest g =
-          good_expr x c f s e h.0 (first_temp f) k a _ (good_ret x a place (Some (first_temp f)) rest (below x _ (omega (arith, k, at_least_one e))) g)
-      good_form place (tree.assign (tree.at p ty node) e) b h k a l left o rest g =
-          good_assign place (own_register f node) (tree.at p ty node) e (own_fits ty node h.0) h.0 h.1 (first_temp f) k a rest g
-      good_form place (tree.update (tree.at p ty node) op e) b h k a l left o rest g =
-          good_update place op (own_register f node) (tree.at p ty node) e (own_fits ty node h.0) h.0 h.1 (first_temp f) k a rest g
-      good_form place (tree.evaluate e) b h k a l left o rest g = good_dropped e h (first_temp f) k a rest g
-      good_form place tree.empty b h k a l left o rest g = g
+module _ (x : Scope) (a : Around) (place r : ℕ) (low : suc (suc r) < x.temps) where
+  both_there : (m n : ℕ) → m < x.temps → n < x.temps → (nat_lt m x.temps && nat_lt n x.temps) ≡ true
+  both_there m n h k = and_from _ _ (below x m h) (below x n k)
 
-      pub good_row : (body : tree.Stmts) (b : Bool) → AreWell inside b body → first_temp f + greatest_row body ≤ x.temps → (a : Around) → Loops b a → (left : List ℕ) → AreObjects x left → (rest : Nodes)
-          → Good x a rest → Good x a (row_nodes f body left rest)
-      good_row tree.no_stmts b h k a l left o rest g = g
-      good_row (tree.more_stmts st body) b h k a l left o rest g =
-          good_stmt st b h.0 (omega (arith, k)) a l left o _ (good_row body b h.1 (omega (arith, k)) a l left o rest g)
+  good_equal : (number : ℕ) (t : IntType) (z : ℤ) (rest : Nodes) → IsPromoted t → Good x a rest → Good x a (equal_nodes place r number t z rest)
+  good_equal number t z rest h g =
+      good_set x a place (suc r) _ _ (omega (arith, low)) refl (good_set x a place (suc r) _ _ (omega (arith, low)) (and_from _ _ (promoted_is t h) (both_there _ _ low (omega (arith, low))))
+      (good_branches x a place (suc r) _ _ rest (omega (arith, low)) (good_int x a place r number no_nodes (omega (arith, low)) (good_none x a)) (good_none x a) g))
+
+  promoted_label : (ty : tree.Ty) (t : IntType) → ty ≡ tree.integer t → IsSwitched ty → IsPromoted t
+  promoted_label ty t e h = subst IsSwitched e h
+
+  good_choose : (ty : tree.Ty) (count number : ℕ) (labels : List tree.Label) (rest : Nodes) → IsSwitched ty → AllByRecursion (IsLabel ty count) labels → Good x a rest → Good x a (choose_nodes place r number labels rest)
+  good_choose ty count number [] rest h all g = g
+  good_choose ty count number (tree.case_at t z at ∷ labels) rest h all g =
+      good_choose ty count (suc number) labels _ h all.1 (good_equal number t z rest (promoted_label ty t all.0.0 h) g)
+  good_choose ty count number (tree.default_at at ∷ labels) rest h all g = good_choose ty count (suc number) labels rest h all.1 g
+
+  good_begin_if : (here : Bool) (number : ℕ) (rest : Nodes) → Good x a rest → Good x a (begin_if here place r number rest)
+  good_begin_if true number rest g =
+      good_int x a place (suc (suc r)) number _ low (good_set x a place (suc (suc r)) _ _ low (both_there _ _ (omega (arith, low)) low)
+      (good_branches x a place (suc (suc r)) _ _ rest low (good_int x a place (suc r) 1 no_nodes (omega (arith, low)) (good_none x a)) (good_none x a) g))
+  good_begin_if false number rest g = g
+
+  good_labels : (i number : ℕ) (labels : List tree.Label) (rest : Nodes) → Good x a rest → Good x a (label_nodes place r i number labels rest)
+  good_labels i number [] rest g = g
+  good_labels i number (label ∷ labels) rest g = good_begin_if (stands_at label == i) number _ (good_labels i (suc number) labels rest g)
+
+-- ---- statements
+
+module _ (x : Scope) (c : InScope) (params : ℕ) (result : tree.Ty) where
+  abbrev inside : Inside
+  inside = record { context = c; params = params; result = result }
+
+  suits_loop : (f : Frame) → Suits x c f → Suits x c (looped f)
+  suits_loop f s = record { first = s.first; flag = λ g e. absurd cc; local = s.local; object = s.object; global = s.global; literal = s.literal; params = s.params }
+
+  suits_switch : (f : Frame) → Suits x c f → suc (suc (first_temp f)) ≤ x.temps → Suits x c (switched f)
+  suits_switch f s h = record { first = h; flag = λ g e. omega (arith, h, same_Some _ _ e); local = s.local; object = s.object; global = s.global; literal = s.literal; params = s.params }
+
+  well_step : (st : tree.Stmt) (b : Jumps) → IsStep st → IsWell inside b st → IsWell inside in_function st
+  well_step (tree.at_stmt place (tree.block body)) b h k = elim h [ ]
+  well_step (tree.at_stmt place (tree.declare n init)) b h k = elim h [ ]
+  well_step (tree.at_stmt place (tree.if_ e one)) b h k = elim h [ ]
+  well_step (tree.at_stmt place (tree.if_else e one other)) b h k = elim h [ ]
+  well_step (tree.at_stmt place (tree.while_ e body)) b h k = elim h [ ]
+  well_step (tree.at_stmt place (tree.for_ first e last body)) b h k = elim h [ ]
+  well_step (tree.at_stmt place (tree.do_while body e)) b h k = elim h [ ]
+  well_step (tree.at_stmt place (tree.switch e labels body)) b h k = elim h [ ]
+  well_step (tree.at_stmt place tree.break_) b h k = elim h [ ]
+  well_step (tree.at_stmt place tree.continue_) b h k = elim h [ ]
+  well_step (tree.at_stmt place (tree.return_ value)) b h k = elim h [ ]
+  well_step (tree.at_stmt place (tree.assign d e)) b h k = k
+  well_step (tree.at_stmt place (tree.update d op e)) b h k = k
+  well_step (tree.at_stmt place (tree.evaluate e)) b h k = k
+  well_step (tree.at_stmt place tree.empty) b h k = k
+
+  mutual
+    pub good_stmt : (f : Frame) → Suits x c f → (st : tree.Stmt) (b : Jumps) → IsWell inside b st → first_temp f + (greatest st + 2 * switches st) ≤ x.temps → (a : Around) → Jumping b f.flag a → (left : List ℕ) → AreObjects x left → (rest : Nodes)
+        → Good x a rest → Good x a (stmt_nodes f st left rest)
+    good_stmt f s (tree.at_stmt place node) b h k a l left o rest g = good_form f s place node b h k a l left o rest g
+
+    good_form : (f : Frame) → Suits x c f → (place : ℕ) (node : tree.StmtNode) (b : Jumps) → IsWellNode inside b node → first_temp f + (greatest_in node + 2 * switches_by node) ≤ x.temps → (a : Around) → Jumping b f.flag a → (left : List ℕ)
+        → AreObjects x left → (rest : Nodes) → Good x a rest → Good x a (form_nodes f place node left rest)
+    good_form f s place (tree.block body) b h k a l left o rest g =
+        good_row f s body b h k a l _ (objects_both x (objects_in f body) left (objects_fit x c f s body) o) _ (good_ends x a place (objects_in f body) rest (objects_fit x c f s body) g)
+    good_form f s place (tree.declare n None) b h k a l left o rest g = good_begins x c f s a place n (home f n) rest (s.object n) (s.local n h.1.0 h.1.1) g
+    good_form f s place (tree.declare n (Some e)) b h k a l left o rest g =
+        good_begins x c f s a place n (home f n) _ (s.object n) (s.local n h.1.0 h.1.1) (good_expr x c f s e h.1.2.0 (first_temp f) (omega (arith, k)) a _
+        (good_initialises x c f s a place (home f n) n _ _ rest (s.object n) (s.local n h.1.0 h.1.1) (omega (arith, k, at_least_one e)) g))
+    good_form f s place (tree.if_ e one) b h k a l left o rest g =
+        good_expr x c f s e h.0 (first_temp f) (omega (arith, k)) a _ (good_branches x a _ _ _ _ rest (omega (arith, k, at_least_one e))
+        (good_stmt f s one b h.2 (omega (arith, k)) a l left o no_nodes (good_none x a)) (good_none x a) g)
+    good_form f s place (tree.if_else e one other) b h k a l left o rest g =
+        good_expr x c f s e h.0 (first_temp f) (omega (arith, k)) a _ (good_branches x a _ _ _ _ rest (omega (arith, k, at_least_one e))
+        (good_stmt f s one b h.2 (omega (arith, k)) a l left o no_nodes (good_none x a)) (good_stmt f s other b h.4 (omega (arith, k)) a l left o no_nodes (good_none x a)) g)
+    good_form f s place (tree.while_ e body) b h k a l left o rest g =
+        good_loop x a place _ no_nodes rest (good_test x c (looped f) (suits_loop f s) (Some e) (h.0, h.1) (omega (arith, k)) body_of refl _
+        (good_stmt (looped f) (suits_loop f s) body in_loop h.2 (omega (arith, k)) body_of in_a_loop [] tt no_nodes (good_none x body_of))) (good_none x latch_of) g
+    good_form f s place (tree.for_ first e last body) b h k a l left o rest g =
+        good_stmt f s first b h.0 (omega (arith, k)) a l left o _ (good_loop x a place _ _ _
+        (good_test x c (looped f) (suits_loop f s) e h.2 (omega (arith, k)) body_of refl _
+        (good_stmt (looped f) (suits_loop f s) body in_loop h.5 (omega (arith, k)) body_of in_a_loop [] tt no_nodes (good_none x body_of)))
+        (good_stmt (looped f) (suits_loop f s) last in_function (well_step last b h.4 h.3) (omega (arith, k)) latch_of (in_no_loop None latch_of) [] tt no_nodes (good_none x latch_of))
+        (good_ends x a place _ rest (by_fits x c f s first [] tt) g))
+    good_form f s place (tree.do_while body e) b h k a l left o rest g =
+        good_loop x a place _ _ rest (good_stmt (looped f) (suits_loop f s) body in_loop h.0 (omega (arith, k)) body_of in_a_loop [] tt no_nodes (good_none x body_of))
+        (good_test x c (looped f) (suits_loop f s) (Some e) (h.2, h.3) (omega (arith, k)) latch_of refl no_nodes (good_none x latch_of)) g
+    good_form f s place (tree.switch e labels body) b h k a l left o rest g =
+        let low : suc (suc (first_temp f)) < x.temps = omega (arith, k, at_least_one e) in
+        good_expr x c f s e h.0 (suc (suc (first_temp f))) (omega (arith, k)) a _ (good_int x a place (first_temp f) (default_from 0 labels) _ (omega (arith, low))
+        (good_choose x a place (first_temp f) low (tree.type_of e) (stmts_count body) 0 labels _ h.1 h.2 (good_int x a place (suc (first_temp f)) 0 _ (omega (arith, low))
+        (good_switch (switched f) (suits_switch f s (omega (arith, low))) place (first_temp f) low labels 0 body (in_switch b) h.5 (omega (arith, k)) a (in_a_switch b f.flag _ a l) left o rest g))))
+    good_form f s place tree.break_ b h k a l left o rest g = good_break_by x c f s place a left rest o f.flag refl (l.breaks h) g
+    good_form f s place tree.continue_ b h k a l left o rest g = good_ends x a place left _ o (good_next x a place rest (l.continues h) g)
+    good_form f s place (tree.return_ None) b h k a l left o rest g = good_ret x a place None rest refl g
+    good_form f s place (tree.return_ (Some e)) b h k a l left o rest g =
+        good_expr x c f s e h.0 (first_temp f) (omega (arith, k)) a _ (good_ret x a place (Some (first_temp f)) rest (below x _ (omega (arith, k, at_least_one e))) g)
+    good_form f s place (tree.assign (tree.at p ty node) e) b h k a l left o rest g =
+        good_assign x c f s place (own_register f node) (tree.at p ty node) e (own_fits x c f s ty node h.0) h.0 h.1 (first_temp f) (omega (arith, k)) a rest g
+    good_form f s place (tree.update (tree.at p ty node) op e) b h k a l left o rest g =
+        good_update x c f s place op (own_register f node) (tree.at p ty node) e (own_fits x c f s ty node h.0) h.0 h.1 (first_temp f) (omega (arith, k)) a rest g
+    good_form f s place (tree.evaluate e) b h k a l left o rest g = good_dropped x c f s e h (first_temp f) (omega (arith, k)) a rest g
+    good_form f s place tree.empty b h k a l left o rest g = g
+
+    pub good_row : (f : Frame) → Suits x c f → (body : tree.Stmts) (b : Jumps) → AreWell inside b body → first_temp f + (greatest_row body + 2 * switches_in body) ≤ x.temps → (a : Around) → Jumping b f.flag a → (left : List ℕ) → AreObjects x left
+        → (rest : Nodes) → Good x a rest → Good x a (row_nodes f body left rest)
+    good_row f s tree.no_stmts b h k a l left o rest g = g
+    good_row f s (tree.more_stmts st body) b h k a l left o rest g =
+        good_guarded x c f s (stmt_place st) a (stmt_nodes f st left) _ (λ r q. good_stmt f s st b h.0 (omega (arith, k)) a l left o r q) f.flag refl
+        (good_row f s body b h.1 (omega (arith, k)) a l left o rest g)
+
+    good_switch : (f : Frame) → Suits x c f → (place r : ℕ) → suc (suc r) < x.temps → (labels : List tree.Label) (i : ℕ) (body : tree.Stmts) (b : Jumps) → AreWell inside b body → first_temp f + (greatest_row body + 2 * switches_in body) ≤ x.temps
+        → (a : Around) → Jumping b f.flag a → (left : List ℕ) → AreObjects x left → (rest : Nodes) → Good x a rest → Good x a (switch_nodes f place r labels i body left rest)
+    good_switch f s place r low labels i tree.no_stmts b h k a l left o rest g = g
+    good_switch f s place r low labels i (tree.more_stmts st body) b h k a l left o rest g =
+        good_labels x a place r low i 0 labels _ (good_branches x a (stmt_place st) (suc r) _ _ _ (omega (arith, low))
+        (good_stmt f s st b h.0 (omega (arith, k)) a l left o no_nodes (good_none x a)) (good_none x a)
+        (good_switch f s place r low labels (suc i) body b h.1 (omega (arith, k)) a l left o rest g))

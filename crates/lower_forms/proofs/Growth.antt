@@ -9,3 +9,6 @@ times_plus c m n = grind arith
 
 pub grows_five : (c m : ℕ) → 5 ≤ c → 5 * m ≤ c * m
 grows_five c m h = grind (arith, h)
+
+pub grows_eight : (c m : ℕ) → 8 ≤ c → 8 * m ≤ c * m
+grows_eight c m h = grind (arith, h)

@@ -60,6 +60,8 @@ abbrev mutual
   greatest_in (tree.if_else e one other) = max (count e) (max (greatest one) (greatest other))
   greatest_in (tree.while_ e body) = max (count e) (greatest body)
   greatest_in (tree.for_ first e step body) = max (max (greatest first) (count_if e)) (max (greatest step) (greatest body))
+  greatest_in (tree.do_while body e) = max (count e) (greatest body)
+  greatest_in (tree.switch e labels body) = max (count e) (greatest_row body)
   greatest_in tree.break_ = 0
   greatest_in tree.continue_ = 0
   greatest_in (tree.return_ value) = count_if value
@@ -72,3 +74,32 @@ abbrev mutual
   pub greatest_row : tree.Stmts → ℕ
   greatest_row tree.no_stmts = 0
   greatest_row (tree.more_stmts s rest) = max (greatest s) (greatest_row rest)
+
+-- the switches of a statement
+abbrev mutual
+  -- those in it
+  pub switches : tree.Stmt → ℕ
+  switches (tree.at_stmt place node) = switches_by node
+
+  -- by its form
+  pub switches_by : tree.StmtNode → ℕ
+  switches_by (tree.block body) = switches_in body
+  switches_by (tree.declare number init) = 0
+  switches_by (tree.if_ e one) = switches one
+  switches_by (tree.if_else e one other) = switches one + switches other
+  switches_by (tree.while_ e body) = switches body
+  switches_by (tree.for_ first e step body) = switches first + (switches step + switches body)
+  switches_by (tree.do_while body e) = switches body
+  switches_by (tree.switch e labels body) = suc (switches_in body)
+  switches_by tree.break_ = 0
+  switches_by tree.continue_ = 0
+  switches_by (tree.return_ value) = 0
+  switches_by (tree.assign a b) = 0
+  switches_by (tree.update a op b) = 0
+  switches_by (tree.evaluate e) = 0
+  switches_by tree.empty = 0
+
+  -- those in a row
+  pub switches_in : tree.Stmts → ℕ
+  switches_in tree.no_stmts = 0
+  switches_in (tree.more_stmts s rest) = switches s + switches_in rest

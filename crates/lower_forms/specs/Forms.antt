@@ -1,8 +1,10 @@
 -- What each form of a typed tree is lowered to (C11 6.5 to 6.8; the order of evaluation is this project's profile: from left to right).
 --
--- A local without a block is kept in the register of its own number. The value of an expression comes to the register t, the first one
--- that is free: no register below t changes, but for the one that a statement sets. Each form is given the nodes that follow it.
-use Rattle.std.specs.Prelude.{ℕ, zero, suc, ◌++◌, Bool, true, false, not, if◌then◌else◌, List, [], ◌∷◌, length, slice_get, Option, Some, None, pos}
+-- A local without a block is kept in the register of its own number. Behind these each switch has two registers for its statements: the
+-- number of the label that is chosen, and a flag, which is 1 while they are executed, and 0 before and from a break on. The value of an
+-- expression comes to the register t, the first one that is free: no register below t changes, but for those that a statement sets. Each
+-- form is given the nodes that follow it.
+use Rattle.std.specs.Prelude.{ℕ, zero, suc, ◌==◌, ◌++◌, Bool, true, false, not, if◌then◌else◌, List, [], ◌∷◌, slice_get, Option, Some, None, ℤ, pos}
 use Rattle.ak_words.specs.declared.int_type.IntType.{IntType}
 use Rattle.ak_words.specs.declared.operation.Op.{Op}
 use Rattle.ak_words.specs.declared.operation.Op.TheVariants as ops
@@ -11,15 +13,27 @@ use Rattle.block_store.specs.declared.values.Access.TheVariants as accesses
 use Rattle.c_tree.specs.Typed as tree
 use Rattle.c_tree.specs.TypedLayout.{size_in, align_in}
 use Rattle.c_meaning.specs.Values.{access_of_type, is_scalar, element_size, member_offset, operand_types}
+use Rattle.c_meaning.specs.Switches.{default_from, stands_at}
 use Rattle.c_meaning.specs.Turns.{is_struct}
 use Rattle.struct_ir.specs.Nodes.{Calc, Place, Action, Nodes, no_nodes, more_nodes, plain, if_, loop, break_, next_, ret, set, call, step, begin_object, end_object}
 use Rattle.struct_ir.specs.Nodes as ir
 
 -- what stays the same in a function: the structs of the program, and for each local the number of its stack object, or none where it's
--- kept in the register of its own number
+-- kept in the register of its own number; and where a statement stands: the first register that is free, and the flag of the switch that
+-- a break leaves, or none where it leaves a loop
 pub record Frame : Type 0 where
   pub structs : List tree.Layout
   pub homes : List (Option ℕ)
+  pub first : ℕ
+  pub flag : Option ℕ
+
+-- the same in a loop
+abbrev pub looped : Frame → Frame
+looped f = record { structs = f.structs; homes = f.homes; first = f.first; flag = None }
+
+-- between the braces of a switch, which takes two registers
+abbrev pub switched : Frame → Frame
+switched f = record { structs = f.structs; homes = f.homes; first = suc (suc f.first); flag = Some (suc f.first) }
 
 -- the stack object, if there is such a local and it has one
 abbrev pub home_or_none : Option (Option ℕ) → Option ℕ
@@ -30,9 +44,9 @@ home_or_none (Some home) = home
 abbrev pub home : Frame → (number : ℕ) → Option ℕ
 home f number = home_or_none (slice_get f.homes number)
 
--- the first register that holds no local
+-- the first register that holds no local, and nothing of a switch around
 abbrev pub first_temp : Frame → ℕ
-first_temp f = length f.homes
+first_temp f = f.first
 
 -- ---- nodes
 
@@ -429,9 +443,51 @@ abbrev pub update_nodes : Frame → (place : ℕ) → Op → Option ℕ → (lef
 update_nodes f place op None left right t rest = update_object f place op left right t rest
 update_nodes f place op (Some number) left right t rest = update_register f place number op left right t rest
 
+-- ---- switches (C11 6.8.4.2): the label's number is in the register r, the flag in the next one, and the one behind that is free
+
+-- the label of this number is chosen where its value is in the free register, to which the other one is compared in the flag's
+abbrev pub equal_nodes : (place r number : ℕ) → IntType → ℤ → Nodes → Nodes
+equal_nodes place r number t value rest =
+    sets place (suc r) (ir.constant t value) (sets place (suc r) (ir.apply ops.Eq t (suc (suc r)) (suc r)) (branches place (suc r) (sets_int place r number no_nodes) no_nodes rest))
+
+-- the label of equal value is chosen, among labels of which the first has this number: the last ones are compared first
+abbrev pub choose_nodes : (place r number : ℕ) → List tree.Label → Nodes → Nodes
+choose_nodes place r number [] rest = rest
+choose_nodes place r number (tree.case_at t value at ∷ labels) rest = choose_nodes place r (suc number) labels (equal_nodes place r number t value rest)
+choose_nodes place r number (tree.default_at at ∷ labels) rest = choose_nodes place r (suc number) labels rest
+
+-- the statements begin here, where the label of this number is the chosen one
+abbrev pub begin_nodes : (place r number : ℕ) → Nodes → Nodes
+begin_nodes place r number rest =
+    sets_int place (suc (suc r)) number (sets place (suc (suc r)) (ir.apply ops.Eq int r (suc (suc r))) (branches place (suc (suc r)) (sets_int place (suc r) 1 no_nodes) no_nodes rest))
+
+-- the same, if the label stands here
+abbrev pub begin_if : (here : Bool) → (place r number : ℕ) → Nodes → Nodes
+begin_if true place r number rest = begin_nodes place r number rest
+begin_if false place r number rest = rest
+
+-- the statements begin at the one of index i, where the chosen label stands there, among labels of which the first has this number
+abbrev pub label_nodes : (place r i number : ℕ) → List tree.Label → Nodes → Nodes
+label_nodes place r i number [] rest = rest
+label_nodes place r i number (label ∷ labels) rest = begin_if (stands_at label == i) place r number (label_nodes place r i (suc number) labels rest)
+
 -- ---- statements
 
--- the condition of a loop, which is left where it doesn't hold (C11 6.8.5 p4)
+-- the place of a statement
+abbrev pub stmt_place : tree.Stmt → ℕ
+stmt_place (tree.at_stmt place node) = place
+
+-- a statement of a row, which is executed in a switch only while its flag is 1
+abbrev pub guarded : (flag : Option ℕ) → (place : ℕ) → (Nodes → Nodes) → Nodes → Nodes
+guarded None place nodes rest = nodes rest
+guarded (Some flag) place nodes rest = branches place flag (nodes no_nodes) no_nodes rest
+
+-- a break: it clears the flag of the switch around, or leaves the loop around, whose blocks' stack objects end (C11 6.8.6.3)
+abbrev pub break_nodes : (flag : Option ℕ) → (place : ℕ) → (left : List ℕ) → Nodes → Nodes
+break_nodes None place left rest = ends place left (more_nodes (break_ place) rest)
+break_nodes (Some flag) place left rest = sets_int place flag 0 rest
+
+-- the condition of a loop, before its body or behind it, which is left where it doesn't hold (C11 6.8.5 p4)
 abbrev pub test_nodes : Frame → Option tree.Expr → Nodes → Nodes
 test_nodes f None rest = rest
 test_nodes f (Some e) rest =
@@ -448,8 +504,8 @@ abbrev pub return_nodes : Frame → (place : ℕ) → Option tree.Expr → Nodes
 return_nodes f place None rest = more_nodes (ret place None) rest
 return_nodes f place (Some e) rest = expr_nodes f e (first_temp f) (more_nodes (ret place (Some (first_temp f))) rest)
 
--- `left` are the stack objects that end where a break or a continue leaves what declares them: those of the blocks from here up to the
--- loop around
+-- `left` are the stack objects that end where a continue, or a break that leaves a loop, leaves what declares them: those of the blocks
+-- from here up to the loop around
 abbrev mutual
   -- a statement is executed
   pub stmt_nodes : Frame → tree.Stmt → (left : List ℕ) → Nodes → Nodes
@@ -463,11 +519,15 @@ abbrev mutual
       expr_nodes f e (first_temp f) (branches (tree.place_of e) (first_temp f) (stmt_nodes f one left no_nodes) no_nodes rest)
   form_nodes f place (tree.if_else e one other) left rest =
       expr_nodes f e (first_temp f) (branches (tree.place_of e) (first_temp f) (stmt_nodes f one left no_nodes) (stmt_nodes f other left no_nodes) rest)
-  form_nodes f place (tree.while_ e body) left rest = more_nodes (loop place (test_nodes f (Some e) (stmt_nodes f body [] no_nodes)) no_nodes) rest
+  form_nodes f place (tree.while_ e body) left rest = more_nodes (loop place (test_nodes (looped f) (Some e) (stmt_nodes (looped f) body [] no_nodes)) no_nodes) rest
   form_nodes f place (tree.for_ first e last body) left rest =
-      stmt_nodes f first left (more_nodes (loop place (test_nodes f e (stmt_nodes f body [] no_nodes)) (stmt_nodes f last [] no_nodes))
+      stmt_nodes f first left (more_nodes (loop place (test_nodes (looped f) e (stmt_nodes (looped f) body [] no_nodes)) (stmt_nodes (looped f) last [] no_nodes))
       (ends place (objects_by f first []) rest))
-  form_nodes f place tree.break_ left rest = ends place left (more_nodes (break_ place) rest)
+  form_nodes f place (tree.do_while body e) left rest = more_nodes (loop place (stmt_nodes (looped f) body [] no_nodes) (test_nodes (looped f) (Some e) no_nodes)) rest
+  form_nodes f place (tree.switch e labels body) left rest =
+      expr_nodes f e (suc (suc (first_temp f))) (sets_int place (first_temp f) (default_from 0 labels) (choose_nodes place (first_temp f) 0 labels
+      (sets_int place (suc (first_temp f)) 0 (switch_nodes (switched f) place (first_temp f) labels 0 body left rest))))
+  form_nodes f place tree.break_ left rest = break_nodes f.flag place left rest
   form_nodes f place tree.continue_ left rest = ends place left (more_nodes (next_ place) rest)
   form_nodes f place (tree.return_ value) left rest = return_nodes f place value rest
   form_nodes f place (tree.assign a b) left rest = assign_nodes f place (own_register f (tree.node_of a)) a b (first_temp f) rest
@@ -478,4 +538,10 @@ abbrev mutual
   -- the statements of a block, in order (C11 6.8.2)
   pub row_nodes : Frame → tree.Stmts → (left : List ℕ) → Nodes → Nodes
   row_nodes f tree.no_stmts left rest = rest
-  row_nodes f (tree.more_stmts s all) left rest = stmt_nodes f s left (row_nodes f all left rest)
+  row_nodes f (tree.more_stmts s all) left rest = guarded f.flag (stmt_place s) (stmt_nodes f s left) (row_nodes f all left rest)
+
+  -- those of a switch, of which the first has index i: each is executed while the flag is 1
+  pub switch_nodes : Frame → (place r : ℕ) → List tree.Label → (i : ℕ) → tree.Stmts → (left : List ℕ) → Nodes → Nodes
+  switch_nodes f place r labels i tree.no_stmts left rest = rest
+  switch_nodes f place r labels i (tree.more_stmts s all) left rest =
+      label_nodes place r i 0 labels (branches (stmt_place s) (suc r) (stmt_nodes f s left no_nodes) no_nodes (switch_nodes f place r labels (suc i) all left rest))

@@ -7,7 +7,7 @@ use Rattle.struct_ir.specs.Nodes.{Func, Ir}
 use Rattle.struct_ir.specs.Erased.{ir_erased}
 use Rattle.struct_ir.specs.Valid.{is_valid}
 use Rattle.struct_ir.specs.Whole.{takes_nothing, is_init_in, plain_bytes}
-use Rattle.lower_forms.specs.Counts.{greatest_row}
+use Rattle.lower_forms.specs.Counts.{greatest_row, switches_in}
 use Rattle.lower_forms.specs.Programs.{objects_of, frame_of, lowered}
 use Rattle.lower_forms.specs.Sizes.{nodes_in, nested_in, row_size, row_depth, begun_in}
 
@@ -22,10 +22,10 @@ pub record IsWhole (p : Ir) : Type 0 where
   pub literals : list_all (λ g. is_init_in (length p.literals) g.init) p.globals ≡ true
   pub small : plain_bytes p.globals p.literals ≤ 1048576
 
--- the code g of a function f is no larger than this: its registers are at most its locals and the nodes of its greatest full
--- expression, its stack objects are just its locals in memory, in order, and its nodes are few and not deep
+-- the code g of a function f is no larger than this: its registers are at most its locals, the nodes of its greatest full
+-- expression and two for each switch of it, its stack objects are just its locals in memory, in order, and its nodes are few and not deep
 pub record IsBounded (structs : List tree.Layout) (f : tree.Func) (g : Func) : Type 0 where
-  pub registers : g.temps ≤ length f.locals + greatest_row f.body
+  pub registers : g.temps ≤ length f.locals + greatest_row f.body + 2 * switches_in f.body
   pub objects : g.objects ≡ objects_of structs f.locals
   pub nodes : nodes_in g.nodes ≤ 16 * (row_size f.body + 1) * (begun_in (frame_of structs f) f.body + 1)
   pub nested : nested_in g.nodes ≤ 4 * (row_depth f.body + 1)

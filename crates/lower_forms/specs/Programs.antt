@@ -1,10 +1,10 @@
 -- What a program is lowered to.
-use Rattle.std.specs.Prelude.{ℕ, zero, suc, ◌+◌, ◌==◌, ◌≤◌, Bool, true, false, List, [], ◌∷◌, length, Option, Some, None}
+use Rattle.std.specs.Prelude.{ℕ, zero, suc, ◌+◌, ◌*◌, ◌==◌, ◌≤◌, Bool, true, false, List, [], ◌∷◌, length, Option, Some, None}
 use Rattle.c_tree.specs.Typed as tree
 use Rattle.c_tree.specs.TypedLayout.{size_in, align_in}
 use Rattle.struct_ir.specs.Nodes.{StackObject, Global, Func, Ir, Nodes, no_nodes, more_nodes, ret}
 use Rattle.lower_forms.specs.Forms.{Frame, sets_int, row_nodes}
-use Rattle.lower_forms.specs.Counts.{greatest_row}
+use Rattle.lower_forms.specs.Counts.{greatest_row, switches_in}
 
 -- ---- stack objects
 
@@ -43,13 +43,13 @@ objects_of structs (l ∷ locals) = with_object l.in_memory (object_of structs l
 abbrev pub HasParams : tree.Func → Type 0
 HasParams f = f.params ≤ length f.locals
 
--- what stays the same in a function
+-- what stays the same in a function, and where its body begins: behind the locals each register is free
 abbrev pub frame_of : List tree.Layout → tree.Func → Frame
-frame_of structs f = record { structs = structs; homes = homes_from 0 f.locals }
+frame_of structs f = record { structs = structs; homes = homes_from 0 f.locals; first = length f.locals; flag = None }
 
--- how many registers a function has: one for each local, and one for each node of its greatest full expression
+-- how many registers a function has: one for each local, one for each node of its greatest full expression, and two for each switch
 abbrev pub registers_of : tree.Func → ℕ
-registers_of f = length f.locals + greatest_row f.body
+registers_of f = length f.locals + (greatest_row f.body + 2 * switches_in f.body)
 
 -- main that reaches its end gives 0 (C11 5.1.2.2.3), and needs no register where nothing can call it: a program whose main has no
 -- register calls nothing

@@ -84,7 +84,7 @@ size_if None = 0
 size_if (Some e) = expr_size e
 
 abbrev mutual
-  -- the statements, expressions and print pieces of a statement
+  -- the statements, expressions, print pieces and labels of a statement
   pub stmt_size : tree.Stmt → ℕ
   stmt_size (tree.at_stmt place node) = suc (stmt_parts node)
 
@@ -96,6 +96,8 @@ abbrev mutual
   stmt_parts (tree.if_else e one other) = expr_size e + (stmt_size one + stmt_size other)
   stmt_parts (tree.while_ e body) = expr_size e + stmt_size body
   stmt_parts (tree.for_ first e last body) = (stmt_size first + size_if e) + (stmt_size last + stmt_size body)
+  stmt_parts (tree.do_while body e) = expr_size e + stmt_size body
+  stmt_parts (tree.switch e labels body) = expr_size e + (length labels + row_size body)
   stmt_parts tree.break_ = 0
   stmt_parts tree.continue_ = 0
   stmt_parts (tree.return_ value) = size_if value
@@ -162,6 +164,8 @@ abbrev mutual
   stmt_inside (tree.if_else e one other) = max (expr_depth e) (max (stmt_depth one) (stmt_depth other))
   stmt_inside (tree.while_ e body) = max (expr_depth e) (stmt_depth body)
   stmt_inside (tree.for_ first e last body) = max (max (stmt_depth first) (depth_if e)) (max (stmt_depth last) (stmt_depth body))
+  stmt_inside (tree.do_while body e) = max (expr_depth e) (stmt_depth body)
+  stmt_inside (tree.switch e labels body) = max (expr_depth e) (row_depth body)
   stmt_inside tree.break_ = 0
   stmt_inside tree.continue_ = 0
   stmt_inside (tree.return_ value) = depth_if value
@@ -193,6 +197,8 @@ abbrev mutual
   begun_by f (tree.if_else e one other) = begun f one + begun f other
   begun_by f (tree.while_ e body) = begun f body
   begun_by f (tree.for_ first e last body) = begun f first + (begun f last + begun f body)
+  begun_by f (tree.do_while body e) = begun f body
+  begun_by f (tree.switch e labels body) = begun_in f body
   begun_by f tree.break_ = 0
   begun_by f tree.continue_ = 0
   begun_by f (tree.return_ value) = 0

@@ -1,6 +1,6 @@
 -- A value goes to a local or to an object.
 use Rattle.lower_turns.proofs.Operands.{computed_taken}
-use Rattle.std.proofs.Common.{◌≡◌, ◌≢◌, ℕ, suc, ◌<◌, ◌^◌, ◌⊎◌, inl, inr, ℤ, pos, Bool, true, List, [], ◌∷◌, set, Option, Some, None, Result, Ok, Err, refl, sym, ap, subst, ◌∙◌, arith, unsigned_abs}
+use Rattle.std.proofs.Common.{◌≡◌, ◌≢◌, ℕ, suc, ◌<◌, ◌^◌, ◌⊎◌, inl, inr, ℤ, pos, true, List, [], ◌∷◌, set, Option, Some, None, Result, Ok, Err, refl, sym, ap, subst, ◌∙◌, arith, unsigned_abs}
 use Rattle.std.specs.Prelude.{slice_get}
 use Rattle.ak_words.specs.declared.int_type.IntType.{IntType}
 use Rattle.ak_words.specs.declared.number.Num.{Num}
@@ -23,7 +23,7 @@ use Rattle.block_store.specs.Blocks.{Blocks}
 use Rattle.block_store.specs.Runs as runs
 use Rattle.block_store.specs.Runs.{Turn}
 use Rattle.c_tree.specs.Typed as tree
-use Rattle.c_tree.specs.TypedForm.{CanUpdate}
+use Rattle.c_tree.specs.TypedForm.{Jumps, CanUpdate}
 use Rattle.c_tree.specs.TypedLayout.{size_in, align_in}
 use Rattle.c_meaning.specs.Values.{access_of_type, element_size, forward, backward, of_two, operand_types, computed, converted_result, value_of, updated}
 use Rattle.c_meaning.specs.Control as source
@@ -37,11 +37,11 @@ use Rattle.struct_ir.specs.meaning.Threads.{action_of, set_if}
 use Rattle.lower_forms.specs.Forms as forms
 use Rattle.lower_forms.specs.Forms.{home, sets, Reach, found, reached, behind, at_temp, moves, number_update, computes, sized_copy}
 use Rattle.lower_forms.specs.Programs.{lowered}
-use Rattle.lower_turns.proofs.Relation.{HasKind, Below, Reaches, Points, InRegister, no_value, one_value, held_in, Agrees, forwards, backwards, at_local, at_nowhere, at_place, at_block, at_struct_right, at_update_read, at_update_local, Together, both_went, both_broke, same, at_begins}
+use Rattle.lower_turns.proofs.Relation.{HasKind, Below, Reaches, Points, InRegister, no_value, one_value, held_in, forwards, backwards, at_local, at_nowhere, at_place, at_block, at_struct_right, at_update_read, at_update_local, Together, both_went, both_broke, same, at_begins}
 use Rattle.lower_turns.proofs.Registers.{set_here, set_there, below_same, below_less, below_then, below_set, reaches_below}
 use Rattle.lower_turns.proofs.Values.{binary_is, binary_kind, long_is, taken_is}
 use Rattle.lower_turns.proofs.Steps.{set_then, set_result, set_breaks, step_alike}
-use Rattle.lower_turns.proofs.Setting.{Setting, here, now, own, Alike, frame, start, start_is, agrees_on, GoesE, GoesS, points_found}
+use Rattle.lower_turns.proofs.Setting.{Stands, Setting, here, now, own, Alike, frame, start, start_is, agrees_on, GoesE, GoesS, points_found}
 use Rattle.lower_turns.proofs.Actions.{GivesNone, if_went, store_so, copy_so, IfWent}
 use Rattle.lower_turns.proofs.Uses.{address_reached, above_behind}
 use Rattle.lower_turns.proofs.Library.{action_is, one_more_place, one_more_read, at_register}
@@ -126,8 +126,8 @@ module _ (g : Setting) (ob : ℕ → Option ℕ) (b : Blocks) (go : Value → Tu
 
 -- ---- uses
 
-module _ (g : Setting) (vs : List Variable) (ob : ℕ → Option ℕ) (b : Blocks) (tm : ℕ → Held) (agrees : Agrees (frame g) g.f.locals vs tm ob)
-    (io : Bool) (w : Way) (left : List ℕ) (r : Nodes) (q : Position) (goes : GoesS g io w left r q) where
+module _ (g : Setting) (vs : List Variable) (ob : ℕ → Option ℕ) (b : Blocks) (tm : ℕ → Held) (agrees : Stands g vs tm ob)
+    (io : Jumps) (w : Way) (left : List ℕ) (r : Nodes) (q : Position) (goes : GoesS g io w left r q) where
   abbrev world_now : World
   world_now = actions.with_blocks g.s b
 
@@ -153,7 +153,7 @@ module _ (g : Setting) (vs : List Variable) (ob : ℕ → Option ℕ) (b : Block
   }
 
   -- a step without a value, and then the statement is done
-  stores : (a : ℕ → Held) → Agrees (frame g) g.f.locals vs a ob → (place : ℕ) (st : Step) → st.to ≡ None → (act : actions.SharedAction) → action_of place (own g ob a b) st ≡ Ok act
+  stores : (a : ℕ → Held) → Stands g vs a ob → (place : ℕ) (st : Step) → st.to ≡ None → (act : actions.SharedAction) → action_of place (own g ob a b) st ≡ Ok act
       → IfWent g.t GivesNone (acted world_now g.thread g.answer act)
       → Alike g (acts (here g) place act (λ v next. stays (here g) vs (source.begins w.k) next) (now g vs b)) (then_ (more_nodes (plain place (ir.step st)) r) q) (own g ob a b)
   stores a h place st to act is so =

@@ -12,7 +12,7 @@ use Rattle.block_store.specs.Actions.{World}
 use Rattle.block_store.specs.Blocks.{Blocks}
 use Rattle.block_store.specs.Runs as runs
 use Rattle.c_tree.specs.Typed as tree
-use Rattle.c_tree.specs.TypedForm.{IsScalar, IsFunc, AreArguments}
+use Rattle.c_tree.specs.TypedForm.{Jumps, IsScalar, IsFunc, AreArguments}
 use Rattle.c_meaning.specs.Values.{access_of_type}
 use Rattle.c_meaning.specs.Control as source
 use Rattle.c_meaning.specs.Control.{Variable, Use, Todo, Wait, wanted, dropped, Callee, function, library}
@@ -27,10 +27,10 @@ use Rattle.struct_ir.specs.meaning.Threads.{passed, nodes_of, is_plain, turned}
 use Rattle.lower_forms.specs.Forms as forms
 use Rattle.lower_forms.specs.Forms.{home_or_none, temps_of, sets, found}
 use Rattle.lower_forms.specs.Programs.{home_if, next_home, homes_from, func_lowered, funcs_lowered, lowered}
-use Rattle.lower_turns.proofs.Relation.{HasKind, InRegister, no_value, one_value, InBlock, no_block, held_in, Agrees, Stand, Calls, AtE, AtS, at_leaves, at_row, Callers, one_wants, one_drops, fr, Together, both_went, both_unfit, same, at_begins, after_args, dropped_args}
+use Rattle.lower_turns.proofs.Relation.{HasKind, InRegister, no_value, one_value, InBlock, no_block, held_in, AgreesIn, outermost, Stand, Calls, AtE, AtS, at_leaves, at_row, Callers, one_wants, one_drops, Together, both_went, both_unfit, same, at_begins, after_args, dropped_args}
 use Rattle.lower_turns.proofs.Operands.{fits_access}
 use Rattle.lower_turns.proofs.Steps.{stops_at}
-use Rattle.lower_turns.proofs.Setting.{Setting, here, now, own, Alike, frame, start}
+use Rattle.lower_turns.proofs.Setting.{Stands, Setting, here, now, own, Alike, start}
 
 -- ---- lists
 
@@ -133,9 +133,11 @@ variables_long (v ∷ vs) (suc n) le =
 
 -- the locals of a call that has just begun
 pub new_agrees : (t : tree.Typed) (m : ℕ) (f : tree.Func) (params : ℕ) (all : tree.Exprs) (args : List Value) (tm : ℕ → Held) (u : ℕ) → ParamsAre params f.locals all → Stand tm all args u
-    → Agrees (fr t m f) f.locals (first_locals f args) (passed tm (temps_of all u)) (λ i. None)
+    → AgreesIn f (outermost f) (first_locals f args) (passed tm (temps_of all u)) (λ i. None)
 new_agrees t m f params all args tm u h s = record {
   count = variables_long args (length f.locals) (args_length f.locals params all args tm u h s);
+  low = omega arith;
+  switches = tt;
   register = λ i l e none. new_register f.locals params all args tm u (length f.locals - length args) h s i l e;
   block = λ i k e. subst (λ x. InBlock x None) (sym (new_block f.locals params all args tm u (length f.locals - length args) 0 h s i k e)) no_block;
 }
@@ -144,14 +146,14 @@ new_agrees t m f params all args tm u h s = record {
 
 -- what waits for a call's value, in the source and in the code
 pub data WaitIs (g : Setting) (ob : ℕ → Option ℕ) (tm : ℕ → Held) (place : ℕ) (ty : tree.Ty) : Wait → (u : ℕ) → Nodes → Position → Type 0 where
-  wait_wanted : {k : Use} {u : ℕ} {r : Nodes} {q : Position} → IsScalar ty → start g ≤ u → AtE g.t g.n g.f ob tm k u (access_of_type ty) found r q → WaitIs g ob tm place ty (wanted place k) u r q
-  wait_dropped : {io : Bool} {k : Todo} {left : List ℕ} {u : ℕ} {r : Nodes} {q : Position} → start g ≤ u → AtS g.t g.n g.f io k left r q → WaitIs g ob tm place ty (dropped k) u r q
+  wait_wanted : {k : Use} {u : ℕ} {r : Nodes} {q : Position} → IsScalar ty → start g ≤ u → AtE g.t g.n g.f ob tm g.a k u (access_of_type ty) found r q → WaitIs g ob tm place ty (wanted place k) u r q
+  wait_dropped : {io : Jumps} {k : Todo} {left : List ℕ} {u : ℕ} {r : Nodes} {q : Position} → start g ≤ u → AtS g.t g.n g.f g.a io k left r q → WaitIs g ob tm place ty (dropped k) u r q
 
 abbrev pub nodes_for : Wait → (place : ℕ) → Callee → tree.Exprs → (u : ℕ) → Nodes → Nodes
 nodes_for (wanted p k) place callee all u r = after_args place callee all u r
 nodes_for (dropped k) place callee all u r = dropped_args place callee all u r
 
-module _ (g : Setting) (busy : Calls g.t) (vs : List Variable) (ob : ℕ → Option ℕ) (b : Blocks) (tm : ℕ → Held) (agrees : Agrees (frame g) g.f.locals vs tm ob) where
+module _ (g : Setting) (busy : Calls g.t) (vs : List Variable) (ob : ℕ → Option ℕ) (b : Blocks) (tm : ℕ → Held) (agrees : Stands g vs tm ob) where
   plainly_alike : (answer : Answer) (x : source.Control) (y : Thread Position Own) (w : World) → Together g.t (runs.went x w) (runs.went y w)
       → Together g.t (plainly answer (runs.went x w)) (turned (if_fits (is_plain answer) (went y w)))
   plainly_alike answers.Plain x y w h = h
@@ -176,6 +178,6 @@ module _ (g : Setting) (busy : Calls g.t) (vs : List Variable) (ob : ℕ → Opt
         → Alike g (enters (here g) m args kw (now g vs b) (slice_get g.t.funcs m)) (then_ (nodes_for kw place (function m) all u r) q) (own g ob tm b)
     enters_alike ty is _ _ _ (wait_wanted {k} {r = r} {q = q} scalar above at) =
         enters_with (wanted place k) (Some u) (sets place u (ir.copy u) r) q
-        (one_wants m f place (temps_of all u) there busy g.call above agrees (subst (λ z. AtE g.t g.n g.f ob tm k u (access_of_type z) found r q) is at) g.callers)
+        (one_wants m f place (temps_of all u) there busy g.call above agrees (subst (λ z. AtE g.t g.n g.f ob tm g.a k u (access_of_type z) found r q) is at) g.callers)
     enters_alike ty is _ _ _ (wait_dropped {k = k} {r = r} {q = q} above at) =
         enters_with (dropped k) None r q (one_drops m place (temps_of all u) busy g.call agrees at g.callers)

@@ -9,6 +9,7 @@ use Rattle.block_store.specs.Actions.{World}
 use Rattle.block_store.specs.Blocks.{Blocks, made}
 use Rattle.block_store.specs.Runs.{Turn}
 use Rattle.c_tree.specs.Typed as tree
+use Rattle.c_tree.specs.TypedForm.{Jumps}
 use Rattle.c_tree.specs.TypedLayout.{size_in}
 use Rattle.c_meaning.specs.Values.{access_of_type}
 use Rattle.c_meaning.specs.Control as source
@@ -21,11 +22,11 @@ use Rattle.struct_ir.specs.meaning.Blocks.{Held, Own, set_at, without, object_en
 use Rattle.struct_ir.specs.meaning.Threads.{over}
 use Rattle.lower_forms.specs.Forms.{Frame, home, home_or_none, with_home, ends, objects_in, objects_by, home_in}
 use Rattle.lower_forms.specs.Programs.{home_if, next_home, homes_from, object_of, with_object, objects_of, lowered}
-use Rattle.lower_turns.proofs.Relation.{InRegister, no_value, one_value, InBlock, no_block, one_block, held_in, Agrees, homes_of, at_end}
+use Rattle.lower_turns.proofs.Relation.{InRegister, no_value, one_value, InBlock, no_block, one_block, held_in, homes_of, at_end}
 use Rattle.lower_turns.proofs.Registers.{set_here, set_there}
 use Rattle.lower_turns.proofs.Calls.{nth_lowered}
 use Rattle.lower_turns.proofs.Steps.{ends_object, then_same}
-use Rattle.lower_turns.proofs.Setting.{Setting, here, now, own, Alike, frame, objects_over, GoesS}
+use Rattle.lower_turns.proofs.Setting.{Stands, Setting, here, now, own, Alike, frame, objects_over, Leaves, GoesS, halted_in}
 use Rattle.lower_turns.proofs.Objects.{held_here, held_there, object_at, Over, agrees_block, within_locals, end_one, end_register}
 
 -- ---- several blocks end
@@ -42,53 +43,64 @@ module _ (g : Setting) where
       then_same (lowered g.t) g.thread g.answer g.cs' g.s g.t x _ _ _ _ (ends_object (lowered g.t) g.thread g.answer g.cs' g.s place i (ends place is r) q l) (ends_then x place is r q (object_ended l i) h)
 
   module _ (tm : ℕ → Held) where
-    ends_at : (i : ℕ) (is : List ℕ) → ((vs : List Variable) (b : Blocks) (ob : ℕ → Option ℕ) → Agrees (frame g) g.f.locals vs tm ob → Over g tm (ended_locals is (now g vs b)) (objects_over (homes_of (frame g) is) (own g ob tm b)))
-        → (vs : List Variable) (b : Blocks) (ob : ℕ → Option ℕ) → Agrees (frame g) g.f.locals vs tm ob → (hm : Option ℕ) → home (frame g) i ≡ hm
-        → Over g tm (ended_locals is (ended_local i (now g vs b))) (objects_over (with_home hm (homes_of (frame g) is)) (own g ob tm b))
+    ends_at : (i : ℕ) (is : List ℕ) → ((vs : List Variable) (b : Blocks) (ob : ℕ → Option ℕ) → Stands g vs tm ob → Over g tm (ended_locals is (now g vs b)) (objects_over (homes_of (homes_from 0 g.f.locals) is) (own g ob tm b)))
+        → (vs : List Variable) (b : Blocks) (ob : ℕ → Option ℕ) → Stands g vs tm ob → (hm : Option ℕ) → home (frame g) i ≡ hm
+        → Over g tm (ended_locals is (ended_local i (now g vs b))) (objects_over (with_home hm (homes_of (homes_from 0 g.f.locals) is)) (own g ob tm b))
     ends_at i is rest vs b ob agrees None e =
-        subst (λ (x : Now). Over g tm (ended_locals is x) (objects_over (homes_of (frame g) is) (own g ob tm b))) (sym (end_register g vs tm ob agrees b i e)) (rest vs b ob agrees)
+        subst (λ (x : Now). Over g tm (ended_locals is x) (objects_over (homes_of (homes_from 0 g.f.locals) is) (own g ob tm b))) (sym (end_register g vs tm ob agrees b i e)) (rest vs b ob agrees)
     ends_at i is rest vs b ob agrees (Some k) e =
         let o = end_one g vs tm ob agrees b i k e in
-        subst (λ (x : Now). Over g tm (ended_locals is x) (objects_over (homes_of (frame g) is) (object_ended (own g ob tm b) k))) (sym o.source_is)
-        (subst (λ (l : Own). Over g tm (ended_locals is (now g o.vs' o.b')) (objects_over (homes_of (frame g) is) l)) (sym o.code_is) (rest o.vs' o.b' o.ob' o.agrees'))
+        subst (λ (x : Now). Over g tm (ended_locals is x) (objects_over (homes_of (homes_from 0 g.f.locals) is) (object_ended (own g ob tm b) k))) (sym o.source_is)
+        (subst (λ (l : Own). Over g tm (ended_locals is (now g o.vs' o.b')) (objects_over (homes_of (homes_from 0 g.f.locals) is) l)) (sym o.code_is) (rest o.vs' o.b' o.ob' o.agrees'))
 
     -- the same on both sides
-    pub ends_over : (is : List ℕ) (vs : List Variable) (b : Blocks) (ob : ℕ → Option ℕ) → Agrees (frame g) g.f.locals vs tm ob → Over g tm (ended_locals is (now g vs b)) (objects_over (homes_of (frame g) is) (own g ob tm b))
+    pub ends_over : (is : List ℕ) (vs : List Variable) (b : Blocks) (ob : ℕ → Option ℕ) → Stands g vs tm ob → Over g tm (ended_locals is (now g vs b)) (objects_over (homes_of (homes_from 0 g.f.locals) is) (own g ob tm b))
     ends_over [] vs b ob agrees = record { vs' = vs; b' = b; ob' = ob; source_is = refl; code_is = refl; agrees' = agrees }
     ends_over (i ∷ is) vs b ob agrees = ends_at i is (ends_over is) vs b ob agrees (home (frame g) i) refl
 
-  -- a block's locals end behind it, and on every way out
-  pub end_goes : (io : Bool) (w : Way) (left : List ℕ) (r : Nodes) (q : Position) → GoesS g io w left r q → (place : ℕ) (is : List ℕ)
-      → GoesS g io (end_way is w) (homes_of (frame g) is ++ left) (ends place (homes_of (frame g) is) r) q
-  end_goes io w left r q goes place is = record {
-    at = at_end place is goes.at;
-    end = λ vs b tm ob h.
-        let o = ends_over tm is vs b ob h in
-        ends_then (w.end (ended_locals is (now g vs b))) place (homes_of (frame g) is) r q (own g ob tm b)
-        (subst (λ (x : Now). Alike g (w.end x) (then_ r q) (objects_over (homes_of (frame g) is) (own g ob tm b))) (sym o.source_is)
-        (subst (λ (l : Own). Alike g (w.end (now g o.vs' o.b')) (then_ r q) l) (sym o.code_is) (goes.end o.vs' o.b' tm o.ob' o.agrees')));
-    breaks = λ e vs b tm ob h.
-        let o = ends_over tm is vs b ob h in
-        subst (λ (l : Own). Alike g (w.breaks (ended_locals is (now g vs b))) (out_of q) l) (sym (over_two (homes_of (frame g) is) left (own g ob tm b)))
-        (subst (λ (x : Now). Alike g (w.breaks x) (out_of q) (objects_over left (objects_over (homes_of (frame g) is) (own g ob tm b)))) (sym o.source_is)
-        (subst (λ (l : Own). Alike g (w.breaks (now g o.vs' o.b')) (out_of q) (objects_over left l)) (sym o.code_is) (goes.breaks e o.vs' o.b' tm o.ob' o.agrees')));
-    continues = λ e vs b tm ob h.
-        let o = ends_over tm is vs b ob h in
-        subst (λ (l : Own). Alike g (w.continues (ended_locals is (now g vs b))) (end_of q) l) (sym (over_two (homes_of (frame g) is) left (own g ob tm b)))
-        (subst (λ (x : Now). Alike g (w.continues x) (end_of q) (objects_over left (objects_over (homes_of (frame g) is) (own g ob tm b)))) (sym o.source_is)
-        (subst (λ (l : Own). Alike g (w.continues (now g o.vs' o.b')) (end_of q) (objects_over left l)) (sym o.code_is) (goes.continues e o.vs' o.b' tm o.ob' o.agrees')));
-  }
+-- the same once the flag around is cleared
+ends_alike : (g : Setting) (finish : Now → Turn Control) (r : Nodes) (q : Position) → ((vs : List Variable) (b : Blocks) (tm : ℕ → Held) (ob : ℕ → Option ℕ) → Stands g vs tm ob → Alike g (finish (now g vs b)) (then_ r q) (own g ob tm b))
+    → (place : ℕ) (is : List ℕ) (vs : List Variable) (b : Blocks) (tm : ℕ → Held) (ob : ℕ → Option ℕ) → Stands g vs tm ob
+    → Alike g (finish (ended_locals is (now g vs b))) (then_ (ends place (homes_of (homes_from 0 g.f.locals) is) r) q) (own g ob tm b)
+ends_alike g finish r q goes place is vs b tm ob h =
+    let o = ends_over g tm is vs b ob h in
+    ends_then g (finish (ended_locals is (now g vs b))) place (homes_of (homes_from 0 g.f.locals) is) r q (own g ob tm b)
+    (subst (λ (x : Now). Alike g (finish x) (then_ r q) (objects_over (homes_of (homes_from 0 g.f.locals) is) (own g ob tm b))) (sym o.source_is)
+    (subst (λ (l : Own). Alike g (finish (now g o.vs' o.b')) (then_ r q) l) (sym o.code_is) (goes o.vs' o.b' tm o.ob' o.agrees')))
+
+ends_leaves : (g : Setting) (w : Way) (left : List ℕ) (r : Nodes) (q : Position) (place : ℕ) (is : List ℕ) (flag : Option ℕ) → Leaves g w left r q flag
+    → Leaves g (end_way is w) (homes_of (homes_from 0 g.f.locals) is ++ left) (ends place (homes_of (homes_from 0 g.f.locals) is) r) q flag
+ends_leaves g w left r q place is None goes = λ vs b tm ob h.
+    let o = ends_over g tm is vs b ob h in
+    subst (λ (l : Own). Alike g (w.breaks (ended_locals is (now g vs b))) (out_of q) l) (sym (over_two (homes_of (homes_from 0 g.f.locals) is) left (own g ob tm b)))
+    (subst (λ (x : Now). Alike g (w.breaks x) (out_of q) (objects_over left (objects_over (homes_of (homes_from 0 g.f.locals) is) (own g ob tm b)))) (sym o.source_is)
+    (subst (λ (l : Own). Alike g (w.breaks (now g o.vs' o.b')) (out_of q) (objects_over left l)) (sym o.code_is) (goes o.vs' o.b' tm o.ob' o.agrees')))
+ends_leaves g w left r q place is (Some flag) goes = λ vs b tm ob h. ends_alike (halted_in g) w.breaks r q goes place is vs b tm ob h
+
+-- a block's locals end behind it, and on every way out
+pub end_goes : (g : Setting) (io : Jumps) (w : Way) (left : List ℕ) (r : Nodes) (q : Position) → GoesS g io w left r q → (place : ℕ) (is : List ℕ)
+    → GoesS g io (end_way is w) (homes_of (homes_from 0 g.f.locals) is ++ left) (ends place (homes_of (homes_from 0 g.f.locals) is) r) q
+end_goes g io w left r q goes place is = record {
+  at = at_end place is goes.at;
+  end = λ vs b tm ob h. ends_alike g w.end r q goes.end place is vs b tm ob h;
+  breaks = λ e. ends_leaves g w left r q place is g.a.flag (goes.breaks e);
+  continues = λ e vs b tm ob h.
+      let o = ends_over g tm is vs b ob h in
+      subst (λ (l : Own). Alike g (w.continues (ended_locals is (now g vs b))) (end_of q) l) (sym (over_two (homes_of (homes_from 0 g.f.locals) is) left (own g ob tm b)))
+      (subst (λ (x : Now). Alike g (w.continues x) (end_of q) (objects_over left (objects_over (homes_of (homes_from 0 g.f.locals) is) (own g ob tm b)))) (sym o.source_is)
+      (subst (λ (l : Own). Alike g (w.continues (now g o.vs' o.b')) (end_of q) (objects_over left l)) (sym o.code_is) (goes.continues e o.vs' o.b' tm o.ob' o.agrees')));
+}
 
 -- the stack objects of a block are those of the locals that it declares
-pub objects_are : (fr : Frame) (body : tree.Stmts) → homes_of fr (declared body) ≡ objects_in fr body
+pub objects_are : (fr : Frame) (body : tree.Stmts) → homes_of fr.homes (declared body) ≡ objects_in fr body
 objects_are fr tree.no_stmts = refl
 objects_are fr (tree.more_stmts (tree.at_stmt place node) rest) = by_form fr node (declared rest) (objects_in fr rest) (objects_are fr rest)
   where
-    by_form : (fr : Frame) (node : tree.StmtNode) (is os : List ℕ) → homes_of fr is ≡ os → homes_of fr (with_declared node is) ≡ with_home (home_in fr node) os
+    by_form : (fr : Frame) (node : tree.StmtNode) (is os : List ℕ) → homes_of fr.homes is ≡ os → homes_of fr.homes (with_declared node is) ≡ with_home (home_in fr node) os
     by_form fr (tree.declare i init) is os e = ap (with_home (home fr i)) e
     by_form fr node is os e = e
 
-pub first_objects : (fr : Frame) (s : tree.Stmt) → homes_of fr (declared_by s []) ≡ objects_by fr s []
+pub first_objects : (fr : Frame) (s : tree.Stmt) → homes_of fr.homes (declared_by s []) ≡ objects_by fr s []
 first_objects fr (tree.at_stmt place (tree.declare i init)) = refl
 first_objects fr (tree.at_stmt place node) = refl
 
@@ -98,7 +110,7 @@ pub record Begun (g : Setting) (tm : ℕ → Held) (k c : ℕ) (x : Now) (l : Ow
   pub both : Over g tm x l
   pub there : both.ob' k ≡ Some c
 
-module _ (g : Setting) (vs : List Variable) (tm : ℕ → Held) (ob : ℕ → Option ℕ) (agrees : Agrees (frame g) g.f.locals vs tm ob) where
+module _ (g : Setting) (vs : List Variable) (tm : ℕ → Held) (ob : ℕ → Option ℕ) (agrees : Stands g vs tm ob) where
   size_is : (i : ℕ) (l : tree.Local) → slice_get g.f.locals i ≡ Some l → size_of_local (here g) (local_at (here g) i) ≡ size_in g.t.structs l.ty
   size_is i l e = ap (λ (o : Option tree.Func). size_of_local (here g) (declared_in o i)) g.call.there ∙ ap (size_of_local (here g)) e
 
@@ -169,7 +181,7 @@ module _ (g : Setting) (vs : List Variable) (tm : ℕ → Held) (ob : ℕ → Op
   register_free how _ _ no_value w = refl
   register_free how _ _ (one_value v kind) w = refl
 
-  free_at : (a : ℕ → Held) → Agrees (frame g) g.f.locals vs a ob → (j : ℕ) (o : Option tree.Local) → slice_get g.f.locals j ≡ o → j < length g.f.locals → home (frame g) j ≡ None → NoBlock (held_in vs j)
+  free_at : (a : ℕ → Held) → Stands g vs a ob → (j : ℕ) (o : Option tree.Local) → slice_get g.f.locals j ≡ o → j < length g.f.locals → home (frame g) j ≡ None → NoBlock (held_in vs j)
   free_at a agrees j (Some l) e lt none = register_free (access_of_type l.ty) (held_in vs j) (a j) (agrees.register j l e none)
   free_at a agrees j None e lt none = absurd (past g.f.locals j e lt)
     where
@@ -179,7 +191,7 @@ module _ (g : Setting) (vs : List Variable) (tm : ℕ → Held) (ob : ℕ → Op
       past (l ∷ ls) (suc j) e lt = past ls j e (omega (arith, lt))
 
   -- the blocks that are left once a call is left
-  pub blocks_over : (a : ℕ → Held) → Agrees (frame g) g.f.locals vs a ob → (b : Blocks) → without_blocks vs (actions.with_blocks g.s b) ≡ actions.with_blocks g.s (over (lowered g.t) (own g ob tm b)).blocks
+  pub blocks_over : (a : ℕ → Held) → Stands g vs a ob → (b : Blocks) → without_blocks vs (actions.with_blocks g.s b) ≡ actions.with_blocks g.s (over (lowered g.t) (own g ob tm b)).blocks
   blocks_over a agrees b =
       let e : 0 + length (objects_of g.t.structs g.f.locals) ≡ length (objects_of g.t.structs g.f.locals) = omega arith in
       all_over b 0 g.f.locals vs agrees.count (λ j lt none. free_at a agrees j (slice_get g.f.locals j) refl lt none) (λ j k has. agrees.block j k has)

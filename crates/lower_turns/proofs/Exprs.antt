@@ -20,11 +20,11 @@ use Rattle.struct_ir.specs.meaning.Blocks.{Held, value, pointer, set_at, calcula
 use Rattle.lower_forms.specs.Forms as forms
 use Rattle.lower_forms.specs.Forms.{home, sets, Reach, found, direct_if, is_pointer, register_of, member_reach, pointed, pointed_in, reach, reach_in, expr_nodes, value_nodes, object_place, args_nodes, lib_nodes}
 use Rattle.lower_forms.specs.Programs.{globals_lowered, lowered}
-use Rattle.lower_turns.proofs.Relation.{ctx, HasKind, Below, Points, Agrees, no_join, ConvertFits, to_number, to_pointer, Calls, CallIs, AreScalars, IsPlace, Taken, none_yet, one_more, Stand, AtE, at_wanted, at_dropped}
+use Rattle.lower_turns.proofs.Relation.{ctx, HasKind, Below, Points, no_join, ConvertFits, to_number, to_pointer, Calls, CallIs, AreScalars, IsPlace, Taken, none_yet, one_more, Stand, AtE, at_wanted, at_dropped}
 use Rattle.lower_turns.proofs.Registers.{set_here, below_same, taken_le, taken_below, use_below, below_less}
 use Rattle.lower_turns.proofs.Operands.{pointer_access, pointer_scalar, integer_scalar, sized_pointer, operands_fit, operand_scalars, moved_scalars, sum_fits, sum_calculated, numbers_calculated, backward_fits, distance_fits, compare_fits, convert_fits, convert_scalar, argument_scalars, lib_scalars, pointed_is, sum_joins}
 use Rattle.lower_turns.proofs.Steps.{set_then}
-use Rattle.lower_turns.proofs.Setting.{Setting, here, now, own, Alike, frame, start, agrees_on, GoesE, anyhow, of_kind}
+use Rattle.lower_turns.proofs.Setting.{Stands, Setting, here, now, own, Alike, frame, start, agrees_on, GoesE, anyhow, of_kind}
 use Rattle.lower_turns.proofs.Uses.{gets, not_goes, test_goes, member_goes, convert_goes, read_goes}
 use Rattle.lower_turns.proofs.Tests.{SimE, SimP, first_goes, and_goes, or_goes, choice_goes, local_alike, found_alike}
 use Rattle.lower_turns.proofs.Calls.{all_at, nth_mapped, WaitIs, wait_wanted, wait_dropped, nodes_for, enters_alike}
@@ -63,12 +63,12 @@ module _ (g : Setting) (busy : Calls g.t) where
   -- the code of arguments, and of the call
   abbrev pub SimArgs : tree.Exprs → Type 0
   SimArgs rest = (vs : List Variable) (ob : ℕ → Option ℕ) (b : Blocks) (tm : ℕ → Held) (place : ℕ) (callee : Callee) (all : tree.Exprs) (before : List Value) (kw : Wait) (u v : ℕ) (ty : tree.Ty) (r : Nodes) (q : Position)
-      → AreScalars rest → CallIs (ctx g.t g.n g.f) callee all ty → AreScalars all → WaitIs g ob tm place ty kw u r q → Taken tm all u rest before v → Agrees (frame g) g.f.locals vs tm ob
+      → AreScalars rest → CallIs (ctx g.t g.n g.f) callee all ty → AreScalars all → WaitIs g ob tm place ty kw u r q → Taken tm all u rest before v → Stands g vs tm ob
       → Alike g (run_arguments (here g) place callee rest before kw (now g vs b)) (then_ (args_nodes (frame g) rest v (nodes_for kw place callee all u r)) q) (own g ob tm b)
 
   wait_below : (ob : ℕ → Option ℕ) (a c : ℕ → Held) (place : ℕ) (ty : tree.Ty) (kw : Wait) (u v : ℕ) (r : Nodes) (q : Position) → u ≤ v → Below v a c → WaitIs g ob a place ty kw u r q → WaitIs g ob c place ty kw u r q
   wait_below ob a c place ty _ _ v _ _ le below (wait_wanted {k} {u} {r} {q} scalar above at) =
-      wait_wanted scalar above (use_below g.t g.n g.f ob a c k u (access_of_type ty) found r q at (below_less v u a c le below))
+      wait_wanted scalar above (use_below g.t g.n g.f ob a c g.a k u (access_of_type ty) found r q at (below_less v u a c le below))
   wait_below ob a c place ty _ _ v _ _ le below (wait_dropped above at) = wait_dropped above at
 
   wait_above : (ob : ℕ → Option ℕ) (a : ℕ → Held) (place : ℕ) (ty : tree.Ty) (kw : Wait) (u : ℕ) (r : Nodes) (q : Position) → WaitIs g ob a place ty kw u r q → start g ≤ u
@@ -77,7 +77,7 @@ module _ (g : Setting) (busy : Calls g.t) where
 
   -- the call itself
   call_alike : (vs : List Variable) (ob : ℕ → Option ℕ) (b : Blocks) (tm : ℕ → Held) (place : ℕ) (callee : Callee) (all : tree.Exprs) (before : List Value) (kw : Wait) (u : ℕ) (ty : tree.Ty) (r : Nodes) (q : Position)
-      → CallIs (ctx g.t g.n g.f) callee all ty → AreScalars all → WaitIs g ob tm place ty kw u r q → Stand tm all before u → Agrees (frame g) g.f.locals vs tm ob
+      → CallIs (ctx g.t g.n g.f) callee all ty → AreScalars all → WaitIs g ob tm place ty kw u r q → Stand tm all before u → Stands g vs tm ob
       → Alike g (calls (here g) place callee before kw (now g vs b)) (then_ (nodes_for kw place callee all u r) q) (own g ob tm b)
   call_alike vs ob b tm place (function m) all before kw u ty r q c scalars waits stand agrees =
       let f = nth_mapped signature_of g.t.funcs m c.0 c.1 in
@@ -90,7 +90,7 @@ module _ (g : Setting) (busy : Calls g.t) where
 
   argument_at : (ob : ℕ → Option ℕ) (tm : ℕ → Held) (place : ℕ) (callee : Callee) (all : tree.Exprs) (e : tree.Expr) (rest : tree.Exprs) (before : List Value) (kw : Wait) (u v : ℕ) (ty : tree.Ty) (rch : Reach) (r : Nodes) (q : Position)
       → AreTyped (ctx g.t g.n g.f) rest → AreScalars rest → CallIs (ctx g.t g.n g.f) callee all ty → AreScalars all → WaitIs g ob tm place ty kw u r q → Taken tm all u (tree.more_exprs e rest) before v
-      → AtE g.t g.n g.f ob tm (Rattle.c_meaning.specs.Control.argument place callee before rest kw) v (access_of_type (tree.type_of e)) rch (args_nodes (frame g) rest (suc v) (nodes_for kw place callee all u r)) q
+      → AtE g.t g.n g.f ob tm g.a (Rattle.c_meaning.specs.Control.argument place callee before rest kw) v (access_of_type (tree.type_of e)) rch (args_nodes (frame g) rest (suc v) (nodes_for kw place callee all u r)) q
   argument_at ob tm place callee all e rest before _ _ v ty rch _ _ typed scalars c all_scalars (wait_wanted scalar above at) taken =
       at_wanted place callee all e rest before v ty rch typed scalars c all_scalars scalar taken above at
   argument_at ob tm place callee all e rest before _ _ v ty rch _ _ typed scalars c all_scalars (wait_dropped above at) taken =
@@ -99,7 +99,7 @@ module _ (g : Setting) (busy : Calls g.t) where
   -- one argument, and then the rest
   pub argument_goes : (e : tree.Expr) (rest : tree.Exprs) → AreTyped (ctx g.t g.n g.f) rest → SimArgs rest
       → (vs : List Variable) (ob : ℕ → Option ℕ) (b : Blocks) (tm : ℕ → Held) (place : ℕ) (callee : Callee) (all : tree.Exprs) (before : List Value) (kw : Wait) (u v : ℕ) (ty : tree.Ty) (rch : Reach) (r : Nodes) (q : Position)
-      → AreScalars rest → CallIs (ctx g.t g.n g.f) callee all ty → AreScalars all → WaitIs g ob tm place ty kw u r q → Taken tm all u (tree.more_exprs e rest) before v → Agrees (frame g) g.f.locals vs tm ob
+      → AreScalars rest → CallIs (ctx g.t g.n g.f) callee all ty → AreScalars all → WaitIs g ob tm place ty kw u r q → Taken tm all u (tree.more_exprs e rest) before v → Stands g vs tm ob
       → GoesE g vs ob b tm (argument_way place callee before rest (run_arguments (here g) place callee rest) kw) v (access_of_type (tree.type_of e)) rch (args_nodes (frame g) rest (suc v) (nodes_for kw place callee all u r)) q
   argument_goes e rest typed sim vs ob b tm place callee all before kw u v ty rch r q scalars c all_scalars waits taken agrees =
       let le : u ≤ v = taken_le tm all u (tree.more_exprs e rest) before v taken in
@@ -166,14 +166,14 @@ module _ (g : Setting) (busy : Calls g.t) where
         (of_kind g vs ob b tm (read_way (here g) place (access_of_type ty) w) u accesses.Pointer (access_of_type (tree.type_of e)) (pointed (frame g) e) (forms.loads place ty (pointed (frame g) e) u r) q (sym (ap access_of_type h.1))
         (read_goes g vs ob b tm w u r q busy (access_of_type ty) goes place (pointed (frame g) e)))
     value_sim place ty (tree.member e i) h s vs ob b tm w u r q goes =
-        place_sim e h.0 (member_place g.t g.n g.f e i ty g.is_func.locals h.0 h.1 h.2) vs ob b tm (only_way place (selects (member_offset g.t.structs (tree.type_of e) i)) (read_way (here g) place (access_of_type ty) w)) u _ q
+        place_sim e h.0 (member_place g.t g.n g.f g.a e i ty g.is_func.locals h.0 h.1 h.2) vs ob b tm (only_way place (selects (member_offset g.t.structs (tree.type_of e) i)) (read_way (here g) place (access_of_type ty) w)) u _ q
         (member_goes g vs ob b tm (read_way (here g) place (access_of_type ty) w) u (forms.loads place ty (member_reach (member_offset g.t.structs (tree.type_of e) i) (reach (frame g) e)) u r) q place (member_offset g.t.structs (tree.type_of e) i) (reach (frame g) e)
         (offset_small g.t g.well (tree.type_of e) i) (read_goes g vs ob b tm w u r q busy (access_of_type ty) goes place (member_reach (member_offset g.t.structs (tree.type_of e) i) (reach (frame g) e))))
     value_sim place ty (tree.address_of e) h s vs ob b tm w u r q goes =
-        place_sim e h.0 (memory_place g.t g.n g.f (tree.node_of e) h.1) vs ob b tm w u r q
+        place_sim e h.0 (memory_place g.t g.n g.f g.a (tree.node_of e) h.1) vs ob b tm w u r q
         (anyhow g vs ob b tm w u accesses.Pointer (reach (frame g) e) r q (of_kind g vs ob b tm w u (access_of_type ty) accesses.Pointer found r q (ap access_of_type h.2) goes))
     value_sim place ty (tree.decay e) h s vs ob b tm w u r q goes =
-        place_sim e h.0 (memory_place g.t g.n g.f (tree.node_of e) h.1) vs ob b tm w u r q
+        place_sim e h.0 (memory_place g.t g.n g.f g.a (tree.node_of e) h.1) vs ob b tm w u r q
         (anyhow g vs ob b tm w u accesses.Pointer (reach (frame g) e) r q (of_kind g vs ob b tm w u (access_of_type ty) accesses.Pointer found r q (ap access_of_type h.2.3) goes))
     value_sim place ty (tree.convert e) h s vs ob b tm w u r q goes =
         let fits = convert_fits (tree.type_of e) ty h.1 s in
@@ -245,7 +245,7 @@ module _ (g : Setting) (busy : Calls g.t) where
     object_sim place ty (tree.deref e) h p vs ob b tm w u r q goes =
         expr_sim e h.0 (subst IsScalar (sym h.1) tt) vs ob b tm w u r q (of_kind g vs ob b tm w u accesses.Pointer (access_of_type (tree.type_of e)) (pointed (frame g) e) r q (sym (ap access_of_type h.1)) goes)
     object_sim place ty (tree.member e i) h p vs ob b tm w u r q goes =
-        place_sim e h.0 (member_place g.t g.n g.f e i ty g.is_func.locals h.0 h.1 h.2) vs ob b tm (only_way place (selects (member_offset g.t.structs (tree.type_of e) i)) w) u _ q
+        place_sim e h.0 (member_place g.t g.n g.f g.a e i ty g.is_func.locals h.0 h.1 h.2) vs ob b tm (only_way place (selects (member_offset g.t.structs (tree.type_of e) i)) w) u _ q
         (member_goes g vs ob b tm w u r q place (member_offset g.t.structs (tree.type_of e) i) (reach (frame g) e) (offset_small g.t g.well (tree.type_of e) i) goes)
     object_sim place ty node h p vs ob b tm w u r q goes = elim p [ ]
 

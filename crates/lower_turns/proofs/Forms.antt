@@ -7,7 +7,7 @@ use Rattle.block_store.specs.declared.values.Value.TheVariants as values
 use Rattle.block_store.specs.Blocks.{Blocks}
 use Rattle.block_store.specs.Runs.{Turn}
 use Rattle.c_tree.specs.Typed as tree
-use Rattle.c_tree.specs.TypedForm.{IsScalar, IsLvalue, Fits, IsTyped, IsTypedNode, CanUpdate, Converts, IsLocal, IsResult, IsFunc, type_of_result, Signature, signature_of, IsLibCall}
+use Rattle.c_tree.specs.TypedForm.{Jumps, IsScalar, IsLvalue, Fits, IsTyped, IsTypedNode, CanUpdate, Converts, IsLocal, IsResult, IsFunc, type_of_result, Signature, signature_of, IsLibCall}
 use Rattle.c_tree.specs.TypedLayout.{size_in}
 use Rattle.c_meaning.specs.Values.{access_of_type, is_scalar}
 use Rattle.c_meaning.specs.Control as source
@@ -21,11 +21,11 @@ use Rattle.struct_ir.specs.meaning.Blocks.{Held, Own, set_at, begun}
 use Rattle.lower_forms.specs.Forms as forms
 use Rattle.lower_forms.specs.Forms.{home, register_if, own_register, pointed, reach, expr_nodes, object_assign, copy_nodes, store_nodes, assign_nodes, update_nodes, update_object, declare_nodes}
 use Rattle.lower_forms.specs.Programs.{lowered}
-use Rattle.lower_turns.proofs.Relation.{ctx, InRegister, no_value, Agrees, Calls, IsPlace}
+use Rattle.lower_turns.proofs.Relation.{ctx, InRegister, no_value, Calls, IsPlace}
 use Rattle.lower_turns.proofs.Registers.{set_here, set_there}
 use Rattle.lower_turns.proofs.Operands.{pointer_scalar, sized_pointer, moved_pointer, operand_scalars, fits_access, fits_scalar}
 use Rattle.lower_turns.proofs.Steps.{begins_object, set_then}
-use Rattle.lower_turns.proofs.Setting.{Setting, here, now, own, Alike, frame, start, start_is, GoesS, of_kind}
+use Rattle.lower_turns.proofs.Setting.{Stands, Setting, here, now, own, Alike, frame, start, start_is, GoesS, of_kind}
 use Rattle.lower_turns.proofs.Calls.{all_at, nth_mapped}
 use Rattle.lower_turns.proofs.Layouts.{size_small}
 use Rattle.lower_turns.proofs.Locals.{register_is, block_is, struct_is_place}
@@ -139,20 +139,20 @@ module _ (g : Setting) where
   local_is i = ap (λ (o : Option tree.Func). declared_in o i) g.call.there
 
   register_none : (i : ℕ) → is_block (local_at (here g) i) ≡ false → home (frame g) i ≡ None
-  register_none i e = register_is g.t g.n g.f i (sym (ap is_block (local_is i)) ∙ e)
+  register_none i e = register_is g.t g.n g.f g.a i (sym (ap is_block (local_is i)) ∙ e)
 
   block_some : (i : ℕ) → is_block (local_at (here g) i) ≡ true → (k : ℕ) × (home (frame g) i ≡ Some k)
-  block_some i e = block_is g.t g.n g.f i (sym (ap is_block (local_is i)) ∙ e)
+  block_some i e = block_is g.t g.n g.f g.a i (sym (ap is_block (local_is i)) ∙ e)
 
   register_scalar : (i : ℕ) (l : tree.Local) → slice_get g.f.locals i ≡ Some l → is_block (local_at (here g) i) ≡ false → IsScalar l.ty
   register_scalar i l e h = (all_at (IsLocal g.t.structs) g.f.locals i l g.is_func.locals e).scalar (sym (ap is_block (local_is i ∙ e)) ∙ h)
 
-  module _ (io : Bool) (w : Way) (left : List ℕ) (r : Nodes) (q : Position) (goes : GoesS g io w left r q) (vs : List Variable) (b : Blocks) (tm : ℕ → Held) (ob : ℕ → Option ℕ) (agrees : Agrees (frame g) g.f.locals vs tm ob) where
+  module _ (io : Jumps) (w : Way) (left : List ℕ) (r : Nodes) (q : Position) (goes : GoesS g io w left r q) (vs : List Variable) (b : Blocks) (tm : ℕ → Held) (ob : ℕ → Option ℕ) (agrees : Stands g vs tm ob) where
     -- ---- declarations
 
     -- the block of a local begins on both sides
     block_begins : (F : Now → Turn Control) (place i k : ℕ) (l : tree.Local) (ns : Nodes) → slice_get g.f.locals i ≡ Some l → home (frame g) i ≡ Some k
-        → ((xs : List Variable) (c : Blocks) (o : ℕ → Option ℕ) → Agrees (frame g) g.f.locals xs tm o → o k ≡ Some (length (ended_local i (now g vs b)).world.blocks) → Alike g (F (now g xs c)) (then_ ns q) (own g o tm c))
+        → ((xs : List Variable) (c : Blocks) (o : ℕ → Option ℕ) → Stands g xs tm o → o k ≡ Some (length (ended_local i (now g vs b)).world.blocks) → Alike g (F (now g xs c)) (then_ ns q) (own g o tm c))
         → Alike g (F (made_local (here g) i (now g vs b))) (then_ (forms.begins place i (home (frame g) i) ns) q) (own g ob tm b)
     block_begins F place i k l ns e has rest =
         let m = begin_block g vs tm ob agrees b i k l e has in
@@ -164,7 +164,7 @@ module _ (g : Setting) where
 
     -- a register holds nothing any more, on both sides
     register_begins : (F : Now → Turn Control) (place i : ℕ) (l : tree.Local) (ns : Nodes) → slice_get g.f.locals i ≡ Some l → home (frame g) i ≡ None
-        → ((xs : List Variable) (a : ℕ → Held) → Agrees (frame g) g.f.locals xs a ob → Alike g (F (now g xs b)) (then_ ns q) (own g ob a b))
+        → ((xs : List Variable) (a : ℕ → Held) → Stands g xs a ob → Alike g (F (now g xs b)) (then_ ns q) (own g ob a b))
         → Alike g (F (with_variable i source.unset (now g vs b))) (then_ (forms.begins place i (home (frame g) i) ns) q) (own g ob tm b)
     register_begins F place i l ns e none rest =
         subst (λ (hm : Option ℕ). Alike g (F (with_variable i source.unset (now g vs b))) (then_ (forms.begins place i hm ns) q) (own g ob tm b)) (sym none)
@@ -213,7 +213,7 @@ module _ (g : Setting) where
           let s = struct_of (tree.type_of x) e in
           let same_struct : tree.type_of right ≡ tree.structure s.0 = fits_struct (tree.type_of right) s.0 (subst (Fits (tree.type_of right)) s.1 fits) in
           let small : size_in g.t.structs (tree.type_of x) < 2 ^ 64 = subst (λ z. size_in g.t.structs z < 2 ^ 64) (sym s.1) (size_small g.t g.well s.0) in
-          let right_place = struct_is_place g.t g.n g.f right s.0 g.is_func.locals tr same_struct (struct_expr_lvalue g s.0 right tr same_struct) in
+          let right_place = struct_is_place g.t g.n g.f g.a right s.0 g.is_func.locals tr same_struct (struct_expr_lvalue g s.0 right tr same_struct) in
           place_sim g busy x tx p vs ob b tm (struct_left_way (here g) (tree.place_of x) (tree.type_of x) right w) (start g) _ q
           (struct_left_goes g vs ob b io w left r q goes tm agrees (tree.place_of x) (tree.type_of x) right (reach (frame g) x) tr right_place small (place_sim g busy right tr right_place))
       object_at x right tx tr p fits false e =

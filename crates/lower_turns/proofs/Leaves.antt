@@ -1,6 +1,6 @@
 -- A call is left on both sides.
 use Rattle.ak_words.specs.declared.number.Num.{Num}
-use Rattle.std.proofs.Common.{◌≡◌, ℕ, zero, suc, ◌≤◌, ◌==◌, pos, Bool, true, false, List, [], length, Option, Some, None, Ok, Err, refl, sym, ap, subst, ◌∙◌, arith, if◌then◌else◌}
+use Rattle.std.proofs.Common.{◌≡◌, ℕ, zero, suc, ◌≤◌, ◌==◌, pos, Bool, true, false, List, [], Option, Some, None, Ok, Err, refl, sym, ap, subst, ◌∙◌, arith, if◌then◌else◌}
 use Rattle.std.specs.Prelude.{slice_get}
 use Rattle.std.proofs.lemmas.Option.{same_Some}
 use Rattle.std.proofs.lemmas.Bool.Decides.{nat_tests}
@@ -19,6 +19,7 @@ use Rattle.block_store.specs.Actions.{World, Done, acted}
 use Rattle.block_store.specs.Blocks.{Blocks}
 use Rattle.block_store.specs.Runs as runs
 use Rattle.c_tree.specs.Typed as tree
+use Rattle.c_tree.specs.TypedForm.{in_function}
 use Rattle.c_meaning.specs.Values.{access_of_type}
 use Rattle.c_meaning.specs.Control as source
 use Rattle.c_meaning.specs.Control.{Variable, Control, Caller, wanted}
@@ -36,14 +37,13 @@ use Rattle.struct_ir.specs.meaning.Blocks.{Held, value, Own, set_at, blocks_mach
 use Rattle.struct_ir.specs.meaning.Threads.{over, given, int_in, result_of, finished_with, served_by, blocks_world, is_plain, turned, start_in}
 use Rattle.lower_forms.specs.Forms as forms
 use Rattle.lower_forms.specs.Forms.{Reach, found}
-use Rattle.lower_forms.specs.Programs.{registers_of, last_nodes, lowered}
-use Rattle.lower_turns.proofs.Relation.{HasKind, Below, Agrees, Calls, Callers, no_callers, one_wants, one_drops, AllBegin, InCall, first, fr, at_leaves, at_caller, at_again, Together, both_went, both_ended, both_blocked, both_unfit, both_broke, same, at_gives, at_lacks, at_begins, AtE}
+use Rattle.lower_forms.specs.Programs.{homes_from, registers_of, last_nodes, lowered}
+use Rattle.lower_turns.proofs.Relation.{HasKind, Below, Calls, Callers, no_callers, one_wants, one_drops, AllBegin, InCall, Around, running, AgreesIn, outermost, at_leaves, at_caller, at_again, Together, both_went, both_ended, both_blocked, both_unfit, both_broke, same, at_gives, at_lacks, at_begins, AtE, AtS}
 use Rattle.lower_turns.proofs.Registers.{set_here, below_same, below_less, below_set, agrees_below, use_below}
 use Rattle.lower_turns.proofs.Steps.{stops_at, no_more, then_same, set_then}
-use Rattle.lower_turns.proofs.Setting.{Setting, here, now, own, Alike, frame, start, GoesE, GoesS}
+use Rattle.lower_turns.proofs.Setting.{Stands, Setting, here, now, own, Alike, start, GoesE, GoesS}
 use Rattle.lower_turns.proofs.Actions.{GivesNone, IfWent, finish_so}
 use Rattle.lower_turns.proofs.Ends.{blocks_over}
-use Rattle.lower_turns.proofs.Locals.{locals_long}
 
 -- what a call ends with, in the source and in the code
 pub data ReturnsAs (how : Access) : Option Value → Option ℕ → Held → Type 0 where
@@ -75,22 +75,22 @@ module _ (g : Setting) where
 
   module _ (vs : List Variable) (tm : ℕ → Held) (ob : ℕ → Option ℕ) (b : Blocks) where
     -- where a value goes that is wanted
-    module _ (n : ℕ) (f : tree.Func) (xs : List Variable) (a : ℕ → Held) (c : ℕ → Option ℕ) (k : source.Use) (u : ℕ) (r : Nodes) (q : Position) (w : World) (all : AllBegin g.t w) (bs : Blocks) where
-      wanted_lands : (how : Access) (place : ℕ) (cs : List Caller) (cs' : List (Point Position Own)) → Calls g.t → InCall g.t n f → first g.t n f ≤ u → Agrees (fr g.t n f) f.locals xs a c
-          → AtE g.t n f c a k u how found r q → Callers g.t n cs cs' → (v : Option Value) (temp : Option ℕ) (h : Held) → ReturnsAs how v temp h
+    module _ (n : ℕ) (f : tree.Func) (y : Around) (xs : List Variable) (a : ℕ → Held) (c : ℕ → Option ℕ) (k : source.Use) (u : ℕ) (r : Nodes) (q : Position) (w : World) (all : AllBegin g.t w) (bs : Blocks) where
+      wanted_lands : (how : Access) (place : ℕ) (cs : List Caller) (cs' : List (Point Position Own)) → Calls g.t → InCall g.t n f → y.first ≤ u → AgreesIn f y xs a c
+          → AtE g.t n f c a y k u how found r q → Callers g.t n cs cs' → (v : Option Value) (temp : Option ℕ) (h : Held) → ReturnsAs how v temp h
           → Together g.t (runs.went (record { function = n; locals = xs; point = after_call (wanted place k) v; callers = cs }) w)
           (runs.went (record { top = record { at = then_ (forms.sets place u (ir.copy u) r) q; own = record { function = n; temps = set_at a u h; objects = c; blocks = bs } }; callers = cs' }) w)
       wanted_lands how place cs cs' busy call above agrees at callers _ _ _ (with_value v t kind) =
           let d : ℕ → Held = set_at a u (value v) in
           let under : Below u a d = below_set u u a a (value v) (omega arith) (below_same u a) in
-          let low : Below (length f.locals) a d = below_less u (length f.locals) a d (omega (arith, above, locals_long g.t n f)) under in
-          both_went w all (same call (agrees_below (fr g.t n f) f.locals xs a d c agrees low)
-          (at_gives v kind (set_here a u (value v)) above busy (at_again place found (use_below g.t n f c a d k u how found r q at under))) callers)
+          let low : Below y.first a d = below_less u y.first a d above under in
+          both_went w all (same {a = y} call (agrees_below (homes_from 0 f.locals) y.first (running y) f.locals xs a d c agrees low)
+          (at_gives v kind (set_here a u (value v)) above busy (at_again place found (use_below g.t n f c a d y k u how found r q at under))) callers)
       wanted_lands how place cs cs' busy call above agrees at callers _ _ _ without_value =
           let d : ℕ → Held = set_at a u code.missing in
           let under : Below u a d = below_set u u a a code.missing (omega arith) (below_same u a) in
-          let low : Below (length f.locals) a d = below_less u (length f.locals) a d (omega (arith, above, locals_long g.t n f)) under in
-          both_went w all (same call (agrees_below (fr g.t n f) f.locals xs a d c agrees low) (at_lacks place (set_here a u code.missing)) callers)
+          let low : Below y.first a d = below_less u y.first a d above under in
+          both_went w all (same {a = y} call (agrees_below (homes_from 0 f.locals) y.first (running y) f.locals xs a d c agrees low) (at_lacks place (set_here a u code.missing)) callers)
 
     -- back in the caller, or at the end of the thread
     returns_at : (temp : Option ℕ) (v : Option Value) (m : ℕ) (cs : List Caller) (cs' : List (Point Position Own)) → m ≡ g.n → Callers g.t m cs cs'
@@ -105,13 +105,13 @@ module _ (g : Setting) where
         (turned (finished (finished_with g.thread g.answer (own g ob tm b) (actions.with_blocks g.s b) (over (lowered g.t) (own g ob tm b)).blocks z)))) (sym (result_same (own g ob tm b) v temp (given (own g ob tm b) temp) refl an_int))
         (finishes (acted (actions.with_blocks g.s (over (lowered g.t) (own g ob tm b)).blocks) g.thread g.answer (actions.finish (number_in v))) (own g ob tm b)
         (finish_so g.t (actions.with_blocks g.s (over (lowered g.t) (own g ob tm b)).blocks) g.begun g.thread g.answer (number_in v))))
-    returns_at temp v _ _ _ e (one_wants {n} {f} {vs = xs} {tm = a} {ob = c} {b = bs} {k} {u} {r} {q} {cs} {cs'} m f' place ts there busy call above agrees at callers) kept w is =
+    returns_at temp v _ _ _ e (one_wants {n} {f} {vs = xs} {tm = a} {ob = c} {b = bs} {a = y} {k} {u} {r} {q} {cs} {cs'} m f' place ts there busy call above agrees at callers) kept w is =
         let now_f : f' ≡ g.f = same_Some f' g.f (sym there ∙ ap (slice_get g.t.funcs) e ∙ g.call.there) in
         subst (λ x. Together g.t (plainly g.answer (runs.went (record { function = n; locals = xs; point = after_call (wanted place k) v; callers = cs }) x))
         (turned (if_fits (is_plain g.answer) (threads.went (record { top = record { at = then_ (forms.sets place u (ir.copy u) r) q; own = record { function = n; temps = set_at a u (given (own g ob tm b) temp); objects = c; blocks = (over (lowered g.t) (own g ob tm b)).blocks } }; callers = cs' })
         (actions.with_blocks g.s (over (lowered g.t) (own g ob tm b)).blocks))))) (sym is)
         (plainly_alike g.answer _ _ (actions.with_blocks g.s (over (lowered g.t) (own g ob tm b)).blocks)
-        (wanted_lands n f xs a c k u r q (actions.with_blocks g.s (over (lowered g.t) (own g ob tm b)).blocks) g.begun (over (lowered g.t) (own g ob tm b)).blocks (access_of_type f'.result) place cs cs' busy call above agrees at callers v temp (given (own g ob tm b) temp)
+        (wanted_lands n f y xs a c k u r q (actions.with_blocks g.s (over (lowered g.t) (own g ob tm b)).blocks) g.begun (over (lowered g.t) (own g ob tm b)).blocks (access_of_type f'.result) place cs cs' busy call above agrees at callers v temp (given (own g ob tm b) temp)
         (subst (λ z. ReturnsAs (access_of_type z) v temp (given (own g ob tm b) temp)) (ap (λ (z : tree.Func). z.result) (sym now_f)) kept)))
     returns_at temp v _ _ _ e (one_drops {n} {f} {vs = xs} {tm = a} {ob = c} {b = bs} {k = k} {r = r} {q = q} {cs} {cs'} m place ts busy call agrees at callers) kept w is =
         subst (λ x. Together g.t (plainly g.answer (runs.went (record { function = n; locals = xs; point = source.begins k; callers = cs }) x))
@@ -121,7 +121,7 @@ module _ (g : Setting) where
         (both_went (actions.with_blocks g.s (over (lowered g.t) (own g ob tm b)).blocks) g.begun (same call agrees (at_begins at) callers)))
 
     -- a call is left from here
-    pub leaves_alike : (a : ℕ → Held) → Agrees (frame g) g.f.locals vs a ob → (k : Position) (temp : Option ℕ) (v : Option Value) → position.here k ≡ returns temp → ReturnsAs (access_of_type g.f.result) (result_of_call (here g) v) temp (given (own g ob tm b) temp)
+    pub leaves_alike : (a : ℕ → Held) → Stands g vs a ob → (k : Position) (temp : Option ℕ) (v : Option Value) → position.here k ≡ returns temp → ReturnsAs (access_of_type g.f.result) (result_of_call (here g) v) temp (given (own g ob tm b) temp)
         → Alike g (leaves_call (here g) v (now g vs b)) k (own g ob tm b)
     leaves_alike a agrees k temp v stands kept =
         subst (Together g.t (leaves_call (here g) v (now g vs b)))
@@ -145,7 +145,7 @@ module _ (g : Setting) where
     bare_at _ _ _ (one_wants m f' place ts there busy call above agrees at callers) bare w is = absurd (bare busy)
     bare_at _ _ _ (one_drops m place ts busy call agrees at callers) bare w is = absurd (bare busy)
 
-    pub bare_alike : (a : ℕ → Held) → Agrees (frame g) g.f.locals vs a ob → (Calls g.t → ⊥) → Alike g (returns_to (here g) (Some (values.Num (num int (pos 0)))) (without_blocks vs (actions.with_blocks g.s b)) g.cs) done (own g ob tm b)
+    pub bare_alike : (a : ℕ → Held) → Stands g vs a ob → (Calls g.t → ⊥) → Alike g (returns_to (here g) (Some (values.Num (num int (pos 0)))) (without_blocks vs (actions.with_blocks g.s b)) g.cs) done (own g ob tm b)
     bare_alike a agrees bare =
         subst (Together g.t (returns_to (here g) (Some (values.Num (num int (pos 0)))) (without_blocks vs (actions.with_blocks g.s b)) g.cs))
         (sym (stops_at (lowered g.t) g.thread g.answer g.cs' g.s done (own g ob tm b) refl))
@@ -168,7 +168,7 @@ module _ (g : Setting) where
       let lt = calls g.f (ap (slice_get g.t.funcs) (sym (is_main g.n g.t.main e)) ∙ g.call.there) in
       absurd (omega (arith, lt, none))
 
-  module _ (vs : List Variable) (tm : ℕ → Held) (ob : ℕ → Option ℕ) (b : Blocks) (agrees : Agrees (frame g) g.f.locals vs tm ob) where
+  module _ (vs : List Variable) (tm : ℕ → Held) (ob : ℕ → Option ℕ) (b : Blocks) (agrees : Stands g vs tm ob) where
     result_at : (m : Bool) → (g.n == g.t.main) ≡ m → result_of_call (here g) None ≡ (if m then Some (values.Num (num int (pos 0))) else None)
     result_at m e = ap (λ z. if z then Some (values.Num (num int (pos 0))) else None) e
 
@@ -187,16 +187,16 @@ module _ (g : Setting) where
         (subst (λ z. ReturnsAs (access_of_type g.f.result) z (Some 0) (set_at tm 0 (value v) 0)) (sym (result_at true e)) (subst (ReturnsAs (access_of_type g.f.result) (Some v) (Some 0)) (sym (set_here tm 0 (value v))) (with_value v 0 kind))))
 
   -- at the end of the body
-  pub leave_goes : GoesS g false (leave_way (here g)) [] (last_nodes (g.n == g.t.main) (registers_of g.f)) done
-  leave_goes = record {
-    at = at_leaves;
+  pub leave_goes : g.a ≡ outermost g.f → GoesS g in_function (leave_way (here g)) [] (last_nodes (g.n == g.t.main) (registers_of g.f)) done
+  leave_goes e = record {
+    at = subst (λ (y : Around). AtS g.t g.n g.f y in_function source.leaves [] (last_nodes (g.n == g.t.main) (registers_of g.f)) done) (sym e) at_leaves;
     end = λ vs b tm ob agrees. last_at vs tm ob b agrees (g.n == g.t.main) (registers_of g.f) refl refl;
-    breaks = λ e. absurd cc;
-    continues = λ e. absurd cc;
+    breaks = λ z. absurd cc;
+    continues = λ z. absurd cc;
   }
 
   -- a value is returned, or none
-  pub caller_goes : (vs : List Variable) (ob : ℕ → Option ℕ) (b : Blocks) (tm : ℕ → Held) → Agrees (frame g) g.f.locals vs tm ob → (place : ℕ) (rch : Reach) (r : Nodes) (q : Position)
+  pub caller_goes : (vs : List Variable) (ob : ℕ → Option ℕ) (b : Blocks) (tm : ℕ → Held) → Stands g vs tm ob → (place : ℕ) (rch : Reach) (r : Nodes) (q : Position)
       → GoesE g vs ob b tm (caller_way (here g)) (start g) (access_of_type g.f.result) rch (more_nodes (ir.ret place (Some (start g))) r) q
   caller_goes vs ob b tm agrees place rch r q = record {
     at = at_caller place rch;
@@ -210,7 +210,7 @@ module _ (g : Setting) where
   not_main e false h = refl
   not_main e true h = let c : tree.void ≡ tree.integer int = sym e ∙ main_result h in absurd cc
 
-  pub returns_none : (vs : List Variable) (ob : ℕ → Option ℕ) (b : Blocks) (tm : ℕ → Held) → Agrees (frame g) g.f.locals vs tm ob → (place : ℕ) (r : Nodes) (q : Position) → g.f.result ≡ tree.void
+  pub returns_none : (vs : List Variable) (ob : ℕ → Option ℕ) (b : Blocks) (tm : ℕ → Held) → Stands g vs tm ob → (place : ℕ) (r : Nodes) (q : Position) → g.f.result ≡ tree.void
       → Alike g (leaves_call (here g) None (now g vs b)) (then_ (more_nodes (ir.ret place None) r) q) (own g ob tm b)
   returns_none vs ob b tm agrees place r q e =
       leaves_alike g vs tm ob b tm agrees (then_ (more_nodes (ir.ret place None) r) q) None None refl

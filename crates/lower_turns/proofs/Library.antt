@@ -25,9 +25,9 @@ use Rattle.struct_ir.specs.meaning.Blocks.{Held, value, pointer, Fault, Own, kno
 use Rattle.struct_ir.specs.meaning.Threads.{address_of, action_of, action_with, all_of}
 use Rattle.struct_ir.specs.meaning.Threads as served
 use Rattle.lower_forms.specs.Forms.{sets_int, found, at_temp, is_number, with_if, number_temps, text_places}
-use Rattle.lower_turns.proofs.Relation.{HasKind, Below, Agrees, Stand, AreScalars, Calls, AtE, at_int, AllBegin, Together, both_went, same, at_begins, at_gives, at_zero}
+use Rattle.lower_turns.proofs.Relation.{HasKind, Below, Stand, AreScalars, Calls, AtE, at_int, AllBegin, Together, both_went, same, at_begins, at_gives, at_zero}
 use Rattle.lower_turns.proofs.Registers.{use_below}
-use Rattle.lower_turns.proofs.Setting.{Setting, here, own, frame, agrees_on}
+use Rattle.lower_turns.proofs.Setting.{Stands, Setting, here, own, agrees_on}
 use Rattle.lower_turns.proofs.Actions.{GivesNone}
 use Rattle.lower_turns.proofs.Calls.{WaitIs, wait_wanted, wait_dropped}
 
@@ -112,7 +112,7 @@ module _ (place : ℕ) (l : Own) where
 
 -- ---- where a call's value goes
 
-module _ (g : Setting) (busy : Calls g.t) (vs : List Variable) (ob : ℕ → Option ℕ) (b : Blocks) (tm : ℕ → Held) (agrees : Agrees (frame g) g.f.locals vs tm ob) where
+module _ (g : Setting) (busy : Calls g.t) (vs : List Variable) (ob : ℕ → Option ℕ) (b : Blocks) (tm : ℕ → Held) (agrees : Stands g vs tm ob) where
   -- the thread goes on so
   abbrev pub Lands : Wait → Option Value → Nodes → Position → (ℕ → Held) → World → Type 0
   Lands kw v r q a w = Together g.t (stays (here g) vs (after_call kw v) w) (runs.went (record { top = record { at = then_ r q; own = own g ob a b }; callers = g.cs' }) w)
@@ -121,7 +121,7 @@ module _ (g : Setting) (busy : Calls g.t) (vs : List Variable) (ob : ℕ → Opt
     pub lands_value : (kw : Wait) (r : Nodes) (q : Position) → WaitIs g ob tm place ty kw u r q → (v : Value) (a : ℕ → Held) (w : World) → HasKind (access_of_type ty) v → Below u tm a → a u ≡ value v → AllBegin g.t w
         → Lands kw (Some v) r q a w
     lands_value _ _ _ (wait_wanted {k} {r = r} {q = q} scalar above at) v a w kind below is begun =
-        both_went w begun (same g.call (agrees_on g vs tm a ob u above agrees below) (at_gives v kind is above busy (use_below g.t g.n g.f ob tm a k u (access_of_type ty) found r q at below)) g.callers)
+        both_went w begun (same g.call (agrees_on g vs tm a ob u above agrees below) (at_gives v kind is above busy (use_below g.t g.n g.f ob tm a g.a k u (access_of_type ty) found r q at below)) g.callers)
     lands_value _ _ _ (wait_dropped above at) v a w kind below is begun = both_went w begun (same g.call (agrees_on g vs tm a ob u above agrees below) (at_begins at) g.callers)
 
     -- where the value is 0, which then comes to the register
@@ -129,7 +129,7 @@ module _ (g : Setting) (busy : Calls g.t) (vs : List Variable) (ob : ℕ → Opt
         → Lands kw (Some (values.Num (num int (pos 0)))) (sets_int place u 0 r) q a w
     lands_zero _ _ _ (wait_wanted {k} {r = r} {q = q} scalar above at) a w e below begun =
         both_went w begun (same g.call (agrees_on g vs tm a ob u above agrees below)
-        (at_zero place above busy (use_below g.t g.n g.f ob tm a k u (accesses.Number int) found r q (subst (λ z. AtE g.t g.n g.f ob tm k u (access_of_type z) found r q) e at) below)) g.callers)
+        (at_zero place above busy (use_below g.t g.n g.f ob tm a g.a k u (accesses.Number int) found r q (subst (λ z. AtE g.t g.n g.f ob tm g.a k u (access_of_type z) found r q) e at) below)) g.callers)
     lands_zero _ _ _ (wait_dropped above at) a w e below begun =
         both_went w begun (same g.call (agrees_on g vs tm a ob u above agrees below) (at_begins (at_int place u 0 above at)) g.callers)
 

@@ -26,12 +26,12 @@ use Rattle.struct_ir.specs.meaning.Blocks.{Held, value, set_at, wrong_kind, same
 use Rattle.struct_ir.specs.meaning.Threads.{action_of, set_if, action_with, if_count}
 use Rattle.lower_forms.specs.Forms.{sets_int, at_temp, number_temps, text_places, lib_nodes}
 use Rattle.lower_forms.specs.Programs.{lowered}
-use Rattle.lower_turns.proofs.Relation.{ctx, HasKind, Agrees, Stand, AreScalars, Calls, AllBegin}
+use Rattle.lower_turns.proofs.Relation.{ctx, HasKind, Stand, AreScalars, Calls, AllBegin}
 use Rattle.lower_turns.proofs.Registers.{set_here, set_there, below_same, below_set}
 use Rattle.lower_turns.proofs.Values.{kind_fits}
 use Rattle.lower_turns.proofs.Operands.{fits_access}
 use Rattle.lower_turns.proofs.Steps.{set_then, step_alike}
-use Rattle.lower_turns.proofs.Setting.{Setting, here, now, own, Alike, frame}
+use Rattle.lower_turns.proofs.Setting.{Stands, Setting, here, now, own, Alike}
 use Rattle.lower_turns.proofs.Actions.{GivesKind, GivesNone, IfWent, if_went, copy_so, store_so, allocate_so, free_so, print_so, lock_so, unlock_so, destroy_so, start_so, join_so}
 use Rattle.lower_turns.proofs.Calls.{WaitIs, nth_mapped}
 use Rattle.lower_turns.proofs.Library.{action_is, one_more_place, one_more_read, at_register, print_is, Lands, lands_value, lands_zero, lands_none}
@@ -54,7 +54,7 @@ stand_as tm (t ∷ ts) (tree.more_exprs e es) (v ∷ vs) u h s = (subst (λ z. H
 pub store_fits : (how : Access) (p : Ptr) (v : Value) → HasKind how v → action_with (ir.store how) (p ∷ []) (v ∷ []) ≡ Ok (actions.store p v)
 store_fits how p v k = ap (λ b. if b then Ok (actions.store p v) else Err wrong_kind) (kind_fits how v k)
 
-module _ (g : Setting) (busy : Calls g.t) (vs : List Variable) (ob : ℕ → Option ℕ) (b : Blocks) (tm : ℕ → Held) (agrees : Agrees (frame g) g.f.locals vs tm ob) (place : ℕ) (ty : tree.Ty) (u : ℕ)
+module _ (g : Setting) (busy : Calls g.t) (vs : List Variable) (ob : ℕ → Option ℕ) (b : Blocks) (tm : ℕ → Held) (agrees : Stands g vs tm ob) (place : ℕ) (ty : tree.Ty) (u : ℕ)
     (kw : Wait) (r : Nodes) (q : Position) (waits : WaitIs g ob tm place ty kw u r q) where
   abbrev world_now : World
   world_now = actions.with_blocks g.s b

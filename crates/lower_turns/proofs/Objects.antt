@@ -14,9 +14,9 @@ use Rattle.struct_ir.specs.Nodes.{StackObject}
 use Rattle.struct_ir.specs.meaning.Blocks.{Held, Own, set_at, without, object_ended}
 use Rattle.lower_forms.specs.Forms.{home, home_or_none}
 use Rattle.lower_forms.specs.Programs.{home_if, next_home, homes_from, object_of, with_object, objects_of}
-use Rattle.lower_turns.proofs.Relation.{InRegister, no_value, one_value, InBlock, no_block, one_block, held_in, Agrees}
-use Rattle.lower_turns.proofs.Registers.{set_here, set_there}
-use Rattle.lower_turns.proofs.Setting.{Setting, now, own, frame}
+use Rattle.lower_turns.proofs.Relation.{InRegister, no_value, one_value, InBlock, no_block, one_block, held_in, running}
+use Rattle.lower_turns.proofs.Registers.{holds_but, set_here, set_there}
+use Rattle.lower_turns.proofs.Setting.{Stands, start, start_is, Setting, now, own, frame}
 
 -- ---- lists
 
@@ -108,22 +108,27 @@ pub record Over (g : Setting) (tm : ℕ → Held) (x : Now) (l : Own) : Type 0 w
   pub ob' : ℕ → Option ℕ
   pub source_is : x ≡ now g vs' b'
   pub code_is : l ≡ own g ob' tm b'
-  pub agrees' : Agrees (frame g) g.f.locals vs' tm ob'
+  pub agrees' : Stands g vs' tm ob'
 
 -- ---- locals that change
 
-module _ (g : Setting) (vs : List Variable) (tm : ℕ → Held) (ob : ℕ → Option ℕ) (agrees : Agrees (frame g) g.f.locals vs tm ob) where
+module _ (g : Setting) (vs : List Variable) (tm : ℕ → Held) (ob : ℕ → Option ℕ) (agrees : Stands g vs tm ob) where
   -- a register's local
-  pub agrees_value : (i : ℕ) (l : tree.Local) → slice_get g.f.locals i ≡ Some l → home (frame g) i ≡ None → (x : Variable) (a : ℕ → Held) → ((j : ℕ) → j < length g.f.locals → j ≢ i → a j ≡ tm j)
-      → InRegister (access_of_type l.ty) x (a i) → Agrees (frame g) g.f.locals (set vs i x) a ob
+  pub agrees_value : (i : ℕ) (l : tree.Local) → slice_get g.f.locals i ≡ Some l → home (frame g) i ≡ None → (x : Variable) (a : ℕ → Held) → ((j : ℕ) → j < start g → j ≢ i → a j ≡ tm j)
+      → InRegister (access_of_type l.ty) x (a i) → Stands g (set vs i x) a ob
   agrees_value i l there none x a others is = record {
     count = length-set vs i x ∙ agrees.count;
+    low = agrees.low;
+    switches = holds_but (length g.f.locals) (start g) i tm a (running g.a) (slice_get_within g.f.locals i l there) agrees.switches others;
     register = λ j k e h. by_same j i (here_is j k e) (λ ne. subst (λ y. InRegister (access_of_type k.ty) y (a j)) (sym (held_there vs i j x ne))
-        (subst (InRegister (access_of_type k.ty) (held_in vs j)) (sym (others j (slice_get_within g.f.locals j k e) ne)) (agrees.register j k e h)));
+        (subst (InRegister (access_of_type k.ty) (held_in vs j)) (sym (others j (below_start j k e) ne)) (agrees.register j k e h)));
     block = λ j k h. by_same j i (λ e. absurd (let c : Some k ≡ None = sym h ∙ ap (home (frame g)) e ∙ none in cc))
         (λ ne. subst (λ y. InBlock y (ob k)) (sym (held_there vs i j x ne)) (agrees.block j k h));
   }
     where
+      below_start : (j : ℕ) (k : tree.Local) → slice_get g.f.locals j ≡ Some k → j < start g
+      below_start j k e = omega (arith, slice_get_within g.f.locals j k e, start_is g)
+
       within : i < length vs
       within = let c = agrees.count in omega (arith, c, slice_get_within g.f.locals i l there)
 
@@ -138,9 +143,11 @@ module _ (g : Setting) (vs : List Variable) (tm : ℕ → Held) (ob : ℕ → Op
 
   -- a local with a stack object
   pub agrees_block : (i k : ℕ) → home (frame g) i ≡ Some k → (xs : List Variable) (c : ℕ → Option ℕ) → length xs ≡ length vs → ((j : ℕ) → j ≢ i → held_in xs j ≡ held_in vs j) → ((m : ℕ) → m ≢ k → c m ≡ ob m)
-      → InBlock (held_in xs i) (c k) → Agrees (frame g) g.f.locals xs tm c
+      → InBlock (held_in xs i) (c k) → Stands g xs tm c
   agrees_block i k has xs c long others objects is = record {
     count = long ∙ agrees.count;
+    low = agrees.low;
+    switches = agrees.switches;
     register = λ j l e h. by_same j i (λ same_number. absurd (let x : None ≡ Some k = sym h ∙ ap (home (frame g)) same_number ∙ has in cc))
         (λ ne. subst (λ y. InRegister (access_of_type l.ty) y (tm j)) (sym (others j ne)) (agrees.register j l e h));
     block = λ j m h. by_same j i (here_is j m h) (λ ne. elsewhere j m h ne);
@@ -157,9 +164,11 @@ module _ (g : Setting) (vs : List Variable) (tm : ℕ → Held) (ob : ℕ → Op
           subst (λ y. InBlock y (c m)) (sym (others j ne)) (subst (InBlock (held_in vs j)) (sym (objects m other)) (agrees.block j m h))
 
   -- the register of a local with a stack object counts nowhere
-  pub agrees_unused : (i k : ℕ) → home (frame g) i ≡ Some k → (h : Held) → Agrees (frame g) g.f.locals vs (set_at tm i h) ob
+  pub agrees_unused : (i k : ℕ) → home (frame g) i ≡ Some k → (h : Held) → Stands g vs (set_at tm i h) ob
   agrees_unused i k has h = record {
     count = agrees.count;
+    low = agrees.low;
+    switches = holds_but (length g.f.locals) (start g) i tm (set_at tm i h) (running g.a) (home_within 0 g.f.locals i k has) agrees.switches (λ j lt ne. set_there tm i h j ne);
     register = λ j l e none. let ne : j ≢ i = λ z. absurd (let c : None ≡ Some k = sym none ∙ ap (home (frame g)) z ∙ has in cc) in
         subst (InRegister (access_of_type l.ty) (held_in vs j)) (sym (set_there tm i h j ne)) (agrees.register j l e none);
     block = agrees.block;

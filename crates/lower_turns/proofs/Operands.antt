@@ -74,7 +74,7 @@ either_right true b e = refl
 either_right false b e = e
 
 -- operands of which both have one type, and those of a shift
-one_type : (op : Op) (s t : IntType) → s ≡ t → takes op s s t ≡ true
+pub one_type : (op : Op) (s t : IntType) → s ≡ t → takes op s s t ≡ true
 one_type op s t e = and_from _ _ (type_itself s) (either_right (is_shift op) (same_type s t) (same_types s t e))
 
 shift_types : (op : Op) (s t : IntType) → is_shift op ≡ true → takes op s s t ≡ true

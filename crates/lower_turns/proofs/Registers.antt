@@ -1,5 +1,5 @@
 -- Registers below a place stay, and what stands on them.
-use Rattle.std.proofs.Common.{◌≡◌, ◌≢◌, ℕ, suc, ◌≤◌, Bool, true, false, List, length, ◌==◌, Option, refl, sym, subst, ◌∙◌, arith, if◌then◌else◌}
+use Rattle.std.proofs.Common.{◌≡◌, ◌≢◌, ℕ, suc, ◌<◌, ◌≤◌, Bool, true, false, List, [], ◌∷◌, length, ◌==◌, Option, refl, sym, subst, ◌∙◌, arith, if◌then◌else◌}
 use Rattle.std.proofs.lemmas.Bool.Decides.{nat_tests}
 use Rattle.std.proofs.lemmas.Option.{slice_get_within}
 use Rattle.block_store.specs.declared.values.Access.{Access}
@@ -11,8 +11,8 @@ use Rattle.c_meaning.specs.Control.{Variable, Use}
 use Rattle.struct_ir.specs.Nodes.{Nodes}
 use Rattle.struct_ir.specs.Structured.{Position}
 use Rattle.struct_ir.specs.meaning.Blocks.{Held, set_at}
-use Rattle.lower_forms.specs.Forms.{Frame, Reach, found, direct, indexed, behind}
-use Rattle.lower_turns.proofs.Relation.{Below, Reaches, InRegister, held_in, Agrees, Joined, not_joined, joined, Taken, none_yet, one_more, first, AtE, at_first, at_second, at_convert, at_not, at_test, at_member, at_read, at_and, at_or, at_second_test, at_choice, at_wanted, at_dropped, at_local, at_left, at_place, at_block, at_struct_left, at_struct_right, at_update_left, at_update_right, at_update_read, at_update_local, at_if, at_loop_test, at_caller, at_nowhere, at_inside, at_found, at_again}
+use Rattle.lower_forms.specs.Forms.{Reach, found, direct, indexed, behind}
+use Rattle.lower_turns.proofs.Relation.{Below, Reaches, InRegister, held_in, Holds, Around, Agrees, Joined, not_joined, joined, Taken, none_yet, one_more, AtE, at_first, at_second, at_convert, at_not, at_test, at_member, at_read, at_and, at_or, at_second_test, at_choice, at_wanted, at_dropped, at_local, at_left, at_place, at_block, at_struct_left, at_struct_right, at_update_left, at_update_right, at_update_read, at_update_local, at_if, at_loop_test, at_switch_test, at_caller, at_nowhere, at_inside, at_found, at_again}
 
 -- ---- one register is set
 
@@ -69,50 +69,67 @@ taken_below a b all t0 _ _ _ (one_more {e} {rest} {before} {t} v k s more) g =
     one_more v k (g t (omega arith) ∙ s) (taken_below a b all t0 (tree.more_exprs e rest) before t more (below_less (suc t) t a b (omega arith) g))
 
 module _ (t : tree.Typed) (n : ℕ) (f : tree.Func) (ob : ℕ → Option ℕ) (a b : ℕ → Held) where
-  pub use_below : (k : Use) (u : ℕ) (how : Access) (rch : Reach) (r : Nodes) (q : Position) → AtE t n f ob a k u how rch r q → Below u a b → AtE t n f ob b k u how rch r q
-  use_below _ _ _ _ _ _ (at_first place op right lh lrch ty sc fits j at) g = at_first place op right lh lrch ty sc fits j (use_below _ _ _ _ _ _ at g)
-  use_below _ _ _ _ _ _ (at_second {k} {u} place op left lh rh rrch fits kind e j at) g =
+  pub use_below : (c : Around) (k : Use) (u : ℕ) (how : Access) (rch : Reach) (r : Nodes) (q : Position) → AtE t n f ob a c k u how rch r q → Below u a b → AtE t n f ob b c k u how rch r q
+  use_below _ _ _ _ _ _ _ (at_first place op right lh lrch ty sc fits j at) g = at_first place op right lh lrch ty sc fits j (use_below _ _ _ _ _ _ _ at g)
+  use_below _ _ _ _ _ _ _ (at_second {k} {u} place op left lh rh rrch fits kind e j at) g =
       let less = below_less (suc u) u a b (omega arith) g in
-      at_second place op left lh rh rrch fits kind (g u (omega arith) ∙ e) (joined_below a b u _ _ _ j less) (use_below _ _ _ _ _ _ at less)
-  use_below _ _ _ _ _ _ (at_convert place from to fits at) g = at_convert place from to fits (use_below _ _ _ _ _ _ at g)
-  use_below _ _ _ _ _ _ (at_not place lh rch at) g = at_not place lh rch (use_below _ _ _ _ _ _ at g)
-  use_below _ _ _ _ _ _ (at_test place rch at) g = at_test place rch (use_below _ _ _ _ _ _ at g)
-  use_below _ _ _ _ _ _ (at_member place offset rch small at) g = at_member place offset rch small (use_below _ _ _ _ _ _ at g)
-  use_below _ _ _ _ _ _ (at_read place how rch at) g = at_read place how rch (use_below _ _ _ _ _ _ at g)
-  use_below _ _ _ _ _ _ (at_and place right lh rch ty sc at) g = at_and place right lh rch ty sc (use_below _ _ _ _ _ _ at g)
-  use_below _ _ _ _ _ _ (at_or place right lh rch ty sc at) g = at_or place right lh rch ty sc (use_below _ _ _ _ _ _ at g)
-  use_below _ _ _ _ _ _ (at_second_test place lh rch at) g = at_second_test place lh rch (use_below _ _ _ _ _ _ at g)
-  use_below _ _ _ _ _ _ (at_choice place one other lh rch t1 s1 e1 t2 s2 e2 at) g = at_choice place one other lh rch t1 s1 e1 t2 s2 e2 (use_below _ _ _ _ _ _ at g)
-  use_below _ _ _ _ _ _ (at_wanted {k} {u} place callee all e rest before v ty rch typed sc call scs scalar taken above at) g =
+      at_second place op left lh rh rrch fits kind (g u (omega arith) ∙ e) (joined_below a b u _ _ _ j less) (use_below _ _ _ _ _ _ _ at less)
+  use_below _ _ _ _ _ _ _ (at_convert place from to fits at) g = at_convert place from to fits (use_below _ _ _ _ _ _ _ at g)
+  use_below _ _ _ _ _ _ _ (at_not place lh rch at) g = at_not place lh rch (use_below _ _ _ _ _ _ _ at g)
+  use_below _ _ _ _ _ _ _ (at_test place rch at) g = at_test place rch (use_below _ _ _ _ _ _ _ at g)
+  use_below _ _ _ _ _ _ _ (at_member place offset rch small at) g = at_member place offset rch small (use_below _ _ _ _ _ _ _ at g)
+  use_below _ _ _ _ _ _ _ (at_read place how rch at) g = at_read place how rch (use_below _ _ _ _ _ _ _ at g)
+  use_below _ _ _ _ _ _ _ (at_and place right lh rch ty sc at) g = at_and place right lh rch ty sc (use_below _ _ _ _ _ _ _ at g)
+  use_below _ _ _ _ _ _ _ (at_or place right lh rch ty sc at) g = at_or place right lh rch ty sc (use_below _ _ _ _ _ _ _ at g)
+  use_below _ _ _ _ _ _ _ (at_second_test place lh rch at) g = at_second_test place lh rch (use_below _ _ _ _ _ _ _ at g)
+  use_below _ _ _ _ _ _ _ (at_choice place one other lh rch t1 s1 e1 t2 s2 e2 at) g = at_choice place one other lh rch t1 s1 e1 t2 s2 e2 (use_below _ _ _ _ _ _ _ at g)
+  use_below _ _ _ _ _ _ _ (at_wanted {k} {u} place callee all e rest before v ty rch typed sc call scs scalar taken above at) g =
       at_wanted place callee all e rest before v ty rch typed sc call scs scalar (taken_below a b all u _ _ _ taken g) above
-      (use_below _ _ _ _ _ _ at (below_less v u a b (taken_le a all u _ _ _ taken) g))
-  use_below _ _ _ _ _ _ (at_dropped {u = u} place callee all e rest before v ty rch typed sc call scs taken above at) g =
+      (use_below _ _ _ _ _ _ _ at (below_less v u a b (taken_le a all u _ _ _ taken) g))
+  use_below _ _ _ _ _ _ _ (at_dropped {u = u} place callee all e rest before v ty rch typed sc call scs taken above at) g =
       at_dropped place callee all e rest before v ty rch typed sc call scs (taken_below a b all u _ _ _ taken g) above at
-  use_below _ _ _ _ _ _ (at_local place i l rch e h at) g = at_local place i l rch e h at
-  use_below _ _ _ _ _ _ (at_left place right how rch ty sc e at) g = at_left place right how rch ty sc e at
-  use_below _ _ _ _ _ _ (at_place place to how via rch h at) g = at_place place to how via rch (reaches_below a b via _ to h g) at
-  use_below _ _ _ _ _ _ (at_block place i object c how rch h lt e at) g = at_block place i object c how rch h lt e at
-  use_below _ _ _ _ _ _ (at_struct_left place ty right rch typed h small at) g = at_struct_left place ty right rch typed h small at
-  use_below _ _ _ _ _ _ (at_struct_right place ty to via rch h small at) g = at_struct_right place ty to via rch (reaches_below a b via _ to h g) small at
-  use_below _ _ _ _ _ _ (at_update_left place x right op rch ty sc can at) g = at_update_left place x right op rch ty sc can at
-  use_below _ _ _ _ _ _ (at_update_right place x right op to via rch h can at) g = at_update_right place x right op to via rch (reaches_below a b via _ to h g) can at
-  use_below _ _ _ _ _ _ (at_update_read place x right op to by via rch h can kind e at) g =
-      at_update_read place x right op to by via rch (reaches_below a b via _ to h (below_less _ _ a b (omega arith) g)) can kind (g (behind via (first t n f)) (omega arith) ∙ e) at
-  use_below _ _ _ _ _ _ (at_update_local place i l x right op rch e h same can at) g = at_update_local place i l x right op rch e h same can at
-  use_below _ _ _ _ _ _ (at_if place one other lh rch w1 w2 at) g = at_if place one other lh rch w1 w2 at
-  use_below _ _ _ _ _ _ (at_loop_test place l lh rch is at) g = at_loop_test place l lh rch is at
-  use_below _ _ _ _ _ _ (at_caller place rch) g = at_caller place rch
-  use_below _ _ _ _ _ _ (at_nowhere how rch at) g = at_nowhere how rch at
-  use_below _ _ _ _ _ _ (at_inside at) g = at_inside (use_below _ _ _ _ _ _ at g)
-  use_below _ _ _ _ _ _ (at_found rch at) g = at_found rch (use_below _ _ _ _ _ _ at g)
-  use_below _ _ _ _ _ _ (at_again place rch at) g = at_again place rch (use_below _ _ _ _ _ _ at g)
+  use_below _ _ _ _ _ _ _ (at_local place i l rch e h at) g = at_local place i l rch e h at
+  use_below _ _ _ _ _ _ _ (at_left place right how rch ty sc e at) g = at_left place right how rch ty sc e at
+  use_below _ _ _ _ _ _ _ (at_place place to how via rch h at) g = at_place place to how via rch (reaches_below a b via _ to h g) at
+  use_below _ _ _ _ _ _ _ (at_block place i object c how rch h lt e at) g = at_block place i object c how rch h lt e at
+  use_below _ _ _ _ _ _ _ (at_struct_left place ty right rch typed h small at) g = at_struct_left place ty right rch typed h small at
+  use_below _ _ _ _ _ _ _ (at_struct_right place ty to via rch h small at) g = at_struct_right place ty to via rch (reaches_below a b via _ to h g) small at
+  use_below _ _ _ _ _ _ _ (at_update_left place x right op rch ty sc can at) g = at_update_left place x right op rch ty sc can at
+  use_below _ _ _ _ _ _ _ (at_update_right place x right op to via rch h can at) g = at_update_right place x right op to via rch (reaches_below a b via _ to h g) can at
+  use_below c _ _ _ _ _ _ (at_update_read place x right op to by via rch h can kind e at) g =
+      at_update_read place x right op to by via rch (reaches_below a b via _ to h (below_less _ _ a b (omega arith) g)) can kind (g (behind via _) (omega arith) ∙ e) at
+  use_below _ _ _ _ _ _ _ (at_update_local place i l x right op rch e h same can at) g = at_update_local place i l x right op rch e h same can at
+  use_below _ _ _ _ _ _ _ (at_if place one other lh rch w1 w2 at) g = at_if place one other lh rch w1 w2 at
+  use_below _ _ _ _ _ _ _ (at_loop_test place l lh rch is at) g = at_loop_test place l lh rch is at
+  use_below _ _ _ _ _ _ _ (at_switch_test place labels body s rch all few well free at) g = at_switch_test place labels body s rch all few well free at
+  use_below _ _ _ _ _ _ _ (at_caller place rch) g = at_caller place rch
+  use_below _ _ _ _ _ _ _ (at_nowhere how rch at) g = at_nowhere how rch at
+  use_below _ _ _ _ _ _ _ (at_inside at) g = at_inside (use_below _ _ _ _ _ _ _ at g)
+  use_below _ _ _ _ _ _ _ (at_found rch at) g = at_found rch (use_below _ _ _ _ _ _ _ at g)
+  use_below _ _ _ _ _ _ _ (at_again place rch at) g = at_again place rch (use_below _ _ _ _ _ _ _ at g)
 
 -- ---- locals
 
--- they agree while no register changes that holds one
-pub agrees_below : (fr : Frame) (ls : List tree.Local) (vs : List Variable) (a b : ℕ → Held) (ob : ℕ → Option ℕ) → Agrees fr ls vs a ob → Below (length ls) a b → Agrees fr ls vs b ob
-agrees_below frame ls vs a b ob h g = record {
-  count = h.count;
-  register = λ i l e none. subst (InRegister (access_of_type l.ty) (held_in vs i)) (sym (g i (slice_get_within ls i l e))) (h.register i l e none);
-  block = h.block;
-}
+-- what the switches around hold stays while no register below the free ones changes
+pub holds_below : (low high : ℕ) (a b : ℕ → Held) (xs : List (ℕ × ℕ)) → Holds low high a xs → Below high a b → Holds low high b xs
+holds_below low high a b [] h g = tt
+holds_below low high a b (x ∷ xs) h g = (h.0, h.1, g x.0 h.1 ∙ h.2, holds_below low x.0 a b xs h.3 (below_less high x.0 a b (omega (arith, h.1)) g))
+
+-- or changes only one that holds a local
+pub holds_but : (low high i : ℕ) (a b : ℕ → Held) (xs : List (ℕ × ℕ)) → i < low → Holds low high a xs → ((j : ℕ) → j < high → j ≢ i → b j ≡ a j) → Holds low high b xs
+holds_but low high i a b [] lt h g = tt
+holds_but low high i a b (x ∷ xs) lt h g =
+    let ne : x.0 ≢ i = λ e. absurd (omega (arith, lt, h.0, e)) in
+    (h.0, h.1, g x.0 h.1 ne ∙ h.2, holds_but low x.0 i a b xs lt h.3 (λ j jlt jne. g j (omega (arith, jlt, h.1)) jne))
+
+-- locals agree while no register below the free ones changes
+pub agrees_below : (homes : List (Option ℕ)) (first : ℕ) (held : List (ℕ × ℕ)) (ls : List tree.Local) (vs : List Variable) (a b : ℕ → Held) (ob : ℕ → Option ℕ) → Agrees homes first held ls vs a ob → Below first a b → Agrees homes first held ls vs b ob
+agrees_below homes first held ls vs a b ob h g =
+    let low = h.low in
+    record {
+      count = h.count;
+      low = h.low;
+      switches = holds_below (length ls) first a b held h.switches g;
+      register = λ i l e none. subst (InRegister (access_of_type l.ty) (held_in vs i)) (sym (g i (omega (arith, slice_get_within ls i l e, low)))) (h.register i l e none);
+      block = h.block;
+    }

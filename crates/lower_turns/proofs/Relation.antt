@@ -1,5 +1,5 @@
 -- When a thread of the code stands where a thread of the source does.
-use Rattle.std.proofs.Common.{◌≡◌, ℕ, suc, ◌<◌, ◌≤◌, ◌^◌, ◌*ℤ◌, ℤ, pos, Bool, true, false, List, [], ◌∷◌, ◌++◌, length, ◌==◌, ◌⊎◌, Option, Some, None, Ok}
+use Rattle.std.proofs.Common.{◌≡◌, ℕ, suc, ◌<◌, ◌≤◌, ◌^◌, ◌*ℤ◌, ℤ, pos, true, false, List, [], ◌∷◌, ◌++◌, length, ◌==◌, ◌⊎◌, Option, Some, None, Ok}
 use Rattle.std.specs.Prelude.{slice_get}
 use Rattle.ak_words.specs.declared.int_type.IntType.{IntType}
 use Rattle.ak_words.specs.declared.number.Num.{Num}
@@ -13,11 +13,12 @@ use Rattle.block_store.specs.declared.values.Ptr.TheVariants.{To}
 use Rattle.block_store.specs.declared.values.Value.{Value}
 use Rattle.block_store.specs.declared.values.Value.TheVariants as values
 use Rattle.c_tree.specs.Typed as tree
-use Rattle.c_tree.specs.TypedForm.{IsScalar, IsNth, CanUpdate, CanStart, signature_of, InScope, Inside, IsTyped, AreTyped, IfTyped, AreArguments, IsLibCall, IsWell, AreWell, context_of}
+use Rattle.c_tree.specs.TypedForm.{Jumps, in_function, in_loop, in_switch, IsLabel, stmts_count, IsScalar, IsNth, CanUpdate, CanStart, signature_of, InScope, Inside, IsTyped, AreTyped, IfTyped, AreArguments, IsLibCall, IsWell, AreWell, context_of}
 use Rattle.c_tree.specs.TypedLayout.{size_in}
 use Rattle.c_meaning.specs.Values.{Binary, converts, negates, tests, selects, on_numbers, forward, backward, distance, on_pointers, access_of_type}
 use Rattle.c_meaning.specs.Control as source
 use Rattle.c_meaning.specs.Control.{Variable, Loop, Callee, function, library, Todo, Use, wanted, dropped, Caller, Control}
+use Rattle.c_meaning.specs.Switches.{default_from, starts_at}
 use Rattle.c_meaning.specs.Turns.{update_of, variable_or_unset}
 use Rattle.struct_ir.specs.Nodes as ir
 use Rattle.struct_ir.specs.Nodes.{Calc, Nodes, no_nodes, more_nodes}
@@ -38,8 +39,8 @@ use Rattle.struct_ir.specs.meaning.Blocks.{Held, Own, value, number, pointer, ta
 use Rattle.struct_ir.specs.meaning.Threads.{further, moved_if}
 use Rattle.lower_forms.specs.Counts.{greatest, greatest_row, count_if}
 use Rattle.lower_forms.specs.Forms as forms
-use Rattle.lower_forms.specs.Forms.{Frame, home, first_temp, sets, acts, branches, sets_int, sets_truth, Reach, found, direct, indexed, reached, behind, at_temp, member_reach, reach, member_nodes, temps_of, lib_nodes, expr_nodes, place_nodes, args_nodes, ends, with_home, sized_copy, computes, update_at, test_nodes, stmt_nodes, row_nodes}
-use Rattle.lower_forms.specs.Programs.{frame_of, registers_of, last_nodes}
+use Rattle.lower_forms.specs.Forms.{Frame, home, home_or_none, sets, acts, branches, sets_int, sets_truth, Reach, found, direct, indexed, reached, behind, at_temp, member_reach, reach, member_nodes, temps_of, lib_nodes, expr_nodes, place_nodes, args_nodes, ends, with_home, sized_copy, computes, update_at, test_nodes, choose_nodes, stmt_nodes, row_nodes, switch_nodes}
+use Rattle.lower_forms.specs.Programs.{homes_from, registers_of, last_nodes}
 
 -- ---- values and registers
 
@@ -101,10 +102,55 @@ pub data InBlock : Variable → Option ℕ → Type 0 where
 abbrev pub held_in : List Variable → ℕ → Variable
 held_in vs i = variable_or_unset (slice_get vs i)
 
-pub record Agrees (fr : Frame) (locals : List tree.Local) (vs : List Variable) (tm : ℕ → Held) (ob : ℕ → Option ℕ) : Type 0 where
+-- ---- where a statement stands
+
+-- the first register that is free, the flag that a break clears, or none where it leaves a loop, and what the registers of the switches
+-- around hold besides, the last one first: ints
+pub record Around : Type 0 where
+  pub first : ℕ
+  pub flag : Option ℕ
+  pub held : List (ℕ × ℕ)
+
+abbrev pub with_flag : Option ℕ → ℕ → List (ℕ × ℕ) → List (ℕ × ℕ)
+with_flag None z rest = rest
+with_flag (Some i) z rest = (i, z) ∷ rest
+
+-- while the statements are executed, and from a break on
+abbrev pub running : Around → List (ℕ × ℕ)
+running a = with_flag a.flag 1 a.held
+
+abbrev pub stopped : Around → List (ℕ × ℕ)
+stopped a = with_flag a.flag 0 a.held
+
+-- in the body of a function, in a loop, and in a switch of which the label of this number is chosen
+abbrev pub outermost : tree.Func → Around
+outermost f = record { first = length f.locals; flag = None; held = [] }
+
+abbrev pub in_a_loop : Around → Around
+in_a_loop a = record { first = a.first; flag = None; held = running a }
+
+abbrev pub in_a_switch : Around → ℕ → Around
+in_a_switch a number = record { first = suc (suc a.first); flag = Some (suc a.first); held = (a.first, number) ∷ running a }
+
+-- the same as if these registers were of other switches
+abbrev pub halted : Around → Around
+halted a = record { first = a.first; flag = None; held = stopped a }
+
+-- they hold these ints, and are apart
+abbrev pub Holds : (low high : ℕ) → (ℕ → Held) → List (ℕ × ℕ) → Type 0
+Holds low high tm [] = Unit {0}
+Holds low high tm (x ∷ rest) = (low ≤ x.0) × (x.0 < high) × (tm x.0 ≡ number (num int (pos x.1))) × Holds low x.0 tm rest
+
+pub record Agrees (homes : List (Option ℕ)) (first : ℕ) (held : List (ℕ × ℕ)) (locals : List tree.Local) (vs : List Variable) (tm : ℕ → Held) (ob : ℕ → Option ℕ) : Type 0 where
   pub count : length vs ≡ length locals
-  pub register : (i : ℕ) (l : tree.Local) → slice_get locals i ≡ Some l → home fr i ≡ None → InRegister (access_of_type l.ty) (held_in vs i) (tm i)
-  pub block : (i k : ℕ) → home fr i ≡ Some k → InBlock (held_in vs i) (ob k)
+  pub low : length locals ≤ first
+  pub switches : Holds (length locals) first tm held
+  pub register : (i : ℕ) (l : tree.Local) → slice_get locals i ≡ Some l → home_or_none (slice_get homes i) ≡ None → InRegister (access_of_type l.ty) (held_in vs i) (tm i)
+  pub block : (i k : ℕ) → home_or_none (slice_get homes i) ≡ Some k → InBlock (held_in vs i) (ob k)
+
+-- in a call of this function
+abbrev pub AgreesIn : tree.Func → Around → List Variable → (ℕ → Held) → (ℕ → Option ℕ) → Type 0
+AgreesIn f a vs tm ob = Agrees (homes_from 0 f.locals) a.first (running a) f.locals vs tm ob
 
 -- ---- operators
 
@@ -157,9 +203,9 @@ abbrev pub Free : tree.Typed → ℕ → Type 0
 Free t m = 0 < m → Calls t
 
 -- the stack objects of these locals
-abbrev pub homes_of : Frame → List ℕ → List ℕ
-homes_of fr [] = []
-homes_of fr (i ∷ is) = with_home (home fr i) (homes_of fr is)
+abbrev pub homes_of : List (Option ℕ) → List ℕ → List ℕ
+homes_of homes [] = []
+homes_of homes (i ∷ is) = with_home (home_or_none (slice_get homes i)) (homes_of homes is)
 
 -- what follows the arguments of a call, whose value comes to t, or is dropped
 abbrev pub after_args : (place : ℕ) → Callee → tree.Exprs → (t : ℕ) → Nodes → Nodes
@@ -204,147 +250,170 @@ Stand tm (tree.more_exprs e es) (v ∷ vs) t = HasKind (access_of_type (tree.typ
 
 -- ---- work lists and positions, in a call of the function f, which has the number n
 
-module _ (t : tree.Typed) (n : ℕ) (f : tree.Func) where
-  abbrev pub fr : Frame
-  fr = frame_of t.structs f
+-- the label of this number is chosen, and stands before the statement of index i
+pub record IsPast (labels : List tree.Label) (number i : ℕ) : Type 0 where
+  pub at : ℕ
+  pub starts : starts_at labels number ≡ Some at
+  pub past : at < i
+  pub few : length labels ≤ 1024
 
+-- the step of a loop: a break leaves the loop, and there's no continue
+abbrev pub in_step : Jumps
+in_step = record { breaks = true; continues = false }
+
+module _ (t : tree.Typed) (n : ℕ) (f : tree.Func) where
   abbrev pub ctx : InScope
   ctx = context_of t f
 
   abbrev pub inside : Inside
   inside = record { context = context_of t f; params = f.params; result = f.result }
 
-  abbrev pub first : ℕ
-  first = first_temp (frame_of t.structs f)
+  abbrev pub fr : Around → Frame
+  fr a = record { structs = t.structs; homes = homes_from 0 f.locals; first = a.first; flag = a.flag }
 
   pub record LoopIs (l : Loop) : Type 0 where
     pub condition : IfTyped ctx IsScalar l.condition
-    pub step : IsWell inside false l.step
-    pub body : IsWell inside true l.body
+    pub step : IsWell inside in_step l.step
+    pub body : IsWell inside in_loop l.body
     pub free_condition : Free t (count_if l.condition)
     pub free_step : Free t (greatest l.step)
     pub free_body : Free t (greatest l.body)
 
-  abbrev pub body_nodes : Loop → Nodes
-  body_nodes l = test_nodes fr l.condition (stmt_nodes fr l.body [] no_nodes)
+  abbrev pub body_nodes : Around → Loop → Nodes
+  body_nodes a l = test_nodes (fr (in_a_loop a)) l.condition (stmt_nodes (fr (in_a_loop a)) l.body [] no_nodes)
 
-  abbrev pub latch_nodes : Loop → Nodes
-  latch_nodes l = stmt_nodes fr l.step [] no_nodes
+  abbrev pub latch_nodes : Around → Loop → Nodes
+  latch_nodes a l = stmt_nodes (fr (in_a_loop a)) l.step [] no_nodes
 
-  -- what is left to do, the stack objects that end where the loop around is left, the nodes that do it, and what is behind these
-  pub data AtS : Bool → Todo → List ℕ → Nodes → Position → Type 0 where
-    at_leaves : AtS false source.leaves [] (last_nodes (n == t.main) (registers_of f)) position.done
-    at_row : {io : Bool} {k : Todo} {left : List ℕ} {r : Nodes} {q : Position} (rest : tree.Stmts) → AreWell inside io rest → Free t (greatest_row rest)
-        → AtS io k left r q → AtS io (source.then_row rest k) left (row_nodes fr rest left r) q
-    at_end : {io : Bool} {k : Todo} {left : List ℕ} {r : Nodes} {q : Position} (place : ℕ) (is : List ℕ)
-        → AtS io k left r q → AtS io (source.then_end is k) (homes_of fr is ++ left) (ends place (homes_of fr is) r) q
-    at_loop : {io : Bool} {k : Todo} {left : List ℕ} {r : Nodes} {q : Position} (place : ℕ) (around : List ℕ) (l : Loop) → LoopIs l
-        → AtS io k left r q → AtS false (source.then_loop l k) around (more_nodes (ir.loop place (body_nodes l) (latch_nodes l)) r) q
-    at_body : {io : Bool} {k : Todo} {left : List ℕ} {r : Nodes} {q : Position} (l : Loop) → LoopIs l
-        → AtS io k left r q → AtS true (source.in_body l k) [] no_nodes (position.in_body (body_nodes l) (latch_nodes l) (then_ r q))
-    at_step : {io : Bool} {k : Todo} {left : List ℕ} {r : Nodes} {q : Position} (l : Loop) → LoopIs l
-        → AtS io k left r q → AtS false (source.in_step l k) [] no_nodes (position.in_latch (body_nodes l) (latch_nodes l) (then_ r q))
-    at_inner : {io : Bool} {k : Todo} {left : List ℕ} {r : Nodes} {q : Position} → AtS io k left r q → AtS io k left no_nodes (then_ r q)
-    at_int : {io : Bool} {k : Todo} {left : List ℕ} {r : Nodes} {q : Position} (place to z : ℕ) → first ≤ to → AtS io k left r q → AtS io k left (sets_int place to z r) q
+  -- the statements of a switch from the one of index i on
+  abbrev pub cases : Around → (number place : ℕ) → List tree.Label → ℕ → tree.Stmts → List ℕ → Nodes → Nodes
+  cases a number place labels i rest left r = switch_nodes (fr (in_a_switch a number)) place a.first labels i rest left r
+
+  -- where a statement stands, what is left to do, the stack objects that end where the loop around is left, the nodes that do it, and
+  -- what is behind these
+  pub data AtS : Around → Jumps → Todo → List ℕ → Nodes → Position → Type 0 where
+    at_leaves : AtS (outermost f) in_function source.leaves [] (last_nodes (n == t.main) (registers_of f)) position.done
+    at_row : {a : Around} {io : Jumps} {k : Todo} {left : List ℕ} {r : Nodes} {q : Position} (rest : tree.Stmts) → AreWell inside io rest → Free t (greatest_row rest)
+        → AtS a io k left r q → AtS a io (source.then_row rest k) left (row_nodes (fr a) rest left r) q
+    at_end : {a : Around} {io : Jumps} {k : Todo} {left : List ℕ} {r : Nodes} {q : Position} (place : ℕ) (is : List ℕ)
+        → AtS a io k left r q → AtS a io (source.then_end is k) (homes_of (homes_from 0 f.locals) is ++ left) (ends place (homes_of (homes_from 0 f.locals) is) r) q
+    at_loop : {a : Around} {io : Jumps} {k : Todo} {left : List ℕ} {r : Nodes} {q : Position} (place : ℕ) (around : List ℕ) (l : Loop) → LoopIs l
+        → AtS a io k left r q → AtS a in_function (source.then_loop l k) around (more_nodes (ir.loop place (body_nodes a l) (latch_nodes a l)) r) q
+    at_body : {a : Around} {io : Jumps} {k : Todo} {left : List ℕ} {r : Nodes} {q : Position} (l : Loop) → LoopIs l
+        → AtS a io k left r q → AtS (in_a_loop a) in_loop (source.in_body l k) [] no_nodes (position.in_body (body_nodes a l) (latch_nodes a l) (then_ r q))
+    at_step : {a : Around} {io : Jumps} {k : Todo} {left : List ℕ} {r : Nodes} {q : Position} (l : Loop) → LoopIs l
+        → AtS a io k left r q → AtS (in_a_loop a) in_step (source.in_step l k) [] no_nodes (position.in_latch (body_nodes a l) (latch_nodes a l) (then_ r q))
+    at_switch : {a : Around} {io : Jumps} {k : Todo} {left : List ℕ} {r : Nodes} {q : Position} (number : ℕ) → length f.locals ≤ a.first
+        → AtS a io k left r q → AtS (in_a_switch a number) (in_switch io) (source.in_switch k) left r q
+    at_cases : {a : Around} {io : Jumps} {k : Todo} {left : List ℕ} {r : Nodes} {q : Position} (number place : ℕ) (labels : List tree.Label) (i : ℕ) (rest : tree.Stmts) → length f.locals ≤ a.first
+        → AreWell inside (in_switch io) rest → Free t (greatest_row rest) → IsPast labels number i
+        → AtS a io k left r q → AtS (in_a_switch a number) (in_switch io) (source.then_row rest (source.in_switch k)) left (cases a number place labels i rest left r) q
+    at_inner : {a : Around} {io : Jumps} {k : Todo} {left : List ℕ} {r : Nodes} {q : Position} → AtS a io k left r q → AtS a io k left no_nodes (then_ r q)
+    at_int : {a : Around} {io : Jumps} {k : Todo} {left : List ℕ} {r : Nodes} {q : Position} (place to z : ℕ) → a.first ≤ to → AtS a io k left r q → AtS a io k left (sets_int place to z r) q
 
   -- what a value of this kind in the register u is used for, how what it points to is reached, the nodes that do it, and what is behind
   -- these, where the registers below u and the stack objects are these
-  pub data AtE (ob : ℕ → Option ℕ) (tm : ℕ → Held) : Use → ℕ → Access → Reach → Nodes → Position → Type 0 where
-    at_first : {k : Use} {u : ℕ} {how : Access} {rch : Reach} {r : Nodes} {q : Position} (place : ℕ) (op : Binary) (right : tree.Expr) (lh : Access) (lrch : Reach)
+  pub data AtE (ob : ℕ → Option ℕ) (tm : ℕ → Held) : Around → Use → ℕ → Access → Reach → Nodes → Position → Type 0 where
+    at_first : {a : Around} {k : Use} {u : ℕ} {how : Access} {rch : Reach} {r : Nodes} {q : Position} (place : ℕ) (op : Binary) (right : tree.Expr) (lh : Access) (lrch : Reach)
         → IsTyped ctx right → IsScalar (tree.type_of right) → BinaryFits op lh (access_of_type (tree.type_of right)) how → Joins op lh lrch rch
-        → AtE ob tm k u how rch r q → AtE ob tm (source.first_of place op right k) u lh lrch (expr_nodes fr right (suc u) (sets place u (calc_of op lh u (suc u)) r)) q
-    at_second : {k : Use} {u : ℕ} {how : Access} {rch : Reach} {r : Nodes} {q : Position} (place : ℕ) (op : Binary) (left : Value) (lh rh : Access) (rrch : Reach)
+        → AtE ob tm a k u how rch r q → AtE ob tm a (source.first_of place op right k) u lh lrch (expr_nodes (fr a) right (suc u) (sets place u (calc_of op lh u (suc u)) r)) q
+    at_second : {a : Around} {k : Use} {u : ℕ} {how : Access} {rch : Reach} {r : Nodes} {q : Position} (place : ℕ) (op : Binary) (left : Value) (lh rh : Access) (rrch : Reach)
         → BinaryFits op lh rh how → HasKind lh left → tm u ≡ value left → Joined tm u op left rch
-        → AtE ob tm k u how rch r q → AtE ob tm (source.second_of place op left k) (suc u) rh rrch (sets place u (calc_of op lh u (suc u)) r) q
-    at_convert : {k : Use} {u : ℕ} {rch : Reach} {r : Nodes} {q : Position} (place : ℕ) (from to : tree.Ty) → ConvertFits from to
-        → AtE ob tm k u (access_of_type to) rch r q → AtE ob tm (source.only_of place (converts to) k) u (access_of_type from) rch (forms.converts place to u r) q
-    at_not : {k : Use} {u : ℕ} {r : Nodes} {q : Position} (place : ℕ) (lh : Access) (rch : Reach)
-        → AtE ob tm k u (accesses.Number int) found r q → AtE ob tm (source.only_of place negates k) u lh rch (sets_truth place u 0 1 r) q
-    at_test : {k : Use} {u : ℕ} {r : Nodes} {q : Position} (place : ℕ) (rch : Reach)
-        → AtE ob tm k u (accesses.Number int) found r q → AtE ob tm (source.only_of place tests k) u accesses.Pointer rch (sets place u (ir.pointer_test u) r) q
-    at_member : {k : Use} {u : ℕ} {r : Nodes} {q : Position} (place offset : ℕ) (rch : Reach) → offset < 2 ^ 64
-        → AtE ob tm k u accesses.Pointer (member_reach offset rch) r q
-        → AtE ob tm (source.only_of place (selects offset) k) u accesses.Pointer rch (member_nodes place offset (behind rch u) u r) q
-    at_read : {k : Use} {u : ℕ} {r : Nodes} {q : Position} (place : ℕ) (how : Access) (rch : Reach)
-        → AtE ob tm k u how found r q → AtE ob tm (source.place_read place how k) u accesses.Pointer rch (acts place (ir.load how) (reached rch u ∷ []) (Some u) [] r) q
-    at_and : {k : Use} {u : ℕ} {r : Nodes} {q : Position} (place : ℕ) (right : tree.Expr) (lh : Access) (rch : Reach) → IsTyped ctx right → IsScalar (tree.type_of right)
-        → AtE ob tm k u (accesses.Number int) found r q
-        → AtE ob tm (source.first_test place false right k) u lh rch
-        (branches place u (expr_nodes fr right u (sets_truth (tree.place_of right) u 1 0 no_nodes)) (sets_int place u 0 no_nodes) r) q
-    at_or : {k : Use} {u : ℕ} {r : Nodes} {q : Position} (place : ℕ) (right : tree.Expr) (lh : Access) (rch : Reach) → IsTyped ctx right → IsScalar (tree.type_of right)
-        → AtE ob tm k u (accesses.Number int) found r q
-        → AtE ob tm (source.first_test place true right k) u lh rch
-        (branches place u (sets_int place u 1 no_nodes) (expr_nodes fr right u (sets_truth (tree.place_of right) u 1 0 no_nodes)) r) q
-    at_second_test : {k : Use} {u : ℕ} {r : Nodes} {q : Position} (place : ℕ) (lh : Access) (rch : Reach)
-        → AtE ob tm k u (accesses.Number int) found r q → AtE ob tm (source.second_test place k) u lh rch (sets_truth place u 1 0 r) q
-    at_choice : {k : Use} {u : ℕ} {how : Access} {r : Nodes} {q : Position} (place : ℕ) (one other : tree.Expr) (lh : Access) (rch : Reach)
+        → AtE ob tm a k u how rch r q → AtE ob tm a (source.second_of place op left k) (suc u) rh rrch (sets place u (calc_of op lh u (suc u)) r) q
+    at_convert : {a : Around} {k : Use} {u : ℕ} {rch : Reach} {r : Nodes} {q : Position} (place : ℕ) (from to : tree.Ty) → ConvertFits from to
+        → AtE ob tm a k u (access_of_type to) rch r q → AtE ob tm a (source.only_of place (converts to) k) u (access_of_type from) rch (forms.converts place to u r) q
+    at_not : {a : Around} {k : Use} {u : ℕ} {r : Nodes} {q : Position} (place : ℕ) (lh : Access) (rch : Reach)
+        → AtE ob tm a k u (accesses.Number int) found r q → AtE ob tm a (source.only_of place negates k) u lh rch (sets_truth place u 0 1 r) q
+    at_test : {a : Around} {k : Use} {u : ℕ} {r : Nodes} {q : Position} (place : ℕ) (rch : Reach)
+        → AtE ob tm a k u (accesses.Number int) found r q → AtE ob tm a (source.only_of place tests k) u accesses.Pointer rch (sets place u (ir.pointer_test u) r) q
+    at_member : {a : Around} {k : Use} {u : ℕ} {r : Nodes} {q : Position} (place offset : ℕ) (rch : Reach) → offset < 2 ^ 64
+        → AtE ob tm a k u accesses.Pointer (member_reach offset rch) r q
+        → AtE ob tm a (source.only_of place (selects offset) k) u accesses.Pointer rch (member_nodes place offset (behind rch u) u r) q
+    at_read : {a : Around} {k : Use} {u : ℕ} {r : Nodes} {q : Position} (place : ℕ) (how : Access) (rch : Reach)
+        → AtE ob tm a k u how found r q → AtE ob tm a (source.place_read place how k) u accesses.Pointer rch (acts place (ir.load how) (reached rch u ∷ []) (Some u) [] r) q
+    at_and : {a : Around} {k : Use} {u : ℕ} {r : Nodes} {q : Position} (place : ℕ) (right : tree.Expr) (lh : Access) (rch : Reach) → IsTyped ctx right → IsScalar (tree.type_of right)
+        → AtE ob tm a k u (accesses.Number int) found r q
+        → AtE ob tm a (source.first_test place false right k) u lh rch
+        (branches place u (expr_nodes (fr a) right u (sets_truth (tree.place_of right) u 1 0 no_nodes)) (sets_int place u 0 no_nodes) r) q
+    at_or : {a : Around} {k : Use} {u : ℕ} {r : Nodes} {q : Position} (place : ℕ) (right : tree.Expr) (lh : Access) (rch : Reach) → IsTyped ctx right → IsScalar (tree.type_of right)
+        → AtE ob tm a k u (accesses.Number int) found r q
+        → AtE ob tm a (source.first_test place true right k) u lh rch
+        (branches place u (sets_int place u 1 no_nodes) (expr_nodes (fr a) right u (sets_truth (tree.place_of right) u 1 0 no_nodes)) r) q
+    at_second_test : {a : Around} {k : Use} {u : ℕ} {r : Nodes} {q : Position} (place : ℕ) (lh : Access) (rch : Reach)
+        → AtE ob tm a k u (accesses.Number int) found r q → AtE ob tm a (source.second_test place k) u lh rch (sets_truth place u 1 0 r) q
+    at_choice : {a : Around} {k : Use} {u : ℕ} {how : Access} {r : Nodes} {q : Position} (place : ℕ) (one other : tree.Expr) (lh : Access) (rch : Reach)
         → IsTyped ctx one → IsScalar (tree.type_of one) → access_of_type (tree.type_of one) ≡ how → IsTyped ctx other → IsScalar (tree.type_of other) → access_of_type (tree.type_of other) ≡ how
-        → AtE ob tm k u how found r q
-        → AtE ob tm (source.choice place one other k) u lh rch (branches place u (expr_nodes fr one u no_nodes) (expr_nodes fr other u no_nodes) r) q
-    at_wanted : {k : Use} {u : ℕ} {r : Nodes} {q : Position} (place : ℕ) (callee : Callee) (all : tree.Exprs) (e : tree.Expr) (rest : tree.Exprs) (before : List Value) (v : ℕ) (ty : tree.Ty) (rch : Reach)
-        → AreTyped ctx rest → AreScalars rest → CallIs ctx callee all ty → AreScalars all → IsScalar ty → Taken tm all u (tree.more_exprs e rest) before v → first ≤ u
-        → AtE ob tm k u (access_of_type ty) found r q
-        → AtE ob tm (source.argument place callee before rest (wanted place k)) v (access_of_type (tree.type_of e)) rch (args_nodes fr rest (suc v) (after_args place callee all u r)) q
-    at_dropped : {io : Bool} {k : Todo} {left : List ℕ} {u : ℕ} {r : Nodes} {q : Position} (place : ℕ) (callee : Callee) (all : tree.Exprs) (e : tree.Expr) (rest : tree.Exprs) (before : List Value) (v : ℕ) (ty : tree.Ty) (rch : Reach)
-        → AreTyped ctx rest → AreScalars rest → CallIs ctx callee all ty → AreScalars all → Taken tm all u (tree.more_exprs e rest) before v → first ≤ u
-        → AtS io k left r q
-        → AtE ob tm (source.argument place callee before rest (dropped k)) v (access_of_type (tree.type_of e)) rch (args_nodes fr rest (suc v) (dropped_args place callee all u r)) q
-    at_local : {io : Bool} {k : Todo} {left : List ℕ} {r : Nodes} {q : Position} (place i : ℕ) (l : tree.Local) (rch : Reach) → slice_get f.locals i ≡ Some l → home fr i ≡ None
-        → AtS io k left r q → AtE ob tm (source.to_local i k) first (access_of_type l.ty) rch (sets place i (ir.copy first) r) q
-    at_left : {io : Bool} {k : Todo} {left : List ℕ} {r : Nodes} {q : Position} (place : ℕ) (right : tree.Expr) (how : Access) (rch : Reach)
+        → AtE ob tm a k u how found r q
+        → AtE ob tm a (source.choice place one other k) u lh rch (branches place u (expr_nodes (fr a) one u no_nodes) (expr_nodes (fr a) other u no_nodes) r) q
+    at_wanted : {a : Around} {k : Use} {u : ℕ} {r : Nodes} {q : Position} (place : ℕ) (callee : Callee) (all : tree.Exprs) (e : tree.Expr) (rest : tree.Exprs) (before : List Value) (v : ℕ) (ty : tree.Ty) (rch : Reach)
+        → AreTyped ctx rest → AreScalars rest → CallIs ctx callee all ty → AreScalars all → IsScalar ty → Taken tm all u (tree.more_exprs e rest) before v → a.first ≤ u
+        → AtE ob tm a k u (access_of_type ty) found r q
+        → AtE ob tm a (source.argument place callee before rest (wanted place k)) v (access_of_type (tree.type_of e)) rch (args_nodes (fr a) rest (suc v) (after_args place callee all u r)) q
+    at_dropped : {a : Around} {io : Jumps} {k : Todo} {left : List ℕ} {u : ℕ} {r : Nodes} {q : Position} (place : ℕ) (callee : Callee) (all : tree.Exprs) (e : tree.Expr) (rest : tree.Exprs) (before : List Value) (v : ℕ) (ty : tree.Ty) (rch : Reach)
+        → AreTyped ctx rest → AreScalars rest → CallIs ctx callee all ty → AreScalars all → Taken tm all u (tree.more_exprs e rest) before v → a.first ≤ u
+        → AtS a io k left r q
+        → AtE ob tm a (source.argument place callee before rest (dropped k)) v (access_of_type (tree.type_of e)) rch (args_nodes (fr a) rest (suc v) (dropped_args place callee all u r)) q
+    at_local : {a : Around} {io : Jumps} {k : Todo} {left : List ℕ} {r : Nodes} {q : Position} (place i : ℕ) (l : tree.Local) (rch : Reach) → slice_get f.locals i ≡ Some l → home (fr a) i ≡ None
+        → AtS a io k left r q → AtE ob tm a (source.to_local i k) a.first (access_of_type l.ty) rch (sets place i (ir.copy a.first) r) q
+    at_left : {a : Around} {io : Jumps} {k : Todo} {left : List ℕ} {r : Nodes} {q : Position} (place : ℕ) (right : tree.Expr) (how : Access) (rch : Reach)
         → IsTyped ctx right → IsScalar (tree.type_of right) → access_of_type (tree.type_of right) ≡ how
-        → AtS io k left r q
-        → AtE ob tm (source.left_place place right k) first accesses.Pointer rch
-        (expr_nodes fr right (behind rch first) (acts place (ir.store how) (reached rch first ∷ []) None (behind rch first ∷ []) r)) q
-    at_place : {io : Bool} {k : Todo} {left : List ℕ} {r : Nodes} {q : Position} (place : ℕ) (to : Ptr) (how : Access) (via rch : Reach) → Reaches tm via first to
-        → AtS io k left r q
-        → AtE ob tm (source.to_place place (values.Pointer to) k) (behind via first) how rch (acts place (ir.store how) (reached via first ∷ []) None (behind via first ∷ []) r) q
-    at_block : {io : Bool} {k : Todo} {left : List ℕ} {r : Nodes} {q : Position} (place i object b : ℕ) (how : Access) (rch : Reach) → home fr i ≡ Some object → i < first → ob object ≡ Some b
-        → AtS io k left r q
-        → AtE ob tm (source.to_place place (values.Pointer (To b 0)) k) first how rch (sets place i (ir.object object) (acts place (ir.store how) (at_temp i ∷ []) None (first ∷ []) r)) q
-    at_struct_left : {io : Bool} {k : Todo} {left : List ℕ} {r : Nodes} {q : Position} (place : ℕ) (ty : tree.Ty) (right : tree.Expr) (rch : Reach)
-        → IsTyped ctx right → IsPlace fr (tree.node_of right) → size_in t.structs ty < 2 ^ 64
-        → AtS io k left r q
-        → AtE ob tm (source.struct_left place ty right k) first accesses.Pointer rch
-        (place_nodes fr right (behind rch first) (sized_copy t.structs place ty (reached rch first) (reached (reach fr right) (behind rch first)) (behind (reach fr right) (behind rch first)) r)) q
-    at_struct_right : {io : Bool} {k : Todo} {left : List ℕ} {r : Nodes} {q : Position} (place : ℕ) (ty : tree.Ty) (to : Ptr) (via rch : Reach) → Reaches tm via first to → size_in t.structs ty < 2 ^ 64
-        → AtS io k left r q
-        → AtE ob tm (source.struct_right place ty (values.Pointer to) k) (behind via first) accesses.Pointer rch
-        (sized_copy t.structs place ty (reached via first) (reached rch (behind via first)) (behind rch (behind via first)) r) q
-    at_update_left : {io : Bool} {k : Todo} {left : List ℕ} {r : Nodes} {q : Position} (place : ℕ) (a right : tree.Expr) (op : Op) (rch : Reach)
-        → IsTyped ctx right → IsScalar (tree.type_of right) → CanUpdate t.structs op (tree.type_of a) (tree.type_of right)
-        → AtS io k left r q
-        → AtE ob tm (source.update_left (update_of place a op) right k) first accesses.Pointer rch
-        (expr_nodes fr right (behind rch first) (update_at fr place (behind rch first) op (reached rch first) a right r)) q
-    at_update_right : {io : Bool} {k : Todo} {left : List ℕ} {r : Nodes} {q : Position} (place : ℕ) (a right : tree.Expr) (op : Op) (to : Ptr) (via rch : Reach) → Reaches tm via first to
-        → CanUpdate t.structs op (tree.type_of a) (tree.type_of right)
-        → AtS io k left r q
-        → AtE ob tm (source.update_right (update_of place a op) (values.Pointer to) k) (behind via first) (access_of_type (tree.type_of right)) rch
-        (update_at fr place (behind via first) op (reached via first) a right r) q
-    at_update_read : {io : Bool} {k : Todo} {left : List ℕ} {r : Nodes} {q : Position} (place : ℕ) (a right : tree.Expr) (op : Op) (to : Ptr) (by : Value) (via rch : Reach) → Reaches tm via first to
-        → CanUpdate t.structs op (tree.type_of a) (tree.type_of right) → HasKind (access_of_type (tree.type_of right)) by → tm (behind via first) ≡ value by
-        → AtS io k left r q
-        → AtE ob tm (source.update_read (update_of place a op) (values.Pointer to) by k) (suc (behind via first)) (access_of_type (tree.type_of a)) rch
-        (computes t.structs place op (tree.type_of a) (tree.type_of right) (suc (behind via first)) (behind via first) (behind via first)
-        (acts (tree.place_of a) (ir.store (access_of_type (tree.type_of a))) (reached via first ∷ []) None (behind via first ∷ []) r)) q
-    at_update_local : {io : Bool} {k : Todo} {left : List ℕ} {r : Nodes} {q : Position} (place i : ℕ) (l : tree.Local) (a right : tree.Expr) (op : Op) (rch : Reach)
-        → slice_get f.locals i ≡ Some l → home fr i ≡ None → tree.type_of a ≡ l.ty → CanUpdate t.structs op (tree.type_of a) (tree.type_of right)
-        → AtS io k left r q
-        → AtE ob tm (source.update_local (update_of place a op) i k) first (access_of_type (tree.type_of right)) rch
-        (sets (tree.place_of a) (suc first) (ir.copy i) (computes t.structs place op (tree.type_of a) (tree.type_of right) (suc first) first i r)) q
-    at_if : {io : Bool} {k : Todo} {left : List ℕ} {r : Nodes} {q : Position} (place : ℕ) (one other : tree.Stmt) (lh : Access) (rch : Reach)
+        → AtS a io k left r q
+        → AtE ob tm a (source.left_place place right k) a.first accesses.Pointer rch
+        (expr_nodes (fr a) right (behind rch a.first) (acts place (ir.store how) (reached rch a.first ∷ []) None (behind rch a.first ∷ []) r)) q
+    at_place : {a : Around} {io : Jumps} {k : Todo} {left : List ℕ} {r : Nodes} {q : Position} (place : ℕ) (to : Ptr) (how : Access) (via rch : Reach) → Reaches tm via a.first to
+        → AtS a io k left r q
+        → AtE ob tm a (source.to_place place (values.Pointer to) k) (behind via a.first) how rch (acts place (ir.store how) (reached via a.first ∷ []) None (behind via a.first ∷ []) r) q
+    at_block : {a : Around} {io : Jumps} {k : Todo} {left : List ℕ} {r : Nodes} {q : Position} (place i object b : ℕ) (how : Access) (rch : Reach) → home (fr a) i ≡ Some object → i < a.first → ob object ≡ Some b
+        → AtS a io k left r q
+        → AtE ob tm a (source.to_place place (values.Pointer (To b 0)) k) a.first how rch (sets place i (ir.object object) (acts place (ir.store how) (at_temp i ∷ []) None (a.first ∷ []) r)) q
+    at_struct_left : {a : Around} {io : Jumps} {k : Todo} {left : List ℕ} {r : Nodes} {q : Position} (place : ℕ) (ty : tree.Ty) (right : tree.Expr) (rch : Reach)
+        → IsTyped ctx right → IsPlace (fr a) (tree.node_of right) → size_in t.structs ty < 2 ^ 64
+        → AtS a io k left r q
+        → AtE ob tm a (source.struct_left place ty right k) a.first accesses.Pointer rch
+        (place_nodes (fr a) right (behind rch a.first) (sized_copy t.structs place ty (reached rch a.first) (reached (reach (fr a) right) (behind rch a.first)) (behind (reach (fr a) right) (behind rch a.first)) r)) q
+    at_struct_right : {a : Around} {io : Jumps} {k : Todo} {left : List ℕ} {r : Nodes} {q : Position} (place : ℕ) (ty : tree.Ty) (to : Ptr) (via rch : Reach) → Reaches tm via a.first to → size_in t.structs ty < 2 ^ 64
+        → AtS a io k left r q
+        → AtE ob tm a (source.struct_right place ty (values.Pointer to) k) (behind via a.first) accesses.Pointer rch
+        (sized_copy t.structs place ty (reached via a.first) (reached rch (behind via a.first)) (behind rch (behind via a.first)) r) q
+    at_update_left : {a : Around} {io : Jumps} {k : Todo} {left : List ℕ} {r : Nodes} {q : Position} (place : ℕ) (x right : tree.Expr) (op : Op) (rch : Reach)
+        → IsTyped ctx right → IsScalar (tree.type_of right) → CanUpdate t.structs op (tree.type_of x) (tree.type_of right)
+        → AtS a io k left r q
+        → AtE ob tm a (source.update_left (update_of place x op) right k) a.first accesses.Pointer rch
+        (expr_nodes (fr a) right (behind rch a.first) (update_at (fr a) place (behind rch a.first) op (reached rch a.first) x right r)) q
+    at_update_right : {a : Around} {io : Jumps} {k : Todo} {left : List ℕ} {r : Nodes} {q : Position} (place : ℕ) (x right : tree.Expr) (op : Op) (to : Ptr) (via rch : Reach) → Reaches tm via a.first to
+        → CanUpdate t.structs op (tree.type_of x) (tree.type_of right)
+        → AtS a io k left r q
+        → AtE ob tm a (source.update_right (update_of place x op) (values.Pointer to) k) (behind via a.first) (access_of_type (tree.type_of right)) rch
+        (update_at (fr a) place (behind via a.first) op (reached via a.first) x right r) q
+    at_update_read : {a : Around} {io : Jumps} {k : Todo} {left : List ℕ} {r : Nodes} {q : Position} (place : ℕ) (x right : tree.Expr) (op : Op) (to : Ptr) (by : Value) (via rch : Reach) → Reaches tm via a.first to
+        → CanUpdate t.structs op (tree.type_of x) (tree.type_of right) → HasKind (access_of_type (tree.type_of right)) by → tm (behind via a.first) ≡ value by
+        → AtS a io k left r q
+        → AtE ob tm a (source.update_read (update_of place x op) (values.Pointer to) by k) (suc (behind via a.first)) (access_of_type (tree.type_of x)) rch
+        (computes t.structs place op (tree.type_of x) (tree.type_of right) (suc (behind via a.first)) (behind via a.first) (behind via a.first)
+        (acts (tree.place_of x) (ir.store (access_of_type (tree.type_of x))) (reached via a.first ∷ []) None (behind via a.first ∷ []) r)) q
+    at_update_local : {a : Around} {io : Jumps} {k : Todo} {left : List ℕ} {r : Nodes} {q : Position} (place i : ℕ) (l : tree.Local) (x right : tree.Expr) (op : Op) (rch : Reach)
+        → slice_get f.locals i ≡ Some l → home (fr a) i ≡ None → tree.type_of x ≡ l.ty → CanUpdate t.structs op (tree.type_of x) (tree.type_of right)
+        → AtS a io k left r q
+        → AtE ob tm a (source.update_local (update_of place x op) i k) a.first (access_of_type (tree.type_of right)) rch
+        (sets (tree.place_of x) (suc a.first) (ir.copy i) (computes t.structs place op (tree.type_of x) (tree.type_of right) (suc a.first) a.first i r)) q
+    at_if : {a : Around} {io : Jumps} {k : Todo} {left : List ℕ} {r : Nodes} {q : Position} (place : ℕ) (one other : tree.Stmt) (lh : Access) (rch : Reach)
         → IsWell inside io one → IsWell inside io other
-        → AtS io k left r q
-        → AtE ob tm (source.if_test place one other k) first lh rch (branches place first (stmt_nodes fr one left no_nodes) (stmt_nodes fr other left no_nodes) r) q
-    at_loop_test : {io : Bool} {k : Todo} {left : List ℕ} {r : Nodes} {q : Position} (place : ℕ) (l : Loop) (lh : Access) (rch : Reach) → LoopIs l
-        → AtS io k left r q
-        → AtE ob tm (source.loop_test place l k) first lh rch (branches place first no_nodes (more_nodes (ir.break_ place) no_nodes) (stmt_nodes fr l.body [] no_nodes))
-        (position.in_body (body_nodes l) (latch_nodes l) (then_ r q))
-    at_caller : {r : Nodes} {q : Position} (place : ℕ) (rch : Reach) → AtE ob tm source.to_caller first (access_of_type f.result) rch (more_nodes (ir.ret place (Some first)) r) q
-    at_nowhere : {io : Bool} {k : Todo} {left : List ℕ} {r : Nodes} {q : Position} (how : Access) (rch : Reach) → AtS io k left r q → AtE ob tm (source.to_nowhere k) first how rch r q
-    at_inside : {k : Use} {u : ℕ} {how : Access} {rch : Reach} {r : Nodes} {q : Position} → AtE ob tm k u how rch r q → AtE ob tm k u how rch no_nodes (then_ r q)
-    at_found : {k : Use} {u : ℕ} {how : Access} {r : Nodes} {q : Position} (rch : Reach) → AtE ob tm k u how found r q → AtE ob tm k u how rch r q
-    at_again : {k : Use} {u : ℕ} {how : Access} {r : Nodes} {q : Position} (place : ℕ) (rch : Reach) → AtE ob tm k u how found r q → AtE ob tm k u how rch (sets place u (ir.copy u) r) q
+        → AtS a io k left r q
+        → AtE ob tm a (source.if_test place one other k) a.first lh rch (branches place a.first (stmt_nodes (fr a) one left no_nodes) (stmt_nodes (fr a) other left no_nodes) r) q
+    at_loop_test : {a : Around} {io : Jumps} {k : Todo} {left : List ℕ} {r : Nodes} {q : Position} (place : ℕ) (l : Loop) (lh : Access) (rch : Reach) → LoopIs l
+        → AtS a io k left r q
+        → AtE ob tm (in_a_loop a) (source.loop_test place l k) a.first lh rch (branches place a.first no_nodes (more_nodes (ir.break_ place) no_nodes) (stmt_nodes (fr (in_a_loop a)) l.body [] no_nodes))
+        (position.in_body (body_nodes a l) (latch_nodes a l) (then_ r q))
+    at_switch_test : {a : Around} {io : Jumps} {k : Todo} {left : List ℕ} {r : Nodes} {q : Position} (place : ℕ) (labels : List tree.Label) (body : tree.Stmts) (s : IntType) (rch : Reach)
+        → AllByRecursion (IsLabel (tree.integer s) (stmts_count body)) labels → length labels ≤ 1024 → AreWell inside (in_switch io) body → Free t (greatest_row body)
+        → AtS a io k left r q
+        → AtE ob tm a (source.switch_test labels body k) (suc (suc a.first)) (accesses.Number s) rch
+        (sets_int place a.first (default_from 0 labels) (choose_nodes place a.first 0 labels (sets_int place (suc a.first) 0 (cases a 0 place labels 0 body left r)))) q
+    at_caller : {a : Around} {r : Nodes} {q : Position} (place : ℕ) (rch : Reach) → AtE ob tm a source.to_caller a.first (access_of_type f.result) rch (more_nodes (ir.ret place (Some a.first)) r) q
+    at_nowhere : {a : Around} {io : Jumps} {k : Todo} {left : List ℕ} {r : Nodes} {q : Position} (how : Access) (rch : Reach) → AtS a io k left r q → AtE ob tm a (source.to_nowhere k) a.first how rch r q
+    at_inside : {a : Around} {k : Use} {u : ℕ} {how : Access} {rch : Reach} {r : Nodes} {q : Position} → AtE ob tm a k u how rch r q → AtE ob tm a k u how rch no_nodes (then_ r q)
+    at_found : {a : Around} {k : Use} {u : ℕ} {how : Access} {r : Nodes} {q : Position} (rch : Reach) → AtE ob tm a k u how found r q → AtE ob tm a k u how rch r q
+    at_again : {a : Around} {k : Use} {u : ℕ} {how : Access} {r : Nodes} {q : Position} (place : ℕ) (rch : Reach) → AtE ob tm a k u how found r q → AtE ob tm a k u how rch (sets place u (ir.copy u) r) q
 
 -- ---- threads
 
@@ -357,31 +426,31 @@ module _ (t : tree.Typed) where
   -- the calls that wait, the nearest first, for one of the function m
   pub data Callers : ℕ → List Caller → List (Point Position Own) → Type 0 where
     no_callers : (m : ℕ) (g : tree.Func) → slice_get t.funcs m ≡ Some g → g.result ≡ tree.integer int → Callers m [] []
-    one_wants : {n : ℕ} {f : tree.Func} {vs : List Variable} {tm : ℕ → Held} {ob : ℕ → Option ℕ} {b : Blocks} {k : Use} {u : ℕ} {r : Nodes} {q : Position} {cs : List Caller} {cs' : List (Point Position Own)}
-        (m : ℕ) (g : tree.Func) (place : ℕ) (ts : List ℕ) → slice_get t.funcs m ≡ Some g → Calls t → InCall n f → first t n f ≤ u → Agrees (fr t n f) f.locals vs tm ob
-        → AtE t n f ob tm k u (access_of_type g.result) found r q → Callers n cs cs'
+    one_wants : {n : ℕ} {f : tree.Func} {vs : List Variable} {tm : ℕ → Held} {ob : ℕ → Option ℕ} {b : Blocks} {a : Around} {k : Use} {u : ℕ} {r : Nodes} {q : Position} {cs : List Caller} {cs' : List (Point Position Own)}
+        (m : ℕ) (g : tree.Func) (place : ℕ) (ts : List ℕ) → slice_get t.funcs m ≡ Some g → Calls t → InCall n f → a.first ≤ u → AgreesIn f a vs tm ob
+        → AtE t n f ob tm a k u (access_of_type g.result) found r q → Callers n cs cs'
         → Callers m (record { function = n; locals = vs; wait = wanted place k } ∷ cs)
         (record { at = then_ (forms.calls place (Some u) m ts (sets place u (ir.copy u) r)) q; own = record { function = n; temps = tm; objects = ob; blocks = b } } ∷ cs')
-    one_drops : {n : ℕ} {f : tree.Func} {vs : List Variable} {tm : ℕ → Held} {ob : ℕ → Option ℕ} {b : Blocks} {io : Bool} {k : Todo} {left : List ℕ} {r : Nodes} {q : Position} {cs : List Caller} {cs' : List (Point Position Own)}
-        (m : ℕ) (place : ℕ) (ts : List ℕ) → Calls t → InCall n f → Agrees (fr t n f) f.locals vs tm ob
-        → AtS t n f io k left r q → Callers n cs cs'
+    one_drops : {n : ℕ} {f : tree.Func} {vs : List Variable} {tm : ℕ → Held} {ob : ℕ → Option ℕ} {b : Blocks} {a : Around} {io : Jumps} {k : Todo} {left : List ℕ} {r : Nodes} {q : Position} {cs : List Caller} {cs' : List (Point Position Own)}
+        (m : ℕ) (place : ℕ) (ts : List ℕ) → Calls t → InCall n f → AgreesIn f a vs tm ob
+        → AtS t n f a io k left r q → Callers n cs cs'
         → Callers m (record { function = n; locals = vs; wait = dropped k } ∷ cs)
         (record { at = then_ (forms.calls place None m ts r) q; own = record { function = n; temps = tm; objects = ob; blocks = b } } ∷ cs')
 
   -- where a turn begins
-  pub data PointIs (n : ℕ) (f : tree.Func) (ob : ℕ → Option ℕ) (tm : ℕ → Held) : source.TurnStart → Position → Type 0 where
-    at_gives : {k : Use} {u : ℕ} {how : Access} {r : Nodes} {q : Position} (v : Value) → HasKind how v → tm u ≡ value v → first t n f ≤ u → Calls t
-        → AtE t n f ob tm k u how found r q → PointIs n f ob tm (source.gives v k) (then_ r q)
-    at_zero : {k : Use} {u : ℕ} {r : Nodes} {q : Position} (place : ℕ) → first t n f ≤ u → Calls t
-        → AtE t n f ob tm k u (accesses.Number int) found r q → PointIs n f ob tm (source.gives (values.Num (num int (pos 0))) k) (then_ (sets_int place u 0 r) q)
-    at_lacks : {u : ℕ} {r : Nodes} {q : Position} (place : ℕ) → tm u ≡ code.missing → PointIs n f ob tm (source.lacks place) (then_ (sets place u (ir.copy u) r) q)
-    at_begins : {io : Bool} {k : Todo} {left : List ℕ} {r : Nodes} {q : Position} → AtS t n f io k left r q → PointIs n f ob tm (source.begins k) (then_ r q)
-    at_round : {io : Bool} {k : Todo} {left : List ℕ} {r : Nodes} {q : Position} (l : Loop) → LoopIs t n f l → AtS t n f io k left r q
-        → PointIs n f ob tm (source.round l k) (then_ (body_nodes t n f l) (position.in_body (body_nodes t n f l) (latch_nodes t n f l) (then_ r q)))
+  pub data PointIs (n : ℕ) (f : tree.Func) (ob : ℕ → Option ℕ) (tm : ℕ → Held) : Around → source.TurnStart → Position → Type 0 where
+    at_gives : {a : Around} {k : Use} {u : ℕ} {how : Access} {r : Nodes} {q : Position} (v : Value) → HasKind how v → tm u ≡ value v → a.first ≤ u → Calls t
+        → AtE t n f ob tm a k u how found r q → PointIs n f ob tm a (source.gives v k) (then_ r q)
+    at_zero : {a : Around} {k : Use} {u : ℕ} {r : Nodes} {q : Position} (place : ℕ) → a.first ≤ u → Calls t
+        → AtE t n f ob tm a k u (accesses.Number int) found r q → PointIs n f ob tm a (source.gives (values.Num (num int (pos 0))) k) (then_ (sets_int place u 0 r) q)
+    at_lacks : {a : Around} {u : ℕ} {r : Nodes} {q : Position} (place : ℕ) → tm u ≡ code.missing → PointIs n f ob tm a (source.lacks place) (then_ (sets place u (ir.copy u) r) q)
+    at_begins : {a : Around} {io : Jumps} {k : Todo} {left : List ℕ} {r : Nodes} {q : Position} → AtS t n f a io k left r q → PointIs n f ob tm a (source.begins k) (then_ r q)
+    at_round : {a : Around} {io : Jumps} {k : Todo} {left : List ℕ} {r : Nodes} {q : Position} (l : Loop) → LoopIs t n f l → AtS t n f a io k left r q
+        → PointIs n f ob tm a (source.round l k) (then_ (body_nodes t n f a l) (position.in_body (body_nodes t n f a l) (latch_nodes t n f a l) (then_ r q)))
 
   pub data Same : Control → Thread Position Own → Type 0 where
-    same : {n : ℕ} {f : tree.Func} {vs : List Variable} {tm : ℕ → Held} {ob : ℕ → Option ℕ} {b : Blocks} {p : source.TurnStart} {q : Position} {cs : List Caller} {cs' : List (Point Position Own)}
-        → InCall n f → Agrees (fr t n f) f.locals vs tm ob → PointIs n f ob tm p q → Callers n cs cs'
+    same : {a : Around} {n : ℕ} {f : tree.Func} {vs : List Variable} {tm : ℕ → Held} {ob : ℕ → Option ℕ} {b : Blocks} {p : source.TurnStart} {q : Position} {cs : List Caller} {cs' : List (Point Position Own)}
+        → InCall n f → AgreesIn f a vs tm ob → PointIs n f ob tm a p q → Callers n cs cs'
         → Same (record { function = n; locals = vs; point = p; callers = cs }) (record { top = record { at = q; own = record { function = n; temps = tm; objects = ob; blocks = b } }; callers = cs' })
 
   -- a thread may begin with main, and with a function that may be started

@@ -1,5 +1,5 @@
 -- A turn under way, on both sides, and what has to follow a value and a statement.
-use Rattle.std.proofs.Common.{◌≡◌, ℕ, suc, ◌≤◌, Bool, true, List, [], ◌∷◌, length, Option, refl, ap, subst, arith}
+use Rattle.std.proofs.Common.{◌≡◌, ℕ, ◌≤◌, true, List, [], ◌∷◌, length, Option, Some, None, subst}
 use Rattle.block_store.specs.declared.values.Access.{Access}
 use Rattle.block_store.specs.declared.values.Answer.{Answer}
 use Rattle.block_store.specs.declared.values.Value.{Value}
@@ -9,7 +9,7 @@ use Rattle.block_store.specs.Actions.{World}
 use Rattle.block_store.specs.Blocks.{Blocks}
 use Rattle.block_store.specs.Runs.{Turn}
 use Rattle.c_tree.specs.Typed as tree
-use Rattle.c_tree.specs.TypedForm.{IsFunc, IsWellFormed}
+use Rattle.c_tree.specs.TypedForm.{Jumps, IsFunc, IsWellFormed}
 use Rattle.c_meaning.specs.Control.{Variable, Caller, Control}
 use Rattle.c_meaning.specs.Turns.{TurnContext, Now, WayOfUse, Way}
 use Rattle.struct_ir.specs.Nodes.{Nodes, no_nodes}
@@ -18,8 +18,8 @@ use Rattle.struct_ir.specs.Machine.{Point}
 use Rattle.struct_ir.specs.Threads.{Thread}
 use Rattle.struct_ir.specs.meaning.Blocks.{Held, value, Own, object_ended}
 use Rattle.lower_forms.specs.Forms.{Reach, found, Frame}
-use Rattle.lower_forms.specs.Programs.{next_home, homes_from, lowered}
-use Rattle.lower_turns.proofs.Relation.{HasKind, Below, Points, Agrees, fr, first, AtE, AtS, at_found, at_inside, at_inner, AllBegin, InCall, Callers, Together}
+use Rattle.lower_forms.specs.Programs.{homes_from, lowered}
+use Rattle.lower_turns.proofs.Relation.{HasKind, Below, Points, Around, running, in_a_loop, halted, AgreesIn, fr, AtE, AtS, at_found, at_inside, at_inner, AllBegin, InCall, Callers, Together}
 use Rattle.lower_turns.proofs.Registers.{below_less, below_then, use_below, agrees_below}
 use Rattle.lower_turns.proofs.Steps.{onward, no_more, then_same}
 
@@ -35,6 +35,9 @@ pub record Setting : Type 0 where
   pub f : tree.Func
   pub call : InCall t n f
   pub is_func : IsFunc t f
+  -- where the statement stands
+  pub a : Around
+  pub low : length f.locals ≤ a.first
   pub cs : List Caller
   pub cs' : List (Point Position Own)
   pub callers : Callers t n cs cs'
@@ -55,28 +58,55 @@ abbrev pub Alike : Setting → Turn Control → Position → Own → Type 0
 Alike g x k l = Together g.t x (onward (lowered g.t) g.thread g.answer g.cs' g.s k l)
 
 abbrev pub frame : Setting → Frame
-frame g = fr g.t g.n g.f
+frame g = fr g.t g.n g.f g.a
 
 abbrev pub start : Setting → ℕ
-start g = first g.t g.n g.f
+start g = g.a.first
 
-homes_long : (next : ℕ) (ls : List tree.Local) → length (homes_from next ls) ≡ length ls
-homes_long next [] = refl
-homes_long next (l ∷ ls) = ap suc (homes_long (next_home l.in_memory next) ls)
+-- the locals agree, and the registers of the switches around hold what they do while their statements are executed
+abbrev pub Stands : Setting → List Variable → (ℕ → Held) → (ℕ → Option ℕ) → Type 0
+Stands g vs tm ob = AgreesIn g.f g.a vs tm ob
+
+-- the same where another statement stands
+abbrev pub at_around : (g : Setting) (a : Around) → length g.f.locals ≤ a.first → Setting
+at_around g a low = record {
+  t = g.t;
+  well = g.well;
+  thread = g.thread;
+  answer = g.answer;
+  s = g.s;
+  begun = g.begun;
+  n = g.n;
+  f = g.f;
+  call = g.call;
+  is_func = g.is_func;
+  a = a;
+  low = low;
+  cs = g.cs;
+  cs' = g.cs';
+  callers = g.callers;
+}
+
+-- in a loop, and where a break has cleared the flag around
+abbrev pub looped_in : Setting → Setting
+looped_in g = at_around g (in_a_loop g.a) g.low
+
+abbrev pub halted_in : Setting → Setting
+halted_in g = at_around g (halted g.a) g.low
 
 -- each local has a register of its own below the first free one
-pub start_is : (g : Setting) → start g ≡ length g.f.locals
-start_is g = homes_long 0 g.f.locals
+pub start_is : (g : Setting) → length g.f.locals ≤ start g
+start_is g = g.low
 
-pub agrees_on : (g : Setting) (vs : List Variable) (a b : ℕ → Held) (ob : ℕ → Option ℕ) (u : ℕ) → start g ≤ u → Agrees (frame g) g.f.locals vs a ob → Below u a b → Agrees (frame g) g.f.locals vs b ob
-agrees_on g vs a b ob u le h w = agrees_below (frame g) g.f.locals vs a b ob h (below_less u (length g.f.locals) a b (omega (arith, start_is g, le)) w)
+pub agrees_on : (g : Setting) (vs : List Variable) (a b : ℕ → Held) (ob : ℕ → Option ℕ) (u : ℕ) → start g ≤ u → Stands g vs a ob → Below u a b → Stands g vs b ob
+agrees_on g vs a b ob u le h w = agrees_below (homes_from 0 g.f.locals) g.a.first (running g.a) g.f.locals vs a b ob h (below_less u (start g) a b le w)
 
 -- ---- after a value
 
 pub record GoesE (g : Setting) (vs : List Variable) (ob : ℕ → Option ℕ) (b : Blocks) (tm : ℕ → Held) (w : WayOfUse) (u : ℕ) (how : Access) (rch : Reach) (r : Nodes) (q : Position) : Type 0 where
-  pub at : AtE g.t g.n g.f ob tm w.k u how rch r q
+  pub at : AtE g.t g.n g.f ob tm g.a w.k u how rch r q
   pub above : start g ≤ u
-  pub agrees : Agrees (frame g) g.f.locals vs tm ob
+  pub agrees : Stands g vs tm ob
   pub go : (v : Value) (tm' : ℕ → Held) → HasKind how v → Below u tm tm' → tm' u ≡ value v → Points tm' rch u v → Alike g (w.go v (now g vs b)) (then_ r q) (own g ob tm' b)
 
 pub points_found : (tm : ℕ → Held) (u : ℕ) (v : Value) → tm u ≡ value v → Points tm found u v
@@ -87,7 +117,7 @@ module _ (g : Setting) (vs : List Variable) (ob : ℕ → Option ℕ) (b : Block
   -- other registers from u on
   pub later : (tm' : ℕ → Held) (rch : Reach) (r : Nodes) (q : Position) → Below u tm tm' → GoesE g vs ob b tm w u how rch r q → GoesE g vs ob b tm' w u how rch r q
   later tm' rch r q below goes = record {
-    at = use_below g.t g.n g.f ob tm tm' w.k u how rch r q goes.at below;
+    at = use_below g.t g.n g.f ob tm tm' g.a w.k u how rch r q goes.at below;
     above = goes.above;
     agrees = agrees_on g vs tm tm' ob u goes.above goes.agrees below;
     go = λ v a kind under is points. goes.go v a kind (below_then u tm tm' a below under) is points;
@@ -122,19 +152,30 @@ abbrev pub objects_over : List ℕ → Own → Own
 objects_over [] l = l
 objects_over (i ∷ is) l = objects_over is (object_ended l i)
 
-pub record GoesS (g : Setting) (io : Bool) (w : Way) (left : List ℕ) (r : Nodes) (q : Position) : Type 0 where
-  pub at : AtS g.t g.n g.f io w.k left r q
-  pub end : (vs : List Variable) (b : Blocks) (tm : ℕ → Held) (ob : ℕ → Option ℕ) → Agrees (frame g) g.f.locals vs tm ob → Alike g (w.end (now g vs b)) (then_ r q) (own g ob tm b)
-  pub breaks : io ≡ true → (vs : List Variable) (b : Blocks) (tm : ℕ → Held) (ob : ℕ → Option ℕ) → Agrees (frame g) g.f.locals vs tm ob
-      → Alike g (w.breaks (now g vs b)) (out_of q) (objects_over left (own g ob tm b))
-  pub continues : io ≡ true → (vs : List Variable) (b : Blocks) (tm : ℕ → Held) (ob : ℕ → Option ℕ) → Agrees (frame g) g.f.locals vs tm ob
+-- a break: out of the loop around, or to what follows, where the flag is cleared
+abbrev pub Leaves : Setting → Way → List ℕ → Nodes → Position → Option ℕ → Type 0
+Leaves g w left r q None = (vs : List Variable) (b : Blocks) (tm : ℕ → Held) (ob : ℕ → Option ℕ) → Stands g vs tm ob → Alike g (w.breaks (now g vs b)) (out_of q) (objects_over left (own g ob tm b))
+Leaves g w left r q (Some flag) = (vs : List Variable) (b : Blocks) (tm : ℕ → Held) (ob : ℕ → Option ℕ) → Stands (halted_in g) vs tm ob → Alike g (w.breaks (now g vs b)) (then_ r q) (own g ob tm b)
+
+pub record GoesS (g : Setting) (io : Jumps) (w : Way) (left : List ℕ) (r : Nodes) (q : Position) : Type 0 where
+  pub at : AtS g.t g.n g.f g.a io w.k left r q
+  pub end : (vs : List Variable) (b : Blocks) (tm : ℕ → Held) (ob : ℕ → Option ℕ) → Stands g vs tm ob → Alike g (w.end (now g vs b)) (then_ r q) (own g ob tm b)
+  pub breaks : io.breaks ≡ true → Leaves g w left r q g.a.flag
+  pub continues : io.continues ≡ true → (vs : List Variable) (b : Blocks) (tm : ℕ → Held) (ob : ℕ → Option ℕ) → Stands g vs tm ob
       → Alike g (w.continues (now g vs b)) (end_of q) (objects_over left (own g ob tm b))
 
+pub row_ends : (g : Setting) (x : Turn Control) (q : Position) (l : Own) → Alike g x q l → Alike g x (then_ no_nodes q) l
+row_ends g x q l h = then_same (lowered g.t) g.thread g.answer g.cs' g.s g.t x (then_ no_nodes q) q l l (no_more (lowered g.t) g.thread g.answer g.cs' g.s q l) h
+
 -- at the end of a row
-pub inner_row : (g : Setting) (io : Bool) (w : Way) (left : List ℕ) (r : Nodes) (q : Position) → GoesS g io w left r q → GoesS g io w left no_nodes (then_ r q)
+pub inner_row : (g : Setting) (io : Jumps) (w : Way) (left : List ℕ) (r : Nodes) (q : Position) → GoesS g io w left r q → GoesS g io w left no_nodes (then_ r q)
 inner_row g io w left r q goes = record {
   at = at_inner goes.at;
-  end = λ vs b tm ob h. then_same (lowered g.t) g.thread g.answer g.cs' g.s g.t _ _ _ _ _ (no_more (lowered g.t) g.thread g.answer g.cs' g.s (then_ r q) (own g ob tm b)) (goes.end vs b tm ob h);
-  breaks = goes.breaks;
+  end = λ vs b tm ob h. row_ends g (w.end (now g vs b)) (then_ r q) (own g ob tm b) (goes.end vs b tm ob h);
+  breaks = λ e. inner_leaves g.a.flag (goes.breaks e);
   continues = goes.continues;
 }
+  where
+    inner_leaves : (flag : Option ℕ) → Leaves g w left r q flag → Leaves g w left no_nodes (then_ r q) flag
+    inner_leaves None h = h
+    inner_leaves (Some flag) h = λ vs b tm ob agrees. row_ends g (w.breaks (now g vs b)) (then_ r q) (own g ob tm b) (h vs b tm ob agrees)

@@ -1,5 +1,5 @@
 -- The right side of an assignment is evaluated once the left one is found, and an updated object is read.
-use Rattle.std.proofs.Common.{◌≡◌, ℕ, suc, ◌<◌, ◌^◌, Bool, List, [], ◌∷◌, Option, Some, None, sym, ◌∙◌, arith}
+use Rattle.std.proofs.Common.{◌≡◌, ℕ, suc, ◌<◌, ◌^◌, List, [], ◌∷◌, Option, Some, None, sym, ◌∙◌, arith}
 use Rattle.ak_words.specs.declared.operation.Op.{Op}
 use Rattle.block_store.specs.declared.values.Access.{Access}
 use Rattle.block_store.specs.declared.values.Access.TheVariants as accesses
@@ -11,7 +11,7 @@ use Rattle.block_store.specs.Actions.{World, acted}
 use Rattle.block_store.specs.Blocks.{Blocks}
 use Rattle.block_store.specs.Runs as runs
 use Rattle.c_tree.specs.Typed as tree
-use Rattle.c_tree.specs.TypedForm.{IsScalar, IsTyped, CanUpdate}
+use Rattle.c_tree.specs.TypedForm.{Jumps, IsScalar, IsTyped, CanUpdate}
 use Rattle.c_tree.specs.TypedLayout.{size_in}
 use Rattle.c_meaning.specs.Values.{access_of_type}
 use Rattle.c_meaning.specs.Control as source
@@ -25,21 +25,21 @@ use Rattle.struct_ir.specs.meaning.Threads.{set_if}
 use Rattle.lower_forms.specs.Forms as forms
 use Rattle.lower_forms.specs.Forms.{Reach, found, reached, behind, pointed, reach, update_at, computes, sized_copy, expr_nodes, place_nodes}
 use Rattle.lower_forms.specs.Programs.{lowered}
-use Rattle.lower_turns.proofs.Relation.{ctx, HasKind, Below, Reaches, Points, Agrees, Calls, IsPlace, at_left, at_struct_left, at_update_left, at_update_right, at_update_read, Together, both_went, same, at_gives}
+use Rattle.lower_turns.proofs.Relation.{ctx, HasKind, Below, Reaches, Points, Calls, IsPlace, at_left, at_struct_left, at_update_left, at_update_right, at_update_read, Together, both_went, same, at_gives}
 use Rattle.lower_turns.proofs.Registers.{set_here, below_same, below_less, below_set, reaches_below}
 use Rattle.lower_turns.proofs.Steps.{step_alike}
-use Rattle.lower_turns.proofs.Setting.{Setting, here, now, own, Alike, frame, start, agrees_on, GoesE, GoesS, of_kind}
+use Rattle.lower_turns.proofs.Setting.{Stands, Setting, here, now, own, Alike, frame, start, agrees_on, GoesE, GoesS, of_kind}
 use Rattle.lower_turns.proofs.Actions.{GivesKind, if_went, load_so}
 use Rattle.lower_turns.proofs.Uses.{address_reached, above_behind, one_place}
 use Rattle.lower_turns.proofs.Tests.{SimE, SimP}
 use Rattle.lower_turns.proofs.Assigns.{place_goes, struct_right_goes}
 
-module _ (g : Setting) (vs : List Variable) (ob : ℕ → Option ℕ) (b : Blocks) (io : Bool) (w : Way) (left : List ℕ) (r : Nodes) (q : Position) (goes : GoesS g io w left r q) where
+module _ (g : Setting) (vs : List Variable) (ob : ℕ → Option ℕ) (b : Blocks) (io : Jumps) (w : Way) (left : List ℕ) (r : Nodes) (q : Position) (goes : GoesS g io w left r q) where
   abbrev world_now : World
   world_now = actions.with_blocks g.s b
 
-  module _ (tm : ℕ → Held) (agrees : Agrees (frame g) g.f.locals vs tm ob) where
-    later_agrees : (a : ℕ → Held) → Below (start g) tm a → Agrees (frame g) g.f.locals vs a ob
+  module _ (tm : ℕ → Held) (agrees : Stands g vs tm ob) where
+    later_agrees : (a : ℕ → Held) → Below (start g) tm a → Stands g vs a ob
     later_agrees a below = agrees_on g vs tm a ob (start g) (omega arith) agrees below
 
     -- the left side is found, and then the right one is evaluated
@@ -149,7 +149,7 @@ module _ (g : Setting) (vs : List Variable) (ob : ℕ → Option ℕ) (b : Block
               (right_goes a below p points)
 
   -- the same, with what follows
-  pub updated_goes : (tm : ℕ → Held) → Agrees (frame g) g.f.locals vs tm ob → (busy : Calls g.t) (place : ℕ) (x right : tree.Expr) (op : Op) → CanUpdate g.t.structs op (tree.type_of x) (tree.type_of right) → (rch : Reach)
+  pub updated_goes : (tm : ℕ → Held) → Stands g vs tm ob → (busy : Calls g.t) (place : ℕ) (x right : tree.Expr) (op : Op) → CanUpdate g.t.structs op (tree.type_of x) (tree.type_of right) → (rch : Reach)
       → IsTyped (ctx g.t g.n g.f) right → IsScalar (tree.type_of right) → SimE g right
       → GoesE g vs ob b tm (update_left_way (here g) (update_of place x op) right w) (start g) accesses.Pointer rch
       (expr_nodes (frame g) right (behind rch (start g)) (update_at (frame g) place (behind rch (start g)) op (reached rch (start g)) x right r)) q

@@ -1,32 +1,37 @@
 -- The code of a statement does what the statement does.
-use Rattle.std.proofs.Common.{◌≡◌, ℕ, max, Bool, true, false, List, [], ◌++◌, Option, Some, None, refl, sym, ap, subst, ◌∙◌, arith, if◌then◌else◌}
+use Rattle.std.specs.List.{AllByRecursion}
+use Rattle.ak_words.specs.declared.int_type.IntType.{IntType}
+use Rattle.block_store.specs.declared.values.Access.TheVariants as accesses
+use Rattle.std.proofs.Common.{◌≡◌, ℕ, zero, suc, ◌+◌, ◌≤◌, add-zero, max, Bool, true, false, List, [], ◌++◌, length, Option, Some, None, refl, sym, ap, subst, ◌∙◌, arith, if◌then◌else◌}
 use Rattle.std.specs.Prelude.{slice_get}
 use Rattle.ak_words.specs.declared.operation.Op.{Op}
 use Rattle.block_store.specs.Blocks.{Blocks}
 use Rattle.c_tree.specs.Typed as tree
-use Rattle.c_tree.specs.TypedForm.{IsScalar, IsTyped, IsTypedNode, Converts, IsLocal, IsFunc, type_of_result, AreArguments, Signature, signature_of, IsWell, IsWellNode, AreWell, IsFirst, IsStep}
+use Rattle.c_tree.specs.TypedForm.{Jumps, in_function, in_loop, in_switch, IsSwitched, IsLabel, stmts_count, IsScalar, IsTyped, IsTypedNode, Converts, IsLocal, IsFunc, type_of_result, AreArguments, Signature, signature_of, IsWell, IsWellNode, AreWell, IsFirst, IsStep}
 use Rattle.c_meaning.specs.Values.{access_of_type, is_scalar}
 use Rattle.c_meaning.specs.Control.{Variable, dropped, function, library}
-use Rattle.c_meaning.specs.Turns.{Way, run, run_node, run_place_node, run_dropped, run_dropped_node, drops_object, nowhere_way, caller_way, returns, if_way, end_way, loop_way, row_way, run_stmt, run_stmt_node, run_row, while_loop, for_loop, nothing, declared, declared_by, declares}
+use Rattle.c_meaning.specs.Turns.{Way, run, run_node, run_place_node, run_dropped, run_dropped_node, drops_object, nowhere_way, caller_way, returns, if_way, end_way, loop_way, row_way, run_stmt, run_stmt_node, run_row, while_loop, for_loop, do_loop, leaving, switch_way, switch_test_way, run_from, nothing, declared, declared_by, declares}
 use Rattle.struct_ir.specs.Nodes as ir
 use Rattle.struct_ir.specs.Nodes.{Nodes, no_nodes, more_nodes}
-use Rattle.struct_ir.specs.Structured.{Position, then_, out_of, end_of}
+use Rattle.struct_ir.specs.Structured.{Position, then_, end_of}
 use Rattle.struct_ir.specs.meaning.Blocks.{Held}
 use Rattle.lower_forms.specs.Counts.{count, greatest, greatest_in, greatest_row, count_if}
 use Rattle.lower_forms.specs.Forms as forms
 use Rattle.lower_forms.specs.Forms.{pointed, pointed_in, reach_in, branches, expr_nodes, value_nodes, object_place, dropped_nodes, dropped_value, dropped_object, return_nodes, ends, objects_in, objects_by, stmt_nodes, form_nodes, row_nodes}
-use Rattle.lower_forms.specs.Programs.{lowered}
-use Rattle.lower_turns.proofs.Relation.{ctx, inside, Agrees, Calls, Free, LoopIs, IsPlace, none_yet, homes_of}
+use Rattle.lower_forms.specs.Programs.{homes_from, lowered}
+use Rattle.c_meaning.specs.Switches.{starts_at}
+use Rattle.lower_turns.proofs.Relation.{ctx, inside, Calls, Free, in_step, IsPast, LoopIs, IsPlace, none_yet, homes_of}
 use Rattle.lower_turns.proofs.Operands.{pointer_scalar, integer_scalar, sized_pointer, moved_pointer, operand_scalars, fits_access, argument_scalars, lib_scalars}
-use Rattle.lower_turns.proofs.Steps.{breaks_out, goes_next}
-use Rattle.lower_turns.proofs.Setting.{Setting, here, now, own, Alike, frame, start, GoesS, of_kind, objects_over}
+use Rattle.lower_turns.proofs.Steps.{goes_next}
+use Rattle.lower_turns.proofs.Setting.{Stands, looped_in, Setting, here, now, own, Alike, frame, start, GoesS, of_kind, objects_over}
 use Rattle.lower_turns.proofs.Calls.{all_at, nth_mapped, wait_dropped}
 use Rattle.lower_turns.proofs.Locals.{in_memory_home, signature_scalars}
 use Rattle.lower_turns.proofs.Exprs.{expr_sim, value_sim, object_sim, args_sim}
 use Rattle.lower_turns.proofs.Ends.{end_goes, ends_then, objects_are, first_objects}
 use Rattle.lower_turns.proofs.Assigns.{nowhere_goes}
 use Rattle.lower_turns.proofs.Leaves.{caller_goes, returns_none}
-use Rattle.lower_turns.proofs.Loops.{one_or_more, SimS, SimRow, stepped, row_goes, if_goes, enters_alike, loop_goes}
+use Rattle.lower_turns.proofs.Loops.{one_or_more, SimS, SimRow, stepped, guarded_alike, break_alike, row_goes, if_goes, enters_alike, loop_goes}
+use Rattle.lower_turns.proofs.Switches.{inside_switch, SwitchStands, leaves_switch, from_case, SimCases, cases_goes, case_alike, start_alike, before_alike, switch_test_goes}
 use Rattle.lower_turns.proofs.Forms.{returned_scalar, declares_none, declares_some, assigns_alike, updates_alike}
 
 -- ---- dropped values
@@ -46,7 +51,7 @@ result_scalar op (tree.integer x) ty h e = subst IsScalar (sym e) tt
 result_scalar op (tree.pointer u) ty h e = subst IsScalar (sym e) tt
 result_scalar op a ty h e = elim h [ ]
 
-module _ (g : Setting) (busy : Calls g.t) (io : Bool) (w : Way) (left : List ℕ) (r : Nodes) (q : Position) (goes : GoesS g io w left r q) (vs : List Variable) (b : Blocks) (tm : ℕ → Held) (ob : ℕ → Option ℕ) (agrees : Agrees (frame g) g.f.locals vs tm ob) where
+module _ (g : Setting) (busy : Calls g.t) (io : Jumps) (w : Way) (left : List ℕ) (r : Nodes) (q : Position) (goes : GoesS g io w left r q) (vs : List Variable) (b : Blocks) (tm : ℕ → Held) (ob : ℕ → Option ℕ) (agrees : Stands g vs tm ob) where
   -- a value that is dropped
   value_alike : (place : ℕ) (ty : tree.Ty) (node : tree.ExprNode) → IsTypedNode (ctx g.t g.n g.f) ty node → IsScalar ty
       → Alike g (run_node (here g) place ty node (nowhere_way w) (now g vs b)) (then_ (value_nodes (frame g) place ty node (start g) r) q) (own g ob tm b)
@@ -66,7 +71,7 @@ module _ (g : Setting) (busy : Calls g.t) (io : Bool) (w : Way) (left : List ℕ
 
   -- a local that is neither number nor pointer is in memory
   memory_at : (i : ℕ) (l : tree.Local) → slice_get g.f.locals i ≡ Some l → is_scalar l.ty ≡ false → (m : Bool) → l.in_memory ≡ m → IsPlace (frame g) (tree.local i)
-  memory_at i l there e true h = in_memory_home g.t g.n g.f i l there h
+  memory_at i l there e true h = in_memory_home g.t g.n g.f g.a i l there h
   memory_at i l there e false h = absurd (no_scalar l.ty e ((all_at (IsLocal g.t.structs) g.f.locals i l g.is_func.locals there).scalar h))
 
   mutual
@@ -126,7 +131,7 @@ free_right : (t : tree.Typed) (a c : ℕ) → Free t (max a c) → Free t c
 free_right t a c h lt = h (omega (arith, lt))
 
 -- what may stand first in a for, and as its step, breaks out of nothing
-first_well : (g : Setting) (io : Bool) (s : tree.Stmt) → IsFirst s → IsWell (inside g.t g.n g.f) io s → IsWell (inside g.t g.n g.f) false s
+first_well : (g : Setting) (io : Jumps) (s : tree.Stmt) → IsFirst s → IsWell (inside g.t g.n g.f) io s → IsWell (inside g.t g.n g.f) in_function s
 first_well g io (tree.at_stmt place (tree.declare i init)) f h = h
 first_well g io (tree.at_stmt place (tree.assign x y)) f h = h
 first_well g io (tree.at_stmt place (tree.update x op y)) f h = h
@@ -134,7 +139,7 @@ first_well g io (tree.at_stmt place (tree.evaluate e)) f h = h
 first_well g io (tree.at_stmt place tree.empty) f h = h
 first_well g io (tree.at_stmt place node) f h = elim f [ ]
 
-step_well : (g : Setting) (io : Bool) (s : tree.Stmt) → IsStep s → IsWell (inside g.t g.n g.f) io s → IsWell (inside g.t g.n g.f) false s
+step_well : (g : Setting) (io : Jumps) (s : tree.Stmt) → IsStep s → IsWell (inside g.t g.n g.f) io s → IsWell (inside g.t g.n g.f) in_step s
 step_well g io (tree.at_stmt place (tree.assign x y)) f h = h
 step_well g io (tree.at_stmt place (tree.update x op y)) f h = h
 step_well g io (tree.at_stmt place (tree.evaluate e)) f h = h
@@ -144,9 +149,9 @@ step_well g io (tree.at_stmt place node) f h = elim f [ ]
 -- ---- every form
 
 module _ (g : Setting) where
-  if_alike : (io : Bool) (w : Way) (left : List ℕ) (r : Nodes) (q : Position) → GoesS g io w left r q → (e : tree.Expr) (one other : tree.Stmt) → Calls g.t → IsTyped (ctx g.t g.n g.f) e → IsScalar (tree.type_of e)
+  if_alike : (io : Jumps) (w : Way) (left : List ℕ) (r : Nodes) (q : Position) → GoesS g io w left r q → (e : tree.Expr) (one other : tree.Stmt) → Calls g.t → IsTyped (ctx g.t g.n g.f) e → IsScalar (tree.type_of e)
       → IsWell (inside g.t g.n g.f) io one → IsWell (inside g.t g.n g.f) io other → SimS g io one → SimS g io other
-      → (vs : List Variable) (b : Blocks) (tm : ℕ → Held) (ob : ℕ → Option ℕ) → Agrees (frame g) g.f.locals vs tm ob
+      → (vs : List Variable) (b : Blocks) (tm : ℕ → Held) (ob : ℕ → Option ℕ) → Stands g vs tm ob
       → Alike g (run (here g) e (if_way (tree.place_of e) one other (run_stmt (here g) one) (run_stmt (here g) other) w) (now g vs b))
       (then_ (expr_nodes (frame g) e (start g) (branches (tree.place_of e) (start g) (stmt_nodes (frame g) one left no_nodes) (stmt_nodes (frame g) other left no_nodes) r)) q) (own g ob tm b)
   if_alike io w left r q goes e one other busy typed scalar w1 w2 sim1 sim2 vs b tm ob agrees =
@@ -154,82 +159,143 @@ module _ (g : Setting) where
       (branches (tree.place_of e) (start g) (stmt_nodes (frame g) one left no_nodes) (stmt_nodes (frame g) other left no_nodes) r) q
       (if_goes g io w left r q goes (tree.place_of e) one other w1 w2 sim1 sim2 vs ob b tm agrees (access_of_type (tree.type_of e)) (pointed (frame g) e))
 
-  return_alike : (io : Bool) (w : Way) (left : List ℕ) (r : Nodes) (q : Position) (place : ℕ) (value : Option tree.Expr) → IsWellNode (inside g.t g.n g.f) io (tree.return_ value) → Free g.t (count_if value)
-      → (vs : List Variable) (b : Blocks) (tm : ℕ → Held) (ob : ℕ → Option ℕ) → Agrees (frame g) g.f.locals vs tm ob → Alike g (returns (here g) value (now g vs b)) (then_ (return_nodes (frame g) place value r) q) (own g ob tm b)
+  return_alike : (io : Jumps) (w : Way) (left : List ℕ) (r : Nodes) (q : Position) (place : ℕ) (value : Option tree.Expr) → IsWellNode (inside g.t g.n g.f) io (tree.return_ value) → Free g.t (count_if value)
+      → (vs : List Variable) (b : Blocks) (tm : ℕ → Held) (ob : ℕ → Option ℕ) → Stands g vs tm ob → Alike g (returns (here g) value (now g vs b)) (then_ (return_nodes (frame g) place value r) q) (own g ob tm b)
   return_alike io w left r q place None h free vs b tm ob agrees = returns_none g vs ob b tm agrees place r q h
   return_alike io w left r q place (Some e) h free vs b tm ob agrees =
       expr_sim g (free (one_or_more e)) e h.0 (returned_scalar (tree.type_of e) g.f.result h.1 g.is_func.result) vs ob b tm (caller_way (here g)) (start g) (more_nodes (ir.ret place (Some (start g))) r) q
       (of_kind g vs ob b tm (caller_way (here g)) (start g) (access_of_type g.f.result) (access_of_type (tree.type_of e)) (pointed (frame g) e) (more_nodes (ir.ret place (Some (start g))) r) q (sym (fits_access (tree.type_of e) g.f.result h.1))
       (caller_goes g vs ob b tm agrees place (pointed (frame g) e) r q))
 
-  declare_alike : (io : Bool) (w : Way) (left : List ℕ) (r : Nodes) (q : Position) → GoesS g io w left r q → (place i : ℕ) (init : Option tree.Expr) → IsWellNode (inside g.t g.n g.f) io (tree.declare i init) → Free g.t (count_if init)
-      → (vs : List Variable) (b : Blocks) (tm : ℕ → Held) (ob : ℕ → Option ℕ) → Agrees (frame g) g.f.locals vs tm ob
+  declare_alike : (io : Jumps) (w : Way) (left : List ℕ) (r : Nodes) (q : Position) → GoesS g io w left r q → (place i : ℕ) (init : Option tree.Expr) → IsWellNode (inside g.t g.n g.f) io (tree.declare i init) → Free g.t (count_if init)
+      → (vs : List Variable) (b : Blocks) (tm : ℕ → Held) (ob : ℕ → Option ℕ) → Stands g vs tm ob
       → Alike g (declares (here g) place i init w (now g vs b)) (then_ (forms.declare_nodes (frame g) place i init r) q) (own g ob tm b)
   declare_alike io w left r q goes place i None h free vs b tm ob agrees = declares_none g io w left r q goes vs b tm ob agrees place i h.1.0 h.1.1
   declare_alike io w left r q goes place i (Some e) h free vs b tm ob agrees =
       declares_some g io w left r q goes vs b tm ob agrees (free (one_or_more e)) place i h.1.0 e h.1.1 h.1.2.0 h.1.2.1.0 h.1.2.1.1
 
-  mutual
-    pub stmt_sim : (s : tree.Stmt) (io : Bool) → IsWell (inside g.t g.n g.f) io s → Free g.t (greatest s) → SimS g io s
-    stmt_sim (tree.at_stmt place node) io h free w left r q goes vs b tm ob agrees = form_sim node place io h free w left r q goes vs b tm ob agrees
+-- the condition of a do
+leaving_sim : (g : Setting) (place : ℕ) → SimS g in_step (leaving place)
+leaving_sim g place w left r q goes vs b tm ob agrees = break_alike g in_step w left r q goes refl place vs b tm ob agrees
 
-    pub form_sim : (node : tree.StmtNode) (place : ℕ) (io : Bool) → IsWellNode (inside g.t g.n g.f) io node → Free g.t (greatest_in node)
-        → (w : Way) (left : List ℕ) (r : Nodes) (q : Position) → GoesS g io w left r q → (vs : List Variable) (b : Blocks) (tm : ℕ → Held) (ob : ℕ → Option ℕ) → Agrees (frame g) g.f.locals vs tm ob
-        → Alike g (run_stmt_node (here g) place node w (now g vs b)) (then_ (form_nodes (frame g) place node left r) q) (own g ob tm b)
-    form_sim (tree.block body) place io h free w left r q goes vs b tm ob agrees =
-        row_sim body io h free (end_way (declared body) w) (objects_in (frame g) body ++ left) (ends place (objects_in (frame g) body) r) q
-        (subst (λ os. GoesS g io (end_way (declared body) w) (os ++ left) (ends place os r) q) (objects_are (frame g) body) (end_goes g io w left r q goes place (declared body))) vs b tm ob agrees
-    form_sim (tree.declare i init) place io h free w left r q goes vs b tm ob agrees = declare_alike io w left r q goes place i init h free vs b tm ob agrees
-    form_sim (tree.if_ e one) place io h free w left r q goes vs b tm ob agrees =
-        let busy = free_left g.t (count e) (greatest one) free (one_or_more e) in
-        if_alike io w left r q goes e one (nothing place) busy h.0 h.1 h.2 tt (stmt_sim one io h.2 (free_right g.t (count e) (greatest one) free)) (λ x l n p k xs c a o z. k.end xs c a o z) vs b tm ob agrees
-    form_sim (tree.if_else e one other) place io h free w left r q goes vs b tm ob agrees =
-        let busy = free_left g.t (count e) (max (greatest one) (greatest other)) free (one_or_more e) in
-        let rest = free_right g.t (count e) (max (greatest one) (greatest other)) free in
-        if_alike io w left r q goes e one other busy h.0 h.1 h.2 h.4 (stmt_sim one io h.2 (free_left g.t (greatest one) (greatest other) rest)) (stmt_sim other io h.4 (free_right g.t (greatest one) (greatest other) rest)) vs b tm ob agrees
-    form_sim (tree.while_ e body) place io h free w left r q goes vs b tm ob agrees =
-        let is : LoopIs g.t g.n g.f (while_loop place e body) = record {
-          condition = (h.0, h.1);
-          step = tt;
-          body = h.2;
-          free_condition = free_left g.t (count e) (greatest body) free;
-          free_step = λ lt. absurd (omega (arith, lt));
-          free_body = free_right g.t (count e) (greatest body) free;
-        } in
-        enters_alike g io w left r q goes (while_loop place e body) is (λ x l n p k xs c a o z. k.end xs c a o z) (stmt_sim body true h.2 (free_right g.t (count e) (greatest body) free)) place vs b tm ob agrees
-    form_sim (tree.for_ first e step body) place io h free w left r q goes vs b tm ob agrees =
-        let f_first = free_left g.t (greatest first) (count_if e) (free_left g.t (max (greatest first) (count_if e)) (max (greatest step) (greatest body)) free) in
-        let f_test = free_right g.t (greatest first) (count_if e) (free_left g.t (max (greatest first) (count_if e)) (max (greatest step) (greatest body)) free) in
-        let f_rest = free_right g.t (max (greatest first) (count_if e)) (max (greatest step) (greatest body)) free in
-        let f_step = free_left g.t (greatest step) (greatest body) f_rest in
-        let f_body = free_right g.t (greatest step) (greatest body) f_rest in
-        let step_is = step_well g io step h.4 h.3 in
-        let is : LoopIs g.t g.n g.f (for_loop e step body) = record { condition = h.2; step = step_is; body = h.5; free_condition = f_test; free_step = f_step; free_body = f_body } in
-        stmt_sim first false (first_well g io first h.1 h.0) f_first
-        (loop_way (here g) (for_loop e step body) (run_stmt (here g) body) (run_stmt (here g) step) (end_way (declared_by first []) w)) left
-        (more_nodes (ir.loop place (forms.test_nodes (frame g) e (stmt_nodes (frame g) body [] no_nodes)) (stmt_nodes (frame g) step [] no_nodes)) (ends place (objects_by (frame g) first []) r)) q
-        (subst (λ os. GoesS g false (loop_way (here g) (for_loop e step body) (run_stmt (here g) body) (run_stmt (here g) step) (end_way (declared_by first []) w)) left
-        (more_nodes (ir.loop place (forms.test_nodes (frame g) e (stmt_nodes (frame g) body [] no_nodes)) (stmt_nodes (frame g) step [] no_nodes)) (ends place os r)) q) (first_objects (frame g) first)
-        (loop_goes g io (end_way (declared_by first []) w) (homes_of (frame g) (declared_by first []) ++ left) (ends place (homes_of (frame g) (declared_by first [])) r) q (end_goes g io w left r q goes place (declared_by first []))
-        (for_loop e step body) is (stmt_sim step false step_is f_step) (stmt_sim body true h.5 f_body) place left))
-        vs b tm ob agrees
-    form_sim tree.break_ place io h free w left r q goes vs b tm ob agrees =
-        ends_then g (w.breaks (now g vs b)) place left (more_nodes (ir.break_ place) r) q (own g ob tm b)
-        (stepped g (w.breaks (now g vs b)) (then_ (more_nodes (ir.break_ place) r) q) (out_of q) (objects_over left (own g ob tm b)) (objects_over left (own g ob tm b))
-        (breaks_out (lowered g.t) g.thread g.answer g.cs' g.s place r q (objects_over left (own g ob tm b))) (goes.breaks h vs b tm ob agrees))
-    form_sim tree.continue_ place io h free w left r q goes vs b tm ob agrees =
-        ends_then g (w.continues (now g vs b)) place left (more_nodes (ir.next_ place) r) q (own g ob tm b)
-        (stepped g (w.continues (now g vs b)) (then_ (more_nodes (ir.next_ place) r) q) (end_of q) (objects_over left (own g ob tm b)) (objects_over left (own g ob tm b))
-        (goes_next (lowered g.t) g.thread g.answer g.cs' g.s place r q (objects_over left (own g ob tm b))) (goes.continues h vs b tm ob agrees))
-    form_sim (tree.return_ value) place io h free w left r q goes vs b tm ob agrees = return_alike io w left r q place value h free vs b tm ob agrees
-    form_sim (tree.assign x y) place io h free w left r q goes vs b tm ob agrees = assigns_alike g io w left r q goes vs b tm ob agrees (free (omega arith)) place x y h.0 h.1 h.2 h.3
-    form_sim (tree.update x op y) place io h free w left r q goes vs b tm ob agrees = updates_alike g io w left r q goes vs b tm ob agrees (free (omega arith)) place op x y h.0 h.1 h.2 h.3
-    form_sim (tree.evaluate e) place io h free w left r q goes vs b tm ob agrees = dropped_sim g (free (one_or_more e)) io w left r q goes vs b tm ob agrees e h
-    form_sim tree.empty place io h free w left r q goes vs b tm ob agrees = goes.end vs b tm ob agrees
+again_sim : (g : Setting) (e : tree.Expr) → Calls g.t → IsTyped (ctx g.t g.n g.f) e → IsScalar (tree.type_of e)
+    → SimS g in_step (tree.at_stmt (tree.place_of e) (tree.if_else e (nothing (tree.place_of e)) (leaving (tree.place_of e))))
+again_sim g e busy typed scalar w left r q goes vs b tm ob agrees =
+    if_alike g in_step w left r q goes e (nothing (tree.place_of e)) (leaving (tree.place_of e)) busy typed scalar tt refl (λ x l n p k xs c a o z. k.end xs c a o z) (leaving_sim g (tree.place_of e)) vs b tm ob agrees
 
-    pub row_sim : (all : tree.Stmts) (io : Bool) → AreWell (inside g.t g.n g.f) io all → Free g.t (greatest_row all) → SimRow g io all
-    row_sim tree.no_stmts io h free w left r q goes vs b tm ob agrees = goes.end vs b tm ob agrees
-    row_sim (tree.more_stmts s rest) io h free w left r q goes vs b tm ob agrees =
-        let more = free_right g.t (greatest s) (greatest_row rest) free in
-        stmt_sim s io h.0 (free_left g.t (greatest s) (greatest_row rest) free) (row_way rest (run_row (here g) rest) w) left (row_nodes (frame g) rest left r) q
-        (row_goes g io w left r q goes rest h.1 more (row_sim rest io h.1 more)) vs b tm ob agrees
+switched_type : (ty : tree.Ty) → IsSwitched ty → (s : IntType) × (ty ≡ tree.integer s)
+switched_type (tree.integer s) h = (s, refl)
+switched_type ty h = elim h [ ]
+
+pub sum_zero : (k : ℕ) → k ≡ 0 + k
+sum_zero k = omega arith
+
+mutual
+  pub stmt_sim : (g : Setting) (s : tree.Stmt) (io : Jumps) → IsWell (inside g.t g.n g.f) io s → Free g.t (greatest s) → SimS g io s
+  stmt_sim g (tree.at_stmt place node) io h free w left r q goes vs b tm ob agrees = form_sim g node place io h free w left r q goes vs b tm ob agrees
+
+  pub form_sim : (g : Setting) (node : tree.StmtNode) (place : ℕ) (io : Jumps) → IsWellNode (inside g.t g.n g.f) io node → Free g.t (greatest_in node)
+      → (w : Way) (left : List ℕ) (r : Nodes) (q : Position) → GoesS g io w left r q → (vs : List Variable) (b : Blocks) (tm : ℕ → Held) (ob : ℕ → Option ℕ) → Stands g vs tm ob
+      → Alike g (run_stmt_node (here g) place node w (now g vs b)) (then_ (form_nodes (frame g) place node left r) q) (own g ob tm b)
+  form_sim g (tree.block body) place io h free w left r q goes vs b tm ob agrees =
+      row_sim g body io h free (end_way (declared body) w) (objects_in (frame g) body ++ left) (ends place (objects_in (frame g) body) r) q
+      (subst (λ os. GoesS g io (end_way (declared body) w) (os ++ left) (ends place os r) q) (objects_are (frame g) body) (end_goes g io w left r q goes place (declared body))) vs b tm ob agrees
+  form_sim g (tree.declare i init) place io h free w left r q goes vs b tm ob agrees = declare_alike g io w left r q goes place i init h free vs b tm ob agrees
+  form_sim g (tree.if_ e one) place io h free w left r q goes vs b tm ob agrees =
+      let busy = free_left g.t (count e) (greatest one) free (one_or_more e) in
+      if_alike g io w left r q goes e one (nothing place) busy h.0 h.1 h.2 tt (stmt_sim g one io h.2 (free_right g.t (count e) (greatest one) free)) (λ x l n p k xs c a o z. k.end xs c a o z) vs b tm ob agrees
+  form_sim g (tree.if_else e one other) place io h free w left r q goes vs b tm ob agrees =
+      let busy = free_left g.t (count e) (max (greatest one) (greatest other)) free (one_or_more e) in
+      let rest = free_right g.t (count e) (max (greatest one) (greatest other)) free in
+      if_alike g io w left r q goes e one other busy h.0 h.1 h.2 h.4 (stmt_sim g one io h.2 (free_left g.t (greatest one) (greatest other) rest)) (stmt_sim g other io h.4 (free_right g.t (greatest one) (greatest other) rest)) vs b tm ob agrees
+  form_sim g (tree.while_ e body) place io h free w left r q goes vs b tm ob agrees =
+      let is : LoopIs g.t g.n g.f (while_loop place e body) = record {
+        condition = (h.0, h.1);
+        step = tt;
+        body = h.2;
+        free_condition = free_left g.t (count e) (greatest body) free;
+        free_step = λ lt. absurd (omega (arith, lt));
+        free_body = free_right g.t (count e) (greatest body) free;
+      } in
+      enters_alike g io w left r q goes (while_loop place e body) is (λ x l n p k xs c a o z. k.end xs c a o z) (stmt_sim (looped_in g) body in_loop h.2 (free_right g.t (count e) (greatest body) free)) place vs b tm ob agrees
+  form_sim g (tree.for_ first e step body) place io h free w left r q goes vs b tm ob agrees =
+      let f_first = free_left g.t (greatest first) (count_if e) (free_left g.t (max (greatest first) (count_if e)) (max (greatest step) (greatest body)) free) in
+      let f_test = free_right g.t (greatest first) (count_if e) (free_left g.t (max (greatest first) (count_if e)) (max (greatest step) (greatest body)) free) in
+      let f_rest = free_right g.t (max (greatest first) (count_if e)) (max (greatest step) (greatest body)) free in
+      let f_step = free_left g.t (greatest step) (greatest body) f_rest in
+      let f_body = free_right g.t (greatest step) (greatest body) f_rest in
+      let step_is = step_well g io step h.4 h.3 in
+      let is : LoopIs g.t g.n g.f (for_loop e step body) = record { condition = h.2; step = step_is; body = h.5; free_condition = f_test; free_step = f_step; free_body = f_body } in
+      stmt_sim g first in_function (first_well g io first h.1 h.0) f_first
+      (loop_way (here g) (for_loop e step body) (run_stmt (here g) body) (run_stmt (here g) step) (end_way (declared_by first []) w)) left
+      (more_nodes (ir.loop place (forms.test_nodes (frame (looped_in g)) e (stmt_nodes (frame (looped_in g)) body [] no_nodes)) (stmt_nodes (frame (looped_in g)) step [] no_nodes)) (ends place (objects_by (frame g) first []) r)) q
+      (subst (λ os. GoesS g in_function (loop_way (here g) (for_loop e step body) (run_stmt (here g) body) (run_stmt (here g) step) (end_way (declared_by first []) w)) left
+      (more_nodes (ir.loop place (forms.test_nodes (frame (looped_in g)) e (stmt_nodes (frame (looped_in g)) body [] no_nodes)) (stmt_nodes (frame (looped_in g)) step [] no_nodes)) (ends place os r)) q) (first_objects (frame g) first)
+      (loop_goes g io (end_way (declared_by first []) w) (homes_of (homes_from 0 g.f.locals) (declared_by first []) ++ left) (ends place (homes_of (homes_from 0 g.f.locals) (declared_by first [])) r) q (end_goes g io w left r q goes place (declared_by first []))
+      (for_loop e step body) is (stmt_sim (looped_in g) step in_step step_is f_step) (stmt_sim (looped_in g) body in_loop h.5 f_body) place left))
+      vs b tm ob agrees
+  form_sim g (tree.do_while body e) place io h free w left r q goes vs b tm ob agrees =
+      let f_test = free_left g.t (count e) (greatest body) free in
+      let f_body = free_right g.t (count e) (greatest body) free in
+      let is : LoopIs g.t g.n g.f (do_loop body e) = record {
+        condition = tt;
+        step = (h.2, h.3, tt, tt, refl, tt);
+        body = h.0;
+        free_condition = λ lt. absurd (omega (arith, lt));
+        free_step = λ lt. f_test (one_or_more e);
+        free_body = f_body;
+      } in
+      enters_alike g io w left r q goes (do_loop body e) is (again_sim (looped_in g) e (f_test (one_or_more e)) h.2 h.3) (stmt_sim (looped_in g) body in_loop h.0 f_body) place vs b tm ob agrees
+  form_sim g (tree.switch e labels body) place io h free w left r q goes vs b tm ob agrees =
+      let f_test = free_left g.t (count e) (greatest_row body) free in
+      let f_body = free_right g.t (count e) (greatest_row body) free in
+      let s = switched_type (tree.type_of e) h.1 in
+      let all : AllByRecursion (IsLabel (tree.integer s.0) (stmts_count body)) labels = subst (λ (ty : tree.Ty). AllByRecursion (IsLabel ty (stmts_count body)) labels) s.1 h.2 in
+      expr_sim g (f_test (one_or_more e)) e h.0 (subst IsScalar (sym s.1) tt) vs ob b tm (switch_test_way labels body (run_from (here g) body) w) (suc (suc (start g))) _ q
+      (of_kind g vs ob b tm (switch_test_way labels body (run_from (here g) body) w) (suc (suc (start g))) (accesses.Number s.0) (access_of_type (tree.type_of e)) (pointed (frame g) e) _ q (ap access_of_type (sym s.1))
+      (switch_test_goes g io w left r q goes place labels body h.4 s.0 all h.5 f_body
+      (λ n low small at at_it. from_sim g n low place labels h.4 small io w left r q goes body h.5 f_body 0 at (at_it ∙ ap Some (sum_zero at))) vs ob b tm agrees (pointed (frame g) e)))
+  form_sim g tree.break_ place io h free w left r q goes vs b tm ob agrees = break_alike g io w left r q goes h place vs b tm ob agrees
+  form_sim g tree.continue_ place io h free w left r q goes vs b tm ob agrees =
+      ends_then g (w.continues (now g vs b)) place left (more_nodes (ir.next_ place) r) q (own g ob tm b)
+      (stepped g (w.continues (now g vs b)) (then_ (more_nodes (ir.next_ place) r) q) (end_of q) (objects_over left (own g ob tm b)) (objects_over left (own g ob tm b))
+      (goes_next (lowered g.t) g.thread g.answer g.cs' g.s place r q (objects_over left (own g ob tm b))) (goes.continues h vs b tm ob agrees))
+  form_sim g (tree.return_ value) place io h free w left r q goes vs b tm ob agrees = return_alike g io w left r q place value h free vs b tm ob agrees
+  form_sim g (tree.assign x y) place io h free w left r q goes vs b tm ob agrees = assigns_alike g io w left r q goes vs b tm ob agrees (free (omega arith)) place x y h.0 h.1 h.2 h.3
+  form_sim g (tree.update x op y) place io h free w left r q goes vs b tm ob agrees = updates_alike g io w left r q goes vs b tm ob agrees (free (omega arith)) place op x y h.0 h.1 h.2 h.3
+  form_sim g (tree.evaluate e) place io h free w left r q goes vs b tm ob agrees = dropped_sim g (free (one_or_more e)) io w left r q goes vs b tm ob agrees e h
+  form_sim g tree.empty place io h free w left r q goes vs b tm ob agrees = goes.end vs b tm ob agrees
+
+  pub row_sim : (g : Setting) (all : tree.Stmts) (io : Jumps) → AreWell (inside g.t g.n g.f) io all → Free g.t (greatest_row all) → SimRow g io all
+  row_sim g tree.no_stmts io h free w left r q goes vs b tm ob agrees = goes.end vs b tm ob agrees
+  row_sim g (tree.more_stmts s rest) io h free w left r q goes vs b tm ob agrees =
+      let more = free_right g.t (greatest s) (greatest_row rest) free in
+      guarded_alike g io s (stmt_sim g s io h.0 (free_left g.t (greatest s) (greatest_row rest) free)) (row_way rest (run_row (here g) rest) w) left (row_nodes (frame g) rest left r) q
+      (row_goes g io w left r q goes rest h.1 more (row_sim g rest io h.1 more)) vs b tm ob agrees
+
+  -- the statements of a switch behind the chosen label, and from it on
+  pub cases_sim : (g : Setting) (n : ℕ) (low : length g.f.locals ≤ suc (suc (start g))) (place : ℕ) (labels : List tree.Label) (few : length labels ≤ 1024) (small : n ≤ 1024)
+      (io : Jumps) (w : Way) (left : List ℕ) (r : Nodes) (q : Position) (goes : GoesS g io w left r q) (rest : tree.Stmts) → AreWell (inside g.t g.n g.f) (in_switch io) rest → Free g.t (greatest_row rest) → (i : ℕ) → IsPast labels n i
+      → SimCases g n low place labels few small io w left r q goes i rest
+  cases_sim g n low place labels few small io w left r q goes tree.no_stmts h free i past vs b tm ob stands = goes.end vs b tm ob (leaves_switch g n low 1 vs tm ob stands)
+  cases_sim g n low place labels few small io w left r q goes (tree.more_stmts s rest) h free i past vs b tm ob stands =
+      let more = free_right g.t (greatest s) (greatest_row rest) free in
+      let next : IsPast labels n (suc i) = let lt = past.past in record { at = past.at; starts = past.starts; past = omega (arith, lt); few = few } in
+      case_alike g n low place labels few small io w left r q goes s rest i (stmt_sim (inside_switch g n low) s (in_switch io) h.0 (free_left g.t (greatest s) (greatest_row rest) free))
+      (cases_goes g n low place labels few small io w left r q goes (suc i) rest h.1 more next (cases_sim g n low place labels few small io w left r q goes rest h.1 more (suc i) next)) past vs b tm ob stands
+
+  pub from_sim : (g : Setting) (n : ℕ) (low : length g.f.locals ≤ suc (suc (start g))) (place : ℕ) (labels : List tree.Label) (few : length labels ≤ 1024) (small : n ≤ 1024)
+      (io : Jumps) (w : Way) (left : List ℕ) (r : Nodes) (q : Position) (goes : GoesS g io w left r q) (body : tree.Stmts) → AreWell (inside g.t g.n g.f) (in_switch io) body → Free g.t (greatest_row body) → (i k : ℕ) → starts_at labels n ≡ Some (i + k)
+      → (vs : List Variable) (b : Blocks) (tm : ℕ → Held) (ob : ℕ → Option ℕ) → SwitchStands g n low 0 vs tm ob
+      → Alike g (run_from (here g) body k (switch_way w) (now g vs b)) (then_ (from_case g n low place labels few small i body left r) q) (own g ob tm b)
+  from_sim g n low place labels few small io w left r q goes tree.no_stmts h free i k at_it vs b tm ob stands = goes.end vs b tm ob (leaves_switch g n low 0 vs tm ob stands)
+  from_sim g n low place labels few small io w left r q goes (tree.more_stmts s rest) h free i zero at_it vs b tm ob stands =
+      let more = free_right g.t (greatest s) (greatest_row rest) free in
+      let here_it : starts_at labels n ≡ Some i = at_it ∙ ap Some (add-zero i) in
+      let next : IsPast labels n (suc i) = record { at = i; starts = here_it; past = omega arith; few = few } in
+      start_alike g n low place labels few small io w left r q goes s rest i (stmt_sim (inside_switch g n low) s (in_switch io) h.0 (free_left g.t (greatest s) (greatest_row rest) free))
+      (cases_goes g n low place labels few small io w left r q goes (suc i) rest h.1 more next (cases_sim g n low place labels few small io w left r q goes rest h.1 more (suc i) next)) here_it vs b tm ob stands
+  from_sim g n low place labels few small io w left r q goes (tree.more_stmts s rest) h free i (suc k) at_it vs b tm ob stands =
+      let next : i + suc k ≡ suc i + k = omega arith in
+      before_alike g n low place labels few small io w left r q goes s rest i k at_it
+      (from_sim g n low place labels few small io w left r q goes rest h.1 (free_right g.t (greatest s) (greatest_row rest) free) (suc i) k (at_it ∙ ap Some next)) vs b tm ob stands

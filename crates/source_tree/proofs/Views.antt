@@ -11,7 +11,9 @@ use Rattle.c_tree.specs.TypedViews.{type_view, expr_node_view, expr_row_view, li
 use Rattle.source_tree.specs.declared.tree.SharedStmt.{SharedStmt, Row_of-SharedRow-stmts-1, end_of-SharedRow-stmts-1, more_of-SharedRow-stmts-1, items-the_row-SharedRow-stmts-1}
 use Rattle.source_tree.specs.declared.tree.SharedStmt.TheViews as shared_views
 use Rattle.source_tree.specs.declared.tree.SharedRow.{SharedRow}
-use Rattle.source_tree.specs.SharedViews.{stmt_of, held_row, these, row_of}
+use Rattle.source_tree.specs.declared.tree.SharedExpr.{SharedExpr}
+use Rattle.source_tree.specs.declared.tree.SharedLabels.{SharedLabels}
+use Rattle.source_tree.specs.SharedViews.{expr_of, labels_of, stmt_of, held_row, these, row_of}
 use Rattle.c_tree.specs.Typed.{stmts_of}
 use Rattle.source_tree.specs.inner.CodeTrees.{exprs_view}
 
@@ -31,6 +33,10 @@ held_view _ (more_of-SharedRow-stmts-1 x s rest) = ap (trees.more_stmts (stmt_of
 
 pub shared_block : (place : ℕ) (r : Rc SharedRow Global) → stmt_of (shared_views.Block place r) ≡ trees.at_stmt place (trees.block (row_of r.value))
 shared_block place r = search (rules, shared_views.the_lemmas, held_view)
+
+pub shared_switch : (place : ℕ) (e : Rc SharedExpr Global) (l : Rc SharedLabels Global) (r : Rc SharedRow Global)
+    → stmt_of (shared_views.Switch place e l r) ≡ trees.at_stmt place (trees.switch (expr_of e.value) (labels_of l.value) (row_of r.value))
+shared_switch place e l r = search (rules, shared_views.the_lemmas, held_view)
 
 -- ---- rows as lists
 

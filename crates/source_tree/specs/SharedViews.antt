@@ -3,7 +3,7 @@ use Rattle.std.specs.Prelude.{ℕ, Bool, true, false, List, [], ◌∷◌, drop,
 use Rattle.std.specs.Global.{Global}
 use Rattle.std.specs.declared.rc.Rc.{Rc}
 use Rattle.c_tree.specs.Typed as trees
-use Rattle.c_tree.specs.TypedViews.{type_view, lib_view, layout_view, global_view, literal_view, local_view}
+use Rattle.c_tree.specs.TypedViews.{type_view, lib_view, label_view, layout_view, global_view, literal_view, local_view}
 use Rattle.source_tree.specs.declared.tree.AddressForm.{AddressForm}
 use Rattle.source_tree.specs.declared.tree.AddressForm.TheVariants as addresses
 use Rattle.source_tree.specs.declared.tree.OneForm.{OneForm}
@@ -20,6 +20,7 @@ use Rattle.source_tree.specs.declared.tree.SharedArgs.TheVariants as args
 use Rattle.source_tree.specs.declared.tree.SharedStmt.{SharedStmt, Row_of-SharedRow-stmts-1, end_of-SharedRow-stmts-1, more_of-SharedRow-stmts-1}
 use Rattle.source_tree.specs.declared.tree.SharedStmt.TheVariants as stmts
 use Rattle.source_tree.specs.declared.tree.SharedRow.{SharedRow}
+use Rattle.source_tree.specs.declared.tree.SharedLabels.{SharedLabels}
 use Rattle.source_tree.specs.declared.tree.SharedFunc.{SharedFunc}
 use Rattle.source_tree.specs.declared.tree.SharedProgram.{SharedProgram}
 
@@ -89,6 +90,10 @@ optional_expr_of (Some e) = Some (expr_of e.value)
 
 -- ---- statements
 
+-- the labels of a switch (C11 6.8.1)
+abbrev pub labels_of : SharedLabels → List trees.Label
+labels_of all = map label_view all.labels.items
+
 -- a statement at its place, and those that a block holds (C11 6.8)
 abbrev mutual
   pub stmt_of : SharedStmt → trees.Stmt
@@ -99,6 +104,8 @@ abbrev mutual
   stmt_of (stmts.While' place e x body) = trees.at_stmt place (trees.while_ (expr_of e.value) (stmt_of body))
   stmt_of (stmts.For' place x first e y step z body) =
       trees.at_stmt place (trees.for_ (stmt_of first) (optional_expr_of e) (stmt_of step) (stmt_of body))
+  stmt_of (stmts.DoWhile' place x body e) = trees.at_stmt place (trees.do_while (stmt_of body) (expr_of e.value))
+  stmt_of (stmts.Switch' place e labels x shape body) = trees.at_stmt place (trees.switch (expr_of e.value) (labels_of labels.value) (held_row body))
   stmt_of (stmts.Break place) = trees.at_stmt place trees.break_
   stmt_of (stmts.Continue place) = trees.at_stmt place trees.continue_
   stmt_of (stmts.Return place value) = trees.at_stmt place (trees.return_ (optional_expr_of value))

@@ -2,14 +2,14 @@
 
 ghost use Rattle.std.specs.Prelude.{◌≡◌, IfOk, map};
 ghost use Rattle.c_tree.specs.Typed as tree;
-ghost use Rattle.c_tree.specs.TypedViews.{stmt_view, stmt_node_view, func_view, typed_view};
-ghost use Rattle.source_tree.specs.SharedViews.{stmt_of, row_of, these, func_of, program_of};
+ghost use Rattle.c_tree.specs.TypedViews.{label_view, stmt_view, stmt_node_view, func_view, typed_view};
+ghost use Rattle.source_tree.specs.SharedViews.{stmt_of, row_of, these, expr_of, labels_of, func_of, program_of};
 ghost use Rattle.c_tree.specs.Typed.{stmts_of};
 
 use crate::share_exprs::{share_expr, share_optional};
-use crate::tree::{SharedFunc, SharedProgram, SharedRow, SharedStmt};
+use crate::tree::{SharedExpr, SharedFunc, SharedLabels, SharedProgram, SharedRow, SharedStmt};
 use ak_words::NoMemory;
-use c_tree::typed::{Func, Stmt, StmtNode, Typed};
+use c_tree::typed::{Func, Label, Stmt, StmtNode, Typed};
 use std::alloc::Global;
 use std::rc::Rc;
 
@@ -24,7 +24,7 @@ fn share_stmt(alloc: Global, s: &Stmt) -> Result<Rc<SharedStmt>, NoMemory>
 
 // What a statement does, at its place.
 #[cycle(share_stmts)]
-#[tactic(auto, using(c_tree::proofs::ListedViews::block_view))]
+#[tactic(auto, using(c_tree::proofs::ListedViews::block_view, c_tree::proofs::ListedViews::switch_view))]
 fn share_node(alloc: Global, place: u32, node: &StmtNode) -> Result<SharedStmt, NoMemory>
     ensures { IfOk result (λ shared. stmt_of shared ≡ tree.at_stmt place (stmt_node_view node.now)) }
 {
@@ -61,6 +61,17 @@ fn share_node(alloc: Global, place: u32, node: &StmtNode) -> Result<SharedStmt, 
             let body = share_stmt(alloc, body)?;
             Ok(SharedStmt::For(place, first, e, step, body))
         }
+        StmtNode::DoWhile(body, e) => {
+            let body = share_stmt(alloc, body)?;
+            let e = share_expr(alloc, e)?;
+            Ok(SharedStmt::DoWhile(place, body, e))
+        }
+        StmtNode::Switch(e, labels, body) => {
+            let e = share_expr(alloc, e)?;
+            let labels = share_labels(alloc, labels)?;
+            let body = share_row(alloc, body)?;
+            Ok(shared_switch(place, e, labels, body))
+        }
         StmtNode::Break => Ok(SharedStmt::Break(place)),
         StmtNode::Continue => Ok(SharedStmt::Continue(place)),
         StmtNode::Return(value) => Ok(SharedStmt::Return(place, share_optional(alloc, value)?)),
@@ -84,6 +95,29 @@ fn shared_block(place: u32, body: Rc<SharedRow>) -> SharedStmt
     ensures { stmt_of result ≡ tree.at_stmt place (tree.block (row_of body.value)) }
 {
     SharedStmt::Block(place, body)
+}
+
+// A switch.
+fn shared_switch(
+    place: u32,
+    e: Rc<SharedExpr>,
+    labels: Rc<SharedLabels>,
+    body: Rc<SharedRow>,
+) -> SharedStmt
+    ensures { stmt_of result ≡ tree.at_stmt place (tree.switch (expr_of e.value) (labels_of labels.value) (row_of body.value)) }
+{
+    SharedStmt::Switch(place, e, labels, body)
+}
+
+// The labels of a switch.
+fn share_labels(alloc: Global, all: &[Label]) -> Result<Rc<SharedLabels>, NoMemory>
+    ensures { IfOk result (λ shared. labels_of shared.value ≡ map label_view all.now) }
+{
+    let mut labels = Vec::new(alloc);
+    for label in all {
+        labels.push(*label)?;
+    }
+    Ok(Rc::new(alloc, SharedLabels { labels })?)
 }
 
 // Statements in a row.

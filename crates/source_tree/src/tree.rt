@@ -1,5 +1,5 @@
 use ak_words::{Num, Op};
-use c_tree::typed::{CType, GlobalVar, Layout, Lib, Literal, Local};
+use c_tree::typed::{CType, GlobalVar, Label, Layout, Lib, Literal, Local};
 use std::rc::Rc;
 
 /// How an object becomes a pointer (C11 6.3.2.1, 6.5.3.2).
@@ -128,6 +128,13 @@ impl Drop for SharedArgs {
     }
 }
 
+/// The labels of a `switch`.
+#[derive(Drop)]
+pub struct SharedLabels {
+    /// In order.
+    pub labels: Vec<Label>,
+}
+
 /// A statement or declaration, with its place in the text, a byte offset from 0 (C11 6.8).
 #[cycle(stmts)]
 pub enum SharedStmt {
@@ -143,6 +150,10 @@ pub enum SharedStmt {
     While(u32, Rc<SharedExpr>, Rc<SharedStmt>),
     /// A `for`: its first clause, its condition, its step and its body.
     For(u32, Rc<SharedStmt>, Option<Rc<SharedExpr>>, Rc<SharedStmt>, Rc<SharedStmt>),
+    /// A `do`: its body and its condition.
+    DoWhile(u32, Rc<SharedStmt>, Rc<SharedExpr>),
+    /// A `switch`: its expression, its labels and the statements between its braces.
+    Switch(u32, Rc<SharedExpr>, Rc<SharedLabels>, Rc<SharedRow>),
     /// A `break`.
     Break(u32),
     /// A `continue`.
@@ -169,6 +180,8 @@ impl Drop for SharedStmt {
             Self::IfElse(_, _, _, _) => {}
             Self::While(_, _, _) => {}
             Self::For(_, _, _, _, _) => {}
+            Self::DoWhile(_, _, _) => {}
+            Self::Switch(_, _, _, _) => {}
             Self::Break(_) => {}
             Self::Continue(_) => {}
             Self::Return(_, _) => {}

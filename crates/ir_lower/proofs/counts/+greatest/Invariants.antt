@@ -24,6 +24,9 @@ decreases-greater l = max (the_size l.a.now) (the_size l.b.now) * 4 + 1
 abbrev pub decreases-greatest_under : goal.decreases-greatest_under
 decreases-greatest_under l = goal.size-greatest_under l * 4 + 1
 
+abbrev pub decreases-greatest_of_switch : goal.decreases-greatest_of_switch
+decreases-greatest_of_switch l = goal.size-greatest_of_switch l * 4 + 2
+
 abbrev pub decreases-greatest_of_if : goal.decreases-greatest_of_if
 decreases-greatest_of_if l = max (the_size l.one.now) (the_size l.other.now) * 4 + 2
 

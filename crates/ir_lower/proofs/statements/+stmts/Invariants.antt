@@ -1,10 +1,10 @@
 use Rattle.std.proofs.Common.{◌≡◌, ◌+◌, ◌*◌, map, drop}
 use Rattle.std.specs.Prelude.{max}
-use Rattle.c_tree.specs.TypedViews.{stmt_view}
+use Rattle.c_tree.specs.TypedViews.{stmt_view, label_view}
 use Rattle.c_tree.proofs.typed.Stmt.TheLaws.{the_size}
 use Rattle.struct_ir.specs.Nodes.{Nodes}
 use Rattle.struct_ir.specs.Views.{followed}
-use Rattle.lower_forms.specs.Forms.{row_nodes}
+use Rattle.lower_forms.specs.Forms.{row_nodes, switch_nodes}
 use Rattle.lower_expressions.specs.FrameViews.{frame_view}
 use Rattle.ir_lower.proofs.statements.+stmts.Given as goal
 use Rattle.c_tree.specs.Typed.{stmts_of}
@@ -32,10 +32,10 @@ decreases-for_round l = goal.size-for_round l * 8 + 1
 -- ---- parts of a statement
 
 abbrev pub decreases-row : goal.decreases-row
-decreases-row l = goal.size-row l * 8 + 1
+decreases-row l = goal.size-row l * 8 + 3
 
 abbrev pub decreases-block : goal.decreases-block
-decreases-block l = goal.size-block l * 8 + 2
+decreases-block l = goal.size-block l * 8 + 4
 
 abbrev pub decreases-if_alone : goal.decreases-if_alone
 decreases-if_alone l = goal.size-if_alone l * 8 + 2
@@ -51,3 +51,22 @@ decreases-while_loop l = goal.size-while_loop l * 8 + 2
 
 abbrev pub decreases-for_loop : goal.decreases-for_loop
 decreases-for_loop l = max (the_size l.first.now) (max (the_size l.body.now) (the_size l.step.now)) * 8 + 3
+
+-- ---- a switch, and a statement under its flag
+
+abbrev pub invariant-cases-loop-i : goal.invariant-cases-loop-i
+invariant-cases-loop-i l =
+    (rest : Nodes) → followed l.out.items (switch_nodes (frame_view l.f) l.at l.chosen (map label_view l.labels) l.i (stmts_of (map stmt_view (drop l.i l.body))) l.left rest)
+    ≡ followed l.initial.out.items (switch_nodes (frame_view l.f) l.at l.chosen (map label_view l.labels) 0 (stmts_of (map stmt_view l.body)) l.left rest)
+
+abbrev pub decreases-guarded_stmt : goal.decreases-guarded_stmt
+decreases-guarded_stmt l = goal.size-guarded_stmt l * 8 + 2
+
+abbrev pub decreases-do_loop : goal.decreases-do_loop
+decreases-do_loop l = goal.size-do_loop l * 8 + 2
+
+abbrev pub decreases-cases : goal.decreases-cases
+decreases-cases l = goal.size-cases l * 8 + 2
+
+abbrev pub decreases-switch : goal.decreases-switch
+decreases-switch l = goal.size-switch l * 8 + 3
