@@ -37,131 +37,131 @@ at place kind = Some (record { place = place; kind = kind })
 
 -- int main(void){return b;}
 abbrev unknown_name_tree : source.File
-unknown_name_tree = record { externals = ((record { storage = []; specs = ((source.word 0 words.Int) ∷ []); rest = (source.function [] (name 4 8) ((record { specs = ((source.word 9 words.Void) ∷ []); pointers = []; name = None; dims = [] }) ∷ []) (Some (record { place = 14; items = ((source.return 15 (Some (source.name (name 22 23)))) ∷ []) }))) }) ∷ []) }
+unknown_name_tree = record { externals = ((source.external_of [] ((source.word 0 words.Int) ∷ []) (source.function [] (name 4 8) ((record { specs = ((source.word 9 words.Void) ∷ []); pointers = []; name = None; dims = [] }) ∷ []) (Some (record { place = 14; items = ((source.return 15 (Some (source.name (name 22 23)))) ∷ []) })))) ∷ []) }
 
 -- int main(void){int a;int a;return 0;}
 abbrev double_name_tree : source.File
-double_name_tree = record { externals = ((record { storage = []; specs = ((source.word 0 words.Int) ∷ []); rest = (source.function [] (name 4 8) ((record { specs = ((source.word 9 words.Void) ∷ []); pointers = []; name = None; dims = [] }) ∷ []) (Some (record { place = 14; items = ((source.declare (record { specs = ((source.word 15 words.Int) ∷ []); declarators = ((record { declarator = (source.declarator [] (name 19 20) source.no_exprs); value = None }) ∷ []) })) ∷ (source.declare (record { specs = ((source.word 21 words.Int) ∷ []); declarators = ((record { declarator = (source.declarator [] (name 25 26) source.no_exprs); value = None }) ∷ []) })) ∷ (source.return 27 (Some (source.int 34 (num int (pos 0))))) ∷ []) }))) }) ∷ []) }
+double_name_tree = record { externals = ((source.external_of [] ((source.word 0 words.Int) ∷ []) (source.function [] (name 4 8) ((record { specs = ((source.word 9 words.Void) ∷ []); pointers = []; name = None; dims = [] }) ∷ []) (Some (record { place = 14; items = ((source.declare (record { specs = ((source.word 15 words.Int) ∷ []); declarators = ((record { declarator = (source.declarator [] (name 19 20) source.no_exprs); value = None }) ∷ []) })) ∷ (source.declare (record { specs = ((source.word 21 words.Int) ∷ []); declarators = ((record { declarator = (source.declarator [] (name 25 26) source.no_exprs); value = None }) ∷ []) })) ∷ (source.return 27 (Some (source.int 34 (num int (pos 0))))) ∷ []) })))) ∷ []) }
 
 -- int main(void){int a=1;{char *a=NULL;a=0;}return a;}
 abbrev shadowing_tree : source.File
-shadowing_tree = record { externals = ((record { storage = []; specs = ((source.word 0 words.Int) ∷ []); rest = (source.function [] (name 4 8) ((record { specs = ((source.word 9 words.Void) ∷ []); pointers = []; name = None; dims = [] }) ∷ []) (Some (record { place = 14; items = ((source.declare (record { specs = ((source.word 15 words.Int) ∷ []); declarators = ((record { declarator = (source.declarator [] (name 19 20) source.no_exprs); value = (Some (source.int 21 (num int (pos 1)))) }) ∷ []) })) ∷ (source.block 23 (source.more_stmts (source.declare (record { specs = ((source.word 24 words.Char) ∷ []); declarators = ((record { declarator = (source.declarator (pointers.Star ∷ []) (name 30 31) source.no_exprs); value = (Some (source.null 32)) }) ∷ []) })) (source.more_stmts (source.simple (source.assign 38 assigns.Plain (source.name (name 37 38)) (source.int 39 (num int (pos 0))))) source.no_stmts))) ∷ (source.return 42 (Some (source.name (name 49 50)))) ∷ []) }))) }) ∷ []) }
+shadowing_tree = record { externals = ((source.external_of [] ((source.word 0 words.Int) ∷ []) (source.function [] (name 4 8) ((record { specs = ((source.word 9 words.Void) ∷ []); pointers = []; name = None; dims = [] }) ∷ []) (Some (record { place = 14; items = ((source.declare (record { specs = ((source.word 15 words.Int) ∷ []); declarators = ((record { declarator = (source.declarator [] (name 19 20) source.no_exprs); value = (Some (source.int 21 (num int (pos 1)))) }) ∷ []) })) ∷ (source.block 23 (source.more_stmts (source.declare (record { specs = ((source.word 24 words.Char) ∷ []); declarators = ((record { declarator = (source.declarator (pointers.Star ∷ []) (name 30 31) source.no_exprs); value = (Some (source.null 32)) }) ∷ []) })) (source.more_stmts (source.simple (source.assign 38 assigns.Plain (source.name (name 37 38)) (source.int 39 (num int (pos 0))))) source.no_stmts))) ∷ (source.return 42 (Some (source.name (name 49 50)))) ∷ []) })))) ∷ []) }
 
 -- int f(int a){int a;return 0;}int main(void){return 0;}
 abbrev parameter_and_body_tree : source.File
-parameter_and_body_tree = record { externals = ((record { storage = []; specs = ((source.word 0 words.Int) ∷ []); rest = (source.function [] (name 4 5) ((record { specs = ((source.word 6 words.Int) ∷ []); pointers = []; name = (Some (name 10 11)); dims = [] }) ∷ []) (Some (record { place = 12; items = ((source.declare (record { specs = ((source.word 13 words.Int) ∷ []); declarators = ((record { declarator = (source.declarator [] (name 17 18) source.no_exprs); value = None }) ∷ []) })) ∷ (source.return 19 (Some (source.int 26 (num int (pos 0))))) ∷ []) }))) }) ∷ (record { storage = []; specs = ((source.word 29 words.Int) ∷ []); rest = (source.function [] (name 33 37) ((record { specs = ((source.word 38 words.Void) ∷ []); pointers = []; name = None; dims = [] }) ∷ []) (Some (record { place = 43; items = ((source.return 44 (Some (source.int 51 (num int (pos 0))))) ∷ []) }))) }) ∷ []) }
+parameter_and_body_tree = record { externals = ((source.external_of [] ((source.word 0 words.Int) ∷ []) (source.function [] (name 4 5) ((record { specs = ((source.word 6 words.Int) ∷ []); pointers = []; name = (Some (name 10 11)); dims = [] }) ∷ []) (Some (record { place = 12; items = ((source.declare (record { specs = ((source.word 13 words.Int) ∷ []); declarators = ((record { declarator = (source.declarator [] (name 17 18) source.no_exprs); value = None }) ∷ []) })) ∷ (source.return 19 (Some (source.int 26 (num int (pos 0))))) ∷ []) })))) ∷ (source.external_of [] ((source.word 29 words.Int) ∷ []) (source.function [] (name 33 37) ((record { specs = ((source.word 38 words.Void) ∷ []); pointers = []; name = None; dims = [] }) ∷ []) (Some (record { place = 43; items = ((source.return 44 (Some (source.int 51 (num int (pos 0))))) ∷ []) })))) ∷ []) }
 
 -- int main(void){int a=sizeof a;return a;}
 abbrev name_in_its_initialiser_tree : source.File
-name_in_its_initialiser_tree = record { externals = ((record { storage = []; specs = ((source.word 0 words.Int) ∷ []); rest = (source.function [] (name 4 8) ((record { specs = ((source.word 9 words.Void) ∷ []); pointers = []; name = None; dims = [] }) ∷ []) (Some (record { place = 14; items = ((source.declare (record { specs = ((source.word 15 words.Int) ∷ []); declarators = ((record { declarator = (source.declarator [] (name 19 20) source.no_exprs); value = (Some (source.sizeof_expr 21 (source.name (name 28 29)))) }) ∷ []) })) ∷ (source.return 30 (Some (source.name (name 37 38)))) ∷ []) }))) }) ∷ []) }
+name_in_its_initialiser_tree = record { externals = ((source.external_of [] ((source.word 0 words.Int) ∷ []) (source.function [] (name 4 8) ((record { specs = ((source.word 9 words.Void) ∷ []); pointers = []; name = None; dims = [] }) ∷ []) (Some (record { place = 14; items = ((source.declare (record { specs = ((source.word 15 words.Int) ∷ []); declarators = ((record { declarator = (source.declarator [] (name 19 20) source.no_exprs); value = (Some (source.sizeof_expr 21 (source.name (name 28 29)))) }) ∷ []) })) ∷ (source.return 30 (Some (source.name (name 37 38)))) ∷ []) })))) ∷ []) }
 
 -- int f(void){return 1;}
 abbrev no_main_tree : source.File
-no_main_tree = record { externals = ((record { storage = []; specs = ((source.word 0 words.Int) ∷ []); rest = (source.function [] (name 4 5) ((record { specs = ((source.word 6 words.Void) ∷ []); pointers = []; name = None; dims = [] }) ∷ []) (Some (record { place = 11; items = ((source.return 12 (Some (source.int 19 (num int (pos 1))))) ∷ []) }))) }) ∷ []) }
+no_main_tree = record { externals = ((source.external_of [] ((source.word 0 words.Int) ∷ []) (source.function [] (name 4 5) ((record { specs = ((source.word 6 words.Void) ∷ []); pointers = []; name = None; dims = [] }) ∷ []) (Some (record { place = 11; items = ((source.return 12 (Some (source.int 19 (num int (pos 1))))) ∷ []) })))) ∷ []) }
 
 -- int malloc;int main(void){return 0;}
 abbrev library_name_tree : source.File
-library_name_tree = record { externals = ((record { storage = []; specs = ((source.word 0 words.Int) ∷ []); rest = (source.variables ((record { declarator = (source.declarator [] (name 4 10) source.no_exprs); value = None }) ∷ [])) }) ∷ (record { storage = []; specs = ((source.word 11 words.Int) ∷ []); rest = (source.function [] (name 15 19) ((record { specs = ((source.word 20 words.Void) ∷ []); pointers = []; name = None; dims = [] }) ∷ []) (Some (record { place = 25; items = ((source.return 26 (Some (source.int 33 (num int (pos 0))))) ∷ []) }))) }) ∷ []) }
+library_name_tree = record { externals = ((source.external_of [] ((source.word 0 words.Int) ∷ []) (source.variables ((record { declarator = (source.declarator [] (name 4 10) source.no_exprs); value = None }) ∷ []))) ∷ (source.external_of [] ((source.word 11 words.Int) ∷ []) (source.function [] (name 15 19) ((record { specs = ((source.word 20 words.Void) ∷ []); pointers = []; name = None; dims = [] }) ∷ []) (Some (record { place = 25; items = ((source.return 26 (Some (source.int 33 (num int (pos 0))))) ∷ []) })))) ∷ []) }
 
 -- int main(void){return printf;}
 abbrev library_value_tree : source.File
-library_value_tree = record { externals = ((record { storage = []; specs = ((source.word 0 words.Int) ∷ []); rest = (source.function [] (name 4 8) ((record { specs = ((source.word 9 words.Void) ∷ []); pointers = []; name = None; dims = [] }) ∷ []) (Some (record { place = 14; items = ((source.return 15 (Some (source.name (name 22 28)))) ∷ []) }))) }) ∷ []) }
+library_value_tree = record { externals = ((source.external_of [] ((source.word 0 words.Int) ∷ []) (source.function [] (name 4 8) ((record { specs = ((source.word 9 words.Void) ∷ []); pointers = []; name = None; dims = [] }) ∷ []) (Some (record { place = 14; items = ((source.return 15 (Some (source.name (name 22 28)))) ∷ []) })))) ∷ []) }
 
 -- int main(void){int *p=5;return 0;}
 abbrev pointer_to_int_tree : source.File
-pointer_to_int_tree = record { externals = ((record { storage = []; specs = ((source.word 0 words.Int) ∷ []); rest = (source.function [] (name 4 8) ((record { specs = ((source.word 9 words.Void) ∷ []); pointers = []; name = None; dims = [] }) ∷ []) (Some (record { place = 14; items = ((source.declare (record { specs = ((source.word 15 words.Int) ∷ []); declarators = ((record { declarator = (source.declarator (pointers.Star ∷ []) (name 20 21) source.no_exprs); value = (Some (source.int 22 (num int (pos 5)))) }) ∷ []) })) ∷ (source.return 24 (Some (source.int 31 (num int (pos 0))))) ∷ []) }))) }) ∷ []) }
+pointer_to_int_tree = record { externals = ((source.external_of [] ((source.word 0 words.Int) ∷ []) (source.function [] (name 4 8) ((record { specs = ((source.word 9 words.Void) ∷ []); pointers = []; name = None; dims = [] }) ∷ []) (Some (record { place = 14; items = ((source.declare (record { specs = ((source.word 15 words.Int) ∷ []); declarators = ((record { declarator = (source.declarator (pointers.Star ∷ []) (name 20 21) source.no_exprs); value = (Some (source.int 22 (num int (pos 5)))) }) ∷ []) })) ∷ (source.return 24 (Some (source.int 31 (num int (pos 0))))) ∷ []) })))) ∷ []) }
 
 -- int main(void){int *p=malloc(4);void *q=p;p=q;return p==q;}
 abbrev void_pointers_tree : source.File
-void_pointers_tree = record { externals = ((record { storage = []; specs = ((source.word 0 words.Int) ∷ []); rest = (source.function [] (name 4 8) ((record { specs = ((source.word 9 words.Void) ∷ []); pointers = []; name = None; dims = [] }) ∷ []) (Some (record { place = 14; items = ((source.declare (record { specs = ((source.word 15 words.Int) ∷ []); declarators = ((record { declarator = (source.declarator (pointers.Star ∷ []) (name 20 21) source.no_exprs); value = (Some (source.call (name 22 28) (source.more_exprs (source.int 29 (num int (pos 4))) source.no_exprs))) }) ∷ []) })) ∷ (source.declare (record { specs = ((source.word 32 words.Void) ∷ []); declarators = ((record { declarator = (source.declarator (pointers.Star ∷ []) (name 38 39) source.no_exprs); value = (Some (source.name (name 40 41))) }) ∷ []) })) ∷ (source.simple (source.assign 43 assigns.Plain (source.name (name 42 43)) (source.name (name 44 45)))) ∷ (source.return 46 (Some (source.binary 54 (binaries.Value ops.Eq) (source.name (name 53 54)) (source.name (name 56 57))))) ∷ []) }))) }) ∷ []) }
+void_pointers_tree = record { externals = ((source.external_of [] ((source.word 0 words.Int) ∷ []) (source.function [] (name 4 8) ((record { specs = ((source.word 9 words.Void) ∷ []); pointers = []; name = None; dims = [] }) ∷ []) (Some (record { place = 14; items = ((source.declare (record { specs = ((source.word 15 words.Int) ∷ []); declarators = ((record { declarator = (source.declarator (pointers.Star ∷ []) (name 20 21) source.no_exprs); value = (Some (source.call (name 22 28) (source.more_exprs (source.int 29 (num int (pos 4))) source.no_exprs))) }) ∷ []) })) ∷ (source.declare (record { specs = ((source.word 32 words.Void) ∷ []); declarators = ((record { declarator = (source.declarator (pointers.Star ∷ []) (name 38 39) source.no_exprs); value = (Some (source.name (name 40 41))) }) ∷ []) })) ∷ (source.simple (source.assign 43 assigns.Plain (source.name (name 42 43)) (source.name (name 44 45)))) ∷ (source.return 46 (Some (source.binary 54 (binaries.Value ops.Eq) (source.name (name 53 54)) (source.name (name 56 57))))) ∷ []) })))) ∷ []) }
 
 -- int main(void){return (int)NULL;}
 abbrev number_to_pointer_tree : source.File
-number_to_pointer_tree = record { externals = ((record { storage = []; specs = ((source.word 0 words.Int) ∷ []); rest = (source.function [] (name 4 8) ((record { specs = ((source.word 9 words.Void) ∷ []); pointers = []; name = None; dims = [] }) ∷ []) (Some (record { place = 14; items = ((source.return 15 (Some (source.cast 22 (source.type_name (source.more_specs (source.word 23 words.Int) source.no_specs) []) (source.null 27)))) ∷ []) }))) }) ∷ []) }
+number_to_pointer_tree = record { externals = ((source.external_of [] ((source.word 0 words.Int) ∷ []) (source.function [] (name 4 8) ((record { specs = ((source.word 9 words.Void) ∷ []); pointers = []; name = None; dims = [] }) ∷ []) (Some (record { place = 14; items = ((source.return 15 (Some (source.cast 22 (source.type_name (source.more_specs (source.word 23 words.Int) source.no_specs) []) (source.null 27)))) ∷ []) })))) ∷ []) }
 
 -- int main(void){1=2;return 0;}
 abbrev no_lvalue_tree : source.File
-no_lvalue_tree = record { externals = ((record { storage = []; specs = ((source.word 0 words.Int) ∷ []); rest = (source.function [] (name 4 8) ((record { specs = ((source.word 9 words.Void) ∷ []); pointers = []; name = None; dims = [] }) ∷ []) (Some (record { place = 14; items = ((source.simple (source.assign 16 assigns.Plain (source.int 15 (num int (pos 1))) (source.int 17 (num int (pos 2))))) ∷ (source.return 19 (Some (source.int 26 (num int (pos 0))))) ∷ []) }))) }) ∷ []) }
+no_lvalue_tree = record { externals = ((source.external_of [] ((source.word 0 words.Int) ∷ []) (source.function [] (name 4 8) ((record { specs = ((source.word 9 words.Void) ∷ []); pointers = []; name = None; dims = [] }) ∷ []) (Some (record { place = 14; items = ((source.simple (source.assign 16 assigns.Plain (source.int 15 (num int (pos 1))) (source.int 17 (num int (pos 2))))) ∷ (source.return 19 (Some (source.int 26 (num int (pos 0))))) ∷ []) })))) ∷ []) }
 
 -- int main(void){int a[2];int b[2];a=b;return 0;}
 abbrev array_assigned_tree : source.File
-array_assigned_tree = record { externals = ((record { storage = []; specs = ((source.word 0 words.Int) ∷ []); rest = (source.function [] (name 4 8) ((record { specs = ((source.word 9 words.Void) ∷ []); pointers = []; name = None; dims = [] }) ∷ []) (Some (record { place = 14; items = ((source.declare (record { specs = ((source.word 15 words.Int) ∷ []); declarators = ((record { declarator = (source.declarator [] (name 19 20) (source.more_exprs (source.int 21 (num int (pos 2))) source.no_exprs)); value = None }) ∷ []) })) ∷ (source.declare (record { specs = ((source.word 24 words.Int) ∷ []); declarators = ((record { declarator = (source.declarator [] (name 28 29) (source.more_exprs (source.int 30 (num int (pos 2))) source.no_exprs)); value = None }) ∷ []) })) ∷ (source.simple (source.assign 34 assigns.Plain (source.name (name 33 34)) (source.name (name 35 36)))) ∷ (source.return 37 (Some (source.int 44 (num int (pos 0))))) ∷ []) }))) }) ∷ []) }
+array_assigned_tree = record { externals = ((source.external_of [] ((source.word 0 words.Int) ∷ []) (source.function [] (name 4 8) ((record { specs = ((source.word 9 words.Void) ∷ []); pointers = []; name = None; dims = [] }) ∷ []) (Some (record { place = 14; items = ((source.declare (record { specs = ((source.word 15 words.Int) ∷ []); declarators = ((record { declarator = (source.declarator [] (name 19 20) (source.more_exprs (source.int 21 (num int (pos 2))) source.no_exprs)); value = None }) ∷ []) })) ∷ (source.declare (record { specs = ((source.word 24 words.Int) ∷ []); declarators = ((record { declarator = (source.declarator [] (name 28 29) (source.more_exprs (source.int 30 (num int (pos 2))) source.no_exprs)); value = None }) ∷ []) })) ∷ (source.simple (source.assign 34 assigns.Plain (source.name (name 33 34)) (source.name (name 35 36)))) ∷ (source.return 37 (Some (source.int 44 (num int (pos 0))))) ∷ []) })))) ∷ []) }
 
 -- int main(void){int a[0];return 0;}
 abbrev array_of_none_tree : source.File
-array_of_none_tree = record { externals = ((record { storage = []; specs = ((source.word 0 words.Int) ∷ []); rest = (source.function [] (name 4 8) ((record { specs = ((source.word 9 words.Void) ∷ []); pointers = []; name = None; dims = [] }) ∷ []) (Some (record { place = 14; items = ((source.declare (record { specs = ((source.word 15 words.Int) ∷ []); declarators = ((record { declarator = (source.declarator [] (name 19 20) (source.more_exprs (source.int 21 (num int (pos 0))) source.no_exprs)); value = None }) ∷ []) })) ∷ (source.return 24 (Some (source.int 31 (num int (pos 0))))) ∷ []) }))) }) ∷ []) }
+array_of_none_tree = record { externals = ((source.external_of [] ((source.word 0 words.Int) ∷ []) (source.function [] (name 4 8) ((record { specs = ((source.word 9 words.Void) ∷ []); pointers = []; name = None; dims = [] }) ∷ []) (Some (record { place = 14; items = ((source.declare (record { specs = ((source.word 15 words.Int) ∷ []); declarators = ((record { declarator = (source.declarator [] (name 19 20) (source.more_exprs (source.int 21 (num int (pos 0))) source.no_exprs)); value = None }) ∷ []) })) ∷ (source.return 24 (Some (source.int 31 (num int (pos 0))))) ∷ []) })))) ∷ []) }
 
 -- int a[16777216];int main(void){return 0;}
 abbrev array_of_many_tree : source.File
-array_of_many_tree = record { externals = ((record { storage = []; specs = ((source.word 0 words.Int) ∷ []); rest = (source.variables ((record { declarator = (source.declarator [] (name 4 5) (source.more_exprs (source.int 6 (num int (pos 16777216))) source.no_exprs)); value = None }) ∷ [])) }) ∷ (record { storage = []; specs = ((source.word 16 words.Int) ∷ []); rest = (source.function [] (name 20 24) ((record { specs = ((source.word 25 words.Void) ∷ []); pointers = []; name = None; dims = [] }) ∷ []) (Some (record { place = 30; items = ((source.return 31 (Some (source.int 38 (num int (pos 0))))) ∷ []) }))) }) ∷ []) }
+array_of_many_tree = record { externals = ((source.external_of [] ((source.word 0 words.Int) ∷ []) (source.variables ((record { declarator = (source.declarator [] (name 4 5) (source.more_exprs (source.int 6 (num int (pos 16777216))) source.no_exprs)); value = None }) ∷ []))) ∷ (source.external_of [] ((source.word 16 words.Int) ∷ []) (source.function [] (name 20 24) ((record { specs = ((source.word 25 words.Void) ∷ []); pointers = []; name = None; dims = [] }) ∷ []) (Some (record { place = 30; items = ((source.return 31 (Some (source.int 38 (num int (pos 0))))) ∷ []) })))) ∷ []) }
 
 -- void x;int main(void){return 0;}
 abbrev void_object_tree : source.File
-void_object_tree = record { externals = ((record { storage = []; specs = ((source.word 0 words.Void) ∷ []); rest = (source.variables ((record { declarator = (source.declarator [] (name 5 6) source.no_exprs); value = None }) ∷ [])) }) ∷ (record { storage = []; specs = ((source.word 7 words.Int) ∷ []); rest = (source.function [] (name 11 15) ((record { specs = ((source.word 16 words.Void) ∷ []); pointers = []; name = None; dims = [] }) ∷ []) (Some (record { place = 21; items = ((source.return 22 (Some (source.int 29 (num int (pos 0))))) ∷ []) }))) }) ∷ []) }
+void_object_tree = record { externals = ((source.external_of [] ((source.word 0 words.Void) ∷ []) (source.variables ((record { declarator = (source.declarator [] (name 5 6) source.no_exprs); value = None }) ∷ []))) ∷ (source.external_of [] ((source.word 7 words.Int) ∷ []) (source.function [] (name 11 15) ((record { specs = ((source.word 16 words.Void) ∷ []); pointers = []; name = None; dims = [] }) ∷ []) (Some (record { place = 21; items = ((source.return 22 (Some (source.int 29 (num int (pos 0))))) ∷ []) })))) ∷ []) }
 
 -- struct s{struct s *next;int n;};int main(void){struct s a;a.next=&a;return a.next->n;}
 abbrev own_struct_tree : source.File
-own_struct_tree = record { externals = ((record { storage = []; specs = ((source.struct_body 0 (name 7 8) (source.more_members (source.members_of (source.more_specs (source.struct 9 (name 16 17)) source.no_specs) (source.more_declarators (source.declarator (pointers.Star ∷ []) (name 19 23) source.no_exprs) source.no_declarators)) (source.more_members (source.members_of (source.more_specs (source.word 24 words.Int) source.no_specs) (source.more_declarators (source.declarator [] (name 28 29) source.no_exprs) source.no_declarators)) source.no_members))) ∷ []); rest = source.nothing }) ∷ (record { storage = []; specs = ((source.word 32 words.Int) ∷ []); rest = (source.function [] (name 36 40) ((record { specs = ((source.word 41 words.Void) ∷ []); pointers = []; name = None; dims = [] }) ∷ []) (Some (record { place = 46; items = ((source.declare (record { specs = ((source.struct 47 (name 54 55)) ∷ []); declarators = ((record { declarator = (source.declarator [] (name 56 57) source.no_exprs); value = None }) ∷ []) })) ∷ (source.simple (source.assign 64 assigns.Plain (source.member 59 (source.name (name 58 59)) (name 60 64)) (source.prefix 65 prefixes.AddressOf (source.name (name 66 67))))) ∷ (source.return 68 (Some (source.arrow 81 (source.member 76 (source.name (name 75 76)) (name 77 81)) (name 83 84)))) ∷ []) }))) }) ∷ []) }
+own_struct_tree = record { externals = ((source.external_of [] ((source.struct_body 0 (name 7 8) (source.more_members (source.members_of (source.more_specs (source.struct 9 (name 16 17)) source.no_specs) (source.more_declarators (source.declarator (pointers.Star ∷ []) (name 19 23) source.no_exprs) source.no_declarators)) (source.more_members (source.members_of (source.more_specs (source.word 24 words.Int) source.no_specs) (source.more_declarators (source.declarator [] (name 28 29) source.no_exprs) source.no_declarators)) source.no_members))) ∷ []) (source.nothing)) ∷ (source.external_of [] ((source.word 32 words.Int) ∷ []) (source.function [] (name 36 40) ((record { specs = ((source.word 41 words.Void) ∷ []); pointers = []; name = None; dims = [] }) ∷ []) (Some (record { place = 46; items = ((source.declare (record { specs = ((source.struct 47 (name 54 55)) ∷ []); declarators = ((record { declarator = (source.declarator [] (name 56 57) source.no_exprs); value = None }) ∷ []) })) ∷ (source.simple (source.assign 64 assigns.Plain (source.member 59 (source.name (name 58 59)) (name 60 64)) (source.prefix 65 prefixes.AddressOf (source.name (name 66 67))))) ∷ (source.return 68 (Some (source.arrow 81 (source.member 76 (source.name (name 75 76)) (name 77 81)) (name 83 84)))) ∷ []) })))) ∷ []) }
 
 -- struct s{struct s in;};int main(void){return 0;}
 abbrev struct_in_itself_tree : source.File
-struct_in_itself_tree = record { externals = ((record { storage = []; specs = ((source.struct_body 0 (name 7 8) (source.more_members (source.members_of (source.more_specs (source.struct 9 (name 16 17)) source.no_specs) (source.more_declarators (source.declarator [] (name 18 20) source.no_exprs) source.no_declarators)) source.no_members)) ∷ []); rest = source.nothing }) ∷ (record { storage = []; specs = ((source.word 23 words.Int) ∷ []); rest = (source.function [] (name 27 31) ((record { specs = ((source.word 32 words.Void) ∷ []); pointers = []; name = None; dims = [] }) ∷ []) (Some (record { place = 37; items = ((source.return 38 (Some (source.int 45 (num int (pos 0))))) ∷ []) }))) }) ∷ []) }
+struct_in_itself_tree = record { externals = ((source.external_of [] ((source.struct_body 0 (name 7 8) (source.more_members (source.members_of (source.more_specs (source.struct 9 (name 16 17)) source.no_specs) (source.more_declarators (source.declarator [] (name 18 20) source.no_exprs) source.no_declarators)) source.no_members)) ∷ []) (source.nothing)) ∷ (source.external_of [] ((source.word 23 words.Int) ∷ []) (source.function [] (name 27 31) ((record { specs = ((source.word 32 words.Void) ∷ []); pointers = []; name = None; dims = [] }) ∷ []) (Some (record { place = 37; items = ((source.return 38 (Some (source.int 45 (num int (pos 0))))) ∷ []) })))) ∷ []) }
 
 -- struct s{int n;};int main(void){struct s a;return a.m;}
 abbrev no_member_tree : source.File
-no_member_tree = record { externals = ((record { storage = []; specs = ((source.struct_body 0 (name 7 8) (source.more_members (source.members_of (source.more_specs (source.word 9 words.Int) source.no_specs) (source.more_declarators (source.declarator [] (name 13 14) source.no_exprs) source.no_declarators)) source.no_members)) ∷ []); rest = source.nothing }) ∷ (record { storage = []; specs = ((source.word 17 words.Int) ∷ []); rest = (source.function [] (name 21 25) ((record { specs = ((source.word 26 words.Void) ∷ []); pointers = []; name = None; dims = [] }) ∷ []) (Some (record { place = 31; items = ((source.declare (record { specs = ((source.struct 32 (name 39 40)) ∷ []); declarators = ((record { declarator = (source.declarator [] (name 41 42) source.no_exprs); value = None }) ∷ []) })) ∷ (source.return 43 (Some (source.member 51 (source.name (name 50 51)) (name 52 53)))) ∷ []) }))) }) ∷ []) }
+no_member_tree = record { externals = ((source.external_of [] ((source.struct_body 0 (name 7 8) (source.more_members (source.members_of (source.more_specs (source.word 9 words.Int) source.no_specs) (source.more_declarators (source.declarator [] (name 13 14) source.no_exprs) source.no_declarators)) source.no_members)) ∷ []) (source.nothing)) ∷ (source.external_of [] ((source.word 17 words.Int) ∷ []) (source.function [] (name 21 25) ((record { specs = ((source.word 26 words.Void) ∷ []); pointers = []; name = None; dims = [] }) ∷ []) (Some (record { place = 31; items = ((source.declare (record { specs = ((source.struct 32 (name 39 40)) ∷ []); declarators = ((record { declarator = (source.declarator [] (name 41 42) source.no_exprs); value = None }) ∷ []) })) ∷ (source.return 43 (Some (source.member 51 (source.name (name 50 51)) (name 52 53)))) ∷ []) })))) ∷ []) }
 
 -- int main(void){printf("%d %s%%\n",1,"ab");return 0;}
 abbrev format_tree : source.File
-format_tree = record { externals = ((record { storage = []; specs = ((source.word 0 words.Int) ∷ []); rest = (source.function [] (name 4 8) ((record { specs = ((source.word 9 words.Void) ∷ []); pointers = []; name = None; dims = [] }) ∷ []) (Some (record { place = 14; items = ((source.simple (source.eval (source.call (name 15 21) (source.more_exprs (source.text (span 22 33 ∷ [])) (source.more_exprs (source.int 34 (num int (pos 1))) (source.more_exprs (source.text (span 36 40 ∷ [])) source.no_exprs)))))) ∷ (source.return 42 (Some (source.int 49 (num int (pos 0))))) ∷ []) }))) }) ∷ []) }
+format_tree = record { externals = ((source.external_of [] ((source.word 0 words.Int) ∷ []) (source.function [] (name 4 8) ((record { specs = ((source.word 9 words.Void) ∷ []); pointers = []; name = None; dims = [] }) ∷ []) (Some (record { place = 14; items = ((source.simple (source.eval (source.call (name 15 21) (source.more_exprs (source.text (span 22 33 ∷ [])) (source.more_exprs (source.int 34 (num int (pos 1))) (source.more_exprs (source.text (span 36 40 ∷ [])) source.no_exprs)))))) ∷ (source.return 42 (Some (source.int 49 (num int (pos 0))))) ∷ []) })))) ∷ []) }
 
 -- int main(void){printf("%ld",1);return 0;}
 abbrev format_mismatch_tree : source.File
-format_mismatch_tree = record { externals = ((record { storage = []; specs = ((source.word 0 words.Int) ∷ []); rest = (source.function [] (name 4 8) ((record { specs = ((source.word 9 words.Void) ∷ []); pointers = []; name = None; dims = [] }) ∷ []) (Some (record { place = 14; items = ((source.simple (source.eval (source.call (name 15 21) (source.more_exprs (source.text (span 22 27 ∷ [])) (source.more_exprs (source.int 28 (num int (pos 1))) source.no_exprs))))) ∷ (source.return 31 (Some (source.int 38 (num int (pos 0))))) ∷ []) }))) }) ∷ []) }
+format_mismatch_tree = record { externals = ((source.external_of [] ((source.word 0 words.Int) ∷ []) (source.function [] (name 4 8) ((record { specs = ((source.word 9 words.Void) ∷ []); pointers = []; name = None; dims = [] }) ∷ []) (Some (record { place = 14; items = ((source.simple (source.eval (source.call (name 15 21) (source.more_exprs (source.text (span 22 27 ∷ [])) (source.more_exprs (source.int 28 (num int (pos 1))) source.no_exprs))))) ∷ (source.return 31 (Some (source.int 38 (num int (pos 0))))) ∷ []) })))) ∷ []) }
 
 -- int main(void){printf("%f",1);return 0;}
 abbrev format_unknown_tree : source.File
-format_unknown_tree = record { externals = ((record { storage = []; specs = ((source.word 0 words.Int) ∷ []); rest = (source.function [] (name 4 8) ((record { specs = ((source.word 9 words.Void) ∷ []); pointers = []; name = None; dims = [] }) ∷ []) (Some (record { place = 14; items = ((source.simple (source.eval (source.call (name 15 21) (source.more_exprs (source.text (span 22 26 ∷ [])) (source.more_exprs (source.int 27 (num int (pos 1))) source.no_exprs))))) ∷ (source.return 30 (Some (source.int 37 (num int (pos 0))))) ∷ []) }))) }) ∷ []) }
+format_unknown_tree = record { externals = ((source.external_of [] ((source.word 0 words.Int) ∷ []) (source.function [] (name 4 8) ((record { specs = ((source.word 9 words.Void) ∷ []); pointers = []; name = None; dims = [] }) ∷ []) (Some (record { place = 14; items = ((source.simple (source.eval (source.call (name 15 21) (source.more_exprs (source.text (span 22 26 ∷ [])) (source.more_exprs (source.int 27 (num int (pos 1))) source.no_exprs))))) ∷ (source.return 30 (Some (source.int 37 (num int (pos 0))))) ∷ []) })))) ∷ []) }
 
 -- int main(void){int *p=x;int q=p;return 0;}
 abbrev least_place_tree : source.File
-least_place_tree = record { externals = ((record { storage = []; specs = ((source.word 0 words.Int) ∷ []); rest = (source.function [] (name 4 8) ((record { specs = ((source.word 9 words.Void) ∷ []); pointers = []; name = None; dims = [] }) ∷ []) (Some (record { place = 14; items = ((source.declare (record { specs = ((source.word 15 words.Int) ∷ []); declarators = ((record { declarator = (source.declarator (pointers.Star ∷ []) (name 20 21) source.no_exprs); value = (Some (source.name (name 22 23))) }) ∷ []) })) ∷ (source.declare (record { specs = ((source.word 24 words.Int) ∷ []); declarators = ((record { declarator = (source.declarator [] (name 28 29) source.no_exprs); value = (Some (source.name (name 30 31))) }) ∷ []) })) ∷ (source.return 32 (Some (source.int 39 (num int (pos 0))))) ∷ []) }))) }) ∷ []) }
+least_place_tree = record { externals = ((source.external_of [] ((source.word 0 words.Int) ∷ []) (source.function [] (name 4 8) ((record { specs = ((source.word 9 words.Void) ∷ []); pointers = []; name = None; dims = [] }) ∷ []) (Some (record { place = 14; items = ((source.declare (record { specs = ((source.word 15 words.Int) ∷ []); declarators = ((record { declarator = (source.declarator (pointers.Star ∷ []) (name 20 21) source.no_exprs); value = (Some (source.name (name 22 23))) }) ∷ []) })) ∷ (source.declare (record { specs = ((source.word 24 words.Int) ∷ []); declarators = ((record { declarator = (source.declarator [] (name 28 29) source.no_exprs); value = (Some (source.name (name 30 31))) }) ∷ []) })) ∷ (source.return 32 (Some (source.int 39 (num int (pos 0))))) ∷ []) })))) ∷ []) }
 
 -- int main(void){int *p=-x;return 0;}
 abbrev below_an_untyped_part_tree : source.File
-below_an_untyped_part_tree = record { externals = ((record { storage = []; specs = ((source.word 0 words.Int) ∷ []); rest = (source.function [] (name 4 8) ((record { specs = ((source.word 9 words.Void) ∷ []); pointers = []; name = None; dims = [] }) ∷ []) (Some (record { place = 14; items = ((source.declare (record { specs = ((source.word 15 words.Int) ∷ []); declarators = ((record { declarator = (source.declarator (pointers.Star ∷ []) (name 20 21) source.no_exprs); value = (Some (source.prefix 22 prefixes.Minus (source.name (name 23 24)))) }) ∷ []) })) ∷ (source.return 25 (Some (source.int 32 (num int (pos 0))))) ∷ []) }))) }) ∷ []) }
+below_an_untyped_part_tree = record { externals = ((source.external_of [] ((source.word 0 words.Int) ∷ []) (source.function [] (name 4 8) ((record { specs = ((source.word 9 words.Void) ∷ []); pointers = []; name = None; dims = [] }) ∷ []) (Some (record { place = 14; items = ((source.declare (record { specs = ((source.word 15 words.Int) ∷ []); declarators = ((record { declarator = (source.declarator (pointers.Star ∷ []) (name 20 21) source.no_exprs); value = (Some (source.prefix 22 prefixes.Minus (source.name (name 23 24)))) }) ∷ []) })) ∷ (source.return 25 (Some (source.int 32 (num int (pos 0))))) ∷ []) })))) ∷ []) }
 
 -- int main(void){break;}
 abbrev break_outside_tree : source.File
-break_outside_tree = record { externals = ((record { storage = []; specs = ((source.word 0 words.Int) ∷ []); rest = (source.function [] (name 4 8) ((record { specs = ((source.word 9 words.Void) ∷ []); pointers = []; name = None; dims = [] }) ∷ []) (Some (record { place = 14; items = ((source.break 15) ∷ []) }))) }) ∷ []) }
+break_outside_tree = record { externals = ((source.external_of [] ((source.word 0 words.Int) ∷ []) (source.function [] (name 4 8) ((record { specs = ((source.word 9 words.Void) ∷ []); pointers = []; name = None; dims = [] }) ∷ []) (Some (record { place = 14; items = ((source.break 15) ∷ []) })))) ∷ []) }
 
 -- struct s{int n;};int f(struct s a){return 0;}int main(void){return 0;}
 abbrev struct_parameter_tree : source.File
-struct_parameter_tree = record { externals = ((record { storage = []; specs = ((source.struct_body 0 (name 7 8) (source.more_members (source.members_of (source.more_specs (source.word 9 words.Int) source.no_specs) (source.more_declarators (source.declarator [] (name 13 14) source.no_exprs) source.no_declarators)) source.no_members)) ∷ []); rest = source.nothing }) ∷ (record { storage = []; specs = ((source.word 17 words.Int) ∷ []); rest = (source.function [] (name 21 22) ((record { specs = ((source.struct 23 (name 30 31)) ∷ []); pointers = []; name = (Some (name 32 33)); dims = [] }) ∷ []) (Some (record { place = 34; items = ((source.return 35 (Some (source.int 42 (num int (pos 0))))) ∷ []) }))) }) ∷ (record { storage = []; specs = ((source.word 45 words.Int) ∷ []); rest = (source.function [] (name 49 53) ((record { specs = ((source.word 54 words.Void) ∷ []); pointers = []; name = None; dims = [] }) ∷ []) (Some (record { place = 59; items = ((source.return 60 (Some (source.int 67 (num int (pos 0))))) ∷ []) }))) }) ∷ []) }
+struct_parameter_tree = record { externals = ((source.external_of [] ((source.struct_body 0 (name 7 8) (source.more_members (source.members_of (source.more_specs (source.word 9 words.Int) source.no_specs) (source.more_declarators (source.declarator [] (name 13 14) source.no_exprs) source.no_declarators)) source.no_members)) ∷ []) (source.nothing)) ∷ (source.external_of [] ((source.word 17 words.Int) ∷ []) (source.function [] (name 21 22) ((record { specs = ((source.struct 23 (name 30 31)) ∷ []); pointers = []; name = (Some (name 32 33)); dims = [] }) ∷ []) (Some (record { place = 34; items = ((source.return 35 (Some (source.int 42 (num int (pos 0))))) ∷ []) })))) ∷ (source.external_of [] ((source.word 45 words.Int) ∷ []) (source.function [] (name 49 53) ((record { specs = ((source.word 54 words.Void) ∷ []); pointers = []; name = None; dims = [] }) ∷ []) (Some (record { place = 59; items = ((source.return 60 (Some (source.int 67 (num int (pos 0))))) ∷ []) })))) ∷ []) }
 
 -- int f(int x);int main(void){return 0;}
 abbrev declared_only_tree : source.File
-declared_only_tree = record { externals = ((record { storage = []; specs = ((source.word 0 words.Int) ∷ []); rest = (source.function [] (name 4 5) ((record { specs = ((source.word 6 words.Int) ∷ []); pointers = []; name = (Some (name 10 11)); dims = [] }) ∷ []) None) }) ∷ (record { storage = []; specs = ((source.word 13 words.Int) ∷ []); rest = (source.function [] (name 17 21) ((record { specs = ((source.word 22 words.Void) ∷ []); pointers = []; name = None; dims = [] }) ∷ []) (Some (record { place = 27; items = ((source.return 28 (Some (source.int 35 (num int (pos 0))))) ∷ []) }))) }) ∷ []) }
+declared_only_tree = record { externals = ((source.external_of [] ((source.word 0 words.Int) ∷ []) (source.function [] (name 4 5) ((record { specs = ((source.word 6 words.Int) ∷ []); pointers = []; name = (Some (name 10 11)); dims = [] }) ∷ []) None)) ∷ (source.external_of [] ((source.word 13 words.Int) ∷ []) (source.function [] (name 17 21) ((record { specs = ((source.word 22 words.Void) ∷ []); pointers = []; name = None; dims = [] }) ∷ []) (Some (record { place = 27; items = ((source.return 28 (Some (source.int 35 (num int (pos 0))))) ∷ []) })))) ∷ []) }
 
 -- int f(int x);int main(void){return f(1);}int f(int y){return y;}
 abbrev declared_before_tree : source.File
-declared_before_tree = record { externals = ((record { storage = []; specs = ((source.word 0 words.Int) ∷ []); rest = (source.function [] (name 4 5) ((record { specs = ((source.word 6 words.Int) ∷ []); pointers = []; name = (Some (name 10 11)); dims = [] }) ∷ []) None) }) ∷ (record { storage = []; specs = ((source.word 13 words.Int) ∷ []); rest = (source.function [] (name 17 21) ((record { specs = ((source.word 22 words.Void) ∷ []); pointers = []; name = None; dims = [] }) ∷ []) (Some (record { place = 27; items = ((source.return 28 (Some (source.call (name 35 36) (source.more_exprs (source.int 37 (num int (pos 1))) source.no_exprs)))) ∷ []) }))) }) ∷ (record { storage = []; specs = ((source.word 41 words.Int) ∷ []); rest = (source.function [] (name 45 46) ((record { specs = ((source.word 47 words.Int) ∷ []); pointers = []; name = (Some (name 51 52)); dims = [] }) ∷ []) (Some (record { place = 53; items = ((source.return 54 (Some (source.name (name 61 62)))) ∷ []) }))) }) ∷ []) }
+declared_before_tree = record { externals = ((source.external_of [] ((source.word 0 words.Int) ∷ []) (source.function [] (name 4 5) ((record { specs = ((source.word 6 words.Int) ∷ []); pointers = []; name = (Some (name 10 11)); dims = [] }) ∷ []) None)) ∷ (source.external_of [] ((source.word 13 words.Int) ∷ []) (source.function [] (name 17 21) ((record { specs = ((source.word 22 words.Void) ∷ []); pointers = []; name = None; dims = [] }) ∷ []) (Some (record { place = 27; items = ((source.return 28 (Some (source.call (name 35 36) (source.more_exprs (source.int 37 (num int (pos 1))) source.no_exprs)))) ∷ []) })))) ∷ (source.external_of [] ((source.word 41 words.Int) ∷ []) (source.function [] (name 45 46) ((record { specs = ((source.word 47 words.Int) ∷ []); pointers = []; name = (Some (name 51 52)); dims = [] }) ∷ []) (Some (record { place = 53; items = ((source.return 54 (Some (source.name (name 61 62)))) ∷ []) })))) ∷ []) }
 
 -- mtx_t m;int main(void){mtx_init(&m,1);return 0;}
 abbrev mutex_kind_tree : source.File
-mutex_kind_tree = record { externals = ((record { storage = []; specs = ((source.word 0 words.MtxT) ∷ []); rest = (source.variables ((record { declarator = (source.declarator [] (name 6 7) source.no_exprs); value = None }) ∷ [])) }) ∷ (record { storage = []; specs = ((source.word 8 words.Int) ∷ []); rest = (source.function [] (name 12 16) ((record { specs = ((source.word 17 words.Void) ∷ []); pointers = []; name = None; dims = [] }) ∷ []) (Some (record { place = 22; items = ((source.simple (source.eval (source.call (name 23 31) (source.more_exprs (source.prefix 32 prefixes.AddressOf (source.name (name 33 34))) (source.more_exprs (source.int 35 (num int (pos 1))) source.no_exprs))))) ∷ (source.return 38 (Some (source.int 45 (num int (pos 0))))) ∷ []) }))) }) ∷ []) }
+mutex_kind_tree = record { externals = ((source.external_of [] ((source.word 0 words.MtxT) ∷ []) (source.variables ((record { declarator = (source.declarator [] (name 6 7) source.no_exprs); value = None }) ∷ []))) ∷ (source.external_of [] ((source.word 8 words.Int) ∷ []) (source.function [] (name 12 16) ((record { specs = ((source.word 17 words.Void) ∷ []); pointers = []; name = None; dims = [] }) ∷ []) (Some (record { place = 22; items = ((source.simple (source.eval (source.call (name 23 31) (source.more_exprs (source.prefix 32 prefixes.AddressOf (source.name (name 33 34))) (source.more_exprs (source.int 35 (num int (pos 1))) source.no_exprs))))) ∷ (source.return 38 (Some (source.int 45 (num int (pos 0))))) ∷ []) })))) ∷ []) }
 
 -- int f(struct s a[][2]){return 0;}int main(void){return 0;}
 abbrev elements_without_size_tree : source.File
-elements_without_size_tree = record { externals = ((record { storage = []; specs = ((source.word 0 words.Int) ∷ []); rest = (source.function [] (name 4 5) ((record { specs = ((source.struct 6 (name 13 14)) ∷ []); pointers = []; name = (Some (name 15 16)); dims = ((record { place = 16; size = None }) ∷ (record { place = 18; size = (Some (source.int 19 (num int (pos 2)))) }) ∷ []) }) ∷ []) (Some (record { place = 22; items = ((source.return 23 (Some (source.int 30 (num int (pos 0))))) ∷ []) }))) }) ∷ (record { storage = []; specs = ((source.word 33 words.Int) ∷ []); rest = (source.function [] (name 37 41) ((record { specs = ((source.word 42 words.Void) ∷ []); pointers = []; name = None; dims = [] }) ∷ []) (Some (record { place = 47; items = ((source.return 48 (Some (source.int 55 (num int (pos 0))))) ∷ []) }))) }) ∷ []) }
+elements_without_size_tree = record { externals = ((source.external_of [] ((source.word 0 words.Int) ∷ []) (source.function [] (name 4 5) ((record { specs = ((source.struct 6 (name 13 14)) ∷ []); pointers = []; name = (Some (name 15 16)); dims = ((record { place = 16; size = None }) ∷ (record { place = 18; size = (Some (source.int 19 (num int (pos 2)))) }) ∷ []) }) ∷ []) (Some (record { place = 22; items = ((source.return 23 (Some (source.int 30 (num int (pos 0))))) ∷ []) })))) ∷ (source.external_of [] ((source.word 33 words.Int) ∷ []) (source.function [] (name 37 41) ((record { specs = ((source.word 42 words.Void) ∷ []); pointers = []; name = None; dims = [] }) ∷ []) (Some (record { place = 47; items = ((source.return 48 (Some (source.int 55 (num int (pos 0))))) ∷ []) })))) ∷ []) }
 
 -- struct s{int a;void b,a;};int main(void){return 0;}
 abbrev sizes_beside_names_tree : source.File
-sizes_beside_names_tree = record { externals = ((record { storage = []; specs = ((source.struct_body 0 (name 7 8) (source.more_members (source.members_of (source.more_specs (source.word 9 words.Int) source.no_specs) (source.more_declarators (source.declarator [] (name 13 14) source.no_exprs) source.no_declarators)) (source.more_members (source.members_of (source.more_specs (source.word 15 words.Void) source.no_specs) (source.more_declarators (source.declarator [] (name 20 21) source.no_exprs) (source.more_declarators (source.declarator [] (name 22 23) source.no_exprs) source.no_declarators))) source.no_members))) ∷ []); rest = source.nothing }) ∷ (record { storage = []; specs = ((source.word 26 words.Int) ∷ []); rest = (source.function [] (name 30 34) ((record { specs = ((source.word 35 words.Void) ∷ []); pointers = []; name = None; dims = [] }) ∷ []) (Some (record { place = 40; items = ((source.return 41 (Some (source.int 48 (num int (pos 0))))) ∷ []) }))) }) ∷ []) }
+sizes_beside_names_tree = record { externals = ((source.external_of [] ((source.struct_body 0 (name 7 8) (source.more_members (source.members_of (source.more_specs (source.word 9 words.Int) source.no_specs) (source.more_declarators (source.declarator [] (name 13 14) source.no_exprs) source.no_declarators)) (source.more_members (source.members_of (source.more_specs (source.word 15 words.Void) source.no_specs) (source.more_declarators (source.declarator [] (name 20 21) source.no_exprs) (source.more_declarators (source.declarator [] (name 22 23) source.no_exprs) source.no_declarators))) source.no_members))) ∷ []) (source.nothing)) ∷ (source.external_of [] ((source.word 26 words.Int) ∷ []) (source.function [] (name 30 34) ((record { specs = ((source.word 35 words.Void) ∷ []); pointers = []; name = None; dims = [] }) ∷ []) (Some (record { place = 40; items = ((source.return 41 (Some (source.int 48 (num int (pos 0))))) ∷ []) })))) ∷ []) }
 
 -- struct u;int f(struct u *q,struct u *r){*q=*r;return 0;}int main(void){return 0;}
 abbrev unknown_struct_assigned_tree : source.File
-unknown_struct_assigned_tree = record { externals = ((record { storage = []; specs = ((source.struct 0 (name 7 8)) ∷ []); rest = source.nothing }) ∷ (record { storage = []; specs = ((source.word 9 words.Int) ∷ []); rest = (source.function [] (name 13 14) ((record { specs = ((source.struct 15 (name 22 23)) ∷ []); pointers = (pointers.Star ∷ []); name = (Some (name 25 26)); dims = [] }) ∷ (record { specs = ((source.struct 27 (name 34 35)) ∷ []); pointers = (pointers.Star ∷ []); name = (Some (name 37 38)); dims = [] }) ∷ []) (Some (record { place = 39; items = ((source.simple (source.assign 42 assigns.Plain (source.prefix 40 prefixes.Deref (source.name (name 41 42))) (source.prefix 43 prefixes.Deref (source.name (name 44 45))))) ∷ (source.return 46 (Some (source.int 53 (num int (pos 0))))) ∷ []) }))) }) ∷ (record { storage = []; specs = ((source.word 56 words.Int) ∷ []); rest = (source.function [] (name 60 64) ((record { specs = ((source.word 65 words.Void) ∷ []); pointers = []; name = None; dims = [] }) ∷ []) (Some (record { place = 70; items = ((source.return 71 (Some (source.int 78 (num int (pos 0))))) ∷ []) }))) }) ∷ []) }
+unknown_struct_assigned_tree = record { externals = ((source.external_of [] ((source.struct 0 (name 7 8)) ∷ []) (source.nothing)) ∷ (source.external_of [] ((source.word 9 words.Int) ∷ []) (source.function [] (name 13 14) ((record { specs = ((source.struct 15 (name 22 23)) ∷ []); pointers = (pointers.Star ∷ []); name = (Some (name 25 26)); dims = [] }) ∷ (record { specs = ((source.struct 27 (name 34 35)) ∷ []); pointers = (pointers.Star ∷ []); name = (Some (name 37 38)); dims = [] }) ∷ []) (Some (record { place = 39; items = ((source.simple (source.assign 42 assigns.Plain (source.prefix 40 prefixes.Deref (source.name (name 41 42))) (source.prefix 43 prefixes.Deref (source.name (name 44 45))))) ∷ (source.return 46 (Some (source.int 53 (num int (pos 0))))) ∷ []) })))) ∷ (source.external_of [] ((source.word 56 words.Int) ∷ []) (source.function [] (name 60 64) ((record { specs = ((source.word 65 words.Void) ∷ []); pointers = []; name = None; dims = [] }) ∷ []) (Some (record { place = 70; items = ((source.return 71 (Some (source.int 78 (num int (pos 0))))) ∷ []) })))) ∷ []) }
 
 -- the rows: a text with its tree, and the fault that is named, at its place, or none where the program is accepted
 pub record Rows : Type 0 where
