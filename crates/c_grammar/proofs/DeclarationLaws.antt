@@ -1,68 +1,27 @@
 -- The laws of declarations (C11 6.7): declarators with their initialisers, and specifiers before them.
-use Rattle.std.proofs.Common.{subst, ◌≡◌, ℕ, zero, suc, ◌+◌, List, [], ◌∷◌, ◌++◌, Option, Some, None, Bool, true, false, refl, sym, ap, ◌∙◌, arith, append_assoc}
+use Rattle.std.proofs.Common.{subst, ◌≡◌, ℕ, zero, suc, ◌+◌, List, [], ◌∷◌, ◌++◌, None, Bool, true, false, refl, sym, ap, ◌∙◌, arith, append_assoc}
 use Rattle.std.specs.Prelude.{◌||◌}
 use Rattle.std.specs.List.{AllByRecursion}
 use Rattle.c_lex.specs.declared.token.Mark.TheVariants as marks
-use Rattle.c_tree.specs.Syntax.{Expr, null, Spec, Declarator, declarator, no_exprs, InitDeclarator}
+use Rattle.c_tree.specs.Syntax.{Spec, Declarator, declarator, no_exprs, InitDeclarator, specs_of}
 use Rattle.c_grammar.specs.Leaves.{Leaf, at, some_mark}
-use Rattle.c_grammar.specs.Grammar.{IsSome, on_spec, on_each, on_commas, on_full, on_value, on_init_declarator, on_declaration, IsExpr, IsDeclarator, StartsBareFirst, IsValue, IsInitDeclarator, IsDeclaration}
-use Rattle.c_grammar.specs.inner.Readers.{Sort, Reads, maybe}
+use Rattle.c_grammar.specs.Grammar.{HasSpecs, on_spec, on_each, on_commas, on_init_declarator, on_declaration, IsDeclarator, StartsBareFirst, IsValue, IsInitDeclarator, IsDeclaration, as_name}
+use Rattle.c_grammar.specs.inner.Readers.{Sort, Reads}
 use Rattle.c_grammar.specs.inner.Tokens.{is_mark, begins_type}
-use Rattle.c_grammar.specs.inner.Reading.{Level, level_at, value, init_by, initialised, declared, bare_declared, declaration}
+use Rattle.c_grammar.specs.inner.Reading.{Level, level_at, init_by, initialised, declared, bare_declared, declaration}
 use Rattle.c_grammar.proofs.Sorts.{inside}
 use Rattle.c_grammar.proofs.Lawful.{Class, Info, Lawful, starts, both, if_empty}
-use Rattle.c_grammar.proofs.Joints.{TooDeepFor, Makes, tree, known, full_class, full_lawful, narrow, too_deep_lawful}
-use Rattle.c_grammar.proofs.Loops.{OptionIs, option_class, maybe_lawful, FromIs, from_class}
+use Rattle.c_grammar.proofs.Joints.{TooDeepFor, Makes, tree, known, narrow, too_deep_lawful}
+use Rattle.c_grammar.proofs.Loops.{option_class, FromIs, from_class}
 use Rattle.c_grammar.proofs.TokenLaws.{Room, plain_class, mark_sign, mark_lawful}
-use Rattle.c_grammar.proofs.TreeClasses.{expr_class, goes_expr, LevelLawful}
+use Rattle.c_grammar.proofs.TreeClasses.{LevelLawful}
 use Rattle.c_grammar.proofs.StatementClasses.{declaration_class}
 use Rattle.c_grammar.proofs.MemberLaws.{BeginsDeep, spec_deep, spec_at, deep_behind, at_behind}
-use Rattle.c_grammar.proofs.ArgumentLaws.{rank_most}
+use Rattle.c_grammar.proofs.ValueLaws.{value_class, goes_init, values_lawful, value_spelt, value_after, value_there, there_value}
 use Rattle.c_grammar.proofs.MoreJoints.{joined, comma_rows, commas_lawful, flat_after, some_spelt, commas_spelt}
-use Rattle.c_grammar.proofs.SpecLaws.{no_name, specs_class, specs_lawful, specs_some, some_specs}
+use Rattle.c_grammar.proofs.EnumLaws.{no_name}
+use Rattle.c_grammar.proofs.SpecLaws.{specs_class, specs_lawful, specs_some, some_specs, one_spec}
 use Rattle.c_grammar.proofs.DeclaratorLaws.{declarator_class, IsBareDeclarator, bare_declared_lawful, declared_lawful, begins_declarator, begins_bare_declarator}
-
--- ---- initialisers
-
-abbrev pub value_class : Bool → ℕ → Class
-value_class b d = record { Tree = Expr; leaves = λ c e. at d (some_mark marks.Assign) ∷ on_full d e; after = λ c e. c; Is = IsExpr b; some = null 0; some_is = tt }
-
-abbrev pub value_info : Info
-value_info = record { first = is_mark marks.Assign; goes = goes_expr; empty = false }
-
-value_makes : (b : Bool) (d : ℕ) → Makes (both (plain_class d (mark_sign marks.Assign) tt) (λ _. full_class (expr_class b d 13))) (value_class b d) (λ (_, e). e)
-value_makes b d = record { fits = λ a f. f.1.1; spelt = λ c a. refl; after = λ c a. refl; back = λ e f. ((tt, e), (tt, (rank_most e, f)), refl) }
-
--- "=" expr
-pub value_lawful : (b : Bool) (d n : ℕ) (here : Level) → Room d n → LevelLawful b d here → Lawful (value_class b d) value_info (value n here)
-unfolding value
-value_lawful b d n here e l = known (tree (joined (mark_lawful d n e marks.Assign) (full_lawful l.expr) refl) (value_class b d) _ (value_makes b d)) (record { first = refl; goes = refl; empty = refl })
-
-abbrev pub goes_init : Sort → Bool
-goes_init s = is_mark marks.Assign s || goes_expr s
-
-abbrev pub values_info : Info
-values_info = record { first = is_mark marks.Assign; goes = goes_init; empty = true }
-
--- an initialiser that may be left out
-pub values_lawful : (b : Bool) (d n : ℕ) (here : Level) → Room d n → LevelLawful b d here → Lawful (option_class (value_class b d)) values_info (maybe (is_mark marks.Assign) (value n here))
-values_lawful b d n here e l = maybe_lawful (value_lawful b d n here e l) (is_mark marks.Assign) refl refl
-
-pub value_spelt : (b : Bool) (d c : ℕ) (o : Option Expr) → on_value d o ≡ (option_class (value_class b d)).leaves c o
-value_spelt b d c None = refl
-value_spelt b d c (Some e) = refl
-
-pub value_after : (b : Bool) (d c : ℕ) (o : Option Expr) → (option_class (value_class b d)).after c o ≡ c
-value_after b d c None = refl
-value_after b d c (Some e) = refl
-
-pub value_there : (b : Bool) (o : Option Expr) → OptionIs (IsExpr b) o → IsValue b o
-value_there b None f = tt
-value_there b (Some e) f = f
-
-pub there_value : (b : Bool) (o : Option Expr) → IsValue b o → OptionIs (IsExpr b) o
-there_value b None f = tt
-there_value b (Some e) f = f
 
 -- ---- declarators with their initialisers
 
@@ -77,10 +36,10 @@ init_class b d Q q = record {
   some_is = (q, tt);
 }
 
-init_makes : (b : Bool) (d : ℕ) (Q : Declarator → Type 0) (q : Q (declarator [] no_name no_exprs)) → Makes (both (narrow (declarator_class b d) Q (declarator [] no_name no_exprs) q) (λ _. option_class (value_class b d))) (init_class b d Q q) (λ (x, v). init_by x v)
+init_makes : (b : Bool) (d : ℕ) (Q : Declarator → Type 0) (q : Q (declarator [] no_name no_exprs)) → Makes (both (narrow (declarator_class as_name b d) Q (declarator [] no_name no_exprs) q) (λ _. option_class (value_class b d))) (init_class b d Q q) (λ (x, v). init_by x v)
 init_makes b d Q q = record {
   fits = λ a f. (f.0, value_there b a.1 f.1);
-  spelt = λ c a. ap (λ (ls : List Leaf). (declarator_class b d).leaves c a.0 ++ ls) (value_spelt b d c a.1);
+  spelt = λ c a. ap (λ (ls : List Leaf). (declarator_class as_name b d).leaves c a.0 ++ ls) (value_spelt b d c a.1);
   after = λ c a. sym (value_after b d c a.1);
   back = λ i f. ((i.declarator, i.value), (f.0, there_value b i.value f.1), refl);
 }
@@ -90,7 +49,7 @@ init_info first = record { first = first; goes = goes_init; empty = false }
 
 -- a declarator, and its initialiser
 pub init_lawful : (b : Bool) (d n : ℕ) (here : Level) → Room d n → LevelLawful b d here → (Q : Declarator → Type 0) (q : Q (declarator [] no_name no_exprs)) (first : Sort → Bool) {r : Reads Declarator}
-    → Lawful (narrow (declarator_class b d) Q (declarator [] no_name no_exprs) q) (record { first = first; goes = is_mark marks.OpenBracket; empty = false }) r
+    → Lawful (narrow (declarator_class as_name b d) Q (declarator [] no_name no_exprs) q) (record { first = first; goes = is_mark marks.OpenBracket; empty = false }) r
     → inside (λ s. first s || if_empty false (is_mark marks.Assign) s) first ≡ true → Lawful (init_class b d Q q) (init_info first) (initialised n here r)
 unfolding initialised
 init_lawful b d n here e l Q q first r told = known (tree (joined r (values_lawful b d n here e l) refl) (init_class b d Q q) _ (init_makes b d Q q)) (record { first = told; goes = refl; empty = refl })
@@ -99,11 +58,11 @@ init_lawful b d n here e l Q q first r told = known (tree (joined r (values_lawf
 abbrev pub bare_init_class : Bool → ℕ → Class
 bare_init_class b d = init_class b d (IsBareDeclarator b) (tt, tt)
 
-pub bare_init_lawful : (b : Bool) (d n : ℕ) (here inner : Level) → Room d (suc n) → LevelLawful b d here → LevelLawful b (d + 1) inner → Lawful (bare_init_class b d) (init_info begins_bare_declarator) (initialised (suc n) here (bare_declared (suc n) n inner))
-bare_init_lawful b d n here inner e l m = init_lawful b d (suc n) here e l (IsBareDeclarator b) (tt, tt) begins_bare_declarator (bare_declared_lawful b d n inner e m) refl
+pub bare_init_lawful : (b : Bool) (d n : ℕ) (here inner : Level) → Room d (suc n) → LevelLawful b d here → LevelLawful b (d + 1) inner → Lawful (bare_init_class b d) (init_info begins_bare_declarator) (initialised (suc n) here (bare_declared as_name (suc n) n inner))
+bare_init_lawful b d n here inner e l m = init_lawful b d (suc n) here e l (IsBareDeclarator b) (tt, tt) begins_bare_declarator (bare_declared_lawful as_name b d n inner e m) refl
 
-pub more_init_lawful : (b : Bool) (d n : ℕ) (here inner : Level) → Room d (suc n) → LevelLawful b d here → LevelLawful b (d + 1) inner → Lawful (init_class b d (IsDeclarator b) tt) (init_info begins_declarator) (initialised (suc n) here (declared (suc n) n inner))
-more_init_lawful b d n here inner e l m = init_lawful b d (suc n) here e l (IsDeclarator b) tt begins_declarator (declared_lawful b d n inner e m) refl
+pub more_init_lawful : (b : Bool) (d n : ℕ) (here inner : Level) → Room d (suc n) → LevelLawful b d here → LevelLawful b (d + 1) inner → Lawful (init_class b d (IsDeclarator b) tt) (init_info (begins_declarator as_name)) (initialised (suc n) here (declared as_name (suc n) n inner))
+more_init_lawful b d n here inner e l m = init_lawful b d (suc n) here e l (IsDeclarator b) tt (begins_declarator as_name) (declared_lawful as_name b d n inner e m) refl
 
 -- ---- declarations
 
@@ -145,7 +104,7 @@ declaration_there d n e l m =
     let parts = joined (specs_lawful false d n (level_at false n) e m) (joined all (mark_lawful d (suc n) e marks.Semicolon) refl) refl in
     known (tree parts (declaration_class d) _ (declaration_makes d)) (record { first = refl; goes = refl; empty = refl })
 
-each_deep : (ss : List Spec) → IsSome ss → BeginsDeep (on_each (on_spec 129) ss)
+each_deep : (ss : List Spec) → HasSpecs (specs_of ss) → BeginsDeep (on_each (on_spec 129) ss)
 each_deep [] f = absurd f
 each_deep (s ∷ ss) f = deep_behind (on_spec 129 s) (on_each (on_spec 129) ss) (spec_deep s)
 
@@ -157,7 +116,7 @@ declaration_too_deep = record {
   begins = λ c t h. let s = spec_at false t h in
       let is = (declaration_class 129).some.declarators in (
         record { specs = s.0 ∷ []; declarators = is },
-        ((tt, (s.1, tt)), tt, ((tt, tt), tt)),
+        ((one_spec s.0, (s.1, tt)), tt, ((tt, tt), tt)),
         at_behind t (on_spec 129 s.0 ++ [] ++ on_commas 129 (on_init_declarator 129) is) (at 129 (some_mark marks.Semicolon) ∷ []) (at_behind t (on_spec 129 s.0 ++ []) (on_commas 129 (on_init_declarator 129) is) (at_behind t (on_spec 129 s.0) [] s.2)),
       );
 }

@@ -7,7 +7,7 @@ use Rattle.c_grammar.proofs.Sorts.{apart, are_apart, inside, is_inside}
 use Rattle.c_grammar.proofs.Runs.{Within, Over, Stopped}
 use Rattle.c_grammar.proofs.Lawful.{Class, Info, HeadIn, Headed, Lawful}
 use Rattle.c_grammar.proofs.Joints.{narrow, chosen}
-use Rattle.c_grammar.proofs.Respelling.{alike, Respells, respelt}
+use Rattle.c_grammar.proofs.Respelling.{Respells, respelt}
 
 -- trees that are spelled alike
 pub record Spells (C D : Class) (f : C.Tree → D.Tree) : Type 0 where

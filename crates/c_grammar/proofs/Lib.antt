@@ -23,6 +23,9 @@ mod SizedLaws
 mod LadderLaws
 mod ExprLaws
 mod DeepExprs
+mod ValueLaws
+mod EnumLaws
+mod TaggedLaws
 mod SpecLaws
 mod PointerLaws
 mod DeclaratorLaws
@@ -45,6 +48,11 @@ mod SinkingParts
 mod SinkingFiles
 mod EndLaws
 mod NoEnds
+mod Hearing
+mod HearingFiles
+mod Marks
 mod WholeLaws
 pub mod FileReading
+pub mod TextLaws
 pub mod RowsProof
+pub mod TextRowsProof

@@ -18,7 +18,8 @@ use Rattle.c_grammar.proofs.Loops.{Link, base, Linked, chained, built_from, all_
 use Rattle.c_grammar.proofs.TokenLaws.{Room, plain_class, derived_class, mark_sign, mark_place_sign, name_lawful, mark_lawful, derived_place_lawful, shallow}
 use Rattle.c_grammar.proofs.TreeClasses.{expr_class, LevelLawful}
 use Rattle.c_grammar.proofs.MoreJoints.{joined, either_lawful, comma_rows, commas_lawful, flat_after, some_spelt, commas_spelt}
-use Rattle.c_grammar.proofs.SpecLaws.{no_name, specs_class, specs_lawful, specs_some, some_specs, goes_specs}
+use Rattle.c_grammar.proofs.EnumLaws.{no_name}
+use Rattle.c_grammar.proofs.SpecLaws.{specs_class, specs_lawful, specs_some, some_specs, goes_specs}
 use Rattle.c_grammar.proofs.PointerLaws.{bare_class, bare_lawful}
 use Rattle.c_grammar.proofs.ArgumentLaws.{rank_most}
 

@@ -18,10 +18,11 @@ use Rattle.c_grammar.proofs.TokenLaws.{plain_class, mark_sign, name_lawful, mark
 use Rattle.c_grammar.proofs.TreeClasses.{LevelLawful}
 use Rattle.c_grammar.proofs.MoreJoints.{joined, Forms, formed, either_lawful, behind_comma, flat_after, more_spelt}
 use Rattle.c_grammar.proofs.ArgumentLaws.{listed}
-use Rattle.c_grammar.proofs.SpecLaws.{no_name}
+use Rattle.c_grammar.proofs.EnumLaws.{no_name}
 use Rattle.c_grammar.proofs.PointerLaws.{bare_class, bare_lawful}
 use Rattle.c_grammar.proofs.DeclaratorLaws.{dims_class, dims_lawful, begins_bare_declarator}
-use Rattle.c_grammar.proofs.DeclarationLaws.{value_class, values_lawful, value_spelt, value_after, value_there, there_value, init_class, more_init_lawful}
+use Rattle.c_grammar.proofs.ValueLaws.{value_class, values_lawful, value_spelt, value_after, value_there, there_value}
+use Rattle.c_grammar.proofs.DeclarationLaws.{init_class, more_init_lawful}
 use Rattle.c_grammar.proofs.ParamLaws.{params_class}
 use Rattle.c_grammar.proofs.BodyLaws.{body_class, begins_body}
 

@@ -6,32 +6,28 @@ use Rattle.c_lex.specs.declared.token.Mark.TheVariants as marks
 use Rattle.c_tree.specs.declared.syntax.Name.{Name}
 use Rattle.c_tree.specs.declared.syntax.Pointer.{Pointer}
 use Rattle.c_tree.specs.Syntax.{Expr, Declarator, Stmt, declare, empty}
-use Rattle.c_grammar.specs.Grammar.{stars, rank}
+use Rattle.c_grammar.specs.Grammar.{stars, rank, as_name}
 use Rattle.c_grammar.specs.inner.Readers.{Reads, Sort, ◌&◌, made, full, maybe, pushed}
 use Rattle.c_grammar.specs.inner.Tokens.{tok, name_of, word_is, mark_is, word_place, mark_place, step_of, assign_of, storage_of, end_of, is_mark, is_word, begins_type, begins_expr, begins_simple, is_storage}
-use Rattle.c_grammar.specs.inner.Reading.{Level, commas, either_by, either, declared, bare_declared, level_at, value, initialised, declaration, TailStart, Stepped, Assigned, Nothing, tail_start, tail_by, simple_tail, is_step, simply, condition, first, StmtStart, ABlock, AnEmpty, AnIf, AWhile, AFor, ABreak, AContinue, AReturn, ASimple, stmt_start, begins_stmt, begins_item, items, stmt_by, stmt_at, param_dim, is_name, param_behind, param, params, body, variable_rest, named_rest, external_rest, external, begins_external, file}
+use Rattle.c_grammar.specs.inner.Reading.{Level, commas, either_by, either, declared, bare_declared, level_at, initialised, declaration, TailStart, Stepped, Assigned, Nothing, tail_start, tail_by, simple_tail, is_step, simply, condition, first, StmtStart, ABlock, AnEmpty, AnIf, AWhile, AFor, ABreak, AContinue, AReturn, ASimple, stmt_start, begins_stmt, begins_item, items, stmt_by, stmt_at, param_dim, is_name, param_behind, param, params, body, variable_rest, named_rest, external_rest, typedef, external, begins_external, file, typed, ADo, ASwitch, label, is_label, begins_entry, entries}
 use Rattle.c_grammar.proofs.Sorts.{is_inside}
 use Rattle.c_grammar.proofs.Steadiness.{Takes}
 use Rattle.c_grammar.proofs.Sinking.{Sinks, take_takes, Fine, Nested, Enters, enters_nested, enters, less_fine, fine_nothing, fine_both, nested_both, fine_made, nested_made, fine_full, nested_full, fine_tok, behind_tok, nested_derived, nested_too_deep, nested_room, fine_choice, fine_maybe, fine_either, fine_chain, takes_both, takes_made, takes_choice, fine_as}
-use Rattle.c_grammar.proofs.SinkingParts.{place_sorts, nested_mark, nested_place, enters_at, tok_takes, fine_row, fine_commas, LevelSinks, specs_sink, specs_takes, bare_sink, dims_sink, declared_sink, bare_declared_sink, deep_takes, level_sinks}
+use Rattle.c_grammar.proofs.SinkingParts.{place_sorts, nested_mark, nested_place, enters_at, tok_takes, fine_row, fine_commas, LevelSinks, value_sink, specs_sink, specs_takes, bare_sink, dims_sink, declared_sink, bare_declared_sink, deep_takes, level_sinks, any_sink}
 
 -- ---- declarations
-
-value_sink : (n : ℕ) (here : Level) → LevelSinks n here → Fine n (value n here)
-unfolding value
-value_sink n here l = fine_made _ (fine_both (fine_tok n (mark_is marks.Assign)) (λ _. fine_full l.expr.law))
 
 initialised_sink : (n : ℕ) (here : Level) → LevelSinks n here → {d : Reads Declarator} → Fine n d → Fine n (initialised n here d)
 unfolding initialised
 initialised_sink n here l m = fine_made _ (fine_both m (λ _. fine_maybe (is_mark marks.Assign) (enters (value_sink n here l) (λ x. is_mark marks.Assign x ≡ true))))
 
 -- the declarators of a declaration, and their semicolon
-declaration_rest : (n : ℕ) → Fine (suc n) (commas (suc n) (initialised (suc n) (level_at false (suc n)) (bare_declared (suc n) n (level_at false n))) (initialised (suc n) (level_at false (suc n)) (declared (suc n) n (level_at false n))) & tok (suc n) (mark_is marks.Semicolon))
+declaration_rest : (n : ℕ) → Fine (suc n) (commas (suc n) (initialised (suc n) (level_at false (suc n)) (bare_declared as_name (suc n) n (level_at false n))) (initialised (suc n) (level_at false (suc n)) (declared as_name (suc n) n (level_at false n))) & tok (suc n) (mark_is marks.Semicolon))
 declaration_rest n =
     let here = level_sinks false (suc n) in
     let inner = level_sinks false n in
-    let head = initialised_sink (suc n) (level_at false (suc n)) here (bare_declared_sink n (level_at false n) inner) in
-    let more = initialised_sink (suc n) (level_at false (suc n)) here (declared_sink n (level_at false n) inner) in
+    let head = initialised_sink (suc n) (level_at false (suc n)) here (bare_declared_sink as_name n (level_at false n) inner) in
+    let more = initialised_sink (suc n) (level_at false (suc n)) here (declared_sink as_name n (level_at false n) inner) in
     fine_both (fine_commas (suc n) head more) (λ _. fine_tok (suc n) (mark_is marks.Semicolon))
 
 declaration_sink : (n : ℕ) → Nested n begins_type (declaration n)
@@ -107,6 +103,27 @@ for_rest n l =
     let step = fine_maybe begins_simple (enters (simply_sink n).law (λ x. begins_simple x ≡ true)) in
     fine_both (first_sink n) (λ _. fine_both (maybe_expr_sink n) (λ _. fine_both (fine_tok n (mark_is marks.Semicolon)) (λ _. fine_both step (λ _. fine_both (fine_tok n (mark_is marks.CloseParen)) (λ _. l)))))
 
+label_sink : (n : ℕ) → Fine n (label n)
+unfolding label
+label_sink n =
+    let of_case = fine_made _ (fine_both (fine_tok n (word_place words.Case)) (λ _. fine_both (fine_full (level_sinks false n).expr.law) (λ _. fine_tok n (mark_is marks.Colon)))) in
+    let of_default = fine_made _ (fine_both (fine_tok n (word_place words.Default)) (λ _. fine_tok n (mark_is marks.Colon))) in
+    fine_either (is_word words.Case) (enters of_case (λ x. is_word words.Case x ≡ true)) (enters of_default (λ x. is_word words.Case x ≡ false))
+
+label_takes : (n : ℕ) → Takes (label n)
+unfolding label
+label_takes n = takes_choice (λ s. Some (is_word words.Case s)) (either_by _ _) (elim [
+  | true ↦ takes_made _ (takes_both (tok_takes n (word_place words.Case)) (λ _. (fine_both (fine_full (level_sinks false n).expr.law) (λ _. fine_tok n (mark_is marks.Colon))).steady))
+  | false ↦ takes_made _ (takes_both (tok_takes n (word_place words.Default)) (λ _. (fine_tok n (mark_is marks.Colon)).steady))
+])
+
+entries_sink : (n : ℕ) (stmt : Reads Stmt) → Fine n stmt → Takes stmt → Nested n (is_mark marks.OpenBrace) (entries n stmt)
+unfolding entries
+entries_sink n stmt l k =
+    let entry = fine_either is_label (enters (label_sink n) (λ x. is_label x ≡ true)) (enters l (λ x. is_label x ≡ false)) in
+    let takes = takes_choice (λ s. Some (is_label s)) (either_by (label n) stmt) (elim [ true ↦ label_takes n | false ↦ k ]) in
+    nested_made _ (nested_both (nested_mark n marks.OpenBrace) (λ _. fine_both (fine_row begins_entry (enters entry (λ x. begins_entry x ≡ true)) takes) (λ _. fine_tok n (mark_is marks.CloseBrace))))
+
 stmt_part : (n : ℕ) {inner : Reads Stmt} → Nested n begins_stmt inner → Takes inner → (s : StmtStart) → Enters (suc n) (λ x. stmt_start x ≡ Some s) (stmt_by (suc n) n inner s)
 stmt_part n {inner = inner} l k ABlock = enters_nested n (suc n) (is_mark marks.OpenBrace) (nested_made _ (items_sink n inner l.law k)) (λ x. stmt_start x ≡ Some ABlock) block_is
 stmt_part n l k AnEmpty = enters (fine_made empty (fine_tok (suc n) (mark_place marks.Semicolon))) (λ x. stmt_start x ≡ Some AnEmpty)
@@ -115,6 +132,10 @@ stmt_part n l k AnIf =
     enters (fine_made _ (behind_tok (suc n) n (word_place words.If) (nested_both (condition_sink n) (λ _. fine_both l.law (λ _. less_fine otherwise))))) (λ x. stmt_start x ≡ Some AnIf)
 stmt_part n l k AWhile = enters (fine_made _ (behind_tok (suc n) n (word_place words.While) (nested_both (condition_sink n) (λ _. l.law)))) (λ x. stmt_start x ≡ Some AWhile)
 stmt_part n l k AFor = enters (fine_made _ (behind_tok (suc n) n (word_place words.For) (nested_both (nested_mark n marks.OpenParen) (λ _. for_rest n l.law)))) (λ x. stmt_start x ≡ Some AFor)
+stmt_part n l k ADo =
+    let last = behind_tok (suc n) n (word_is words.While) (nested_both (condition_sink n) (λ _. less_fine (fine_tok (suc n) (mark_is marks.Semicolon)))) in
+    enters (fine_made _ (behind_tok (suc n) n (word_place words.Do) (nested_both l (λ _. less_fine last)))) (λ x. stmt_start x ≡ Some ADo)
+stmt_part n {inner = inner} l k ASwitch = enters (fine_made _ (behind_tok (suc n) n (word_place words.Switch) (nested_both (condition_sink n) (λ _. (entries_sink n inner l.law k).law)))) (λ x. stmt_start x ≡ Some ASwitch)
 stmt_part n l k ABreak = enters (fine_made _ (fine_both (fine_tok (suc n) (word_place words.Break)) (λ _. fine_tok (suc n) (mark_is marks.Semicolon)))) (λ x. stmt_start x ≡ Some ABreak)
 stmt_part n l k AContinue = enters (fine_made _ (fine_both (fine_tok (suc n) (word_place words.Continue)) (λ _. fine_tok (suc n) (mark_is marks.Semicolon)))) (λ x. stmt_start x ≡ Some AContinue)
 stmt_part n l k AReturn = enters (fine_made _ (fine_both (fine_tok (suc n) (word_place words.Return)) (λ _. fine_both (maybe_expr_sink (suc n)) (λ _. fine_tok (suc n) (mark_is marks.Semicolon))))) (λ x. stmt_start x ≡ Some AReturn)
@@ -168,11 +189,11 @@ body_sink k =
     fine_either (is_mark marks.OpenBrace) (enters (fine_made _ block) (λ x. is_mark marks.OpenBrace x ≡ true)) (enters (fine_made _ (fine_tok 129 (mark_is marks.Semicolon))) (λ x. is_mark marks.OpenBrace x ≡ false))
 
 -- one more declarator at file scope, behind its comma
-more_sink : Fine 129 (made (λ (_, i). i) (tok 129 (mark_is marks.Comma) & initialised 129 (level_at true 129) (declared 129 128 (level_at true 128))))
-more_sink = fine_made _ (fine_both (fine_tok 129 (mark_is marks.Comma)) (λ _. initialised_sink 129 (level_at true 129) (level_sinks true 129) (declared_sink 128 (level_at true 128) (level_sinks true 128))))
+more_sink : Fine 129 (made (λ (_, i). i) (tok 129 (mark_is marks.Comma) & initialised 129 (level_at true 129) (declared as_name 129 128 (level_at true 128))))
+more_sink = fine_made _ (fine_both (fine_tok 129 (mark_is marks.Comma)) (λ _. initialised_sink 129 (level_at true 129) (level_sinks true 129) (declared_sink as_name 128 (level_at true 128) (level_sinks true 128))))
 
-more_takes : Takes (made (λ (_, i). i) (tok 129 (mark_is marks.Comma) & initialised 129 (level_at true 129) (declared 129 128 (level_at true 128))))
-more_takes = takes_made _ (takes_both (tok_takes 129 (mark_is marks.Comma)) (λ _. (initialised_sink 129 (level_at true 129) (level_sinks true 129) (declared_sink 128 (level_at true 128) (level_sinks true 128))).steady))
+more_takes : Takes (made (λ (_, i). i) (tok 129 (mark_is marks.Comma) & initialised 129 (level_at true 129) (declared as_name 129 128 (level_at true 128))))
+more_takes = takes_made _ (takes_both (tok_takes 129 (mark_is marks.Comma)) (λ _. (initialised_sink 129 (level_at true 129) (level_sinks true 129) (declared_sink as_name 128 (level_at true 128) (level_sinks true 128))).steady))
 
 variable_sink : (ps : List Pointer) (n : Name) → Fine 129 (variable_rest ps n)
 unfolding variable_rest
@@ -191,11 +212,17 @@ external_rest_sink k =
     let declared = fine_made _ (fine_both (bare_sink 129) (λ ps. fine_both (fine_tok 129 name_of) (named_rest_sink k ps))) in
     fine_either (is_mark marks.Semicolon) (enters (fine_made _ (fine_tok 129 (mark_is marks.Semicolon))) (λ x. is_mark marks.Semicolon x ≡ true)) (enters declared (λ x. is_mark marks.Semicolon x ≡ false))
 
+typedef_sink : Fine 129 typedef
+unfolding typedef
+typedef_sink =
+    fine_made _ (fine_both (fine_tok 129 (word_is words.Typedef)) (λ _. fine_both (specs_sink true 128 (level_at true 128) (level_sinks true 128)) (λ ss. any_sink 128 (level_at true 128) (level_sinks true 128) (typed false ss))))
+
 external_sink : StmtsTake 128 → Fine 129 external
 unfolding external
 external_sink k =
     let storage = fine_row is_storage (enters (fine_tok 129 storage_of) (λ x. is_storage x ≡ true)) (tok_takes 129 storage_of) in
-    fine_made _ (fine_both storage (λ _. fine_both (specs_sink true 128 (level_at true 128) (level_sinks true 128)) (λ _. external_rest_sink k)))
+    let other = fine_made _ (fine_both storage (λ _. fine_both (specs_sink true 128 (level_at true 128) (level_sinks true 128)) (λ _. external_rest_sink k))) in
+    fine_either (is_word words.Typedef) (enters typedef_sink (λ x. is_word words.Typedef x ≡ true)) (enters other (λ x. is_word words.Typedef x ≡ false))
 
 -- a whole file
 pub file_sinks : StmtsTake 128 → Takes external → Sinks file

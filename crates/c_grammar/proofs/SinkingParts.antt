@@ -1,24 +1,25 @@
 -- Where whatever may stand in a place lies too deep, for the productions of expressions, types and declarators.
-use Rattle.std.proofs.Common.{◌≡◌, ℕ, zero, suc, ◌+◌, List, [], ◌∷◌, length, Option, Some, None, Ok, Bool, true, false, refl}
+use Rattle.std.proofs.Common.{◌≡◌, ℕ, zero, suc, ◌+◌, List, [], ◌∷◌, length, Option, Some, Ok, Bool, true, false, refl}
 use denote.Enum.Bare.{sameb}
 use Rattle.c_lex.specs.declared.token.Word.TheVariants as words
 use Rattle.c_lex.specs.declared.token.Mark.{Mark}
 use Rattle.c_lex.specs.declared.token.Mark.TheVariants as marks
-use Rattle.c_lex.specs.declared.token.TokenKind.{TokenKind}
-use Rattle.c_lex.specs.declared.token.TokenKind.TheVariants as kinds
-use Rattle.c_lex.specs.declared.token.Token.{Token}
+use Rattle.c_grammar.specs.declared.terminal.TerminalKind.{TerminalKind}
+use Rattle.c_grammar.specs.declared.terminal.TerminalKind.TheVariants as kinds
+use Rattle.c_grammar.specs.declared.terminal.Terminal.{Terminal}
 use Rattle.c_lex.specs.contracts.token.Mark.{the_type as mark_type}
 use Rattle.c_tree.specs.declared.syntax.Pointer.{Pointer}
 use Rattle.c_tree.specs.declared.syntax.Pointer.TheVariants.{Star, Const, Restrict}
 use Rattle.c_tree.specs.Syntax.{Expr}
-use Rattle.c_grammar.specs.Grammar.{stars}
+use Rattle.c_tree.specs.Syntax as trees
+use Rattle.c_grammar.specs.Grammar.{stars, Naming, as_any, naming_of}
 use Rattle.c_grammar.specs.Leaves.{if_so}
-use Rattle.c_grammar.specs.inner.Readers.{Got, Reads, Sort, sort_of_kind, ◌&◌, choice, refused, too_deep, pushed, row, row_from}
-use Rattle.c_grammar.specs.inner.Tokens.{tok, name_of, int_of, char_of, text_of, word_is, mark_is, mark_of_kind, word_place, mark_place, prefix_of, binary_of, type_word_of, is_some, is_mark, is_word, is_text, is_binary, begins_type, begins_expr, is_pointer}
-use Rattle.c_grammar.specs.inner.Reading.{Level, commas, arguments, named, texts, Operand, Named, AnInt, AChar, Texts, NullWord, operand_start, operand_by, operand, PostStart, Bracket, Dot, Arrow, post_start, begins_post, post_by, post, posted, group_rest, UnaryStart, Primary, Paren, Prefix, Sizeof, unary_start, unary_by, unary, paren_rest, cast_by, casted, sized, ladder, expr, SpecStart, TypeWords, StructWord, spec_start, members, members_where, spec_by, spec, specs, pointer_start, pointer_by, pointers, unless, bare_pointers, type_named, dim, dims, declarator_behind, declared, bare_declared, membered, level_by, no_level, level_at}
+use Rattle.c_grammar.specs.inner.Readers.{Got, Reads, Sort, sort_of_kind, ◌&◌, made, choice, refused, too_deep, maybe, pushed, row, row_from}
+use Rattle.c_grammar.specs.inner.Tokens.{tok, name_of, tag_of, type_name_of, is_type_name, int_of, char_of, text_of, word_is, mark_is, mark_of_kind, word_place, mark_place, prefix_of, binary_of, type_word_of, is_some, is_mark, is_word, is_text, is_binary, begins_type, begins_expr, is_pointer}
+use Rattle.c_grammar.specs.inner.Reading.{Level, commas, arguments, named, texts, Operand, Named, AnInt, AChar, Texts, NullWord, operand_start, operand_by, operand, PostStart, Bracket, Dot, Arrow, post_start, begins_post, post_by, post, posted, group_rest, UnaryStart, Primary, Paren, Prefix, Sizeof, unary_start, unary_by, unary, paren_rest, cast_by, casted, sized, ladder, expr, value, enumerated, parted, begins_enumerator, enumerators, by_tag, by_body, tagged, SpecStart, TypeWords, StructWord, EnumWord, spec_start, members, spec_by, spec, spec_behind, typed, begins_spec, either_by, specs, pointer_start, pointer_by, pointers, unless, bare_pointers, type_named, dim, dims, declarator_behind, declared, bare_declared, membered, level_by, no_level, level_at, declared_name, any_declared}
 use Rattle.c_grammar.proofs.Sorts.{is_inside}
 use Rattle.c_grammar.proofs.Steadiness.{Takes}
-use Rattle.c_grammar.proofs.Sinking.{take_takes, Fine, Nested, Enters, enters_nested, enters, less_fine, less_enters, fine_nothing, fine_both, nested_both, fine_made, nested_made, fine_full, fine_tok, fine_counted, behind_tok, OfSorts, nested_tok, nested_counted, nested_derived, nested_too_deep, nested_room, fine_choice, fine_maybe, fine_either, fine_chain, nested_chain, takes_both, takes_made, takes_choice, takes_chain}
+use Rattle.c_grammar.proofs.Sinking.{take_takes, Fine, Nested, Enters, enters_nested, enters, less_fine, less_enters, fine_nothing, fine_both, nested_both, fine_made, nested_made, fine_full, fine_tok, fine_counted, behind_tok, OfSorts, nested_tok, nested_counted, nested_derived, nested_too_deep, nested_room, fine_choice, fine_maybe, fine_either, fine_chain, fine_chain_by, nested_chain, takes_both, takes_made, takes_choice, takes_chain}
 
 -- ---- marks
 
@@ -29,14 +30,14 @@ some_so false a = refl
 mark_sorts : (m : Mark) → OfSorts (is_mark m) (mark_is m)
 mark_sorts m t = by_kind t.kind
   where
-    by_kind : (k : TokenKind) → is_some {A = Unit {0}} (mark_of_kind (λ j. if_so (sameb mark_type j m) tt) k) ≡ is_mark m (sort_of_kind k)
+    by_kind : (k : TerminalKind) → is_some {A = Unit {0}} (mark_of_kind (λ j. if_so (sameb mark_type j m) tt) k) ≡ is_mark m (sort_of_kind k)
     by_kind (kinds.Mark j) = some_so (sameb mark_type j m) tt
     by_kind _ = refl
 
 pub place_sorts : (m : Mark) → OfSorts (is_mark m) (mark_place m)
 place_sorts m t = by_kind t.kind
   where
-    by_kind : (k : TokenKind) → is_some (mark_of_kind (λ j. if_so (sameb mark_type j m) t.from) k) ≡ is_mark m (sort_of_kind k)
+    by_kind : (k : TerminalKind) → is_some (mark_of_kind (λ j. if_so (sameb mark_type j m) t.from) k) ≡ is_mark m (sort_of_kind k)
     by_kind (kinds.Mark j) = some_so (sameb mark_type j m) t.from
     by_kind _ = refl
 
@@ -50,7 +51,7 @@ nested_place n m = nested_tok n (is_mark m) (mark_place m) (place_sorts m)
 pub enters_at : {A : Type 0} (d : ℕ) (start : Sort → Bool) {r : Reads A} → Nested d start r → Enters (suc d) (λ x. start x ≡ true) r
 enters_at d start l = enters_nested d (suc d) start l (λ x. start x ≡ true) (λ x e. e)
 
-pub tok_takes : {A : Type 0} (n : ℕ) (class : Token → Option A) → Takes (tok n class)
+pub tok_takes : {A : Type 0} (n : ℕ) (class : Terminal → Option A) → Takes (tok n class)
 tok_takes n class = take_takes class _ _
 
 -- ---- rows
@@ -112,8 +113,8 @@ bracket_sink d inner l = nested_made _ (nested_both (nested_counted d (is_mark m
 
 post_part : (d : ℕ) (inner : Level) → LevelSinks d inner → (s : PostStart) → Enters (suc d) (λ x. post_start x ≡ Some s) (post_by (suc d) d inner s)
 post_part d inner l Bracket = enters_nested d (suc d) (is_mark marks.OpenBracket) (bracket_sink d inner l) (λ x. post_start x ≡ Some Bracket) (λ x e. is_inside (λ x. is_bracket (post_start x)) (is_mark marks.OpenBracket) refl x (rw e refl))
-post_part d inner l Dot = enters (fine_made _ (fine_both (fine_counted (suc d) (mark_place marks.Dot)) (λ _. fine_tok (suc d) name_of))) (λ x. post_start x ≡ Some Dot)
-post_part d inner l Arrow = enters (fine_made _ (fine_both (fine_counted (suc d) (mark_place marks.Arrow)) (λ _. fine_tok (suc d) name_of))) (λ x. post_start x ≡ Some Arrow)
+post_part d inner l Dot = enters (fine_made _ (fine_both (fine_counted (suc d) (mark_place marks.Dot)) (λ _. fine_tok (suc d) tag_of))) (λ x. post_start x ≡ Some Dot)
+post_part d inner l Arrow = enters (fine_made _ (fine_both (fine_counted (suc d) (mark_place marks.Arrow)) (λ _. fine_tok (suc d) tag_of))) (λ x. post_start x ≡ Some Arrow)
 
 post_sink : (d : ℕ) (inner : Level) → LevelSinks d inner → Fine (suc d) (post (suc d) d inner)
 unfolding post
@@ -123,8 +124,8 @@ post_takes : (d : ℕ) (inner : Level) → LevelSinks d inner → Takes (post (s
 unfolding post
 post_takes d inner l = takes_choice post_start (post_by (suc d) d inner) (elim [
   | Bracket ↦ takes_made _ (takes_both (take_takes (mark_place marks.OpenBracket) _ _) (λ _. (fine_both l.expr.law (λ _. fine_tok d (mark_is marks.CloseBracket))).steady))
-  | Dot ↦ takes_made _ (takes_both (take_takes (mark_place marks.Dot) _ _) (λ _. (fine_tok (suc d) name_of).steady))
-  | Arrow ↦ takes_made _ (takes_both (take_takes (mark_place marks.Arrow) _ _) (λ _. (fine_tok (suc d) name_of).steady))
+  | Dot ↦ takes_made _ (takes_both (take_takes (mark_place marks.Dot) _ _) (λ _. (fine_tok (suc d) tag_of).steady))
+  | Arrow ↦ takes_made _ (takes_both (take_takes (mark_place marks.Arrow) _ _) (λ _. (fine_tok (suc d) tag_of).steady))
 ])
 
 group_sink : (d : ℕ) (inner : Level) → LevelSinks d inner → Nested d begins_expr (group_rest (suc d) d inner)
@@ -197,13 +198,40 @@ members_sink d inner l =
     let all = fine_row_from l.member.law begins_type (enters l.member.law (λ x. begins_type x ≡ true)) l.member_takes in
     nested_made _ (nested_both (nested_mark d marks.OpenBrace) (λ _. fine_both all (λ _. fine_tok d (mark_is marks.CloseBrace))))
 
-members_where_sink : (b : Bool) (d : ℕ) (inner : Level) → LevelSinks d inner → Fine (suc d) (members_where b d inner)
-members_where_sink true d inner l = fine_maybe (is_mark marks.OpenBrace) (enters_at d (is_mark marks.OpenBrace) (members_sink d inner l))
-members_where_sink false d inner l = fine_nothing (suc d) None
+pub value_sink : (n : ℕ) (here : Level) → LevelSinks n here → Fine n (value n here)
+unfolding value
+value_sink n here l = fine_made _ (fine_both (fine_tok n (mark_is marks.Assign)) (λ _. fine_full l.expr.law))
+
+enumerated_rest : (d : ℕ) (inner : Level) → LevelSinks d inner → Fine d (maybe (is_mark marks.Assign) (value d inner) & maybe (is_mark marks.Comma) (tok d (mark_is marks.Comma)))
+enumerated_rest d inner l = fine_both (fine_maybe (is_mark marks.Assign) (enters (value_sink d inner l) (λ x. is_mark marks.Assign x ≡ true)))
+    (λ _. fine_maybe (is_mark marks.Comma) (enters (fine_tok d (mark_is marks.Comma)) (λ x. is_mark marks.Comma x ≡ true)))
+
+enumerated_sink : (d : ℕ) (inner : Level) → LevelSinks d inner → Fine d (enumerated d inner)
+unfolding enumerated
+enumerated_sink d inner l = fine_made _ (fine_both (fine_tok d name_of) (λ _. enumerated_rest d inner l))
+
+enumerated_takes : (d : ℕ) (inner : Level) → LevelSinks d inner → Takes (enumerated d inner)
+unfolding enumerated
+enumerated_takes d inner l = takes_made _ (takes_both (tok_takes d name_of) (λ _. (enumerated_rest d inner l).steady))
+
+enumerators_sink : (d : ℕ) (inner : Level) → LevelSinks d inner → Nested d (is_mark marks.OpenBrace) (enumerators d inner)
+unfolding enumerators
+enumerators_sink d inner l =
+    let part = enumerated_sink d inner l in
+    let all = fine_chain_by (fine_made (λ e. e ∷ []) part) (λ front. begins_enumerator (parted true front)) (λ front. enumerated d inner) pushed
+    (λ front. enters part (λ x. begins_enumerator (parted true front) x ≡ true)) (λ front. enumerated_takes d inner l) in
+    nested_made _ (nested_both (nested_mark d marks.OpenBrace) (λ _. fine_both all (λ _. fine_tok d (mark_is marks.CloseBrace))))
+
+tagged_sink : {A : Type 0} (b : Bool) (d : ℕ) {body : Reads A} → Nested d (is_mark marks.OpenBrace) body → Fine (suc d) (tagged b (suc d) body)
+tagged_sink true d l =
+    let tag = fine_both (fine_tok (suc d) tag_of) (λ _. fine_maybe (is_mark marks.OpenBrace) (enters_at d (is_mark marks.OpenBrace) l)) in
+    fine_either (is_mark marks.OpenBrace) (enters_at d (is_mark marks.OpenBrace) (nested_made by_body l)) (enters (fine_made _ tag) (λ x. is_mark marks.OpenBrace x ≡ false))
+tagged_sink false d l = fine_made by_tag (fine_tok (suc d) tag_of)
 
 spec_part : (b : Bool) (d : ℕ) (inner : Level) → LevelSinks d inner → (s : SpecStart) → Fine (suc d) (spec_by b (suc d) d inner s)
 spec_part b d inner l TypeWords = fine_made _ (fine_tok (suc d) type_word_of)
-spec_part b d inner l StructWord = fine_made _ (fine_both (fine_tok (suc d) (word_place words.Struct)) (λ _. fine_both (fine_tok (suc d) name_of) (λ _. members_where_sink b d inner l)))
+spec_part b d inner l StructWord = fine_made _ (fine_both (fine_tok (suc d) (word_place words.Struct)) (λ _. tagged_sink b d (members_sink d inner l)))
+spec_part b d inner l EnumWord = fine_made _ (fine_both (fine_tok (suc d) (word_place words.Enum)) (λ _. tagged_sink b d (enumerators_sink d inner l)))
 
 spec_sink : (b : Bool) (d : ℕ) (inner : Level) → LevelSinks d inner → Fine (suc d) (spec b (suc d) d inner)
 unfolding spec
@@ -213,18 +241,28 @@ spec_takes : (b : Bool) (d : ℕ) (inner : Level) → LevelSinks d inner → Tak
 unfolding spec
 spec_takes b d inner l = takes_choice spec_start (spec_by b (suc d) d inner) (elim [
   | TypeWords ↦ takes_made _ (tok_takes (suc d) type_word_of)
-  | StructWord ↦ takes_made _ (takes_both (tok_takes (suc d) (word_place words.Struct)) (λ _. (fine_both (fine_tok (suc d) name_of) (λ _. members_where_sink b d inner l)).steady))
+  | StructWord ↦ takes_made _ (takes_both (tok_takes (suc d) (word_place words.Struct)) (λ _. (tagged_sink b d (members_sink d inner l)).steady))
+  | EnumWord ↦ takes_made _ (takes_both (tok_takes (suc d) (word_place words.Enum)) (λ _. (tagged_sink b d (enumerators_sink d inner l)).steady))
 ])
+
+behind_sink_by : (b : Bool) (d : ℕ) (inner : Level) → LevelSinks d inner → (t : Bool) → Fine (suc d) (spec_behind b (suc d) d inner t)
+behind_sink_by b d inner l true = spec_sink b d inner l
+behind_sink_by b d inner l false = fine_either is_type_name (enters (fine_made trees.alias (fine_tok (suc d) type_name_of)) (λ x. is_type_name x ≡ true)) (enters (spec_sink b d inner l) (λ x. is_type_name x ≡ false))
+
+behind_takes : (b : Bool) (d : ℕ) (inner : Level) → LevelSinks d inner → (t : Bool) → Takes (spec_behind b (suc d) d inner t)
+behind_takes b d inner l true = spec_takes b d inner l
+behind_takes b d inner l false = takes_choice (λ s. Some (is_type_name s)) (either_by (made trees.alias (tok (suc d) type_name_of)) (spec b (suc d) d inner)) (elim [ true ↦ takes_made trees.alias (tok_takes (suc d) type_name_of) | false ↦ spec_takes b d inner l ])
 
 pub specs_sink : (b : Bool) (d : ℕ) (inner : Level) → LevelSinks d inner → Fine (suc d) (specs b (suc d) d inner)
 unfolding specs
-specs_sink b d inner l = fine_row_from (spec_sink b d inner l) begins_type (enters (spec_sink b d inner l) (λ x. begins_type x ≡ true)) (spec_takes b d inner l)
+specs_sink b d inner l = fine_chain_by (fine_made (λ s. s ∷ []) (behind_sink_by b d inner l false)) (λ front. begins_spec (typed false front)) (λ front. spec_behind b (suc d) d inner (typed false front)) pushed
+    (λ front. enters (behind_sink_by b d inner l (typed false front)) (λ x. begins_spec (typed false front) x ≡ true)) (λ front. behind_takes b d inner l (typed false front))
 
 pub specs_takes : (b : Bool) (d : ℕ) (inner : Level) → LevelSinks d inner → Takes (specs b (suc d) d inner)
 unfolding specs
 specs_takes b d inner l =
-    let more = enters (spec_sink b d inner l) (λ x. begins_type x ≡ true) in
-    takes_chain (takes_made (λ a. a ∷ []) (spec_takes b d inner l)) begins_type (λ _. spec b (suc d) d inner) pushed (λ _. more.steady) (λ _. spec_takes b d inner l)
+    takes_chain (takes_made (λ s. s ∷ []) (behind_takes b d inner l false)) (λ front. begins_spec (typed false front)) (λ front. spec_behind b (suc d) d inner (typed false front)) pushed
+    (λ front. (enters (behind_sink_by b d inner l (typed false front)) (λ x. begins_spec (typed false front) x ≡ true)).steady) (λ front. behind_takes b d inner l (typed false front))
 
 pointer_part : (n k : ℕ) (p : Pointer) → Fine n (pointer_by n k p)
 pointer_part n k Star = fine_made _ (nested_derived n k (is_mark marks.Star) (mark_is marks.Star) (mark_sorts marks.Star)).law
@@ -262,33 +300,34 @@ pub dims_sink : (d : ℕ) (inner : Level) → LevelSinks d inner → (k : ℕ) �
 unfolding dims
 dims_sink d inner l k = fine_chain (fine_nothing (suc d) []) (is_mark marks.OpenBracket) (λ front. dim d inner (k + length front)) pushed (λ front. enters_at d (is_mark marks.OpenBracket) (dim_sink d inner l (k + length front))) (λ front. dim_takes d inner l (k + length front))
 
-behind_sink : (d : ℕ) (inner : Level) → LevelSinks d inner → (ps : List Pointer) → Fine (suc d) (declarator_behind (suc d) d inner ps)
+behind_sink : (k : Naming) (d : ℕ) (inner : Level) → LevelSinks d inner → (ps : List Pointer) → Fine (suc d) (declarator_behind k (suc d) d inner ps)
 unfolding declarator_behind
-behind_sink d inner l ps = fine_made _ (fine_both (fine_tok (suc d) name_of) (λ _. dims_sink d inner l (stars 0 ps)))
+behind_sink k d inner l ps = fine_made _ (fine_both (fine_tok (suc d) (declared_name k ps)) (λ _. dims_sink d inner l (stars 0 ps)))
 
-pub declared_sink : (d : ℕ) (inner : Level) → LevelSinks d inner → Fine (suc d) (declared (suc d) d inner)
+pub declared_sink : (k : Naming) (d : ℕ) (inner : Level) → LevelSinks d inner → Fine (suc d) (declared k (suc d) d inner)
 unfolding declared
-declared_sink d inner l = fine_made _ (fine_both (pointers_sink (suc d)) (behind_sink d inner l))
+declared_sink k d inner l = fine_made _ (fine_both (pointers_sink (suc d)) (behind_sink k d inner l))
 
-pub bare_declared_sink : (d : ℕ) (inner : Level) → LevelSinks d inner → Fine (suc d) (bare_declared (suc d) d inner)
+pub bare_declared_sink : (k : Naming) (d : ℕ) (inner : Level) → LevelSinks d inner → Fine (suc d) (bare_declared k (suc d) d inner)
 unfolding bare_declared
-bare_declared_sink d inner l = fine_made _ (fine_both (bare_sink (suc d)) (behind_sink d inner l))
+bare_declared_sink k d inner l = fine_made _ (fine_both (bare_sink (suc d)) (behind_sink k d inner l))
 
--- the declarators of a member, and their semicolon
-member_rest : (d : ℕ) (inner : Level) → LevelSinks d inner → Fine (suc d) (commas (suc d) (bare_declared (suc d) d inner) (declared (suc d) d inner) & tok (suc d) (mark_is marks.Semicolon))
-member_rest d inner l = fine_both (fine_commas (suc d) (bare_declared_sink d inner l) (declared_sink d inner l)) (λ _. fine_tok (suc d) (mark_is marks.Semicolon))
+-- the declarators of a member or a typedef, and their semicolon
+pub any_sink : (d : ℕ) (inner : Level) → LevelSinks d inner → (t : Bool) → Fine (suc d) (any_declared (suc d) d inner t)
+unfolding any_declared
+any_sink d inner l t = fine_both (fine_commas (suc d) (bare_declared_sink (naming_of t) d inner l) (declared_sink as_any d inner l)) (λ _. fine_tok (suc d) (mark_is marks.Semicolon))
 
 member_sink : (d : ℕ) (inner : Level) → LevelSinks d inner → Fine (suc d) (membered (suc d) d inner)
 unfolding membered
-member_sink d inner l = fine_made _ (fine_both (specs_sink true d inner l) (λ _. member_rest d inner l))
+member_sink d inner l = fine_made _ (fine_both (specs_sink true d inner l) (λ ss. any_sink d inner l (typed false ss)))
 
 member_takes : (d : ℕ) (inner : Level) → LevelSinks d inner → Takes (membered (suc d) d inner)
 unfolding membered
-member_takes d inner l = takes_made _ (takes_both (specs_takes true d inner l) (λ _. (member_rest d inner l).steady))
+member_takes d inner l = takes_made _ (takes_both (specs_takes true d inner l) (λ ss. (any_sink d inner l (typed false ss)).steady))
 
 -- ---- the levels
 
-refused_none : {A : Type 0} (t : Token) (ts : List Token) (b : Bool) (x : Got A) → refused t ts b ≡ Ok x → ⊥
+refused_none : {A : Type 0} (t : Terminal) (ts : List Terminal) (b : Bool) (x : Got A) → refused t ts b ≡ Ok x → ⊥
 refused_none t ts true x e = cc
 refused_none t ts false x e = cc
 

@@ -1,5 +1,5 @@
 -- The grammar (C11 6.5 to 6.9): the tokens of each tree, from left to right, and which trees are in it.
-use Rattle.std.specs.Prelude.{◌≡◌, ℕ, ◌+◌, ◌≤◌, List, [], ◌∷◌, ◌++◌, map, Option, Some, None, Bool, true, false}
+use Rattle.std.specs.Prelude.{◌≡◌, ℕ, ◌+◌, ◌≤◌, List, [], ◌∷◌, ◌++◌, map, Option, Some, None, Bool, true, false, ◌||◌}
 use Rattle.std.specs.List.{AllByRecursion}
 use Rattle.ak_words.specs.declared.operation.Op.TheVariants as ops
 use Rattle.c_lex.specs.declared.token.Word.{Word}
@@ -21,8 +21,8 @@ use Rattle.c_tree.specs.declared.syntax.StepOp.{StepOp}
 use Rattle.c_tree.specs.declared.syntax.StepOp.TheVariants as steps
 use Rattle.c_tree.specs.declared.syntax.AssignOp.{AssignOp}
 use Rattle.c_tree.specs.declared.syntax.AssignOp.TheVariants as assigns
-use Rattle.c_tree.specs.Syntax.{Expr, name, call, int, char, text, null, group, prefix, sizeof_type, sizeof_expr, cast, index, member, arrow, binary, conditional, Exprs, no_exprs, more_exprs, TypeName, type_name, Spec, word, struct, struct_body, Specs, no_specs, more_specs, Member, members_of, Members, no_members, more_members, Declarator, declarator, Declarators, no_declarators, more_declarators, InitDeclarator, Declaration, ParamDim, Param, Simple, before, after, assign, eval, ForFirst, first_declare, first_simple, first_nothing, Stmt, block, declare, empty, if_then, if_else, while, for, break, continue, return, simple, Stmts, no_stmts, more_stmts, Body, Rest, nothing, function, variables, External, File}
-use Rattle.c_grammar.specs.Leaves.{name_at, int_at, char_at, text_at, word_at, some_word, mark_at, some_mark, the_end, Leaf, at, operator_at, derivation_at}
+use Rattle.c_tree.specs.Syntax.{Expr, name, call, int, char, text, null, group, prefix, sizeof_type, sizeof_expr, cast, index, member, arrow, binary, conditional, Exprs, no_exprs, more_exprs, TypeName, type_name, Spec, word, struct, struct_body, unnamed_struct, enum, enum_body, unnamed_enum, alias, Enumerator, enumerator, valued, Enumerators, no_enumerators, more_enumerators, Specs, no_specs, more_specs, Member, members_of, Members, no_members, more_members, Declarator, declarator, Declarators, no_declarators, more_declarators, InitDeclarator, Declaration, ParamDim, Param, Simple, before, after, assign, eval, ForFirst, first_declare, first_simple, first_nothing, Stmt, block, declare, empty, if_then, if_else, while, for, break, continue, return, simple, Stmts, no_stmts, more_stmts, Body, Rest, nothing, function, variables, External, types_by, external_of, File, specs_of, do_while, switch, case_label, default_label}
+use Rattle.c_grammar.specs.Leaves.{Sign, name_at, type_at, tag_at, declares, int_at, char_at, text_at, word_at, some_word, mark_at, some_mark, the_end, Leaf, at, operator_at, derivation_at}
 
 -- ---- words and marks
 
@@ -96,6 +96,42 @@ mark_of_assign assigns.Xor = marks.CaretAssign
 mark_of_assign assigns.Shl = marks.ShiftLeftAssign
 mark_of_assign assigns.Shr = marks.ShiftRightAssign
 
+-- the word is of a type: const, register and auto are not
+abbrev pub is_of_type : TypeWord → Bool
+is_of_type types.Const = false
+is_of_type types.Register = false
+is_of_type types.Auto = false
+is_of_type _ = true
+
+-- whether a type stands before what is behind the specifier
+abbrev pub typed_by : Bool → Spec → Bool
+typed_by t (word place w) = t || is_of_type w
+typed_by t _ = true
+
+-- the same of specifiers
+abbrev pub typed_row : Bool → Specs → Bool
+typed_row t no_specs = t
+typed_row t (more_specs s rest) = typed_row (typed_by t s) rest
+
+-- how the name in a declarator is told: as no type's; as any, in a typedef or a struct; or as any, but directly behind specifiers with no type
+-- among them as no type's, since a type's name is one of those
+pub data Naming : Type 0 where
+  as_name : Naming
+  as_any : Naming
+  as_bare : Naming
+
+-- what the token of a declared name must be, behind these stars and qualifiers
+abbrev pub declared_at : Naming → List Pointer → Name → Sign
+declared_at as_name ps n = name_at n
+declared_at as_any ps n = tag_at n
+declared_at as_bare [] n = name_at n
+declared_at as_bare (p ∷ ps) n = tag_at n
+
+-- behind specifiers, with a type among them or none
+abbrev pub naming_of : Bool → Naming
+naming_of true = as_any
+naming_of false = as_bare
+
 -- ---- the tokens of an expression at a level, with so many operators of its full expression before it
 
 -- the operators of the full expression that are before what follows the expression
@@ -138,6 +174,11 @@ stars n (Star ∷ ps) = stars (n + 1) ps
 stars n (Const ∷ ps) = stars n ps
 stars n (Restrict ∷ ps) = stars n ps
 
+-- a comma, where there is one
+abbrev pub on_comma : ℕ → Bool → List Leaf
+on_comma d true = at d (some_mark marks.Comma) ∷ []
+on_comma d false = []
+
 abbrev mutual
   -- an expression (C11 6.5), with its operators numbered; a bracketed part, the operand of a prefix operator, of sizeof or of a
   -- cast, and the second and third operand of ?: lie one level deeper (this project's profile)
@@ -154,8 +195,8 @@ abbrev mutual
   on d c (sizeof_expr place e) = at d (word_at place words.Sizeof) ∷ on (d + 1) c e
   on d c (cast place t e) = at (d + 1) (mark_at place marks.OpenParen) ∷ on_type (d + 1) t ++ at (d + 1) (some_mark marks.CloseParen) ∷ on (d + 1) c e
   on d c (index place a i) = on d c a ++ operator_at (d + 1) (counted c a + 1) (mark_at place marks.OpenBracket) ∷ on (d + 1) (counted c a + 1) i ++ at (d + 1) (some_mark marks.CloseBracket) ∷ []
-  on d c (member place a m) = on d c a ++ operator_at d (counted c a + 1) (mark_at place marks.Dot) ∷ at d (name_at m) ∷ []
-  on d c (arrow place a m) = on d c a ++ operator_at d (counted c a + 1) (mark_at place marks.Arrow) ∷ at d (name_at m) ∷ []
+  on d c (member place a m) = on d c a ++ operator_at d (counted c a + 1) (mark_at place marks.Dot) ∷ at d (tag_at m) ∷ []
+  on d c (arrow place a m) = on d c a ++ operator_at d (counted c a + 1) (mark_at place marks.Arrow) ∷ at d (tag_at m) ∷ []
   on d c (binary place op a b) = on d c a ++ operator_at d (counted c a + 1) (mark_at place (mark_of_binary op)) ∷ on d (counted c a + 1) b
   on d c (conditional place a b e) = on d c a ++ at d (mark_at place marks.Question) ∷ on (d + 1) (counted c a) b ++ at d (some_mark marks.Colon) ∷ on (d + 1) (counted (counted c a) b) e
 
@@ -178,11 +219,27 @@ abbrev mutual
   pub on_type : ℕ → TypeName → List Leaf
   on_type d (type_name specs ps) = on_specs d specs ++ on_pointers d 0 ps
 
-  -- one specifier: a word, or a struct with its tag, whose members stand between braces one level deeper (C11 6.7.2, 6.7.2.1)
+  -- one specifier: a word, a type's name, or a struct or an enum, whose members or enumerators stand between braces one level
+  -- deeper (C11 6.7.2, 6.7.2.1, 6.7.2.2)
   pub on_spec : ℕ → Spec → List Leaf
   on_spec d (word place w) = at d (word_at place (word_of_type w)) ∷ []
-  on_spec d (struct place tag) = at d (word_at place words.Struct) ∷ at d (name_at tag) ∷ []
-  on_spec d (struct_body place tag members) = at d (word_at place words.Struct) ∷ at d (name_at tag) ∷ at (d + 1) (some_mark marks.OpenBrace) ∷ on_members (d + 1) members ++ at (d + 1) (some_mark marks.CloseBrace) ∷ []
+  on_spec d (struct place tag) = at d (word_at place words.Struct) ∷ at d (tag_at tag) ∷ []
+  on_spec d (struct_body place tag members) = at d (word_at place words.Struct) ∷ at d (tag_at tag) ∷ at (d + 1) (some_mark marks.OpenBrace) ∷ on_members (d + 1) members ++ at (d + 1) (some_mark marks.CloseBrace) ∷ []
+  on_spec d (unnamed_struct place members) = at d (word_at place words.Struct) ∷ at (d + 1) (some_mark marks.OpenBrace) ∷ on_members (d + 1) members ++ at (d + 1) (some_mark marks.CloseBrace) ∷ []
+  on_spec d (enum place tag) = at d (word_at place words.Enum) ∷ at d (tag_at tag) ∷ []
+  on_spec d (enum_body place tag list) = at d (word_at place words.Enum) ∷ at d (tag_at tag) ∷ at (d + 1) (some_mark marks.OpenBrace) ∷ on_enumerators (d + 1) list ++ at (d + 1) (some_mark marks.CloseBrace) ∷ []
+  on_spec d (unnamed_enum place list) = at d (word_at place words.Enum) ∷ at (d + 1) (some_mark marks.OpenBrace) ∷ on_enumerators (d + 1) list ++ at (d + 1) (some_mark marks.CloseBrace) ∷ []
+  on_spec d (alias n) = at d (type_at n) ∷ []
+
+  -- an enumerator: its name, the value that it may have, a full expression, and the comma that may stand behind it (C11 6.7.2.2)
+  pub on_enumerator : ℕ → Enumerator → List Leaf
+  on_enumerator d (enumerator n comma) = at d (name_at n) ∷ on_comma d comma
+  on_enumerator d (valued n e comma) = at d (name_at n) ∷ at d (some_mark marks.Assign) ∷ on d 0 e ++ on_comma d comma
+
+  -- all that stands between the braces of an enum
+  pub on_enumerators : ℕ → Enumerators → List Leaf
+  on_enumerators d no_enumerators = []
+  on_enumerators d (more_enumerators e rest) = on_enumerator d e ++ on_enumerators d rest
 
   -- specifiers, one behind the other
   pub on_specs : ℕ → Specs → List Leaf
@@ -191,7 +248,7 @@ abbrev mutual
 
   -- the members of a struct that are declared together, with the semicolon behind them (C11 6.7.2.1)
   pub on_member : ℕ → Member → List Leaf
-  on_member d (members_of specs declarators) = on_specs d specs ++ on_declarators d declarators ++ at d (some_mark marks.Semicolon) ∷ []
+  on_member d (members_of specs declarators) = on_specs d specs ++ on_declarators d (naming_of (typed_row false specs)) declarators ++ at d (some_mark marks.Semicolon) ∷ []
 
   -- all that stands between the braces of a struct
   pub on_members : ℕ → Members → List Leaf
@@ -199,18 +256,22 @@ abbrev mutual
   on_members d (more_members m rest) = on_member d m ++ on_members d rest
 
   -- a declarator: stars with their qualifiers, the declared name, and its dimensions (C11 6.7.6)
-  pub on_declarator : ℕ → Declarator → List Leaf
-  on_declarator d (declarator ps n dims) = on_pointers d 0 ps ++ at d (name_at n) ∷ on_dims d (stars 0 ps) dims
+  pub on_declared : ℕ → Naming → Declarator → List Leaf
+  on_declared d k (declarator ps n dims) = on_pointers d 0 ps ++ at d (declared_at k ps n) ∷ on_dims d (stars 0 ps) dims
 
   -- declarators with commas between them
-  pub on_declarators : ℕ → Declarators → List Leaf
-  on_declarators d no_declarators = []
-  on_declarators d (more_declarators e rest) = on_declarator d e ++ on_more_declarators d rest
+  pub on_declarators : ℕ → Naming → Declarators → List Leaf
+  on_declarators d k no_declarators = []
+  on_declarators d k (more_declarators e rest) = on_declared d k e ++ on_more_declarators d rest
 
   -- the declarators behind the first, each with a comma before it
   pub on_more_declarators : ℕ → Declarators → List Leaf
   on_more_declarators d no_declarators = []
-  on_more_declarators d (more_declarators e rest) = at d (some_mark marks.Comma) ∷ on_declarator d e ++ on_more_declarators d rest
+  on_more_declarators d (more_declarators e rest) = at d (some_mark marks.Comma) ∷ on_declared d as_any e ++ on_more_declarators d rest
+
+-- a declarator of no type's name
+abbrev pub on_declarator : ℕ → Declarator → List Leaf
+on_declarator d x = on_declared d as_name x
 
 -- ---- which expressions and types are in the grammar
 
@@ -259,15 +320,42 @@ abbrev pub IsSome : {A : Type 0} → List A → Type 0
 IsSome [] = ⊥
 IsSome (a ∷ as_) = Unit {0}
 
--- there is one specifier or more
+-- a type's name is a specifier only where no type stands before it (C11 6.7.2)
+abbrev pub OneNamed : Bool → Specs → Type 0
+OneNamed typed no_specs = Unit {0}
+OneNamed typed (more_specs (word place w) rest) = OneNamed (typed || is_of_type w) rest
+OneNamed typed (more_specs (struct place tag) rest) = OneNamed true rest
+OneNamed typed (more_specs (struct_body place tag ms) rest) = OneNamed true rest
+OneNamed typed (more_specs (unnamed_struct place ms) rest) = OneNamed true rest
+OneNamed typed (more_specs (enum place tag) rest) = OneNamed true rest
+OneNamed typed (more_specs (enum_body place tag es) rest) = OneNamed true rest
+OneNamed typed (more_specs (unnamed_enum place es) rest) = OneNamed true rest
+OneNamed typed (more_specs (alias n) rest) = (typed ≡ false) × OneNamed true rest
+
+-- there is one specifier or more, and no type's name behind a type
 abbrev pub HasSpecs : Specs → Type 0
 HasSpecs no_specs = ⊥
-HasSpecs (more_specs s rest) = Unit {0}
+HasSpecs (more_specs s rest) = OneNamed false (more_specs s rest)
 
 -- there is one declaration of members or more, as the braces of a struct must have (C11 6.7.2.1)
 abbrev pub HasMembers : Members → Type 0
 HasMembers no_members = ⊥
 HasMembers (more_members m rest) = Unit {0}
+
+-- a comma stands behind the enumerator
+abbrev pub has_comma : Enumerator → Bool
+has_comma (enumerator n comma) = comma
+has_comma (valued n e comma) = comma
+
+-- each stands directly behind a comma, the first of them where one is there
+abbrev pub AreParted : Bool → Enumerators → Type 0
+AreParted comma no_enumerators = Unit {0}
+AreParted comma (more_enumerators e rest) = (comma ≡ true) × AreParted (has_comma e) rest
+
+-- there is one enumerator or more, and a comma between each two; one may stand behind the last (C11 6.7.2.2)
+abbrev pub HasEnumerators : Enumerators → Type 0
+HasEnumerators no_enumerators = ⊥
+HasEnumerators (more_enumerators e rest) = AreParted (has_comma e) rest
 
 -- const directly behind specifiers is one of them, so what stands behind specifiers doesn't begin with it
 abbrev pub StartsBare : List Pointer → Type 0
@@ -314,11 +402,27 @@ abbrev mutual
   pub IsType : Bool → TypeName → Type 0
   IsType b (type_name specs ps) = HasSpecs specs × AreSpecs b specs × StartsBare ps
 
-  -- the specifier is in the grammar: a struct has braces only where they may stand, and one member or more between them
+  -- the specifier is in the grammar: a struct or an enum has braces only where they may stand, and one member or enumerator or more
+  -- between them
   pub IsSpec : Bool → Spec → Type 0
   IsSpec b (word place w) = Unit {0}
   IsSpec b (struct place tag) = Unit {0}
   IsSpec b (struct_body place tag members) = (b ≡ true) × HasMembers members × AreMembers members
+  IsSpec b (unnamed_struct place members) = (b ≡ true) × HasMembers members × AreMembers members
+  IsSpec b (enum place tag) = Unit {0}
+  IsSpec b (enum_body place tag list) = (b ≡ true) × HasEnumerators list × AreEnumerators list
+  IsSpec b (unnamed_enum place list) = (b ≡ true) × HasEnumerators list × AreEnumerators list
+  IsSpec b (alias n) = Unit {0}
+
+  -- the enumerator is in the grammar: the value that it may have is
+  pub IsEnumerator : Enumerator → Type 0
+  IsEnumerator (enumerator n comma) = Unit {0}
+  IsEnumerator (valued n e comma) = IsExpr true e
+
+  -- each of the enumerators is in the grammar
+  pub AreEnumerators : Enumerators → Type 0
+  AreEnumerators no_enumerators = Unit {0}
+  AreEnumerators (more_enumerators e rest) = IsEnumerator e × AreEnumerators rest
 
   -- each of the specifiers is in the grammar
   pub AreSpecs : Bool → Specs → Type 0
@@ -401,6 +505,11 @@ abbrev pub StartsBareFirst : List InitDeclarator → Type 0
 StartsBareFirst [] = ⊥
 StartsBareFirst (i ∷ is) = StartsBareIn i.declarator
 
+-- there is one declarator or more, and the first doesn't begin with const
+abbrev pub StartsBareOf : List Declarator → Type 0
+StartsBareOf [] = ⊥
+StartsBareOf (x ∷ ds) = StartsBareIn x
+
 -- an expression that may be left out is in the grammar, if it is there
 abbrev pub IsValue : Bool → Option Expr → Type 0
 IsValue b None = Unit {0}
@@ -412,7 +521,7 @@ IsInitDeclarator b i = IsDeclarator b i.declarator × IsValue b i.value
 
 -- specifiers: one or more
 abbrev pub IsSpecList : Bool → List Spec → Type 0
-IsSpecList b specs = IsSome specs × AllByRecursion (IsSpec b) specs
+IsSpecList b specs = HasSpecs (specs_of specs) × AllByRecursion (IsSpec b) specs
 
 -- the declaration is in the grammar; the braces of a struct may stand in it where it says so
 abbrev pub IsDeclaration : Bool → Declaration → Type 0
@@ -458,6 +567,10 @@ abbrev mutual
   on_stmt d (while place e s) = at d (word_at place words.While) ∷ on_bracketed d e ++ on_stmt (d + 1) s
   on_stmt d (for place first e step s) = at d (word_at place words.For) ∷ at (d + 1) (some_mark marks.OpenParen) ∷ on_first (d + 1) first ++ on_maybe (on_full (d + 1)) e ++ at (d + 1) (some_mark marks.Semicolon)
       ∷ on_maybe (on_simple (d + 1)) step ++ at (d + 1) (some_mark marks.CloseParen) ∷ on_stmt (d + 1) s
+  on_stmt d (do_while place s e) = at d (word_at place words.Do) ∷ on_stmt (d + 1) s ++ at d (some_word words.While) ∷ on_bracketed d e ++ at d (some_mark marks.Semicolon) ∷ []
+  on_stmt d (switch place e entries) = at d (word_at place words.Switch) ∷ on_bracketed d e ++ at (d + 1) (some_mark marks.OpenBrace) ∷ on_stmts (d + 1) entries ++ at (d + 1) (some_mark marks.CloseBrace) ∷ []
+  on_stmt d (case_label place e) = at d (word_at place words.Case) ∷ on_full d e ++ at d (some_mark marks.Colon) ∷ []
+  on_stmt d (default_label place) = at d (word_at place words.Default) ∷ at d (some_mark marks.Colon) ∷ []
   on_stmt d (break place) = at d (word_at place words.Break) ∷ at d (some_mark marks.Semicolon) ∷ []
   on_stmt d (continue place) = at d (word_at place words.Continue) ∷ at d (some_mark marks.Semicolon) ∷ []
   on_stmt d (return place e) = at d (word_at place words.Return) ∷ on_maybe (on_full d) e ++ at d (some_mark marks.Semicolon) ∷ []
@@ -495,10 +608,20 @@ is_open (if_then place e s) = true
 is_open (if_else place e s t) = is_open t
 is_open (while place e s) = is_open s
 is_open (for place first e step s) = is_open s
+is_open (do_while place s e) = false
+is_open (switch place e entries) = false
+is_open (case_label place e) = false
+is_open (default_label place) = false
 is_open (break place) = false
 is_open (continue place) = false
 is_open (return place e) = false
 is_open (simple s) = false
+
+-- a label of the grammar, or a statement where it is one
+abbrev pub EntryBy : Type 0 → Stmt → Type 0
+EntryBy IsOne (case_label place e) = IsExpr false e
+EntryBy IsOne (default_label place) = Unit {0}
+EntryBy IsOne _ = IsOne
 
 -- a statement of the grammar; a declaration is one only where it says so, among the items of a body
 abbrev mutual
@@ -511,6 +634,10 @@ abbrev mutual
   IsStmt item (if_else place e s t) = IsExpr false e × IsStmt false s × (is_open s ≡ false) × IsStmt false t
   IsStmt item (while place e s) = IsExpr false e × IsStmt false s
   IsStmt item (for place first e step s) = IsFirst first × IsMaybe (IsExpr false) e × IsMaybe IsSimple step × IsStmt false s
+  IsStmt item (do_while place s e) = IsStmt false s × IsExpr false e
+  IsStmt item (switch place e entries) = IsExpr false e × AreEntries entries
+  IsStmt item (case_label place e) = ⊥
+  IsStmt item (default_label place) = ⊥
   IsStmt item (break place) = Unit {0}
   IsStmt item (continue place) = Unit {0}
   IsStmt item (return place e) = IsMaybe (IsExpr false) e
@@ -520,6 +647,15 @@ abbrev mutual
   pub AreItems : Stmts → Type 0
   AreItems no_stmts = Unit {0}
   AreItems (more_stmts s rest) = IsStmt true s × AreItems rest
+
+  -- directly between the braces of a switch stand labels and statements (this project's profile of C11 6.8.4.2)
+  pub AreEntries : Stmts → Type 0
+  AreEntries no_stmts = Unit {0}
+  AreEntries (more_stmts s rest) = EntryBy (IsStmt false s) s × AreEntries rest
+
+-- what may stand directly between the braces of a switch: a label or a statement
+abbrev pub IsEntry : Stmt → Type 0
+IsEntry s = EntryBy (IsStmt false s) s
 
 -- ---- files (C11 6.9)
 
@@ -538,9 +674,24 @@ on_rest d nothing = at d (some_mark marks.Semicolon) ∷ []
 on_rest d (function ps n params body) = on_pointers d 0 ps ++ at d (name_at n) ∷ at (d + 1) (some_mark marks.OpenParen) ∷ on_commas (d + 1) (on_param (d + 1)) params ++ at (d + 1) (some_mark marks.CloseParen) ∷ on_body d body
 on_rest d (variables declarators) = on_commas d (on_init_declarator d) declarators ++ at d (some_mark marks.Semicolon) ∷ []
 
--- an external declaration: static and inline, specifiers, and the rest
+-- the name that a declarator declares
+abbrev pub name_of_declarator : Declarator → Name
+name_of_declarator (declarator ps n dims) = n
+
+-- the declarators of a typedef, each with the comma or the semicolon behind it, from which on its name is a type's (C11 6.2.1, 6.7.8)
+abbrev pub on_types : ℕ → Naming → Declarator → List Declarator → List Leaf
+on_types d k x [] = on_declared d k x ++ at d (declares marks.Semicolon (name_of_declarator x)) ∷ []
+on_types d k x (y ∷ ds) = on_declared d k x ++ at d (declares marks.Comma (name_of_declarator x)) ∷ on_types d as_any y ds
+
+-- where there is one
+abbrev pub on_typedef : ℕ → Naming → List Declarator → List Leaf
+on_typedef d k [] = []
+on_typedef d k (x ∷ ds) = on_types d k x ds
+
+-- an external declaration: one that makes types; or static and inline, specifiers, and the rest
 abbrev pub on_external : ℕ → External → List Leaf
-on_external d e = on_each (on_storage d) e.storage ++ on_each (on_spec d) e.specs ++ on_rest d e.rest
+on_external d (types_by specs ds) = at d (some_word words.Typedef) ∷ on_each (on_spec d) specs ++ on_typedef d (naming_of (typed_row false (specs_of specs))) ds
+on_external d (external_of storage specs rest) = on_each (on_storage d) storage ++ on_each (on_spec d) specs ++ on_rest d rest
 
 -- all tokens of a file
 abbrev pub leaves : File → List Leaf
@@ -559,7 +710,8 @@ IsRest (variables declarators) = StartsBareFirst declarators × AllByRecursion (
 -- an external declaration of the grammar; the braces of a struct may stand in it, but not in a function's parameters or body
 -- (this project's profile)
 abbrev pub IsExternal : External → Type 0
-IsExternal e = IsSpecList true e.specs × IsRest e.rest
+IsExternal (types_by specs ds) = IsSpecList true specs × StartsBareOf ds × AllByRecursion (IsDeclarator true) ds
+IsExternal (external_of storage specs rest) = IsSpecList true specs × IsRest rest
 
 -- a file of the grammar
 abbrev pub IsFile : File → Type 0

@@ -1,5 +1,5 @@
--- What it is for tokens to be a file of the language, and where they cease to be one.
-use Rattle.std.specs.Prelude.{◌≡◌, ◌<◌, ◌⊎◌, List, [], ◌∷◌, ◌++◌, Some, None}
+-- What it is for the tokens of a text to be a file of the language, and where they cease to be one. Names are told from those of types.
+use Rattle.std.specs.Prelude.{◌≡◌, ℕ, ◌<◌, ◌⊎◌, List, [], ◌∷◌, ◌++◌, Some, None}
 use Rattle.std.specs.List.{AllByRecursion}
 use Rattle.c_lex.specs.declared.token.Word.{Word}
 use Rattle.c_lex.specs.declared.token.Word.TheVariants as words
@@ -11,7 +11,8 @@ use Rattle.c_lex.specs.declared.refusal.Refusal.{Refusal}
 use Rattle.c_lex.specs.declared.refusal.Kind.{Kind}
 use Rattle.c_lex.specs.declared.refusal.Kind.TheVariants.{UnexpectedToken, TooDeep, OutsideSubset}
 use Rattle.c_tree.specs.Syntax.{File}
-use Rattle.c_grammar.specs.Leaves.{Leaf, over, Spelt, Begins, BeginsWithin}
+use Rattle.c_grammar.specs.Leaves.{Leaf, over}
+use Rattle.c_grammar.specs.Names.{first_types, Spelt, Begins, BeginsWithin}
 use Rattle.c_grammar.specs.Grammar.{leaves, IsFile}
 
 -- ---- features that are left out
@@ -25,12 +26,6 @@ refusal_of_word words.Imaginary = OutsideSubset 2
 refusal_of_word words.Union = OutsideSubset 3
 refusal_of_word words.Goto = OutsideSubset 4
 refusal_of_word words.Volatile = OutsideSubset 6
-refusal_of_word words.Typedef = OutsideSubset 7
-refusal_of_word words.Enum = OutsideSubset 7
-refusal_of_word words.Switch = OutsideSubset 8
-refusal_of_word words.Case = OutsideSubset 8
-refusal_of_word words.Default = OutsideSubset 8
-refusal_of_word words.Do = OutsideSubset 8
 refusal_of_word words.Atomic = OutsideSubset 9
 refusal_of_word words.Extern = OutsideSubset 10
 refusal_of_word words.Static = OutsideSubset 10
@@ -53,34 +48,34 @@ refusal_of _ = UnexpectedToken
 -- ---- files
 
 -- the file of the grammar that the tokens spell, within the limits, and the only one
-pub record Parses (ts : List Token) (f : File) : Type 0 where
+pub record Parses (text : List ℕ) (ts : List Token) (f : File) : Type 0 where
   pub fits : IsFile f
-  pub spelt : Spelt (leaves f) ts
+  pub spelt : Spelt text first_types (leaves f) ts
   pub within : AllByRecursion (λ l. over l ≡ None) (leaves f)
-  pub only : (g : File) → IsFile g → Spelt (leaves g) ts → g ≡ f
+  pub only : (g : File) → IsFile g → Spelt text first_types (leaves g) ts → g ≡ f
 
 -- some file of the grammar begins so
-abbrev pub BeginsFile : List Token → Type 0
-BeginsFile front = (f : File) × IsFile f × Begins (leaves f) front
+abbrev pub BeginsFile : List ℕ → List Token → Type 0
+BeginsFile text front = (f : File) × IsFile f × Begins text first_types (leaves f) front
 
 -- some file of the grammar begins so, within the limits so far
-abbrev pub BeginsFileWithin : List Token → Type 0
-BeginsFileWithin front = (f : File) × IsFile f × BeginsWithin (leaves f) front
+abbrev pub BeginsFileWithin : List ℕ → List Token → Type 0
+BeginsFileWithin text front = (f : File) × IsFile f × BeginsWithin text first_types (leaves f) front
 
 -- what may stand behind these tokens: the leaf that follows them in a file that begins with them
-pub record Next (front : List Token) : Type 0 where
+pub record Next (text : List ℕ) (front : List Token) : Type 0 where
   pub file : File
   pub fits : IsFile file
   pub before : List Leaf
   pub leaf : Leaf
   pub behind : List Leaf
   pub is : leaves file ≡ before ++ leaf ∷ behind
-  pub spelt : Spelt before front
+  pub spelt : Spelt text first_types before front
 
 -- something may stand behind these tokens, and whatever may lies deeper than 128 levels
-pub record AllTooDeep (front : List Token) : Type 0 where
-  pub some : Next front
-  pub each : (n : Next front) → 128 < n.leaf.level
+pub record AllTooDeep (text : List ℕ) (front : List Token) : Type 0 where
+  pub some : Next text front
+  pub each : (n : Next text front) → 128 < n.leaf.level
 
 -- where whatever may stand there lies too deep, that is told before a feature that is left out
 abbrev pub or_too_deep : Kind → Kind
@@ -88,32 +83,32 @@ or_too_deep (OutsideSubset f) = TooDeep
 or_too_deep k = k
 
 -- how a token is refused that may not stand behind these tokens
-abbrev pub IsRefusalBehind : List Token → Token → Kind → Type 0
-IsRefusalBehind front t k = (AllTooDeep front × (k ≡ or_too_deep (refusal_of t.kind))) ⊎ ((AllTooDeep front → ⊥) × (k ≡ refusal_of t.kind))
+abbrev pub IsRefusalBehind : List ℕ → List Token → Token → Kind → Type 0
+IsRefusalBehind text front t k = (AllTooDeep text front × (k ≡ or_too_deep (refusal_of t.kind))) ⊎ ((AllTooDeep text front → ⊥) × (k ≡ refusal_of t.kind))
 
 -- with the token behind them the tokens begin no file
-pub record IsUnexpected (front : List Token) (t : Token) (k : Kind) : Type 0 where
-  pub kind : IsRefusalBehind front t k
-  pub no_file : BeginsFile (front ++ t ∷ []) → ⊥
+pub record IsUnexpected (text : List ℕ) (front : List Token) (t : Token) (k : Kind) : Type 0 where
+  pub kind : IsRefusalBehind text front t k
+  pub no_file : BeginsFile text (front ++ t ∷ []) → ⊥
 
 -- with the token behind them the tokens begin a file, in which the token is the first over a limit
-pub record IsOver (front : List Token) (t : Token) (k : Kind) : Type 0 where
+pub record IsOver (text : List ℕ) (front : List Token) (t : Token) (k : Kind) : Type 0 where
   pub file : File
   pub fits : IsFile file
   pub before : List Leaf
   pub leaf : Leaf
   pub behind : List Leaf
   pub is : leaves file ≡ before ++ leaf ∷ behind
-  pub spelt : Spelt (before ++ leaf ∷ []) (front ++ t ∷ [])
+  pub spelt : Spelt text first_types (before ++ leaf ∷ []) (front ++ t ∷ [])
   pub within : AllByRecursion (λ l. over l ≡ None) before
   pub fault : over leaf ≡ Some k
 
 -- the refusal is for the first token up to which, itself included, the tokens begin no file within the limits
-pub record RefusesTokens (ts : List Token) (r : Refusal) : Type 0 where
+pub record RefusesTokens (text : List ℕ) (ts : List Token) (r : Refusal) : Type 0 where
   pub front : List Token
   pub token : Token
   pub behind : List Token
   pub is : ts ≡ front ++ token ∷ behind
   pub place : token.from ≡ r.place
-  pub before : BeginsFileWithin front
-  pub cause : IsUnexpected front token r.kind ⊎ IsOver front token r.kind
+  pub before : BeginsFileWithin text front
+  pub cause : IsUnexpected text front token r.kind ⊎ IsOver text front token r.kind

@@ -3,3 +3,4 @@ pub mod CodeChoices
 pub mod CodeLists
 pub mod CodeLevels
 pub mod CodeReads
+pub mod CodeSpecs

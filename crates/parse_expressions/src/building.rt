@@ -1,12 +1,15 @@
 //! Trees of expressions, types and members.
 
 ghost use Rattle.std.specs.Prelude.{◌≡◌, map};
+ghost use Rattle.std.specs.Option.{option_map};
 ghost use Rattle.c_tree.specs.Syntax as trees;
-ghost use Rattle.c_tree.specs.SyntaxViews.{expr_view, boxed_expr_view, type_name_view, spec_view, declarator_view, member_view};
+ghost use Rattle.c_tree.specs.SyntaxViews.{expr_view, boxed_expr_view, type_name_view, spec_view, declarator_view, enumerator_view, member_view};
 ghost use Rattle.parse_tokens.specs.inner.Moves.{Makes};
 
 use crate::boxes::boxed;
-use c_tree::syntax::{BinaryOp, Declarator, Expr, Member, Name, Pointer, PrefixOp, Spec, TypeName};
+use c_tree::syntax::{
+    BinaryOp, Declarator, Enumerator, Expr, Member, Name, Pointer, PrefixOp, Spec, TypeName,
+};
 use parse_tokens::parser::Stop;
 use std::alloc::Global;
 
@@ -31,7 +34,18 @@ pub fn type_name_of(specs: Vec<Spec>, pointers: Vec<Pointer>) -> TypeName
     TypeName { specs, pointers }
 }
 
-/// `specs ptr NAME dims { "," ptr NAME dims } ";"`
+/// `NAME [ "=" expr ] [ "," ]`
+pub fn enumerator_of(name: Name, value: Option<Box<Expr>>, comma: bool) -> Enumerator
+    ensures { enumerator_view result ≡ trees.enumerator_of name (option_map boxed_expr_view value) comma }
+{
+    Enumerator {
+        name,
+        value: value.map(Box::into_inner),
+        comma,
+    }
+}
+
+/// `specs ptr TNAME dims { "," ptr TNAME dims } ";"`
 pub fn member_of(specs: Vec<Spec>, declarators: Vec<Declarator>) -> Member
     ensures { member_view result ≡ trees.members_of (trees.specs_of (map spec_view specs.items)) (trees.declarators_of (map declarator_view declarators.items)) }
 {
@@ -76,7 +90,7 @@ pub fn index(
     boxed_expr(alloc, Expr::Index { place, base, index })
 }
 
-/// `postfix "." NAME`
+/// `postfix "." TNAME`
 pub fn member(alloc: Global, place: u32, base: Box<Expr>, member: Name) -> Result<Box<Expr>, Stop>
     ensures { Makes boxed_expr_view (trees.member place (boxed_expr_view base) member) result }
 {
@@ -90,7 +104,7 @@ pub fn member(alloc: Global, place: u32, base: Box<Expr>, member: Name) -> Resul
     )
 }
 
-/// `postfix "->" NAME`
+/// `postfix "->" TNAME`
 pub fn arrow(alloc: Global, place: u32, base: Box<Expr>, member: Name) -> Result<Box<Expr>, Stop>
     ensures { Makes boxed_expr_view (trees.arrow place (boxed_expr_view base) member) result }
 {

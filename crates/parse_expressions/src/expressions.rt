@@ -145,7 +145,7 @@ fn posted(
     braces: bool,
 ) -> Result<Box<Expr>, Stop>
     requires { 0 < room }
-    ensures reads { Moves boxed_expr_view (links begins_post (λ _. post room (room - 1) (level_at braces (room - 1))) posted (boxed_expr_view first)) parser.old parser.new result }
+    ensures reads { Moves boxed_expr_view (links (λ _. begins_post) (λ _. post room (room - 1) (level_at braces (room - 1))) posted (boxed_expr_view first)) parser.old parser.new result }
     ensures keeps { Keeps parser.old parser.new result }
 {
     let mut base = first;
@@ -155,7 +155,7 @@ fn posted(
     Ok(base)
 }
 
-/// `"[" expr "]" | "." NAME | "->" NAME`, behind its base
+/// `"[" expr "]" | "." TNAME | "->" TNAME`, behind its base
 #[cycle(expressions)]
 #[tactic(auto, using(crate::proofs::CodeLoops::chooses, crate::proofs::CodeLoops::choice_fails), unfolding(c_grammar::specs::inner::Reading::post))]
 fn post(
@@ -177,12 +177,12 @@ fn post(
         }
         PostStart::Dot => {
             let place = parser.place_of_operator(Mark::Dot, room)?;
-            let name = parser.name(room)?;
+            let name = parser.tag(room)?;
             member(parser.alloc, place, base, name)
         }
         PostStart::Arrow => {
             let place = parser.place_of_operator(Mark::Arrow, room)?;
-            let name = parser.name(room)?;
+            let name = parser.tag(room)?;
             arrow(parser.alloc, place, base, name)
         }
     }

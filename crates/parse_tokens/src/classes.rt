@@ -3,10 +3,11 @@
 ghost use Rattle.std.specs.Prelude.{◌≡◌};
 ghost use Rattle.c_grammar.specs.Grammar.{height};
 ghost use Rattle.c_grammar.specs.inner.Readers.{sort_of_kind};
-ghost use Rattle.c_grammar.specs.inner.Tokens.{prefix_of_mark, step_of_mark, assign_of_mark, op_of_mark, binary_of_mark, type_of_word, storage_of_word, begins_type, begins_expr, begins_simple};
+ghost use Rattle.c_grammar.specs.inner.Tokens.{prefix_of_mark, step_of_mark, assign_of_mark, op_of_mark, binary_of_mark, type_of_word, storage_of_word, begins_type_word, begins_type, begins_expr, begins_simple};
 
 use ak_words::Op;
-use c_lex::{Mark, TokenKind, Word};
+use c_grammar::terminal::TerminalKind;
+use c_lex::{Mark, Word};
 use c_tree::syntax::{AssignOp, BinaryOp, PrefixOp, StepOp, Storage, TypeWord};
 
 /// The prefix operator that a mark is (C11 6.5.3).
@@ -142,34 +143,47 @@ pub fn storage_of(word: Word) -> Option<Storage>
     }
 }
 
-/// Whether a type begins with the token.
-pub fn begins_type(kind: TokenKind) -> bool
-    ensures { result ≡ begins_type (sort_of_kind kind) }
+/// Whether the token is a word that a type begins with.
+pub fn begins_type_word(kind: TerminalKind) -> bool
+    ensures { result ≡ begins_type_word (sort_of_kind kind) }
 {
     match kind {
-        TokenKind::Word(word) => type_of(word).is_some() || word == Word::Struct,
+        TerminalKind::Word(word) => {
+            type_of(word).is_some() || word == Word::Struct || word == Word::Enum
+        }
         _ => false,
     }
 }
 
+/// Whether a type begins with the token: such a word, or a type's name.
+pub fn begins_type(kind: TerminalKind) -> bool
+    ensures { result ≡ begins_type (sort_of_kind kind) }
+{
+    match kind {
+        TerminalKind::TypeName => true,
+        _ => begins_type_word(kind),
+    }
+}
+
 /// Whether an expression begins with the token.
-pub fn begins_expr(kind: TokenKind) -> bool
+pub fn begins_expr(kind: TerminalKind) -> bool
     ensures { result ≡ begins_expr (sort_of_kind kind) }
 {
     match kind {
-        TokenKind::Name | TokenKind::Int(_) | TokenKind::Char(_) | TokenKind::Text => true,
-        TokenKind::Word(word) => word == Word::Null || word == Word::Sizeof,
-        TokenKind::Mark(mark) => prefix_of(mark).is_some() || mark == Mark::OpenParen,
-        TokenKind::End => false,
+        TerminalKind::Name | TerminalKind::Int(_) | TerminalKind::Char(_) | TerminalKind::Text =>
+            true,
+        TerminalKind::Word(word) => word == Word::Null || word == Word::Sizeof,
+        TerminalKind::Mark(mark) => prefix_of(mark).is_some() || mark == Mark::OpenParen,
+        TerminalKind::TypeName | TerminalKind::End => false,
     }
 }
 
 /// Whether a simple statement begins with the token.
-pub fn begins_simple(kind: TokenKind) -> bool
+pub fn begins_simple(kind: TerminalKind) -> bool
     ensures { result ≡ begins_simple (sort_of_kind kind) }
 {
     match kind {
-        TokenKind::Mark(mark) => step_of(mark).is_some() || begins_expr(kind),
+        TerminalKind::Mark(mark) => step_of(mark).is_some() || begins_expr(kind),
         _ => begins_expr(kind),
     }
 }

@@ -3,7 +3,8 @@
 ghost use Rattle.std.specs.Prelude.{◌≡◌};
 ghost use Rattle.parse_tokens.specs.declared.parser.Stop.TheVariants.{NoMemory};
 
-use c_lex::{Kind, Token};
+use c_grammar::terminal::Terminal;
+use c_lex::Kind;
 use std::alloc::{AllocError, AllocFailed, Global};
 
 /// Why a production isn't read.
@@ -38,7 +39,7 @@ impl<T: Drop> From<AllocFailed<T>> for Stop {
 /// The tokens that aren't read yet, and the operators of the full expression before them.
 #[derive(Drop)]
 pub struct Parser<'a> {
-    pub rest: &'a [Token],
+    pub rest: &'a [Terminal],
     pub count: u32,
     pub alloc: Global,
 }

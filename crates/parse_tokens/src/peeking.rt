@@ -4,10 +4,12 @@ ghost use Rattle.std.specs.Prelude.{◌≡◌, Some};
 ghost use Rattle.c_grammar.specs.inner.Readers.{sort_of_kind, too_deep};
 
 use crate::classes::{
-    begins_expr, begins_simple, begins_type, binary_of, prefix_of, step_of, storage_of, type_of,
+    begins_expr, begins_simple, begins_type, begins_type_word, binary_of, prefix_of, step_of,
+    storage_of, type_of,
 };
 use crate::parser::{Parser, Stop};
-use c_lex::{Mark, TokenKind, Word};
+use c_grammar::terminal::TerminalKind;
+use c_lex::{Mark, Word};
 use c_tree::syntax::Pointer;
 
 /// What a primary that isn't in brackets begins with.
@@ -42,17 +44,18 @@ pub enum UnaryStart {
 pub enum SpecStart {
     Word,
     Struct,
+    Enum,
 }
 
 // The next token, which is left.
 impl Parser<'_> {
     ghost use Rattle.parse_tokens.specs.inner.Moves.{Moves, Fails, peek, ahead};
-    ghost use Rattle.c_grammar.specs.inner.Tokens.{is_mark, is_word, is_text, is_binary, begins_type, begins_expr, begins_simple, is_storage, is_pointer};
-    ghost use Rattle.c_grammar.specs.inner.Reading.{operand_start, post_start, begins_post, unary_start, spec_start, pointer_start, is_name, is_step};
+    ghost use Rattle.c_grammar.specs.inner.Tokens.{is_mark, is_word, is_text, is_binary, is_type_name, begins_type, begins_expr, begins_simple, is_storage, is_pointer};
+    ghost use Rattle.c_grammar.specs.inner.Reading.{operand_start, post_start, begins_post, unary_start, spec_start, begins_spec, pointer_start, is_name, begins_enumerator, is_step};
     ghost use Rattle.parse_tokens.specs.inner.Starts.{operand_view, post_view, unary_view, spec_view};
 
     /// The kind of the next token.
-    pub fn next(&self) -> Result<TokenKind, Stop>
+    pub fn next(&self) -> Result<TerminalKind, Stop>
         ensures { Moves sort_of_kind (peek Some) self.now self.now result }
     {
         match self.rest {
@@ -67,7 +70,7 @@ impl Parser<'_> {
     {
         let kind = self.next()?;
         match kind {
-            TokenKind::Mark(found) => Ok(found == mark),
+            TerminalKind::Mark(found) => Ok(found == mark),
             _ => Ok(false),
         }
     }
@@ -78,7 +81,7 @@ impl Parser<'_> {
     {
         let kind = self.next()?;
         match kind {
-            TokenKind::Word(found) => Ok(found == word),
+            TerminalKind::Word(found) => Ok(found == word),
             _ => Ok(false),
         }
     }
@@ -88,7 +91,7 @@ impl Parser<'_> {
         ensures { Moves (λ b. b) (ahead is_name) self.now self.now result }
     {
         let kind = self.next()?;
-        Ok(matches!(kind, TokenKind::Name))
+        Ok(matches!(kind, TerminalKind::Name))
     }
 
     /// Whether a string literal is next.
@@ -96,7 +99,7 @@ impl Parser<'_> {
         ensures { Moves (λ b. b) (ahead is_text) self.now self.now result }
     {
         let kind = self.next()?;
-        Ok(matches!(kind, TokenKind::Text))
+        Ok(matches!(kind, TerminalKind::Text))
     }
 
     /// Whether a binary operator of the height is next.
@@ -105,7 +108,7 @@ impl Parser<'_> {
     {
         let kind = self.next()?;
         match kind {
-            TokenKind::Mark(mark) => Ok(binary_of(of, mark).is_some()),
+            TerminalKind::Mark(mark) => Ok(binary_of(of, mark).is_some()),
             _ => Ok(false),
         }
     }
@@ -116,7 +119,7 @@ impl Parser<'_> {
     {
         let kind = self.next()?;
         match kind {
-            TokenKind::Mark(mark) => Ok(step_of(mark).is_some()),
+            TerminalKind::Mark(mark) => Ok(step_of(mark).is_some()),
             _ => Ok(false),
         }
     }
@@ -127,7 +130,7 @@ impl Parser<'_> {
     {
         let kind = self.next()?;
         match kind {
-            TokenKind::Word(word) => Ok(storage_of(word).is_some()),
+            TerminalKind::Word(word) => Ok(storage_of(word).is_some()),
             _ => Ok(false),
         }
     }
@@ -138,8 +141,8 @@ impl Parser<'_> {
     {
         let kind = self.next()?;
         match kind {
-            TokenKind::Mark(mark) => Ok(mark == Mark::Star),
-            TokenKind::Word(word) => Ok(word == Word::Const || word == Word::Restrict),
+            TerminalKind::Mark(mark) => Ok(mark == Mark::Star),
+            TerminalKind::Word(word) => Ok(word == Word::Const || word == Word::Restrict),
             _ => Ok(false),
         }
     }
@@ -150,6 +153,34 @@ impl Parser<'_> {
     {
         let kind = self.next()?;
         Ok(begins_type(kind))
+    }
+
+    /// Whether a type's name is next.
+    pub fn is_type_name_next(&self) -> Result<bool, Stop>
+        ensures { Moves (λ b. b) (ahead is_type_name) self.now self.now result }
+    {
+        let kind = self.next()?;
+        Ok(matches!(kind, TerminalKind::TypeName))
+    }
+
+    /// Whether a specifier is next, where a type stands before it or doesn't.
+    pub fn is_spec_next(&self, typed: bool) -> Result<bool, Stop>
+        ensures { Moves (λ b. b) (ahead (begins_spec typed)) self.now self.now result }
+    {
+        let kind = self.next()?;
+        Ok(if typed {
+            begins_type_word(kind)
+        } else {
+            begins_type(kind)
+        })
+    }
+
+    /// Whether an enumerator is next, where a comma stands before it or doesn't.
+    pub fn is_enumerator_next(&self, comma: bool) -> Result<bool, Stop>
+        ensures { Moves (λ b. b) (ahead (begins_enumerator comma)) self.now self.now result }
+    {
+        let kind = self.next()?;
+        Ok(comma && matches!(kind, TerminalKind::Name))
     }
 
     /// Whether an expression is next.
@@ -175,7 +206,7 @@ impl Parser<'_> {
         let kind = self.next()?;
         Ok(matches!(
             kind,
-            TokenKind::Mark(Mark::OpenBracket | Mark::Dot | Mark::Arrow)
+            TerminalKind::Mark(Mark::OpenBracket | Mark::Dot | Mark::Arrow)
         ))
     }
 
@@ -204,11 +235,11 @@ impl Parser<'_> {
         ensures { Moves operand_view (peek operand_start) self.now self.now result }
     {
         match self.next()? {
-            TokenKind::Name => Ok(OperandStart::Name),
-            TokenKind::Int(_) => Ok(OperandStart::Int),
-            TokenKind::Char(_) => Ok(OperandStart::Char),
-            TokenKind::Text => Ok(OperandStart::Text),
-            TokenKind::Word(Word::Null) => Ok(OperandStart::Null),
+            TerminalKind::Name => Ok(OperandStart::Name),
+            TerminalKind::Int(_) => Ok(OperandStart::Int),
+            TerminalKind::Char(_) => Ok(OperandStart::Char),
+            TerminalKind::Text => Ok(OperandStart::Text),
+            TerminalKind::Word(Word::Null) => Ok(OperandStart::Null),
             _ => Err(self.unexpected()),
         }
     }
@@ -218,9 +249,9 @@ impl Parser<'_> {
         ensures { Moves post_view (peek post_start) self.now self.now result }
     {
         match self.next()? {
-            TokenKind::Mark(Mark::OpenBracket) => Ok(PostStart::Bracket),
-            TokenKind::Mark(Mark::Dot) => Ok(PostStart::Dot),
-            TokenKind::Mark(Mark::Arrow) => Ok(PostStart::Arrow),
+            TerminalKind::Mark(Mark::OpenBracket) => Ok(PostStart::Bracket),
+            TerminalKind::Mark(Mark::Dot) => Ok(PostStart::Dot),
+            TerminalKind::Mark(Mark::Arrow) => Ok(PostStart::Arrow),
             _ => Err(self.unexpected()),
         }
     }
@@ -230,13 +261,14 @@ impl Parser<'_> {
         ensures { Moves unary_view (peek unary_start) self.now self.now result }
     {
         match self.next()? {
-            TokenKind::Name | TokenKind::Int(_) | TokenKind::Char(_) | TokenKind::Text => {
-                Ok(UnaryStart::Primary)
-            }
-            TokenKind::Word(Word::Null) => Ok(UnaryStart::Primary),
-            TokenKind::Word(Word::Sizeof) => Ok(UnaryStart::Sizeof),
-            TokenKind::Mark(mark) if prefix_of(mark).is_some() => Ok(UnaryStart::Prefix),
-            TokenKind::Mark(Mark::OpenParen) => Ok(UnaryStart::Paren),
+            TerminalKind::Name
+            | TerminalKind::Int(_)
+            | TerminalKind::Char(_)
+            | TerminalKind::Text => { Ok(UnaryStart::Primary) }
+            TerminalKind::Word(Word::Null) => Ok(UnaryStart::Primary),
+            TerminalKind::Word(Word::Sizeof) => Ok(UnaryStart::Sizeof),
+            TerminalKind::Mark(mark) if prefix_of(mark).is_some() => Ok(UnaryStart::Prefix),
+            TerminalKind::Mark(Mark::OpenParen) => Ok(UnaryStart::Paren),
             _ => Err(self.unexpected()),
         }
     }
@@ -246,8 +278,9 @@ impl Parser<'_> {
         ensures { Moves spec_view (peek spec_start) self.now self.now result }
     {
         match self.next()? {
-            TokenKind::Word(word) if type_of(word).is_some() => Ok(SpecStart::Word),
-            TokenKind::Word(Word::Struct) => Ok(SpecStart::Struct),
+            TerminalKind::Word(word) if type_of(word).is_some() => Ok(SpecStart::Word),
+            TerminalKind::Word(Word::Struct) => Ok(SpecStart::Struct),
+            TerminalKind::Word(Word::Enum) => Ok(SpecStart::Enum),
             _ => Err(self.unexpected()),
         }
     }
@@ -257,9 +290,9 @@ impl Parser<'_> {
         ensures { Moves (λ a. a) (peek pointer_start) self.now self.now result }
     {
         match self.next()? {
-            TokenKind::Mark(Mark::Star) => Ok(Pointer::Star),
-            TokenKind::Word(Word::Const) => Ok(Pointer::Const),
-            TokenKind::Word(Word::Restrict) => Ok(Pointer::Restrict),
+            TerminalKind::Mark(Mark::Star) => Ok(Pointer::Star),
+            TerminalKind::Word(Word::Const) => Ok(Pointer::Const),
+            TerminalKind::Word(Word::Restrict) => Ok(Pointer::Restrict),
             _ => Err(self.unexpected()),
         }
     }

@@ -84,14 +84,14 @@ impl Parser<'_> {
 
 // One token each.
 impl Parser<'_> {
-    ghost use Rattle.c_lex.specs.declared.token.Token.{Token};
+    ghost use Rattle.c_grammar.specs.declared.terminal.Terminal.{Terminal};
     ghost use Rattle.parse_tokens.specs.inner.Moves.{Moves, Takes};
     ghost use Rattle.parse_tokens.specs.inner.Heads.{first_as};
-    ghost use Rattle.c_grammar.specs.inner.Tokens.{tok, counted_tok, derived_tok, name_of, int_of, char_of, text_of, word_is, mark_is, word_place, mark_place, prefix_of, step_of, assign_of, binary_of, type_word_of, storage_of, end_of};
+    ghost use Rattle.c_grammar.specs.inner.Tokens.{tok, counted_tok, derived_tok, name_of, type_name_of, tag_of, int_of, char_of, text_of, word_is, mark_is, word_place, mark_place, prefix_of, step_of, assign_of, binary_of, type_word_of, storage_of, end_of};
 
     /// The next token, found to be in a class, if there is room for it; one that isn't in the class may not stand here.
     fn taken<T: Copy>(&mut self, found: Option<T>, room: u32) -> Result<T, Stop>
-        ensures reads { (class : Token → Option T) → found ≡ first_as class self.old.rest.now → Moves (λ a. a) (tok room class) self.old self.new result }
+        ensures reads { (class : Terminal → Option T) → found ≡ first_as class self.old.rest.now → Moves (λ a. a) (tok room class) self.old self.new result }
         ensures takes { Takes self.old self.new result }
     {
         let Some(value) = found else {
@@ -107,7 +107,7 @@ impl Parser<'_> {
 
     /// The next token, found to be in a class of operators, if there is room for it and the full expression may have one more.
     fn counted<T: Copy>(&mut self, found: Option<T>, room: u32) -> Result<T, Stop>
-        ensures reads { (class : Token → Option T) → found ≡ first_as class self.old.rest.now → Moves (λ a. a) (counted_tok room class) self.old self.new result }
+        ensures reads { (class : Terminal → Option T) → found ≡ first_as class self.old.rest.now → Moves (λ a. a) (counted_tok room class) self.old self.new result }
         ensures takes { Takes self.old self.new result }
     {
         let Some(value) = found else {
@@ -124,7 +124,7 @@ impl Parser<'_> {
 
     /// The next token, found to be in a class of stars and dimensions, if there is room for it and behind so many there may be one more.
     fn derived<T: Copy>(&mut self, found: Option<T>, before: usize, room: u32) -> Result<T, Stop>
-        ensures reads { (class : Token → Option T) → found ≡ first_as class self.old.rest.now → Moves (λ a. a) (derived_tok room before class) self.old self.new result }
+        ensures reads { (class : Terminal → Option T) → found ≡ first_as class self.old.rest.now → Moves (λ a. a) (derived_tok room before class) self.old self.new result }
         ensures takes { Takes self.old self.new result }
         ensures few { IfOk result (λ _. before < 64) }
     {
@@ -210,6 +210,24 @@ impl Parser<'_> {
         ensures takes { Takes self.old self.new result }
     {
         let found = heads::name(self.rest);
+        self.taken(found, room)
+    }
+
+    /// `TYPENAME`
+    pub fn type_name(&mut self, room: u32) -> Result<Name, Stop>
+        ensures reads { Moves (λ a. a) (tok room type_name_of) self.old self.new result }
+        ensures takes { Takes self.old self.new result }
+    {
+        let found = heads::type_name(self.rest);
+        self.taken(found, room)
+    }
+
+    /// `TNAME`: a name, be it a type's or not.
+    pub fn tag(&mut self, room: u32) -> Result<Name, Stop>
+        ensures reads { Moves (λ a. a) (tok room tag_of) self.old self.new result }
+        ensures takes { Takes self.old self.new result }
+    {
+        let found = heads::tag(self.rest);
         self.taken(found, room)
     }
 

@@ -5,17 +5,17 @@ use Rattle.c_lex.specs.declared.token.Word.TheVariants as words
 use Rattle.c_lex.specs.declared.token.Mark.TheVariants as marks
 use Rattle.c_lex.specs.contracts.token.Word.{the_type as word_type}
 use Rattle.c_lex.specs.contracts.token.Mark.{the_type as mark_type}
+use Rattle.c_grammar.specs.declared.terminal.Terminal.{Terminal}
 use Rattle.c_tree.specs.declared.syntax.Name.{Name}
 use Rattle.c_tree.specs.declared.syntax.Pointer.{Pointer}
 use Rattle.c_tree.specs.declared.syntax.Pointer.TheVariants.{Star, Const, Restrict}
-use Rattle.c_tree.specs.declared.syntax.Storage.{Storage}
 use Rattle.c_tree.specs.declared.syntax.StepOp.{StepOp}
 use Rattle.c_tree.specs.declared.syntax.AssignOp.{AssignOp}
-use Rattle.c_tree.specs.Syntax.{Expr, name, call, int, char, text, null, group, prefix, sizeof_type, sizeof_expr, cast, index, member, arrow, binary, conditional, TypeName, type_name, Spec, word, struct, struct_body, Member, members_of, Declarator, declarator, InitDeclarator, Declaration, ParamDim, Param, Simple, before, after, assign, eval, ForFirst, first_declare, first_simple, first_nothing, Stmt, block, declare, empty, if_then, if_else, while, for, break, continue, return, simple, Body, Rest, function, variables, External, File, exprs_of, specs_of, members_row, declarators_of, stmts_of}
+use Rattle.c_tree.specs.Syntax.{Expr, name, call, int, char, text, null, group, prefix, sizeof_type, sizeof_expr, cast, index, member, arrow, binary, conditional, TypeName, type_name, Spec, word, struct, struct_body, unnamed_struct, enum, enum_body, unnamed_enum, alias, Enumerator, enumerator, valued, enumerator_of, enumerators_of, Member, members_of, Declarator, declarator, InitDeclarator, Declaration, ParamDim, Param, Simple, before, after, assign, eval, ForFirst, first_declare, first_simple, first_nothing, Stmt, block, declare, empty, if_then, if_else, while, for, break, continue, return, simple, Body, Rest, function, variables, External, types_by, external_of, File, exprs_of, specs_of, members_row, declarators_of, stmts_of, do_while, switch, case_label, default_label}
 use Rattle.c_tree.specs.Syntax as trees
-use Rattle.c_grammar.specs.Grammar.{stars, rank}
-use Rattle.c_grammar.specs.inner.Readers.{Reads, Sort, a_name, an_int, a_char, a_text, a_word, a_mark, nothing, ◌▸◌, ◌&◌, made, full, choice, maybe, too_deep, chain, pushed, row, row_from}
-use Rattle.c_grammar.specs.inner.Tokens.{tok, counted_tok, derived_tok, name_of, int_of, char_of, text_of, word_is, mark_is, word_place, mark_place, prefix_of, prefix_of_mark, step_of, step_of_mark, assign_of, assign_of_mark, binary_of, type_word_of, type_of_word, storage_of, end_of, is_some, is_mark, is_word, is_text, is_binary, begins_type, begins_expr, begins_simple, is_storage, is_pointer}
+use Rattle.c_grammar.specs.Grammar.{stars, rank, has_comma, typed_row, Naming, as_name, as_any, as_bare, naming_of}
+use Rattle.c_grammar.specs.inner.Readers.{Reads, Sort, a_name, an_int, a_char, a_text, a_word, a_mark, nothing, ◌▸◌, ◌&◌, made, full, choice, maybe, too_deep, chain, chain_by, pushed, row, row_from}
+use Rattle.c_grammar.specs.inner.Tokens.{tok, counted_tok, derived_tok, name_of, tag_of, type_name_of, is_type_name, begins_type_word, int_of, char_of, text_of, word_is, mark_is, word_place, mark_place, prefix_of, prefix_of_mark, step_of, step_of_mark, assign_of, assign_of_mark, binary_of, type_word_of, type_of_word, storage_of, end_of, is_some, is_mark, is_word, is_text, is_binary, begins_type, begins_expr, begins_simple, is_storage, is_pointer}
 
 -- ---- what a level offers to the one before it
 
@@ -127,8 +127,8 @@ begins_post s = is_some (post_start s)
 -- the postfix operator that begins so, and what belongs to it; it is counted
 abbrev pub post_by : ℕ → ℕ → Level → PostStart → Reads Post
 post_by room deeper inner Bracket = made (λ (place, (e, _)). an_index place e) (counted_tok deeper (mark_place marks.OpenBracket) & inner.expr & tok deeper (mark_is marks.CloseBracket))
-post_by room deeper inner Dot = made (λ (place, m). a_member place m) (counted_tok room (mark_place marks.Dot) & tok room name_of)
-post_by room deeper inner Arrow = made (λ (place, m). an_arrow place m) (counted_tok room (mark_place marks.Arrow) & tok room name_of)
+post_by room deeper inner Dot = made (λ (place, m). a_member place m) (counted_tok room (mark_place marks.Dot) & tok room tag_of)
+post_by room deeper inner Arrow = made (λ (place, m). an_arrow place m) (counted_tok room (mark_place marks.Arrow) & tok room tag_of)
 
 -- "[" expr "]" | "." NAME | "->" NAME
 unfoldable pub post : ℕ → ℕ → Level → Reads Post
@@ -226,16 +226,18 @@ expr room deeper inner = made (λ (a, o). conditional_by a o)
 pub data SpecStart : Type 0 where
   TypeWords : SpecStart
   StructWord : SpecStart
+  EnumWord : SpecStart
 
--- what a word begins: the specifier that it is by itself, if it is one, and else a struct if it is that word
-abbrev pub if_spec : Bool → Bool → Option SpecStart
-if_spec true b = Some TypeWords
-if_spec false true = Some StructWord
-if_spec false false = None
+-- what a word begins: the specifier that it is by itself, if it is one, and else a struct or an enum if it is that word
+abbrev pub if_spec : Bool → Bool → Bool → Option SpecStart
+if_spec true b e = Some TypeWords
+if_spec false true e = Some StructWord
+if_spec false false true = Some EnumWord
+if_spec false false false = None
 
 -- which specifier the token begins, if it begins one
 abbrev pub spec_start : Sort → Option SpecStart
-spec_start (a_word w) = if_spec (is_some (type_of_word w)) (sameb word_type w words.Struct)
+spec_start (a_word w) = if_spec (is_some (type_of_word w)) (sameb word_type w words.Struct) (sameb word_type w words.Enum)
 spec_start _ = None
 
 -- "{" member { member } "}"
@@ -243,28 +245,96 @@ unfoldable pub members : ℕ → Level → Reads (List Member)
 members deeper inner = made (λ (_, (all, _)). all)
     (tok deeper (mark_is marks.OpenBrace) & row_from inner.member begins_type inner.member & tok deeper (mark_is marks.CloseBrace))
 
--- the members of a struct between its braces, if these stand there; none where braces may not stand
-abbrev pub members_where : Bool → ℕ → Level → Reads (Option (List Member))
-members_where true deeper inner = maybe (is_mark marks.OpenBrace) (members deeper inner)
-members_where false deeper inner = nothing None
+-- "=" expr
+unfoldable pub value : ℕ → Level → Reads Expr
+value room here = made (λ (_, e). e) (tok room (mark_is marks.Assign) & full here.expr)
 
--- a struct by its tag alone, or with its members (C11 6.7.2.1, 6.7.2.3)
-abbrev pub struct_by : ℕ → Name → Option (List Member) → Spec
-struct_by place tag None = struct place tag
-struct_by place tag (Some all) = struct_body place tag (members_row all)
+-- a name
+abbrev pub is_name : Sort → Bool
+is_name a_name = true
+is_name _ = false
+
+-- the enumerator of this name and value, with a comma behind it if there is one
+abbrev pub enumerator_by : Name → Option Expr → Option (Unit {0}) → Enumerator
+enumerator_by n v comma = enumerator_of n v (is_some comma)
+
+-- NAME [ "=" expr ] [ "," ]
+unfoldable pub enumerated : ℕ → Level → Reads Enumerator
+enumerated deeper inner = made (λ (n, (v, comma)). enumerator_by n v comma)
+    (tok deeper name_of & maybe (is_mark marks.Assign) (value deeper inner) & maybe (is_mark marks.Comma) (tok deeper (mark_is marks.Comma)))
+
+-- whether a comma stands directly before what is behind the enumerators
+abbrev pub parted : Bool → List Enumerator → Bool
+parted comma [] = comma
+parted comma (e ∷ es) = parted (has_comma e) es
+
+-- an enumerator begins with a name, and stands behind a comma
+abbrev pub begins_enumerator : Bool → Sort → Bool
+begins_enumerator true s = is_name s
+begins_enumerator false s = false
+
+-- "{" NAME [ "=" expr ] { "," NAME [ "=" expr ] } [ "," ] "}"
+unfoldable pub enumerators : ℕ → Level → Reads (List Enumerator)
+enumerators deeper inner = made (λ (_, (all, _)). all)
+    (tok deeper (mark_is marks.OpenBrace)
+    & chain_by (made (λ e. e ∷ []) (enumerated deeper inner)) (λ front. begins_enumerator (parted true front)) (λ front. enumerated deeper inner) pushed
+    & tok deeper (mark_is marks.CloseBrace))
+
+-- what stands behind struct or enum: a tag, a tag and what is between braces, or the latter alone
+pub data Tagged (A : Type 0) : Type 0 where
+  by_tag : (tag : Name) → Tagged A
+  by_both : (tag : Name) (body : A) → Tagged A
+  by_body : (body : A) → Tagged A
+
+-- a tag, with what is between braces if there is such
+abbrev pub tagged_by : {A : Type 0} → Name → Option A → Tagged A
+tagged_by tag None = by_tag tag
+tagged_by tag (Some body) = by_both tag body
+
+-- TNAME [ body ] | body, where braces may stand; and else TNAME
+abbrev pub tagged : {A : Type 0} → Bool → ℕ → Reads A → Reads (Tagged A)
+tagged true room body = either (is_mark marks.OpenBrace) (made by_body body) (made (λ (tag, o). tagged_by tag o) (tok room tag_of & maybe (is_mark marks.OpenBrace) body))
+tagged false room body = made by_tag (tok room tag_of)
+
+-- a struct by its tag alone, with its members, or without a tag (C11 6.7.2.1, 6.7.2.3)
+abbrev pub struct_by : ℕ → Tagged (List Member) → Spec
+struct_by place (by_tag tag) = struct place tag
+struct_by place (by_both tag all) = struct_body place tag (members_row all)
+struct_by place (by_body all) = unnamed_struct place (members_row all)
+
+-- an enum by its tag alone, with its enumerators, or without a tag (C11 6.7.2.2, 6.7.2.3)
+abbrev pub enum_by : ℕ → Tagged (List Enumerator) → Spec
+enum_by place (by_tag tag) = enum place tag
+enum_by place (by_both tag all) = enum_body place tag (enumerators_of all)
+enum_by place (by_body all) = unnamed_enum place (enumerators_of all)
 
 -- the specifier that begins so (C11 6.7.2)
 abbrev pub spec_by : Bool → ℕ → ℕ → Level → SpecStart → Reads Spec
 spec_by braces room deeper inner TypeWords = made (λ (place, w). word place w) (tok room type_word_of)
-spec_by braces room deeper inner StructWord = made (λ (place, (tag, all)). struct_by place tag all) (tok room (word_place words.Struct) & tok room name_of & members_where braces deeper inner)
+spec_by braces room deeper inner StructWord = made (λ (place, x). struct_by place x) (tok room (word_place words.Struct) & tagged braces room (members deeper inner))
+spec_by braces room deeper inner EnumWord = made (λ (place, x). enum_by place x) (tok room (word_place words.Enum) & tagged braces room (enumerators deeper inner))
 
 -- spec
 unfoldable pub spec : Bool → ℕ → ℕ → Level → Reads Spec
 spec braces room deeper inner = choice spec_start (spec_by braces room deeper inner)
 
--- spec { spec }
+-- a specifier that may be a type's name, or may not
+abbrev pub spec_behind : Bool → ℕ → ℕ → Level → Bool → Reads Spec
+spec_behind braces room deeper inner true = spec braces room deeper inner
+spec_behind braces room deeper inner false = either is_type_name (made alias (tok room type_name_of)) (spec braces room deeper inner)
+
+-- whether a type stands before what is behind the specifiers
+abbrev pub typed : Bool → List Spec → Bool
+typed t ss = typed_row t (specs_of ss)
+
+-- what a specifier begins with, where a type stands before it or doesn't
+abbrev pub begins_spec : Bool → Sort → Bool
+begins_spec true s = begins_type_word s
+begins_spec false s = begins_type s
+
+-- spec { spec }; a type's name is one only where no type stands before it
 unfoldable pub specs : Bool → ℕ → ℕ → Level → Reads (List Spec)
-specs braces room deeper inner = row_from (spec braces room deeper inner) begins_type (spec braces room deeper inner)
+specs braces room deeper inner = chain_by (made (λ s. s ∷ []) (spec_behind braces room deeper inner false)) (λ front. begins_spec (typed false front)) (λ front. spec_behind braces room deeper inner (typed false front)) pushed
 
 -- const or restrict, if the word is one of them
 abbrev pub if_pointer : Bool → Bool → Option Pointer
@@ -309,22 +379,32 @@ dim deeper inner n = made (λ (_, (e, _)). e) (derived_tok deeper n (mark_is mar
 unfoldable pub dims : ℕ → Level → ℕ → Reads (List Expr)
 dims deeper inner n = chain (nothing []) (is_mark marks.OpenBracket) (λ front. dim deeper inner (n + length front)) pushed
 
--- NAME dims, behind what stands before the name
-unfoldable pub declarator_behind : ℕ → ℕ → Level → List Pointer → Reads Declarator
-declarator_behind room deeper inner ps = made (λ (n, es). declarator ps n (exprs_of es)) (tok room name_of & dims deeper inner (stars 0 ps))
+-- the name in a declarator behind what stands before it
+abbrev pub declared_name : Naming → List Pointer → Terminal → Option Name
+declared_name as_name ps = name_of
+declared_name as_any ps = tag_of
+declared_name as_bare [] = name_of
+declared_name as_bare (p ∷ ps) = tag_of
 
--- ptr NAME dims
-unfoldable pub declared : ℕ → ℕ → Level → Reads Declarator
-declared room deeper inner = made (λ (_, d). d) (pointers room ▸ declarator_behind room deeper inner)
+-- NAME dims or TNAME dims, behind what stands before the name
+unfoldable pub declarator_behind : Naming → ℕ → ℕ → Level → List Pointer → Reads Declarator
+declarator_behind k room deeper inner ps = made (λ (n, es). declarator ps n (exprs_of es)) (tok room (declared_name k ps) & dims deeper inner (stars 0 ps))
+
+-- ptr NAME dims or ptr TNAME dims
+unfoldable pub declared : Naming → ℕ → ℕ → Level → Reads Declarator
+declared k room deeper inner = made (λ (_, d). d) (pointers room ▸ declarator_behind k room deeper inner)
 
 -- the same behind specifiers
-unfoldable pub bare_declared : ℕ → ℕ → Level → Reads Declarator
-bare_declared room deeper inner = made (λ (_, d). d) (bare_pointers room ▸ declarator_behind room deeper inner)
+unfoldable pub bare_declared : Naming → ℕ → ℕ → Level → Reads Declarator
+bare_declared k room deeper inner = made (λ (_, d). d) (bare_pointers room ▸ declarator_behind k room deeper inner)
 
--- specs ptr NAME dims { "," ptr NAME dims } ";"
+-- ptr TNAME dims { "," ptr TNAME dims } ";" behind specifiers, with a type among them or none
+unfoldable pub any_declared : ℕ → ℕ → Level → Bool → Reads (List Declarator × Unit {0})
+any_declared room deeper inner t = commas room (bare_declared (naming_of t) room deeper inner) (declared as_any room deeper inner) & tok room (mark_is marks.Semicolon)
+
+-- specs ptr TNAME dims { "," ptr TNAME dims } ";"
 unfoldable pub membered : ℕ → ℕ → Level → Reads Member
-membered room deeper inner = made (λ (ss, (ds, _)). members_of (specs_of ss) (declarators_of ds))
-    (specs true room deeper inner & commas room (bare_declared room deeper inner) (declared room deeper inner) & tok room (mark_is marks.Semicolon))
+membered room deeper inner = made (λ (ss, (ds, _)). members_of (specs_of ss) (declarators_of ds)) (specs true room deeper inner ▸ λ ss. any_declared room deeper inner (typed false ss))
 
 -- ---- the levels
 
@@ -357,10 +437,6 @@ level_at braces (suc deeper) = level_by braces deeper (level_at braces deeper)
 
 -- ---- declarations (C11 6.7)
 
--- "=" expr
-unfoldable pub value : ℕ → Level → Reads Expr
-value room here = made (λ (_, e). e) (tok room (mark_is marks.Assign) & full here.expr)
-
 -- the declarator with its initialiser, if it has one
 abbrev pub init_by : Declarator → Option Expr → InitDeclarator
 init_by d v = record { declarator = d; value = v }
@@ -374,8 +450,8 @@ unfoldable pub declaration : ℕ → Reads Declaration
 declaration zero = too_deep begins_type
 declaration (suc deeper) = made (λ (ss, (ds, _)). record { specs = ss; declarators = ds })
     (specs false (suc deeper) deeper (level_at false deeper)
-    & commas (suc deeper) (initialised (suc deeper) (level_at false (suc deeper)) (bare_declared (suc deeper) deeper (level_at false deeper)))
-    (initialised (suc deeper) (level_at false (suc deeper)) (declared (suc deeper) deeper (level_at false deeper)))
+    & commas (suc deeper) (initialised (suc deeper) (level_at false (suc deeper)) (bare_declared as_name (suc deeper) deeper (level_at false deeper)))
+    (initialised (suc deeper) (level_at false (suc deeper)) (declared as_name (suc deeper) deeper (level_at false deeper)))
     & tok (suc deeper) (mark_is marks.Semicolon))
 
 -- ---- statements (C11 6.8)
@@ -449,6 +525,8 @@ pub data StmtStart : Type 0 where
   AnIf : StmtStart
   AWhile : StmtStart
   AFor : StmtStart
+  ADo : StmtStart
+  ASwitch : StmtStart
   ABreak : StmtStart
   AContinue : StmtStart
   AReturn : StmtStart
@@ -466,6 +544,8 @@ stmt_start (a_mark marks.Semicolon) = Some AnEmpty
 stmt_start (a_word words.If) = Some AnIf
 stmt_start (a_word words.While) = Some AWhile
 stmt_start (a_word words.For) = Some AFor
+stmt_start (a_word words.Do) = Some ADo
+stmt_start (a_word words.Switch) = Some ASwitch
 stmt_start (a_word words.Break) = Some ABreak
 stmt_start (a_word words.Continue) = Some AContinue
 stmt_start (a_word words.Return) = Some AReturn
@@ -489,6 +569,24 @@ abbrev pub if_by : ℕ → Expr → Stmt → Option Stmt → Stmt
 if_by place e s None = if_then place e s
 if_by place e s (Some t) = if_else place e s t
 
+-- a token that a label begins with
+abbrev pub is_label : Sort → Bool
+is_label s = is_word words.Case s || is_word words.Default s
+
+-- "case" expr ":" | "default" ":"
+unfoldable pub label : ℕ → Reads Stmt
+label room = either (is_word words.Case)
+    (made (λ (place, (e, _)). case_label place e) (tok room (word_place words.Case) & full (level_at false room).expr & tok room (mark_is marks.Colon)))
+    (made (λ (place, _). default_label place) (tok room (word_place words.Default) & tok room (mark_is marks.Colon)))
+
+-- a token that a label or a statement begins with
+abbrev pub begins_entry : Sort → Bool
+begins_entry s = is_label s || begins_stmt s
+
+-- "{" { label | stmt } "}"
+unfoldable pub entries : ℕ → Reads Stmt → Reads (List Stmt)
+entries deeper stmt = made (λ (_, (all, _)). all) (tok deeper (mark_is marks.OpenBrace) & row begins_entry (either is_label (label deeper) stmt) & tok deeper (mark_is marks.CloseBrace))
+
 -- the statement that begins so; an else belongs to the nearest if before it (C11 6.8.4.1)
 abbrev pub stmt_by : ℕ → ℕ → Reads Stmt → StmtStart → Reads Stmt
 stmt_by room deeper inner ABlock = made (λ (place, all). block place (stmts_of all)) (items deeper inner)
@@ -499,6 +597,9 @@ stmt_by room deeper inner AWhile = made (λ (place, (e, s)). while place e s) (t
 stmt_by room deeper inner AFor = made (λ (place, (_, (f, (e, (_, (step, (_, s))))))). for place f e step s)
     (tok room (word_place words.For) & tok deeper (mark_is marks.OpenParen) & first deeper & maybe begins_expr (full (level_at false deeper).expr) & tok deeper (mark_is marks.Semicolon)
     & maybe begins_simple (simply deeper) & tok deeper (mark_is marks.CloseParen) & inner)
+stmt_by room deeper inner ADo = made (λ (place, (s, (_, (e, _)))). do_while place s e)
+    (tok room (word_place words.Do) & inner & tok room (word_is words.While) & condition deeper & tok room (mark_is marks.Semicolon))
+stmt_by room deeper inner ASwitch = made (λ (place, (e, all)). switch place e (stmts_of all)) (tok room (word_place words.Switch) & condition deeper & entries deeper inner)
 stmt_by room deeper inner ABreak = made (λ (place, _). break place) (tok room (word_place words.Break) & tok room (mark_is marks.Semicolon))
 stmt_by room deeper inner AContinue = made (λ (place, _). continue place) (tok room (word_place words.Continue) & tok room (mark_is marks.Semicolon))
 stmt_by room deeper inner AReturn = made (λ (place, (e, _)). return place e)
@@ -520,11 +621,6 @@ param_dim_by place e = record { place = place; size = e }
 unfoldable pub param_dim : ℕ → ℕ → Reads ParamDim
 param_dim deeper n = made (λ (place, (e, _)). param_dim_by place e)
     (derived_tok deeper n (mark_place marks.OpenBracket) & maybe begins_expr (full (level_at false deeper).expr) & tok deeper (mark_is marks.CloseBracket))
-
--- a name
-abbrev pub is_name : Sort → Bool
-is_name a_name = true
-is_name _ = false
 
 -- [ NAME ] { "[" [ expr ] "]" }, behind what stands before the name
 unfoldable pub param_behind : ℕ → ℕ → List Pointer → Reads (Option Name × List ParamDim)
@@ -552,7 +648,7 @@ body = either (is_mark marks.OpenBrace) (made (λ b. Some (body_by b)) (items 12
 unfoldable pub variable_rest : List Pointer → Name → Reads Rest
 variable_rest ps n = made (λ (es, (v, (ds, _))). variables (init_by (declarator ps n (exprs_of es)) v ∷ ds))
     (dims 128 (level_at true 128) (stars 0 ps) & maybe (is_mark marks.Assign) (value 129 (level_at true 129))
-    & row (is_mark marks.Comma) (made (λ (_, i). i) (tok 129 (mark_is marks.Comma) & initialised 129 (level_at true 129) (declared 129 128 (level_at true 128))))
+    & row (is_mark marks.Comma) (made (λ (_, i). i) (tok 129 (mark_is marks.Comma) & initialised 129 (level_at true 129) (declared as_name 129 128 (level_at true 128))))
     & tok 129 (mark_is marks.Semicolon))
 
 -- what is behind the name at file scope
@@ -564,18 +660,19 @@ unfoldable pub external_rest : Reads Rest
 external_rest = either (is_mark marks.Semicolon) (made (λ _. trees.nothing) (tok 129 (mark_is marks.Semicolon)))
     (made (λ (_, (_, r)). r) (bare_pointers 129 ▸ λ ps. tok 129 name_of ▸ λ n. named_rest ps n))
 
--- the external declaration with these parts
-abbrev pub external_by : List Storage → List Spec → Rest → External
-external_by storage ss r = record { storage = storage; specs = ss; rest = r }
+-- "typedef" specs ptr TNAME dims { "," ptr TNAME dims } ";"
+unfoldable pub typedef : Reads External
+typedef = made (λ (_, (ss, (ds, _))). types_by ss ds) (tok 129 (word_is words.Typedef) & specs true 129 128 (level_at true 128) ▸ λ ss. any_declared 129 128 (level_at true 128) (typed false ss))
 
 -- external
 unfoldable pub external : Reads External
-external = made (λ (storage, (ss, r)). external_by storage ss r)
-    (row is_storage (tok 129 storage_of) & specs true 129 128 (level_at true 128) & external_rest)
+external = either (is_word words.Typedef) typedef
+    (made (λ (storage, (ss, r)). external_of storage ss r)
+    (row is_storage (tok 129 storage_of) & specs true 129 128 (level_at true 128) & external_rest))
 
 -- a token that an external declaration begins with
 abbrev pub begins_external : Sort → Bool
-begins_external s = is_storage s || begins_type s
+begins_external s = is_word words.Typedef s || (is_storage s || begins_type s)
 
 -- { external } End
 unfoldable pub file : Reads File

@@ -1,6 +1,6 @@
 -- How the code stands to the readers.
 use Rattle.std.specs.Prelude.{◌≡◌, ℕ, ◌<◌, ◌≤◌, List, [], ◌∷◌, ◌++◌, length, Option, Some, None, Result, Ok, Err, Bool}
-use Rattle.c_lex.specs.declared.token.Token.{Token}
+use Rattle.c_grammar.specs.declared.terminal.Terminal.{Terminal}
 use Rattle.c_lex.specs.declared.refusal.Kind.{Kind}
 use Rattle.parse_tokens.specs.declared.parser.Parser.{Parser}
 use Rattle.parse_tokens.specs.declared.parser.Stop.{Stop}
@@ -26,7 +26,7 @@ Takes old new (Ok a) = length new.rest.now < length old.rest.now
 Takes old new (Err e) = Unit {0}
 
 -- what the next token begins, with all tokens left; a token that begins nothing may not stand there
-abbrev pub peek_turn : {S : Type 0} → ℕ → Token → List Token → Option S → Reading S
+abbrev pub peek_turn : {S : Type 0} → ℕ → Terminal → List Terminal → Option S → Reading S
 peek_turn c t ts None = Err (stop unexpected (length (t ∷ ts)))
 peek_turn c t ts (Some s) = got s c (t ∷ ts)
 

@@ -34,3 +34,4 @@ unary_view unaries.Sizeof = reading.Sizeof
 abbrev pub spec_view : SpecStart → reading.SpecStart
 spec_view specs.Word = reading.TypeWords
 spec_view specs.Struct = reading.StructWord
+spec_view specs.Enum = reading.EnumWord

@@ -1,4 +1,4 @@
-use Rattle.c_grammar.proofs.FileReading.{each_is_judged}
+use Rattle.c_grammar.proofs.TextLaws.{each_is_judged}
 use Rattle.c_grammar.proofs.laws.each_is_judged.Goals as goal
 
 pub returns : goal.returns

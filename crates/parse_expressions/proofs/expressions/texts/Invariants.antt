@@ -6,7 +6,7 @@ use Rattle.parse_expressions.proofs.expressions.texts.Given as goal
 
 abbrev pub invariant-texts : goal.invariant-texts
 invariant-texts l = record {
-  going : Going is_text (λ _. tok l.room text_of) pushed (row_from (tok l.room text_of) is_text (tok l.room text_of) l.fn.parser.count l.fn.parser.rest.now) l.all.items l.parser.count l.parser.rest.now;
+  going : Going (λ _. is_text) (λ _. tok l.room text_of) pushed (row_from (tok l.room text_of) is_text (tok l.room text_of) l.fn.parser.count l.fn.parser.rest.now) l.all.items l.parser.count l.parser.rest.now;
   takes : length l.parser.rest.now < length l.fn.parser.rest.now;
 }
 

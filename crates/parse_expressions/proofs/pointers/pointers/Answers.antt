@@ -42,7 +42,7 @@ returns-clause-reads c =
 pub pointers-init : goal.pointers-init
 unfolding pointers
 pointers-init c = record {
-  going = rw c.new-all.ensures.items (begins is_pointer (λ front. choice pointer_start (pointer_by c.args.room (stars 0 front))) pushed [] c.args.parser.now.count c.args.parser.now.rest.now);
+  going = rw c.new-all.ensures.items (begins (λ _. is_pointer) (λ front. choice pointer_start (pointer_by c.args.room (stars 0 front))) pushed [] c.args.parser.now.count c.args.parser.now.rest.now);
   before = rw c.new-all.ensures.items refl;
   keeps = omega arith;
 }

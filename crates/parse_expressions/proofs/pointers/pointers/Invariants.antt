@@ -8,7 +8,7 @@ use Rattle.parse_expressions.proofs.pointers.pointers.Given as goal
 
 abbrev pub invariant-pointers : goal.invariant-pointers
 invariant-pointers l = record {
-  going : Going is_pointer (λ front. choice pointer_start (pointer_by l.room (stars 0 front))) pushed (pointers l.room l.fn.parser.count l.fn.parser.rest.now) l.all.items l.parser.count l.parser.rest.now;
+  going : Going (λ _. is_pointer) (λ front. choice pointer_start (pointer_by l.room (stars 0 front))) pushed (pointers l.room l.fn.parser.count l.fn.parser.rest.now) l.all.items l.parser.count l.parser.rest.now;
   before : l.before ≡ stars 0 l.all.items;
   keeps : length l.parser.rest.now ≤ length l.fn.parser.rest.now;
 }
