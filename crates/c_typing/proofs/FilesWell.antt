@@ -194,6 +194,8 @@ at_file c e q = ap (λ (os : List Frame). or_else (lookup (bytes_eq q) c.inner) 
 start_good : (fs : List Signature) (c : Context) → FileGood fs c → Good (W fs 0) (before_params c)
 start_good fs c f = record {
   results = f.good.results;
+  since = f.good.since;
+  numbered = f.good.numbered;
   names = λ q m h. by q m (sym (found_last c.outer c.inner q) ∙ h);
   layouts = f.good.layouts;
   apart = f.good.apart;
@@ -270,6 +272,8 @@ module _ (fs : List Signature) (names : List (List ℕ)) (around p : Context) (n
   behind_good : Good (W fs 0) D
   behind_good = record {
     results = h.given.good.results;
+    since = h.given.good.since;
+    numbered = h.given.good.numbered;
     names = λ q m k. (named_visible q m k).1;
     layouts = h.given.good.layouts;
     apart = h.given.good.apart;
@@ -302,6 +306,8 @@ module _ (fs : List Signature) (names : List (List ℕ)) (around p : Context) (n
   body_good : Good (W fs (length xs)) B
   body_good = record {
     results = h.given.good.results;
+    since = h.given.good.since;
+    numbered = h.given.good.numbered;
     names = λ q m k. by q m (lookup (bytes_eq q) p.inner) refl (ap (or_else (lookup (bytes_eq q) p.inner)) (sym (found_last around.outer x q)) ∙ k);
     layouts = h.given.good.layouts;
     apart = h.given.good.apart;
@@ -530,6 +536,8 @@ defined_step fs names around p n xs r x y h z ss a fresh result = record {
     closed_good : Good (W fs 0) (Closed around z x n)
     closed_good = record {
       results = a.good.results;
+      since = a.good.since;
+      numbered = a.good.numbered;
       names = λ q m k. named q m (named_visible fs names around p n xs r x y h q m k);
       layouts = a.good.layouts;
       apart = a.good.apart;

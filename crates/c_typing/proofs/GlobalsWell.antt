@@ -98,6 +98,8 @@ with_size c t = record c { globals = c.globals ++ t ∷ []; plain = c.plain + ta
 size_good : (w : World) (c : Context) → Good w c → (t : Ty) → IsObject c.structs t → c.plain + taken (size_in c.structs t) ≤ most_plain → Good w (with_size c t)
 size_good w c g t o small = record {
   results = g.results;
+  since = g.since;
+  numbered = g.numbered;
   names = λ q m h. named_kept w c (with_size c t) (λ n u k. get_before c.globals (t ∷ []) n u k) (λ n u k. k) m (g.names q m h);
   layouts = g.layouts;
   apart = g.apart;

@@ -2,6 +2,7 @@ pub mod RowsProof
 pub mod Least
 pub mod Extending
 pub mod Unmoved
+pub mod Lengthened
 pub mod Carried
 pub mod Elements
 pub mod Apart

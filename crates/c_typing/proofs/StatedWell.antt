@@ -31,7 +31,7 @@ use Rattle.c_typing.proofs.Elements.{get_before, get_last, get_either}
 use Rattle.c_typing.proofs.Carried.{OnTyped, given, not_given, on_bind, on_unless, on_mismatch, on_weaker, Plain, World, IsNamed, IsObject, visible, Good, Within, within_further, looser, Over, over_before, After, Keeps, keeps_lone, keeps_in_turn, keeps_ruled, keeps_weaker, keeps_looser}
 use Rattle.c_typing.proofs.RuledWell.{Fine, value_fine, Fitting, fits}
 use Rattle.c_typing.proofs.TypesWell.{ArePositive, object_well}
-use Rattle.c_typing.proofs.Shown.{named_kept}
+use Rattle.c_typing.proofs.Shown.{named_kept, named_too, name_good}
 use Rattle.c_typing.proofs.Own.{own, over_own}
 use Rattle.c_typing.proofs.JudgedWell.{FineFor, fine_of, valued_keeps, judged_keeps, dims_keeps, judged_specs_keeps}
 
@@ -158,34 +158,15 @@ simple_keeps w r l (source.eval s) = keeps_ruled w false (valued (judged s)) (λ
 
 -- ---- declarations
 
-pub lookup_last : {X : Type 0} (q : List ℕ → Bool) (xs : List (List ℕ × X)) (k : List ℕ) (v : X) → lookup q (xs ++ (k, v) ∷ []) ≡ or_else (lookup q xs) (if q k then Some v else None)
-lookup_last q [] k v = refl
-lookup_last {X} q (x ∷ xs) k v = by (q x.0) (lookup_last q xs k v)
-  where
-    by : (b : Bool) → lookup q (xs ++ (k, v) ∷ []) ≡ or_else (lookup q xs) (if q k then Some v else None)
-        → (if b then Some x.1 else lookup q (xs ++ (k, v) ∷ [])) ≡ or_else (if b then Some x.1 else lookup q xs) (if q k then Some v else None)
-    by true h = refl
-    by false h = h
-
--- what a scope says with one more name is that name's meaning, or what it said before
-pub seen_or_new : (inner : Frame) (outer : Option Binding) (k q : List ℕ) (v m : Binding) → or_else (lookup (bytes_eq q) (inner ++ (k, v) ∷ [])) outer ≡ Some m → (or_else (lookup (bytes_eq q) inner) outer ≡ Some m) ⊎ (v ≡ m)
-seen_or_new inner outer k q v m h = by (lookup (bytes_eq q) inner) (bytes_eq q k) (sym (ap (λ o. or_else o outer) (lookup_last (bytes_eq q) inner k v)) ∙ h)
-  where
-    by : (o : Option Binding) (b : Bool) → or_else (or_else o (if b then Some v else None)) outer ≡ Some m → (or_else o outer ≡ Some m) ⊎ (v ≡ m)
-    by (Some x) b h = inl h
-    by None true h = inr cc
-    by None false h = inl h
-
 abbrev pub with_type : Context → Ty → Context
 with_type c t = record c { locals = c.locals ++ t ∷ [] }
-
-abbrev named_too : Context → Name → Binding → Context
-named_too c n m = record c { inner = c.inner ++ (bytes_of c.text n, m) ∷ [] }
 
 pub type_good : (w : World) (c : Context) → Good w c → (t : Ty) → IsObject c.structs t → length c.locals < 1024 → Good w (with_type c t)
 type_good w c g t o few = record {
   results = g.results;
-  names = λ q m h. named_kept w c (with_type c t) (λ n u k. k) (λ n u k. get_before c.locals (t ∷ []) n u k) m (g.names q m h);
+  since = g.since;
+  numbered = g.numbered;
+  names = λ q m h. named_kept w c (with_type c t) (extends_itself c.structs) (λ n u k. k) (λ n u k. get_before c.locals (t ∷ []) n u k) m (g.names q m h);
   layouts = g.layouts;
   apart = g.apart;
   members = g.members;
@@ -204,29 +185,6 @@ type_good w c g t o few = record {
     by : (n : ℕ) (u : Ty) → (slice_get c.locals n ≡ Some u) ⊎ (t ≡ u) → IsObject c.structs u
     by n u (inl h) = g.locals n u h
     by n u (inr e) = subst (IsObject c.structs) e o
-
-pub name_good : (w : World) (c : Context) → Good w c → (n : Name) (m : Binding) → IsNamed w c m → Good w (named_too c n m)
-name_good w c g n m i = record {
-  results = g.results;
-  names = λ q p h. by q p (seen_or_new c.inner (found c.outer q) (bytes_of c.text n) q m p h);
-  layouts = g.layouts;
-  apart = g.apart;
-  members = g.members;
-  unbegun = g.unbegun;
-  tags = g.tags;
-  begun = g.begun;
-  literals = g.literals;
-  globals = g.globals;
-  locals = g.locals;
-  plain = g.plain;
-  small = g.small;
-  params = g.params;
-  few = g.few;
-}
-  where
-    by : (q : List ℕ) (p : Binding) → (visible c q ≡ Some p) ⊎ (m ≡ p) → IsNamed w (named_too c n m) p
-    by q p (inl h) = named_kept w c (named_too c n m) (λ n t k. k) (λ n t k. k) p (g.names q p h)
-    by q p (inr e) = subst (λ x. IsNamed w (named_too c n m) x) e (named_kept w c (named_too c n m) (λ n t k. k) (λ n t k. k) m i)
 
 pub local_good : (w : World) (c : Context) → Good w c → (n : Name) (t : Ty) → IsObject c.structs t → length c.locals < 1024 → Good w (with_local c n t)
 local_good w c g n t o few = by (is_double c n)

@@ -37,6 +37,8 @@ found_last (g ∷ fs) f q = ap (λ o. or_else o (lookup (bytes_eq q) g)) (found_
 pub inside_good : (w : World) (c : Context) → Good w c → Good w (inside c)
 inside_good w c g = record {
   results = g.results;
+  since = g.since;
+  numbered = g.numbered;
   names = λ q m h. named_kept w c (inside c) (λ n t k. k) (λ n t k. k) m (g.names q m (sym (found_last c.outer c.inner q) ∙ h));
   layouts = g.layouts;
   apart = g.apart;
@@ -56,6 +58,8 @@ inside_good w c g = record {
 back_good : (w : World) (c d : Context) → Good w c → Good w d → Within false (inside c) d → Good w (back_to c d)
 back_good w c d g k f = record {
   results = k.results;
+  since = k.since;
+  numbered = k.numbered;
   names = λ q m h. named_kept w c (back_to c d) f.0.globals f.1.locals m (g.names q m h);
   layouts = k.layouts;
   apart = k.apart;
