@@ -348,21 +348,21 @@ keeps_ready w v j h = record {
 }
 
 -- judging that is ruled by what was there before it
-pub ruled_after : {A B : Type 0} (w : World) (c : Context) (a : Judging A) (rule : Context → A → Judged B) (FineA : form.InScope → A → Type 0) (FineB : form.InScope → B → Type 0)
-    → Good w c → Keeps w true a FineA → ((d : Context) (e : form.InScope) (x : A) → Within true c d → Good w d → Over w d e → FineA e x → OnTyped (FineB e) (rule d x))
-    → OnTyped (λ y. After w true c (ruled a rule c).1 (λ e. FineB e y)) (ruled a rule c).0
-ruled_after {A} {B} w c a rule FineA FineB g ka f = by (a c).1 (a c).0 (ka.keeps c g)
+pub ruled_after : {A B : Type 0} (w : World) (v : Bool) (c : Context) (a : Judging A) (rule : Context → A → Judged B) (FineA : form.InScope → A → Type 0) (FineB : form.InScope → B → Type 0)
+    → Good w c → Keeps w v a FineA → ((d : Context) (e : form.InScope) (x : A) → Within v c d → Good w d → Over w d e → FineA e x → OnTyped (FineB e) (rule d x))
+    → OnTyped (λ y. After w v c (ruled a rule c).1 (λ e. FineB e y)) (ruled a rule c).0
+ruled_after {A} {B} w v c a rule FineA FineB g ka f = by (a c).1 (a c).0 (ka.keeps c g)
   where
-    then : (d : Context) (P : form.InScope → Type 0) (k : Judged B) → After w true c d P → ((e : form.InScope) → Over w d e → P e → OnTyped (FineB e) k) → OnTyped (λ y. After w true c d (λ e. FineB e y)) k
+    then : (d : Context) (P : form.InScope → Type 0) (k : Judged B) → After w v c d P → ((e : form.InScope) → Over w d e → P e → OnTyped (FineB e) k) → OnTyped (λ y. After w v c d (λ e. FineB e y)) k
     then d P (typed y) p h = record { good = p.good; within = p.within; fine = λ e o. h e o (p.fine e o) }
     then d P (faulty r rs) p h = tt
 
-    by : (d : Context) (j : Judged A) → OnTyped (λ x. After w true c d (λ e. FineA e x)) j → OnTyped (λ y. After w true c d (λ e. FineB e y)) (j >>= rule d)
+    by : (d : Context) (j : Judged A) → OnTyped (λ x. After w v c d (λ e. FineA e x)) j → OnTyped (λ y. After w v c d (λ e. FineB e y)) (j >>= rule d)
     by d (typed x) p = then d (λ e. FineA e x) (rule d x) p (λ e o h. f d e x p.within p.good o h)
     by d (faulty r rs) p = tt
 
 -- what was judged once more structs were there, from before that
-pub after_from : (w : World) (c b d : Context) (P : form.InScope → Type 0) → Good w b → Within true c b → After (since w b.structs) true b d P → After w true c d P
-after_from w c b d P g v a =
-    let k = after_since w b.structs w.structs true b d P (extends_further w.structs b.structs d.structs g.since a.within.0.structs) a in
-    record { good = k.good; within = within_further true c b d v k.within; fine = k.fine }
+pub after_from : (w : World) (v : Bool) (c b d : Context) (P : form.InScope → Type 0) → Good w b → Within v c b → After (since w b.structs) v b d P → After w v c d P
+after_from w v c b d P g f a =
+    let k = after_since w b.structs w.structs v b d P (extends_further w.structs b.structs d.structs g.since (looser v b d a.within).0.structs) a in
+    record { good = k.good; within = within_further v c b d f k.within; fine = k.fine }

@@ -194,7 +194,7 @@ no_call_keeps w place kind args ka =
 
 function_after : (w : World) (c : Context) → Good w c → (place n : ℕ) (params : List Ty) (result : Ty) (args : Judging (List Expr)) → IsNamed w c (function_name n params result) → Keeps w true args AreFine
     → OnTyped (λ x. After w true c (ruled args (λ d es. called place n params result es) c).1 (λ e. Made e x)) (ruled args (λ d es. called place n params result es) c).0
-function_after w c g place n params result args f ka = ruled_after w c args (λ d es. called place n params result es) AreFine Made g ka
+function_after w c g place n params result args f ka = ruled_after w true c args (λ d es. called place n params result es) AreFine Made g ka
     (λ d e es v k o h. called_made e place n params result es (ready_kept c.structs e.structs (extends_further c.structs d.structs e.structs v.0.structs o.structs) result f.1)
     (subst (λ (fs : List Signature). slice_get fs n ≡ Some (record { params = params; result = result })) (sym o.funcs) f.0) h)
 
@@ -295,7 +295,7 @@ object_keeps w base hb pointers n sizes kd = record {
     object_after : (w : World) (c : Context) → Good w c → (base : Judged Ty) → OnTyped (Ready c.structs) base → (pointers : List Pointer) (n : Name) (sizes : Judging (List ℕ)) → Keeps w true sizes (λ e ns. ArePositive ns)
         → OnTyped (λ t. After w true c (object_by base pointers n sizes c).1 (λ e. IsObject e.structs t)) (object_by base pointers n sizes c).0
     object_after w c g (typed t) hb pointers n sizes kd =
-        ruled_after w c (in_turn (lone (typed t)) sizes) (λ d p. object_declared d p.0 (record { name = n; pointers = pointers; sizes = p.1 })) (λ e p. (t ≡ p.0) × ArePositive p.1) (λ e t. IsObject e.structs t) g
+        ruled_after w true c (in_turn (lone (typed t)) sizes) (λ d p. object_declared d p.0 (record { name = n; pointers = pointers; sizes = p.1 })) (λ e p. (t ≡ p.0) × ArePositive p.1) (λ e t. IsObject e.structs t) g
         (keeps_in_turn w true (lone (typed t)) sizes (λ e u. t ≡ u) (λ e ns. ArePositive ns) (keeps_lone w true (typed t) (λ e u. t ≡ u) (λ e. refl)) kd)
         (λ d e p v k o h. on_weaker (IsObject d.structs) (IsObject e.structs) (object_declared d p.0 (record { name = n; pointers = pointers; sizes = p.1 }))
         (object_well w d k p.0 (record { name = n; pointers = pointers; sizes = p.1 }) (subst (Ready d.structs) h.0 (ready_kept c.structs d.structs v.0.structs t hb)) h.1) (λ u i. object_kept d.structs e.structs o.structs u i))
@@ -329,7 +329,7 @@ together_keeps w before count specs ds ks kd c g = by (specs c).1 (specs c).0 (k
     by b (typed t) a =
         given (λ all. After (since w b.structs) true b (ds (typed t) b).1 (λ e. AreMembersOf before count e all)) (λ all. After w true c (ds (typed t) b).1 (λ e. AreMembersOf before count e all)) t (ds (typed t) b).0
         ((kd b.structs (typed t) (a.fine (own w b) (over_own w b a.good))).keeps b (good_since w w.structs b.structs b (extends_itself b.structs) a.good))
-        (λ all k. after_from w c b (ds (typed t) b).1 (λ e. AreMembersOf before count e all) a.good a.within k)
+        (λ all k. after_from w true c b (ds (typed t) b).1 (λ e. AreMembersOf before count e all) a.good a.within k)
     by b (faulty q qs) a = not_given _ q qs (ds (faulty q qs) b).0 (λ p. typed p.1)
 
 append_objects : (s : List Layout) (a b : List (List ℕ × Ty)) → AreObjects s a → AreObjects s b → AreObjects s (a ++ b)
