@@ -25,7 +25,7 @@ use Rattle.c_typing.specs.Constants.{constant_value}
 use Rattle.c_typing.specs.Judgement.{lone, in_turn, valued, Declarator, object_declared, judged, name_in}
 use Rattle.c_typing.specs.Statements.{or_int, judged_declarator, name_of}
 use Rattle.c_typing.specs.Programs.{is_null_word, literal_of, number_at, string_at, pointer_at, init_at, started_with, judged_global_init, with_global, judged_global, judged_globals}
-use Rattle.c_typing.proofs.Extending.{extends_itself, extends_further, Ready, ready_kept, sized_kept, below, at_most}
+use Rattle.c_typing.proofs.Extending.{Extends, extends_itself, extends_further, Ready, ready_kept, sized_kept, below, at_most}
 use Rattle.c_typing.proofs.Elements.{get_before, get_last, get_either, sum_last}
 use Rattle.c_typing.proofs.Carried.{OnTyped, OnSome, on_weaker, World, since, good_since, IsObject, Good, Grows, grows_further, Within, within_itself, After, Keeps, keeps_lone, keeps_in_turn, keeps_ruled}
 use Rattle.c_typing.proofs.RuledWell.{Fine, same_int_is}
@@ -34,7 +34,7 @@ use Rattle.c_typing.proofs.Shown.{named_kept, name_good}
 use Rattle.c_typing.proofs.Own.{own, over_own}
 use Rattle.c_typing.proofs.JudgedWell.{valued_keeps, judged_keeps}
 use Rattle.c_typing.proofs.StatedWell.{declarator_keeps, none_of, unfit}
-use Rattle.c_typing.proofs.Lengthened.{IsEnumerator, Lengthens, meaning_before, lookup_last}
+use Rattle.c_typing.proofs.Lengthened.{IsEnumerator, Lengthens, meaning_before, function_before}
 
 -- ---- what a global starts with
 
@@ -155,13 +155,6 @@ free_before old new f q g m h = by m (meaning_before old new f q m h)
     by (type_name t) (inr i) = tt
     by (library_name which) (inr i) = tt
     by (local_name n t) (inr i) = absurd i
-
-pub function_before : (old new : Frame) → Lengthens old new → (q : List ℕ) (n : ℕ) (ps : List Ty) (r : Ty) → lookup (bytes_eq q) new ≡ Some (function_name n ps r) → lookup (bytes_eq q) old ≡ Some (function_name n ps r)
-function_before old new f q n ps r h = by (meaning_before old new f q (function_name n ps r) h)
-  where
-    by : (lookup (bytes_eq q) old ≡ Some (function_name n ps r)) ⊎ IsEnumerator (Some (function_name n ps r)) → lookup (bytes_eq q) old ≡ Some (function_name n ps r)
-    by (inl e) = e
-    by (inr i) = absurd i
 
 abbrev IsHeld : List Layout → List (List ℕ) → GlobalVar → Type 0
 IsHeld s ls g = IsSized s g.ty × IsInit ls g.ty g.init
@@ -375,3 +368,18 @@ globals_after w base h (x ∷ xs) c g = by (judged_global base x c).1 (judged_gl
     by : (d : Context) (j : Judged GlobalVar) → OnTyped (λ y. Globals w c d (y ∷ [])) j → ((d : Context) → Good w d → OnTyped (λ gs. Globals w d (judged_globals base xs d).1 gs) (judged_globals base xs d).0) → OnTyped (λ gs. Globals w c (judged_globals base xs d).1 gs) (both j (judged_globals base xs d).0 >>= λ q. typed (q.0 ∷ q.1))
     by d (typed y) a f = more d (judged_globals base xs d).1 y (judged_globals base xs d).0 a (f d a.good)
     by d (faulty r rs) a f = none (judged_globals base xs d).1 r rs (judged_globals base xs d).0
+
+-- once more structs are there
+pub globals_since : (w : World) (t : List Layout) (c d : Context) (gs : List GlobalVar) → Extends t d.structs → Globals w c d gs → Globals (since w t) c d gs
+globals_since w t c d gs f g = record {
+  good = good_since w w.structs t d f g.good;
+  grows = g.grows;
+  outer = g.outer;
+  free = g.free;
+  no_functions = g.no_functions;
+  functions = g.functions;
+  bodies = g.bodies;
+  globals = g.globals;
+  few = g.few;
+  held = g.held;
+}

@@ -2,7 +2,8 @@
 use Rattle.std.proofs.Common.{◌≡◌, ℕ, ◌⊎◌, inl, inr, Bool, true, false, refl, sym, ap, ◌∙◌, subst, List, [], ◌∷◌, ◌++◌, Option, Some, None, if◌then◌else◌}
 use Rattle.std.specs.Map.{lookup}
 use Rattle.std.specs.Str.{bytes_eq}
-use Rattle.c_typing.specs.Scope.{Binding, enumerator_name, Frame, or_else}
+use Rattle.c_typing.specs.Scope.{Binding, function_name, enumerator_name, Frame, or_else}
+use Rattle.c_tree.specs.Typed.{Ty}
 
 -- an enumerator
 abbrev pub IsEnumerator : Option Binding → Type 0
@@ -61,3 +62,11 @@ one_longer f k m i q = by (lookup (bytes_eq q) f) (bytes_eq q k) (lookup_last (b
     by (Some x) b e = inl e
     by None true e = inr (refl, subst IsEnumerator (sym e) i)
     by None false e = inl e
+
+-- a function was there before
+pub function_before : (old new : Frame) → Lengthens old new → (q : List ℕ) (n : ℕ) (ps : List Ty) (r : Ty) → lookup (bytes_eq q) new ≡ Some (function_name n ps r) → lookup (bytes_eq q) old ≡ Some (function_name n ps r)
+function_before old new f q n ps r h = by (meaning_before old new f q (function_name n ps r) h)
+  where
+    by : (lookup (bytes_eq q) old ≡ Some (function_name n ps r)) ⊎ IsEnumerator (Some (function_name n ps r)) → lookup (bytes_eq q) old ≡ Some (function_name n ps r)
+    by (inl e) = e
+    by (inr i) = absurd i

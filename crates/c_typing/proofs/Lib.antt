@@ -20,5 +20,6 @@ pub mod FunctionWell
 pub mod ParamsWell
 pub mod GlobalsWell
 pub mod HeadsWell
+pub mod AliasesWell
 pub mod FilesWell
 pub mod WellFormed
