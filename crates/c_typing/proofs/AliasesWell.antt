@@ -2,6 +2,7 @@
 use Rattle.std.proofs.Common.{◌≡◌, ℕ, ◌+◌, ◌⊎◌, inl, inr, Bool, true, false, not, refl, sym, ap, ◌∙◌, arith, List, [], ◌∷◌, ◌++◌, length, append-nil, Option, Some, None, if◌then◌else◌}
 use Rattle.std.specs.Map.{lookup}
 use Rattle.std.specs.Str.{bytes_eq}
+use Rattle.ak_words.specs.IntType.{int}
 use Rattle.c_lex.specs.declared.refusal.Refusal.{Refusal}
 use Rattle.c_tree.specs.declared.syntax.Name.{Name}
 use Rattle.c_tree.specs.Syntax as source
@@ -105,7 +106,7 @@ alias_made w c d g v n (faulty s ss) (faulty r rs) rule h = tt
 alias_after : (w : World) (base : Judged Ty) → OnTyped (Ready w.structs) base → (x : source.Declarator) (c : Context) → Good w c → OnTyped (λ u. Globals w c (judged_alias base x c).1 []) (judged_alias base x c).0
 alias_after w base hb x c g = by base (on_weaker (Ready w.structs) (Ready c.structs) base hb (λ t r. ready_kept w.structs c.structs g.since t r)) (judged_declarator x c).1 (judged_declarator x c).0 ((declarator_keeps w x).keeps c g)
   where
-    none : (d : Context) (f : Judged (Unit {0} × Unit {0})) (r : Refusal) (rs : List Refusal) → OnTyped (λ (u : Unit {0}). Globals w c (with_alias d (name_of x) (integer _)) []) (both {B = Unit {0}} f (faulty r rs) >>= λ p. typed tt)
+    none : (d : Context) (f : Judged (Unit {0} × Unit {0})) (r : Refusal) (rs : List Refusal) → OnTyped (λ (u : Unit {0}). Globals w c (with_alias d (name_of x) (integer int)) []) (both {B = Unit {0}} f (faulty r rs) >>= λ p. typed tt)
     none d (typed u) r rs = tt
     none d (faulty s ss) r rs = tt
 

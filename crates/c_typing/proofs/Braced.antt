@@ -1,5 +1,5 @@
 -- A struct's braces keep a context in order.
-use Rattle.std.proofs.Common.{◌≡◌, ◌≢◌, ℕ, zero, suc, ◌+◌, ◌<◌, ◌≤◌, ◌⊎◌, inl, inr, Bool, true, false, not, refl, sym, ap, ◌∙◌, subst, arith, List, [], ◌∷◌, length, map, set, Option, Some, None, slice_get, nat_lt, nat_le, ◌==◌, if◌then◌else◌}
+use Rattle.std.proofs.Common.{◌≡◌, ◌≢◌, ℕ, zero, suc, ◌+◌, ◌<◌, ◌≤◌, ◌⊎◌, inl, inr, Bool, true, false, not, refl, sym, ap, ◌∙◌, subst, arith, List, [], ◌∷◌, ◌++◌, length, map, set, Option, Some, None, slice_get, nat_lt, nat_le, ◌==◌, if◌then◌else◌}
 use Rattle.std.specs.List.{AllByRecursion}
 use Rattle.std.proofs.lemmas.List.{length-append, length-set}
 use Rattle.std.proofs.lemmas.Option.{slice_get_within, slice_get-get_or}
@@ -17,7 +17,8 @@ use Rattle.c_typing.specs.Judgement.{Judging, Part, word, whole, struct_fits, cl
 use Rattle.c_typing.proofs.Extending.{undeclared, Extends, extends_itself, extends_further, Ready, ready_kept, laid_out_kept, layout_kept, below, at_most, AreSized, all_sized_kept}
 use Rattle.c_typing.proofs.Elements.{nothing_at, set_other, set_either, declared_set, taken_kept, any_left, none_left, any_last, any_either}
 use Rattle.c_typing.proofs.Apart.{different, equal, apart_still}
-use Rattle.c_typing.proofs.Carried.{OnTyped, not_given, World, IsObject, Good, Within, still_further, After, Keeps}
+use Rattle.c_typing.proofs.Carried.{OnTyped, not_given, World, IsObject, Good, Within, After, Keeps}
+use Rattle.c_typing.proofs.Lengthened.{lengthens_further}
 use Rattle.c_typing.proofs.Own.{own, over_own}
 use Rattle.c_typing.proofs.Shown.{named_kept, object_kept, new_struct_good, new_struct_within, tag_after, tag_in_list}
 
@@ -183,7 +184,7 @@ braces_within w a c x number all f fresh g p = (
     locals = λ n t h. g.1.locals n t (f.1.locals n t h);
     addressed = λ n h. g.1.addressed n (f.1.addressed n h);
   },
-  still_further a c x f.2 g.2,
+  record { inner = lengthens_further a.inner c.inner x.inner f.2.inner g.2.inner; outer = g.2.outer ∙ f.2.outer; locals = g.2.locals ∙ f.2.locals },
 )
   where
     kept : (n : ℕ) (l : Layout) → is_begun c n ≡ true → slice_get x.structs n ≡ Some l → slice_get (more x number all) n ≡ Some l

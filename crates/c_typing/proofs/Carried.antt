@@ -189,7 +189,7 @@ deepens_further b c d f g = record {
 pub still_itself : (c : Context) → Still c c
 still_itself c = record { inner = lengthens_itself c.inner; outer = refl; locals = refl }
 
-pub still_further : (b c d : Context) → Still b c → Still c d → Still b d
+still_further : (b c d : Context) → Still b c → Still c d → Still b d
 still_further b c d f g = record { inner = lengthens_further b.inner c.inner d.inner f.inner g.inner; outer = g.outer ∙ f.outer; locals = g.locals ∙ f.locals }
 
 pub within_itself : (v : Bool) (c : Context) → Within v c c

@@ -34,7 +34,7 @@ use Rattle.c_typing.proofs.Shown.{named_kept, name_good}
 use Rattle.c_typing.proofs.Own.{own, over_own}
 use Rattle.c_typing.proofs.JudgedWell.{valued_keeps, judged_keeps}
 use Rattle.c_typing.proofs.StatedWell.{declarator_keeps, none_of, unfit}
-use Rattle.c_typing.proofs.Lengthened.{IsEnumerator, Lengthens, meaning_before, function_before}
+use Rattle.c_typing.proofs.Lengthened.{IsEnumerator, Lengthens, meaning_before, function_before, lookup_last}
 
 -- ---- what a global starts with
 

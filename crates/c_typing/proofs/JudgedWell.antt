@@ -1,5 +1,5 @@
 -- Expressions, types and declarators, judged where they stand, are well formed.
-use Rattle.std.proofs.Common.{◌≡◌, ℕ, suc, ◌+◌, ◌<◌, ◌≤◌, ◌⊎◌, inl, inr, Bool, true, false, ◌&&◌, refl, sym, ap, subst, arith, List, [], ◌∷◌, ◌++◌, length, Option, Some, None, ℤ, pos, ◌+ℤ◌, slice_get, if◌then◌else◌, IsTrue}
+use Rattle.std.proofs.Common.{◌≡◌, ℕ, suc, ◌+◌, ◌<◌, ◌≤◌, ◌⊎◌, inl, inr, Bool, true, false, ◌&&◌, refl, sym, ap, subst, arith, List, [], ◌∷◌, ◌++◌, length, Option, Some, None, ℤ, pos, ◌+ℤ◌, slice_get, if◌then◌else◌}
 use Rattle.std.proofs.lemmas.List.{length-append}
 use Rattle.ak_words.specs.IntType.{int, is_held, IsInRange}
 use Rattle.ak_words.proofs.Types.{is_held-IsInRange}
@@ -380,7 +380,7 @@ value_in_range place None = tt
 value_in_range place (Some z) = by (is_held int z) refl
   where
     by : (b : Bool) → is_held int z ≡ b → OnTyped (IsInRange int) ((if b then typed (tt {0}) else refuse place TypeMismatch) >>= λ u. typed z)
-    by true h = (is_held-IsInRange int z).0 (subst IsTrue (sym h) tt)
+    by true h = (is_held-IsInRange int z).0 h
     by false h = tt
 
 -- an enumerator, behind its value
@@ -402,13 +402,13 @@ behind_after : (w : World) (first : Judging ℤ) (rest : ℤ → Judging (Unit {
     → OnTyped (λ u. After w true c (and_behind first rest c).1 (λ e. Unit {0})) (and_behind first rest c).0
 behind_after w first rest kf kr c g = by (first c).1 (first c).0 (kf.keeps c g)
   where
-    then : (d f : Context) (z : ℤ) (k : Judged (Unit {0})) → Within true c d → OnTyped (λ u. After w true d f (λ e. Unit {0})) k → OnTyped (λ (u : Unit {0}). After w true c f (λ e. Unit {0})) (both (typed z) k >>= λ p. typed tt)
-    then d f z (typed u) v a = record { good = a.good; within = within_further true c d f v a.within; fine = a.fine }
-    then d f z (faulty r rs) v a = tt
+    both_after : (d f : Context) (z : ℤ) (k : Judged (Unit {0})) → Within true c d → OnTyped (λ u. After w true d f (λ e. Unit {0})) k → OnTyped (λ (u : Unit {0}). After w true c f (λ e. Unit {0})) (both (typed z) k >>= λ p. typed tt)
+    both_after d f z (typed u) v a = record { good = a.good; within = within_further true c d f v a.within; fine = a.fine }
+    both_after d f z (faulty r rs) v a = tt
 
     by : (d : Context) (j : Judged ℤ) → OnTyped (λ z. After w true c d (λ e. IsInRange int z)) j
         → OnTyped (λ (u : Unit {0}). After w true c (rest (or_zero j +ℤ pos 1) d).1 (λ e. Unit {0})) (both j (rest (or_zero j +ℤ pos 1) d).0 >>= λ p. typed tt)
-    by d (typed z) a = then d (rest (z +ℤ pos 1) d).1 z (rest (z +ℤ pos 1) d).0 a.within ((kr (z +ℤ pos 1)).keeps d a.good)
+    by d (typed z) a = both_after d (rest (z +ℤ pos 1) d).1 z (rest (z +ℤ pos 1) d).0 a.within ((kr (z +ℤ pos 1)).keeps d a.good)
     by d (faulty r rs) a = not_given _ r rs (rest (pos 0 +ℤ pos 1) d).0 (λ p. typed tt)
 
 -- the names of enums say nothing of types

@@ -277,14 +277,14 @@ apart_last (m ∷ ls) l h k = (all_last (Differ m) ls l h.0 k.0, apart_last ls l
 
 other_values : (t : IntType) (z : ℤ) (n : ℕ) (ls : List Label) → has_value z ls ≡ false → AllByRecursion (λ m. Differ m (case_at t z n)) ls
 other_values t z n [] h = tt
-other_values t z n (case_at s value k ∷ ls) h = by (int_eq value z) refl h
+other_values t z n (case_at s value k ∷ ls) h = by (int_eq value z) refl h (other_values t z n ls)
   where
-    by : (b : Bool) → int_eq value z ≡ b → (b || has_value z ls) ≡ false → AllByRecursion (λ m. Differ m (case_at t z n)) (case_at s value k ∷ ls)
-    by true e h = absurd cc
-    by false e h = ((λ i. apart ((signed_Decides value z).1 i)), other_values t z n ls h)
-      where
-        apart : int_eq value z ≡ true → ⊥
-        apart i = cc
+    apart : int_eq value z ≡ false → value ≡ z → ⊥
+    apart e i = let f : true ≡ false = sym ((signed_Decides value z).1 i) ∙ e in absurd cc
+
+    by : (b : Bool) → int_eq value z ≡ b → (b || has_value z ls) ≡ false → (has_value z ls ≡ false → AllByRecursion (λ m. Differ m (case_at t z n)) ls) → AllByRecursion (λ m. Differ m (case_at t z n)) (case_at s value k ∷ ls)
+    by true e h f = absurd cc
+    by false e h f = (λ i. apart e i, f h)
 other_values t z n (default_at k ∷ ls) h = (tt, other_values t z n ls h)
 
 no_default : (n : ℕ) (ls : List Label) → has_default ls ≡ false → AllByRecursion (λ m. Differ m (default_at n)) ls
@@ -408,18 +408,18 @@ switching_after : (w : World) (r : Ty) (l : Jumps) (s : source.Stmt) (place : �
     → (c : Context) → Good w c → OnTyped (λ ss. After w false c (switching place first entries c).1 (λ e. FineStmts w r l s e ss)) (switching place first entries c).0
 switching_after w r l s place first entries kf ke c g = by (first c).1 (first c).0 (kf.keeps c g)
   where
-    then : (d f : Context) (x : Expr) (k : Judged Entries) → After w false c d (λ e. Switched e x) → OnTyped (λ es. After w false d f (λ e. AreEntries w r (in_switch l) (type_of_switch (typed x)) e es)) k
+    both_after : (d f : Context) (x : Expr) (k : Judged Entries) → After w false c d (λ e. Switched e x) → OnTyped (λ es. After w false d f (λ e. AreEntries w r (in_switch l) (type_of_switch (typed x)) e es)) k
         → OnTyped (λ ss. After w false c f (λ e. FineStmts w r l s e ss)) (both (typed x) k >>= λ p. typed (at_stmt place (switch p.0 p.1.labels (stmts_of p.1.body)) ∷ []))
-    then d f x (typed es) a b = record {
+    both_after d f x (typed es) a b = record {
       good = b.good;
       within = within_further false c d f a.within b.within;
       fine = λ e o. ((switch_well w r l e place x es (a.fine e (over_before w false d f e b.within o)) (b.fine e o), tt), λ alone. (tt, tt));
     }
-    then d f x (faulty q qs) a b = tt
+    both_after d f x (faulty q qs) a b = tt
 
     by : (d : Context) (j : Judged Expr) → OnTyped (λ x. After w false c d (λ e. Switched e x)) j
         → OnTyped (λ ss. After w false c (entries (type_of_switch j) d).1 (λ e. FineStmts w r l s e ss)) (both j (entries (type_of_switch j) d).0 >>= λ p. typed (at_stmt place (switch p.0 p.1.labels (stmts_of p.1.body)) ∷ []))
-    by d (typed x) a = then d (entries (type_of_switch (typed x)) d).1 x (entries (type_of_switch (typed x)) d).0 a (ke (type_of_switch (typed x)) d a.good)
+    by d (typed x) a = both_after d (entries (type_of_switch (typed x)) d).1 x (entries (type_of_switch (typed x)) d).0 a (ke (type_of_switch (typed x)) d a.good)
     by d (faulty q qs) a = not_given _ q qs (entries (type_of_switch (faulty q qs)) d).0 (λ p. typed (at_stmt place (switch p.0 p.1.labels (stmts_of p.1.body)) ∷ []))
 
 mutual
