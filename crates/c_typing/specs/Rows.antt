@@ -1,5 +1,5 @@
 -- Small programs, accepted or refused, worked out by hand: the definitions, put to the test. The trees are those of the texts.
-use Rattle.std.specs.Prelude.{◌≡◌, ℕ, pos, List, [], ◌∷◌, codes, Option, Some, None}
+use Rattle.std.specs.Prelude.{◌≡◌, ℕ, true, false, pos, List, [], ◌∷◌, codes, Option, Some, None}
 use Rattle.ak_words.specs.declared.operation.Op.TheVariants as ops
 use Rattle.ak_words.specs.IntType.{int}
 use Rattle.ak_words.specs.Num.{num}
@@ -13,6 +13,7 @@ use Rattle.c_tree.specs.declared.syntax.Pointer.TheVariants as pointers
 use Rattle.c_tree.specs.declared.syntax.PrefixOp.TheVariants as prefixes
 use Rattle.c_tree.specs.declared.syntax.BinaryOp.TheVariants as binaries
 use Rattle.c_tree.specs.declared.syntax.AssignOp.TheVariants as assigns
+use Rattle.c_tree.specs.declared.syntax.StepOp.TheVariants as steps
 use Rattle.c_tree.specs.Syntax as source
 use Rattle.c_tree.specs.Typed.{Stmt, at_stmt, block, no_stmts, more_stmts}
 use Rattle.c_typing.specs.Faults.{first}
@@ -163,6 +164,70 @@ sizes_beside_names_tree = record { externals = ((source.external_of [] ((source.
 abbrev unknown_struct_assigned_tree : source.File
 unknown_struct_assigned_tree = record { externals = ((source.external_of [] ((source.struct 0 (name 7 8)) ∷ []) (source.nothing)) ∷ (source.external_of [] ((source.word 9 words.Int) ∷ []) (source.function [] (name 13 14) ((record { specs = ((source.struct 15 (name 22 23)) ∷ []); pointers = (pointers.Star ∷ []); name = (Some (name 25 26)); dims = [] }) ∷ (record { specs = ((source.struct 27 (name 34 35)) ∷ []); pointers = (pointers.Star ∷ []); name = (Some (name 37 38)); dims = [] }) ∷ []) (Some (record { place = 39; items = ((source.simple (source.assign 42 assigns.Plain (source.prefix 40 prefixes.Deref (source.name (name 41 42))) (source.prefix 43 prefixes.Deref (source.name (name 44 45))))) ∷ (source.return 46 (Some (source.int 53 (num int (pos 0))))) ∷ []) })))) ∷ (source.external_of [] ((source.word 56 words.Int) ∷ []) (source.function [] (name 60 64) ((record { specs = ((source.word 65 words.Void) ∷ []); pointers = []; name = None; dims = [] }) ∷ []) (Some (record { place = 70; items = ((source.return 71 (Some (source.int 78 (num int (pos 0))))) ∷ []) })))) ∷ []) }
 
+-- typedef struct n n;struct n{n *next;};n g;int main(void){return sizeof(n);}
+abbrev type_without_size_yet_tree : source.File
+type_without_size_yet_tree = record { externals = ((source.types_by ((source.struct 8 (name 15 16)) ∷ []) ((source.declarator [] (name 17 18) source.no_exprs) ∷ [])) ∷ (source.external_of [] ((source.struct_body 19 (name 26 27) (source.more_members (source.members_of (source.more_specs (source.alias (name 28 29)) source.no_specs) (source.more_declarators (source.declarator (pointers.Star ∷ []) (name 31 35) source.no_exprs) source.no_declarators)) source.no_members)) ∷ []) (source.nothing)) ∷ (source.external_of [] ((source.alias (name 38 39)) ∷ []) (source.variables ((record { declarator = (source.declarator [] (name 40 41) source.no_exprs); value = None }) ∷ []))) ∷ (source.external_of [] ((source.word 42 words.Int) ∷ []) (source.function [] (name 46 50) ((record { specs = ((source.word 51 words.Void) ∷ []); pointers = []; name = None; dims = [] }) ∷ []) (Some (record { place = 56; items = ((source.return 57 (Some (source.sizeof_type 64 (source.type_name (source.more_specs (source.alias (name 71 72)) source.no_specs) [])))) ∷ []) })))) ∷ []) }
+
+-- typedef int T;typedef int T;int main(void){return 0;}
+abbrev same_type_again_tree : source.File
+same_type_again_tree = record { externals = ((source.types_by ((source.word 8 words.Int) ∷ []) ((source.declarator [] (name 12 13) source.no_exprs) ∷ [])) ∷ (source.types_by ((source.word 22 words.Int) ∷ []) ((source.declarator [] (name 26 27) source.no_exprs) ∷ [])) ∷ (source.external_of [] ((source.word 28 words.Int) ∷ []) (source.function [] (name 32 36) ((record { specs = ((source.word 37 words.Void) ∷ []); pointers = []; name = None; dims = [] }) ∷ []) (Some (record { place = 42; items = ((source.return 43 (Some (source.int 50 (num int (pos 0))))) ∷ []) })))) ∷ []) }
+
+-- typedef int T;typedef char T;int main(void){return 0;}
+abbrev other_type_again_tree : source.File
+other_type_again_tree = record { externals = ((source.types_by ((source.word 8 words.Int) ∷ []) ((source.declarator [] (name 12 13) source.no_exprs) ∷ [])) ∷ (source.types_by ((source.word 22 words.Char) ∷ []) ((source.declarator [] (name 27 28) source.no_exprs) ∷ [])) ∷ (source.external_of [] ((source.word 29 words.Int) ∷ []) (source.function [] (name 33 37) ((record { specs = ((source.word 38 words.Void) ∷ []); pointers = []; name = None; dims = [] }) ∷ []) (Some (record { place = 43; items = ((source.return 44 (Some (source.int 51 (num int (pos 0))))) ∷ []) })))) ∷ []) }
+
+-- int a;typedef int a;int main(void){return 0;}
+abbrev type_of_an_object_tree : source.File
+type_of_an_object_tree = record { externals = ((source.external_of [] ((source.word 0 words.Int) ∷ []) (source.variables ((record { declarator = (source.declarator [] (name 4 5) source.no_exprs); value = None }) ∷ []))) ∷ (source.types_by ((source.word 14 words.Int) ∷ []) ((source.declarator [] (name 18 19) source.no_exprs) ∷ [])) ∷ (source.external_of [] ((source.word 20 words.Int) ∷ []) (source.function [] (name 24 28) ((record { specs = ((source.word 29 words.Void) ∷ []); pointers = []; name = None; dims = [] }) ∷ []) (Some (record { place = 34; items = ((source.return 35 (Some (source.int 42 (num int (pos 0))))) ∷ []) })))) ∷ []) }
+
+-- typedef int T[2];T f(void){return 0;}int main(void){return 0;}
+abbrev array_result_tree : source.File
+array_result_tree = record { externals = ((source.types_by ((source.word 8 words.Int) ∷ []) ((source.declarator [] (name 12 13) (source.more_exprs (source.int 14 (num int (pos 2))) source.no_exprs)) ∷ [])) ∷ (source.external_of [] ((source.alias (name 17 18)) ∷ []) (source.function [] (name 19 20) ((record { specs = ((source.word 21 words.Void) ∷ []); pointers = []; name = None; dims = [] }) ∷ []) (Some (record { place = 26; items = ((source.return 27 (Some (source.int 34 (num int (pos 0))))) ∷ []) })))) ∷ (source.external_of [] ((source.word 37 words.Int) ∷ []) (source.function [] (name 41 45) ((record { specs = ((source.word 46 words.Void) ∷ []); pointers = []; name = None; dims = [] }) ∷ []) (Some (record { place = 51; items = ((source.return 52 (Some (source.int 59 (num int (pos 0))))) ∷ []) })))) ∷ []) }
+
+-- enum e{A=2,B};int main(void){int x[B];return sizeof x/sizeof(int)==A+1;}
+abbrev enumerators_tree : source.File
+enumerators_tree = record { externals = ((source.external_of [] ((source.enum_body 0 (name 5 6) (source.more_enumerators (source.valued (name 7 8) (source.int 9 (num int (pos 2))) true) (source.more_enumerators (source.enumerator (name 11 12) false) source.no_enumerators))) ∷ []) (source.nothing)) ∷ (source.external_of [] ((source.word 14 words.Int) ∷ []) (source.function [] (name 18 22) ((record { specs = ((source.word 23 words.Void) ∷ []); pointers = []; name = None; dims = [] }) ∷ []) (Some (record { place = 28; items = ((source.declare (record { specs = ((source.word 29 words.Int) ∷ []); declarators = ((record { declarator = (source.declarator [] (name 33 34) (source.more_exprs (source.name (name 35 36)) source.no_exprs)); value = None }) ∷ []) })) ∷ (source.return 38 (Some (source.binary 65 (binaries.Value ops.Eq) (source.binary 53 (binaries.Value ops.Div) (source.sizeof_expr 45 (source.name (name 52 53))) (source.sizeof_type 54 (source.type_name (source.more_specs (source.word 61 words.Int) source.no_specs) []))) (source.binary 68 (binaries.Value ops.Add) (source.name (name 67 68)) (source.int 69 (num int (pos 1))))))) ∷ []) })))) ∷ []) }
+
+-- enum{A=2147483647,B};int main(void){return 0;}
+abbrev enumerator_past_int_tree : source.File
+enumerator_past_int_tree = record { externals = ((source.external_of [] ((source.unnamed_enum 0 (source.more_enumerators (source.valued (name 5 6) (source.int 7 (num int (pos 2147483647))) true) (source.more_enumerators (source.enumerator (name 18 19) false) source.no_enumerators))) ∷ []) (source.nothing)) ∷ (source.external_of [] ((source.word 21 words.Int) ∷ []) (source.function [] (name 25 29) ((record { specs = ((source.word 30 words.Void) ∷ []); pointers = []; name = None; dims = [] }) ∷ []) (Some (record { place = 35; items = ((source.return 36 (Some (source.int 43 (num int (pos 0))))) ∷ []) })))) ∷ []) }
+
+-- enum e x;int main(void){return 0;}
+abbrev enum_unknown_tree : source.File
+enum_unknown_tree = record { externals = ((source.external_of [] ((source.enum 0 (name 5 6)) ∷ []) (source.variables ((record { declarator = (source.declarator [] (name 7 8) source.no_exprs); value = None }) ∷ []))) ∷ (source.external_of [] ((source.word 9 words.Int) ∷ []) (source.function [] (name 13 17) ((record { specs = ((source.word 18 words.Void) ∷ []); pointers = []; name = None; dims = [] }) ∷ []) (Some (record { place = 23; items = ((source.return 24 (Some (source.int 31 (num int (pos 0))))) ∷ []) })))) ∷ []) }
+
+-- struct e;enum e{A};int main(void){return 0;}
+abbrev tag_of_a_struct_tree : source.File
+tag_of_a_struct_tree = record { externals = ((source.external_of [] ((source.struct 0 (name 7 8)) ∷ []) (source.nothing)) ∷ (source.external_of [] ((source.enum_body 9 (name 14 15) (source.more_enumerators (source.enumerator (name 16 17) false) source.no_enumerators)) ∷ []) (source.nothing)) ∷ (source.external_of [] ((source.word 19 words.Int) ∷ []) (source.function [] (name 23 27) ((record { specs = ((source.word 28 words.Void) ∷ []); pointers = []; name = None; dims = [] }) ∷ []) (Some (record { place = 33; items = ((source.return 34 (Some (source.int 41 (num int (pos 0))))) ∷ []) })))) ∷ []) }
+
+-- int main(void){int i=0;do{i++;if(i==2)continue;}while(i<3);return i;}
+abbrev do_loop_tree : source.File
+do_loop_tree = record { externals = ((source.external_of [] ((source.word 0 words.Int) ∷ []) (source.function [] (name 4 8) ((record { specs = ((source.word 9 words.Void) ∷ []); pointers = []; name = None; dims = [] }) ∷ []) (Some (record { place = 14; items = ((source.declare (record { specs = ((source.word 15 words.Int) ∷ []); declarators = ((record { declarator = (source.declarator [] (name 19 20) source.no_exprs); value = (Some (source.int 21 (num int (pos 0)))) }) ∷ []) })) ∷ (source.do_while 23 (source.block 25 (source.more_stmts (source.simple (source.after 27 steps.Increment (source.name (name 26 27)))) (source.more_stmts (source.if_then 30 (source.binary 34 (binaries.Value ops.Eq) (source.name (name 33 34)) (source.int 36 (num int (pos 2)))) (source.continue 38)) source.no_stmts))) (source.binary 55 (binaries.Value ops.Lt) (source.name (name 54 55)) (source.int 56 (num int (pos 3))))) ∷ (source.return 59 (Some (source.name (name 66 67)))) ∷ []) })))) ∷ []) }
+
+-- int main(void){switch(1){case 2:case 1+1:;}return 0;}
+abbrev equal_labels_tree : source.File
+equal_labels_tree = record { externals = ((source.external_of [] ((source.word 0 words.Int) ∷ []) (source.function [] (name 4 8) ((record { specs = ((source.word 9 words.Void) ∷ []); pointers = []; name = None; dims = [] }) ∷ []) (Some (record { place = 14; items = ((source.switch 15 (source.int 22 (num int (pos 1))) (source.more_stmts (source.case_label 25 (source.int 30 (num int (pos 2)))) (source.more_stmts (source.case_label 32 (source.binary 38 (binaries.Value ops.Add) (source.int 37 (num int (pos 1))) (source.int 39 (num int (pos 1))))) (source.more_stmts (source.empty 41) source.no_stmts)))) ∷ (source.return 43 (Some (source.int 50 (num int (pos 0))))) ∷ []) })))) ∷ []) }
+
+-- int main(void){switch(1){case 0:break;default:;}return 0;}
+abbrev break_of_a_switch_tree : source.File
+break_of_a_switch_tree = record { externals = ((source.external_of [] ((source.word 0 words.Int) ∷ []) (source.function [] (name 4 8) ((record { specs = ((source.word 9 words.Void) ∷ []); pointers = []; name = None; dims = [] }) ∷ []) (Some (record { place = 14; items = ((source.switch 15 (source.int 22 (num int (pos 1))) (source.more_stmts (source.case_label 25 (source.int 30 (num int (pos 0)))) (source.more_stmts (source.break 32) (source.more_stmts (source.default_label 38) (source.more_stmts (source.empty 46) source.no_stmts))))) ∷ (source.return 48 (Some (source.int 55 (num int (pos 0))))) ∷ []) })))) ∷ []) }
+
+-- int main(void){switch(1){default:continue;}return 0;}
+abbrev continue_in_a_switch_tree : source.File
+continue_in_a_switch_tree = record { externals = ((source.external_of [] ((source.word 0 words.Int) ∷ []) (source.function [] (name 4 8) ((record { specs = ((source.word 9 words.Void) ∷ []); pointers = []; name = None; dims = [] }) ∷ []) (Some (record { place = 14; items = ((source.switch 15 (source.int 22 (num int (pos 1))) (source.more_stmts (source.default_label 25) (source.more_stmts (source.continue 33) source.no_stmts))) ∷ (source.return 43 (Some (source.int 50 (num int (pos 0))))) ∷ []) })))) ∷ []) }
+
+-- int main(void){switch(1){default:default:;}return 0;}
+abbrev two_defaults_tree : source.File
+two_defaults_tree = record { externals = ((source.external_of [] ((source.word 0 words.Int) ∷ []) (source.function [] (name 4 8) ((record { specs = ((source.word 9 words.Void) ∷ []); pointers = []; name = None; dims = [] }) ∷ []) (Some (record { place = 14; items = ((source.switch 15 (source.int 22 (num int (pos 1))) (source.more_stmts (source.default_label 25) (source.more_stmts (source.default_label 33) (source.more_stmts (source.empty 41) source.no_stmts)))) ∷ (source.return 43 (Some (source.int 50 (num int (pos 0))))) ∷ []) })))) ∷ []) }
+
+-- int main(void){switch(NULL){}return 0;}
+abbrev switch_of_a_pointer_tree : source.File
+switch_of_a_pointer_tree = record { externals = ((source.external_of [] ((source.word 0 words.Int) ∷ []) (source.function [] (name 4 8) ((record { specs = ((source.word 9 words.Void) ∷ []); pointers = []; name = None; dims = [] }) ∷ []) (Some (record { place = 14; items = ((source.switch 15 (source.null 22) source.no_stmts) ∷ (source.return 29 (Some (source.int 36 (num int (pos 0))))) ∷ []) })))) ∷ []) }
+
+-- int main(void){int i=0;switch(i){case i:;}return 0;}
+abbrev label_not_constant_tree : source.File
+label_not_constant_tree = record { externals = ((source.external_of [] ((source.word 0 words.Int) ∷ []) (source.function [] (name 4 8) ((record { specs = ((source.word 9 words.Void) ∷ []); pointers = []; name = None; dims = [] }) ∷ []) (Some (record { place = 14; items = ((source.declare (record { specs = ((source.word 15 words.Int) ∷ []); declarators = ((record { declarator = (source.declarator [] (name 19 20) source.no_exprs); value = (Some (source.int 21 (num int (pos 0)))) }) ∷ []) })) ∷ (source.switch 23 (source.name (name 30 31)) (source.more_stmts (source.case_label 33 (source.name (name 38 39))) (source.more_stmts (source.empty 40) source.no_stmts))) ∷ (source.return 42 (Some (source.int 49 (num int (pos 0))))) ∷ []) })))) ∷ []) }
+
 -- the rows: a text with its tree, and the fault that is named, at its place, or none where the program is accepted
 pub record Rows : Type 0 where
   pub unknown_name : refusal_of (codes "int main(void){return b;}") unknown_name_tree ≡ at 22 kinds.UnknownName
@@ -197,5 +262,21 @@ pub record Rows : Type 0 where
   pub elements_without_size : refusal_of (codes "int f(struct s a[][2]){return 0;}int main(void){return 0;}") elements_without_size_tree ≡ at 15 kinds.BadSize
   pub sizes_beside_names : refusal_of (codes "struct s{int a;void b,a;};int main(void){return 0;}") sizes_beside_names_tree ≡ at 20 kinds.BadSize
   pub unknown_struct_assigned : refusal_of (codes "struct u;int f(struct u *q,struct u *r){*q=*r;return 0;}int main(void){return 0;}") unknown_struct_assigned_tree ≡ at 40 kinds.NotAnLvalue
+  pub type_without_size_yet : refusal_of (codes "typedef struct n n;struct n{n *next;};n g;int main(void){return sizeof(n);}") type_without_size_yet_tree ≡ None
+  pub same_type_again : refusal_of (codes "typedef int T;typedef int T;int main(void){return 0;}") same_type_again_tree ≡ None
+  pub other_type_again : refusal_of (codes "typedef int T;typedef char T;int main(void){return 0;}") other_type_again_tree ≡ at 27 kinds.TypeMismatch
+  pub type_of_an_object : refusal_of (codes "int a;typedef int a;int main(void){return 0;}") type_of_an_object_tree ≡ at 18 kinds.DoubleName
+  pub array_result : refusal_of (codes "typedef int T[2];T f(void){return 0;}int main(void){return 0;}") array_result_tree ≡ at 19 kinds.TypeMismatch
+  pub enumerators : refusal_of (codes "enum e{A=2,B};int main(void){int x[B];return sizeof x/sizeof(int)==A+1;}") enumerators_tree ≡ None
+  pub enumerator_past_int : refusal_of (codes "enum{A=2147483647,B};int main(void){return 0;}") enumerator_past_int_tree ≡ at 18 kinds.TypeMismatch
+  pub enum_unknown : refusal_of (codes "enum e x;int main(void){return 0;}") enum_unknown_tree ≡ at 5 kinds.UnknownName
+  pub tag_of_a_struct : refusal_of (codes "struct e;enum e{A};int main(void){return 0;}") tag_of_a_struct_tree ≡ at 14 kinds.DoubleName
+  pub do_loop : refusal_of (codes "int main(void){int i=0;do{i++;if(i==2)continue;}while(i<3);return i;}") do_loop_tree ≡ None
+  pub equal_labels : refusal_of (codes "int main(void){switch(1){case 2:case 1+1:;}return 0;}") equal_labels_tree ≡ at 32 kinds.DoubleName
+  pub break_of_a_switch : refusal_of (codes "int main(void){switch(1){case 0:break;default:;}return 0;}") break_of_a_switch_tree ≡ None
+  pub continue_in_a_switch : refusal_of (codes "int main(void){switch(1){default:continue;}return 0;}") continue_in_a_switch_tree ≡ at 33 kinds.TypeMismatch
+  pub two_defaults : refusal_of (codes "int main(void){switch(1){default:default:;}return 0;}") two_defaults_tree ≡ at 33 kinds.DoubleName
+  pub switch_of_a_pointer : refusal_of (codes "int main(void){switch(NULL){}return 0;}") switch_of_a_pointer_tree ≡ at 15 kinds.TypeMismatch
+  pub label_not_constant : refusal_of (codes "int main(void){int i=0;switch(i){case i:;}return 0;}") label_not_constant_tree ≡ at 33 kinds.TypeMismatch
   -- the block of a header holds each local that it declares, and the loop with the last of them
   pub one_block : (place : ℕ) (a b c : Stmt) (loop : Stmt → Stmt) → headed place (a ∷ b ∷ c ∷ []) loop ≡ at_stmt place (block (more_stmts a (more_stmts b (more_stmts (loop c) no_stmts))))
