@@ -20,7 +20,7 @@ use Rattle.c_typing.specs.Rules.{converted, fitted, or_mismatch}
 use Rattle.c_typing.specs.Formats.{number_for, text_for, before_argument, arguments_for}
 use Rattle.c_typing.specs.Judgement.{named, before_fitted, fitted_all, called, called_lib, printed, started_by, started, plain_kind, init_by, called_library}
 use Rattle.c_typing.proofs.Extending.{Ready}
-use Rattle.c_typing.proofs.Carried.{OnTyped, OnSome, on_bind, on_both, on_mismatch, Plain, World, Good, Sound, Over, IsNamed, InLibrary}
+use Rattle.c_typing.proofs.Carried.{OnTyped, OnSome, on_bind, on_both, on_mismatch, Plain, World, Good, Over, IsNamed, InLibrary}
 use Rattle.c_typing.proofs.RuledWell.{Fine, Made, plain_ready, same_number, Fitting, fits, converted_has, Has}
 
 -- ---- names

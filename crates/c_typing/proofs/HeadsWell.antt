@@ -27,7 +27,7 @@ use Rattle.c_typing.proofs.RuledWell.{both_hold}
 use Rattle.c_typing.proofs.TypesWell.{behind_ready, plain_type_is, same_type_is, same_types_are}
 use Rattle.c_typing.proofs.Lengthened.{meaning_kept, function_before, lookup_last}
 use Rattle.c_typing.proofs.FunctionWell.{signature_is}
-use Rattle.c_typing.proofs.Unmoved.{Keeping, keeping_itself, Still, judged_still, specs_still, declarator_still, stays, declared_stays, stmts_stays, param_list_stays}
+use Rattle.c_typing.proofs.Unmoved.{Keeping, keeping_itself, Still, judged_still, specs_still, declarator_still, declared_stays, stmts_stays, param_list_stays}
 
 -- ---- outcomes that are typed
 

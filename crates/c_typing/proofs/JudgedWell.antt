@@ -19,7 +19,7 @@ use Rattle.c_tree.specs.TypedForm as form
 use Rattle.c_typing.specs.Faults.{Judged, typed, faulty, refuse, both, ◌>>=◌}
 use Rattle.c_typing.specs.Types.{same_type, same_types, behind_pointers}
 use Rattle.c_typing.specs.Scope.{Library, printf, malloc, free, memcpy, thrd_create, thrd_join, mtx_init, mtx_lock, mtx_unlock, mtx_destroy, constant}
-use Rattle.c_typing.specs.Scope.{Binding, global_name, local_name, function_name, enumerator_name, type_name, library_name, Context, bytes_of, meaning_of, fresh, within, is_struct_tag, tag_number, with_tag, is_enum_tag, is_listed, with_enum, with_listed, with_enumerator, member_typed, member_numbered, member_in, member_of}
+use Rattle.c_typing.specs.Scope.{Binding, global_name, local_name, function_name, enumerator_name, type_name, library_name, Context, bytes_of, meaning_of, is_struct_tag, tag_number, with_tag, is_listed, with_enum, with_listed, with_enumerator, member_typed, member_numbered, member_in, member_of}
 use Rattle.c_typing.specs.Rules.{value_of, tested, is_lvalue, target, address, member_found, selected_by, selected, pointed, minus_by, plus_by, not_by, complement_by, element, chosen, cast, size_number}
 use Rattle.c_typing.specs.Constants.{constant_value}
 use Rattle.c_typing.specs.Formats.{pieces_of}

@@ -1,8 +1,6 @@
 -- Declarations and statements, judged where they stand, are well formed.
-use Rattle.std.proofs.Common.{◌≡◌, ℕ, ◌<◌, ◌⊎◌, inl, inr, Bool, true, false, not, refl, sym, ap, ◌∙◌, subst, arith, pos, List, [], ◌∷◌, ◌++◌, length, Option, Some, None, slice_get, nat_lt, if◌then◌else◌}
+use Rattle.std.proofs.Common.{◌≡◌, ℕ, ◌<◌, ◌⊎◌, inl, inr, Bool, true, false, not, refl, sym, subst, arith, pos, List, [], ◌∷◌, ◌++◌, length, Option, Some, None, slice_get, nat_lt, if◌then◌else◌}
 use Rattle.std.specs.List.{AllByRecursion}
-use Rattle.std.specs.Map.{lookup}
-use Rattle.std.specs.Str.{bytes_eq}
 use Rattle.std.proofs.lemmas.List.{length-append}
 use Rattle.std.proofs.lemmas.Int.{ints}
 use Rattle.ak_words.specs.declared.operation.Op.{Op}
@@ -22,13 +20,13 @@ use Rattle.c_tree.specs.TypedForm.{Jumps, IsScalar, Fits, is_comparison, CanUpda
 use Rattle.c_tree.specs.TypedForm as form
 use Rattle.c_typing.specs.Faults.{Judged, typed, faulty, refuse, unless, both, ◌>>=◌}
 use Rattle.c_typing.specs.Types.{is_array, is_scalar, has_size, is_declared}
-use Rattle.c_typing.specs.Scope.{Binding, local_name, Frame, Context, bytes_of, or_else, found, is_double, fresh, within}
+use Rattle.c_typing.specs.Scope.{local_name, Context, is_double, fresh, within}
 use Rattle.c_typing.specs.Rules.{value_of, fitted, or_mismatch, is_lvalue}
 use Rattle.c_typing.specs.Judgement.{lone, in_turn, valued, Declarator, object_declared, node_place, name_in, judged, judged_specs, judged_dims}
 use Rattle.c_typing.specs.Statements.{assignable, assigned, moves, updates, updated, step_op, stepped, assign_op, assigned_by, judged_simple, or_int, most_locals, with_local, initialised, judged_init, judged_declarator, name_of, judged_local, judged_locals, judged_declaration}
 use Rattle.c_typing.proofs.Extending.{Extends, extends_itself, Ready, ready_kept, AreSmall, sized_of, has_size_kept, below}
 use Rattle.c_typing.proofs.Elements.{get_before, get_last, get_either}
-use Rattle.c_typing.proofs.Carried.{OnTyped, given, not_given, on_bind, on_unless, on_mismatch, on_weaker, World, since, good_since, after_from, IsNamed, IsObject, visible, Good, Within, within_further, looser, Over, over_before, After, Keeps, keeps_lone, keeps_in_turn, keeps_ruled, keeps_weaker, keeps_looser}
+use Rattle.c_typing.proofs.Carried.{OnTyped, given, not_given, on_bind, on_unless, on_mismatch, on_weaker, World, since, good_since, after_from, IsObject, Good, Within, within_further, looser, Over, over_before, After, Keeps, keeps_lone, keeps_in_turn, keeps_ruled, keeps_weaker, keeps_looser}
 use Rattle.c_typing.proofs.RuledWell.{Fine, value_fine, Fitting, fits}
 use Rattle.c_typing.proofs.TypesWell.{ArePositive, object_well}
 use Rattle.c_typing.proofs.Shown.{named_kept, named_too, name_good}

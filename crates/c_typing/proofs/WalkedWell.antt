@@ -396,7 +396,7 @@ switch_well w r l e place x es h k = (
   h.0,
   subst IsSwitched (sym h.1) h.2,
   subst (λ t. AllByRecursion (IsLabel t (stmts_count (stmts_of es.body))) es.labels) (sym h.1)
-  (subst (λ n. AllByRecursion (IsLabel (integer (type_of_switch (typed x))) n) es.labels) (sym (count_is es.body)) k.labels),
+      (subst (λ n. AllByRecursion (IsLabel (integer (type_of_switch (typed x))) n) es.labels) (sym (count_is es.body)) k.labels),
   k.apart,
   k.few,
   stmts_well w r (in_switch l) e es.body k.body,
