@@ -1,25 +1,25 @@
 -- A struct's braces keep a context in order.
-use Rattle.std.proofs.Common.{◌≡◌, ◌≢◌, ℕ, zero, suc, ◌+◌, ◌<◌, ◌≤◌, ◌⊎◌, inl, inr, Bool, true, false, not, refl, sym, ap, ◌∙◌, subst, arith, List, [], ◌∷◌, length, map, set, Option, Some, None, slice_get, nat_lt, nat_le, ◌==◌, if◌then◌else◌}
+use Rattle.std.proofs.Common.{◌≡◌, ◌≢◌, ℕ, zero, suc, ◌+◌, ◌<◌, ◌≤◌, ◌⊎◌, inl, inr, Bool, true, false, not, refl, sym, ap, ◌∙◌, subst, arith, List, [], ◌∷◌, ◌++◌, length, map, set, Option, Some, None, slice_get, nat_lt, nat_le, ◌==◌, if◌then◌else◌}
 use Rattle.std.specs.List.{AllByRecursion}
 use Rattle.std.proofs.lemmas.List.{length-append, length-set}
 use Rattle.std.proofs.lemmas.Option.{slice_get_within, slice_get-get_or}
 use Rattle.std.proofs.lemmas.Bool.Decides.{nat_tests}
-use Rattle.c_lex.specs.declared.refusal.Refusal.{Refusal}
 use Rattle.c_lex.specs.declared.refusal.Kind.TheVariants.{DoubleName, TooMany, BadSize}
 use Rattle.c_tree.specs.declared.syntax.Name.{Name}
-use Rattle.c_tree.specs.Typed.{Ty, Layout}
+use Rattle.c_tree.specs.Typed.{Ty, structure, Layout}
 use Rattle.c_tree.specs.TypedLayout.{greatest_object, layout_size, laid_out}
-use Rattle.c_tree.specs.TypedForm.{IsLayout, IsPart}
+use Rattle.c_tree.specs.TypedForm.{IsLayout}
 use Rattle.c_tree.specs.TypedForm as form
 use Rattle.c_typing.specs.Faults.{Judged, typed, faulty, refuse, unless, both, ◌>>=◌}
-use Rattle.c_typing.specs.Scope.{Context, tag_number, with_tag, is_begun, with_begun, with_struct}
-use Rattle.c_typing.specs.Judgement.{Judging, Part, tag, struct_fits, closed, braced}
-use Rattle.c_typing.proofs.Extending.{undeclared, Extends, extends_further, Ready, ready_kept, laid_out_kept, layout_kept, below, at_most, AreSized, all_sized_kept}
-use Rattle.c_typing.proofs.Elements.{nothing_at, set_other, set_either, declared_set, taken_kept, any_left, none_left, any_last}
+use Rattle.c_typing.specs.Scope.{Context, tag_number, with_new_struct, with_tag, is_begun, with_begun, with_struct}
+use Rattle.c_typing.specs.Judgement.{Judging, Part, word, whole, struct_fits, closed, is_no_enum, braces_fit, opened, closing, braced, braced_alone}
+use Rattle.c_typing.proofs.Extending.{undeclared, Extends, extends_itself, extends_further, Ready, ready_kept, laid_out_kept, layout_kept, below, at_most, AreSized, all_sized_kept}
+use Rattle.c_typing.proofs.Elements.{nothing_at, set_other, set_either, declared_set, taken_kept, any_left, none_left, any_last, any_either}
 use Rattle.c_typing.proofs.Apart.{different, equal, apart_still}
-use Rattle.c_typing.proofs.Carried.{OnTyped, World, IsObject, Good, Within, After, Keeps}
+use Rattle.c_typing.proofs.Carried.{OnTyped, not_given, World, IsObject, Good, Within, After, Keeps}
+use Rattle.c_typing.proofs.Lengthened.{lengthens_further}
 use Rattle.c_typing.proofs.Own.{own, over_own}
-use Rattle.c_typing.proofs.Shown.{named_kept, object_kept, tag_after, tag_in_list}
+use Rattle.c_typing.proofs.Shown.{named_kept, object_kept, new_struct_good, new_struct_within, tag_after, tag_in_list}
 
 -- ---- a struct is declared
 
@@ -81,7 +81,9 @@ new_layout w x number all p =
 close_good : (w : World) (x : Context) (number : ℕ) (all : List (List ℕ × Ty)) → MayClose w x number all → Good w (with_struct x number all)
 close_good w x number all p = record {
   results = g.results;
-  names = λ q m h. named_kept w x (with_struct x number all) (λ n t k. k) (λ n t k. k) m (g.names q m h);
+  since = extends_further w.structs x.structs (more x number all) g.since f;
+  numbered = λ n h. let a = length-set x.structs number new in let b = g.numbered n h in omega (arith, a, b);
+  names = λ q m h. named_kept w x (with_struct x number all) f (λ n t k. k) (λ n t k. k) m (g.names q m h);
   layouts = λ n l h. layouts n l (set_either x.structs number n new l h);
   apart = apart_still x.structs (more x number all) number (ap layout_size p.empty) (λ n l h. sized n l (set_either x.structs number n new l h)) (λ m n d k. part m n d k) g.apart;
   members = λ n l h m t k. members n l m t (set_either x.structs number n new l h) k;
@@ -114,7 +116,7 @@ close_good w x number all p = record {
     sized n l (inl h) = subst (λ (y : Layout). AreSized x.structs y.types) h.1 (objects_sized x.structs all p.objects)
     sized n l (inr h) = (p.good.layouts n l h.1).sized
 
-    part : (m n : ℕ) → n ≢ number → IsPart (more x number all) m n → IsPart x.structs m n
+    part : (m n : ℕ) → n ≢ number → form.IsPart (more x number all) m n → form.IsPart x.structs m n
     part m n d k = (k.0, sym (set_other x.structs number n new d) ∙ k.1, k.2)
 
     members : (n : ℕ) (l : Layout) (m : ℕ) (t : Ty) → ((n ≡ number) × (laid_out x.structs (types_of all) ≡ l)) ⊎ ((n ≢ number) × (slice_get x.structs n ≡ Some l)) → slice_get l.types m ≡ Some t → Ready (more x number all) t
@@ -129,10 +131,12 @@ close_good w x number all p = record {
 
 -- ---- the braces
 
-begun_good : (w : World) (c : Context) → Good w c → (number : ℕ) → length c.begun < 256 → Good w (with_begun c number)
-begun_good w c g number few = record {
+begun_good : (w : World) (c : Context) → Good w c → (number : ℕ) → number < length c.structs → length c.begun < 256 → Good w (with_begun c number)
+begun_good w c g number here few = record {
   results = g.results;
-  names = λ q m h. named_kept w c (with_begun c number) (λ n t k. k) (λ n t k. k) m (g.names q m h);
+  since = g.since;
+  numbered = λ n h. there n (any_either (λ other. other == n) c.begun number h);
+  names = λ q m h. named_kept w c (with_begun c number) (extends_itself c.structs) (λ n t k. k) (λ n t k. k) m (g.names q m h);
   layouts = g.layouts;
   apart = g.apart;
   members = g.members;
@@ -147,6 +151,10 @@ begun_good w c g number few = record {
   params = g.params;
   few = g.few;
 }
+  where
+    there : (n : ℕ) → (is_begun c n ≡ true) ⊎ ((number == n) ≡ true) → n < length c.structs
+    there n (inl h) = g.numbered n h
+    there n (inr h) = let e : number ≡ n = equal number n h in omega (arith, e, here)
 
 itself : (n : ℕ) → (n == n) ≡ true
 itself n = grind (arith, nat_tests)
@@ -175,7 +183,7 @@ braces_within w a c x number all f fresh g p = (
     locals = λ n t h. g.1.locals n t (f.1.locals n t h);
     addressed = λ n h. g.1.addressed n (f.1.addressed n h);
   },
-  record { inner = g.2.inner ∙ f.2.inner; outer = g.2.outer ∙ f.2.outer; locals = g.2.locals ∙ f.2.locals },
+  record { inner = lengthens_further a.inner c.inner x.inner f.2.inner g.2.inner; outer = g.2.outer ∙ f.2.outer; locals = g.2.locals ∙ f.2.locals },
 )
   where
     kept : (n : ℕ) (l : Layout) → is_begun c n ≡ true → slice_get x.structs n ≡ Some l → slice_get (more x number all) n ≡ Some l
@@ -227,26 +235,67 @@ behind w a c x number place (typed all) f g fresh here h = by (nat_le (laid_out 
         record { good = close_good w x number all p; within = braces_within w a c x number all f fresh h.within p; fine = λ e o. tt }
     by false k = tt
 
-left_out : {A B C : Type 0} (P : C → Type 0) (r : Refusal) (rs : List Refusal) (k : Judged B) (f : A × B → Judged C) → OnTyped P (both {A = A} (faulty r rs) k >>= f)
-left_out P r rs (typed y) f = tt
-left_out P r rs (faulty s ss) f = tt
-
 with_all : {A B : Type 0} (P : Type 0) (Q : B → Type 0) (k : Judged A) (x : B) → OnTyped (λ y. P) k → (P → Q x) → OnTyped Q (both (typed (tt {0})) k >>= λ p. typed x)
 with_all P Q (typed y) x h f = f h
 with_all P Q (faulty r rs) x h f = tt
 
-pub braced_keeps : (w : World) (t : Name) (j : Judging (List (List ℕ × Ty))) → Keeps w true j (AreMembers 0) → Keeps w true (braced t j) (λ e part. Unit {0})
-braced_keeps w t j kj = record { keeps = λ a g. by a g (is_begun (with_tag a t) (tag_number (with_tag a t) t)) (nat_lt (length (with_tag a t).begun) 256) refl refl }
+-- a specifier whose type, if it is one of its own, is ready
+abbrev pub PartReady : form.InScope → Part → Type 0
+PartReady e (word w) = Unit {0}
+PartReady e (whole t) = Ready e.structs t
+
+-- what may follow an opening brace: the struct's braces weren't begun, and there are not too many
+abbrev MayOpen : Context → ℕ → Type 0
+MayOpen c number = (is_begun c number ≡ false) × (length c.begun < 256)
+
+-- the braces of the struct of a number, which stands in the list
+closing_after : (w : World) (a c : Context) (number place : ℕ) (opening : Judged (Unit {0})) (again : Bool) (j : Judging (List (List ℕ × Ty))) → Within true a c → Good w c → number < length c.structs
+    → OnTyped (λ u. MayOpen c number × (again ≡ false)) opening → Keeps w true j (AreMembers 0)
+    → OnTyped (λ part. After w true a (closing place number opening again j (with_begun c number)).1 (λ e. PartReady e part)) (closing place number opening again j (with_begun c number)).0
+closing_after w a c number place (faulty r rs) again j f g here h kj = not_given _ r rs ((j (with_begun c number)).0 >>= struct_fits (j (with_begun c number)).1 place) _
+closing_after w a c number place (typed u) again j f g here h kj =
+    subst (λ b. OnTyped (λ part. After w true a (closing place number (typed u) b j (with_begun c number)).1 (λ e. PartReady e part)) (closing place number (typed u) b j (with_begun c number)).0) (sym h.1)
+    (with_all _ _ ((j (with_begun c number)).0 >>= struct_fits (j (with_begun c number)).1 place) (whole (structure number))
+    (behind w a c (j (with_begun c number)).1 number place (j (with_begun c number)).0 f g h.0.0 here (kj.keeps (with_begun c number) (begun_good w c g number here h.0.1)))
+    (λ k. record { good = k.good; within = k.within; fine = λ e o. tt }))
+
+pub braced_keeps : (w : World) (t : Name) (j : Judging (List (List ℕ × Ty))) → Keeps w true j (AreMembers 0) → Keeps w true (braced t j) PartReady
+braced_keeps w t j kj = record {
+  keeps = λ a g.
+      let c : Context = with_tag a t in
+      let h = tag_after w a g t in
+      closing_after w a c (tag_number c t) t.from (opened c t) (is_begun c (tag_number c t)) j h.1 h.0 (tag_in_list w a g t) (opening c (is_begun c (tag_number c t)) (is_no_enum c t) (nat_lt (length c.begun) 256) refl refl) kj;
+}
   where
-    by : (a : Context) → Good w a → (b f : Bool) → is_begun (with_tag a t) (tag_number (with_tag a t) t) ≡ b → nat_lt (length (with_tag a t).begun) 256 ≡ f
-        → OnTyped (λ (part : Part). After w true a (if b then (j (with_begun (with_tag a t) (tag_number (with_tag a t) t))).1 else closed (j (with_begun (with_tag a t) (tag_number (with_tag a t) t))).1 (tag_number (with_tag a t) t) ((j (with_begun (with_tag a t) (tag_number (with_tag a t) t))).0 >>= struct_fits (j (with_begun (with_tag a t) (tag_number (with_tag a t) t))).1 t.from)) (λ e. Unit {0}))
-        (both (both (unless t.from DoubleName (not b)) (unless t.from (TooMany 3) f) >>= λ u. typed (tt {0})) ((j (with_begun (with_tag a t) (tag_number (with_tag a t) t))).0 >>= struct_fits (j (with_begun (with_tag a t) (tag_number (with_tag a t) t))).1 t.from) >>= λ p. typed (tag (tag_number (with_tag a t) t)))
-    by a g true true hb hf = left_out _ _ _ ((j (with_begun (with_tag a t) (tag_number (with_tag a t) t))).0 >>= struct_fits (j (with_begun (with_tag a t) (tag_number (with_tag a t) t))).1 t.from) _
-    by a g true false hb hf = left_out _ _ _ ((j (with_begun (with_tag a t) (tag_number (with_tag a t) t))).0 >>= struct_fits (j (with_begun (with_tag a t) (tag_number (with_tag a t) t))).1 t.from) _
-    by a g false false hb hf = left_out _ _ _ ((j (with_begun (with_tag a t) (tag_number (with_tag a t) t))).0 >>= struct_fits (j (with_begun (with_tag a t) (tag_number (with_tag a t) t))).1 t.from) _
-    by a g false true hb hf =
-        let c = tag_after w a g t in
-        let k = kj.keeps (with_begun (with_tag a t) (tag_number (with_tag a t) t)) (begun_good w (with_tag a t) c.0 (tag_number (with_tag a t) t) (below (length (with_tag a t).begun) 256 hf)) in
-        with_all _ _ ((j (with_begun (with_tag a t) (tag_number (with_tag a t) t))).0 >>= struct_fits (j (with_begun (with_tag a t) (tag_number (with_tag a t) t))).1 t.from) (tag (tag_number (with_tag a t) t))
-        (behind w a (with_tag a t) (j (with_begun (with_tag a t) (tag_number (with_tag a t) t))).1 (tag_number (with_tag a t) t) t.from (j (with_begun (with_tag a t) (tag_number (with_tag a t) t))).0 c.1 c.0 hb (tag_in_list w a g t) k)
-        (λ h. h)
+    opening : (c : Context) (b : Bool) (k : Judged (Unit {0})) (f : Bool) → is_begun c (tag_number c t) ≡ b → nat_lt (length c.begun) 256 ≡ f
+        → OnTyped (λ u. MayOpen c (tag_number c t) × (is_begun c (tag_number c t) ≡ false)) (both (unless t.from DoubleName (not b)) (both k (unless t.from (TooMany 3) f)) >>= λ u. typed (tt {0}))
+    opening c false (typed u) true h e = ((h, below (length c.begun) 256 e), h)
+    opening c false (typed u) false h e = tt
+    opening c false (faulty r rs) true h e = tt
+    opening c false (faulty r rs) false h e = tt
+    opening c true (typed u) true h e = tt
+    opening c true (typed u) false h e = tt
+    opening c true (faulty r rs) true h e = tt
+    opening c true (faulty r rs) false h e = tt
+
+pub alone_keeps : (w : World) (place : ℕ) (j : Judging (List (List ℕ × Ty))) → Keeps w true j (AreMembers 0) → Keeps w true (braced_alone place j) PartReady
+alone_keeps w place j kj = record {
+  keeps = λ a g.
+      closing_after w a (with_new_struct a []) (length a.structs) place (braces_fit (with_new_struct a []) place) false j (new_struct_within a []) (new_struct_good w a g []) (here a)
+      (fits a (unstarted a g) (nat_lt (length a.begun) 256) refl) kj;
+}
+  where
+    here : (a : Context) → length a.structs < length (a.structs ++ undeclared ∷ [])
+    here a = let k = length-append a.structs (undeclared ∷ []) in omega (arith, k)
+
+    unstarted : (a : Context) → Good w a → is_begun a (length a.structs) ≡ false
+    unstarted a g = by (is_begun a (length a.structs)) refl
+      where
+        by : (b : Bool) → is_begun a (length a.structs) ≡ b → is_begun a (length a.structs) ≡ false
+        by false h = h
+        by true h = let k = g.numbered (length a.structs) h in absurd (omega (arith, k))
+
+    fits : (a : Context) → is_begun a (length a.structs) ≡ false → (f : Bool) → nat_lt (length a.begun) 256 ≡ f
+        → OnTyped (λ (u : Unit {0}). MayOpen (with_new_struct a []) (length a.structs) × (false ≡ false)) (unless place (TooMany 3) f)
+    fits a h true e = ((h, below (length a.begun) 256 e), refl)
+    fits a h false e = tt

@@ -15,12 +15,12 @@ use Rattle.c_tree.specs.TypedForm.{IsPointer, IsNth, HasBits, ArePrinted, CanSta
 use Rattle.c_tree.specs.TypedForm as form
 use Rattle.c_typing.specs.Faults.{Judged, typed, faulty, both}
 use Rattle.c_typing.specs.Scope.{Library, printf, malloc, free, memcpy, thrd_create, thrd_join, mtx_init, mtx_lock, mtx_unlock, mtx_destroy, constant, library}
-use Rattle.c_typing.specs.Scope.{Binding, global_name, local_name, function_name, library_name, Context, bytes_of, meaning_of, or_else, found, of_library}
+use Rattle.c_typing.specs.Scope.{Binding, global_name, local_name, function_name, enumerator_name, type_name, library_name, Context, bytes_of, meaning_of, or_else, found, of_library}
 use Rattle.c_typing.specs.Rules.{converted, fitted, or_mismatch}
 use Rattle.c_typing.specs.Formats.{number_for, text_for, before_argument, arguments_for}
 use Rattle.c_typing.specs.Judgement.{named, before_fitted, fitted_all, called, called_lib, printed, started_by, started, plain_kind, init_by, called_library}
 use Rattle.c_typing.proofs.Extending.{Ready}
-use Rattle.c_typing.proofs.Carried.{OnTyped, OnSome, on_bind, on_both, on_mismatch, Plain, World, Good, Sound, Over, IsNamed, InLibrary}
+use Rattle.c_typing.proofs.Carried.{OnTyped, OnSome, on_bind, on_both, on_mismatch, Plain, World, Good, Over, IsNamed, InLibrary}
 use Rattle.c_typing.proofs.RuledWell.{Fine, Made, plain_ready, same_number, Fitting, fits, converted_has, Has}
 
 -- ---- names
@@ -56,6 +56,8 @@ named_made w d e o place (Some (global_name n t)) h = (o.globals n t h, o.sound.
 named_made w d e o place (Some (local_name n t)) h =
     let k = o.locals n t h in (k, subst (Ready e.structs) k.2 (o.sound.locals n k.0 k.1))
 named_made w d e o place (Some (function_name n params result)) h = tt
+named_made w d e o place (Some (enumerator_name value)) h = ((refl, h), tt)
+named_made w d e o place (Some (type_name t)) h = tt
 named_made w d e o place (Some (library_name (constant value))) h = ((refl, h), tt)
 named_made w d e o place (Some (library_name printf)) h = tt
 named_made w d e o place (Some (library_name malloc)) h = tt
@@ -87,12 +89,12 @@ passed e (t ∷ ts) (x ∷ es) h = before_passed e t ts (fitted t x) (fitted_all
 passed e [] (x ∷ es) h = tt
 passed e (t ∷ ts) [] h = tt
 
-pub called_made : (e : form.InScope) (place n : ℕ) (params : List Ty) (result : Ty) (args : List Expr) → Sound e → slice_get e.funcs n ≡ Some (record { params = params; result = result }) → AreFine e args
+pub called_made : (e : form.InScope) (place n : ℕ) (params : List Ty) (result : Ty) (args : List Expr) → Ready e.structs result → slice_get e.funcs n ≡ Some (record { params = params; result = result }) → AreFine e args
     → OnTyped (Made e) (called place n params result args)
-called_made e place n params result args s f h =
+called_made e place n params result args r f h =
     on_bind (Passed e params) (Made e) (or_mismatch place (fitted_all params args)) (λ es. typed (at place result (call n (exprs_of es))))
     (on_mismatch (Passed e params) place (fitted_all params args) (passed e params args h))
-    (λ es p. (((p.0, (record { params = params; result = result }, f, (p.1, refl))), plain_ready e.structs result (s.results n (record { params = params; result = result }) f).1), tt))
+    (λ es p. (((p.0, (record { params = params; result = result }, f, (p.1, refl))), r), tt))
 
 lib_made : (e : form.InScope) (place : ℕ) (which : trees.Lib) (params : List Ty) (result : Ty) (args : List Expr)
     → ((es : Exprs) → AreArguments params es → IsLibCall e which es result) → Plain result → AreFine e args → OnTyped (Made e) (called_lib place which params result args)

@@ -11,11 +11,12 @@ use Rattle.c_tree.specs.TypedLayout.{greatest_object, size_in, IsSized}
 use Rattle.c_tree.specs.TypedForm.{IsLayout, LiesIn, Signature, IsNth, IsResult, taken}
 use Rattle.c_tree.specs.TypedForm as form
 use Rattle.c_typing.specs.Faults.{Judged, typed, faulty, unless, both, ◌>>=◌}
-use Rattle.c_typing.specs.Scope.{Library, constant, Binding, global_name, local_name, function_name, library_name, Context, or_else, found, most_plain, is_begun}
+use Rattle.c_typing.specs.Scope.{Library, constant, Binding, global_name, local_name, function_name, enumerator_name, type_name, library_name, Context, or_else, found, most_plain, is_begun}
 use Rattle.c_typing.specs.Numbering.{is_block, is_in}
 use Rattle.c_typing.specs.Rules.{or_mismatch}
 use Rattle.c_typing.specs.Judgement.{Judging, lone, in_turn, ruled}
-use Rattle.c_typing.proofs.Extending.{undeclared, Extends, extends_itself, extends_further, Ready, AreSmall}
+use Rattle.c_typing.proofs.Extending.{undeclared, Extends, extends_itself, extends_further, Ready, ready_kept, AreSmall}
+use Rattle.c_typing.proofs.Lengthened.{Lengthens, lengthens_itself, lengthens_further}
 
 -- ---- on outcomes
 
@@ -67,10 +68,15 @@ Plain (pointer t) = Plain t
 Plain (array t n) = ⊥
 Plain t = Unit {0}
 
--- the functions of the whole program, and how many parameters the function around has
+-- the functions of the whole program, how many parameters the function around has, and the structs that were there at least
 pub record World : Type 0 where
   pub funcs : List Signature
   pub params : ℕ
+  pub structs : List Layout
+
+-- the same world once these structs are there
+abbrev pub since : World → List Layout → World
+since w s = record { funcs = w.funcs; params = w.params; structs = s }
 
 -- a number of the library is an int
 abbrev pub InLibrary : Library → Type 0
@@ -80,7 +86,9 @@ InLibrary which = Unit {0}
 abbrev pub IsNamed : World → Context → Binding → Type 0
 IsNamed w c (global_name n t) = slice_get c.globals n ≡ Some t
 IsNamed w c (local_name n t) = slice_get c.locals n ≡ Some t
-IsNamed w c (function_name n params result) = slice_get w.funcs n ≡ Some (record { params = params; result = result })
+IsNamed w c (function_name n params result) = (slice_get w.funcs n ≡ Some (record { params = params; result = result })) × Ready c.structs result
+IsNamed w c (enumerator_name value) = IsInRange int value
+IsNamed w c (type_name t) = Ready c.structs t
 IsNamed w c (library_name which) = InLibrary which
 
 -- what the scopes say
@@ -98,7 +106,9 @@ bytes_taken structs globals literals = sum_by (λ t. taken (size_in structs t)) 
 
 -- a context is in order
 pub record Good (w : World) (c : Context) : Type 0 where
-  pub results : (n : ℕ) (s : Signature) → slice_get w.funcs n ≡ Some s → IsResult s.result × Plain s.result
+  pub results : (n : ℕ) (s : Signature) → slice_get w.funcs n ≡ Some s → IsResult s.result
+  pub since : Extends w.structs c.structs
+  pub numbered : (n : ℕ) → is_begun c n ≡ true → n < length c.structs
   pub names : (q : List ℕ) (m : Binding) → visible c q ≡ Some m → IsNamed w c m
   pub layouts : (n : ℕ) (l : Layout) → slice_get c.structs n ≡ Some l → IsLayout c.structs l
   pub apart : (n : ℕ) → LiesIn c.structs n n → ⊥
@@ -132,9 +142,9 @@ pub record Deepens (c d : Context) : Type 0 where
   pub locals : (n : ℕ) (t : Ty) → slice_get c.locals n ≡ Some t → slice_get d.locals n ≡ Some t
   pub addressed : (n : ℕ) → is_in n c.addressed ≡ true → is_in n d.addressed ≡ true
 
--- in one expression
+-- in one expression: only enumerators are declared
 pub record Still (c d : Context) : Type 0 where
-  pub inner : d.inner ≡ c.inner
+  pub inner : Lengthens c.inner d.inner
   pub outer : d.outer ≡ c.outer
   pub locals : d.locals ≡ c.locals
 
@@ -177,10 +187,10 @@ deepens_further b c d f g = record {
 }
 
 pub still_itself : (c : Context) → Still c c
-still_itself c = record { inner = refl; outer = refl; locals = refl }
+still_itself c = record { inner = lengthens_itself c.inner; outer = refl; locals = refl }
 
 still_further : (b c d : Context) → Still b c → Still c d → Still b d
-still_further b c d f g = record { inner = g.inner ∙ f.inner; outer = g.outer ∙ f.outer; locals = g.locals ∙ f.locals }
+still_further b c d f g = record { inner = lengthens_further b.inner c.inner d.inner f.inner g.inner; outer = g.outer ∙ f.outer; locals = g.locals ∙ f.locals }
 
 pub within_itself : (v : Bool) (c : Context) → Within v c c
 within_itself true c = (grows_itself c, deepens_itself c, still_itself c)
@@ -204,7 +214,7 @@ pub record Sound (e : form.InScope) : Type 0 where
   pub locals : (n : ℕ) (l : Local) → slice_get e.locals n ≡ Some l → Ready e.structs l.ty
   pub blocks : (n : ℕ) (l : Local) → slice_get e.locals n ≡ Some l → is_block l.ty ≡ true → l.in_memory ≡ true
   pub literals : (n : ℕ) (bs : List ℕ) → slice_get e.literals n ≡ Some bs → (0 < length bs) × (length bs ≤ greatest_object)
-  pub results : (n : ℕ) (s : Signature) → slice_get e.funcs n ≡ Some s → IsResult s.result × Plain s.result
+  pub results : (n : ℕ) (s : Signature) → slice_get e.funcs n ≡ Some s → IsResult s.result
 
 -- a tree's context holds all that a context has shown
 pub record Over (w : World) (d : Context) (e : form.InScope) : Type 0 where
@@ -292,3 +302,67 @@ keeps_weaker w v a Fine Less k f = record { keeps = λ c g. on_weaker _ _ (a c).
 -- an expression in a statement
 pub keeps_looser : {A : Type 0} (w : World) (v : Bool) (a : Judging A) (Fine : form.InScope → A → Type 0) → Keeps w v a Fine → Keeps w false a Fine
 keeps_looser w v a Fine k = record { keeps = λ c g. on_weaker _ _ (a c).0 (k.keeps c g) (λ x p. record { good = p.good; within = looser v c (a c).1 p.within; fine = p.fine }) }
+
+-- ---- once more structs are there
+
+named_since : (w : World) (s t : List Layout) (c : Context) (m : Binding) → IsNamed (since w s) c m → IsNamed (since w t) c m
+named_since w s t c (global_name n u) h = h
+named_since w s t c (local_name n u) h = h
+named_since w s t c (function_name n params result) h = h
+named_since w s t c (enumerator_name value) h = h
+named_since w s t c (type_name u) h = h
+named_since w s t c (library_name which) h = h
+
+pub good_since : (w : World) (s t : List Layout) (c : Context) → Extends t c.structs → Good (since w s) c → Good (since w t) c
+good_since w s t c f g = record {
+  results = g.results;
+  since = f;
+  numbered = g.numbered;
+  names = λ q m h. named_since w s t c m (g.names q m h);
+  layouts = g.layouts;
+  apart = g.apart;
+  members = g.members;
+  unbegun = g.unbegun;
+  tags = g.tags;
+  begun = g.begun;
+  literals = g.literals;
+  globals = g.globals;
+  locals = g.locals;
+  plain = g.plain;
+  small = g.small;
+  params = g.params;
+  few = g.few;
+}
+
+pub over_since : (w : World) (s t : List Layout) (d : Context) (e : form.InScope) → Over (since w s) d e → Over (since w t) d e
+over_since w s t d e o = record { sound = o.sound; funcs = o.funcs; structs = o.structs; globals = o.globals; literals = o.literals; locals = o.locals; addressed = o.addressed }
+
+pub after_since : (w : World) (s t : List Layout) (v : Bool) (c d : Context) (P : form.InScope → Type 0) → Extends t d.structs → After (since w s) v c d P → After (since w t) v c d P
+after_since w s t v c d P f a = record { good = good_since w s t d f a.good; within = a.within; fine = λ e o. a.fine e (over_since w t s d e o) }
+
+-- what was ready where a world begins is ready in each tree around
+pub keeps_ready : (w : World) (v : Bool) (j : Judged Ty) → OnTyped (Ready w.structs) j → Keeps w v (lone j) (λ e t. Ready e.structs t)
+keeps_ready w v j h = record {
+  keeps = λ c g. keeps_here w v c (λ e t. Ready e.structs t) j g
+      (λ e o. on_weaker (Ready w.structs) (Ready e.structs) j h (λ t r. ready_kept w.structs e.structs (extends_further w.structs c.structs e.structs g.since o.structs) t r));
+}
+
+-- judging that is ruled by what was there before it
+pub ruled_after : {A B : Type 0} (w : World) (v : Bool) (c : Context) (a : Judging A) (rule : Context → A → Judged B) (FineA : form.InScope → A → Type 0) (FineB : form.InScope → B → Type 0)
+    → Good w c → Keeps w v a FineA → ((d : Context) (e : form.InScope) (x : A) → Within v c d → Good w d → Over w d e → FineA e x → OnTyped (FineB e) (rule d x))
+    → OnTyped (λ y. After w v c (ruled a rule c).1 (λ e. FineB e y)) (ruled a rule c).0
+ruled_after {A} {B} w v c a rule FineA FineB g ka f = by (a c).1 (a c).0 (ka.keeps c g)
+  where
+    then : (d : Context) (P : form.InScope → Type 0) (k : Judged B) → After w v c d P → ((e : form.InScope) → Over w d e → P e → OnTyped (FineB e) k) → OnTyped (λ y. After w v c d (λ e. FineB e y)) k
+    then d P (typed y) p h = record { good = p.good; within = p.within; fine = λ e o. h e o (p.fine e o) }
+    then d P (faulty r rs) p h = tt
+
+    by : (d : Context) (j : Judged A) → OnTyped (λ x. After w v c d (λ e. FineA e x)) j → OnTyped (λ y. After w v c d (λ e. FineB e y)) (j >>= rule d)
+    by d (typed x) p = then d (λ e. FineA e x) (rule d x) p (λ e o h. f d e x p.within p.good o h)
+    by d (faulty r rs) p = tt
+
+-- what was judged once more structs were there, from before that
+pub after_from : (w : World) (v : Bool) (c b d : Context) (P : form.InScope → Type 0) → Good w b → Within v c b → After (since w b.structs) v b d P → After w v c d P
+after_from w v c b d P g f a =
+    let k = after_since w b.structs w.structs v b d P (extends_further w.structs b.structs d.structs g.since (looser v b d a.within).0.structs) a in
+    record { good = k.good; within = within_further v c b d f k.within; fine = k.fine }

@@ -120,3 +120,15 @@ any_last p (x ∷ xs) y h = by (p x) (any_last p xs y h)
     by : (b : Bool) → list_any p (xs ++ y ∷ []) ≡ true → (b || list_any p (xs ++ y ∷ [])) ≡ true
     by true k = refl
     by false k = k
+
+pub any_either : {X : Type 0} (p : X → Bool) (xs : List X) (y : X) → list_any p (xs ++ y ∷ []) ≡ true → (list_any p xs ≡ true) ⊎ (p y ≡ true)
+any_either p [] y h = by (p y) h
+  where
+    by : (b : Bool) → (b || false) ≡ true → (false ≡ true) ⊎ (b ≡ true)
+    by true k = inr refl
+    by false k = absurd cc
+any_either p (x ∷ xs) y h = by (p x) h (any_either p xs y)
+  where
+    by : (b : Bool) → (b || list_any p (xs ++ y ∷ [])) ≡ true → (list_any p (xs ++ y ∷ []) ≡ true → (list_any p xs ≡ true) ⊎ (p y ≡ true)) → ((b || list_any p xs) ≡ true) ⊎ (p y ≡ true)
+    by true k f = inl refl
+    by false k f = f k

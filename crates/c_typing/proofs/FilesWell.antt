@@ -12,42 +12,47 @@ use Rattle.c_tree.specs.declared.syntax.Pointer.{Pointer}
 use Rattle.c_tree.specs.Syntax as source
 use Rattle.c_tree.specs.Typed.{Ty, Layout, Local, GlobalVar, Func, Typed, Stmt, stmts_of}
 use Rattle.c_tree.specs.TypedLayout.{greatest_object}
-use Rattle.c_tree.specs.TypedForm.{IsScalar, IsResult, IsLocal, AreWell, Signature, signature_of, IsFunc}
+use Rattle.c_tree.specs.TypedForm.{in_function, IsScalar, IsResult, IsLocal, AreWell, Signature, signature_of, IsFunc}
 use Rattle.c_tree.specs.TypedForm as form
-use Rattle.c_typing.specs.Faults.{Judged, typed, both}
-use Rattle.c_typing.specs.Scope.{Binding, global_name, local_name, function_name, library_name, Frame, Context, bytes_of, or_else, found, is_double, declared, back_to}
+use Rattle.c_typing.specs.Faults.{Judged, typed, both, ◌>>=◌}
+use Rattle.c_typing.specs.Scope.{Binding, global_name, local_name, function_name, enumerator_name, type_name, library_name, Frame, Context, bytes_of, or_else, found, is_double, declared, back_to}
 use Rattle.c_typing.specs.Judgement.{in_turn, judged_specs}
 use Rattle.c_typing.specs.Statements.{judged_stmts}
 use Rattle.c_typing.specs.Numbering.{Param, is_block, is_in, func_of, locals_from}
-use Rattle.c_typing.specs.Programs.{judged_globals, judged_param_list, place_of_name, one_body, with_name, with_function, before_params, in_scope_of, judged_body, body_behind, judged_function, result_of, Made, joined, judged_rest, judged_external, judged_externals}
-use Rattle.c_typing.specs.Laws.{IsBodyWritten}
-use Rattle.c_typing.proofs.Extending.{Extends, extends_further, Ready, AreSmall, ready_kept, sized_kept}
+use Rattle.c_typing.specs.Programs.{judged_globals, judged_param_list, place_of_name, one_body, with_name, with_function, before_params, in_scope_of, judged_body, body_behind, judged_function, result_of, judged_aliases, no_objects, Made, joined, judged_rest, judged_external, judged_externals}
+use Rattle.c_typing.specs.Laws.{IsBodyWritten, IsExternalWritten}
+use Rattle.c_typing.proofs.Extending.{Extends, extends_itself, extends_further, Ready, AreSmall, ready_kept, sized_kept}
 use Rattle.c_typing.proofs.Elements.{nothing_at, any_left, any_last}
-use Rattle.c_typing.proofs.Carried.{OnTyped, on_unless, Plain, World, IsNamed, visible, Good, Grows, grows_further, within_itself, Over, After}
-use Rattle.c_typing.proofs.Own.{as_local, local_at, local_is, block_in}
+use Rattle.c_typing.proofs.Carried.{OnTyped, on_unless, on_weaker, World, since, good_since, IsNamed, visible, Good, Grows, grows_further, within_itself, Over, After}
+use Rattle.c_typing.proofs.Own.{own, over_own, as_local, local_at, local_is, block_in}
 use Rattle.c_typing.proofs.JudgedWell.{judged_specs_keeps}
 use Rattle.c_typing.proofs.WalkedWell.{found_last, stmts_keep, stmts_well, AreFineStmts}
 use Rattle.c_typing.proofs.RenumberedWell.{with_locals}
 use Rattle.c_typing.proofs.FunctionWell.{AreFirst, all_locals, body_well, locals_well, few_locals, params_within, in_registers, same_locals}
 use Rattle.c_typing.proofs.ParamsWell.{Params, param_list_after}
-use Rattle.c_typing.proofs.GlobalsWell.{NotLocal, Free, Globals, globals_still, globals_after, AreHeld, held_kept}
-use Rattle.c_typing.proofs.HeadsWell.{typed_given, both_is, bind_is, same_bytes_is, bytes_same, new_name, is_function, at_name, WasFunction, IsNew, entry, has_body, function_result, specs_plain, Agrees, externals_headed}
+use Rattle.c_typing.proofs.GlobalsWell.{NotLocal, Free, Globals, globals_still, globals_after, globals_since, AreHeld, held_kept}
+use Rattle.c_typing.proofs.AliasesWell.{aliases_after}
+use Rattle.c_typing.proofs.HeadsWell.{typed_given, both_is, bind_is, same_bytes_is, bytes_same, new_name, is_function, at_name, WasFunction, IsNew, entry, has_body, function_result, Agrees, externals_headed}
 
 -- the functions of the whole program, outside each of them, and inside of one
 abbrev pub W : List Signature → ℕ → World
-W fs k = record { funcs = fs; params = k }
+W fs k = record { funcs = fs; params = k; structs = [] }
 
-named_world : (fs : List Signature) (k j : ℕ) (c d : Context) → ((n : ℕ) (t : Ty) → slice_get c.globals n ≡ Some t → slice_get d.globals n ≡ Some t) → ((n : ℕ) (t : Ty) → slice_get c.locals n ≡ Some t → slice_get d.locals n ≡ Some t) → (m : Binding) → IsNamed (W fs k) c m → IsNamed (W fs j) d m
-named_world fs k j c d f g (global_name n t) h = f n t h
-named_world fs k j c d f g (local_name n t) h = g n t h
-named_world fs k j c d f g (function_name n ps r) h = h
-named_world fs k j c d f g (library_name which) h = h
+named_world : (fs : List Signature) (k j : ℕ) (c d : Context) → Extends c.structs d.structs → ((n : ℕ) (t : Ty) → slice_get c.globals n ≡ Some t → slice_get d.globals n ≡ Some t) → ((n : ℕ) (t : Ty) → slice_get c.locals n ≡ Some t → slice_get d.locals n ≡ Some t) → (m : Binding) → IsNamed (W fs k) c m → IsNamed (W fs j) d m
+named_world fs k j c d x f g (global_name n t) h = f n t h
+named_world fs k j c d x f g (local_name n t) h = g n t h
+named_world fs k j c d x f g (function_name n ps r) h = (h.0, ready_kept c.structs d.structs x r h.1)
+named_world fs k j c d x f g (enumerator_name value) h = h
+named_world fs k j c d x f g (type_name t) h = ready_kept c.structs d.structs x t h
+named_world fs k j c d x f g (library_name which) h = h
 
-named_free : (fs : List Signature) (k j : ℕ) (c d : Context) → ((n : ℕ) (t : Ty) → slice_get c.globals n ≡ Some t → slice_get d.globals n ≡ Some t) → (m : Binding) → NotLocal m → IsNamed (W fs k) c m → IsNamed (W fs j) d m
-named_free fs k j c d f (global_name n t) l h = f n t h
-named_free fs k j c d f (local_name n t) l h = absurd l
-named_free fs k j c d f (function_name n ps r) l h = h
-named_free fs k j c d f (library_name which) l h = h
+named_free : (fs : List Signature) (k j : ℕ) (c d : Context) → Extends c.structs d.structs → ((n : ℕ) (t : Ty) → slice_get c.globals n ≡ Some t → slice_get d.globals n ≡ Some t) → (m : Binding) → NotLocal m → IsNamed (W fs k) c m → IsNamed (W fs j) d m
+named_free fs k j c d x f (global_name n t) l h = f n t h
+named_free fs k j c d x f (local_name n t) l h = absurd l
+named_free fs k j c d x f (function_name n ps r) l h = (h.0, ready_kept c.structs d.structs x r h.1)
+named_free fs k j c d x f (enumerator_name value) l h = h
+named_free fs k j c d x f (type_name t) l h = ready_kept c.structs d.structs x t h
+named_free fs k j c d x f (library_name which) l h = h
 
 -- ---- how many functions there are
 
@@ -194,6 +199,8 @@ at_file c e q = ap (λ (os : List Frame). or_else (lookup (bytes_eq q) c.inner) 
 start_good : (fs : List Signature) (c : Context) → FileGood fs c → Good (W fs 0) (before_params c)
 start_good fs c f = record {
   results = f.good.results;
+  since = f.good.since;
+  numbered = f.good.numbered;
   names = λ q m h. by q m (sym (found_last c.outer c.inner q) ∙ h);
   layouts = f.good.layouts;
   apart = f.good.apart;
@@ -211,7 +218,7 @@ start_good fs c f = record {
 }
   where
     by : (q : List ℕ) (m : Binding) → visible c q ≡ Some m → IsNamed (W fs 0) (before_params c) m
-    by q m h = named_free fs 0 0 c (before_params c) (λ n t k. k) m (f.free q m (sym (at_file c f.outer q) ∙ h)) (f.good.names q m h)
+    by q m h = named_free fs 0 0 c (before_params c) (extends_itself c.structs) (λ n t k. k) m (f.free q m (sym (at_file c f.outer q) ∙ h)) (f.good.names q m h)
 
 -- behind a function's name
 abbrev Behind : (around p : Context) → Frame → List (List ℕ) → Context
@@ -240,6 +247,7 @@ record IsBehind (fs : List Signature) (names : List (List ℕ)) (around p : Cont
   agrees : Agrees fs (Behind around p x y)
   entry : WasFunction (back_to around p) n (Behind around p x y) (map (λ (z : Param). z.ty) xs) r ⊎ IsNew (back_to around p) names n (Behind around p x y) (map (λ (z : Param). z.ty) xs) r
   functions : y ≡ functions_with p n
+  ready : Ready p.structs r
 
 module _ (fs : List Signature) (names : List (List ℕ)) (around p : Context) (n : Name) (xs : List Param) (r : Ty) (x : Frame) (y : List (List ℕ)) (h : IsBehind fs names around p n xs r x y) where
   abbrev D : Context
@@ -251,14 +259,14 @@ module _ (fs : List Signature) (names : List (List ℕ)) (around p : Context) (n
   named_before : (q : List ℕ) (m : Binding) → lookup (bytes_eq q) around.inner ≡ Some m → NotLocal m × IsNamed (W fs 0) D m
   named_before q m k =
       let l = h.file.free q m k in
-      (l, named_free fs 0 0 around D (λ i t g. ap (λ ts. slice_get ts i) same_globals ∙ g) m l (h.file.good.names q m (at_file around h.file.outer q ∙ k)))
+      (l, named_free fs 0 0 around D h.given.within.0.structs (λ i t g. ap (λ ts. slice_get ts i) same_globals ∙ g) m l (h.file.good.names q m (at_file around h.file.outer q ∙ k)))
 
   named_here : (q : List ℕ) (m : Binding) → lookup (bytes_eq q) x ≡ Some m → NotLocal m × IsNamed (W fs 0) D m
   named_here q m k = by h.entry
     where
       new : IsNew (back_to around p) names n D (map (λ (z : Param). z.ty) xs) r → (lookup (bytes_eq q) around.inner ≡ Some m) ⊎ ((bytes_eq q (bytes_of p.text n) ≡ true) × (function_name (place_of_name (bytes_of p.text n) names) (map (λ (z : Param). z.ty) xs) r ≡ m)) → NotLocal m × IsNamed (W fs 0) D m
       new i (inl g) = named_before q m g
-      new i (inr g) = subst (λ (z : Binding). NotLocal z × IsNamed (W fs 0) D z) g.1 (tt, h.agrees q (place_of_name (bytes_of p.text n) names) (map (λ (z : Param). z.ty) xs) r (k ∙ ap Some (sym g.1)))
+      new i (inr g) = subst (λ (z : Binding). NotLocal z × IsNamed (W fs 0) D z) g.1 (tt, (h.agrees q (place_of_name (bytes_of p.text n) names) (map (λ (z : Param). z.ty) xs) r (k ∙ ap Some (sym g.1)), h.ready))
 
       by : WasFunction (back_to around p) n D (map (λ (z : Param). z.ty) xs) r ⊎ IsNew (back_to around p) names n D (map (λ (z : Param). z.ty) xs) r → NotLocal m × IsNamed (W fs 0) D m
       by (inl i) = named_before q m (ap (lookup (bytes_eq q)) (sym i.2) ∙ k)
@@ -270,6 +278,8 @@ module _ (fs : List Signature) (names : List (List ℕ)) (around p : Context) (n
   behind_good : Good (W fs 0) D
   behind_good = record {
     results = h.given.good.results;
+    since = h.given.good.since;
+    numbered = h.given.good.numbered;
     names = λ q m k. (named_visible q m k).1;
     layouts = h.given.good.layouts;
     apart = h.given.good.apart;
@@ -302,6 +312,8 @@ module _ (fs : List Signature) (names : List (List ℕ)) (around p : Context) (n
   body_good : Good (W fs (length xs)) B
   body_good = record {
     results = h.given.good.results;
+    since = h.given.good.since;
+    numbered = h.given.good.numbered;
     names = λ q m k. by q m (lookup (bytes_eq q) p.inner) refl (ap (or_else (lookup (bytes_eq q) p.inner)) (sym (found_last around.outer x q)) ∙ k);
     layouts = h.given.good.layouts;
     apart = h.given.good.apart;
@@ -319,8 +331,8 @@ module _ (fs : List Signature) (names : List (List ℕ)) (around p : Context) (n
   }
     where
       by : (q : List ℕ) (m : Binding) (o : Option Binding) → lookup (bytes_eq q) p.inner ≡ o → or_else o (or_else (lookup (bytes_eq q) x) (found around.outer q)) ≡ Some m → IsNamed (W fs (length xs)) B m
-      by q m (Some z) e k = named_world fs 0 (length xs) p B (λ i t g. g) (λ i t g. g) m (h.given.good.names q m (ap (λ o. or_else o (found p.outer q)) e ∙ k))
-      by q m None e k = named_world fs 0 (length xs) D B (λ i t g. g) (λ i t g. g) m (named_visible q m k).1
+      by q m (Some z) e k = named_world fs 0 (length xs) p B (extends_itself p.structs) (λ i t g. g) (λ i t g. g) m (h.given.good.names q m (ap (λ o. or_else o (found p.outer q)) e ∙ k))
+      by q m None e k = named_world fs 0 (length xs) D B (extends_itself p.structs) (λ i t g. g) (λ i t g. g) m (named_visible q m k).1
 
   -- ---- the names of functions
 
@@ -447,7 +459,7 @@ tree_over fs k z t g f = record {
 }
 
 function_well : (fs : List Signature) (z : Context) (t : Typed) (xs : List Param) (r : Ty) (ss : List Stmt) → Good (W fs (length xs)) z → Final fs z t → AreFirst xs z.locals → length xs ≤ 16 → IsResult r
-    → AreFineStmts (W fs (length xs)) r false (tree_of t z) ss → IsFunc t (func_of xs z.locals z.addressed r (stmts_of ss))
+    → AreFineStmts (W fs (length xs)) r in_function (tree_of t z) ss → IsFunc t (func_of xs z.locals z.addressed r (stmts_of ss))
 function_well fs z t xs r ss g f first few result h = record {
   few_params = few;
   params = subst (λ (ls : List Local). length xs ≤ length ls) same (params_within xs z.locals z.addressed);
@@ -455,8 +467,8 @@ function_well fs z t xs r ss g f first few result h = record {
   locals = subst (AllByRecursion (IsLocal t.structs)) same (locals_well t.structs xs z.locals z.addressed first (λ n u k. sized_kept z.structs t.structs f.structs u (g.locals n u k).0));
   few_locals = subst (λ (ls : List Local). length ls ≤ 1040) same (few_locals xs z.locals z.addressed first few g.few);
   result = result;
-  body = subst (λ (ls : List Local). AreWell (record { context = with_locals (tree_of t z) ls; params = length xs; result = r }) false (func_of xs z.locals z.addressed r (stmts_of ss)).body) same
-      (body_well (tree_of t z) xs z.locals z.addressed r (stmts_of ss) first (stmts_well (W fs (length xs)) r false (tree_of t z) ss h));
+  body = subst (λ (ls : List Local). AreWell (record { context = with_locals (tree_of t z) ls; params = length xs; result = r }) in_function (func_of xs z.locals z.addressed r (stmts_of ss)).body) same
+      (body_well (tree_of t z) xs z.locals z.addressed r (stmts_of ss) first (stmts_well (W fs (length xs)) r in_function (tree_of t z) ss h));
 }
   where
     same : all_locals xs z.locals z.addressed ≡ (func_of xs z.locals z.addressed r (stmts_of ss)).locals
@@ -483,7 +495,7 @@ closed_is around z p x n text bodies fresh =
     unseen = ap (λ t. list_any (bytes_eq (bytes_of t n)) z.bodies) text ∙ ap (list_any (bytes_eq (bytes_of p.text n))) bodies ∙ fresh
 
 defined_step : (fs : List Signature) (names : List (List ℕ)) (around p : Context) (n : Name) (xs : List Param) (r : Ty) (x : Frame) (y : List (List ℕ)) (h : IsBehind fs names around p n xs r x y)
-    → (z : Context) (ss : List Stmt) → After (W fs (length xs)) false (in_scope_of p.inner (Behind around p x y)) z (λ e. AreFineStmts (W fs (length xs)) r false e ss) → list_any (bytes_eq (bytes_of p.text n)) p.bodies ≡ false → IsResult r
+    → (z : Context) (ss : List Stmt) → After (W fs (length xs)) false (in_scope_of p.inner (Behind around p x y)) z (λ e. AreFineStmts (W fs (length xs)) r in_function e ss) → list_any (bytes_eq (bytes_of p.text n)) p.bodies ≡ false → IsResult r
     → FileStep fs around (Closed around z x n) (record { globals = []; funcs = func_of xs z.locals z.addressed r (stmts_of ss) ∷ [] })
 defined_step fs names around p n xs r x y h z ss a fresh result = record {
   good = record {
@@ -525,11 +537,13 @@ defined_step fs names around p n xs r x y h z ss a fresh result = record {
         }
 
     named : (q : List ℕ) (m : Binding) → NotLocal m × IsNamed (W fs 0) (Behind around p x y) m → IsNamed (W fs 0) (Closed around z x n) m
-    named q m k = named_free fs 0 0 (Behind around p x y) (Closed around z x n) a.within.0.globals m k.0 k.1
+    named q m k = named_free fs 0 0 (Behind around p x y) (Closed around z x n) a.within.0.structs a.within.0.globals m k.0 k.1
 
     closed_good : Good (W fs 0) (Closed around z x n)
     closed_good = record {
       results = a.good.results;
+      since = a.good.since;
+      numbered = a.good.numbered;
       names = λ q m k. named q m (named_visible fs names around p n xs r x y h q m k);
       layouts = a.good.layouts;
       apart = a.good.apart;
@@ -568,19 +582,19 @@ body_step fs names around p n xs r x y h pointers params None a once result gs e
     none_same gs e = cc
 body_step fs names around p n xs r x y h pointers params (Some body) a once result gs e =
     let b : Context = in_scope_of p.inner (Behind around p x y) in
-    let z : Context = (judged_stmts r false (source.stmts_of body.items) b).1 in
+    let z : Context = (judged_stmts r in_function (source.stmts_of body.items) b).1 in
     let m = has_body r xs body b gs e in
-    let k = typed_given (λ ss. After (W fs (length xs)) false b z (λ e. AreFineStmts (W fs (length xs)) r false e ss)) (judged_stmts r false (source.stmts_of body.items) b).0 m.ss
-    ((stmts_keep (W fs (length xs)) r false (source.stmts_of body.items) a).keeps b (body_good fs names around p n xs r x y h)) m.typed_body in
+    let k = typed_given (λ ss. After (W fs (length xs)) false b z (λ e. AreFineStmts (W fs (length xs)) r in_function e ss)) (judged_stmts r in_function (source.stmts_of body.items) b).0 m.ss
+    ((stmts_keep (W fs (length xs)) r in_function (source.stmts_of body.items) a).keeps b (body_good fs names around p n xs r x y h)) m.typed_body in
     let fresh = body_false (back_to around p) n body once in
     subst (λ (d : Context). FileStep fs around d (record { globals = []; funcs = gs })) (closed_is around z p x n k.within.0.text k.within.1.bodies fresh)
     (subst (λ (v : List Func). FileStep fs around (Closed around z x n) (record { globals = []; funcs = v })) (sym m.made)
     (defined_step fs names around p n xs r x y h z m.ss k fresh result))
 
-function_step : (fs : List Signature) (names : List (List ℕ)) (base : Judged Ty) → OnTyped Plain base → (pointers : List Pointer) (n : Name) (params : List source.Param) (body : Option source.Body) (around : Context) → FileGood fs around
+function_step : (fs : List Signature) (names : List (List ℕ)) (base : Judged Ty) (pointers : List Pointer) (n : Name) (params : List source.Param) (body : Option source.Body) (around : Context) → OnTyped (Ready around.structs) base → FileGood fs around
     → IsBodyWritten (source.function pointers n params body) → (gs : List Func) → (judged_function names base pointers n params body around).0 ≡ typed gs → Agrees fs (judged_function names base pointers n params body around).1
     → FileStep fs around (judged_function names base pointers n params body around).1 (record { globals = []; funcs = gs })
-function_step fs names base hb pointers n params body around f a gs e agrees =
+function_step fs names base pointers n params body around hb f a gs e agrees =
     let p : Context = (judged_param_list params (before_params around)).1 in
     let i = is_function names base pointers n params body around gs e in
     let ts : List Ty = map (λ (z : Param). z.ty) i.xs in
@@ -588,7 +602,8 @@ function_step fs names base hb pointers n params body around f a gs e agrees =
     let y : List (List ℕ) = functions_with p n in
     let same : with_function (back_to around p) names n ts i.r ≡ Behind around p x y = with_function_is around p names n ts i.r in
     let at = at_name (back_to around p) names n body i.name in
-    let result = typed_given (λ u. IsResult u × Plain u) (result_of n.from base pointers) i.r (function_result base hb n.from pointers) i.result in
+    let result = typed_given (λ u. IsResult u × Ready around.structs u) (result_of n.from base pointers) i.r (function_result around.structs base hb n.from pointers) i.result in
+    let given = typed_given (λ xs. Params (W fs 0) (before_params around) p xs) (judged_param_list params (before_params around)).0 i.xs (param_list_after (W fs 0) params (before_params around) (start_good fs around f)) i.given in
     let last : (judged_function names base pointers n params body around).1 ≡ body_behind (Behind around p x y) n body (judged_body (typed i.xs) (typed i.r) body (in_scope_of p.inner (Behind around p x y))).1
     = i.last ∙ ap (λ d. body_behind d n body (judged_body (typed i.xs) (typed i.r) body (in_scope_of p.inner d)).1) same in
     let made : (judged_body (typed i.xs) (typed i.r) body (in_scope_of p.inner (Behind around p x y))).0 ≡ typed gs = ap (λ d. (judged_body (typed i.xs) (typed i.r) body (in_scope_of p.inner d)).0) (sym same) ∙ i.made in
@@ -597,10 +612,11 @@ function_step fs names base hb pointers n params body around f a gs e agrees =
     (body_step fs names around p n i.xs i.r x y
     (record {
       file = f;
-      given = typed_given (λ xs. Params (W fs 0) (before_params around) p xs) (judged_param_list params (before_params around)).0 i.xs (param_list_after (W fs 0) params (before_params around) (start_good fs around f)) i.given;
+      given = given;
       agrees = seen;
       entry = subst (λ d. WasFunction (back_to around p) n d ts i.r ⊎ IsNew (back_to around p) names n d ts i.r) same (entry (back_to around p) names n body i.xs i.r at i.type);
       functions = refl;
+      ready = ready_kept around.structs p.structs given.within.0.structs i.r result.1;
     })
     pointers params body a at.body_at result.0 gs made)
   where
@@ -616,40 +632,70 @@ function_step fs names base hb pointers n params body around f a gs e agrees =
 no_step : (fs : List Signature) (c : Context) → FileGood fs c → FileStep fs c c (record { globals = []; funcs = [] })
 no_step fs c f = globals_step fs c c [] f (globals_still (W fs 0) c c f.good (within_itself true c))
 
-rest_step : (fs : List Signature) (names : List (List ℕ)) (base : Judged Ty) → OnTyped Plain base → (rest : source.Rest) (c : Context) → FileGood fs c → IsBodyWritten rest → (m : Made) → (judged_rest names base rest c).0 ≡ typed m → Agrees fs (judged_rest names base rest c).1 → FileStep fs c (judged_rest names base rest c).1 m
-rest_step fs names base hb source.nothing c f a m e g = subst (FileStep fs c c) (made_is (record { globals = []; funcs = [] }) m e) (no_step fs c f)
+-- what was declared from here on, with a type that is ready here
+from_here : (fs : List Signature) (c : Context) (base : Judged Ty) (xs : List source.InitDeclarator) → OnTyped (Ready c.structs) base → Good (W fs 0) c → OnTyped (λ gs. Globals (W fs 0) c (judged_globals base xs c).1 gs) (judged_globals base xs c).0
+from_here fs c base xs h g =
+    on_weaker (λ gs. Globals (since (W fs 0) c.structs) c (judged_globals base xs c).1 gs) (λ gs. Globals (W fs 0) c (judged_globals base xs c).1 gs) (judged_globals base xs c).0
+    (globals_after (since (W fs 0) c.structs) base h xs c (good_since (W fs 0) [] c.structs c (extends_itself c.structs) g))
+    (λ gs k. globals_since (since (W fs 0) c.structs) [] c (judged_globals base xs c).1 gs (λ n l e. absurd (nothing_at n l e)) k)
+
+types_here : (fs : List Signature) (c : Context) (base : Judged Ty) (xs : List source.Declarator) → OnTyped (Ready c.structs) base → Good (W fs 0) c → OnTyped (λ u. Globals (W fs 0) c (judged_aliases base xs c).1 []) (judged_aliases base xs c).0
+types_here fs c base xs h g =
+    on_weaker (λ u. Globals (since (W fs 0) c.structs) c (judged_aliases base xs c).1 []) (λ u. Globals (W fs 0) c (judged_aliases base xs c).1 []) (judged_aliases base xs c).0
+    (aliases_after (since (W fs 0) c.structs) base h xs c (good_since (W fs 0) [] c.structs c (extends_itself c.structs) g))
+    (λ u k. globals_since (since (W fs 0) c.structs) [] c (judged_aliases base xs c).1 [] (λ n l e. absurd (nothing_at n l e)) k)
+
+ready_base : (fs : List Signature) (c b : Context) (t : Ty) (j : Judged Ty) → j ≡ typed t → After (W fs 0) true c b (λ e. Ready e.structs t) → OnTyped (Ready b.structs) j
+ready_base fs c b t j e a = subst (OnTyped (Ready b.structs)) (sym e) (a.fine (own (W fs 0) b) (over_own (W fs 0) b a.good))
+
+rest_step : (fs : List Signature) (names : List (List ℕ)) (base : Judged Ty) (rest : source.Rest) (c : Context) → OnTyped (Ready c.structs) base → FileGood fs c → IsBodyWritten rest → (m : Made) → (judged_rest names base rest c).0 ≡ typed m → Agrees fs (judged_rest names base rest c).1 → FileStep fs c (judged_rest names base rest c).1 m
+rest_step fs names base source.nothing c hb f a m e g = subst (FileStep fs c c) (made_is (record { globals = []; funcs = [] }) m e) (no_step fs c f)
   where
     made_is : (m n : Made) → typed m ≡ typed n → m ≡ n
     made_is m n e = cc
-rest_step fs names base hb (source.function pointers n params body) c f a m e g =
+rest_step fs names base (source.function pointers n params body) c hb f a m e g =
     let i = bind_is (judged_function names base pointers n params body c).0 (λ gs. typed (record { globals = []; funcs = gs })) m e in
-    subst (FileStep fs c (judged_function names base pointers n params body c).1) (made_is (record { globals = []; funcs = i.0 }) m i.2) (function_step fs names base hb pointers n params body c f a i.0 i.1 g)
+    subst (FileStep fs c (judged_function names base pointers n params body c).1) (made_is (record { globals = []; funcs = i.0 }) m i.2) (function_step fs names base pointers n params body c hb f a i.0 i.1 g)
   where
     made_is : (m n : Made) → typed m ≡ typed n → m ≡ n
     made_is m n e = cc
-rest_step fs names base hb (source.variables declarators) c f a m e g =
+rest_step fs names base (source.variables declarators) c hb f a m e g =
     let i = bind_is (judged_globals base declarators c).0 (λ gs. typed (record { globals = gs; funcs = [] })) m e in
     subst (FileStep fs c (judged_globals base declarators c).1) (made_is (record { globals = i.0; funcs = [] }) m i.2)
-    (globals_step fs c (judged_globals base declarators c).1 i.0 f (typed_given (λ gs. Globals (W fs 0) c (judged_globals base declarators c).1 gs) (judged_globals base declarators c).0 i.0 (globals_after (W fs 0) base hb declarators c f.good) i.1))
+    (globals_step fs c (judged_globals base declarators c).1 i.0 f (typed_given (λ gs. Globals (W fs 0) c (judged_globals base declarators c).1 gs) (judged_globals base declarators c).0 i.0 (from_here fs c base declarators hb f.good) i.1))
   where
     made_is : (m n : Made) → typed m ≡ typed n → m ≡ n
     made_is m n e = cc
 
-external_step : (fs : List Signature) (names : List (List ℕ)) (x : source.External) (c : Context) → FileGood fs c → IsBodyWritten x.rest → (m : Made) → (judged_external names x c).0 ≡ typed m → Agrees fs (judged_external names x c).1 → FileStep fs c (judged_external names x c).1 m
-external_step fs names x c f a m e g =
-    let b : Judged Ty × Context = judged_specs (source.specs_of x.specs) c in
-    let r : Judged Made × Context = judged_rest names b.0 x.rest b.1 in
+external_step : (fs : List Signature) (names : List (List ℕ)) (x : source.External) (c : Context) → FileGood fs c → IsExternalWritten x → (m : Made) → (judged_external names x c).0 ≡ typed m → Agrees fs (judged_external names x c).1 → FileStep fs c (judged_external names x c).1 m
+external_step fs names (source.types_by specs declarators) c f a m e g =
+    let b : Judged Ty × Context = judged_specs (source.specs_of specs) c in
+    let r : Judged (Unit {0}) × Context = judged_aliases b.0 declarators b.1 in
+    let h = bind_is (both b.0 r.0 >>= λ p. typed p.1) (λ u. typed no_objects) m e in
+    let i = bind_is (both b.0 r.0) (λ p. typed p.1) h.0 h.1 in
+    let j = both_is b.0 r.0 i.0 i.1 in
+    let k = typed_given (λ t. After (W fs 0) true c b.1 (λ e. Ready e.structs t)) b.0 i.0.0 ((judged_specs_keeps (W fs 0) (source.specs_of specs)).keeps c f.good) j.0 in
+    let first = globals_step fs c b.1 [] f (globals_still (W fs 0) c b.1 k.good k.within) in
+    let named = typed_given (λ u. Globals (W fs 0) b.1 r.1 []) r.0 i.0.1 (types_here fs b.1 b.0 declarators (ready_base fs c b.1 i.0.0 b.0 j.0 k) k.good) j.1 in
+    subst (FileStep fs c r.1) (made_is no_objects m h.2)
+    (step_further fs c b.1 r.1 (record { globals = []; funcs = [] }) no_objects first (globals_step fs b.1 r.1 [] first.good named))
+  where
+    made_is : (m n : Made) → typed m ≡ typed n → m ≡ n
+    made_is m n e = cc
+external_step fs names (source.external_of storage specs rest) c f a m e g =
+    let b : Judged Ty × Context = judged_specs (source.specs_of specs) c in
+    let r : Judged Made × Context = judged_rest names b.0 rest b.1 in
     let i = bind_is (both b.0 r.0) (λ p. typed p.1) m e in
     let j = both_is b.0 r.0 i.0 i.1 in
-    let k = typed_given (λ t. After (W fs 0) true c b.1 (λ e. Plain t)) b.0 i.0.0 ((judged_specs_keeps (W fs 0) (source.specs_of x.specs)).keeps c f.good) j.0 in
+    let k = typed_given (λ t. After (W fs 0) true c b.1 (λ e. Ready e.structs t)) b.0 i.0.0 ((judged_specs_keeps (W fs 0) (source.specs_of specs)).keeps c f.good) j.0 in
     let first = globals_step fs c b.1 [] f (globals_still (W fs 0) c b.1 k.good k.within) in
     subst (FileStep fs c r.1) (made_is i.0.1 m i.2)
-    (step_further fs c b.1 r.1 (record { globals = []; funcs = [] }) i.0.1 first (rest_step fs names b.0 (specs_plain (source.specs_of x.specs) c) x.rest b.1 first.good a i.0.1 j.1 g))
+    (step_further fs c b.1 r.1 (record { globals = []; funcs = [] }) i.0.1 first (rest_step fs names b.0 rest b.1 (ready_base fs c b.1 i.0.0 b.0 j.0 k) first.good a i.0.1 j.1 g))
   where
     made_is : (m n : Made) → typed m ≡ typed n → m ≡ n
     made_is m n e = cc
 
-pub externals_step : (fs : List Signature) (names : List (List ℕ)) (xs : List source.External) (c : Context) → FileGood fs c → AllByRecursion (λ (x : source.External). IsBodyWritten x.rest) xs → (m : Made) → (judged_externals names xs c).0 ≡ typed m → Agrees fs (judged_externals names xs c).1
+pub externals_step : (fs : List Signature) (names : List (List ℕ)) (xs : List source.External) (c : Context) → FileGood fs c → AllByRecursion IsExternalWritten xs → (m : Made) → (judged_externals names xs c).0 ≡ typed m → Agrees fs (judged_externals names xs c).1
     → FileStep fs c (judged_externals names xs c).1 m
 externals_step fs names [] c f a m e g = subst (FileStep fs c c) (made_is (record { globals = []; funcs = [] }) m e) (no_step fs c f)
   where

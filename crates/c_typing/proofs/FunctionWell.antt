@@ -8,7 +8,7 @@ use Rattle.std.proofs.lemmas.List.{length-append}
 use Rattle.std.proofs.lemmas.Option.{slice_get-map}
 use Rattle.c_tree.specs.Typed.{Ty, void, integer, mutex, pointer, array, structure, Layout, Local, Stmts}
 use Rattle.c_tree.specs.TypedLayout.{IsSized}
-use Rattle.c_tree.specs.TypedForm.{IsScalar, Fits, IsNth, Inside, AreWell, IsLocal, signature_of}
+use Rattle.c_tree.specs.TypedForm.{in_function, IsScalar, Fits, IsNth, Inside, AreWell, IsLocal, signature_of}
 use Rattle.c_tree.specs.TypedForm as form
 use Rattle.c_typing.specs.Numbering.{renumbered_stmts, Param, is_in, addressed_params, place_among, or_number, number_of, is_block, locals_from, copies, func_of}
 use Rattle.c_typing.proofs.Elements.{nothing_at, get_before}
@@ -250,7 +250,7 @@ IsCopied e n x = IsNth e.locals n (λ (l : Local). l.ty ≡ x.1.ty) × IsNth e.l
 abbrev Inner : form.InScope → ℕ → Ty → Inside
 Inner e k r = record { context = e; params = k; result = r }
 
-copies_well : (e : form.InScope) (k : ℕ) (r : Ty) (i : ℕ) (xs : List (ℕ × Param)) (body : Stmts) → ((j : ℕ) (x : ℕ × Param) → slice_get xs j ≡ Some x → IsCopied e (k + (i + j)) x) → AreWell (Inner e k r) false body → AreWell (Inner e k r) false (copies k i xs body)
+copies_well : (e : form.InScope) (k : ℕ) (r : Ty) (i : ℕ) (xs : List (ℕ × Param)) (body : Stmts) → ((j : ℕ) (x : ℕ × Param) → slice_get xs j ≡ Some x → IsCopied e (k + (i + j)) x) → AreWell (Inner e k r) in_function body → AreWell (Inner e k r) in_function (copies k i xs body)
 copies_well e k r i [] body f h = h
 copies_well e k r i (x ∷ xs) body f h =
     let z : k + (i + 0) ≡ k + i = omega arith in
@@ -263,11 +263,11 @@ copies_well e k r i (x ∷ xs) body f h =
     shift j = omega arith
 
 pub body_well : (e : form.InScope) (ps : List Param) (ts : List Ty) (addressed : List ℕ) (r : Ty) (body : Stmts) → AreFirst ps ts
-    → AreWell (Inner (with_locals e (locals_from 0 addressed ts)) (length ps) r) false body → AreWell (Inner (with_locals e (all_locals ps ts addressed)) (length ps) r) false (func_of ps ts addressed r body).body
+    → AreWell (Inner (with_locals e (locals_from 0 addressed ts)) (length ps) r) in_function body → AreWell (Inner (with_locals e (all_locals ps ts addressed)) (length ps) r) in_function (func_of ps ts addressed r body).body
 body_well e ps ts addressed r body f h =
     copies_well (with_locals e (all_locals ps ts addressed)) (length ps) r 0 (addressed_params 0 ps addressed) (renumbered_stmts (number_of (length ps) (addressed_params 0 ps addressed)) body)
     (λ j x g. copied j x g (further_is 0 ps addressed j x g))
-    (stmts_too (number_of (length ps) (addressed_params 0 ps addressed)) (with_locals e (locals_from 0 addressed ts)) (all_locals ps ts addressed) (carries ps ts addressed f) (length ps) r (rises ps addressed) false body h)
+    (stmts_too (number_of (length ps) (addressed_params 0 ps addressed)) (with_locals e (locals_from 0 addressed ts)) (all_locals ps ts addressed) (carries ps ts addressed f) (length ps) r (rises ps addressed) in_function body h)
   where
     copied : (j : ℕ) (x : ℕ × Param) → slice_get (addressed_params 0 ps addressed) j ≡ Some x → (i : ℕ) × (x.0 ≡ 0 + i) × (slice_get ps i ≡ Some x.1) → IsCopied (with_locals e (all_locals ps ts addressed)) (length ps + (0 + j)) x
     copied j x g w =

@@ -19,21 +19,22 @@ use Rattle.c_tree.specs.TypedForm.{IsInit, IsTyped, IsTypedNode, taken}
 use Rattle.c_tree.specs.TypedForm as form
 use Rattle.c_typing.specs.Faults.{Judged, typed, faulty, refuse, both, ◌>>=◌}
 use Rattle.c_typing.specs.Types.{same_int}
-use Rattle.c_typing.specs.Scope.{Binding, global_name, local_name, function_name, Context, bytes_of, or_else, is_double, fresh, within, most_plain, fits_plain}
+use Rattle.c_typing.specs.Scope.{Binding, global_name, local_name, function_name, enumerator_name, type_name, library_name, Frame, Context, bytes_of, or_else, is_double, fresh, within, most_plain, fits_plain}
 use Rattle.c_typing.specs.Rules.{is_zero}
 use Rattle.c_typing.specs.Constants.{constant_value}
 use Rattle.c_typing.specs.Judgement.{lone, in_turn, valued, Declarator, object_declared, judged, name_in}
 use Rattle.c_typing.specs.Statements.{or_int, judged_declarator, name_of}
 use Rattle.c_typing.specs.Programs.{is_null_word, literal_of, number_at, string_at, pointer_at, init_at, started_with, judged_global_init, with_global, judged_global, judged_globals}
-use Rattle.c_typing.proofs.Extending.{extends_itself, extends_further, sized_kept, below, at_most}
+use Rattle.c_typing.proofs.Extending.{Extends, extends_itself, extends_further, Ready, ready_kept, sized_kept, below, at_most}
 use Rattle.c_typing.proofs.Elements.{get_before, get_last, get_either, sum_last}
-use Rattle.c_typing.proofs.Carried.{OnTyped, OnSome, Plain, World, IsObject, Good, Grows, grows_further, Within, within_itself, After, Keeps, keeps_lone, keeps_in_turn, keeps_ruled}
+use Rattle.c_typing.proofs.Carried.{OnTyped, OnSome, on_weaker, World, since, good_since, IsObject, Good, Grows, grows_further, Within, within_itself, After, Keeps, keeps_lone, keeps_in_turn, keeps_ruled}
 use Rattle.c_typing.proofs.RuledWell.{Fine, same_int_is}
 use Rattle.c_typing.proofs.TypesWell.{ArePositive, object_well}
-use Rattle.c_typing.proofs.Shown.{named_kept}
+use Rattle.c_typing.proofs.Shown.{named_kept, name_good}
 use Rattle.c_typing.proofs.Own.{own, over_own}
 use Rattle.c_typing.proofs.JudgedWell.{valued_keeps, judged_keeps}
-use Rattle.c_typing.proofs.StatedWell.{declarator_keeps, name_good, lookup_last, none_of, unfit}
+use Rattle.c_typing.proofs.StatedWell.{declarator_keeps, none_of, unfit}
+use Rattle.c_typing.proofs.Lengthened.{IsEnumerator, Lengthens, meaning_before, function_before, lookup_last}
 
 -- ---- what a global starts with
 
@@ -98,7 +99,9 @@ with_size c t = record c { globals = c.globals ++ t ∷ []; plain = c.plain + ta
 size_good : (w : World) (c : Context) → Good w c → (t : Ty) → IsObject c.structs t → c.plain + taken (size_in c.structs t) ≤ most_plain → Good w (with_size c t)
 size_good w c g t o small = record {
   results = g.results;
-  names = λ q m h. named_kept w c (with_size c t) (λ n u k. get_before c.globals (t ∷ []) n u k) (λ n u k. k) m (g.names q m h);
+  since = g.since;
+  numbered = g.numbered;
+  names = λ q m h. named_kept w c (with_size c t) (extends_itself c.structs) (λ n u k. get_before c.globals (t ∷ []) n u k) (λ n u k. k) m (g.names q m h);
   layouts = g.layouts;
   apart = g.apart;
   members = g.members;
@@ -140,6 +143,19 @@ Free c = (q : List ℕ) (m : Binding) → lookup (bytes_eq q) c.inner ≡ Some m
 abbrev pub NoFunctions : (c d : Context) → Type 0
 NoFunctions c d = (q : List ℕ) (n : ℕ) (ps : List Ty) (r : Ty) → lookup (bytes_eq q) d.inner ≡ Some (function_name n ps r) → lookup (bytes_eq q) c.inner ≡ Some (function_name n ps r)
 
+-- enumerators are no locals and no functions
+pub free_before : (old new : Frame) → Lengthens old new → (q : List ℕ) → ((m : Binding) → lookup (bytes_eq q) old ≡ Some m → NotLocal m) → (m : Binding) → lookup (bytes_eq q) new ≡ Some m → NotLocal m
+free_before old new f q g m h = by m (meaning_before old new f q m h)
+  where
+    by : (m : Binding) → (lookup (bytes_eq q) old ≡ Some m) ⊎ IsEnumerator (Some m) → NotLocal m
+    by m (inl e) = g m e
+    by (enumerator_name value) (inr i) = tt
+    by (global_name n t) (inr i) = tt
+    by (function_name n ps r) (inr i) = tt
+    by (type_name t) (inr i) = tt
+    by (library_name which) (inr i) = tt
+    by (local_name n t) (inr i) = absurd i
+
 abbrev IsHeld : List Layout → List (List ℕ) → GlobalVar → Type 0
 IsHeld s ls g = IsSized s g.ty × IsInit ls g.ty g.init
 
@@ -164,8 +180,8 @@ globals_still w c d g v = record {
   good = g;
   grows = v.0;
   outer = v.2.outer;
-  free = λ f q m h. f q m (sym (ap (lookup (bytes_eq q)) v.2.inner) ∙ h);
-  no_functions = λ q n ps r h. sym (ap (lookup (bytes_eq q)) v.2.inner) ∙ h;
+  free = λ f q m h. free_before c.inner d.inner v.2.inner q (λ m h. f q m h) m h;
+  no_functions = λ q n ps r h. function_before c.inner d.inner v.2.inner q n ps r h;
   functions = v.1.functions;
   bodies = v.1.bodies;
   globals = v.1.globals ∙ sym (append-nil c.globals);
@@ -275,8 +291,8 @@ global_step w c e d t i k sized many v g h =
       good = g;
       grows = grows_further c e d k.grows v.0;
       outer = v.2.outer ∙ k.outer;
-      free = λ f q m l. k.free f q m (sym (ap (lookup (bytes_eq q)) v.2.inner) ∙ l);
-      no_functions = λ q j ps r l. k.no_functions q j ps r (sym (ap (lookup (bytes_eq q)) v.2.inner) ∙ l);
+      free = λ f q m l. free_before e.inner d.inner v.2.inner q (λ m h. k.free f q m h) m l;
+      no_functions = λ q j ps r l. k.no_functions q j ps r (function_before e.inner d.inner v.2.inner q j ps r l);
       functions = v.1.functions ∙ k.functions;
       bodies = v.1.bodies ∙ k.bodies;
       globals = same;
@@ -320,8 +336,8 @@ global_made w c d g v n value (typed u) (typed t) hf ht =
     globals_further w c d last [] (record { ty = t; init = i } ∷ []) (globals_still w c d g v)
     (global_step w d (with_global d n t) last t i k (sized_kept d.structs last.structs (extends_further d.structs (with_global d n t).structs last.structs k.grows.structs a.within.0.structs) t ht.0) (hf t refl).0 a.within a.good (a.fine (own w last) (over_own w last a.good))))
 
-global_after : (w : World) (base : Judged Ty) → OnTyped Plain base → (x : source.InitDeclarator) (c : Context) → Good w c → OnTyped (λ g. Globals w c (judged_global base x c).1 (g ∷ [])) (judged_global base x c).0
-global_after w base hb x c g = by base hb (judged_declarator x.declarator c).1 (judged_declarator x.declarator c).0 ((declarator_keeps w x.declarator).keeps c g)
+global_after : (w : World) (base : Judged Ty) → OnTyped (Ready w.structs) base → (x : source.InitDeclarator) (c : Context) → Good w c → OnTyped (λ g. Globals w c (judged_global base x c).1 (g ∷ [])) (judged_global base x c).0
+global_after w base hb x c g = by base (on_weaker (Ready w.structs) (Ready c.structs) base hb (λ t r. ready_kept w.structs c.structs g.since t r)) (judged_declarator x.declarator c).1 (judged_declarator x.declarator c).0 ((declarator_keeps w x.declarator).keeps c g)
   where
     made : (d : Context) (t : Judged Ty) → Good w d → Within true c d → OnTyped (IsObject d.structs) t
         → OnTyped (λ g. Globals w c (judged_global_init (name_of x.declarator).from t x.value (with_global d (name_of x.declarator) (or_int t))).1 (g ∷ []))
@@ -329,15 +345,15 @@ global_after w base hb x c g = by base hb (judged_declarator x.declarator c).1 (
     made d t k v h = global_made w c d k v (name_of x.declarator) x.value (both (fresh d (name_of x.declarator)) (both (within (name_of x.declarator).from 2 4096 (length d.globals)) (t >>= λ s. fits_plain d (name_of x.declarator).from (size_in d.structs s)))) t
         (λ s e. subst (λ (j : Judged Ty). OnTyped (λ (u : Unit {0} × (Unit {0} × Unit {0})). Fits d s) (both (fresh d (name_of x.declarator)) (both (within (name_of x.declarator).from 2 4096 (length d.globals)) (j >>= λ s. fits_plain d (name_of x.declarator).from (size_in d.structs s))))) (sym e) (fits_well d (name_of x.declarator) s)) h
 
-    by : (b : Judged Ty) → OnTyped Plain b → (d : Context) (j : Judged Declarator) → OnTyped (λ y. After w true c d (λ e. ArePositive y.sizes)) j
+    by : (b : Judged Ty) → OnTyped (Ready c.structs) b → (d : Context) (j : Judged Declarator) → OnTyped (λ y. After w true c d (λ e. ArePositive y.sizes)) j
         → OnTyped (λ g. Globals w c (judged_global_init (name_of x.declarator).from (both b j >>= λ p. object_declared d p.0 p.1) x.value (with_global d (name_of x.declarator) (or_int (both b j >>= λ p. object_declared d p.0 p.1)))).1 (g ∷ []))
         (both (both (both (fresh d (name_of x.declarator)) (both (within (name_of x.declarator).from 2 4096 (length d.globals)) ((both b j >>= λ p. object_declared d p.0 p.1) >>= λ s. fits_plain d (name_of x.declarator).from (size_in d.structs s)))) (both b j >>= λ p. object_declared d p.0 p.1)) (judged_global_init (name_of x.declarator).from (both b j >>= λ p. object_declared d p.0 p.1) x.value (with_global d (name_of x.declarator) (or_int (both b j >>= λ p. object_declared d p.0 p.1)))).0 >>= λ p. typed (record { ty = p.0.1; init = p.1 }))
-    by (typed b) h d (typed y) a = made d (object_declared d b y) a.good a.within (object_well w d a.good b y h (a.fine (own w d) (over_own w d a.good)))
+    by (typed b) h d (typed y) a = made d (object_declared d b y) a.good a.within (object_well w d a.good b y (ready_kept c.structs d.structs a.within.0.structs b h) (a.fine (own w d) (over_own w d a.good)))
     by (typed b) h d (faulty q qs) a = none_of _ (both (fresh d (name_of x.declarator)) (both (within (name_of x.declarator).from 2 4096 (length d.globals)) (faulty q qs))) q qs (judged_global_init (name_of x.declarator).from (faulty q qs) x.value (with_global d (name_of x.declarator) (integer int))).0 _
     by (faulty q qs) h d (typed y) a = none_of _ (both (fresh d (name_of x.declarator)) (both (within (name_of x.declarator).from 2 4096 (length d.globals)) (faulty q qs))) q qs (judged_global_init (name_of x.declarator).from (faulty q qs) x.value (with_global d (name_of x.declarator) (integer int))).0 _
     by (faulty q qs) h d (faulty s ss) a = none_of _ (both (fresh d (name_of x.declarator)) (both (within (name_of x.declarator).from 2 4096 (length d.globals)) (faulty q (qs ++ s ∷ ss)))) q (qs ++ s ∷ ss) (judged_global_init (name_of x.declarator).from (faulty q (qs ++ s ∷ ss)) x.value (with_global d (name_of x.declarator) (integer int))).0 _
 
-pub globals_after : (w : World) (base : Judged Ty) → OnTyped Plain base → (xs : List source.InitDeclarator) (c : Context) → Good w c → OnTyped (λ gs. Globals w c (judged_globals base xs c).1 gs) (judged_globals base xs c).0
+pub globals_after : (w : World) (base : Judged Ty) → OnTyped (Ready w.structs) base → (xs : List source.InitDeclarator) (c : Context) → Good w c → OnTyped (λ gs. Globals w c (judged_globals base xs c).1 gs) (judged_globals base xs c).0
 globals_after w base h [] c g = globals_still w c c g (within_itself true c)
 globals_after w base h (x ∷ xs) c g = by (judged_global base x c).1 (judged_global base x c).0 (global_after w base h x c g) (λ d k. globals_after w base h xs d k)
   where
@@ -352,3 +368,18 @@ globals_after w base h (x ∷ xs) c g = by (judged_global base x c).1 (judged_gl
     by : (d : Context) (j : Judged GlobalVar) → OnTyped (λ y. Globals w c d (y ∷ [])) j → ((d : Context) → Good w d → OnTyped (λ gs. Globals w d (judged_globals base xs d).1 gs) (judged_globals base xs d).0) → OnTyped (λ gs. Globals w c (judged_globals base xs d).1 gs) (both j (judged_globals base xs d).0 >>= λ q. typed (q.0 ∷ q.1))
     by d (typed y) a f = more d (judged_globals base xs d).1 y (judged_globals base xs d).0 a (f d a.good)
     by d (faulty r rs) a f = none (judged_globals base xs d).1 r rs (judged_globals base xs d).0
+
+-- once more structs are there
+pub globals_since : (w : World) (t : List Layout) (c d : Context) (gs : List GlobalVar) → Extends t d.structs → Globals w c d gs → Globals (since w t) c d gs
+globals_since w t c d gs f g = record {
+  good = good_since w w.structs t d f g.good;
+  grows = g.grows;
+  outer = g.outer;
+  free = g.free;
+  no_functions = g.no_functions;
+  functions = g.functions;
+  bodies = g.bodies;
+  globals = g.globals;
+  few = g.few;
+  held = g.held;
+}

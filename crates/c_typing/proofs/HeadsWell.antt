@@ -10,24 +10,24 @@ use Rattle.c_lex.specs.declared.refusal.Kind.TheVariants.{UnknownName, DoubleNam
 use Rattle.c_tree.specs.declared.syntax.Name.{Name}
 use Rattle.c_tree.specs.declared.syntax.Pointer.{Pointer}
 use Rattle.c_tree.specs.Syntax as source
-use Rattle.c_tree.specs.Typed.{Ty, void, integer, mutex, pointer, array, structure, Func, Stmt, stmts_of}
+use Rattle.c_tree.specs.Typed.{Ty, void, integer, mutex, pointer, array, structure, Layout, Func, Stmt, stmts_of}
 use Rattle.c_tree.specs.TypedLayout.{size_in}
-use Rattle.c_tree.specs.TypedForm.{IsResult, Signature, signature_of, taken}
+use Rattle.c_tree.specs.TypedForm.{in_function, IsResult, Signature, signature_of, taken}
 use Rattle.c_typing.specs.Faults.{Judged, typed, faulty, unless, both, ◌>>=◌}
-use Rattle.c_typing.specs.Types.{is_struct_or_mutex, same_type, same_types, behind_pointers}
-use Rattle.c_typing.specs.Scope.{Binding, global_name, local_name, function_name, library_name, Frame, Context, bytes_of, library, or_else, is_double, declared, back_to, within}
-use Rattle.c_typing.specs.Judgement.{in_turn, judged_specs, judged_parts, specified, place_of_specs, object_declared}
+use Rattle.c_typing.specs.Types.{is_array, is_struct_or_mutex, same_type, same_types, behind_pointers}
+use Rattle.c_typing.specs.Scope.{Binding, global_name, local_name, function_name, enumerator_name, type_name, library_name, Frame, Context, bytes_of, library, or_else, is_double, declared, with_alias, back_to, within}
+use Rattle.c_typing.specs.Judgement.{in_turn, judged_specs, plain_type, object_declared}
 use Rattle.c_typing.specs.Statements.{or_int, judged_declarator, name_of, judged_stmts}
 use Rattle.c_typing.specs.Numbering.{Param, func_of}
-use Rattle.c_typing.specs.Programs.{judged_global_init, with_global, judged_global, judged_globals, judged_param_list, defined_name, defined_names, place_of_name, once, agrees, is_new, first_time, one_body, before_name, not_library, result_type, result_of, name_fine, type_fine, types_fine, head_fine, types_or, with_name, with_function, with_body, before_params, in_scope_of, judged_body, body_behind, body_within, judged_function, Made, joined, judged_rest, judged_external, judged_externals}
-use Rattle.c_typing.proofs.Carried.{OnTyped, on_bind, on_unless, Plain}
-use Rattle.c_typing.proofs.Extending.{below}
+use Rattle.c_typing.specs.Programs.{judged_global_init, with_global, judged_global, judged_globals, judged_param_list, defined_name, defined_by, defined_names, judged_alias, judged_aliases, behind_specs, no_objects, place_of_name, once, agrees, is_new, first_time, one_body, before_name, not_library, result_type, result_of, name_fine, type_fine, types_fine, head_fine, types_or, with_name, with_function, with_body, before_params, in_scope_of, judged_body, body_behind, body_within, judged_function, Made, joined, judged_rest, judged_external, judged_externals}
+use Rattle.c_typing.proofs.Carried.{OnTyped, on_bind, on_unless}
+use Rattle.c_typing.proofs.Extending.{Ready, below}
 use Rattle.c_typing.proofs.Elements.{nothing_at}
 use Rattle.c_typing.proofs.RuledWell.{both_hold}
-use Rattle.c_typing.proofs.TypesWell.{specified_plain, behind_plain, same_type_is, same_types_are}
-use Rattle.c_typing.proofs.StatedWell.{lookup_last}
+use Rattle.c_typing.proofs.TypesWell.{behind_ready, plain_type_is, same_type_is, same_types_are}
+use Rattle.c_typing.proofs.Lengthened.{meaning_kept, function_before, lookup_last}
 use Rattle.c_typing.proofs.FunctionWell.{signature_is}
-use Rattle.c_typing.proofs.Unmoved.{mark, Still, judged_still, specs_still, declarator_still, stays, declared_stays, stmts_stays, param_list_stays}
+use Rattle.c_typing.proofs.Unmoved.{Keeping, keeping_itself, Still, judged_still, specs_still, declarator_still, declared_stays, stmts_stays, param_list_stays}
 
 -- ---- outcomes that are typed
 
@@ -72,7 +72,7 @@ Says f q x = (n : ℕ) × (lookup (bytes_eq q) f ≡ Some (function_name n (sign
 -- each function stands under its name
 abbrev pub Heads : Frame → List (List ℕ) → List Func → Type 0
 Heads f [] [] = Unit {0}
-Heads f (q ∷ qs) (x ∷ xs) = Says f q x × (IsResult x.result × Plain x.result) × Heads f qs xs
+Heads f (q ∷ qs) (x ∷ xs) = Says f q x × IsResult x.result × Heads f qs xs
 Heads f [] (x ∷ xs) = ⊥
 Heads f (q ∷ qs) [] = ⊥
 
@@ -102,15 +102,13 @@ headed_further names b c d qs rs xs ys f g = record {
   heads = heads_append d.inner qs rs xs ys (heads_later c d g.seen qs xs f.heads) g.heads;
 }
 
-headed_still : (names : List (List ℕ)) (c d : Context) → mark d ≡ mark c → Headed names c d [] []
-headed_still names c d e =
-    let i : d.inner ≡ c.inner = ap (λ (p : List ℕ × (Frame × List Frame)). p.1.0) e in
-    record {
-      text = ap (λ (p : List ℕ × (Frame × List Frame)). p.0) e;
-      seen = λ q m h. ap (lookup (bytes_eq q)) i ∙ h;
-      placed = λ f q n ps r h. f q n ps r (sym (ap (lookup (bytes_eq q)) i) ∙ h);
-      heads = tt;
-    }
+headed_still : (names : List (List ℕ)) (c d : Context) → Keeping c d → Headed names c d [] []
+headed_still names c d e = record {
+  text = e.text;
+  seen = λ q m h. meaning_kept c.inner d.inner e.inner q m h;
+  placed = λ f q n ps r h. f q n ps r (function_before c.inner d.inner e.inner q n ps r h);
+  heads = tt;
+}
 
 -- ---- a name more
 
@@ -157,7 +155,7 @@ other_name names c d k v t i f = record { text = t; seen = seen i; placed = plac
 -- ---- globals
 
 init_still : (place : ℕ) (t : Judged Ty) (o : Option source.Expr) → Still (judged_global_init place t o)
-init_still place t None c = refl
+init_still place t None c = keeping_itself c
 init_still place t (Some s) c = judged_still s c
 
 global_named : (names : List (List ℕ)) (d : Context) (n : Name) (t : Ty) → Headed names d (with_global d n t) [] []
@@ -170,7 +168,7 @@ global_named names d n t = by (is_double d n)
 global_headed : (names : List (List ℕ)) (base : Judged Ty) (x : source.InitDeclarator) (c : Context) → Headed names c (judged_global base x c).1 [] []
 global_headed names base x c = by (judged_declarator x.declarator c).1 (both base (judged_declarator x.declarator c).0 >>= λ p. object_declared (judged_declarator x.declarator c).1 p.0 p.1) (declarator_still x.declarator c)
   where
-    by : (d : Context) (t : Judged Ty) → mark d ≡ mark c → Headed names c (judged_global_init (name_of x.declarator).from t x.value (with_global d (name_of x.declarator) (or_int t))).1 [] []
+    by : (d : Context) (t : Judged Ty) → Keeping c d → Headed names c (judged_global_init (name_of x.declarator).from t x.value (with_global d (name_of x.declarator) (or_int t))).1 [] []
     by d t e =
         let last : Context = (judged_global_init (name_of x.declarator).from t x.value (with_global d (name_of x.declarator) (or_int t))).1 in
         headed_further names c d last [] [] [] [] (headed_still names c d e)
@@ -178,7 +176,7 @@ global_headed names base x c = by (judged_declarator x.declarator c).1 (both bas
         (headed_still names (with_global d (name_of x.declarator) (or_int t)) last (init_still (name_of x.declarator).from t x.value (with_global d (name_of x.declarator) (or_int t)))))
 
 globals_headed : (names : List (List ℕ)) (base : Judged Ty) (xs : List source.InitDeclarator) (c : Context) → Headed names c (judged_globals base xs c).1 [] []
-globals_headed names base [] c = headed_still names c c refl
+globals_headed names base [] c = headed_still names c c (keeping_itself c)
 globals_headed names base (x ∷ xs) c = headed_further names c (judged_global base x c).1 (judged_globals base (x ∷ xs) c).1 [] [] [] [] (global_headed names base x c) (globals_headed names base xs (judged_global base x c).1)
 
 -- ---- functions
@@ -293,6 +291,8 @@ entry c names n body xs r a t = by (before_name c n) refl a.once_at a.first_at t
         inl (k, e ∙ ap (λ us. Some (function_name k us s)) (sym i) ∙ ap (λ u. Some (function_name k (map (λ (p : Param). p.ty) xs) u)) (sym j), inner true (double (Some (function_name k ps s)) e))
     by (Some (global_name k u)) e o f t = absurd cc
     by (Some (local_name k u)) e o f t = absurd cc
+    by (Some (enumerator_name value)) e o f t = absurd cc
+    by (Some (type_name u)) e o f t = absurd cc
     by (Some (library_name which)) e o f t = absurd cc
 
 pub entry_says : (c : Context) (names : List (List ℕ)) (n : Name) (d : Context) (ts : List Ty) (r : Ty) → WasFunction c n d ts r ⊎ IsNew c names n d ts r → (k : ℕ) × (lookup (bytes_eq (bytes_of c.text n)) d.inner ≡ Some (function_name k ts r))
@@ -321,38 +321,60 @@ entry_placed c names n d ts r (inr h) f q k ps s l = by (new_name c.inner q (byt
 
 -- ---- results
 
-result_good : (place : ℕ) (t : Ty) → Plain t → OnTyped (λ u. IsResult u × Plain u) (result_type place t)
-result_good place t h = on_bind (λ u. not (is_struct_or_mutex t) ≡ true) (λ u. IsResult u × Plain u) (unless place (OutsideSubset 13) (not (is_struct_or_mutex t))) (λ u. typed t) (on_unless place (OutsideSubset 13) (not (is_struct_or_mutex t))) (λ u k. (by t h k, h))
+result_good : (s : List Layout) (place : ℕ) (t : Ty) → Ready s t → OnTyped (λ u. IsResult u × Ready s u) (result_type place t)
+result_good s place t h = by (is_array t) (is_struct_or_mutex t) refl refl
   where
-    by : (t : Ty) → Plain t → not (is_struct_or_mutex t) ≡ true → IsResult t
-    by void h k = tt
-    by (integer t) h k = tt
-    by (pointer t) h k = tt
-    by mutex h k = absurd cc
-    by (array t n) h k = absurd h
-    by (structure n) h k = absurd cc
+    is : (t : Ty) → is_array t ≡ false → is_struct_or_mutex t ≡ false → IsResult t
+    is void h k = tt
+    is (integer t) h k = tt
+    is (pointer t) h k = tt
+    is mutex h k = absurd cc
+    is (array t n) h k = absurd cc
+    is (structure n) h k = absurd cc
 
-any : {A : Type 0} (j : Judged A) → OnTyped (λ x. Unit {0}) j
-any (typed x) = tt
-any (faulty r rs) = tt
+    by : (a b : Bool) → is_array t ≡ a → is_struct_or_mutex t ≡ b → OnTyped (λ u. IsResult u × Ready s u) (both (unless place TypeMismatch (not a)) (unless place (OutsideSubset 13) (not b)) >>= λ u. plain_type place t)
+    by false false k l = plain_type_is (λ u. IsResult u × Ready s u) place t (is t k l, h)
+    by false true k l = tt
+    by true false k l = tt
+    by true true k l = tt
 
-pub specs_plain : (s : source.Specs) (c : Context) → OnTyped Plain (judged_specs s c).0
-specs_plain s c = on_bind (λ x. Unit {0}) Plain (judged_parts s c).0 (specified (place_of_specs s)) (any (judged_parts s c).0) (λ x h. specified_plain (place_of_specs s) x)
+pub function_result : (s : List Layout) (base : Judged Ty) → OnTyped (Ready s) base → (place : ℕ) (pointers : List Pointer) → OnTyped (λ u. IsResult u × Ready s u) (result_of place base pointers)
+function_result s base h place pointers =
+    on_bind (Ready s) (λ u. IsResult u × Ready s u) base (λ t. result_type place (behind_pointers t pointers)) h (λ t k. result_good s place (behind_pointers t pointers) (behind_ready s t pointers k))
 
-pub function_result : (base : Judged Ty) → OnTyped Plain base → (place : ℕ) (pointers : List Pointer) → OnTyped (λ u. IsResult u × Plain u) (result_of place base pointers)
-function_result base h place pointers = on_bind Plain (λ u. IsResult u × Plain u) base (λ t. result_type place (behind_pointers t pointers)) h (λ t k. result_good place (behind_pointers t pointers) (behind_plain t pointers k))
+-- a function's result, whatever its type is made of
+any_result : (place : ℕ) (t : Ty) → OnTyped IsResult (result_type place t)
+any_result place t = by (is_array t) (is_struct_or_mutex t) refl refl
+  where
+    is : (t : Ty) → is_array t ≡ false → is_struct_or_mutex t ≡ false → IsResult t
+    is void h k = tt
+    is (integer t) h k = tt
+    is (pointer t) h k = tt
+    is mutex h k = absurd cc
+    is (array t n) h k = absurd cc
+    is (structure n) h k = absurd cc
+
+    by : (a b : Bool) → is_array t ≡ a → is_struct_or_mutex t ≡ b → OnTyped IsResult (both (unless place TypeMismatch (not a)) (unless place (OutsideSubset 13) (not b)) >>= λ u. plain_type place t)
+    by false false k l = plain_type_is IsResult place t (is t k l)
+    by false true k l = tt
+    by true false k l = tt
+    by true true k l = tt
+
+is_result : (base : Judged Ty) (place : ℕ) (pointers : List Pointer) → OnTyped IsResult (result_of place base pointers)
+is_result (typed t) place pointers = any_result place (behind_pointers t pointers)
+is_result (faulty r rs) place pointers = tt
 
 -- ---- a function, in a file
 
 -- the body of a function that has one
 pub record HasBody (r : Ty) (xs : List Param) (items : source.Stmts) (b : Context) (fs : List Func) : Type 0 where
   pub ss : List Stmt
-  pub typed_body : (judged_stmts r false items b).0 ≡ typed ss
-  pub made : fs ≡ func_of xs (judged_stmts r false items b).1.locals (judged_stmts r false items b).1.addressed r (stmts_of ss) ∷ []
+  pub typed_body : (judged_stmts r in_function items b).0 ≡ typed ss
+  pub made : fs ≡ func_of xs (judged_stmts r in_function items b).1.locals (judged_stmts r in_function items b).1.addressed r (stmts_of ss) ∷ []
 
 pub has_body : (r : Ty) (xs : List Param) (body : source.Body) (b : Context) (fs : List Func) → (judged_body (typed xs) (typed r) (Some body) b).0 ≡ typed fs → HasBody r xs (source.stmts_of body.items) b fs
 has_body r xs body b fs e =
-    let x : Judged (List Stmt) × Context = judged_stmts r false (source.stmts_of body.items) b in
+    let x : Judged (List Stmt) × Context = judged_stmts r in_function (source.stmts_of body.items) b in
     let f = bind_is (both (both (typed xs) (typed r)) x.0) (λ p. typed (func_of p.0.0 x.1.locals x.1.addressed p.0.1 (stmts_of p.1) ∷ [])) fs e in
     let g = both_is (both (typed xs) (typed r)) x.0 f.0 f.1 in
     let h : (xs, r) ≡ f.0.0 = typed_same (xs, r) f.0.0 g.0 in
@@ -382,7 +404,7 @@ Named around params names n xs r =
 in_text : (around : Context) (params : List source.Param) (names : List (List ℕ)) (n : Name) (xs : List Param) (r : Ty) → (In around params names n xs r).text ≡ around.text
 in_text around params names n xs r = with_function_text (back_to around (judged_param_list params (before_params around)).1) names n (map (λ (x : Param). x.ty) xs) r ∙ function_text around params
 
-body_headed : (names : List (List ℕ)) (pointers : List Pointer) (n : Name) (params : List source.Param) (around : Context) (fs : List Func) (xs : List Param) (r : Ty) → Named around params names n xs r → IsResult r × Plain r → (o : Option source.Body)
+body_headed : (names : List (List ℕ)) (pointers : List Pointer) (n : Name) (params : List source.Param) (around : Context) (fs : List Func) (xs : List Param) (r : Ty) → Named around params names n xs r → IsResult r → (o : Option source.Body)
     → (judged_body (typed xs) (typed r) o (in_scope_of (judged_param_list params (before_params around)).1.inner (In around params names n xs r))).0 ≡ typed fs
     → Headed names around (body_behind (In around params names n xs r) n o (judged_body (typed xs) (typed r) o (in_scope_of (judged_param_list params (before_params around)).1.inner (In around params names n xs r))).1) (defined_name around.text (source.function pointers n params o)) fs
 body_headed names pointers n params around fs xs r i g None m =
@@ -396,13 +418,13 @@ body_headed names pointers n params around fs xs r i g None m =
 body_headed names pointers n params around fs xs r i g (Some body) m =
     let p : Context = (judged_param_list params (before_params around)).1 in
     let d : Context = In around params names n xs r in
-    let x : Judged (List Stmt) × Context = judged_stmts r false (source.stmts_of body.items) (in_scope_of p.inner d) in
+    let x : Judged (List Stmt) × Context = judged_stmts r in_function (source.stmts_of body.items) (in_scope_of p.inner d) in
     let h = has_body r xs body (in_scope_of p.inner d) fs m in
     let says = entry_says (back_to around p) names n d (map (λ (y : Param). y.ty) xs) r i in
     let s = signature_is xs x.1.locals x.1.addressed r (stmts_of h.ss) in
     subst (λ (ys : List Func). Headed names around (with_body (back_to d x.1) n) (bytes_of around.text n ∷ []) ys) (sym h.made)
     (record {
-      text = ap (λ (p : List ℕ × List Frame). p.0) (stmts_stays r false (source.stmts_of body.items) (in_scope_of p.inner d)) ∙ in_text around params names n xs r;
+      text = ap (λ (p : List ℕ × List Frame). p.0) (stmts_stays r in_function (source.stmts_of body.items) (in_scope_of p.inner d)) ∙ in_text around params names n xs r;
       seen = entry_seen (back_to around p) names n d (map (λ (y : Param). y.ty) xs) r i;
       placed = entry_placed (back_to around p) names n d (map (λ (y : Param). y.ty) xs) r i;
       heads = (
@@ -412,49 +434,70 @@ body_headed names pointers n params around fs xs r i g (Some body) m =
       );
     })
 
-pub function_headed : (names : List (List ℕ)) (base : Judged Ty) → OnTyped Plain base → (pointers : List Pointer) (n : Name) (params : List source.Param) (body : Option source.Body) (around : Context) (fs : List Func)
+pub function_headed : (names : List (List ℕ)) (base : Judged Ty) (pointers : List Pointer) (n : Name) (params : List source.Param) (body : Option source.Body) (around : Context) (fs : List Func)
     → (judged_function names base pointers n params body around).0 ≡ typed fs → Headed names around (judged_function names base pointers n params body around).1 (defined_name around.text (source.function pointers n params body)) fs
-function_headed names base hb pointers n params body around fs e =
+function_headed names base pointers n params body around fs e =
     let f = is_function names base pointers n params body around fs e in
     let c : Context = back_to around (judged_param_list params (before_params around)).1 in
     subst (λ z. Headed names around z (defined_name around.text (source.function pointers n params body)) fs) (sym f.last)
     (body_headed names pointers n params around fs f.xs f.r (entry c names n body f.xs f.r (at_name c names n body f.name) f.type)
-    (typed_given (λ u. IsResult u × Plain u) (result_of n.from base pointers) f.r (function_result base hb n.from pointers) f.result) body f.made)
+    (typed_given IsResult (result_of n.from base pointers) f.r (is_result base n.from pointers) f.result) body f.made)
 
 -- ---- a file
 
-rest_headed : (names : List (List ℕ)) (base : Judged Ty) → OnTyped Plain base → (rest : source.Rest) (c : Context) (m : Made) → (judged_rest names base rest c).0 ≡ typed m → Headed names c (judged_rest names base rest c).1 (defined_name c.text rest) m.funcs
-rest_headed names base hb source.nothing c m e = subst (λ (x : Made). Headed names c c [] x.funcs) (typed_same (record { globals = []; funcs = [] }) m e) (headed_still names c c refl)
-rest_headed names base hb (source.function pointers n params body) c m e =
+rest_headed : (names : List (List ℕ)) (base : Judged Ty) (rest : source.Rest) (c : Context) (m : Made) → (judged_rest names base rest c).0 ≡ typed m → Headed names c (judged_rest names base rest c).1 (defined_name c.text rest) m.funcs
+rest_headed names base source.nothing c m e = subst (λ (x : Made). Headed names c c [] x.funcs) (typed_same (record { globals = []; funcs = [] }) m e) (headed_still names c c (keeping_itself c))
+rest_headed names base (source.function pointers n params body) c m e =
     let f = bind_is (judged_function names base pointers n params body c).0 (λ fs. typed (record { globals = []; funcs = fs })) m e in
     subst (λ (x : Made). Headed names c (judged_function names base pointers n params body c).1 (defined_name c.text (source.function pointers n params body)) x.funcs) (typed_same (record { globals = []; funcs = f.0 }) m f.2)
-    (function_headed names base hb pointers n params body c f.0 f.1)
-rest_headed names base hb (source.variables declarators) c m e =
+    (function_headed names base pointers n params body c f.0 f.1)
+rest_headed names base (source.variables declarators) c m e =
     let f = bind_is (judged_globals base declarators c).0 (λ gs. typed (record { globals = gs; funcs = [] })) m e in
     subst (λ (x : Made). Headed names c (judged_globals base declarators c).1 [] x.funcs) (typed_same (record { globals = f.0; funcs = [] }) m f.2) (globals_headed names base declarators c)
 
-pub external_headed : (names : List (List ℕ)) (x : source.External) (c : Context) (m : Made) → (judged_external names x c).0 ≡ typed m → Headed names c (judged_external names x c).1 (defined_name c.text x.rest) m.funcs
-external_headed names x c m e =
-    let b : Judged Ty × Context = judged_specs (source.specs_of x.specs) c in
-    let r : Judged Made × Context = judged_rest names b.0 x.rest b.1 in
+-- names of types
+alias_named : (names : List (List ℕ)) (d : Context) (n : Name) (t : Ty) → Headed names d (with_alias d n t) [] []
+alias_named names d n t = by (is_double d n) (if is_double d n then d.aliases else d.aliases + 1)
+  where
+    by : (b : Bool) (k : ℕ) → Headed names d (record (if b then d else record d { inner = d.inner ++ (bytes_of d.text n, type_name t) ∷ [] }) { aliases = k }) [] []
+    by true k = other_name names d (record d { aliases = k }) (bytes_of d.text n) (type_name t) refl (inl refl) (λ n ps r e. absurd cc)
+    by false k = other_name names d (record d { inner = d.inner ++ (bytes_of d.text n, type_name t) ∷ []; aliases = k }) (bytes_of d.text n) (type_name t) refl (inr refl) (λ n ps r e. absurd cc)
+
+alias_headed : (names : List (List ℕ)) (base : Judged Ty) (x : source.Declarator) (c : Context) → Headed names c (judged_alias base x c).1 [] []
+alias_headed names base x c =
+    headed_further names c (judged_declarator x c).1 (judged_alias base x c).1 [] [] [] [] (headed_still names c (judged_declarator x c).1 (declarator_still x c)) (alias_named names (judged_declarator x c).1 (name_of x) _)
+
+aliases_headed : (names : List (List ℕ)) (base : Judged Ty) (xs : List source.Declarator) (c : Context) → Headed names c (judged_aliases base xs c).1 [] []
+aliases_headed names base [] c = headed_still names c c (keeping_itself c)
+aliases_headed names base (x ∷ xs) c = headed_further names c (judged_alias base x c).1 (judged_aliases base (x ∷ xs) c).1 [] [] [] [] (alias_headed names base x c) (aliases_headed names base xs (judged_alias base x c).1)
+
+pub external_headed : (names : List (List ℕ)) (x : source.External) (c : Context) (m : Made) → (judged_external names x c).0 ≡ typed m → Headed names c (judged_external names x c).1 (defined_by c.text x) m.funcs
+external_headed names (source.types_by specs declarators) c m e =
+    let b : Judged Ty × Context = judged_specs (source.specs_of specs) c in
+    let f = bind_is (behind_specs specs (λ base. judged_aliases base declarators) c).0 (λ u. typed no_objects) m e in
+    subst (λ (y : Made). Headed names c (judged_aliases b.0 declarators b.1).1 [] y.funcs) (typed_same no_objects m f.2)
+    (headed_further names c b.1 (judged_aliases b.0 declarators b.1).1 [] [] [] [] (headed_still names c b.1 (specs_still (source.specs_of specs) c)) (aliases_headed names b.0 declarators b.1))
+external_headed names (source.external_of storage specs rest) c m e =
+    let b : Judged Ty × Context = judged_specs (source.specs_of specs) c in
+    let r : Judged Made × Context = judged_rest names b.0 rest b.1 in
     let f = bind_is (both b.0 r.0) (λ p. typed p.1) m e in
     let g = both_is b.0 r.0 f.0 f.1 in
-    let h = rest_headed names b.0 (specs_plain (source.specs_of x.specs) c) x.rest b.1 f.0.1 g.1 in
-    let t : b.1.text ≡ c.text = ap (λ (p : List ℕ × List Frame). p.0) (stays (judged_specs (source.specs_of x.specs)) (specs_still (source.specs_of x.specs)) c) in
-    headed_further names c b.1 r.1 [] (defined_name c.text x.rest) [] m.funcs (headed_still names c b.1 (specs_still (source.specs_of x.specs) c))
-    (subst (λ (y : Made). Headed names b.1 r.1 (defined_name c.text x.rest) y.funcs) (typed_same f.0.1 m f.2) (subst (λ (u : List ℕ). Headed names b.1 r.1 (defined_name u x.rest) f.0.1.funcs) t h))
+    let h = rest_headed names b.0 rest b.1 f.0.1 g.1 in
+    let t : b.1.text ≡ c.text = (specs_still (source.specs_of specs) c).text in
+    headed_further names c b.1 r.1 [] (defined_name c.text rest) [] m.funcs (headed_still names c b.1 (specs_still (source.specs_of specs) c))
+    (subst (λ (y : Made). Headed names b.1 r.1 (defined_name c.text rest) y.funcs) (typed_same f.0.1 m f.2) (subst (λ (u : List ℕ). Headed names b.1 r.1 (defined_name u rest) f.0.1.funcs) t h))
 
 pub externals_headed : (names : List (List ℕ)) (xs : List source.External) (c : Context) (m : Made) → (judged_externals names xs c).0 ≡ typed m → Headed names c (judged_externals names xs c).1 (defined_names c.text xs) m.funcs
-externals_headed names [] c m e = subst (λ (x : Made). Headed names c c [] x.funcs) (typed_same (record { globals = []; funcs = [] }) m e) (headed_still names c c refl)
+externals_headed names [] c m e = subst (λ (x : Made). Headed names c c [] x.funcs) (typed_same (record { globals = []; funcs = [] }) m e) (headed_still names c c (keeping_itself c))
 externals_headed names (x ∷ xs) c m e =
     let d : Context = (judged_external names x c).1 in
     let f = bind_is (in_turn (judged_external names x) (judged_externals names xs) c).0 (λ p. typed (joined p.0 p.1)) m e in
     let g = both_is (judged_external names x c).0 (judged_externals names xs d).0 f.0 f.1 in
     let a = external_headed names x c f.0.0 g.0 in
     let b = externals_headed names xs d f.0.1 g.1 in
-    let h = headed_further names c d (judged_externals names xs d).1 (defined_name c.text x.rest) (defined_names d.text xs) f.0.0.funcs f.0.1.funcs a b in
+    let h = headed_further names c d (judged_externals names xs d).1 (defined_by c.text x) (defined_names d.text xs) f.0.0.funcs f.0.1.funcs a b in
     subst (λ (y : Made). Headed names c (judged_externals names xs d).1 (defined_names c.text (x ∷ xs)) y.funcs) (typed_same (joined f.0.0 f.0.1) m f.2)
-    (subst (λ (u : List ℕ). Headed names c (judged_externals names xs d).1 (defined_name c.text x.rest ++ defined_names u xs) (f.0.0.funcs ++ f.0.1.funcs)) a.text h)
+    (subst (λ (u : List ℕ). Headed names c (judged_externals names xs d).1 (defined_by c.text x ++ defined_names u xs) (f.0.0.funcs ++ f.0.1.funcs)) a.text h)
 
 -- ---- so the names of functions agree with the functions
 
@@ -483,10 +526,10 @@ agreed names c xs h p q n ps r l =
     let j : r ≡ (signature_of b.0).result = cc in
     slice_get-map signature_of xs n ∙ ap (λ k. option_map signature_of (slice_get xs k)) a.0 ∙ ap (option_map signature_of) b.1 ∙ ap (λ us. Some (record { params = us; result = b.0.result })) (sym i) ∙ ap (λ u. Some (record { params = ps; result = u })) (sym j)
 
-pub all_results : (f : Frame) (qs : List (List ℕ)) (xs : List Func) → Heads f qs xs → (n : ℕ) (s : Signature) → slice_get (map signature_of xs) n ≡ Some s → IsResult s.result × Plain s.result
+pub all_results : (f : Frame) (qs : List (List ℕ)) (xs : List Func) → Heads f qs xs → (n : ℕ) (s : Signature) → slice_get (map signature_of xs) n ≡ Some s → IsResult s.result
 all_results f qs [] h n s k = absurd (nothing_at n s k)
 all_results f [] (x ∷ xs) h n s k = absurd h
-all_results f (q ∷ qs) (x ∷ xs) h zero s k = let e : signature_of x ≡ s = cc in subst (λ (z : Signature). IsResult z.result × Plain z.result) e h.1
+all_results f (q ∷ qs) (x ∷ xs) h zero s k = let e : signature_of x ≡ s = cc in subst (λ (z : Signature). IsResult z.result) e h.1
 all_results f (q ∷ qs) (x ∷ xs) h (suc n) s k = all_results f qs xs h.2 n s k
 
 pub as_many : (f : Frame) (qs : List (List ℕ)) (xs : List Func) → Heads f qs xs → length qs ≡ length xs

@@ -2,6 +2,7 @@ pub mod RowsProof
 pub mod Least
 pub mod Extending
 pub mod Unmoved
+pub mod Lengthened
 pub mod Carried
 pub mod Elements
 pub mod Apart
@@ -19,5 +20,6 @@ pub mod FunctionWell
 pub mod ParamsWell
 pub mod GlobalsWell
 pub mod HeadsWell
+pub mod AliasesWell
 pub mod FilesWell
 pub mod WellFormed

@@ -12,15 +12,15 @@ use Rattle.c_tree.specs.TypedForm as form
 use Rattle.c_typing.specs.Faults.{Judged, typed, faulty, refuse, unless, both, mapped, ◌>>=◌}
 use Rattle.c_typing.specs.Types.{is_void, is_struct_or_mutex, has_size, behind_pointers, arrays_of}
 use Rattle.c_typing.specs.Scope.{Context, within}
-use Rattle.c_typing.specs.Judgement.{in_turn, ruled, valued, judged, judged_specs, dimension, object_type, name_in}
+use Rattle.c_typing.specs.Judgement.{in_turn, ruled, valued, judged, judged_specs, dimension, object_type, plain_type, name_in}
 use Rattle.c_typing.specs.Statements.{or_int, most_locals}
 use Rattle.c_typing.specs.Numbering.{Param}
-use Rattle.c_typing.specs.Programs.{param_place, judged_size, known, judged_sizes, adjusted, param_type, fresh_if, with_param, judged_param, judged_params, is_bare, void_by, none_if, judged_param_list}
+use Rattle.c_typing.specs.Programs.{param_place, judged_size, known, judged_sizes, pointer_for, adjusted, param_type, fresh_if, with_param, judged_param, judged_params, is_bare, void_by, none_if, judged_param_list}
 use Rattle.c_typing.proofs.Extending.{extends_itself, Ready, below}
 use Rattle.c_typing.proofs.Elements.{get_before}
-use Rattle.c_typing.proofs.Carried.{OnTyped, OnSome, on_bind, on_unless, Plain, World, IsObject, Good, Within, within_itself, within_further, looser, After, Keeps, keeps_lone, keeps_in_turn, keeps_ruled}
-use Rattle.c_typing.proofs.RuledWell.{Fine, plain_ready}
-use Rattle.c_typing.proofs.TypesWell.{ArePositive, dimension_well, object_type_well, behind_plain}
+use Rattle.c_typing.proofs.Carried.{OnTyped, OnSome, on_bind, on_unless, World, IsObject, Good, Within, within_itself, within_further, looser, After, Keeps, keeps_lone, keeps_in_turn, keeps_ruled}
+use Rattle.c_typing.proofs.RuledWell.{Fine}
+use Rattle.c_typing.proofs.TypesWell.{ArePositive, dimension_well, object_type_well, behind_ready, plain_type_is}
 use Rattle.c_typing.proofs.Own.{own, over_own}
 use Rattle.c_typing.proofs.JudgedWell.{valued_keeps, judged_keeps, judged_specs_keeps}
 use Rattle.c_typing.proofs.StatedWell.{with_type, type_good, local_good, local_within}
@@ -60,22 +60,22 @@ abbrev NoArray : Ty → Type 0
 NoArray (array t n) = ⊥
 NoArray t = Unit {0}
 
-pub plain_no_array : (t : Ty) → Plain t → NoArray t
-plain_no_array void h = tt
-plain_no_array (integer t) h = tt
-plain_no_array mutex h = tt
-plain_no_array (pointer t) h = tt
-plain_no_array (array t n) h = h
-plain_no_array (structure n) h = tt
-
 abbrev CanAdjust : Context → Ty → Type 0
 CanAdjust d t = Ready d.structs t × NoArray t
 
-adjusted_well : (w : World) (d : Context) → Good w d → (place : ℕ) (t : Ty) → Plain t → (os : List (Option ℕ)) → ArePositive (known os) → OnTyped (CanAdjust d) (adjusted d place t os)
-adjusted_well w d g place t h [] p = (plain_ready d.structs t h, plain_no_array t h)
+pointer_for_well : (d : Context) (t : Ty) → Ready d.structs t → CanAdjust d (pointer_for t)
+pointer_for_well d void h = (tt, tt)
+pointer_for_well d (integer t) h = (tt, tt)
+pointer_for_well d mutex h = (tt, tt)
+pointer_for_well d (pointer t) h = (h, tt)
+pointer_for_well d (array t n) h = (h.1, tt)
+pointer_for_well d (structure n) h = (tt, tt)
+
+adjusted_well : (w : World) (d : Context) → Good w d → (place : ℕ) (t : Ty) → Ready d.structs t → (os : List (Option ℕ)) → ArePositive (known os) → OnTyped (CanAdjust d) (adjusted d place t os)
+adjusted_well w d g place t h [] p = plain_type_is (CanAdjust d) place (pointer_for t) (pointer_for_well d t h)
 adjusted_well w d g place t h (o ∷ os) p =
-    on_bind (IsObject d.structs) (CanAdjust d) (object_type d place (arrays_of t (known os))) (λ element. typed (pointer element))
-    (object_type_well w d g place t (known os) (plain_ready d.structs t h) (known_inner o os p)) (λ element k. (k.1, tt))
+    on_bind (IsObject d.structs) (CanAdjust d) (object_type d place (arrays_of t (known os))) (λ element. plain_type place (pointer element))
+    (object_type_well w d g place t (known os) h (known_inner o os p)) (λ element k. plain_type_is (CanAdjust d) place (pointer element) (k.1, tt))
 
 abbrev IsParam : Context → Ty → Type 0
 IsParam d t = IsObject d.structs t × IsScalar t
@@ -158,9 +158,9 @@ param_made w c d g v place name (typed u) (typed t) hf ht =
 
 param_after : (w : World) (c : Context) → Good w c → (p : source.Param) → OnTyped (λ x. Params w c (judged_param p c).1 (x ∷ [])) (judged_param p c).0
 param_after w c g p = by (in_turn (judged_specs (source.specs_of p.specs)) (judged_sizes true p.dims) c).1 (in_turn (judged_specs (source.specs_of p.specs)) (judged_sizes true p.dims) c).0
-    ((keeps_in_turn w true (judged_specs (source.specs_of p.specs)) (judged_sizes true p.dims) (λ e t. Plain t) AreKnown (judged_specs_keeps w (source.specs_of p.specs)) (sizes_keeps w true p.dims)).keeps c g)
+    ((keeps_in_turn w true (judged_specs (source.specs_of p.specs)) (judged_sizes true p.dims) (λ e t. Ready e.structs t) AreKnown (judged_specs_keeps w (source.specs_of p.specs)) (sizes_keeps w true p.dims)).keeps c g)
   where
-    by : (d : Context) (j : Judged (Ty × List (Option ℕ))) → OnTyped (λ x. After w true c d (λ e. Plain x.0 × ArePositive (known x.1))) j
+    by : (d : Context) (j : Judged (Ty × List (Option ℕ))) → OnTyped (λ x. After w true c d (λ e. Ready e.structs x.0 × ArePositive (known x.1))) j
         → OnTyped (λ x. Params w c (with_param d p.name (or_int (j >>= λ x. adjusted d (param_place p) (behind_pointers x.0 p.pointers) x.1 >>= param_type d (param_place p)))) (x ∷ []))
         (both (both (fresh_if d p.name) (both (within (param_place p) 6 16 (length d.locals)) (within (param_place p) 5 most_locals (length d.locals)))) (j >>= λ x. adjusted d (param_place p) (behind_pointers x.0 p.pointers) x.1 >>= param_type d (param_place p)) >>= λ x. typed (record { place = param_place p; ty = x.1 }))
     by d (faulty r rs) a = no_type _ (both (fresh_if d p.name) (both (within (param_place p) 6 16 (length d.locals)) (within (param_place p) 5 most_locals (length d.locals)))) r rs (λ x. typed (record { place = param_place p; ty = x.1 }))
@@ -168,7 +168,7 @@ param_after w c g p = by (in_turn (judged_specs (source.specs_of p.specs)) (judg
         let k = a.fine (own w d) (over_own w d a.good) in
         param_made w c d a.good a.within (param_place p) p.name (both (fresh_if d p.name) (both (within (param_place p) 6 16 (length d.locals)) (within (param_place p) 5 most_locals (length d.locals)))) (adjusted d (param_place p) (behind_pointers x.0 p.pointers) x.1 >>= param_type d (param_place p))
         (fine_few (param_place p) (length d.locals) (fresh_if d p.name))
-        (on_bind (CanAdjust d) (IsParam d) (adjusted d (param_place p) (behind_pointers x.0 p.pointers) x.1) (param_type d (param_place p)) (adjusted_well w d a.good (param_place p) (behind_pointers x.0 p.pointers) (behind_plain x.0 p.pointers k.0) x.1 k.1) (λ t h. param_type_well d (param_place p) t h))
+        (on_bind (CanAdjust d) (IsParam d) (adjusted d (param_place p) (behind_pointers x.0 p.pointers) x.1) (param_type d (param_place p)) (adjusted_well w d a.good (param_place p) (behind_pointers x.0 p.pointers) (behind_ready d.structs x.0 p.pointers k.0) x.1 k.1) (λ t h. param_type_well d (param_place p) t h))
 
 no_params : (w : World) (c : Context) → Good w c → Params w c c []
 no_params w c g = record { good = g; within = within_itself false c; locals = sym (append-nil c.locals); few = λ h. h; scalar = tt }
@@ -204,7 +204,7 @@ bare_after w c g p = by (is_bare p) (judged_specs (source.specs_of p.specs) c).0
     bare true false h = params_after w (p ∷ []) c g
     bare false v h = params_after w (p ∷ []) c g
 
-    by : (b : Bool) (j : Judged Ty) → OnTyped (λ t. After w true c (judged_specs (source.specs_of p.specs) c).1 (λ e. Plain t)) j
+    by : (b : Bool) (j : Judged Ty) → OnTyped (λ t. After w true c (judged_specs (source.specs_of p.specs) c).1 (λ e. Ready e.structs t)) j
         → OnTyped (λ xs. Params w c (none_if c p (b && void_by (mapped (λ t. behind_pointers t p.pointers) j)) (judged_params (p ∷ [])) c).1 xs) (none_if c p (b && void_by (mapped (λ t. behind_pointers t p.pointers) j)) (judged_params (p ∷ [])) c).0
     by b (typed t) a = bare b (is_void (behind_pointers t p.pointers)) (λ h. record {
       good = a.good;

@@ -1,10 +1,11 @@
 -- A function's locals get other numbers, and its body stays well formed.
-use Rattle.std.proofs.Common.{◌≡◌, ℕ, ◌≤◌, Bool, true, refl, sym, ◌∙◌, subst, List, [], ◌∷◌, Option, Some, None, slice_get}
+use Rattle.std.proofs.Common.{◌≡◌, ℕ, ◌+◌, ◌≤◌, true, refl, sym, ap, ◌∙◌, subst, List, [], ◌∷◌, Option, Some, None, slice_get}
+use Rattle.std.specs.List.{AllByRecursion}
 use Rattle.ak_words.specs.IntType.{int, unsigned_long}
 use Rattle.c_tree.specs.Typed.{Ty, void, integer, mutex, pointer, Local, Piece, bytes, signed, unsigned, hexadecimal, character, text, Lib, print, malloc, free, copy, start, join, mutex_init, mutex_lock, mutex_unlock, mutex_destroy}
 use Rattle.c_tree.specs.Typed.{Expr, at, ExprNode, num, null, literal, global, local, deref, member, address_of, decay, convert, not_, binary, and_also, or_else, choose, pointer_add, pointer_sub, pointer_diff, pointer_compare, pointer_test, call, lib, Exprs, no_exprs, more_exprs, type_of}
-use Rattle.c_tree.specs.Typed.{Stmt, at_stmt, StmtNode, block, declare, if_, if_else, while_, for_, break_, continue_, return_, assign, update, evaluate, empty, Stmts, no_stmts, more_stmts}
-use Rattle.c_tree.specs.TypedForm.{IsScalar, Fits, IsNth, IsLvalue, IsInMemory, ArePrinted, AreArguments, IsLibCall, IsTyped, IsTypedNode, AreTyped, IfTyped, IsNoDeclaration, IsStep, IsFirst, IsReturned, Inside, IsWellNode, AreWell}
+use Rattle.c_tree.specs.Typed.{Stmt, at_stmt, StmtNode, block, declare, if_, if_else, while_, for_, do_while, switch, break_, continue_, return_, assign, update, evaluate, empty, Stmts, no_stmts, more_stmts}
+use Rattle.c_tree.specs.TypedForm.{Jumps, in_loop, in_switch, stmts_count, AreNoDeclarations, IsLabel, IsScalar, Fits, IsNth, IsLvalue, IsInMemory, ArePrinted, AreArguments, IsLibCall, IsTyped, IsTypedNode, AreTyped, IfTyped, IsNoDeclaration, IsStep, IsFirst, IsReturned, Inside, IsWellNode, AreWell}
 use Rattle.c_tree.specs.TypedForm as form
 use Rattle.c_typing.specs.Numbering.{renumbered, renumbered_node, renumbered_all, renumbered_if, renumbered_stmt, renumbered_stmt_node, renumbered_stmts}
 
@@ -124,22 +125,33 @@ Inner e k r = record { context = e; params = k; result = r }
 abbrev pub Rises : (ℕ → ℕ) → ℕ → Type 0
 Rises f k = (n : ℕ) → k ≤ n → k ≤ f n
 
-declared_too : (f : ℕ → ℕ) (e : form.InScope) (ls : List Local) → Carries f e.locals ls → (k : ℕ) (r : Ty) → Rises f k → (l : Bool) (n : ℕ) (init : Option Expr)
+declared_too : (f : ℕ → ℕ) (e : form.InScope) (ls : List Local) → Carries f e.locals ls → (k : ℕ) (r : Ty) → Rises f k → (l : Jumps) (n : ℕ) (init : Option Expr)
     → IsWellNode (Inner e k r) l (declare n init) → IsWellNode (Inner (with_locals e ls) k r) l (declare (f n) (renumbered_if f init))
 declared_too f e ls c k r u l n init h =
     let m = c n h.1.0 h.1.1 in
     (u n h.0, (m.0, m.1, if_too f e ls c (λ t. Fits t m.0.ty × IsScalar t) init (subst (λ v. IfTyped e (λ t. Fits t v × IsScalar t) init) (sym m.2.0) h.1.2)))
 
+count_too : (f : ℕ → ℕ) (ss : Stmts) → stmts_count (renumbered_stmts f ss) ≡ stmts_count ss
+count_too f no_stmts = refl
+count_too f (more_stmts s rest) = ap (λ n. n + 1) (count_too f rest)
+
+no_declarations_too : (f : ℕ → ℕ) (ss : Stmts) → AreNoDeclarations ss → AreNoDeclarations (renumbered_stmts f ss)
+no_declarations_too f no_stmts h = tt
+no_declarations_too f (more_stmts s rest) h = (no_declaration_too f s h.0, no_declarations_too f rest h.1)
+
 mutual
-  stmt_too : (f : ℕ → ℕ) (e : form.InScope) (ls : List Local) → Carries f e.locals ls → (k : ℕ) (r : Ty) → Rises f k → (l : Bool) (s : StmtNode) → IsWellNode (Inner e k r) l s → IsWellNode (Inner (with_locals e ls) k r) l (renumbered_stmt_node f s)
+  stmt_too : (f : ℕ → ℕ) (e : form.InScope) (ls : List Local) → Carries f e.locals ls → (k : ℕ) (r : Ty) → Rises f k → (l : Jumps) (s : StmtNode) → IsWellNode (Inner e k r) l s → IsWellNode (Inner (with_locals e ls) k r) l (renumbered_stmt_node f s)
   stmt_too f e ls c k r u l (block body) h = stmts_too f e ls c k r u l body h
   stmt_too f e ls c k r u l (declare n init) h = declared_too f e ls c k r u l n init h
   stmt_too f e ls c k r u l (if_ (at p t x) (at_stmt q s)) h = (node_too f e ls c t x h.0, h.1, stmt_too f e ls c k r u l s h.2, no_declaration_too f (at_stmt q s) h.3)
   stmt_too f e ls c k r u l (if_else (at p t x) (at_stmt q s) (at_stmt o z)) h =
       (node_too f e ls c t x h.0, h.1, stmt_too f e ls c k r u l s h.2, no_declaration_too f (at_stmt q s) h.3, stmt_too f e ls c k r u l z h.4, no_declaration_too f (at_stmt o z) h.5)
-  stmt_too f e ls c k r u l (while_ (at p t x) (at_stmt q s)) h = (node_too f e ls c t x h.0, h.1, stmt_too f e ls c k r u true s h.2, no_declaration_too f (at_stmt q s) h.3)
+  stmt_too f e ls c k r u l (while_ (at p t x) (at_stmt q s)) h = (node_too f e ls c t x h.0, h.1, stmt_too f e ls c k r u in_loop s h.2, no_declaration_too f (at_stmt q s) h.3)
   stmt_too f e ls c k r u l (for_ (at_stmt p a) x (at_stmt q b) (at_stmt o s)) h =
-      (stmt_too f e ls c k r u l a h.0, first_too f (at_stmt p a) h.1, if_too f e ls c IsScalar x h.2, stmt_too f e ls c k r u l b h.3, step_too f (at_stmt q b) h.4, stmt_too f e ls c k r u true s h.5, no_declaration_too f (at_stmt o s) h.6)
+      (stmt_too f e ls c k r u l a h.0, first_too f (at_stmt p a) h.1, if_too f e ls c IsScalar x h.2, stmt_too f e ls c k r u l b h.3, step_too f (at_stmt q b) h.4, stmt_too f e ls c k r u in_loop s h.5, no_declaration_too f (at_stmt o s) h.6)
+  stmt_too f e ls c k r u l (do_while (at_stmt q s) (at p t x)) h = (stmt_too f e ls c k r u in_loop s h.0, no_declaration_too f (at_stmt q s) h.1, node_too f e ls c t x h.2, h.3)
+  stmt_too f e ls c k r u l (switch (at p t x) labels body) h =
+      (node_too f e ls c t x h.0, h.1, subst (λ n. AllByRecursion (IsLabel t n) labels) (sym (count_too f body)) h.2, h.3, h.4, stmts_too f e ls c k r u (in_switch l) body h.5, no_declarations_too f body h.6)
   stmt_too f e ls c k r u l break_ h = h
   stmt_too f e ls c k r u l continue_ h = h
   stmt_too f e ls c k r u l (return_ value) h = returned_too f e ls c r value h
@@ -148,6 +160,6 @@ mutual
   stmt_too f e ls c k r u l (evaluate (at p t x)) h = node_too f e ls c t x h
   stmt_too f e ls c k r u l empty h = tt
 
-  pub stmts_too : (f : ℕ → ℕ) (e : form.InScope) (ls : List Local) → Carries f e.locals ls → (k : ℕ) (r : Ty) → Rises f k → (l : Bool) (ss : Stmts) → AreWell (Inner e k r) l ss → AreWell (Inner (with_locals e ls) k r) l (renumbered_stmts f ss)
+  pub stmts_too : (f : ℕ → ℕ) (e : form.InScope) (ls : List Local) → Carries f e.locals ls → (k : ℕ) (r : Ty) → Rises f k → (l : Jumps) (ss : Stmts) → AreWell (Inner e k r) l ss → AreWell (Inner (with_locals e ls) k r) l (renumbered_stmts f ss)
   stmts_too f e ls c k r u l no_stmts h = tt
   stmts_too f e ls c k r u l (more_stmts (at_stmt p s) rest) h = (stmt_too f e ls c k r u l s h.0, stmts_too f e ls c k r u l rest h.1)

@@ -221,7 +221,7 @@ object_node e s ty (pointer_sub p n) h a = absurd (no_sized_pointer e.structs (t
 object_node e s ty (pointer_diff p q) h a = absurd (subst IsAggregate h.4 a)
 object_node e s ty (pointer_compare op p q) h a = absurd (subst IsAggregate h.5 a)
 object_node e s ty (pointer_test p) h a = absurd (subst IsAggregate h.2 a)
-object_node e s ty (call f args) h a = absurd (no_result h.1.0.result (s.results f h.1.0 h.1.1).0 (subst IsAggregate h.1.2.1 a))
+object_node e s ty (call f args) h a = absurd (no_result h.1.0.result (s.results f h.1.0 h.1.1) (subst IsAggregate h.1.2.1 a))
 object_node e s ty (lib which args) h a = absurd (no_lib e which args ty h.1 a)
 
 pub an_object : (e : form.InScope) → Sound e → (x : Expr) → IsTyped e x → IsAggregate (type_of x) → IsLvalue (node_of x) × IsInMemory e (node_of x)
@@ -557,5 +557,5 @@ cast_well e place (pointer s) (pointer t) x h r = (((h.0, subst (λ u. Converts 
 cast_well e place (integer s) (pointer t) x h r = null_cast e place t (is_zero (node_of x)) x r
 cast_well e place _ _ x h r = tt
 
-pub cast_made : (e : form.InScope) (place : ℕ) (t : Ty) (x : Expr) → Fine e x → Plain t → OnTyped (Made e) (cast place t x)
-cast_made e place t x h p = cast_well e place (type_of x) t x (h.0, refl) (plain_ready e.structs t p)
+pub cast_made : (e : form.InScope) (place : ℕ) (t : Ty) (x : Expr) → Fine e x → Ready e.structs t → OnTyped (Made e) (cast place t x)
+cast_made e place t x h r = cast_well e place (type_of x) t x (h.0, refl) r

@@ -1,8 +1,6 @@
 -- Declarations and statements, judged where they stand, are well formed.
-use Rattle.std.proofs.Common.{◌≡◌, ℕ, ◌<◌, ◌⊎◌, inl, inr, Bool, true, false, not, refl, sym, ap, ◌∙◌, subst, arith, pos, List, [], ◌∷◌, ◌++◌, length, Option, Some, None, slice_get, nat_lt, if◌then◌else◌}
+use Rattle.std.proofs.Common.{◌≡◌, ℕ, ◌<◌, ◌⊎◌, inl, inr, Bool, true, false, not, refl, sym, subst, arith, pos, List, [], ◌∷◌, ◌++◌, length, Option, Some, None, slice_get, nat_lt, if◌then◌else◌}
 use Rattle.std.specs.List.{AllByRecursion}
-use Rattle.std.specs.Map.{lookup}
-use Rattle.std.specs.Str.{bytes_eq}
 use Rattle.std.proofs.lemmas.List.{length-append}
 use Rattle.std.proofs.lemmas.Int.{ints}
 use Rattle.ak_words.specs.declared.operation.Op.{Op}
@@ -18,20 +16,20 @@ use Rattle.c_tree.specs.declared.syntax.AssignOp.TheVariants as assigns
 use Rattle.c_tree.specs.Syntax as source
 use Rattle.c_tree.specs.Typed.{Ty, void, integer, mutex, pointer, array, structure, Layout, Expr, at, ExprNode, num, literal, global, local, deref, member, type_of, node_of, place_of, Stmt, at_stmt, declare, assign, update, evaluate}
 use Rattle.c_tree.specs.TypedLayout.{IsSized}
-use Rattle.c_tree.specs.TypedForm.{IsScalar, Fits, is_comparison, CanUpdate, IsLvalue, IsTyped, IfTyped, IsStep, IsFirst, Inside, IsWell}
+use Rattle.c_tree.specs.TypedForm.{Jumps, IsScalar, Fits, is_comparison, CanUpdate, IsLvalue, IsTyped, IfTyped, IsStep, IsFirst, Inside, IsWell}
 use Rattle.c_tree.specs.TypedForm as form
 use Rattle.c_typing.specs.Faults.{Judged, typed, faulty, refuse, unless, both, ◌>>=◌}
 use Rattle.c_typing.specs.Types.{is_array, is_scalar, has_size, is_declared}
-use Rattle.c_typing.specs.Scope.{Binding, local_name, Frame, Context, bytes_of, or_else, found, is_double, fresh, within}
+use Rattle.c_typing.specs.Scope.{local_name, Context, is_double, fresh, within}
 use Rattle.c_typing.specs.Rules.{value_of, fitted, or_mismatch, is_lvalue}
 use Rattle.c_typing.specs.Judgement.{lone, in_turn, valued, Declarator, object_declared, node_place, name_in, judged, judged_specs, judged_dims}
 use Rattle.c_typing.specs.Statements.{assignable, assigned, moves, updates, updated, step_op, stepped, assign_op, assigned_by, judged_simple, or_int, most_locals, with_local, initialised, judged_init, judged_declarator, name_of, judged_local, judged_locals, judged_declaration}
-use Rattle.c_typing.proofs.Extending.{Extends, extends_itself, Ready, AreSmall, sized_of, has_size_kept, below}
+use Rattle.c_typing.proofs.Extending.{Extends, extends_itself, Ready, ready_kept, AreSmall, sized_of, has_size_kept, below}
 use Rattle.c_typing.proofs.Elements.{get_before, get_last, get_either}
-use Rattle.c_typing.proofs.Carried.{OnTyped, given, not_given, on_bind, on_unless, on_mismatch, on_weaker, Plain, World, IsNamed, IsObject, visible, Good, Within, within_further, looser, Over, over_before, After, Keeps, keeps_lone, keeps_in_turn, keeps_ruled, keeps_weaker, keeps_looser}
+use Rattle.c_typing.proofs.Carried.{OnTyped, given, not_given, on_bind, on_unless, on_mismatch, on_weaker, World, since, good_since, after_from, IsObject, Good, Within, within_further, looser, Over, over_before, After, Keeps, keeps_lone, keeps_in_turn, keeps_ruled, keeps_weaker, keeps_looser}
 use Rattle.c_typing.proofs.RuledWell.{Fine, value_fine, Fitting, fits}
 use Rattle.c_typing.proofs.TypesWell.{ArePositive, object_well}
-use Rattle.c_typing.proofs.Shown.{named_kept}
+use Rattle.c_typing.proofs.Shown.{named_kept, named_too, name_good}
 use Rattle.c_typing.proofs.Own.{own, over_own}
 use Rattle.c_typing.proofs.JudgedWell.{FineFor, fine_of, valued_keeps, judged_keeps, dims_keeps, judged_specs_keeps}
 
@@ -89,10 +87,10 @@ assignable_is c place x =
     by false h = lvalue_is (node_of x) h
 
 -- a statement that may be a step
-abbrev pub Stepping : World → Ty → Bool → form.InScope → Stmt → Type 0
+abbrev pub Stepping : World → Ty → Jumps → form.InScope → Stmt → Type 0
 Stepping w r l e s = IsWell (inside_of w r e) l s × IsStep s
 
-assigned_well : (w : World) (r : Ty) (l : Bool) (d : Context) (e : form.InScope) → Over w d e → (place : ℕ) (a b : Expr) → Fine e a → Fine e b → OnTyped (Stepping w r l e) (assigned d place a b)
+assigned_well : (w : World) (r : Ty) (l : Jumps) (d : Context) (e : form.InScope) → Over w d e → (place : ℕ) (a b : Expr) → Fine e a → Fine e b → OnTyped (Stepping w r l e) (assigned d place a b)
 assigned_well w r l d e o place a b h k =
     on_bind (λ u. Assignable d a) (Stepping w r l e) (assignable d place a) (λ u. or_mismatch place (fitted (type_of a) (value_of b)) >>= λ x. typed (at_stmt place (assign a x))) (assignable_is d place a)
     (λ u v. on_bind (Fitting e (type_of a)) (Stepping w r l e) (or_mismatch place (fitted (type_of a) (value_of b))) (λ x. typed (at_stmt place (assign a x)))
@@ -112,7 +110,7 @@ updates_well w d e v place op (pointer s) (integer t) c r =
     (λ u h. (moves_is op m, sized_of e.structs v.sound.small s r (has_size_kept d.structs e.structs v.structs s h))))
 updates_well w d e v place op _ _ c r = tt
 
-updated_well : (w : World) (r : Ty) (l : Bool) (d : Context) (e : form.InScope) → Over w d e → (place : ℕ) (op : Op) (a b : Expr) → is_comparison op ≡ false → Fine e a → Fine e b → OnTyped (Stepping w r l e) (updated d place op a b)
+updated_well : (w : World) (r : Ty) (l : Jumps) (d : Context) (e : form.InScope) → Over w d e → (place : ℕ) (op : Op) (a b : Expr) → is_comparison op ≡ false → Fine e a → Fine e b → OnTyped (Stepping w r l e) (updated d place op a b)
 updated_well w r l d e v place op a b c h k =
     on_bind (λ u. Assignable d a) (Stepping w r l e) (assignable d place a) (λ u. updates d place op (type_of a) (type_of b) >>= λ x. typed (at_stmt place (update a op b))) (assignable_is d place a)
     (λ u i. on_bind (λ x. CanUpdate e.structs op (type_of a) (type_of b)) (Stepping w r l e) (updates d place op (type_of a) (type_of b)) (λ x. typed (at_stmt place (update a op b)))
@@ -125,10 +123,10 @@ step_is steps.Decrement = refl
 one_fine : (e : form.InScope) (place : ℕ) → Fine e (at place (integer int) (num int (pos 1)))
 one_fine e place = ((refl, (omega (arith, ints), omega (arith, ints))), tt)
 
-stepped_well : (w : World) (r : Ty) (l : Bool) (d : Context) (e : form.InScope) → Over w d e → (place : ℕ) (op : StepOp) (a : Expr) → Fine e a → OnTyped (Stepping w r l e) (stepped d place op a)
+stepped_well : (w : World) (r : Ty) (l : Jumps) (d : Context) (e : form.InScope) → Over w d e → (place : ℕ) (op : StepOp) (a : Expr) → Fine e a → OnTyped (Stepping w r l e) (stepped d place op a)
 stepped_well w r l d e v place op a h = updated_well w r l d e v place (step_op op) a (at place (integer int) (num int (pos 1))) (step_is op) h (one_fine e place)
 
-assigned_by_well : (w : World) (r : Ty) (l : Bool) (d : Context) (e : form.InScope) → Over w d e → (place : ℕ) (op : AssignOp) (a b : Expr) → Fine e a → Fine e b → OnTyped (Stepping w r l e) (assigned_by d place (assign_op op) a b)
+assigned_by_well : (w : World) (r : Ty) (l : Jumps) (d : Context) (e : form.InScope) → Over w d e → (place : ℕ) (op : AssignOp) (a b : Expr) → Fine e a → Fine e b → OnTyped (Stepping w r l e) (assigned_by d place (assign_op op) a b)
 assigned_by_well w r l d e v place assigns.Plain a b h k = assigned_well w r l d e v place a b h k
 assigned_by_well w r l d e v place assigns.Add a b h k = updated_well w r l d e v place ops.Add a (value_of b) refl h (value_fine e v.sound b k)
 assigned_by_well w r l d e v place assigns.Sub a b h k = updated_well w r l d e v place ops.Sub a (value_of b) refl h (value_fine e v.sound b k)
@@ -148,7 +146,7 @@ fine_keeps w s = keeps_looser w true (judged s) Fine (keeps_weaker w true (judge
 pub value_keeps : (w : World) (s : source.Expr) → Keeps w false (valued (judged s)) Fine
 value_keeps w s = keeps_looser w true (valued (judged s)) Fine (valued_keeps w (name_in s) (judged s) (judged_keeps w s))
 
-pub simple_keeps : (w : World) (r : Ty) (l : Bool) (s : source.Simple) → Keeps w false (judged_simple s) (Stepping w r l)
+pub simple_keeps : (w : World) (r : Ty) (l : Jumps) (s : source.Simple) → Keeps w false (judged_simple s) (Stepping w r l)
 simple_keeps w r l (source.before place op s) = keeps_ruled w false (judged s) (λ c x. stepped c place op x) Fine (Stepping w r l) (fine_keeps w s) (λ d e x g v h. stepped_well w r l d e v place op x h)
 simple_keeps w r l (source.after place op s) = keeps_ruled w false (judged s) (λ c x. stepped c place op x) Fine (Stepping w r l) (fine_keeps w s) (λ d e x g v h. stepped_well w r l d e v place op x h)
 simple_keeps w r l (source.assign place op a b) =
@@ -158,34 +156,15 @@ simple_keeps w r l (source.eval s) = keeps_ruled w false (valued (judged s)) (λ
 
 -- ---- declarations
 
-pub lookup_last : {X : Type 0} (q : List ℕ → Bool) (xs : List (List ℕ × X)) (k : List ℕ) (v : X) → lookup q (xs ++ (k, v) ∷ []) ≡ or_else (lookup q xs) (if q k then Some v else None)
-lookup_last q [] k v = refl
-lookup_last {X} q (x ∷ xs) k v = by (q x.0) (lookup_last q xs k v)
-  where
-    by : (b : Bool) → lookup q (xs ++ (k, v) ∷ []) ≡ or_else (lookup q xs) (if q k then Some v else None)
-        → (if b then Some x.1 else lookup q (xs ++ (k, v) ∷ [])) ≡ or_else (if b then Some x.1 else lookup q xs) (if q k then Some v else None)
-    by true h = refl
-    by false h = h
-
--- what a scope says with one more name is that name's meaning, or what it said before
-pub seen_or_new : (inner : Frame) (outer : Option Binding) (k q : List ℕ) (v m : Binding) → or_else (lookup (bytes_eq q) (inner ++ (k, v) ∷ [])) outer ≡ Some m → (or_else (lookup (bytes_eq q) inner) outer ≡ Some m) ⊎ (v ≡ m)
-seen_or_new inner outer k q v m h = by (lookup (bytes_eq q) inner) (bytes_eq q k) (sym (ap (λ o. or_else o outer) (lookup_last (bytes_eq q) inner k v)) ∙ h)
-  where
-    by : (o : Option Binding) (b : Bool) → or_else (or_else o (if b then Some v else None)) outer ≡ Some m → (or_else o outer ≡ Some m) ⊎ (v ≡ m)
-    by (Some x) b h = inl h
-    by None true h = inr cc
-    by None false h = inl h
-
 abbrev pub with_type : Context → Ty → Context
 with_type c t = record c { locals = c.locals ++ t ∷ [] }
-
-abbrev named_too : Context → Name → Binding → Context
-named_too c n m = record c { inner = c.inner ++ (bytes_of c.text n, m) ∷ [] }
 
 pub type_good : (w : World) (c : Context) → Good w c → (t : Ty) → IsObject c.structs t → length c.locals < 1024 → Good w (with_type c t)
 type_good w c g t o few = record {
   results = g.results;
-  names = λ q m h. named_kept w c (with_type c t) (λ n u k. k) (λ n u k. get_before c.locals (t ∷ []) n u k) m (g.names q m h);
+  since = g.since;
+  numbered = g.numbered;
+  names = λ q m h. named_kept w c (with_type c t) (extends_itself c.structs) (λ n u k. k) (λ n u k. get_before c.locals (t ∷ []) n u k) m (g.names q m h);
   layouts = g.layouts;
   apart = g.apart;
   members = g.members;
@@ -204,29 +183,6 @@ type_good w c g t o few = record {
     by : (n : ℕ) (u : Ty) → (slice_get c.locals n ≡ Some u) ⊎ (t ≡ u) → IsObject c.structs u
     by n u (inl h) = g.locals n u h
     by n u (inr e) = subst (IsObject c.structs) e o
-
-pub name_good : (w : World) (c : Context) → Good w c → (n : Name) (m : Binding) → IsNamed w c m → Good w (named_too c n m)
-name_good w c g n m i = record {
-  results = g.results;
-  names = λ q p h. by q p (seen_or_new c.inner (found c.outer q) (bytes_of c.text n) q m p h);
-  layouts = g.layouts;
-  apart = g.apart;
-  members = g.members;
-  unbegun = g.unbegun;
-  tags = g.tags;
-  begun = g.begun;
-  literals = g.literals;
-  globals = g.globals;
-  locals = g.locals;
-  plain = g.plain;
-  small = g.small;
-  params = g.params;
-  few = g.few;
-}
-  where
-    by : (q : List ℕ) (p : Binding) → (visible c q ≡ Some p) ⊎ (m ≡ p) → IsNamed w (named_too c n m) p
-    by q p (inl h) = named_kept w c (named_too c n m) (λ n t k. k) (λ n t k. k) p (g.names q p h)
-    by q p (inr e) = subst (λ x. IsNamed w (named_too c n m) x) e (named_kept w c (named_too c n m) (λ n t k. k) (λ n t k. k) m i)
 
 pub local_good : (w : World) (c : Context) → Good w c → (n : Name) (t : Ty) → IsObject c.structs t → length c.locals < 1024 → Good w (with_local c n t)
 local_good w c g n t o few = by (is_double c n)
@@ -293,7 +249,7 @@ pub declarator_keeps : (w : World) (d : source.Declarator) → Keeps w true (jud
 declarator_keeps w (source.declarator pointers n dims) = keeps_ruled w true (judged_dims dims) (λ c sizes. typed (record { name = n; pointers = pointers; sizes = sizes })) (λ e ns. ArePositive ns) (λ e x. ArePositive x.sizes) (dims_keeps w dims) (λ d e ns g v h. h)
 
 -- a statement that may stand first in a for
-abbrev pub Starting : World → Ty → Bool → form.InScope → Stmt → Type 0
+abbrev pub Starting : World → Ty → Jumps → form.InScope → Stmt → Type 0
 Starting w r l e s = IsWell (inside_of w r e) l s × IsFirst s
 
 pub none_of : {A B C D : Type 0} (P : D → Type 0) (f : Judged A) (r : Refusal) (rs : List Refusal) (k : Judged C) (make : (A × B) × C → Judged D) → OnTyped P (both (both {B = B} f (faulty r rs)) k >>= make)
@@ -319,7 +275,7 @@ fresh_local d n = by (not (is_double d n)) (nat_lt (length d.locals) 1024) refl
     by false true h = tt
     by false false h = tt
 
-local_after : (w : World) (r : Ty) (l : Bool) (c d : Context) → Good w d → Within false c d → (n : Name) (value : Option source.Expr) (f : Judged (Unit {0} × Unit {0})) (t : Judged Ty) → OnTyped (λ u. length d.locals < 1024) f → OnTyped (IsObject d.structs) t
+local_after : (w : World) (r : Ty) (l : Jumps) (c d : Context) → Good w d → Within false c d → (n : Name) (value : Option source.Expr) (f : Judged (Unit {0} × Unit {0})) (t : Judged Ty) → OnTyped (λ u. length d.locals < 1024) f → OnTyped (IsObject d.structs) t
     → OnTyped (λ s. After w false c (judged_init n.from t value (with_local d n (or_int t))).1 (λ e. Starting w r l e s))
     (both (both f t) (judged_init n.from t value (with_local d n (or_int t))).0 >>= λ p. typed (at_stmt n.from (declare (length d.locals) p.1)))
 local_after w r l c d g x n value f (faulty q qs) hf ht = none_of _ f q qs (judged_init n.from (faulty q qs) value (with_local d n (integer int))).0 (λ p. typed (at_stmt n.from (declare (length d.locals) p.1)))
@@ -336,34 +292,34 @@ local_after w r l c d g x n value (typed u) (typed t) hf ht =
           ((g.params, (k.0, k.1, subst (λ u. IfTyped e (λ s. Fits s u × IsScalar s) o) (sym k.2) (a.fine e v))), tt);
     })
 
-local_keeps : (w : World) (r : Ty) (l : Bool) (base : Judged Ty) → OnTyped Plain base → (x : source.InitDeclarator) → Keeps w false (judged_local base x) (Starting w r l)
-local_keeps w r l base hb x = record { keeps = λ c g. by c base hb (judged_declarator x.declarator c).1 (judged_declarator x.declarator c).0 ((declarator_keeps w x.declarator).keeps c g) }
+local_keeps : (w : World) (r : Ty) (l : Jumps) (base : Judged Ty) → OnTyped (Ready w.structs) base → (x : source.InitDeclarator) → Keeps w false (judged_local base x) (Starting w r l)
+local_keeps w r l base hb x = record { keeps = λ c g. by c base (on_weaker (Ready w.structs) (Ready c.structs) base hb (λ t r. ready_kept w.structs c.structs g.since t r)) (judged_declarator x.declarator c).1 (judged_declarator x.declarator c).0 ((declarator_keeps w x.declarator).keeps c g) }
   where
-    by : (c : Context) (b : Judged Ty) → OnTyped Plain b → (d : Context) (j : Judged Declarator) → OnTyped (λ y. After w true c d (λ e. ArePositive y.sizes)) j
+    by : (c : Context) (b : Judged Ty) → OnTyped (Ready c.structs) b → (d : Context) (j : Judged Declarator) → OnTyped (λ y. After w true c d (λ e. ArePositive y.sizes)) j
         → OnTyped (λ s. After w false c (judged_init (name_of x.declarator).from (both b j >>= λ p. object_declared d p.0 p.1) x.value (with_local d (name_of x.declarator) (or_int (both b j >>= λ p. object_declared d p.0 p.1)))).1 (λ e. Starting w r l e s))
         (both (both (both (fresh d (name_of x.declarator)) (within (name_of x.declarator).from 5 most_locals (length d.locals))) (both b j >>= λ p. object_declared d p.0 p.1)) (judged_init (name_of x.declarator).from (both b j >>= λ p. object_declared d p.0 p.1) x.value (with_local d (name_of x.declarator) (or_int (both b j >>= λ p. object_declared d p.0 p.1)))).0 >>= λ p. typed (at_stmt (name_of x.declarator).from (declare (length d.locals) p.1)))
     by c (typed b) h d (typed y) a =
         local_after w r l c d a.good (looser true c d a.within) (name_of x.declarator) x.value (both (fresh d (name_of x.declarator)) (within (name_of x.declarator).from 5 most_locals (length d.locals))) (object_declared d b y) (fresh_local d (name_of x.declarator))
-        (object_well w d a.good b y h (a.fine (own w d) (over_own w d a.good)))
+        (object_well w d a.good b y (ready_kept c.structs d.structs a.within.0.structs b h) (a.fine (own w d) (over_own w d a.good)))
     by c (typed b) h d (faulty q qs) a = none_of _ (both (fresh d (name_of x.declarator)) (within (name_of x.declarator).from 5 most_locals (length d.locals))) q qs (judged_init (name_of x.declarator).from (faulty q qs) x.value (with_local d (name_of x.declarator) (integer int))).0 _
     by c (faulty q qs) h d (typed y) a = none_of _ (both (fresh d (name_of x.declarator)) (within (name_of x.declarator).from 5 most_locals (length d.locals))) q qs (judged_init (name_of x.declarator).from (faulty q qs) x.value (with_local d (name_of x.declarator) (integer int))).0 _
     by c (faulty q qs) h d (faulty s ss) a = none_of _ (both (fresh d (name_of x.declarator)) (within (name_of x.declarator).from 5 most_locals (length d.locals))) q (qs ++ s ∷ ss) (judged_init (name_of x.declarator).from (faulty q (qs ++ s ∷ ss)) x.value (with_local d (name_of x.declarator) (integer int))).0 _
 
-abbrev pub AreStarting : World → Ty → Bool → form.InScope → List Stmt → Type 0
+abbrev pub AreStarting : World → Ty → Jumps → form.InScope → List Stmt → Type 0
 AreStarting w r l e ss = AllByRecursion (λ s. Starting w r l e s) ss
 
-locals_keeps : (w : World) (r : Ty) (l : Bool) (base : Judged Ty) → OnTyped Plain base → (xs : List source.InitDeclarator) → Keeps w false (judged_locals base xs) (AreStarting w r l)
+locals_keeps : (w : World) (r : Ty) (l : Jumps) (base : Judged Ty) → OnTyped (Ready w.structs) base → (xs : List source.InitDeclarator) → Keeps w false (judged_locals base xs) (AreStarting w r l)
 locals_keeps w r l base h [] = keeps_lone w false (typed []) (AreStarting w r l) (λ e. tt)
 locals_keeps w r l base h (x ∷ xs) =
     keeps_ruled w false (in_turn (judged_local base x) (judged_locals base xs)) (λ d p. typed (p.0 ∷ p.1)) (λ e p. Starting w r l e p.0 × AreStarting w r l e p.1) (AreStarting w r l)
     (keeps_in_turn w false (judged_local base x) (judged_locals base xs) (Starting w r l) (AreStarting w r l) (local_keeps w r l base h x) (locals_keeps w r l base h xs)) (λ d e p g v k. k)
 
-pub declaration_keeps : (w : World) (r : Ty) (l : Bool) (d : source.Declaration) → Keeps w false (judged_declaration d) (AreStarting w r l)
+pub declaration_keeps : (w : World) (r : Ty) (l : Jumps) (d : source.Declaration) → Keeps w false (judged_declaration d) (AreStarting w r l)
 declaration_keeps w r l d = record { keeps = λ c g. by c (judged_specs (source.specs_of d.specs) c).1 (judged_specs (source.specs_of d.specs) c).0 ((judged_specs_keeps w (source.specs_of d.specs)).keeps c g) }
   where
-    by : (c b : Context) (j : Judged Ty) → OnTyped (λ t. After w true c b (λ e. Plain t)) j → OnTyped (λ ss. After w false c (judged_locals j d.declarators b).1 (λ e. AreStarting w r l e ss)) (both j (judged_locals j d.declarators b).0 >>= λ p. typed p.1)
+    by : (c b : Context) (j : Judged Ty) → OnTyped (λ t. After w true c b (λ e. Ready e.structs t)) j → OnTyped (λ ss. After w false c (judged_locals j d.declarators b).1 (λ e. AreStarting w r l e ss)) (both j (judged_locals j d.declarators b).0 >>= λ p. typed p.1)
     by c b (typed t) a =
-        given (λ ss. After w false b (judged_locals (typed t) d.declarators b).1 (λ e. AreStarting w r l e ss)) (λ ss. After w false c (judged_locals (typed t) d.declarators b).1 (λ e. AreStarting w r l e ss)) t (judged_locals (typed t) d.declarators b).0
-        ((locals_keeps w r l (typed t) (a.fine (own w b) (over_own w b a.good)) d.declarators).keeps b a.good)
-        (λ ss k. record { good = k.good; within = within_further false c b (judged_locals (typed t) d.declarators b).1 (looser true c b a.within) k.within; fine = k.fine })
+        given (λ ss. After (since w b.structs) false b (judged_locals (typed t) d.declarators b).1 (λ e. AreStarting w r l e ss)) (λ ss. After w false c (judged_locals (typed t) d.declarators b).1 (λ e. AreStarting w r l e ss)) t (judged_locals (typed t) d.declarators b).0
+        ((locals_keeps (since w b.structs) r l (typed t) (a.fine (own w b) (over_own w b a.good)) d.declarators).keeps b (good_since w w.structs b.structs b (extends_itself b.structs) a.good))
+        (λ ss k. after_from w false c b (judged_locals (typed t) d.declarators b).1 (λ e. AreStarting w r l e ss) a.good (looser true c b a.within) k)
     by c b (faulty q qs) a = not_given _ q qs (judged_locals (faulty q qs) d.declarators b).0 (λ p. typed p.1)

@@ -1,5 +1,5 @@
 -- Types that specifiers and declarators name.
-use Rattle.std.proofs.Common.{◌≡◌, ℕ, zero, suc, ◌*◌, ◌<◌, ◌≤◌, Bool, true, false, ◌&&◌, not, refl, ap, subst, arith, ℤ, pos, negsuc, List, [], ◌∷◌, length, Option, Some, None, slice_get, nat_lt, nat_eq, if◌then◌else◌, int_le, unsigned_abs}
+use Rattle.std.proofs.Common.{◌≡◌, ℕ, zero, suc, ◌*◌, ◌<◌, ◌≤◌, Bool, true, false, ◌&&◌, not, refl, ap, subst, arith, ℤ, pos, negsuc, List, [], ◌∷◌, length, Option, Some, None, slice_get, nat_lt, nat_le, nat_eq, if◌then◌else◌, int_le, unsigned_abs}
 use Rattle.std.specs.List.{AllByRecursion}
 use Rattle.std.specs.Map.{lookup}
 use Rattle.std.proofs.lemmas.Bool.Decides.{nat_tests}
@@ -17,16 +17,16 @@ use Rattle.c_tree.specs.Typed.{Ty, void, integer, mutex, pointer, array, structu
 use Rattle.c_tree.specs.TypedLayout.{greatest_object, layout_size, size_in, IsSized}
 use Rattle.c_tree.specs.TypedForm as form
 use Rattle.c_typing.specs.Faults.{typed, refuse, unless, both, ◌>>=◌}
-use Rattle.c_typing.specs.Types.{same_type, same_types, has_size, is_small, same_words, type_words, behind_pointers, arrays_of}
+use Rattle.c_typing.specs.Types.{same_type, same_types, has_size, is_small, same_words, type_words, behind_pointers, arrays_of, depth_of, most_depth}
 use Rattle.c_typing.specs.Scope.{Context}
 use Rattle.c_typing.specs.Constants.{constant_value}
 use Rattle.c_typing.specs.Rules.{size_number}
-use Rattle.c_typing.specs.Judgement.{Part, type_by, specified, tags_of, words_of, Declarator, dimension_by, dimension, object_type, object_declared, most_members, is_again, fresh_member, node_place}
+use Rattle.c_typing.specs.Judgement.{Part, word, whole, type_by, specified, wholes_of, words_of, Declarator, dimension_by, dimension, object_type, plain_type, object_declared, most_members, is_again, fresh_member, node_place}
 use Rattle.c_typing.proofs.Extending.{Extends, Ready, AreSmall, sized_of, has_size_kept, struct_kept, below, at_most}
 use Rattle.c_typing.proofs.Carried.{OnTyped, OnSome, on_bind, on_unless, on_mismatch, Plain, World, Good, IsObject, Over}
 use Rattle.c_typing.proofs.RuledWell.{Made, plain_ready, same_number, same_int_is, both_hold}
 use Rattle.c_typing.proofs.Shown.{object_kept}
-use Rattle.c_typing.proofs.Braced.{AreObjects}
+use Rattle.c_typing.proofs.Braced.{AreObjects, PartReady}
 
 -- ---- one type
 
@@ -67,20 +67,41 @@ words_plain : AllByRecursion (λ (x : List TypeWord × Ty). Plain x.1) type_word
 unfolding type_words
 words_plain = (tt, (tt, (tt, (tt, (tt, (tt, (tt, (tt, (tt, (tt, (tt, (tt, (tt, (tt, (tt, (tt, (tt, (tt, (tt, (tt, (tt, (tt, (tt, (tt, (tt, (tt, (tt, (tt, (tt, (tt, tt))))))))))))))))))))))))))))))
 
-pub specified_plain : (place : ℕ) (parts : List Part) → OnTyped Plain (specified place parts)
-specified_plain place parts = on_mismatch Plain place (type_by (tags_of parts) (words_of parts)) (by (tags_of parts) (words_of parts))
-  where
-    by : (ns : List ℕ) (ws : List TypeWord) → OnSome Plain (type_by ns ws)
-    by [] ws = find_any Plain (same_words ws) type_words words_plain
-    by (n ∷ []) [] = tt
-    by (n ∷ []) (w ∷ ws) = tt
-    by (n ∷ m ∷ ns) ws = tt
+words_ready : (s : List Layout) (es : List (List TypeWord × Ty)) → AllByRecursion (λ (x : List TypeWord × Ty). Plain x.1) es → AllByRecursion (λ (x : List TypeWord × Ty). Ready s x.1) es
+words_ready s [] h = tt
+words_ready s (x ∷ es) h = (plain_ready s x.1 h.0, words_ready s es h.1)
 
-pub behind_plain : (t : Ty) (ps : List Pointer) → Plain t → Plain (behind_pointers t ps)
-behind_plain t [] h = h
-behind_plain t (stars.Star ∷ ps) h = behind_plain (pointer t) ps h
-behind_plain t (stars.Const ∷ ps) h = behind_plain t ps h
-behind_plain t (stars.Restrict ∷ ps) h = behind_plain t ps h
+-- specifiers, each ready
+abbrev pub ArePartsReady : form.InScope → List Part → Type 0
+ArePartsReady e parts = AllByRecursion (PartReady e) parts
+
+wholes_ready : (e : form.InScope) (parts : List Part) → ArePartsReady e parts → AllByRecursion (Ready e.structs) (wholes_of parts)
+wholes_ready e [] h = tt
+wholes_ready e (word w ∷ parts) h = wholes_ready e parts h.1
+wholes_ready e (whole t ∷ parts) h = (h.0, wholes_ready e parts h.1)
+
+pub specified_ready : (e : form.InScope) (place : ℕ) (parts : List Part) → ArePartsReady e parts → OnTyped (Ready e.structs) (specified place parts)
+specified_ready e place parts h = on_mismatch (Ready e.structs) place (type_by (wholes_of parts) (words_of parts)) (by (wholes_of parts) (words_of parts) (wholes_ready e parts h))
+  where
+    by : (ts : List Ty) (ws : List TypeWord) → AllByRecursion (Ready e.structs) ts → OnSome (Ready e.structs) (type_by ts ws)
+    by [] ws k = find_any (Ready e.structs) (same_words ws) type_words (words_ready e.structs type_words words_plain)
+    by (t ∷ []) [] k = k.0
+    by (t ∷ []) (w ∷ ws) k = tt
+    by (t ∷ u ∷ ts) ws k = tt
+
+pub behind_ready : (s : List Layout) (t : Ty) (ps : List Pointer) → Ready s t → Ready s (behind_pointers t ps)
+behind_ready s t [] h = h
+behind_ready s t (stars.Star ∷ ps) h = behind_ready s (pointer t) ps h
+behind_ready s t (stars.Const ∷ ps) h = behind_ready s t ps h
+behind_ready s t (stars.Restrict ∷ ps) h = behind_ready s t ps h
+
+-- a type that is made of few stars and brackets is itself
+pub plain_type_is : (P : Ty → Type 0) (place : ℕ) (t : Ty) → P t → OnTyped P (plain_type place t)
+plain_type_is P place t h = by (nat_le (depth_of t) most_depth)
+  where
+    by : (b : Bool) → OnTyped P ((if b then typed (tt {0}) else refuse place (TooMany 15)) >>= λ u. typed t)
+    by true = h
+    by false = tt
 
 -- ---- sizes
 
@@ -120,16 +141,19 @@ small_structs : (w : World) (c : Context) → Good w c → AreSmall c.structs
 small_structs w c g n l h = (g.layouts n l h).small
 
 pub object_type_well : (w : World) (c : Context) → Good w c → (place : ℕ) (t : Ty) (ns : List ℕ) → Ready c.structs t → ArePositive ns → OnTyped (IsObject c.structs) (object_type c place (arrays_of t ns))
-object_type_well w c g place t ns r p =
-    on_bind (λ u. (has_size c.structs (arrays_of t ns) && is_small c.structs (arrays_of t ns)) ≡ true) (IsObject c.structs) (unless place BadSize (has_size c.structs (arrays_of t ns) && is_small c.structs (arrays_of t ns))) (λ u. typed (arrays_of t ns))
-    (on_unless place BadSize (has_size c.structs (arrays_of t ns) && is_small c.structs (arrays_of t ns)))
-    (λ u h.
-    let k = both_hold (has_size c.structs (arrays_of t ns)) (is_small c.structs (arrays_of t ns)) h in
-    arrays_sized c.structs (small_structs w c g) t r ns p k.0 (at_most (size_in c.structs (arrays_of t ns)) greatest_object k.1))
+object_type_well w c g place t ns r p = by (has_size c.structs (arrays_of t ns) && is_small c.structs (arrays_of t ns)) (nat_le (depth_of (arrays_of t ns)) most_depth) refl
+  where
+    by : (b f : Bool) → (has_size c.structs (arrays_of t ns) && is_small c.structs (arrays_of t ns)) ≡ b
+        → OnTyped (IsObject c.structs) (both (if b then typed (tt {0}) else refuse place BadSize) (if f then typed (tt {0}) else refuse place (TooMany 15)) >>= λ u. typed (arrays_of t ns))
+    by true true h =
+        let k = both_hold (has_size c.structs (arrays_of t ns)) (is_small c.structs (arrays_of t ns)) h in
+        arrays_sized c.structs (small_structs w c g) t r ns p k.0 (at_most (size_in c.structs (arrays_of t ns)) greatest_object k.1)
+    by true false h = tt
+    by false true h = tt
+    by false false h = tt
 
-pub object_well : (w : World) (c : Context) → Good w c → (t : Ty) (d : Declarator) → Plain t → ArePositive d.sizes → OnTyped (IsObject c.structs) (object_declared c t d)
-object_well w c g t d h p =
-    object_type_well w c g d.name.from (behind_pointers t d.pointers) d.sizes (plain_ready c.structs (behind_pointers t d.pointers) (behind_plain t d.pointers h)) p
+pub object_well : (w : World) (c : Context) → Good w c → (t : Ty) (d : Declarator) → Ready c.structs t → ArePositive d.sizes → OnTyped (IsObject c.structs) (object_declared c t d)
+object_well w c g t d h p = object_type_well w c g d.name.from (behind_pointers t d.pointers) d.sizes (behind_ready c.structs t d.pointers h) p
 
 pub objects_kept : (old new : List Layout) → Extends old new → (all : List (List ℕ × Ty)) → AreObjects old all → AreObjects new all
 objects_kept old new f [] h = tt

@@ -13,12 +13,12 @@ use Rattle.c_tree.specs.TypedLayout.{size_in}
 use Rattle.c_tree.specs.TypedForm.{LiesIn, as_part, deeper, IsNth, Signature, signature_of, IsLayout, IsGlobal, IsFunc, IsMain, IsWellFormed, taken}
 use Rattle.c_tree.specs.TypedForm as form
 use Rattle.c_typing.specs.Faults.{Judged, typed, unless, both}
-use Rattle.c_typing.specs.Scope.{Binding, global_name, local_name, function_name, library_name, Context, at_start}
+use Rattle.c_typing.specs.Scope.{Binding, global_name, local_name, function_name, enumerator_name, type_name, library_name, Context, at_start}
 use Rattle.c_typing.specs.Programs.{defined_names, place_of_name, is_main, has_main, Made, program_of, judged_externals}
 use Rattle.c_typing.specs.Laws.{GivesWellFormed}
 use Rattle.c_typing.proofs.Extending.{extends_itself}
 use Rattle.c_typing.proofs.Elements.{nothing_at}
-use Rattle.c_typing.proofs.Carried.{on_unless, Plain}
+use Rattle.c_typing.proofs.Carried.{on_unless}
 use Rattle.c_typing.proofs.RuledWell.{both_hold, same_int_is}
 use Rattle.c_typing.proofs.GlobalsWell.{AreHeld}
 use Rattle.c_typing.proofs.HeadsWell.{typed_given, both_is, bind_is, Agrees, ArePlaced, externals_headed, agreed, all_results}
@@ -39,10 +39,12 @@ nothing_apart : (m n : ℕ) → LiesIn [] m n → ⊥
 nothing_apart m n (as_part p) = nothing_at n p.0 p.1
 nothing_apart m n (deeper {k} p r) = nothing_at k p.0 p.1
 
-start_good : (fs : List Signature) (text : List ℕ) → ((n : ℕ) (s : Signature) → slice_get fs n ≡ Some s → form.IsResult s.result × Plain s.result) → FileGood fs (at_start text)
+start_good : (fs : List Signature) (text : List ℕ) → ((n : ℕ) (s : Signature) → slice_get fs n ≡ Some s → form.IsResult s.result) → FileGood fs (at_start text)
 start_good fs text r = record {
   good = record {
     results = r;
+    since = λ n l h. absurd (nothing_at n l h);
+    numbered = λ n h. absurd cc;
     names = λ q m h. absurd cc;
     layouts = λ n l h. absurd (nothing_at n l h);
     apart = λ n h. nothing_apart n n h;
@@ -82,6 +84,8 @@ main_is (Some (function_name n [] (structure k))) h = absurd cc
 main_is (Some (function_name n (p ∷ ps) r)) h = absurd cc
 main_is (Some (global_name n t)) h = absurd cc
 main_is (Some (local_name n t)) h = absurd cc
+main_is (Some (enumerator_name value)) h = absurd cc
+main_is (Some (type_name t)) h = absurd cc
 main_is (Some (library_name which)) h = absurd cc
 main_is None h = absurd cc
 

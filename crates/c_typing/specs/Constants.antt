@@ -13,10 +13,11 @@ use Rattle.c_tree.specs.declared.syntax.BinaryOp.{BinaryOp}
 use Rattle.c_tree.specs.declared.syntax.BinaryOp.TheVariants as binaries
 use Rattle.c_tree.specs.Syntax as source
 use Rattle.c_tree.specs.Typed.{Ty, integer, Expr, at, ExprNode, num, convert, not_, binary}
-use Rattle.c_typing.specs.Scope.{Context, Binding, library_name, constant, meaning_of}
+use Rattle.c_typing.specs.Scope.{Context, Binding, enumerator_name, library_name, constant, meaning_of}
 
--- a name that stands for a constant
+-- a name that stands for a constant: an enumerator, or one of the library
 abbrev pub is_constant_name : Option Binding → Bool
+is_constant_name (Some (enumerator_name value)) = true
 is_constant_name (Some (library_name (constant value))) = true
 is_constant_name m = false
 

@@ -1,9 +1,9 @@
 -- Judging expressions, types and declarators where they stand, from left to right: the typed form, or all the faults (C11 6.5 to 6.7).
-use Rattle.std.specs.Prelude.{ℕ, zero, suc, ◌+◌, nat_le, Bool, ◌&&◌, not, if◌then◌else◌, List, [], ◌∷◌, ◌++◌, length, map, Option, Some, None, pos, unsigned_abs, int_le}
+use Rattle.std.specs.Prelude.{ℕ, zero, suc, ◌+◌, nat_le, Bool, false, ◌&&◌, ◌||◌, not, if◌then◌else◌, List, [], ◌∷◌, ◌++◌, length, map, Option, Some, None, ℤ, pos, ◌+ℤ◌, unsigned_abs, int_le}
 use Rattle.std.specs.List.{list_any}
 use Rattle.std.specs.Str.{bytes_eq}
 use Rattle.ak_words.specs.declared.number.Num.{Num}
-use Rattle.ak_words.specs.IntType.{char, int, unsigned_long}
+use Rattle.ak_words.specs.IntType.{char, int, unsigned_long, is_held}
 use Rattle.c_lex.specs.declared.refusal.Kind.{Kind}
 use Rattle.c_lex.specs.declared.refusal.Kind.TheVariants.{UnknownName, DoubleName, TypeMismatch, BadSize, OutsideSubset, TooMany}
 use Rattle.c_tree.specs.declared.syntax.Name.{Name}
@@ -19,9 +19,9 @@ use Rattle.c_tree.specs.Typed.{Ty, void, integer, mutex, pointer, array, structu
 use Rattle.c_tree.specs.Typed as trees
 use Rattle.c_tree.specs.TypedLayout.{laid_out, greatest_object}
 use Rattle.c_typing.specs.Faults.{Judged, typed, faulty, refuse, unless, both, mapped, ◌>>=◌}
-use Rattle.c_typing.specs.Types.{same_type, same_types, has_size, is_small, says_nothing, named_by, behind_pointers, arrays_of}
+use Rattle.c_typing.specs.Types.{same_type, same_types, has_size, is_small, says_nothing, named_by, behind_pointers, arrays_of, depth_of, most_depth}
 use Rattle.c_typing.specs.Scope.{Library, printf, malloc, free, memcpy, thrd_create, thrd_join, mtx_init, mtx_lock, mtx_unlock, mtx_destroy, constant}
-use Rattle.c_typing.specs.Scope.{Binding, global_name, local_name, function_name, library_name, Context, bytes_of, meaning_of, within, fits_plain, tag_number, with_tag, is_begun, with_begun, with_struct}
+use Rattle.c_typing.specs.Scope.{Binding, global_name, local_name, function_name, enumerator_name, type_name, library_name, Context, bytes_of, meaning_of, fresh, within, fits_plain, tag_number, is_struct_tag, with_new_struct, with_tag, is_begun, with_begun, is_enum_tag, is_listed, with_enum, with_listed, with_enumerator, with_struct}
 use Rattle.c_typing.specs.Rules.{value_of, is_zero, fitted, or_mismatch, tested, target, address, selected, pointed, minus_by, plus_by, not_by, complement_by, operated, element, chosen, cast, size_number}
 use Rattle.c_typing.specs.Constants.{constant_value}
 use Rattle.c_typing.specs.Formats.{pieces_of, arguments_for}
@@ -53,11 +53,14 @@ abbrev pub named_by_library : ℕ → Library → Judged Expr
 named_by_library place (constant value) = typed (at place (integer int) (num int value))
 named_by_library place which = refuse place (OutsideSubset 12)
 
--- a name where an expression stands, by what it means: an object or a constant; a function's name is called only, or begins a thread (6.5.1)
+-- a name where an expression stands, by what it means: an object or a constant; a function's name is called only, or begins a thread
+-- (6.5.1); a type's name is none
 abbrev pub named : ℕ → Option Binding → Judged Expr
 named place (Some (global_name n t)) = typed (at place t (global n))
 named place (Some (local_name n t)) = typed (at place t (local n))
 named place (Some (function_name n params result)) = refuse place (OutsideSubset 12)
+named place (Some (enumerator_name value)) = typed (at place (integer int) (num int value))
+named place (Some (type_name t)) = refuse place UnknownName
 named place (Some (library_name which)) = named_by_library place which
 named place None = refuse place UnknownName
 
@@ -270,38 +273,43 @@ called_by m place args print start = called_as m place args
 
 -- ---- specifiers (6.7.2)
 
--- a word, or the struct of a number
+-- a word, or a type of its own: a struct, an enum, or what the name of a type stands for
 pub data Part : Type 0 where
   word : (w : TypeWord) → Part
-  tag : (number : ℕ) → Part
+  whole : (t : Ty) → Part
 
 -- the words among specifiers, without those that say nothing of the type
 abbrev pub words_of : List Part → List TypeWord
 words_of [] = []
 words_of (word w ∷ rest) = if says_nothing w then words_of rest else w ∷ words_of rest
-words_of (tag n ∷ rest) = words_of rest
+words_of (whole t ∷ rest) = words_of rest
 
--- the structs among specifiers, by their numbers
-abbrev pub tags_of : List Part → List ℕ
-tags_of [] = []
-tags_of (word w ∷ rest) = tags_of rest
-tags_of (tag n ∷ rest) = n ∷ tags_of rest
+-- the types of their own among specifiers
+abbrev pub wholes_of : List Part → List Ty
+wholes_of [] = []
+wholes_of (word w ∷ rest) = wholes_of rest
+wholes_of (whole t ∷ rest) = t ∷ wholes_of rest
 
--- the type that specifiers name: words that name one, or one struct
-abbrev pub type_by : List ℕ → List TypeWord → Option Ty
+-- the type that specifiers name: words that name one, or one type of its own
+abbrev pub type_by : List Ty → List TypeWord → Option Ty
 type_by [] ws = named_by ws
-type_by (n ∷ []) [] = Some (structure n)
-type_by tags ws = None
+type_by (t ∷ []) [] = Some t
+type_by wholes ws = None
 
 -- the type that specifiers name; where they name none, a mismatch at this place (C11 6.7.2 p2)
 abbrev pub specified : (place : ℕ) → List Part → Judged Ty
-specified place parts = or_mismatch place (type_by (tags_of parts) (words_of parts))
+specified place parts = or_mismatch place (type_by (wholes_of parts) (words_of parts))
 
 -- the place of the first specifier
 abbrev pub place_of_spec : source.Spec → ℕ
 place_of_spec (source.word place w) = place
 place_of_spec (source.struct place t) = place
 place_of_spec (source.struct_body place t inside) = place
+place_of_spec (source.unnamed_struct place inside) = place
+place_of_spec (source.enum place t) = place
+place_of_spec (source.enum_body place t list) = place
+place_of_spec (source.unnamed_enum place list) = place
+place_of_spec (source.alias n) = n.from
 
 -- the place of a row of specifiers, that of its first
 abbrev pub place_of_specs : source.Specs → ℕ
@@ -338,9 +346,17 @@ dimension e c x = dimension_by (node_place e) (constant_value c e x)
 abbrev pub array_size : source.Expr → Judging Expr → Judging ℕ
 array_size e x = ruled (valued x) (dimension e)
 
--- an object has a size, and at most the greatest object's
+-- a type is made of 64 stars and brackets at most
+abbrev pub fits_depth : (place : ℕ) → Ty → Judged (Unit {0})
+fits_depth place t = unless place (TooMany 15) (nat_le (depth_of t) most_depth)
+
+-- an object has a size, at most the greatest object's, and not too many stars and brackets
 abbrev pub object_type : Context → (place : ℕ) → Ty → Judged Ty
-object_type c place t = unless place BadSize (has_size c.structs t && is_small c.structs t) >>= λ u. typed t
+object_type c place t = both (unless place BadSize (has_size c.structs t && is_small c.structs t)) (fits_depth place t) >>= λ u. typed t
+
+-- the type of a type name or of a function's result
+abbrev pub plain_type : (place : ℕ) → Ty → Judged Ty
+plain_type place t = fits_depth place t >>= λ u. typed t
 
 -- the type of the object that a declarator declares; where it has no size or too great a one, a fault at its name
 abbrev pub object_declared : Context → Ty → Declarator → Judged Ty
@@ -389,9 +405,17 @@ abbrev pub closed : Context → (number : ℕ) → Judged (List (List ℕ × Ty)
 closed c number (typed all) = with_struct c number all
 closed c number (faulty r rs) = c
 
--- a tag's braces: once (6.7.2.3 p1), and 256 of them at most
+-- the tag of a struct is no enum's (6.7.2.3 p2)
+abbrev pub is_no_enum : Context → Name → Judged (Unit {0})
+is_no_enum c t = unless t.from DoubleName (not (is_enum_tag c t))
+
+-- there are 256 structs with braces at most
+abbrev pub braces_fit : Context → (place : ℕ) → Judged (Unit {0})
+braces_fit c place = within place 3 256 (length c.begun)
+
+-- a tag's braces: once (6.7.2.3 p1)
 abbrev pub opened : Context → Name → Judged (Unit {0})
-opened c t = both (unless t.from DoubleName (not (is_begun c (tag_number c t)))) (within t.from 3 256 (length c.begun)) >>= λ u. typed tt
+opened c t = both (unless t.from DoubleName (not (is_begun c (tag_number c t)))) (both (is_no_enum c t) (braces_fit c t.from)) >>= λ u. typed tt
 
 -- the members of a struct up to the closing brace; the second braces of a tag declare nothing
 abbrev pub fitting : (place number : ℕ) → (again : Bool) → Judging (List (List ℕ × Ty)) → Judging (List (List ℕ × Ty))
@@ -402,7 +426,7 @@ fitting place number again members c =
 
 -- the braces of a struct, by what was judged of the opening one
 abbrev pub closing : (place number : ℕ) → (opening : Judged (Unit {0})) → (again : Bool) → Judging (List (List ℕ × Ty)) → Judging Part
-closing place number opening again members = ruled (in_turn (lone opening) (fitting place number again members)) (λ d p. typed (tag number))
+closing place number opening again members = ruled (in_turn (lone opening) (fitting place number again members)) (λ d p. typed (whole (structure number)))
 
 -- the braces of a struct, behind its tag
 abbrev pub braced : Name → Judging (List (List ℕ × Ty)) → Judging Part
@@ -410,6 +434,76 @@ braced t members around =
     let c = with_tag around t in
     let number = tag_number c t in
     closing t.from number (opened c t) (is_begun c number) members (with_begun c number)
+
+-- the braces of a struct without a tag, at its word
+abbrev pub braced_alone : (place : ℕ) → Judging (List (List ℕ × Ty)) → Judging Part
+braced_alone place members around =
+    let c = with_new_struct around [] in
+    let number = length around.structs in
+    closing place number (braces_fit c place) false members (with_begun c number)
+
+-- a struct by its tag; one that wasn't named before isn't declared
+abbrev pub tagged : Name → Judging Part
+tagged t c = let d = with_tag c t in (is_no_enum c t >>= λ u. typed (whole (structure (tag_number d t))), d)
+
+-- ---- enums, which are int (6.7.2.2; this project's profile)
+
+-- an enum by its tag, which is declared and no struct's (6.7.2.3 p2, p3)
+abbrev pub enum_tagged : Context → Name → Judged Part
+enum_tagged c t = if is_struct_tag c t then refuse t.from DoubleName else unless t.from UnknownName (is_listed c t) >>= λ u. typed (whole (integer int))
+
+-- the braces of an enum's tag, which has none yet and is no struct's (6.7.2.3 p1)
+abbrev pub enum_opened : Context → Name → Judged (Unit {0})
+enum_opened c t = unless t.from DoubleName (not (is_enum_tag c t || is_struct_tag c t))
+
+-- the value of an enumerator is an int; where there is none, or another, a mismatch at its name (6.7.2.2 p2)
+abbrev pub enumerator_value : (place : ℕ) → Option ℤ → Judged ℤ
+enumerator_value place None = refuse place TypeMismatch
+enumerator_value place (Some z) = unless place TypeMismatch (is_held int z) >>= λ u. typed z
+
+-- the value of an integer constant expression, as a whole number
+abbrev pub whole_value : Option Num → Option ℤ
+whole_value None = None
+whole_value (Some n) = Some n.value
+
+-- 4,096 enumerators at most
+abbrev pub most_enumerators : ℕ
+most_enumerators = 4096
+
+-- what is judged at an enumerator's name, whatever its value is
+abbrev pub enumerator_fine : Context → Name → Judged (Unit {0} × Unit {0})
+enumerator_fine c n = both (fresh c n) (within n.from 12 most_enumerators c.enumerators)
+
+-- an enumerator's value, or 0 where it is at fault: what follows from it is then nowhere seen
+abbrev pub or_zero : Judged ℤ → ℤ
+or_zero (typed z) = z
+or_zero (faulty r rs) = pos 0
+
+-- an enumerator, by its value: its name is in scope directly behind that (6.2.1 p7)
+abbrev pub enumerated : Name → Judging ℤ → Judging ℤ
+enumerated n value around =
+    let v = value around in
+    (both (enumerator_fine v.1 n) v.0 >>= λ p. typed p.1, with_enumerator v.1 n (or_zero v.0))
+
+-- an enumerator, and then those behind it, of which the next is one more if it isn't given (6.7.2.2 p3)
+abbrev pub and_behind : Judging ℤ → ((next : ℤ) → Judging (Unit {0})) → Judging (Unit {0})
+and_behind first rest c =
+    let x = first c in
+    let y = rest (or_zero x.0 +ℤ pos 1) x.1 in
+    (both x.0 y.0 >>= λ p. typed tt, y.1)
+
+-- the braces of an enum behind its tag
+abbrev pub enum_braced : Name → Judging (Unit {0}) → Judging Part
+enum_braced t list around =
+    let x = list (with_enum around t) in
+    (both (enum_opened around t) x.0 >>= λ p. typed (whole (integer int)), with_listed x.1 t)
+
+-- ---- names of types (6.7.8)
+
+-- what the name of a type stands for
+abbrev pub aliased : (place : ℕ) → Option Binding → Judged Part
+aliased place (Some (type_name t)) = typed (whole t)
+aliased place m = refuse place UnknownName
 
 -- ---- the judgement
 
@@ -460,18 +554,36 @@ abbrev mutual
 
   -- the name of a type (6.7.7)
   pub judged_type : source.TypeName → Judging Ty
-  judged_type (source.type_name specs pointers) c = ruled (specs_by specs (judged_parts specs)) (λ d t. typed (behind_pointers t pointers)) c
+  judged_type (source.type_name specs pointers) c =
+      ruled (specs_by specs (judged_parts specs)) (λ d t. plain_type (place_of_specs specs) (behind_pointers t pointers)) c
 
   -- specifiers
   pub judged_parts : source.Specs → Judging (List Part)
   judged_parts source.no_specs c = (typed [], c)
   judged_parts (source.more_specs s rest) c = ruled (in_turn (judged_spec s) (judged_parts rest)) (λ d p. typed (p.0 ∷ p.1)) c
 
-  -- a specifier: a word, or a struct by its tag, with its members between braces or without (C11 6.7.2.3)
+  -- a specifier: a word, a struct or an enum by its tag, with what stands between its braces or without (C11 6.7.2.3), one without a tag, or
+  -- the name of a type
   pub judged_spec : source.Spec → Judging Part
   judged_spec (source.word place w) c = (typed (word w), c)
-  judged_spec (source.struct place t) c = let d = with_tag c t in (typed (tag (tag_number d t)), d)
+  judged_spec (source.struct place t) c = tagged t c
   judged_spec (source.struct_body place t members) c = braced t (judged_members [] members) c
+  judged_spec (source.unnamed_struct place members) c = braced_alone place (judged_members [] members) c
+  judged_spec (source.enum place t) c = (enum_tagged c t, c)
+  judged_spec (source.enum_body place t list) c = enum_braced t (judged_enumerators (pos 0) list) c
+  judged_spec (source.unnamed_enum place list) c = ruled (judged_enumerators (pos 0) list) (λ d u. typed (whole (integer int))) c
+  judged_spec (source.alias n) c = (aliased n.from (meaning_of c n), c)
+
+  -- an enumerator, of this value if none is given
+  pub judged_enumerator : (next : ℤ) → source.Enumerator → Judging ℤ
+  judged_enumerator next (source.enumerator n comma) c = enumerated n (lone (enumerator_value n.from (Some next))) c
+  judged_enumerator next (source.valued n e comma) c =
+      enumerated n (ruled (valued (judged e)) (λ d x. enumerator_value n.from (whole_value (constant_value d e x)))) c
+
+  -- enumerators, the first of this value if none is given
+  pub judged_enumerators : (next : ℤ) → source.Enumerators → Judging (Unit {0})
+  judged_enumerators next source.no_enumerators c = (typed tt, c)
+  judged_enumerators next (source.more_enumerators e rest) c = and_behind (judged_enumerator next e) (λ z. judged_enumerators z rest) c
 
   -- the members of a struct, behind those of these names
   pub judged_members : (before : List Name) → source.Members → Judging (List (List ℕ × Ty))

@@ -30,14 +30,21 @@ abbrev pub IsAlone : source.Stmt → Type 0
 IsAlone (source.declare d) = ⊥
 IsAlone s = Unit {0}
 
+-- statements that are no declarations
+abbrev pub AreAlone : source.Stmts → Type 0
+AreAlone source.no_stmts = Unit {0}
+AreAlone (source.more_stmts s rest) = IsAlone s × AreAlone rest
+
 abbrev mutual
-  -- no declaration stands under an if or a loop anywhere in this statement
+  -- no declaration stands under an if or a loop, or directly between the braces of a switch, anywhere in this statement
   pub IsWritten : source.Stmt → Type 0
   IsWritten (source.block place items) = AreWritten items
   IsWritten (source.if_then place e s) = IsAlone s × IsWritten s
   IsWritten (source.if_else place e s t) = IsAlone s × IsWritten s × IsAlone t × IsWritten t
   IsWritten (source.while place e s) = IsAlone s × IsWritten s
   IsWritten (source.for place first e step s) = IsAlone s × IsWritten s
+  IsWritten (source.do_while place s e) = IsAlone s × IsWritten s
+  IsWritten (source.switch place e entries) = AreAlone entries × AreWritten entries
   IsWritten s = Unit {0}
 
   -- no declaration stands under an if or a loop anywhere in these statements
@@ -50,9 +57,14 @@ abbrev pub IsBodyWritten : source.Rest → Type 0
 IsBodyWritten (source.function pointers n params (Some body)) = AreWritten (source.stmts_of body.items)
 IsBodyWritten rest = Unit {0}
 
--- no declaration stands under an if or a loop in any function of a file
+-- the same of an external declaration
+abbrev pub IsExternalWritten : source.External → Type 0
+IsExternalWritten (source.types_by specs declarators) = Unit {0}
+IsExternalWritten (source.external_of storage specs rest) = IsBodyWritten rest
+
+-- no declaration stands under an if or a loop, or directly between the braces of a switch, in any function of a file
 abbrev pub IsFileWritten : source.File → Type 0
-IsFileWritten f = AllByRecursion (λ (x : source.External). IsBodyWritten x.rest) f.externals
+IsFileWritten f = AllByRecursion IsExternalWritten f.externals
 
 -- the typed tree that a program has is well formed
 abbrev pub GivesWellFormed : Type 0

@@ -2,7 +2,7 @@
 use Rattle.std.specs.Prelude.{ℕ, ◌+◌, ◌==◌, nat_lt, Bool, true, false, ◌||◌, if◌then◌else◌, List, [], ◌∷◌, ◌++◌, length, map, drop, Option, Some, None}
 use Rattle.std.specs.List.{list_any}
 use Rattle.std.specs.Option.{option_map}
-use Rattle.c_tree.specs.Typed.{Ty, array, structure, mutex, Local, Func, Expr, at, ExprNode, num, null, literal, global, local, deref, member, address_of, decay, convert, not_, binary, and_also, or_else, choose, pointer_add, pointer_sub, pointer_diff, pointer_compare, pointer_test, call, lib, Exprs, no_exprs, more_exprs, Stmt, at_stmt, StmtNode, block, declare, if_, if_else, while_, for_, break_, continue_, return_, assign, update, evaluate, empty, Stmts, no_stmts, more_stmts}
+use Rattle.c_tree.specs.Typed.{Ty, array, structure, mutex, Local, Func, Expr, at, ExprNode, num, null, literal, global, local, deref, member, address_of, decay, convert, not_, binary, and_also, or_else, choose, pointer_add, pointer_sub, pointer_diff, pointer_compare, pointer_test, call, lib, Exprs, no_exprs, more_exprs, Stmt, at_stmt, StmtNode, block, declare, if_, if_else, while_, for_, do_while, switch, break_, continue_, return_, assign, update, evaluate, empty, Stmts, no_stmts, more_stmts}
 
 -- ---- other numbers for the locals of a tree
 
@@ -59,6 +59,8 @@ abbrev mutual
   renumbered_stmt_node f (if_else e s t) = if_else (renumbered f e) (renumbered_stmt f s) (renumbered_stmt f t)
   renumbered_stmt_node f (while_ e s) = while_ (renumbered f e) (renumbered_stmt f s)
   renumbered_stmt_node f (for_ first e step s) = for_ (renumbered_stmt f first) (renumbered_if f e) (renumbered_stmt f step) (renumbered_stmt f s)
+  renumbered_stmt_node f (do_while s e) = do_while (renumbered_stmt f s) (renumbered f e)
+  renumbered_stmt_node f (switch e labels body) = switch (renumbered f e) labels (renumbered_stmts f body)
   renumbered_stmt_node f break_ = break_
   renumbered_stmt_node f continue_ = continue_
   renumbered_stmt_node f (return_ value) = return_ (renumbered_if f value)

@@ -12,18 +12,18 @@ use Rattle.c_lex.specs.declared.refusal.Kind.TheVariants.{UnknownName, DoubleNam
 use Rattle.c_tree.specs.declared.syntax.Name.{Name}
 use Rattle.c_tree.specs.declared.syntax.Pointer.{Pointer}
 use Rattle.c_tree.specs.Syntax as source
-use Rattle.c_tree.specs.Typed.{Ty, void, integer, pointer, structure, mutex, Init, zero_bytes, literal_at, GlobalVar, Func, Typed, Expr, ExprNode, literal, decay, node_of, Stmt, stmts_of}
+use Rattle.c_tree.specs.Typed.{Ty, void, integer, pointer, array, structure, mutex, Init, zero_bytes, literal_at, GlobalVar, Func, Typed, Expr, ExprNode, literal, decay, node_of, Stmt, stmts_of}
 use Rattle.c_tree.specs.Typed as trees
 use Rattle.c_tree.specs.TypedLayout.{size_in}
 use Rattle.c_typing.specs.Faults.{Judged, typed, faulty, refuse, unless, both, mapped, ◌>>=◌}
-use Rattle.c_typing.specs.Types.{same_int, same_type, same_types, is_void, is_struct_or_mutex, has_size, behind_pointers, arrays_of}
-use Rattle.c_typing.specs.Scope.{Binding, global_name, function_name, Frame, Context, at_start, bytes_of, library, fresh, declared, inside, back_to, within, fits_plain}
+use Rattle.c_typing.specs.Types.{same_int, same_type, same_types, is_void, is_array, is_struct_or_mutex, has_size, behind_pointers, arrays_of}
+use Rattle.c_typing.specs.Scope.{Binding, global_name, function_name, type_name, is_double, with_alias, Frame, Context, at_start, bytes_of, library, fresh, declared, inside, back_to, within, fits_plain}
 use Rattle.c_typing.specs.Rules.{is_zero}
 use Rattle.c_typing.specs.Constants.{constant_value}
-use Rattle.c_typing.specs.Judgement.{Judging, lone, in_turn, ruled, valued, judged, judged_specs, place_of_specs, array_size, object_type}
-use Rattle.c_typing.specs.Statements.{or_int, most_locals, with_local, object_of, name_of, judged_stmts}
+use Rattle.c_typing.specs.Judgement.{Judging, lone, in_turn, ruled, valued, judged, judged_specs, place_of_specs, array_size, object_type, plain_type, Declarator}
+use Rattle.c_typing.specs.Statements.{or_int, most_locals, with_local, judged_declarator, object_of, name_of, judged_stmts}
 use Rattle.c_typing.specs.Numbering.{Param, func_of}
-use Rattle.c_tree.specs.TypedForm.{taken}
+use Rattle.c_tree.specs.TypedForm.{taken, in_function}
 
 -- ---- globals (6.9.2, 6.7.9)
 
@@ -121,10 +121,15 @@ abbrev pub judged_sizes : (outermost : Bool) → List source.ParamDim → Judgin
 judged_sizes outermost [] c = (typed [], c)
 judged_sizes outermost (d ∷ ds) c = ruled (in_turn (judged_size outermost d d.size) (judged_sizes false ds)) (λ x p. typed (p.0 ∷ p.1)) c
 
--- an array becomes a pointer to its elements, which have a size (6.7.6.3 p7, 6.7.6.2 p1)
+-- an array is a pointer to its elements, and each other type is itself
+abbrev pub pointer_for : Ty → Ty
+pointer_for (array t n) = pointer t
+pointer_for t = t
+
+-- an array becomes a pointer to its elements, which have a size (6.7.6.3 p7, 6.7.6.2 p1), also one that the name of a type stands for
 abbrev pub adjusted : Context → (place : ℕ) → Ty → List (Option ℕ) → Judged Ty
-adjusted c place t [] = typed t
-adjusted c place t (outermost ∷ inner) = object_type c place (arrays_of t (known inner)) >>= λ element. typed (pointer element)
+adjusted c place t [] = plain_type place (pointer_for t)
+adjusted c place t (outermost ∷ inner) = object_type c place (arrays_of t (known inner)) >>= λ element. plain_type place (pointer element)
 
 -- no void and no undeclared struct; other structs and mutexes are outside the language
 abbrev pub param_type : Context → (place : ℕ) → Ty → Judged Ty
@@ -202,10 +207,15 @@ abbrev pub defined_name : List ℕ → source.Rest → List (List ℕ)
 defined_name text (source.function pointers n params (Some body)) = bytes_of text n ∷ []
 defined_name text rest = []
 
+-- the name that it gives a body, if it does; a typedef gives none
+abbrev pub defined_by : List ℕ → source.External → List (List ℕ)
+defined_by text (source.types_by specs declarators) = []
+defined_by text (source.external_of storage specs rest) = defined_name text rest
+
 -- the names of the functions of a file that have a body, in the order of the text: a function's number is its place among them
 abbrev pub defined_names : List ℕ → List source.External → List (List ℕ)
 defined_names text [] = []
-defined_names text (x ∷ xs) = defined_name text x.rest ++ defined_names text xs
+defined_names text (x ∷ xs) = defined_by text x ++ defined_names text xs
 
 -- how many names stand before this one: a function's number among those that have a body
 abbrev pub place_of_name : List ℕ → List (List ℕ) → ℕ
@@ -248,9 +258,10 @@ before_name c n = lookup (bytes_eq (bytes_of c.text n)) c.inner
 abbrev pub not_library : Context → Name → Judged (Unit {0})
 not_library c n = unless n.from DoubleName (not (is_some (lookup (bytes_eq (bytes_of c.text n)) library)))
 
--- no struct and no mutex, and no array, is a result
+-- no array is a result (6.7.6.3 p1), and no struct and no mutex (this project's profile)
 abbrev pub result_type : (place : ℕ) → Ty → Judged Ty
-result_type place t = unless place (OutsideSubset 13) (not (is_struct_or_mutex t)) >>= λ u. typed t
+result_type place t =
+    both (unless place TypeMismatch (not (is_array t))) (unless place (OutsideSubset 13) (not (is_struct_or_mutex t))) >>= λ u. plain_type place t
 
 -- what a function returns, by the type that its specifiers name
 abbrev pub result_of : (place : ℕ) → (base : Judged Ty) → List Pointer → Judged Ty
@@ -306,7 +317,7 @@ func_by params result c body = both (both params result) body >>= λ p. typed (f
 abbrev pub judged_body : Judged (List Param) → Judged Ty → Option source.Body → Judging (List Func)
 judged_body params result None c = (typed [], c)
 judged_body params result (Some body) c =
-    let x = judged_stmts (or_int result) false (source.stmts_of body.items) c in (func_by params result x.1 x.0, x.1)
+    let x = judged_stmts (or_int result) in_function (source.stmts_of body.items) c in (func_by params result x.1 x.0, x.1)
 
 -- behind a body, with all that it has shown; its scopes are left
 abbrev pub body_behind : Context → Name → Option source.Body → Context → Context
@@ -327,6 +338,44 @@ judged_function names base pointers n params body around =
     let x = body_within ps.1.inner ps.0 result n body (with_function c names n (types_or ps.0) (or_int result)) in
     (both (head_fine c names n body ps.0 result) x.0 >>= λ p. typed p.1, x.1)
 
+-- ---- names of types (6.7.8)
+
+-- what a name of a type stands for: an array has a size; each other type may stand, also one without
+abbrev pub alias_by : Context → (place : ℕ) → Ty → List ℕ → Judged Ty
+alias_by c place t [] = plain_type place t
+alias_by c place t sizes = object_type c place (arrays_of t sizes)
+
+-- the type that a typedef's declarator declares
+abbrev pub alias_declared : Context → Ty → Declarator → Judged Ty
+alias_declared c t d = alias_by c d.name.from (behind_pointers t d.pointers) d.sizes
+
+-- a name that meant nothing before at file scope, or the same type (6.7 p3)
+abbrev pub same_alias : (place : ℕ) → Option Binding → Ty → Judged (Unit {0})
+same_alias place (Some (type_name s)) t = unless place TypeMismatch (same_type s t)
+same_alias place (Some m) t = refuse place DoubleName
+same_alias place None t = typed tt
+
+-- 1,024 names of types at most; one that is declared again is none more
+abbrev pub alias_fits : Context → Name → (is_new : Bool) → Judged (Unit {0})
+alias_fits c n false = typed tt
+alias_fits c n true = within n.from 11 1024 c.aliases
+
+-- what is judged at the name of a type, whatever that is
+abbrev pub alias_fine : Context → Name → Judged (Unit {0} × Unit {0})
+alias_fine c n = both (not_library c n) (alias_fits c n (not (is_double c n)))
+
+-- the name of a type: it is in scope directly behind its declarator
+abbrev pub judged_alias : Judged Ty → source.Declarator → Judging (Unit {0})
+judged_alias base d around =
+    let n = name_of d in
+    let t = ruled (in_turn (lone base) (judged_declarator d)) (λ c p. alias_declared c p.0 p.1) around in
+    (both (alias_fine t.1 n) (t.0 >>= same_alias n.from (before_name t.1 n)) >>= λ p. typed tt, with_alias t.1 n (or_int t.0))
+
+-- names of types that are declared together, in order
+abbrev pub judged_aliases : Judged Ty → List source.Declarator → Judging (Unit {0})
+judged_aliases base [] c = (typed tt, c)
+judged_aliases base (d ∷ ds) c = ruled (in_turn (judged_alias base d) (judged_aliases base ds)) (λ e p. typed tt) c
+
 -- ---- files (6.9)
 
 -- what an external declaration makes
@@ -345,12 +394,22 @@ judged_rest names base (source.function pointers n params body) c =
     ruled (judged_function names base pointers n params body) (λ d fs. typed (record { globals = []; funcs = fs })) c
 judged_rest names base (source.variables declarators) c = ruled (judged_globals base declarators) (λ d gs. typed (record { globals = gs; funcs = [] })) c
 
+-- specifiers, and what stands behind them
+abbrev pub behind_specs : {A : Type 0} → List source.Spec → (Judged Ty → Judging A) → Judging A
+behind_specs specs behind around =
+    let base = judged_specs (source.specs_of specs) around in
+    let rest = behind base.0 base.1 in
+    (both base.0 rest.0 >>= λ p. typed p.1, rest.1)
+
+-- a typedef makes no object and no function
+abbrev pub no_objects : Made
+no_objects = record { globals = []; funcs = [] }
+
 -- an external declaration: its specifiers, and what stands behind them
 abbrev pub judged_external : (names : List (List ℕ)) → source.External → Judging Made
-judged_external names x around =
-    let base = judged_specs (source.specs_of x.specs) around in
-    let rest = judged_rest names base.0 x.rest base.1 in
-    (both base.0 rest.0 >>= λ p. typed p.1, rest.1)
+judged_external names (source.types_by specs declarators) around =
+    ruled (behind_specs specs (λ base. judged_aliases base declarators)) (λ c u. typed no_objects) around
+judged_external names (source.external_of storage specs rest) around = behind_specs specs (λ base. judged_rest names base rest) around
 
 -- external declarations, in the order of the text
 abbrev pub judged_externals : (names : List (List ℕ)) → List source.External → Judging Made

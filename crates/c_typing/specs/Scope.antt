@@ -36,20 +36,24 @@ library = (codes "printf", printf) ∷ (codes "malloc", malloc) ∷ (codes "free
 
 -- ---- names
 
--- what a name means: an object of file scope or a local by its number, a function by its number, or a name of the library
+-- what a name means: an object of file scope or a local by its number, a function by its number, an enumerator, which is an int, a type
+-- (C11 6.7.8), or a name of the library
 pub data Binding : Type 0 where
   global_name : (n : ℕ) (t : Ty) → Binding
   local_name : (n : ℕ) (t : Ty) → Binding
   function_name : (n : ℕ) (params : List Ty) (result : Ty) → Binding
+  enumerator_name : (value : ℤ) → Binding
+  type_name : (t : Ty) → Binding
   library_name : (which : Library) → Binding
 
 -- one scope: the bytes of each name, and what it means, in order of declaration
 abbrev pub Frame : Type 0
 Frame = List (List ℕ × Binding)
 
--- what stands before a node: the text; the tags in the order in which they were first named, each with its struct's layout and
--- the names of its members, which has no member where the struct isn't declared yet, and whether its braces were begun; how many
--- braces were begun; the literals that make a block; the bytes that globals and literals take; the names of the functions, and of
+-- what stands before a node: the text; the tags of structs in the order in which they were first named, no bytes for a struct without a
+-- tag, each with its struct's layout and the names of its members, which has no member where the struct isn't declared yet; the structs
+-- whose braces were begun; the tags of enums whose braces were begun, and of those whose braces have ended; how many enumerators and how
+-- many names of types there are; the literals that make a block; the bytes that globals and literals take; the names of the functions, and of
 -- those that have a body; the scopes, the innermost first and then those around it from the outermost on; the types of the function's locals, and the numbers of those
 -- whose address is taken
 pub record Context : Type 0 where
@@ -58,6 +62,10 @@ pub record Context : Type 0 where
   pub structs : List Layout
   pub members : List (List (List ℕ))
   pub begun : List ℕ
+  pub enums : List (List ℕ)
+  pub listed : List (List ℕ)
+  pub enumerators : ℕ
+  pub aliases : ℕ
   pub literals : List (List ℕ)
   pub plain : ℕ
   pub globals : List Ty
@@ -76,6 +84,10 @@ at_start text = record {
   structs = [];
   members = [];
   begun = [];
+  enums = [];
+  listed = [];
+  enumerators = 0;
+  aliases = 0;
   literals = [];
   plain = 0;
   globals = [];
@@ -157,11 +169,17 @@ tag_among q (tag ∷ tags) = if bytes_eq q tag then 0 else 1 + tag_among q tags
 abbrev pub tag_number : Context → Name → ℕ
 tag_number c n = tag_among (bytes_of c.text n) c.tags
 
+-- the tag names a struct
+abbrev pub is_struct_tag : Context → Name → Bool
+is_struct_tag c n = list_any (bytes_eq (bytes_of c.text n)) c.tags
+
+-- one struct more, which isn't declared: with this tag, or with none, which are no bytes
+abbrev pub with_new_struct : Context → (tag : List ℕ) → Context
+with_new_struct c tag = record c { tags = c.tags ++ tag ∷ []; structs = c.structs ++ laid_out [] [] ∷ []; members = c.members ++ [] ∷ [] }
+
 -- after a tag was named: where it wasn't before, it's a struct that isn't declared
 abbrev pub with_tag : Context → Name → Context
-with_tag c n =
-    if list_any (bytes_eq (bytes_of c.text n)) c.tags then c
-    else record c { tags = c.tags ++ bytes_of c.text n ∷ []; structs = c.structs ++ laid_out [] [] ∷ []; members = c.members ++ [] ∷ [] }
+with_tag c n = if is_struct_tag c n then c else with_new_struct c (bytes_of c.text n)
 
 -- a struct's braces were begun
 abbrev pub is_begun : Context → ℕ → Bool
@@ -170,6 +188,30 @@ is_begun c number = list_any (λ other. other == number) c.begun
 -- after a struct's opening brace: its braces are begun
 abbrev pub with_begun : Context → ℕ → Context
 with_begun c number = record c { begun = c.begun ++ number ∷ [] }
+
+-- the tag names an enum: its braces were begun
+abbrev pub is_enum_tag : Context → Name → Bool
+is_enum_tag c n = list_any (bytes_eq (bytes_of c.text n)) c.enums
+
+-- the enum of this tag is declared: its braces have ended
+abbrev pub is_listed : Context → Name → Bool
+is_listed c n = list_any (bytes_eq (bytes_of c.text n)) c.listed
+
+-- after an enum's opening brace
+abbrev pub with_enum : Context → Name → Context
+with_enum c n = record c { enums = c.enums ++ bytes_of c.text n ∷ [] }
+
+-- after its closing brace
+abbrev pub with_listed : Context → Name → Context
+with_listed c n = record c { listed = c.listed ++ bytes_of c.text n ∷ [] }
+
+-- behind an enumerator: its name is in scope
+abbrev pub with_enumerator : Context → Name → (value : ℤ) → Context
+with_enumerator c n value = record (declared c n (enumerator_name value)) { enumerators = c.enumerators + 1 }
+
+-- behind a typedef's declarator: its name is in scope; where it was before, nothing is new
+abbrev pub with_alias : Context → Name → Ty → Context
+with_alias c n t = record (declared c n (type_name t)) { aliases = if is_double c n then c.aliases else c.aliases + 1 }
 
 -- a struct is declared with these members
 abbrev pub with_struct : Context → ℕ → List (List ℕ × Ty) → Context

@@ -1,20 +1,26 @@
 -- Judging declarations and statements where they stand (C11 6.7, 6.8).
-use Rattle.std.specs.Prelude.{ℕ, Bool, true, false, not, if◌then◌else◌, List, [], ◌∷◌, ◌++◌, length, Option, Some, None, pos}
+use Rattle.std.specs.Prelude.{ℕ, Bool, true, false, ◌||◌, not, if◌then◌else◌, List, [], ◌∷◌, ◌++◌, length, Option, Some, None, ℤ, pos}
+use Rattle.std.specs.Ordering.{int_eq}
+use Rattle.ak_words.specs.declared.int_type.IntType.{IntType}
+use Rattle.ak_words.specs.declared.number.Num.{Num}
 use Rattle.ak_words.specs.declared.operation.Op.{Op}
 use Rattle.ak_words.specs.declared.operation.Op.TheVariants as ops
-use Rattle.ak_words.specs.IntType.{int}
-use Rattle.c_lex.specs.declared.refusal.Kind.TheVariants.{TypeMismatch, NotAnLvalue, BadSize}
+use Rattle.ak_words.specs.IntType.{int, promoted_type}
+use Rattle.ak_words.specs.Num.{num as number}
+use Rattle.c_lex.specs.declared.refusal.Kind.TheVariants.{DoubleName, TypeMismatch, NotAnLvalue, BadSize}
 use Rattle.c_tree.specs.declared.syntax.Name.{Name}
 use Rattle.c_tree.specs.declared.syntax.StepOp.{StepOp}
 use Rattle.c_tree.specs.declared.syntax.StepOp.TheVariants as steps
 use Rattle.c_tree.specs.declared.syntax.AssignOp.{AssignOp}
 use Rattle.c_tree.specs.declared.syntax.AssignOp.TheVariants as assigns
 use Rattle.c_tree.specs.Syntax as source
-use Rattle.c_tree.specs.Typed.{Ty, integer, pointer, Expr, at, num, type_of, node_of, place_of, Stmt, at_stmt, StmtNode, block, declare, if_, if_else, while_, for_, break_, continue_, return_, assign, update, evaluate, empty, stmts_of}
+use Rattle.c_tree.specs.Typed.{Ty, integer, pointer, Expr, at, num, type_of, node_of, place_of, Stmt, at_stmt, StmtNode, block, declare, if_, if_else, while_, for_, do_while, switch, Label, case_at, default_at, break_, continue_, return_, assign, update, evaluate, empty, stmts_of}
+use Rattle.c_tree.specs.TypedForm.{Jumps, in_loop, in_switch}
 use Rattle.c_typing.specs.Faults.{Judged, typed, faulty, refuse, unless, both, ◌>>=◌}
 use Rattle.c_typing.specs.Types.{is_void, is_array, is_scalar, has_size, is_declared}
 use Rattle.c_typing.specs.Scope.{Context, local_name, fresh, declared, inside, back_to, within}
-use Rattle.c_typing.specs.Rules.{value_of, fitted, or_mismatch, tested, is_lvalue}
+use Rattle.c_typing.specs.Constants.{constant_value}
+use Rattle.c_typing.specs.Rules.{value_of, converted, fitted, or_mismatch, tested, is_lvalue}
 use Rattle.c_typing.specs.Judgement.{Judging, lone, in_turn, ruled, valued, Declarator, object_declared, node_place, judged, judged_specs, judged_dims}
 
 -- ---- assignments (6.5.16, 6.5.2.4, 6.5.3.1)
@@ -166,9 +172,9 @@ only (s ∷ rest) = s
 abbrev pub one_of : Judging (List Stmt) → Judging Stmt
 one_of j = ruled j (λ c ss. typed (only ss))
 
--- a break or a continue stands in a loop (6.8.6.2 p1, 6.8.6.3 p1)
-abbrev pub jump : (place : ℕ) → (in_loop : Bool) → StmtNode → Judged (List Stmt)
-jump place in_loop node = unless place TypeMismatch in_loop >>= λ u. typed (at_stmt place node ∷ [])
+-- a break stands in a loop or a switch, and a continue in a loop (6.8.6.2 p1, 6.8.6.3 p1)
+abbrev pub jump : (place : ℕ) → (may : Bool) → StmtNode → Judged (List Stmt)
+jump place may node = unless place TypeMismatch may >>= λ u. typed (at_stmt place node ∷ [])
 
 -- a return without a value, in a function that returns none (6.8.6.4 p1)
 abbrev pub returned_none : (place : ℕ) → Ty → Judged Stmt
@@ -220,30 +226,135 @@ for_of place first test step body =
 abbrev pub looped : (place : ℕ) → Judging (List Stmt) → Judging (Option Expr) → Judging Stmt → Judging Stmt → Judging Stmt
 looped place first test step body = scoped (for_of place first test step body)
 
--- a statement, in a function of this result, in a loop or not; and the items of a body: a declaration may give several
+-- ---- switches (6.8.4.2)
+
+-- the expression of a switch, at the word: a number, promoted (p1, p5)
+abbrev pub switched_by : (place : ℕ) → Ty → Expr → Judged Expr
+switched_by place (integer t) x = typed (converted t (promoted_type t) x)
+switched_by place t x = refuse place TypeMismatch
+
+-- the expression of a switch
+abbrev pub switched : (place : ℕ) → source.Expr → Judging Expr
+switched place e = ruled (valued (judged e)) (λ c x. switched_by place (type_of x) x)
+
+-- the type of a switch's values, or int where its expression is at fault: its labels' values are then nowhere seen
+abbrev pub type_of_switch : Judged Expr → IntType
+type_of_switch (typed (at place (integer t) node)) = t
+type_of_switch j = int
+
+-- what stands between the braces: the labels, and the statements behind which they count
+pub record Entries : Type 0 where
+  pub labels : List Label
+  pub body : List Stmt
+
+-- before the first label and the first statement
+abbrev pub no_entries : Entries
+no_entries = record { labels = []; body = [] }
+
+-- a label of this value stands before
+abbrev pub has_value : ℤ → List Label → Bool
+has_value z [] = false
+has_value z (case_at t value n ∷ rest) = int_eq value z || has_value z rest
+has_value z (default_at n ∷ rest) = has_value z rest
+
+-- a default stands before
+abbrev pub has_default : List Label → Bool
+has_default [] = false
+has_default (case_at t value n ∷ rest) = has_default rest
+has_default (default_at n ∷ rest) = true
+
+-- 1,024 labels of one switch at most
+abbrev pub most_labels : ℕ
+most_labels = 1024
+
+-- one label more, at the statement that comes next
+abbrev pub with_label : Entries → Label → Entries
+with_label es l = record { labels = es.labels ++ l ∷ []; body = es.body }
+
+-- one statement more
+abbrev pub with_stmt : Entries → Stmt → Entries
+with_stmt es s = record { labels = es.labels; body = es.body ++ s ∷ [] }
+
+-- a label at its word: it differs from those before it, and is not too many (p3)
+abbrev pub label_fine : (place : ℕ) → (again : Bool) → List Label → Judged (Unit {0})
+label_fine place again before = both (unless place DoubleName (not again)) (within place 13 most_labels (length before)) >>= λ u. typed tt
+
+-- the value of a label in a switch of this type: an integer constant expression, converted (p3, p5)
+abbrev pub label_value : (place : ℕ) → IntType → Option Num → Judged ℤ
+label_value place t None = refuse place TypeMismatch
+label_value place t (Some n) = typed (number t n.value).value
+
+-- a case at its word
+abbrev pub cased : (place : ℕ) → IntType → Entries → Option Num → Judged Entries
+cased place t es n =
+    label_value place t n >>= λ z. label_fine place (has_value z es.labels) es.labels >>= λ u. typed (with_label es (case_at t z (length es.body)))
+
+-- a default at its word
+abbrev pub defaulted : (place : ℕ) → Entries → Judged Entries
+defaulted place es = label_fine place (has_default es.labels) es.labels >>= λ u. typed (with_label es (default_at (length es.body)))
+
+-- the entries up to here, or none where one is at fault: those behind are then nowhere seen
+abbrev pub entries_or : Judged Entries → Entries
+entries_or (typed es) = es
+entries_or (faulty r rs) = no_entries
+
+-- an entry, and then those behind it, which stand behind what it leaves
+abbrev pub entry_then : Judging Entries → (Entries → Judging Entries) → Judging Entries
+entry_then first rest c =
+    let x = first c in
+    let y = rest (entries_or x.0) x.1 in
+    (both x.0 y.0 >>= λ p. typed p.1, y.1)
+
+-- an entry of a switch of this type, behind these: a label, or a statement, as it is judged
+abbrev pub entry_of : IntType → Entries → source.Stmt → Judging (List Stmt) → Judging Entries
+entry_of t es (source.case_label place e) one c = ruled (valued (judged e)) (λ d x. cased place t es (constant_value d e x)) c
+entry_of t es (source.default_label place) one c = (defaulted place es, c)
+entry_of t es s one c = ruled (one_of one) (λ d x. typed (with_stmt es x)) c
+
+-- a switch: its expression, and what stands between its braces, by the type of that
+abbrev pub switching : (place : ℕ) → Judging Expr → (IntType → Judging Entries) → Judging (List Stmt)
+switching place e entries around =
+    let x = e around in
+    let y = entries (type_of_switch x.0) x.1 in
+    (both x.0 y.0 >>= λ p. typed (at_stmt place (switch p.0 p.1.labels (stmts_of p.1.body)) ∷ []), y.1)
+
+-- a statement, in a function of this result, where these jumps may stand; and the items of a body: a declaration may give several
 abbrev mutual
   -- a statement where it stands: what it makes, which for a declaration is one statement for each declarator
-  pub judged_stmt : (result : Ty) → (in_loop : Bool) → source.Stmt → Judging (List Stmt)
-  judged_stmt result in_loop (source.block place items) c =
-      ruled (scoped (judged_stmts result in_loop items)) (λ d ss. typed (at_stmt place (block (stmts_of ss)) ∷ [])) c
-  judged_stmt result in_loop (source.declare d) c = judged_declaration d c
-  judged_stmt result in_loop (source.empty place) c = (typed (at_stmt place empty ∷ []), c)
-  judged_stmt result in_loop (source.if_then place e s) c =
-      ruled (in_turn (condition place e) (one_of (judged_stmt result in_loop s))) (λ d p. typed (at_stmt place (if_ p.0 p.1) ∷ [])) c
-  judged_stmt result in_loop (source.if_else place e s t) c =
-      ruled (in_turn (condition place e) (in_turn (one_of (judged_stmt result in_loop s)) (one_of (judged_stmt result in_loop t))))
+  pub judged_stmt : (result : Ty) → Jumps → source.Stmt → Judging (List Stmt)
+  judged_stmt result j (source.block place items) c =
+      ruled (scoped (judged_stmts result j items)) (λ d ss. typed (at_stmt place (block (stmts_of ss)) ∷ [])) c
+  judged_stmt result j (source.declare d) c = judged_declaration d c
+  judged_stmt result j (source.empty place) c = (typed (at_stmt place empty ∷ []), c)
+  judged_stmt result j (source.if_then place e s) c =
+      ruled (in_turn (condition place e) (one_of (judged_stmt result j s))) (λ d p. typed (at_stmt place (if_ p.0 p.1) ∷ [])) c
+  judged_stmt result j (source.if_else place e s t) c =
+      ruled (in_turn (condition place e) (in_turn (one_of (judged_stmt result j s)) (one_of (judged_stmt result j t))))
       (λ d p. typed (at_stmt place (if_else p.0 p.1.0 p.1.1) ∷ [])) c
-  judged_stmt result in_loop (source.while place e s) c =
-      ruled (in_turn (condition place e) (one_of (judged_stmt result true s))) (λ d p. typed (at_stmt place (while_ p.0 p.1) ∷ [])) c
-  judged_stmt result in_loop (source.for place first e step s) c =
-      ruled (looped place (judged_first place first) (judged_condition place e) (judged_step place step) (one_of (judged_stmt result true s))) (λ d x. typed (x ∷ [])) c
-  judged_stmt result in_loop (source.break place) c = (jump place in_loop break_, c)
-  judged_stmt result in_loop (source.continue place) c = (jump place in_loop continue_, c)
-  judged_stmt result in_loop (source.return place value) c = ruled (returned place result value) (λ d x. typed (x ∷ [])) c
-  judged_stmt result in_loop (source.simple s) c = ruled (judged_simple s) (λ d x. typed (x ∷ [])) c
+  judged_stmt result j (source.while place e s) c =
+      ruled (in_turn (condition place e) (one_of (judged_stmt result in_loop s))) (λ d p. typed (at_stmt place (while_ p.0 p.1) ∷ [])) c
+  judged_stmt result j (source.for place first e step s) c =
+      ruled (looped place (judged_first place first) (judged_condition place e) (judged_step place step) (one_of (judged_stmt result in_loop s))) (λ d x. typed (x ∷ [])) c
+  judged_stmt result j (source.do_while place s e) c =
+      ruled (in_turn (one_of (judged_stmt result in_loop s)) (condition place e)) (λ d p. typed (at_stmt place (do_while p.0 p.1) ∷ [])) c
+  judged_stmt result j (source.switch place e entries) c =
+      switching place (switched place e) (λ t. judged_entries result (in_switch j) t no_entries entries) c
+  -- (a label stands directly in the braces of a switch, where the grammar has it)
+  judged_stmt result j (source.case_label place e) c = (refuse place TypeMismatch, c)
+  judged_stmt result j (source.default_label place) c = (refuse place TypeMismatch, c)
+  judged_stmt result j (source.break place) c = (jump place j.breaks break_, c)
+  judged_stmt result j (source.continue place) c = (jump place j.continues continue_, c)
+  judged_stmt result j (source.return place value) c = ruled (returned place result value) (λ d x. typed (x ∷ [])) c
+  judged_stmt result j (source.simple s) c = ruled (judged_simple s) (λ d x. typed (x ∷ [])) c
 
   -- the items of a body, from first to last
-  pub judged_stmts : (result : Ty) → (in_loop : Bool) → source.Stmts → Judging (List Stmt)
-  judged_stmts result in_loop source.no_stmts c = (typed [], c)
-  judged_stmts result in_loop (source.more_stmts s rest) c =
-      ruled (in_turn (judged_stmt result in_loop s) (judged_stmts result in_loop rest)) (λ d p. typed (p.0 ++ p.1)) c
+  pub judged_stmts : (result : Ty) → Jumps → source.Stmts → Judging (List Stmt)
+  judged_stmts result j source.no_stmts c = (typed [], c)
+  judged_stmts result j (source.more_stmts s rest) c =
+      ruled (in_turn (judged_stmt result j s) (judged_stmts result j rest)) (λ d p. typed (p.0 ++ p.1)) c
+
+  -- what stands between the braces of a switch of this type, behind these labels and statements
+  pub judged_entries : (result : Ty) → Jumps → IntType → Entries → source.Stmts → Judging Entries
+  judged_entries result j t es source.no_stmts c = (typed es, c)
+  judged_entries result j t es (source.more_stmts s rest) c =
+      entry_then (entry_of t es s (judged_stmt result j s)) (λ next. judged_entries result j t next rest) c

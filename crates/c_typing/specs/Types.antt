@@ -170,6 +170,19 @@ behind_pointers t (pointers.Star ∷ ps) = behind_pointers (pointer t) ps
 behind_pointers t (pointers.Const ∷ ps) = behind_pointers t ps
 behind_pointers t (pointers.Restrict ∷ ps) = behind_pointers t ps
 
+-- how many stars and brackets made a type, those behind the names of types in it counted
+abbrev pub depth_of : Ty → ℕ
+depth_of void = 0
+depth_of (integer t) = 0
+depth_of mutex = 0
+depth_of (pointer t) = 1 + depth_of t
+depth_of (array t n) = 1 + depth_of t
+depth_of (structure n) = 0
+
+-- stars and dimensions of one declarator or type name, with all those behind the name of its type
+abbrev pub most_depth : ℕ
+most_depth = 64
+
 -- arrays of these sizes, the outermost first
 abbrev pub arrays_of : Ty → List ℕ → Ty
 arrays_of t [] = t
