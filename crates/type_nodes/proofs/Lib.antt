@@ -7,3 +7,4 @@ pub mod Braces
 pub mod Arguments
 pub mod Formatting
 pub mod Mutexes
+pub mod Enums

@@ -8,7 +8,7 @@ ghost use Rattle.c_tree.specs.SyntaxViews as source;
 ghost use Rattle.c_tree.specs.Typed.{Ty, structure};
 ghost use Rattle.c_tree.specs.TypedViews.{type_view, boxed_expr_view};
 ghost use Rattle.c_typing.specs.Faults as faults;
-ghost use Rattle.c_typing.specs.Faults.{Judged, Gives};
+ghost use Rattle.c_typing.specs.Faults.{Judged, Gives, ◌>>=◌};
 ghost use Rattle.c_typing.specs.Types.{behind_pointers};
 ghost use Rattle.c_typing.specs.Scope as scopes;
 ghost use Rattle.c_typing.specs.Scope.{bytes_of, with_new_struct, with_tag, tag_number};
@@ -70,14 +70,22 @@ pub fn opened(context: &Context<'_>, tag: Name, number: u32) -> Result<(), Refus
     both_fine(once, others)
 }
 
+// A struct of this number, if nothing is wrong with its tag.
+#[tactic(auto, using(type_context::proofs::Judging::refused_part))]
+fn struct_if(fine: Result<(), Refusal>, number: u32) -> Result<Part, Refusal>
+    ensures { (j : Judged (Unit {0})) → Says (λ _. tt) fine j → Says part_view result (j >>= λ u. faults.typed (whole (structure number))) }
+{
+    fine?;
+    Ok(Part::Whole(CType::Struct(number)))
+}
+
 /// A struct by its tag; one that wasn't named before isn't declared.
 pub fn tagged(context: &mut Context<'_>, tag: Name) -> Result<Part, CompileFault>
     ensures { Tells part_view result context.new (tagged tag (context_view context.old)) }
 {
     let fine = is_no_enum(context, tag);
     let number = named_tag(context, tag)?;
-    as_fault(fine)?;
-    Ok(Part::Whole(CType::Struct(number)))
+    as_fault(struct_if(fine, number))
 }
 
 /// A struct without a tag; its number.
