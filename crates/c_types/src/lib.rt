@@ -6,6 +6,7 @@
 pub mod declarations;
 pub mod declarators;
 mod definitions;
+mod enums;
 pub mod expressions;
 pub mod files;
 mod globals;
