@@ -16,5 +16,6 @@ mod parameters;
 mod parts;
 mod simples;
 pub mod statements;
+mod switches;
 
 pub use files::check;
