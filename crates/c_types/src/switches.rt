@@ -1,5 +1,5 @@
 //! Switches: their expressions, and the labels and statements between their braces (C11 6.8.4.2).
-ghost use Rattle.std.specs.Prelude.{◌≡◌, [], length, map, IfOk, IfErr, OnOk};
+ghost use Rattle.std.specs.Prelude.{◌≡◌, false, length, IfErr, OnOk};
 ghost use Rattle.c_lex.specs.declared.refusal.CompileFault.TheVariants.{NoMemory};
 ghost use Rattle.c_tree.specs.TypedForm as forms;
 ghost use Rattle.c_tree.specs.Typed.{type_of, Expr as TypedExpr};
@@ -8,10 +8,10 @@ ghost use Rattle.c_typing.specs.Faults as faults;
 ghost use Rattle.c_typing.specs.Faults.{Judged, Gives, ◌>>=◌};
 ghost use Rattle.c_typing.specs.Statements as rules;
 ghost use Rattle.c_typing.specs.Statements.{switched_by, type_of_switch, has_value, has_default, label_fine, label_value, cased, defaulted, with_stmt, no_entries};
-ghost use Rattle.type_context.specs.Telling.{Says};
+ghost use Rattle.type_context.specs.Telling.{Says, lacks_memory};
 ghost use Rattle.c_types.specs.inner.Switches.{jumps_view, entries_view, value_view};
 
-use ak_words::{IntType, Num, promoted_type};
+use ak_words::{IntType, Num, promote};
 use c_lex::{CompileFault, Kind, Refusal};
 use c_tree::typed::{CType, Expr, Label, Stmt};
 use std::alloc::Global;
@@ -173,7 +173,7 @@ pub(crate) fn switched_by(
     ensures { Gives boxed_expr_view result (switched_by place (type_of (boxed_expr_view e)) (boxed_expr_view e)) }
 {
     match e.ty {
-        CType::Int(t) => converted(alloc, t, promoted_type(t), e),
+        CType::Int(t) => converted(alloc, t, promote(t), e),
         _ => refused(place, Kind::TypeMismatch),
     }
 }
@@ -181,7 +181,7 @@ pub(crate) fn switched_by(
 /// The type of a switch's values, or int where its expression is at fault: its labels' values are
 /// then nowhere seen.
 pub(crate) fn type_of_switch(e: &Result<Box<Expr>, CompileFault>) -> IntType
-    ensures { (j : Judged TypedExpr) → Gives boxed_expr_view e.now j → OnOk e.now (result ≡ type_of_switch j) }
+    ensures { (j : Judged TypedExpr) → lacks_memory e.now ≡ false → Gives boxed_expr_view e.now j → result ≡ type_of_switch j }
 {
     match e {
         Ok(e) => match e.ty {

@@ -8,3 +8,4 @@ pub mod Arguments
 pub mod Formatting
 pub mod Mutexes
 pub mod Enums
+pub mod EnumRows
