@@ -9,15 +9,15 @@ ghost use Rattle.c_typing.specs.Faults.{Judged, Gives, ◌>>=◌};
 ghost use Rattle.c_typing.specs.Statements as rules;
 ghost use Rattle.c_typing.specs.Statements.{switched_by, type_of_switch, has_value, has_default, label_fine, label_value, cased, defaulted, with_stmt, no_entries};
 ghost use Rattle.type_context.specs.Telling.{Says, lacks_memory};
-ghost use Rattle.c_types.specs.inner.Switches.{jumps_view, entries_view, value_view};
+ghost use Rattle.c_types.specs.inner.Switches.{jumps_view, entries_view, value_view, IsFaultMore};
 
 use ak_words::{IntType, Num, promote};
 use c_lex::{CompileFault, Kind, Refusal};
 use c_tree::typed::{CType, Expr, Label, Stmt};
 use std::alloc::Global;
 use type_context::context::{count, within};
-use type_context::faults::{as_fault, refused, unless};
-use type_context::outcomes::both_fine;
+use type_context::faults::{as_fault, both, refused, unless};
+use type_context::outcomes;
 use type_rules::conversions::converted;
 
 /// The labels of one switch, of which there are so many at most.
@@ -105,7 +105,7 @@ impl Entries {
         ensures { Says (λ _. tt) result (label_fine place again (entries_view self.now).labels) }
     {
         let once = unless(place, Kind::DoubleName, !again);
-        both_fine(once, within(place, 13, MOST_LABELS, self.labels.len()))
+        outcomes::both_fine(once, within(place, 13, MOST_LABELS, self.labels.len()))
     }
 
     // One label more, at the statement that comes next.
@@ -190,4 +190,16 @@ pub(crate) fn type_of_switch(e: &Result<Box<Expr>, CompileFault>) -> IntType
         },
         Err(_) => IntType::int(),
     }
+}
+
+/// A fault more, of which the one that comes first is named.
+pub(crate) fn one_fault_more(
+    fine: Result<(), CompileFault>,
+    fault: CompileFault,
+) -> Result<(), CompileFault>
+    ensures { IsFaultMore fine fault result }
+{
+    let fault: Result<(), CompileFault> = Err(fault);
+    both(fine, fault)?;
+    Ok(())
 }

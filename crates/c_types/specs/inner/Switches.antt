@@ -1,5 +1,7 @@
 -- What the code has of a switch: where jumps may stand, and what stands between its braces so far.
-use Rattle.std.specs.Prelude.{map, ℤ}
+use Rattle.std.specs.Prelude.{◌≡◌, map, ℤ, Result, Ok, Err}
+use Rattle.c_lex.specs.declared.refusal.CompileFault.{CompileFault}
+use Rattle.type_context.specs.inner.Outcomes.{joined}
 use Rattle.ak_words.specs.declared.int_type.IntType.{IntType}
 use Rattle.ak_words.specs.declared.number.Num.{Num}
 use Rattle.c_tree.specs.TypedForm as forms
@@ -19,3 +21,8 @@ entries_view es = record { labels = map label_view es.labels.items; body = map s
 -- the value of a label, which has the type of its switch
 abbrev pub value_view : Num → IntType × ℤ
 value_view n = (n.ty, n.value)
+
+-- what is at fault is at one fault more, and of two the one that comes first is named
+abbrev pub IsFaultMore : Result (Unit {0}) CompileFault → CompileFault → Result (Unit {0}) CompileFault → Type 0
+IsFaultMore fine fault (Ok u) = ⊥
+IsFaultMore fine fault (Err e) = Err e ≡ joined {A = Unit {0}} {B = Unit {0}} fine (Err fault)
