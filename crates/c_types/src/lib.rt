@@ -17,5 +17,6 @@ mod parts;
 mod simples;
 pub mod statements;
 mod switches;
+mod typedefs;
 
 pub use files::check;
