@@ -404,7 +404,7 @@ impl<'t> Context<'t> {
         ) else {
             return Ok(None);
         };
-        let Some(place) = member_place(names, self.bytes(name)) else {
+        let Some(place) = place_among(names, self.bytes(name)) else {
             return Ok(None);
         };
         match layout.types.get(place) {
@@ -446,10 +446,11 @@ fn is_there(all: &[&[u8]], bytes: &[u8]) -> bool
 }
 
 // The place of a tag among these, or how many they are where it is none of them.
+#[tactic(auto, using(crate::proofs::Tagging::place_found, crate::proofs::Tagging::place_past))]
 fn tag_among(tags: &[&[u8]], bytes: &[u8]) -> usize
     ensures { result ≡ tag_among bytes.now (bytes_view tags.now) }
 {
-    match tags.iter().position(|tag| bytes == *tag) {
+    match place_among(tags, bytes) {
         Some(n) => n,
         None => tags.len(),
     }
@@ -463,8 +464,8 @@ fn one_more(n: u32) -> Result<u32, CompileFault>
     n.checked_add(1).ok_or(CompileFault::NoMemory)
 }
 
-// The place of a name among those of a struct's members.
-fn member_place(names: &[&[u8]], bytes: &[u8]) -> Option<usize>
+// The place of bytes among these: tags, or the names of a struct's members.
+fn place_among(names: &[&[u8]], bytes: &[u8]) -> Option<usize>
     ensures { result ≡ member_among 0 bytes.now (bytes_view names.now) }
 {
     'names: for (place, name) in names.iter().enumerate() {
