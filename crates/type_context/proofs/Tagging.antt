@@ -1,6 +1,7 @@
 -- The numbers of tags, and what is among them.
 use Rattle.std.proofs.Common.{◌≡◌, ℕ, ◌+◌, Bool, true, false, ◌||◌, List, [], ◌∷◌, Some, None, Bor, length, refl, ap, if◌then◌else◌, arith}
 use Rattle.std.proofs.lemmas.List.{length-map}
+use Rattle.std.specs.Prelude.{is_some}
 use Rattle.std.specs.List.{list_any}
 use Rattle.std.specs.Str.{bytes_eq}
 use Rattle.c_typing.specs.Scope.{tag_among, member_among}
@@ -34,3 +35,15 @@ place_past q tags h = omega (arith, none_behind 0 q (bytes_view tags) h, length-
 pub any_view : (q : List ℕ) (ks : List (Bor (List ℕ))) → list_any (λ k. bytes_eq q k.now) ks ≡ list_any (bytes_eq q) (bytes_view ks)
 any_view q [] = refl
 any_view q (k ∷ ks) = ap (λ b. bytes_eq q k.now || b) (any_view q ks)
+
+-- what has a place among these is one of them
+some_there : (k : ℕ) (q : List ℕ) (tags : List (List ℕ)) → is_some (member_among k q tags) ≡ list_any (bytes_eq q) tags
+some_there k q [] = refl
+some_there k q (tag ∷ tags) = by (bytes_eq q tag) (some_there (k + 1) q tags)
+  where
+    by : (b : Bool) → is_some (member_among (k + 1) q tags) ≡ list_any (bytes_eq q) tags → is_some (if b then Some k else member_among (k + 1) q tags) ≡ (b || list_any (bytes_eq q) tags)
+    by true h = refl
+    by false h = h
+
+pub found_there : (q : List ℕ) (tags : List (List ℕ)) → is_some (member_among 0 q tags) ≡ list_any (bytes_eq q) tags
+found_there q tags = some_there 0 q tags

@@ -438,11 +438,11 @@ fn put<T: Drop>(all: &mut Vec<T>, number: u32, x: T)
 }
 
 // Whether the bytes are among these.
-#[tactic(auto, using(crate::proofs::Tagging::any_view))]
+#[tactic(auto, using(crate::proofs::Tagging::found_there))]
 fn is_there(all: &[&[u8]], bytes: &[u8]) -> bool
     ensures { result ≡ list_any (bytes_eq bytes.now) (bytes_view all.now) }
 {
-    all.iter().any(|other| bytes == *other)
+    place_among(all, bytes).is_some()
 }
 
 // The place of a tag among these, or how many they are where it is none of them.
