@@ -1,4 +1,4 @@
 pub mod Defining
 mod ParamLaws
 mod HeadLaws
-pub mod Aliases
+pub mod TypeNames

@@ -7,5 +7,5 @@ pub mod Braces
 pub mod Arguments
 pub mod Formatting
 pub mod Mutexes
-pub mod Enums
+pub mod EnumLists
 pub mod EnumRows

@@ -2,7 +2,7 @@ use Rattle.c_typing.specs.Programs.{alias_fine}
 use Rattle.type_context.specs.ContextViews.{context_view}
 use Rattle.type_context.proofs.Judging.{fault_gives}
 use Rattle.type_declared.specs.AliasFits.{alias_agrees}
-use Rattle.type_declared.proofs.Aliases.{name_type_tells}
+use Rattle.type_declared.proofs.TypeNames.{name_type_tells}
 use Rattle.type_declared.proofs.aliases.name_type.Goals as goal
 
 pub returns : goal.returns

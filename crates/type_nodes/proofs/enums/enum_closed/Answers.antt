@@ -1,4 +1,4 @@
-use Rattle.type_nodes.proofs.Enums.{enum_closed_tells}
+use Rattle.type_nodes.proofs.EnumLists.{enum_closed_tells}
 use Rattle.type_nodes.proofs.enums.enum_closed.Goals as goal
 
 pub returns : goal.returns

@@ -1,5 +1,5 @@
 use Rattle.type_context.proofs.Judging.{fault_gives}
-use Rattle.type_nodes.proofs.Enums.{enumerated_tells}
+use Rattle.type_nodes.proofs.EnumLists.{enumerated_tells}
 use Rattle.type_nodes.proofs.enums.enumerated.Goals as goal
 
 pub returns : goal.returns

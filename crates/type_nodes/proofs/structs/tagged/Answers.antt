@@ -2,7 +2,7 @@ use Rattle.c_typing.specs.Judgement.{is_no_enum}
 use Rattle.type_context.specs.ContextViews.{context_view}
 use Rattle.type_rules.specs.SpecifierViews.{part_view}
 use Rattle.type_context.proofs.Judging.{fault_gives}
-use Rattle.type_nodes.proofs.Enums.{tagged_tells}
+use Rattle.type_nodes.proofs.EnumLists.{tagged_tells}
 use Rattle.type_nodes.proofs.structs.tagged.Goals as goal
 
 pub returns : goal.returns

@@ -26,7 +26,7 @@ renumber_stmt-returns-in_ok-renumber-in-Switch t c =
     let same = c.deref_mut-in-Switch.ensures.value ∙ ap (λ (v : Vec Stmt). v.items) c.in-Switch.body-is in
     let told = c.in_ok-renumber-in-Switch.ensures ∙ ap (λ (x : Expr). renumbered f (expr_view x)) c.in-Switch.e-is in
     on_ok_weaker c.statements-in-Switch.result
-    (λ h. ap (λ k. at_stmt c.args.s.now.place (stmt_node_view k)) {y = stmt_views.Switch c.renumber-in-Switch.new.e c.in-Switch.field-1 (with_items c.in-Switch.body c.statements-in-Switch.new.all)} (search (rules, stmt_views.the_lemmas, c.in-Switch.is))
+    (λ h. ap (λ k. at_stmt c.args.s.now.place (stmt_node_view k)) {x = stmt_views.Switch c.renumber-in-Switch.new.e _ (with_items _ c.statements-in-Switch.new.all)} {y = stmt_views.Switch c.renumber-in-Switch.new.e c.in-Switch.field-1 (with_items c.in-Switch.body c.statements-in-Switch.new.all)} (search (rules, stmt_views.the_lemmas, c.in-Switch.is))
     ∙ switch_renumbered f c.args.s.now c.in-Switch.e c.renumber-in-Switch.new.e c.in-Switch.field-1 c.in-Switch.body c.deref_mut-in-Switch.result.now c.statements-in-Switch.new.all c.in-Switch.is told same
     (omega (arith, c.statements-in-Switch.auto.all, ap length same, c.in-Switch.body.ok.0)) h)
     c.statements-in-Switch.ensures
