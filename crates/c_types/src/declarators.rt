@@ -37,12 +37,7 @@ pub fn type_name(context: &mut Context<'_>, t: &tree::TypeName) -> Result<CType,
     ensures { Tells type_view result context.new (judged_type (source.type_name_view t.now) (context_view context.old)) }
 {
     let named = specifiers(context, &t.specs);
-    pointers_to(
-        context.alloc,
-        place_of_specs(&t.specs),
-        named,
-        &t.pointers,
-    )
+    pointers_to(context.alloc, place_of_specs(&t.specs), named, &t.pointers)
 }
 
 /// The type that specifiers name, at the place of the first (C11 6.7.2).

@@ -18,8 +18,7 @@ use c_tree::syntax::Name;
 use type_context::context::Context;
 use type_context::faults::{as_fault, both};
 use type_nodes::enums::{
-    enum_closed, enum_opened, enumerated, enumerator_value, given_value, unnamed_enum,
-    value_behind,
+    enum_closed, enum_opened, enumerated, enumerator_value, given_value, unnamed_enum, value_behind,
 };
 use type_rules::specifiers::Part;
 

@@ -295,12 +295,7 @@ fn stmt(
         tree::Stmt::Case { place, .. } | tree::Stmt::Default { place } => {
             refused(*place, Kind::TypeMismatch)
         }
-        tree::Stmt::Break { place } => jump(
-            context.alloc,
-            *place,
-            jumps.breaks,
-            StmtNode::Break,
-        ),
+        tree::Stmt::Break { place } => jump(context.alloc, *place, jumps.breaks, StmtNode::Break),
         tree::Stmt::Continue { place } => jump(
             context.alloc,
             *place,

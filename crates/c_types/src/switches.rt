@@ -5,11 +5,11 @@ ghost use Rattle.c_tree.specs.TypedForm as forms;
 ghost use Rattle.c_tree.specs.Typed.{type_of, Expr as TypedExpr};
 ghost use Rattle.c_tree.specs.TypedViews.{boxed_expr_view, stmt_view, label_view};
 ghost use Rattle.c_typing.specs.Faults as faults;
-ghost use Rattle.c_typing.specs.Faults.{Judged, Gives, ◌>>=◌};
+ghost use Rattle.c_typing.specs.Faults.{Judged, Gives};
 ghost use Rattle.c_typing.specs.Statements as rules;
 ghost use Rattle.c_typing.specs.Statements.{switched_by, type_of_switch, has_value, has_default, label_fine, label_value, cased, defaulted, with_stmt, no_entries};
 ghost use Rattle.type_context.specs.Telling.{Says, lacks_memory};
-ghost use Rattle.c_types.specs.inner.Switches.{jumps_view, entries_view, value_view, IsFaultMore};
+ghost use Rattle.c_types.specs.inner.Switches.{jumps_view, entries_view, value_view, typed_value, IsFaultMore};
 
 use ak_words::{IntType, Num, promote};
 use c_lex::{CompileFault, Kind, Refusal};
@@ -153,7 +153,7 @@ impl Entries {
 
 // The value of a label: an integer constant expression, converted to the type of its switch.
 fn label_value(place: u32, t: IntType, value: Option<Num>) -> Result<Num, Refusal>
-    ensures { Says value_view result (label_value place t value >>= λ z. faults.typed (t, z)) }
+    ensures { Says value_view result (typed_value t (label_value place t value)) }
 {
     match value {
         Some(n) => Ok(Num::wrapping(t, n.value)),

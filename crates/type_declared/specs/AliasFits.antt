@@ -6,6 +6,10 @@ use Rattle.c_typing.specs.Scope.{Context, with_alias}
 use Rattle.c_typing.specs.Statements.{or_int}
 use Rattle.c_typing.specs.Programs.{before_name, same_alias, alias_fine}
 
+-- that a part is fine, without what it is
+abbrev pub fine_of : {A : Type 0} → Judged A → Judged (Unit {0})
+fine_of j = j >>= λ x. typed tt
+
 -- a type agrees with what the name meant before
 abbrev pub alias_agrees : Context → Name → Judged Ty → Judged (Unit {0})
 alias_agrees c n j = j >>= same_alias n.from (before_name c n)

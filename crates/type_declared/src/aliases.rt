@@ -3,13 +3,13 @@ ghost use Rattle.std.specs.Prelude.{◌≡◌};
 ghost use Rattle.c_tree.specs.Typed.{Ty};
 ghost use Rattle.c_tree.specs.TypedViews.{type_view};
 ghost use Rattle.c_typing.specs.Faults as faults;
-ghost use Rattle.c_typing.specs.Faults.{Judged, Gives, ◌>>=◌};
+ghost use Rattle.c_typing.specs.Faults.{Judged, Gives};
 ghost use Rattle.c_typing.specs.Scope as scopes;
 ghost use Rattle.c_typing.specs.Programs.{alias_declared, same_alias, alias_fits, alias_fine};
 ghost use Rattle.type_context.specs.ContextViews.{context_view, seen};
 ghost use Rattle.type_context.specs.Telling.{Says, Tells};
 ghost use Rattle.type_rules.specs.SpecifierViews.{declared_view};
-ghost use Rattle.type_declared.specs.AliasFits.{alias_agrees, named_type};
+ghost use Rattle.type_declared.specs.AliasFits.{fine_of, alias_agrees, named_type};
 
 use crate::functions::{before_name, not_library};
 use crate::objects::or_int;
@@ -110,7 +110,7 @@ fn fine_both(
     fine: Result<((), ()), CompileFault>,
     agrees: Result<(), CompileFault>,
 ) -> Result<(), CompileFault>
-    ensures { (j : Judged (Unit {0} × Unit {0})) (k : Judged (Unit {0})) → Gives (λ x. x) fine j → Gives (λ _. tt) agrees k → Gives (λ _. tt) result (faults.both j k >>= λ p. faults.typed tt) }
+    ensures { (j : Judged (Unit {0} × Unit {0})) (k : Judged (Unit {0})) → Gives (λ x. x) fine j → Gives (λ _. tt) agrees k → Gives (λ _. tt) result (fine_of (faults.both j k)) }
 {
     both(fine, agrees)?;
     Ok(())

@@ -21,7 +21,9 @@ use c_tree::typed::CType;
 use indexmap::IndexMap;
 use type_context::context::{Context, count, within};
 use type_context::faults::{as_fault, unless};
-use type_context::kinds::{has_size, is_array, is_struct_or_mutex, same_int, same_type, same_types};
+use type_context::kinds::{
+    has_size, is_array, is_struct_or_mutex, same_int, same_type, same_types,
+};
 use type_context::names::{Binding, library_name};
 use type_context::outcomes::both_fine;
 use type_rules::declarators::plain_type;

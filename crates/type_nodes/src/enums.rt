@@ -5,7 +5,7 @@ ghost use Rattle.c_lex.specs.declared.refusal.CompileFault.TheVariants.{NoMemory
 ghost use Rattle.c_tree.specs.SyntaxViews as source;
 ghost use Rattle.c_tree.specs.Typed.{integer};
 ghost use Rattle.c_tree.specs.TypedViews.{boxed_expr_view};
-ghost use Rattle.c_typing.specs.Faults.{Judged, Gives, typed, both, ◌>>=◌};
+ghost use Rattle.c_typing.specs.Faults.{Judged, Gives, typed, both};
 ghost use Rattle.c_typing.specs.Scope as scopes;
 ghost use Rattle.c_typing.specs.Scope.{meaning_of, with_listed};
 ghost use Rattle.c_typing.specs.Constants.{constant_value};
@@ -15,6 +15,7 @@ ghost use Rattle.type_context.specs.inner.Outcomes.{joined};
 ghost use Rattle.type_context.specs.Telling.{Says, Tells};
 ghost use Rattle.type_rules.specs.SpecifierViews.{part_view};
 ghost use Rattle.type_nodes.specs.Nodes.{Finishes};
+ghost use Rattle.type_nodes.specs.inner.Members.{enum_part};
 
 use ak_words::{IntType, Num};
 use c_lex::{CompileFault, Kind, Refusal};
@@ -78,7 +79,7 @@ pub fn enum_closed(
     opened: Result<(), CompileFault>,
     list: Result<(), CompileFault>,
 ) -> Result<Part, CompileFault>
-    ensures { (j : Judged (Unit {0})) (p : Judged (Unit {0}) × scopes.Context) → Gives (λ _. tt) opened j → Tells (λ _. tt) list context.old p → Tells part_view result context.new (both j p.0 >>= (λ q. typed (whole (integer int))), with_listed p.1 tag) }
+    ensures { (j : Judged (Unit {0})) (p : Judged (Unit {0}) × scopes.Context) → Gives (λ _. tt) opened j → Tells (λ _. tt) list context.old p → Tells part_view result context.new (enum_part (both j p.0), with_listed p.1 tag) }
 {
     context.end_enum(tag)?;
     enum_of(opened, list)

@@ -8,7 +8,7 @@ ghost use Rattle.c_tree.specs.SyntaxViews as source;
 ghost use Rattle.c_tree.specs.Typed.{Ty, structure};
 ghost use Rattle.c_tree.specs.TypedViews.{type_view, boxed_expr_view};
 ghost use Rattle.c_typing.specs.Faults as faults;
-ghost use Rattle.c_typing.specs.Faults.{Judged, Gives, ◌>>=◌};
+ghost use Rattle.c_typing.specs.Faults.{Judged, Gives};
 ghost use Rattle.c_typing.specs.Types.{behind_pointers};
 ghost use Rattle.c_typing.specs.Scope as scopes;
 ghost use Rattle.c_typing.specs.Scope.{bytes_of, with_new_struct, with_tag, tag_number};
@@ -18,7 +18,7 @@ ghost use Rattle.type_context.specs.inner.Outcomes.{joined};
 ghost use Rattle.type_rules.specs.SpecifierViews.{numbers_view, part_view, parts_view, declared_view};
 ghost use Rattle.type_context.specs.Telling.{Tells, Says};
 ghost use Rattle.type_nodes.specs.Nodes.{Finishes, types_of_members};
-ghost use Rattle.type_nodes.specs.inner.Members.{is_fine, stands_fine};
+ghost use Rattle.type_nodes.specs.inner.Members.{is_fine, stands_fine, struct_part};
 
 use c_lex::{CompileFault, Kind, Refusal};
 use c_tree::copies::copy_type;
@@ -73,7 +73,7 @@ pub fn opened(context: &Context<'_>, tag: Name, number: u32) -> Result<(), Refus
 // A struct of this number, if nothing is wrong with its tag.
 #[tactic(auto, using(type_context::proofs::Judging::refused_part))]
 fn struct_if(fine: Result<(), Refusal>, number: u32) -> Result<Part, Refusal>
-    ensures { (j : Judged (Unit {0})) → Says (λ _. tt) fine j → Says part_view result (j >>= λ u. faults.typed (whole (structure number))) }
+    ensures { (j : Judged (Unit {0})) → Says (λ _. tt) fine j → Says part_view result (struct_part j number) }
 {
     fine?;
     Ok(Part::Whole(CType::Struct(number)))

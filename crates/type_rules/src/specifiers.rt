@@ -53,11 +53,7 @@ fn wholes_of(alloc: Global, parts: &[Part]) -> Result<Vec<CType>, AllocError>
 }
 
 // The type that types of their own and words name, if they name one.
-fn type_by(
-    alloc: Global,
-    wholes: &[CType],
-    words: &[TypeWord],
-) -> Result<Option<CType>, AllocError>
+fn type_by(alloc: Global, wholes: &[CType], words: &[TypeWord]) -> Result<Option<CType>, AllocError>
     ensures { IfOk result (λ t. option_map type_view t ≡ type_by (types_view wholes.now) words.now) }
 {
     match (wholes, words) {

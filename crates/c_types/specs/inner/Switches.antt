@@ -6,6 +6,7 @@ use Rattle.ak_words.specs.declared.int_type.IntType.{IntType}
 use Rattle.ak_words.specs.declared.number.Num.{Num}
 use Rattle.c_tree.specs.TypedForm as forms
 use Rattle.c_tree.specs.TypedViews.{stmt_view, label_view}
+use Rattle.c_typing.specs.Faults.{Judged, typed, ◌>>=◌}
 use Rattle.c_typing.specs.Statements as rules
 use Rattle.c_types.specs.declared.switches.Entries.{Entries}
 use Rattle.c_types.specs.declared.switches.Jumps.{Jumps}
@@ -21,6 +22,10 @@ entries_view es = record { labels = map label_view es.labels.items; body = map s
 -- the value of a label, which has the type of its switch
 abbrev pub value_view : Num → IntType × ℤ
 value_view n = (n.ty, n.value)
+
+-- the value of a label, with the type of its switch
+abbrev pub typed_value : IntType → Judged ℤ → Judged (IntType × ℤ)
+typed_value t j = j >>= λ z. typed (t, z)
 
 -- what is at fault is at one fault more, and of two the one that comes first is named
 abbrev pub IsFaultMore : Result (Unit {0}) CompileFault → CompileFault → Result (Unit {0}) CompileFault → Type 0
