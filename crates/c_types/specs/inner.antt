@@ -2,3 +2,4 @@ pub mod Gathering
 pub mod Parts
 pub mod Functions
 pub mod Files
+pub mod Switches

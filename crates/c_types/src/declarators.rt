@@ -6,13 +6,14 @@ ghost use Rattle.c_tree.specs.Typed.{Ty};
 ghost use Rattle.c_tree.specs.TypedViews.{type_view};
 ghost use Rattle.c_typing.specs.Faults.{Judged, Gives};
 ghost use Rattle.c_typing.specs.Judgement as rules;
-ghost use Rattle.c_typing.specs.Judgement.{judged, judged_type, judged_specs, judged_parts, judged_spec, judged_members, judged_member, judged_declarators, judged_dims, braced, names_in};
+ghost use Rattle.c_typing.specs.Judgement.{judged, judged_type, judged_specs, judged_parts, judged_spec, judged_members, judged_member, judged_declarators, judged_dims, braced, braced_alone, names_in};
 ghost use Rattle.c_typing.specs.Statements.{judged_declarator};
 ghost use Rattle.type_context.specs.ContextViews.{context_view};
 ghost use Rattle.type_rules.specs.SpecifierViews.{numbers_view, part_view, parts_view, declared_view};
 ghost use Rattle.type_context.specs.Telling.{Tells, lacks_memory};
 ghost use Rattle.type_nodes.specs.Nodes.{types_of_members};
 
+use crate::enums::{enum_braces, unnamed_list};
 use crate::expressions::value;
 use c_lex::CompileFault;
 use c_tree::syntax as tree;
@@ -21,11 +22,13 @@ use c_tree::typed::CType;
 use type_context::context::{Context, MemberType};
 use type_context::faults::as_fault;
 use type_context::outcomes::{again, appended, pushed};
+use type_nodes::enums::{aliased, enum_tagged};
 use type_nodes::structs::{
-    closed, declared, fresh_member, member_object, member_type, member_types, named_tag, opened,
-    pointers_to, size_of_dimension, type_of_parts,
+    braces_fit, closed, declared, fresh_member, member_object, member_type, member_types,
+    named_tag, opened, pointers_to, size_of_dimension, tagged, type_of_parts, unnamed_struct,
 };
 use type_rules::declarators::Declared;
+use type_rules::places::place_of_specs;
 use type_rules::specifiers::Part;
 
 /// The name of a type (C11 6.7.7).
@@ -34,7 +37,7 @@ pub fn type_name(context: &mut Context<'_>, t: &tree::TypeName) -> Result<CType,
     ensures { Tells type_view result context.new (judged_type (source.type_name_view t.now) (context_view context.old)) }
 {
     let named = specifiers(context, &t.specs);
-    pointers_to(context.alloc, named, &t.pointers)
+    pointers_to(context.alloc, place_of_specs(&t.specs), named, &t.pointers)
 }
 
 /// The type that specifiers name, at the place of the first (C11 6.7.2).
@@ -66,11 +69,13 @@ fn part(context: &mut Context<'_>, spec: &tree::Spec) -> Result<Part, CompileFau
 {
     match spec {
         tree::Spec::Word { word, .. } => Ok(Part::Word(*word)),
-        tree::Spec::Struct { tag, .. } => {
-            let number = named_tag(context, *tag)?;
-            Ok(Part::Tag(number))
-        }
+        tree::Spec::Struct { tag, .. } => tagged(context, *tag),
         tree::Spec::StructBody { tag, members, .. } => braces(context, *tag, members),
+        tree::Spec::UnnamedStruct { place, members } => unnamed_braces(context, *place, members),
+        tree::Spec::Enum { tag, .. } => as_fault(enum_tagged(context, *tag)),
+        tree::Spec::EnumBody { tag, list, .. } => enum_braces(context, *tag, list),
+        tree::Spec::UnnamedEnum { list, .. } => unnamed_list(context, list),
+        tree::Spec::Alias(name) => aliased(context, *name),
     }
 }
 
@@ -84,7 +89,23 @@ fn braces(context: &mut Context<'_>, tag: Name, all: &[tree::Member]) -> Result<
     let again = context.is_begun(number);
     context.begin(number)?;
     let members = members(context, all);
-    closed(context, tag, number, opened, again, members)
+    closed(context, tag.from, number, opened, again, members)
+}
+
+// The braces of a struct without a tag, at its word.
+#[cycle(nodes)]
+fn unnamed_braces(
+    context: &mut Context<'_>,
+    place: u32,
+    all: &[tree::Member],
+) -> Result<Part, CompileFault>
+    ensures { Tells part_view result context.new (braced_alone place (judged_members [] (trees.members_row (map source.member_view all.now))) (context_view context.old)) }
+{
+    let number = unnamed_struct(context)?;
+    let fit = as_fault(braces_fit(context, place));
+    context.begin(number)?;
+    let members = members(context, all);
+    closed(context, place, number, fit, false, members)
 }
 
 // The members of a struct.

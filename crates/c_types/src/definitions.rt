@@ -18,6 +18,7 @@ ghost use Rattle.c_types.specs.inner.Functions.{IsHead};
 use crate::outcomes::outcome;
 use crate::parameters::param_list;
 use crate::statements::stmts;
+use crate::switches::Jumps;
 use c_lex::CompileFault;
 use c_tree::syntax as tree;
 use c_tree::syntax::{Block, Name, Pointer};
@@ -85,7 +86,7 @@ fn typed_body(
     ensures { (j : Judged (List numbers.Param)) (k : Judged Ty) → Gives (each param_view) params j → Gives type_view returned k → Tells (each func_view) result context.new (judged_body j k (Some (source.body_view body.now)) (context_view context.old)) }
 {
     let t = or_int(context.alloc, &returned)?;
-    let items = stmts(context, &t, false, &body.items);
+    let items = stmts(context, &t, Jumps::in_function(), &body.items);
     let ((params, returned), items) = both(both(params, returned), items)?;
     func_made(context, &params, returned, items)
 }

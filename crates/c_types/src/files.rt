@@ -5,8 +5,9 @@ ghost use Rattle.c_tree.specs.Syntax as trees;
 ghost use Rattle.c_tree.specs.SyntaxViews as source;
 ghost use Rattle.c_tree.specs.Typed.{Ty};
 ghost use Rattle.c_tree.specs.TypedViews.{type_view, global_view, func_view, typed_view};
-ghost use Rattle.c_typing.specs.Faults.{Judged, Gives};
-ghost use Rattle.c_typing.specs.Programs.{judged_rest, judged_external, judged_externals, whole_file, judged_file};
+ghost use Rattle.c_typing.specs.Faults.{Judged, Gives, typed};
+ghost use Rattle.c_typing.specs.Judgement.{ruled};
+ghost use Rattle.c_typing.specs.Programs.{judged_aliases, judged_rest, behind_specs, no_objects, judged_external, judged_externals, whole_file, judged_file};
 ghost use Rattle.type_context.specs.ContextViews.{context_view};
 ghost use Rattle.type_context.specs.inner.Outcomes as outcomes;
 ghost use Rattle.type_declared.specs.FunctionNames.{IsDefined};
@@ -17,9 +18,12 @@ ghost use Rattle.c_types.specs.inner.Files.{made_view, IsMade};
 use crate::declarators::specifiers;
 use crate::definitions::function;
 use crate::globals::globals;
+use crate::typedefs::typedef;
 use c_lex::CompileFault;
 use c_tree::syntax as tree;
-use c_tree::syntax::{Block, External, InitDeclarator, Name, Pointer, Program, Rest};
+use c_tree::syntax::{
+    Block, Declarator, External, InitDeclarator, Name, Pointer, Program, Rest, Spec,
+};
 use c_tree::typed::{CType, Func, GlobalVar, Typed};
 use std::alloc::Global;
 use std::mem;
@@ -113,6 +117,33 @@ fn rest(
     }
 }
 
+// An external declaration that makes objects or functions.
+fn other(
+    context: &mut Context<'_>,
+    defined: &Defined<'_>,
+    specs: &[Spec],
+    x: &Rest,
+) -> Result<Made, CompileFault>
+    ensures { (names : List (List ℕ)) → IsDefined names defined.now → Tells made_view result context.new (behind_specs (map source.spec_view specs.now) (λ base. judged_rest names base (source.rest_view x.now)) (context_view context.old)) }
+{
+    let base = specifiers(context, specs);
+    let made = rest(context, defined, &base, x);
+    let (_, made) = both(base, made)?;
+    Ok(made)
+}
+
+// A typedef makes no object and no function.
+fn typedef_alone(
+    context: &mut Context<'_>,
+    specs: &[Spec],
+    declarators: &[Declarator],
+) -> Result<Made, CompileFault>
+    ensures { Tells made_view result context.new (ruled (behind_specs (map source.spec_view specs.now) (λ base. judged_aliases base (map source.declarator_view declarators.now))) (λ c u. typed no_objects) (context_view context.old)) }
+{
+    typedef(context, specs, declarators)?;
+    Ok(made_nothing(context.alloc))
+}
+
 // An external declaration.
 fn external(
     context: &mut Context<'_>,
@@ -121,10 +152,10 @@ fn external(
 ) -> Result<Made, CompileFault>
     ensures { (names : List (List ℕ)) → IsDefined names defined.now → Tells made_view result context.new (judged_external names (source.external_view x.now) (context_view context.old)) }
 {
-    let base = specifiers(context, &x.specs);
-    let made = rest(context, defined, &base, &x.rest);
-    let (_, made) = both(base, made)?;
-    Ok(made)
+    match x {
+        External::Typedef { specs, declarators } => typedef_alone(context, specs, declarators),
+        External::Other { specs, rest, .. } => other(context, defined, specs, rest),
+    }
 }
 
 // What two parts of a file make, one behind the other.

@@ -6,6 +6,7 @@
 pub mod declarations;
 pub mod declarators;
 mod definitions;
+mod enums;
 pub mod expressions;
 pub mod files;
 mod globals;
@@ -15,5 +16,7 @@ mod parameters;
 mod parts;
 mod simples;
 pub mod statements;
+mod switches;
+mod typedefs;
 
 pub use files::check;

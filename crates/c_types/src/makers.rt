@@ -1,14 +1,16 @@
 //! Statements of several parts, made (C11 6.8.2, 6.8.4, 6.8.5).
 ghost use Rattle.std.specs.Prelude.{◌≡◌, ◌∷◌, []};
 ghost use Rattle.std.specs.Option.{option_map};
-ghost use Rattle.c_tree.specs.Typed.{at_stmt, block, if_, if_else, while_, for_};
+ghost use Rattle.c_tree.specs.Typed.{at_stmt, block, if_, if_else, while_, for_, do_while, switch};
 ghost use Rattle.c_tree.specs.TypedViews.{boxed_expr_view, stmt_view, boxed_stmt_view};
 ghost use Rattle.c_typing.specs.Faults.{Gives, typed};
 ghost use Rattle.c_tree.specs.Typed as typed_trees;
 ghost use Rattle.c_typing.specs.Statements as rules;
 ghost use Rattle.type_declared.specs.Gathering.{each};
+ghost use Rattle.c_types.specs.inner.Switches.{entries_view};
 
 use crate::parts::alone;
+use crate::switches::Entries;
 use c_lex::CompileFault;
 use c_tree::typed::{Expr, Stmt, StmtNode};
 use std::alloc::Global;
@@ -51,6 +53,26 @@ fn while_true(place: u32, condition: Box<Expr>, body: Box<Stmt>) -> Stmt
     Stmt {
         place,
         node: StmtNode::While(Box::into_inner(condition), body),
+    }
+}
+
+// A `do`.
+fn do_while(place: u32, body: Box<Stmt>, condition: Box<Expr>) -> Stmt
+    ensures { stmt_view result ≡ at_stmt place (do_while (boxed_stmt_view body) (boxed_expr_view condition)) }
+{
+    Stmt {
+        place,
+        node: StmtNode::DoWhile(body, Box::into_inner(condition)),
+    }
+}
+
+// A `switch`.
+fn switch(place: u32, e: Box<Expr>, entries: Entries) -> Stmt
+    ensures { stmt_view result ≡ at_stmt place (switch (boxed_expr_view e) (entries_view entries).labels (typed_trees.stmts_of (entries_view entries).body)) }
+{
+    Stmt {
+        place,
+        node: StmtNode::Switch(Box::into_inner(e), entries.labels, entries.body),
     }
 }
 
@@ -100,6 +122,30 @@ pub(crate) fn while_made(
     ensures { Gives (each stmt_view) result (typed (at_stmt place (while_ (boxed_expr_view condition) (boxed_stmt_view body)) ∷ [])) }
 {
     alone(alloc, while_true(place, condition, body))
+}
+
+/// A `do`, in a list.
+pub(crate) fn do_made(
+    alloc: Global,
+    place: u32,
+    body: Box<Stmt>,
+    condition: Box<Expr>,
+) -> Result<Vec<Stmt>, CompileFault>
+    ensures { Gives (each stmt_view) result (typed (at_stmt place (do_while (boxed_stmt_view body) (boxed_expr_view condition)) ∷ [])) }
+{
+    alone(alloc, do_while(place, body, condition))
+}
+
+/// A `switch`, in a list.
+pub(crate) fn switch_made(
+    alloc: Global,
+    place: u32,
+    e: Box<Expr>,
+    entries: Entries,
+) -> Result<Vec<Stmt>, CompileFault>
+    ensures { Gives (each stmt_view) result (typed (at_stmt place (switch (boxed_expr_view e) (entries_view entries).labels (typed_trees.stmts_of (entries_view entries).body)) ∷ [])) }
+{
+    alone(alloc, switch(place, e, entries))
 }
 
 /// A `for`, with its header.

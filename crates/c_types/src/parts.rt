@@ -1,11 +1,13 @@
 //! The parts of statements (C11 6.8.4, 6.8.5, 6.8.6).
-ghost use Rattle.std.specs.Prelude.{◌∷◌, [], Bool, Some};
+ghost use Rattle.std.specs.Prelude.{◌∷◌, [], Some};
 ghost use Rattle.std.specs.Option.{option_map};
 ghost use Rattle.c_tree.specs.Syntax as trees;
 ghost use Rattle.c_tree.specs.SyntaxViews as source;
+ghost use Rattle.c_tree.specs.TypedForm as forms;
 ghost use Rattle.c_tree.specs.TypedViews.{type_view, boxed_expr_view, stmt_view, boxed_stmt_view, stmt_node_view};
 ghost use Rattle.c_typing.specs.Faults.{Gives, typed};
-ghost use Rattle.c_typing.specs.Judgement.{ruled};
+ghost use Rattle.c_typing.specs.Judgement.{judged, valued, ruled};
+ghost use Rattle.c_typing.specs.Constants.{constant_value};
 ghost use Rattle.c_typing.specs.Statements as rules;
 ghost use Rattle.c_typing.specs.Statements.{judged_simple, returned, returned_none, judged_first, judged_condition, judged_step, judged_stmt};
 ghost use Rattle.type_context.specs.ContextViews.{context_view};
@@ -15,6 +17,8 @@ ghost use Rattle.type_declared.specs.Gathering.{each};
 use crate::declarations::declaration;
 use crate::expressions::value;
 use crate::simples::simple;
+use crate::switches::switched_by;
+use ak_words::Num;
 use c_lex::{CompileFault, Kind, Refusal};
 use c_tree::syntax as tree;
 use c_tree::typed::{CType, Expr, Stmt, StmtNode};
@@ -24,6 +28,7 @@ use type_context::faults::{as_fault, unless};
 use type_context::kinds::is_void;
 use type_locals::headers::nothing;
 use type_rules::assignments::returned_by;
+use type_rules::constants::constant_value;
 use type_rules::conversions::tested;
 
 // One statement.
@@ -45,6 +50,29 @@ pub(crate) fn condition(
 {
     let e = value(context, e)?;
     tested(context.alloc, place, e)
+}
+
+// The expression of a switch, at the word.
+pub(crate) fn switched(
+    context: &mut Context<'_>,
+    place: u32,
+    e: &tree::Expr,
+) -> Result<Box<Expr>, CompileFault>
+    ensures { Tells boxed_expr_view result context.new (rules.switched place (source.expr_view e.now) (context_view context.old)) }
+{
+    let e = value(context, e)?;
+    switched_by(context.alloc, place, e)
+}
+
+// The value of a label's expression, if it is an integer constant expression.
+pub(crate) fn constant(
+    context: &mut Context<'_>,
+    e: &tree::Expr,
+) -> Result<Option<Num>, CompileFault>
+    ensures { Tells (λ n. n) result context.new (ruled (valued (judged (source.expr_view e.now))) (λ d x. typed (constant_value d (source.expr_view e.now) x)) (context_view context.old)) }
+{
+    let x = value(context, e)?;
+    Ok(constant_value(context, e, &x))
 }
 
 // What a function returns that returns something.
@@ -87,17 +115,17 @@ fn returned(
     }
 }
 
-// A `break` or a `continue`, which stands in a loop.
+// A `break` or a `continue`, where it may stand.
 pub(crate) fn jump(
     alloc: Global,
     place: u32,
-    in_loop: bool,
+    may: bool,
     node: StmtNode,
 ) -> Result<Vec<Stmt>, CompileFault>
-    ensures { Gives (each stmt_view) result (rules.jump place in_loop (stmt_node_view node)) }
+    ensures { Gives (each stmt_view) result (rules.jump place may (stmt_node_view node)) }
 {
     let all = alone(alloc, Stmt { place, node })?;
-    as_fault(unless(place, Kind::TypeMismatch, in_loop))?;
+    as_fault(unless(place, Kind::TypeMismatch, may))?;
     Ok(all)
 }
 
@@ -182,7 +210,7 @@ pub(crate) fn return_of(
     place: u32,
     value: &Option<tree::Expr>,
 ) -> Result<Vec<Stmt>, CompileFault>
-    ensures { (in_loop : Bool) → Tells (each stmt_view) result context.new (judged_stmt (type_view t.now) in_loop (trees.return place (option_map source.expr_view value.now)) (context_view context.old)) }
+    ensures { (j : forms.Jumps) → Tells (each stmt_view) result context.new (judged_stmt (type_view t.now) j (trees.return place (option_map source.expr_view value.now)) (context_view context.old)) }
 {
     let s = returned(context, place, t, value)?;
     alone(context.alloc, s)

@@ -6,7 +6,7 @@ use Rattle.c_lex.specs.declared.refusal.CompileFault.{CompileFault}
 use Rattle.c_lex.specs.declared.refusal.CompileFault.TheVariants.{Refused, NoMemory}
 use Rattle.c_typing.specs.Faults.{Judged, typed, faulty, Fails, Gives, ◌>>=◌, both, earlier, least}
 use Rattle.type_context.specs.inner.Outcomes.{joined}
-use Rattle.type_context.specs.Telling.{as_fault, Says}
+use Rattle.type_context.specs.Telling.{as_fault, Says, both_fine}
 
 -- what fails where there is a typed form lacks memory, and may fail anywhere
 pub fails_typed : {A B : Type 0} (y : A) (j : Judged B) (e : CompileFault) → Fails e (typed y) → Fails e j
@@ -72,3 +72,10 @@ both_typed va vb a b j k p h l q = subst (λ r. Gives (λ p. (va p.0, vb p.1)) r
 pub both_then : {A B C D E F : Type 0} (va : A → C) (vb : B → D) (ve : F → E) (a : Result A CompileFault) (b : Result B CompileFault) (j : Judged C) (k : Judged D) (f : C × D → Judged E) (p : A × B) (r : Result F CompileFault)
     → Gives va a j → Gives vb b k → joined a b ≡ Ok p → Gives ve r (f (va p.0, vb p.1)) → Gives ve r (both j k >>= f)
 both_then va vb ve a b j k f p r h l q g = subst (λ i. Gives ve r (i >>= f)) (sym (both_typed va vb a b j k p h l q)) g
+
+-- two things that are fine, and then what follows
+pub fine_then : {A : Type 0} (j k : Judged (Unit {0})) (next : Judged A) → (both j k >>= λ p. next) ≡ (both_fine j k >>= λ u. next)
+fine_then (typed u) (typed v) next = refl
+fine_then (typed u) (faulty s ss) next = refl
+fine_then (faulty r rs) (typed v) next = refl
+fine_then (faulty r rs) (faulty s ss) next = refl

@@ -6,3 +6,4 @@ pub mod Tagging
 pub mod Aligning
 pub mod Walks
 pub mod Rows
+pub mod Depths

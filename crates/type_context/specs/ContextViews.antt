@@ -11,7 +11,7 @@ use Rattle.type_context.specs.declared.names.Library.TheVariants as codes
 use Rattle.type_context.specs.declared.names.Binding.{Binding as CodeMeaning}
 use Rattle.type_context.specs.declared.names.Binding.TheVariants as meanings
 use Rattle.c_typing.specs.Scope.{Library, printf, malloc, free, memcpy, thrd_create, thrd_join, mtx_init, mtx_lock, mtx_unlock, mtx_destroy, constant}
-use Rattle.c_typing.specs.Scope.{Binding, global_name, local_name, function_name, library_name, Frame, Context}
+use Rattle.c_typing.specs.Scope.{Binding, global_name, local_name, function_name, enumerator_name, type_name, library_name, Frame, Context}
 
 -- the types that those of the code stand for
 abbrev pub types_view : List CType → List Ty
@@ -40,6 +40,8 @@ abbrev pub binding_view : CodeMeaning → Binding
 binding_view (meanings.Global n t) = global_name n (type_view t)
 binding_view (meanings.Local n t) = local_name n (type_view t)
 binding_view (meanings.Function n params result) = function_name n (types_view params.items) (type_view result)
+binding_view (meanings.Enumerator value) = enumerator_name value
+binding_view (meanings.Type t) = type_name (type_view t)
 binding_view (meanings.Library which) = library_name (library_view which)
 
 -- what was found
@@ -63,10 +65,14 @@ bytes_view bs = map (λ b. b.now) bs
 abbrev pub context_view : CodeContext → Context
 context_view c = record {
   text = c.text.now;
-  tags = bytes_view c.tags.keys;
+  tags = bytes_view c.tags.items;
   structs = map layout_view c.structs.items;
   members = map (λ m. bytes_view m.items) c.members.items;
   begun = c.begun.items;
+  enums = bytes_view c.enums.items;
+  listed = bytes_view c.listed.items;
+  enumerators = c.enumerators;
+  aliases = c.aliases;
   literals = map literal_view c.literals.items;
   plain = c.plain;
   globals = types_view c.globals.items;

@@ -1,5 +1,6 @@
 //! What stands before a node: what names and tags mean there, and what the text has shown (C11 6.2.1, 6.2.3).
 ghost use Rattle.std.specs.Prelude.{◌≡◌, ◌∷◌, ◌++◌, [], List, ℕ, ◌+◌, ◌*◌, ◌/◌, length, map, set, None, OnOk, IfOk, IfErr};
+ghost use Rattle.std.specs.List.{list_any};
 ghost use Rattle.std.specs.Option.{option_map};
 ghost use Rattle.std.specs.Map.{lookup};
 ghost use Rattle.std.specs.Str.{bytes_eq};
@@ -7,7 +8,7 @@ ghost use Rattle.c_lex.specs.declared.refusal.CompileFault.TheVariants.{NoMemory
 ghost use Rattle.c_tree.specs.TypedViews.{type_view};
 ghost use Rattle.c_tree.specs.TypedForm as forms;
 ghost use Rattle.c_typing.specs.Scope as scopes;
-ghost use Rattle.c_typing.specs.Scope.{bytes_of, or_else, found, meaning_of, is_double, fresh, declared, inside, back_to, within, fits_plain, tag_number, with_tag, is_begun, with_begun, with_struct, member_among, member_of};
+ghost use Rattle.c_typing.specs.Scope.{bytes_of, or_else, found, meaning_of, is_double, fresh, declared, inside, back_to, within, fits_plain, tag_among, tag_number, is_struct_tag, with_new_struct, with_tag, is_begun, with_begun, is_enum_tag, is_listed, with_enum, with_listed, with_enumerator, with_alias, with_struct, member_among, member_of};
 ghost use Rattle.c_typing.specs.Constants.{is_constant_name};
 ghost use Rattle.c_tree.specs.Typed.{Ty};
 ghost use Rattle.c_typing.specs.Judgement.{with_literal, with_addressed, meaning_in};
@@ -48,14 +49,23 @@ pub struct Context<'t> {
     pub alloc: Global,
     /// The text.
     pub text: &'t [u8],
-    /// The tags, in the order in which they were first named.
-    pub tags: IndexSet<&'t [u8]>,
+    /// The tags of structs, in the order in which they were first named: no bytes for a struct
+    /// without a tag.
+    pub tags: Vec<&'t [u8]>,
     /// The struct of each tag; one that isn't declared has no member.
     pub structs: Vec<Layout>,
     /// The names of each struct's members.
     pub members: Vec<Vec<&'t [u8]>>,
     /// The numbers of the structs whose braces were begun.
     pub begun: Vec<u32>,
+    /// The tags of the enums whose braces were begun.
+    pub enums: Vec<&'t [u8]>,
+    /// The tags of the enums whose braces have ended.
+    pub listed: Vec<&'t [u8]>,
+    /// How many enumerators there are.
+    pub enumerators: u32,
+    /// How many names of types there are.
+    pub aliases: u32,
     /// The literals that make a block.
     pub literals: Vec<Literal>,
     /// The bytes that globals and literals take.
@@ -84,10 +94,14 @@ impl<'t> Context<'t> {
         Context {
             alloc,
             text,
-            tags: IndexSet::new(alloc),
+            tags: Vec::new(alloc),
             structs: Vec::new(alloc),
             members: Vec::new(alloc),
             begun: Vec::new(alloc),
+            enums: Vec::new(alloc),
+            listed: Vec::new(alloc),
+            enumerators: 0,
+            aliases: 0,
             literals: Vec::new(alloc),
             plain: 0,
             globals: Vec::new(alloc),
@@ -254,10 +268,25 @@ impl<'t> Context<'t> {
         ensures number { IfOk result (λ n. n ≡ tag_number (context_view self.now) tag) }
         ensures memory { IfErr result (λ e. e ≡ NoMemory) }
     {
-        match self.tags.get_index_of(self.bytes(tag)) {
-            Some(n) => count(n),
-            None => count(self.tags.len()),
-        }
+        count(tag_among(&self.tags, self.bytes(tag)))
+    }
+
+    /// Whether a tag names a struct.
+    pub fn is_struct_tag(&self, tag: Name) -> bool
+        ensures { result ≡ is_struct_tag (context_view self.now) tag }
+    {
+        is_there(&self.tags, self.bytes(tag))
+    }
+
+    /// One struct more, which isn't declared: with this tag, or with no bytes where it has none.
+    pub fn add_struct(&mut self, tag: &'t [u8]) -> Result<(), CompileFault>
+        ensures after { OnOk result (context_view self.new ≡ with_new_struct (context_view self.old) tag.now) }
+        ensures memory { IfErr result (λ e. e ≡ NoMemory) }
+    {
+        self.tags.push(tag)?;
+        self.structs.push(empty_layout(self.alloc))?;
+        self.members.push(Vec::new(self.alloc))?;
+        Ok(())
     }
 
     /// A tag is named: where it wasn't before, it's a struct that isn't declared.
@@ -265,12 +294,10 @@ impl<'t> Context<'t> {
         ensures after { OnOk result (context_view self.new ≡ with_tag (context_view self.old) tag) }
         ensures memory { IfErr result (λ e. e ≡ NoMemory) }
     {
-        let bytes = self.bytes(tag);
-        if self.tags.insert(bytes)? {
-            self.structs.push(empty_layout(self.alloc))?;
-            self.members.push(Vec::new(self.alloc))?;
+        if self.is_struct_tag(tag) {
+            return Ok(());
         }
-        Ok(())
+        self.add_struct(self.bytes(tag))
     }
 
     /// Whether a struct's braces were begun.
@@ -286,6 +313,65 @@ impl<'t> Context<'t> {
         ensures memory { IfErr result (λ e. e ≡ NoMemory) }
     {
         self.begun.push(number)?;
+        Ok(())
+    }
+
+    // ---- enums, and names of types
+
+    /// Whether a tag names an enum: its braces were begun.
+    pub fn is_enum_tag(&self, tag: Name) -> bool
+        ensures { result ≡ is_enum_tag (context_view self.now) tag }
+    {
+        is_there(&self.enums, self.bytes(tag))
+    }
+
+    /// Whether the enum of a tag is declared: its braces have ended.
+    pub fn is_listed(&self, tag: Name) -> bool
+        ensures { result ≡ is_listed (context_view self.now) tag }
+    {
+        is_there(&self.listed, self.bytes(tag))
+    }
+
+    /// An enum's braces are begun.
+    pub fn begin_enum(&mut self, tag: Name) -> Result<(), CompileFault>
+        ensures after { OnOk result (context_view self.new ≡ with_enum (context_view self.old) tag) }
+        ensures memory { IfErr result (λ e. e ≡ NoMemory) }
+    {
+        let bytes = self.bytes(tag);
+        self.enums.push(bytes)?;
+        Ok(())
+    }
+
+    /// An enum's braces have ended.
+    pub fn end_enum(&mut self, tag: Name) -> Result<(), CompileFault>
+        ensures after { OnOk result (context_view self.new ≡ with_listed (context_view self.old) tag) }
+        ensures memory { IfErr result (λ e. e ≡ NoMemory) }
+    {
+        let bytes = self.bytes(tag);
+        self.listed.push(bytes)?;
+        Ok(())
+    }
+
+    /// An enumerator is in scope (C11 6.2.1 p7).
+    pub fn declare_enumerator(&mut self, name: Name, value: i32) -> Result<(), CompileFault>
+        ensures after { OnOk result (context_view self.new ≡ with_enumerator (context_view self.old) name value) }
+        ensures memory { IfErr result (λ e. e ≡ NoMemory) }
+    {
+        self.declare(name, Binding::Enumerator(value))?;
+        self.enumerators = one_more(self.enumerators)?;
+        Ok(())
+    }
+
+    /// The name of a type is in scope; where it was before, nothing is new (C11 6.7 p3).
+    pub fn declare_alias(&mut self, name: Name, ty: CType) -> Result<(), CompileFault>
+        ensures after { OnOk result (context_view self.new ≡ with_alias (context_view self.old) name (type_view ty)) }
+        ensures memory { IfErr result (λ e. e ≡ NoMemory) }
+    {
+        if self.is_double(name) {
+            return Ok(());
+        }
+        self.declare(name, Binding::Type(ty))?;
+        self.aliases = one_more(self.aliases)?;
         Ok(())
     }
 
@@ -318,7 +404,7 @@ impl<'t> Context<'t> {
         ) else {
             return Ok(None);
         };
-        let Some(place) = member_place(names, self.bytes(name)) else {
+        let Some(place) = place_among(names, self.bytes(name)) else {
             return Ok(None);
         };
         match layout.types.get(place) {
@@ -333,7 +419,10 @@ impl<'t> Context<'t> {
     {
         let bytes = self.bytes(name);
         match self.declared_as(bytes) {
-            Some(meaning) => matches!(meaning, Binding::Library(Library::Constant(_))),
+            Some(meaning) => matches!(
+                meaning,
+                Binding::Enumerator(_) | Binding::Library(Library::Constant(_))
+            ),
             None => matches!(library_name(bytes), Some(Library::Constant(_))),
         }
     }
@@ -348,8 +437,35 @@ fn put<T: Drop>(all: &mut Vec<T>, number: u32, x: T)
     }
 }
 
-// The place of a name among those of a struct's members.
-fn member_place(names: &[&[u8]], bytes: &[u8]) -> Option<usize>
+// Whether the bytes are among these.
+#[tactic(auto, using(crate::proofs::Tagging::found_there))]
+fn is_there(all: &[&[u8]], bytes: &[u8]) -> bool
+    ensures { result ≡ list_any (bytes_eq bytes.now) (bytes_view all.now) }
+{
+    place_among(all, bytes).is_some()
+}
+
+// The place of a tag among these, or how many they are where it is none of them.
+#[tactic(auto, using(crate::proofs::Tagging::place_found, crate::proofs::Tagging::place_past))]
+fn tag_among(tags: &[&[u8]], bytes: &[u8]) -> usize
+    ensures { result ≡ tag_among bytes.now (bytes_view tags.now) }
+{
+    match place_among(tags, bytes) {
+        Some(n) => n,
+        None => tags.len(),
+    }
+}
+
+// One more of what there is.
+fn one_more(n: u32) -> Result<u32, CompileFault>
+    ensures number { IfOk result (λ m. m ≡ n + 1) }
+    ensures memory { IfErr result (λ e. e ≡ NoMemory) }
+{
+    n.checked_add(1).ok_or(CompileFault::NoMemory)
+}
+
+// The place of bytes among these: tags, or the names of a struct's members.
+fn place_among(names: &[&[u8]], bytes: &[u8]) -> Option<usize>
     ensures { result ≡ member_among 0 bytes.now (bytes_view names.now) }
 {
     'names: for (place, name) in names.iter().enumerate() {

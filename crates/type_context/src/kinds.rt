@@ -1,7 +1,7 @@
 //! Types, compared and completed (C11 6.2.5, 6.2.7, 6.7.2).
-ghost use Rattle.std.specs.Prelude.{◌≡◌, map};
+ghost use Rattle.std.specs.Prelude.{◌≡◌, map, nat_le};
 ghost use Rattle.c_tree.specs.TypedViews.{type_view, layout_view};
-ghost use Rattle.c_typing.specs.Types.{same_int, same_type, same_types, is_void, is_array, is_scalar, is_struct_or_mutex, has_size, is_declared};
+ghost use Rattle.c_typing.specs.Types.{same_int, same_type, same_types, is_void, is_array, is_scalar, is_struct_or_mutex, has_size, is_declared, depth_of};
 
 use ak_words::IntType;
 use c_tree::typed::{CType, Layout};
@@ -90,5 +90,18 @@ pub fn is_declared(structs: &[Layout], t: &CType) -> bool
     match t {
         CType::Struct(_) => has_size(structs, t),
         _ => true,
+    }
+}
+
+/// Whether so many stars and brackets at most made it, those behind the names of types in it
+/// counted.
+#[tactic(auto, using(crate::proofs::Depths::one_deeper))]
+pub fn is_within_depth(t: &CType, most: u32) -> bool
+    ensures { result ≡ nat_le (depth_of (type_view t.now)) most }
+{
+    match t {
+        CType::Pointer(target) => most > 0 && is_within_depth(target, most - 1),
+        CType::Array(element, _) => most > 0 && is_within_depth(element, most - 1),
+        CType::Void | CType::Int(_) | CType::Mutex | CType::Struct(_) => true,
     }
 }

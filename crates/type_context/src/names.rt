@@ -1,4 +1,4 @@
-//! What names mean: objects, functions, and the names of the library.
+//! What names mean: objects, functions, enumerators, types, and the names of the library.
 ghost use Rattle.std.specs.Prelude.{◌≡◌, IfOk, map};
 ghost use Rattle.std.specs.Option.{option_map};
 ghost use Rattle.std.specs.Map.{lookup};
@@ -41,6 +41,10 @@ pub enum Binding {
         params: Vec<CType>,
         result: CType,
     },
+    /// An enumerator, by its value: an int (C11 6.7.2.2).
+    Enumerator(i32),
+    /// A type (C11 6.7.8).
+    Type(CType),
     /// A name of the library.
     Library(Library),
 }
@@ -72,6 +76,8 @@ pub fn copy_meaning(alloc: Global, meaning: &Binding) -> Result<Binding, AllocEr
             params: copy_types(alloc, params)?,
             result: copy_type(alloc, result)?,
         }),
+        Binding::Enumerator(value) => Ok(Binding::Enumerator(*value)),
+        Binding::Type(t) => Ok(Binding::Type(copy_type(alloc, t)?)),
         Binding::Library(which) => Ok(Binding::Library(*which)),
     }
 }

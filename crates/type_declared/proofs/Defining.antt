@@ -15,7 +15,7 @@ use Rattle.type_declared.specs.declared.functions.Defined.{Defined}
 use Rattle.c_typing.specs.Faults.{Judged, typed, faulty, both, ◌>>=◌}
 use Rattle.c_typing.specs.Scope.{or_else}
 use Rattle.type_context.specs.Telling.{both_fine}
-use Rattle.c_typing.specs.Programs.{place_of_name, defined_name, defined_names}
+use Rattle.c_typing.specs.Programs.{place_of_name, defined_by, defined_names}
 use Rattle.type_context.specs.ContextViews.{bytes_view}
 use Rattle.type_context.proofs.Tagging.{any_view}
 use Rattle.indexmap.specs.IndexMap.{insert_entry}
@@ -130,12 +130,12 @@ defined_again names d new b is there at more = record {
 
 -- ---- the names of a file
 
-names_push : (text : List ℕ) (xs : List External) (x : External) → defined_names text (xs ++ x ∷ []) ≡ defined_names text xs ++ defined_name text x.rest
-names_push text [] x = append-nil (defined_name text x.rest)
-names_push text (y ∷ xs) x = ap (λ l. defined_name text y.rest ++ l) (names_push text xs x) ∙ sym (append_assoc (defined_name text y.rest) (defined_names text xs) (defined_name text x.rest))
+names_push : (text : List ℕ) (xs : List External) (x : External) → defined_names text (xs ++ x ∷ []) ≡ defined_names text xs ++ defined_by text x
+names_push text [] x = append-nil (defined_by text x)
+names_push text (y ∷ xs) x = ap (λ l. defined_by text y ++ l) (names_push text xs x) ∙ sym (append_assoc (defined_by text y) (defined_names text xs) (defined_by text x))
 
 pub names_more : (text : List ℕ) (xs : List CodeExternal) (i : ℕ) (d : CodeExternal) → i < length xs
-    → defined_names text (map external_view (take (i + 1) xs)) ≡ defined_names text (map external_view (take i xs)) ++ defined_name text (external_view (get_or xs i d)).rest
+    → defined_names text (map external_view (take (i + 1) xs)) ≡ defined_names text (map external_view (take i xs)) ++ defined_by text (external_view (get_or xs i d))
 names_more text xs i d h = ap (defined_names text) (map_more external_view xs i d h) ∙ names_push text (map external_view (take i xs)) (external_view (get_or xs i d))
 
 -- four things are fine, however they are joined

@@ -1,19 +1,24 @@
 -- The types of a function's parameters, of which one may be at fault.
-use Rattle.std.proofs.Common.{◌≡◌, List, [], Result, Ok, Err, IfOk, refl, ap, sym, subst}
+use Rattle.std.proofs.Common.{◌≡◌, ℕ, not, List, [], Result, Ok, Err, IfOk, refl, ap, sym, subst}
 use Rattle.std.specs.Prelude.{Vec, IfErr}
 use Rattle.std.specs.declared.alloc.Global.{Global}
 use Rattle.c_lex.specs.declared.refusal.Refusal.{Refusal}
 use Rattle.c_lex.specs.declared.refusal.CompileFault.{CompileFault}
 use Rattle.c_lex.specs.declared.refusal.CompileFault.TheVariants.{Refused, NoMemory}
+use Rattle.c_lex.specs.declared.refusal.Kind.TheVariants.{TypeMismatch, OutsideSubset}
 use Rattle.c_tree.specs.declared.typed.CType.{CType}
 use Rattle.c_tree.specs.Typed.{Ty}
 use Rattle.c_tree.specs.TypedViews.{type_view}
-use Rattle.c_typing.specs.Faults.{Judged, typed, faulty, Gives, Fails, both, mapped, ◌>>=◌}
+use Rattle.c_typing.specs.Faults.{Judged, typed, faulty, Gives, Fails, unless, both, mapped, ◌>>=◌}
+use Rattle.c_typing.specs.Types.{is_array, is_struct_or_mutex}
+use Rattle.c_typing.specs.Judgement.{plain_type}
 use Rattle.c_typing.specs.Numbering.{Param}
-use Rattle.c_typing.specs.Programs.{types_or}
+use Rattle.c_typing.specs.Programs.{types_or, result_type}
 use Rattle.type_context.specs.ContextViews.{types_view}
 use Rattle.type_context.specs.inner.Outcomes.{joined}
+use Rattle.type_context.proofs.Judging.{fine_then}
 use Rattle.type_declared.specs.Gathering.{each}
+use Rattle.type_declared.specs.ResultTypes.{result_fine}
 
 -- types of which want of memory alone keeps some
 pub gives_list : (r : Result (Vec CType Global) CompileFault) (ts : List Ty) → IfOk r (λ v. types_view v.items ≡ ts) → IfErr r (λ e. e ≡ NoMemory) → Gives (each type_view) r (typed ts)
@@ -39,3 +44,7 @@ mapped_both f (typed x) (typed y) g = refl
 mapped_both f (typed x) (faulty s ss) g = refl
 mapped_both f (faulty r rs) (typed y) g = refl
 mapped_both f (faulty r rs) (faulty s ss) g = refl
+
+-- the type of a result, by what is judged of it
+pub result_from : (place : ℕ) (t : Ty) → result_type place t ≡ (result_fine place t >>= λ u. plain_type place t)
+result_from place t = fine_then (unless place TypeMismatch (not (is_array t))) (unless place (OutsideSubset 13) (not (is_struct_or_mutex t))) (plain_type place t)

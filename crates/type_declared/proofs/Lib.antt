@@ -1,3 +1,4 @@
 pub mod Defining
 mod ParamLaws
 mod HeadLaws
+pub mod TypeNames

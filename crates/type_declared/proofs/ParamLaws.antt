@@ -13,8 +13,8 @@ use Rattle.c_tree.specs.Typed.{Ty, void, pointer, array, integer, structure, mut
 use Rattle.c_typing.specs.Faults.{Judged, typed, faulty, Fails, both, mapped, ◌>>=◌}
 use Rattle.c_typing.specs.Types.{is_void, behind_pointers, arrays_of}
 use Rattle.c_typing.specs.Scope.{Context}
-use Rattle.c_typing.specs.Judgement.{object_type}
-use Rattle.c_typing.specs.Programs.{known, adjusted, void_by, is_bare_by}
+use Rattle.c_typing.specs.Judgement.{object_type, plain_type}
+use Rattle.c_typing.specs.Programs.{known, pointer_for, adjusted, void_by, is_bare_by}
 use Rattle.type_context.specs.Telling.{lacks_memory}
 
 -- a pointer is not void, whatever stands behind it
@@ -70,12 +70,12 @@ bare_unnamed None [] h = refl
 bare_unnamed None (d ∷ ds) h = ne_eqb (length (d ∷ ds)) 0 (λ e. absurd (omega (arith, e)))
 bare_unnamed (Some n) ds h = cc
 
--- a parameter without brackets has its type
-pub adjusted_none : (c : Context) (place : ℕ) (t : Ty) (ss : List (Option ℕ)) → length ss < 1 → adjusted c place t ss ≡ typed t
+-- a parameter without brackets has its type, or is a pointer where that is an array
+pub adjusted_none : (c : Context) (place : ℕ) (t : Ty) (ss : List (Option ℕ)) → length ss < 1 → adjusted c place t ss ≡ plain_type place (pointer_for t)
 adjusted_none c place t [] h = refl
 adjusted_none c place t (s ∷ ss) h = absurd (omega arith)
 
 -- an array is a pointer to its elements
-pub adjusted_some : (c : Context) (place : ℕ) (t : Ty) (ss : List (Option ℕ)) → 1 ≤ length ss → adjusted c place t ss ≡ (object_type c place (arrays_of t (known (drop 1 ss))) >>= λ element. typed (pointer element))
+pub adjusted_some : (c : Context) (place : ℕ) (t : Ty) (ss : List (Option ℕ)) → 1 ≤ length ss → adjusted c place t ss ≡ (object_type c place (arrays_of t (known (drop 1 ss))) >>= λ element. plain_type place (pointer element))
 adjusted_some c place t [] h = absurd (omega arith)
 adjusted_some c place t (s ∷ ss) h = refl

@@ -8,10 +8,11 @@ ghost use Rattle.c_lex.specs.declared.refusal.CompileFault.TheVariants.{NoMemory
 ghost use Rattle.c_tree.specs.SyntaxViews as source;
 ghost use Rattle.c_tree.specs.TypedViews.{type_view};
 ghost use Rattle.c_typing.specs.Faults.{Gives};
-ghost use Rattle.c_typing.specs.Programs.{place_of_name, defined_name, defined_names, once, agrees, is_new, first_time, one_body, before_name, not_library, name_fine, result_type, with_name, with_function, with_body, is_main, has_main, param_type};
+ghost use Rattle.c_typing.specs.Programs.{place_of_name, defined_name, defined_by, defined_names, once, agrees, is_new, first_time, one_body, before_name, not_library, name_fine, result_type, with_name, with_function, with_body, is_main, has_main, param_type};
 ghost use Rattle.type_context.specs.ContextViews.{context_view, types_view, seen};
 ghost use Rattle.type_context.specs.Telling.{Says};
 ghost use Rattle.type_declared.specs.FunctionNames.{IsDefined, named_if};
+ghost use Rattle.type_declared.specs.ResultTypes.{result_fine};
 
 use ak_words::IntType;
 use c_lex::{CompileFault, Kind, Refusal};
@@ -20,9 +21,12 @@ use c_tree::typed::CType;
 use indexmap::IndexMap;
 use type_context::context::{Context, count, within};
 use type_context::faults::{as_fault, unless};
-use type_context::kinds::{has_size, is_struct_or_mutex, same_int, same_type, same_types};
+use type_context::kinds::{
+    has_size, is_array, is_struct_or_mutex, same_int, same_type, same_types,
+};
 use type_context::names::{Binding, library_name};
 use type_context::outcomes::both_fine;
+use type_rules::declarators::plain_type;
 
 /// The functions that have a body anywhere in the file: the place of each one's name among theirs.
 #[derive(Drop)]
@@ -108,8 +112,8 @@ fn is_new(before: Option<&Binding>) -> bool
     !matches!(before, Some(Binding::Function { .. }))
 }
 
-// What a name meant before at file scope.
-fn before_name<'a>(context: &'a Context<'_>, name: Name) -> Option<&'a Binding>
+/// What a name meant before at file scope.
+pub fn before_name<'a>(context: &'a Context<'_>, name: Name) -> Option<&'a Binding>
     ensures { seen result ≡ before_name (context_view context.now) name }
 {
     context.inner.get(context.bytes(name))
@@ -157,8 +161,8 @@ fn one_body(context: &Context<'_>, name: Name, body: &Option<Block>) -> Result<(
     }
 }
 
-// A function's name is none of the library.
-fn not_library(context: &Context<'_>, name: Name) -> Result<(), Refusal>
+/// A name is none of the library.
+pub fn not_library(context: &Context<'_>, name: Name) -> Result<(), Refusal>
     ensures { Says (λ _. tt) result (not_library (context_view context.now) name) }
 {
     let is_free = library_name(context.bytes(name)).is_none();
@@ -192,13 +196,22 @@ pub fn type_fine(
     agrees(name.from, params, returned, before_name(context, name))
 }
 
-/// A function returns no struct, no mutex and no array.
-#[tactic(auto, using(type_context::proofs::Judging::refused_part))]
+// What is judged of a result's type: it is no array (C11 6.7.6.3 p1), and no struct and no mutex.
+fn result_fine(place: u32, t: &CType) -> Result<(), Refusal>
+    ensures { Says (λ _. tt) result (result_fine place (type_view t.now)) }
+{
+    let no_array = unless(place, Kind::TypeMismatch, !is_array(t));
+    let small = unless(place, Kind::OutsideSubset(13), !is_struct_or_mutex(t));
+    both_fine(no_array, small)
+}
+
+/// A function returns no array, no struct and no mutex.
+#[tactic(auto, using(type_context::proofs::Judging::refused_part, crate::proofs::HeadLaws::result_from))]
 pub fn result_type(place: u32, t: CType) -> Result<CType, Refusal>
     ensures { Says type_view result (result_type place (type_view t)) }
 {
-    unless(place, Kind::OutsideSubset(13), !is_struct_or_mutex(&t))?;
-    Ok(t)
+    result_fine(place, &t)?;
+    plain_type(place, t)
 }
 
 /// A parameter's type has a size, and is no struct and no mutex.
@@ -269,6 +282,16 @@ fn defined_name(rest: &Rest) -> Option<Name>
     }
 }
 
+// The name that an external declaration gives a body; a typedef gives none.
+fn defined_by(x: &External) -> Option<Name>
+    ensures { (text : List ℕ) → named_if text result ≡ defined_by text (source.external_view x.now) }
+{
+    match x {
+        External::Typedef { .. } => None,
+        External::Other { rest, .. } => defined_name(rest),
+    }
+}
+
 /// The functions that have a body.
 pub fn all_defined<'t>(
     context: &Context<'t>,
@@ -282,7 +305,7 @@ pub fn all_defined<'t>(
         count: 0,
     };
     'externals: for x in externals {
-        if let Some(name) = defined_name(&x.rest) {
+        if let Some(name) = defined_by(x) {
             defined.define(context.bytes(name))?;
         }
     }

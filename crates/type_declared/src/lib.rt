@@ -3,6 +3,7 @@
 //! Stands on c_typing's definitions, type_context, type_rules and type_locals.
 #![tactic(auto)]
 
+pub mod aliases;
 pub mod functions;
 pub mod heads;
 pub mod initials;

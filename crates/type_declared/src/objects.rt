@@ -1,5 +1,5 @@
 //! Objects that are declared: their names and types among the others' (C11 6.7, 6.9.2).
-ghost use Rattle.std.specs.Prelude.{◌≡◌, OnOk, IfOk, IfErr, length};
+ghost use Rattle.std.specs.Prelude.{◌≡◌, false, OnOk, IfOk, IfErr, length};
 ghost use Rattle.c_lex.specs.declared.refusal.CompileFault.TheVariants.{NoMemory};
 ghost use Rattle.c_tree.specs.Typed.{Ty};
 ghost use Rattle.c_tree.specs.TypedViews.{type_view};
@@ -8,7 +8,7 @@ ghost use Rattle.c_typing.specs.Faults.{Judged, Gives};
 ghost use Rattle.c_typing.specs.Statements.{or_int, with_local, local_fine};
 ghost use Rattle.c_typing.specs.Programs.{with_param, with_global, fresh_if, global_fine};
 ghost use Rattle.type_context.specs.ContextViews.{context_view};
-ghost use Rattle.type_context.specs.Telling.{Says};
+ghost use Rattle.type_context.specs.Telling.{Says, lacks_memory};
 ghost use Rattle.type_declared.specs.ObjectFits.{fits_of};
 
 use ak_words::IntType;
@@ -32,6 +32,7 @@ const MOST_GLOBALS: usize = 4096;
 /// declarator, so what it means then is nowhere seen.
 pub fn or_int(alloc: Global, t: &Result<CType, CompileFault>) -> Result<CType, CompileFault>
     ensures declared { (j : Judged Ty) → Gives type_view t.now j → IfOk result (λ s. type_view s ≡ or_int j) }
+    ensures kept { OnOk result (lacks_memory t.now ≡ false) }
     ensures memory { IfErr result (λ e. e ≡ NoMemory) }
 {
     match t {

@@ -6,7 +6,7 @@ ghost use Rattle.c_tree.specs.TypedViews.{type_view};
 ghost use Rattle.c_typing.specs.Faults.{Judged, Gives, mapped};
 ghost use Rattle.c_typing.specs.Types.{is_void, behind_pointers, arrays_of};
 ghost use Rattle.c_typing.specs.Judgement.{object_type};
-ghost use Rattle.c_typing.specs.Programs.{lacking, known, adjusted, adjusted_param, param_place, param_fine, is_bare, void_by, is_none};
+ghost use Rattle.c_typing.specs.Programs.{lacking, known, pointer_for, adjusted, adjusted_param, param_place, param_fine, is_bare, void_by, is_none};
 ghost use Rattle.type_context.specs.ContextViews.{context_view};
 ghost use Rattle.type_context.specs.Telling.{Says, lacks_memory};
 
@@ -20,7 +20,7 @@ use std::alloc::{AllocError, Global};
 use type_context::context::{Context, within};
 use type_context::faults::{as_fault, both_or_refusal};
 use type_context::kinds::is_void;
-use type_rules::declarators::{Declared, object_declared};
+use type_rules::declarators::{Declared, object_declared, plain_type};
 use type_rules::places::place_of_specs;
 use type_rules::specifiers::behind_pointers;
 
@@ -73,7 +73,18 @@ fn element(
     object_declared(context, t, &elements)
 }
 
-// An array becomes a pointer to its elements (C11 6.7.6.3 p7).
+// An array is a pointer to its elements, and each other type is itself.
+fn pointer_for(t: CType) -> CType
+    ensures { type_view result ≡ pointer_for (type_view t) }
+{
+    match t {
+        CType::Array(element, _) => CType::Pointer(element),
+        _ => t,
+    }
+}
+
+// An array becomes a pointer to its elements (C11 6.7.6.3 p7), also one that the name of a type
+// stands for.
 #[tactic(auto, using(type_context::proofs::Judging::fails_part))]
 fn adjusted(
     context: &Context<'_>,
@@ -84,10 +95,11 @@ fn adjusted(
     ensures { Gives type_view result (adjusted (context_view context.now) place (type_view t) sizes.now) }
 {
     let [_, inner @ ..] = sizes else {
-        return Ok(t);
+        return as_fault(plain_type(place, pointer_for(t)));
     };
     let element = element(context, place, t, inner)?;
-    Ok(CType::Pointer(Box::new(context.alloc, element)?))
+    let whole = CType::Pointer(Box::new(context.alloc, element)?);
+    as_fault(plain_type(place, whole))
 }
 
 /// The place of a parameter: its name, or the first token of its specifiers.

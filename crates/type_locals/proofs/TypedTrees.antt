@@ -6,11 +6,12 @@ use Rattle.std.specs.Vec.{with_items}
 use Rattle.c_tree.specs.declared.typed.Lib.{Lib}
 use Rattle.c_tree.specs.declared.typed.Expr.{Expr as CodeExpr}
 use Rattle.c_tree.specs.declared.typed.ExprNode.TheViews as views
+use Rattle.c_tree.specs.declared.typed.Label.{Label}
 use Rattle.c_tree.specs.declared.typed.Stmt.{Stmt as CodeStmt}
 use Rattle.c_tree.specs.declared.typed.StmtNode.TheViews as stmt_views
-use Rattle.c_tree.specs.Typed.{call, lib, more_exprs, at, block, more_stmts, at_stmt, exprs_of, stmts_of}
-use Rattle.c_tree.specs.TypedViews.{type_view, expr_view, expr_node_view, lib_view, stmt_view, stmt_node_view}
-use Rattle.c_tree.proofs.ListedViews.{call_view, lib_call_view, block_view}
+use Rattle.c_tree.specs.Typed.{call, lib, more_exprs, at, block, switch, more_stmts, at_stmt, exprs_of, stmts_of}
+use Rattle.c_tree.specs.TypedViews.{type_view, expr_view, expr_node_view, lib_view, label_view, stmt_view, stmt_node_view}
+use Rattle.c_tree.proofs.ListedViews.{call_view, lib_call_view, block_view, switch_view}
 use Rattle.c_typing.specs.Numbering.{renumbered, renumbered_node, renumbered_all, renumbered_stmt, renumbered_stmt_node, renumbered_stmts}
 
 -- ---- other numbers
@@ -49,3 +50,13 @@ block_renumbered f s v xs ys is same k h =
     let w = with_items v ys in
     ap (at_stmt s.place) (block_view w ∙ (ap (λ l. block (stmts_of l)) (items_put stmt_view (renumbered_stmt f) v xs ys same k h) ∙ (ap block (stmts_renumbered f v.items)
     ∙ ap (renumbered_stmt_node f) (sym (block_view v) ∙ ap stmt_node_view (sym is)))))
+
+pub switch_renumbered : (f : ℕ → ℕ) (s : CodeStmt) (e new : CodeExpr) (labels : Vec Label) (v : Vec CodeStmt) (xs ys : List CodeStmt) → s.node ≡ stmt_views.Switch e labels v → expr_view new ≡ renumbered f (expr_view e)
+    → xs ≡ v.items → length ys ≡ v.len → map stmt_view ys ≡ map (λ x. renumbered_stmt f (stmt_view x)) xs
+    → at_stmt s.place (stmt_node_view (stmt_views.Switch new labels (with_items v ys))) ≡ renumbered_stmt f (stmt_view s)
+switch_renumbered f s e new labels v xs ys is told same k h =
+    let w = with_items v ys in
+    let ls = map label_view labels.items in
+    ap (at_stmt s.place) (switch_view new labels w ∙ (ap (λ x. switch x ls (stmts_of (map stmt_view w.items))) told
+    ∙ (ap (λ l. switch (renumbered f (expr_view e)) ls (stmts_of l)) (items_put stmt_view (renumbered_stmt f) v xs ys same k h) ∙ (ap (switch (renumbered f (expr_view e)) ls) (stmts_renumbered f v.items)
+    ∙ ap (renumbered_stmt_node f) (sym (switch_view e labels v) ∙ ap stmt_node_view (sym is))))))

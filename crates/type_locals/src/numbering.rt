@@ -135,6 +135,14 @@ impl Numbers {
                 self.renumber_stmt(step)?;
                 self.renumber_stmt(s)
             }
+            StmtNode::DoWhile(s, e) => {
+                self.renumber_stmt(s)?;
+                self.renumber(e)
+            }
+            StmtNode::Switch(e, _, body) => {
+                self.renumber(e)?;
+                self.statements(body)
+            }
             StmtNode::Return(value) => self.optional(value),
             StmtNode::Assign(left, right) => {
                 self.renumber(left)?;

@@ -7,17 +7,17 @@ use Rattle.c_lex.specs.declared.refusal.CompileFault.TheVariants.{Refused, NoMem
 use Rattle.c_lex.specs.declared.refusal.Refusal.{Refusal}
 use Rattle.c_lex.specs.declared.refusal.Kind.TheVariants.{BadSize}
 use Rattle.c_tree.specs.TypedLayout.{laid_out, greatest_object}
-use Rattle.c_tree.specs.Typed.{Ty}
+use Rattle.c_tree.specs.Typed.{Ty, structure}
 use Rattle.c_typing.specs.Faults.{Judged, typed, faulty, Fails, Gives, unless, both, ◌>>=◌}
 use Rattle.c_typing.specs.Scope.{Context, with_struct}
-use Rattle.c_typing.specs.Judgement.{Judging, lone, tag, struct_fits, fitting, closed, closing}
+use Rattle.c_typing.specs.Judgement.{Judging, lone, whole, struct_fits, fitting, closed, closing}
 use Rattle.type_context.specs.declared.context.Context.{Context as CodeContext}
 use Rattle.type_context.specs.declared.context.MemberType.{MemberType}
 use Rattle.type_context.specs.ContextViews.{context_view, members_view}
 use Rattle.type_context.specs.inner.Outcomes.{joined}
 use Rattle.type_rules.specs.declared.specifiers.Part.{Part as CodePart}
 use Rattle.type_rules.specs.SpecifierViews.{part_view}
-use Rattle.type_context.specs.Telling.{Leaves, Tells}
+use Rattle.type_context.specs.Telling.{Leaves, Tells, both_fine}
 use Rattle.type_context.proofs.Walks.{memory_tells, lone_tells, both_tell}
 use Rattle.type_nodes.specs.Nodes.{Finishes, types_of_members}
 use Rattle.type_nodes.specs.inner.Members.{is_fine, stands_fine}
@@ -109,9 +109,22 @@ without_members x (faulty r rs) (typed ms) = refl
 without_members x (faulty r rs) (faulty s ss) = refl
 
 pub closing_tells : (place number : ℕ) (again : Bool) (j : Judged (Unit {0})) (J : Judging (List (List ℕ × Ty))) (c : Context) (m n : CodeContext) (o f : Result (Unit {0}) CompileFault) (r : Result CodePart CompileFault)
-    → Gives (λ (u : Unit {0}). tt) o j → Tells (λ (u : Unit {0}). tt) f n (fitting_of place number again J c) → Finishes part_view (joined o f) (λ _. typed (tag number)) r
+    → Gives (λ (u : Unit {0}). tt) o j → Tells (λ (u : Unit {0}). tt) f n (fitting_of place number again J c) → Finishes part_view (joined o f) (λ _. typed (whole (structure number))) r
     → Tells part_view r n (closing place number j again J c)
 closing_tells place number again j J c m n o f r h k g =
     let two = both_tell (λ (u : Unit {0}). u) (λ (u : Unit {0}). u) (lone j) (λ d. fitting_of place number again J c) (context_view m) m n o f (lone_tells (λ (u : Unit {0}). u) o m j h) k in
-    let told = finishes (λ (p : Unit {0} × Unit {0}). (p.0, p.1)) part_view (λ d. (both j (fitting_of place number again J c).0, (fitting_of place number again J c).1)) (λ d p. typed (tag number)) c n (joined o f) r two g in
-    subst (λ x. Tells part_view r n (x, (fitting place number again J c).1)) (without_members (tag number) j (fitting place number again J c).0) told
+    let told = finishes (λ (p : Unit {0} × Unit {0}). (p.0, p.1)) part_view (λ d. (both j (fitting_of place number again J c).0, (fitting_of place number again J c).1)) (λ d p. typed (whole (structure number))) c n (joined o f) r two g in
+    subst (λ x. Tells part_view r n (x, (fitting place number again J c).1)) (without_members (whole (structure number)) j (fitting place number again J c).0) told
+
+-- ---- the opening brace
+
+-- three things that are fine, the last two as one
+pub three_fine : (j k l : Judged (Unit {0})) → both_fine j (both_fine k l) ≡ (both j (both k l) >>= λ u. typed tt)
+three_fine (typed u) (typed v) (typed w) = refl
+three_fine (typed u) (typed v) (faulty t ts) = refl
+three_fine (typed u) (faulty s ss) (typed w) = refl
+three_fine (typed u) (faulty s ss) (faulty t ts) = refl
+three_fine (faulty r rs) (typed v) (typed w) = refl
+three_fine (faulty r rs) (typed v) (faulty t ts) = refl
+three_fine (faulty r rs) (faulty s ss) (typed w) = refl
+three_fine (faulty r rs) (faulty s ss) (faulty t ts) = refl

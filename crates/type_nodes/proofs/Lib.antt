@@ -7,3 +7,5 @@ pub mod Braces
 pub mod Arguments
 pub mod Formatting
 pub mod Mutexes
+pub mod EnumLists
+pub mod EnumRows

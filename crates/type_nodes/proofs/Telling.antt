@@ -13,7 +13,7 @@ use Rattle.c_tree.specs.Typed.{Ty, Expr}
 use Rattle.c_tree.specs.TypedViews.{expr_view, boxed_expr_view}
 use Rattle.c_typing.specs.Faults.{Judged, typed, Gives, ◌>>=◌}
 use Rattle.c_typing.specs.Rules.{address}
-use Rattle.c_typing.specs.Scope.{Context, with_tag, tag_number, is_begun, with_begun, Binding, global_name, local_name, function_name, library_name, printf, malloc, free, memcpy, thrd_create, thrd_join, mtx_init, mtx_lock, mtx_unlock, mtx_destroy, constant}
+use Rattle.c_typing.specs.Scope.{Context, with_tag, tag_number, is_begun, with_begun, Binding, global_name, local_name, function_name, enumerator_name, type_name, library_name, printf, malloc, free, memcpy, thrd_create, thrd_join, mtx_init, mtx_lock, mtx_unlock, mtx_destroy, constant}
 use Rattle.c_typing.specs.Judgement.{Judging, in_turn, ruled, valued, Part, begun_by, begun_or, starting_or, called_as, called_by, prefixed_by, prefixed, addressing, with_addressed, meaning_in, opened, closing, braced}
 use Rattle.type_context.specs.declared.context.Context.{Context as CodeContext}
 use Rattle.type_context.specs.ContextViews.{context_view}
@@ -90,6 +90,8 @@ pub call_printf : (m : Option Binding) (place : ℕ) (args : Judging (List Expr)
 call_printf None place args print start c h = cc
 call_printf (Some (global_name n t)) place args print start c h = cc
 call_printf (Some (local_name n t)) place args print start c h = cc
+call_printf (Some (enumerator_name value)) place args print start c h = cc
+call_printf (Some (type_name t)) place args print start c h = cc
 call_printf (Some (function_name n ps r)) place args print start c h = cc
 call_printf (Some (library_name printf)) place args print start c h = refl
 call_printf (Some (library_name malloc)) place args print start c h = cc
@@ -107,6 +109,8 @@ pub call_thrd_create : (m : Option Binding) (place : ℕ) (args : Judging (List 
 call_thrd_create None place args print start c h = cc
 call_thrd_create (Some (global_name n t)) place args print start c h = cc
 call_thrd_create (Some (local_name n t)) place args print start c h = cc
+call_thrd_create (Some (enumerator_name value)) place args print start c h = cc
+call_thrd_create (Some (type_name t)) place args print start c h = cc
 call_thrd_create (Some (function_name n ps r)) place args print start c h = cc
 call_thrd_create (Some (library_name printf)) place args print start c h = cc
 call_thrd_create (Some (library_name malloc)) place args print start c h = cc
@@ -125,6 +129,8 @@ pub call_other : (m : Option Binding) (place : ℕ) (args : Judging (List Expr))
 call_other None place args print start c h k = refl
 call_other (Some (global_name n t)) place args print start c h k = refl
 call_other (Some (local_name n t)) place args print start c h k = refl
+call_other (Some (enumerator_name value)) place args print start c h k = refl
+call_other (Some (type_name t)) place args print start c h k = refl
 call_other (Some (function_name n ps r)) place args print start c h k = refl
 call_other (Some (library_name printf)) place args print start c h k = cc
 call_other (Some (library_name malloc)) place args print start c h k = refl

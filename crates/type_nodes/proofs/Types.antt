@@ -1,5 +1,5 @@
 -- What each node of a type or a declarator tells, by what its parts tell.
-use Rattle.std.proofs.Common.{◌≡◌, ℕ, List, Result, Ok, ap, sym, subst}
+use Rattle.std.proofs.Common.{◌≡◌, ℕ, List, Result, sym, subst}
 use Rattle.std.specs.Prelude.{Vec, Box}
 use Rattle.std.specs.declared.alloc.Global.{Global}
 use Rattle.c_lex.specs.declared.refusal.CompileFault.{CompileFault}
@@ -12,15 +12,14 @@ use Rattle.c_tree.specs.Typed.{Ty}
 use Rattle.c_tree.specs.TypedViews.{type_view, boxed_expr_view}
 use Rattle.c_typing.specs.Faults.{Judged, typed, Gives}
 use Rattle.c_typing.specs.Types.{behind_pointers}
-use Rattle.c_typing.specs.Scope.{Context, bytes_of, with_tag, tag_number}
-use Rattle.c_typing.specs.Judgement.{Judging, ruled, judged, valued, judged_type, judged_specs, judged_parts, judged_spec, judged_member, judged_declarators, judged_dims, specified, place_of_specs, dimension, array_size, lone, object_declared, fresh_member, object_by, tag}
+use Rattle.c_typing.specs.Scope.{Context, bytes_of}
+use Rattle.c_typing.specs.Judgement.{Judging, ruled, judged, valued, judged_type, judged_specs, judged_parts, judged_spec, judged_member, judged_declarators, judged_dims, specified, place_of_specs, dimension, array_size, lone, object_declared, fresh_member, object_by, plain_type}
 use Rattle.type_context.specs.declared.context.Context.{Context as CodeContext}
 use Rattle.type_context.specs.declared.context.MemberType.{MemberType}
 use Rattle.type_context.specs.ContextViews.{context_view, member_type_view}
 use Rattle.type_context.specs.inner.Outcomes.{joined}
 use Rattle.type_rules.specs.declared.declarators.Declared.{Declared}
 use Rattle.type_rules.specs.declared.specifiers.Part.{Part as CodePart}
-use Rattle.type_rules.specs.declared.specifiers.Part.TheVariants as parts
 use Rattle.type_rules.specs.SpecifierViews.{numbers_view, part_view, parts_view, declared_view}
 use Rattle.type_context.specs.Telling.{Tells}
 use Rattle.type_context.proofs.Walks.{lone_tells}
@@ -29,17 +28,12 @@ use Rattle.type_nodes.proofs.Telling.{finishes, finishes_both}
 use Rattle.type_nodes.proofs.Rows.{declarator_node}
 
 pub type_name_tells : (specs : source.Specs) (pointers : List Pointer) (c : Context) (n : CodeContext) (a r : Result CType CompileFault)
-    → Tells type_view a n (judged_specs specs c) → Finishes type_view a (λ t. typed (behind_pointers (type_view t) pointers)) r → Tells type_view r n (judged_type (source.type_name specs pointers) c)
-type_name_tells specs pointers c n a r = finishes type_view type_view (judged_specs specs) (λ d t. typed (behind_pointers t pointers)) c n a r
+    → Tells type_view a n (judged_specs specs c) → Finishes type_view a (λ t. plain_type (place_of_specs specs) (behind_pointers (type_view t) pointers)) r → Tells type_view r n (judged_type (source.type_name specs pointers) c)
+type_name_tells specs pointers c n a r = finishes type_view type_view (judged_specs specs) (λ d t. plain_type (place_of_specs specs) (behind_pointers t pointers)) c n a r
 
 pub specs_tell : (specs : source.Specs) (c : Context) (n : CodeContext) (a : Result (Vec CodePart Global) CompileFault) (r : Result CType CompileFault)
     → Tells parts_view a n (judged_parts specs c) → Finishes type_view a (λ ps. specified (place_of_specs specs) (parts_view ps)) r → Tells type_view r n (judged_specs specs c)
 specs_tell specs c n a r = finishes parts_view type_view (judged_parts specs) (λ d all. specified (place_of_specs specs) all) c n a r
-
--- a struct by its tag
-pub tag_tells : (place : ℕ) (t : Name) (c : Context) (n : CodeContext) (number : ℕ)
-    → context_view n ≡ with_tag c t → number ≡ tag_number (with_tag c t) t → Tells part_view (Ok (parts.Tag number)) n (judged_spec (source.struct place t) c)
-tag_tells place t c n number is_n is_number = record { gives = ap (λ (i : ℕ). typed (tag i)) (sym is_number); leaves = is_n }
 
 pub dimension_tells : (e : source.Expr) (c : Context) (n : CodeContext) (a : Result (Box CodeExpr Global) CompileFault) (r : Result ℕ CompileFault)
     → Tells boxed_expr_view a n (valued (judged e) c) → Finishes (λ (i : ℕ). i) a (λ x. dimension e (context_view n) (boxed_expr_view x)) r → Tells (λ (i : ℕ). i) r n (array_size e (judged e) c)

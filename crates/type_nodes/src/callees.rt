@@ -118,6 +118,8 @@ pub fn called_by(
         Some(Binding::Library(which)) => library_called(alloc, place, which, args),
         Some(Binding::Global(_, _)) => no_call(place, Kind::TypeMismatch, args),
         Some(Binding::Local(_, _)) => no_call(place, Kind::TypeMismatch, args),
+        Some(Binding::Enumerator(_)) => no_call(place, Kind::TypeMismatch, args),
+        Some(Binding::Type(_)) => no_call(place, Kind::TypeMismatch, args),
         None => no_call(place, Kind::UnknownName, args),
     }
 }
@@ -179,6 +181,8 @@ fn begun_by(alloc: Global, meaning: Option<Binding>) -> Result<Option<Option<u32
         Some(Binding::Library(_)) => Ok(Some(None)),
         Some(Binding::Global(_, _)) => Ok(None),
         Some(Binding::Local(_, _)) => Ok(None),
+        Some(Binding::Enumerator(_)) => Ok(None),
+        Some(Binding::Type(_)) => Ok(None),
         None => Ok(None),
     }
 }

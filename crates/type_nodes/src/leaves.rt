@@ -21,7 +21,7 @@ use type_context::names::{Binding, Library};
 use type_rules::places::place_of_parts;
 use type_rules::trees::made;
 
-/// A name is an object or a constant.
+/// A name is an object or a constant, and no type.
 pub fn named(context: &Context<'_>, name: Name) -> Result<Box<Expr>, CompileFault>
     ensures { Gives boxed_expr_view result (named name.from (meaning_of (context_view context.now) name)) }
 {
@@ -34,6 +34,8 @@ pub fn named(context: &Context<'_>, name: Name) -> Result<Box<Expr>, CompileFaul
             place,
             Num::int(value),
         ),
+        Some(Binding::Enumerator(value)) => number(context.alloc, place, Num::int(value)),
+        Some(Binding::Type(_)) => refused(place, Kind::UnknownName),
         Some(_) => refused(place, Kind::OutsideSubset(12)),
         None => refused(place, Kind::UnknownName),
     }

@@ -4,6 +4,7 @@
 #![tactic(auto)]
 
 pub mod callees;
+pub mod enums;
 pub mod formats;
 pub mod leaves;
 pub mod library;

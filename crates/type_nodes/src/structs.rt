@@ -1,24 +1,24 @@
 //! Tags, members and types, by what their parts came to (C11 6.7.2, 6.7.6).
-ghost use Rattle.std.specs.Prelude.{◌≡◌, ℕ, List, map, IfOk, IfErr, OnOk};
+ghost use Rattle.std.specs.Prelude.{◌≡◌, ℕ, List, [], length, map, IfOk, IfErr, OnOk};
 ghost use Rattle.std.specs.List.{list_any};
 ghost use Rattle.std.specs.Str.{bytes_eq};
 ghost use Rattle.c_lex.specs.declared.refusal.CompileFault.TheVariants.{NoMemory};
 ghost use Rattle.c_tree.specs.Syntax as trees;
 ghost use Rattle.c_tree.specs.SyntaxViews as source;
-ghost use Rattle.c_tree.specs.Typed.{Ty};
+ghost use Rattle.c_tree.specs.Typed.{Ty, structure};
 ghost use Rattle.c_tree.specs.TypedViews.{type_view, boxed_expr_view};
 ghost use Rattle.c_typing.specs.Faults as faults;
 ghost use Rattle.c_typing.specs.Faults.{Judged, Gives};
 ghost use Rattle.c_typing.specs.Types.{behind_pointers};
 ghost use Rattle.c_typing.specs.Scope as scopes;
-ghost use Rattle.c_typing.specs.Scope.{bytes_of, with_tag, tag_number};
-ghost use Rattle.c_typing.specs.Judgement.{Judging, lone, struct_fits, fitting, closing, is_again, fresh_member, object_declared, opened, specified, place_of_specs, dimension, tag};
+ghost use Rattle.c_typing.specs.Scope.{bytes_of, with_new_struct, with_tag, tag_number};
+ghost use Rattle.c_typing.specs.Judgement.{Judging, lone, struct_fits, fitting, closing, is_again, fresh_member, object_declared, plain_type, is_no_enum, braces_fit, opened, tagged, specified, place_of_specs, dimension, whole};
 ghost use Rattle.type_context.specs.ContextViews.{context_view, member_type_view, members_view, types_view};
 ghost use Rattle.type_context.specs.inner.Outcomes.{joined};
 ghost use Rattle.type_rules.specs.SpecifierViews.{numbers_view, part_view, parts_view, declared_view};
 ghost use Rattle.type_context.specs.Telling.{Tells, Says};
 ghost use Rattle.type_nodes.specs.Nodes.{Finishes, types_of_members};
-ghost use Rattle.type_nodes.specs.inner.Members.{is_fine, stands_fine};
+ghost use Rattle.type_nodes.specs.inner.Members.{is_fine, stands_fine, struct_part};
 
 use c_lex::{CompileFault, Kind, Refusal};
 use c_tree::copies::copy_type;
@@ -26,11 +26,11 @@ use c_tree::syntax as tree;
 use c_tree::syntax::{Name, Pointer};
 use c_tree::typed::{CType, Expr};
 use std::alloc::{AllocError, Global};
-use type_context::context::{Context, MemberType, within};
+use type_context::context::{Context, MemberType, count, within};
 use type_context::faults::{as_fault, both, unless};
 use type_context::layouts::{GREATEST_OBJECT, struct_size};
 use type_context::outcomes::both_fine;
-use type_rules::declarators::{Declared, dimension, object_declared};
+use type_rules::declarators::{Declared, dimension, object_declared, plain_type};
 use type_rules::places::place_of_specs;
 use type_rules::specifiers::{Part, behind_pointers, specified};
 
@@ -47,12 +47,56 @@ pub fn named_tag(context: &mut Context<'_>, tag: Name) -> Result<u32, CompileFau
     context.tag_number(tag)
 }
 
-/// A tag's braces: once, and 256 of them at most.
+/// The tag of a struct is no enum's (C11 6.7.2.3 p2).
+pub fn is_no_enum(context: &Context<'_>, tag: Name) -> Result<(), Refusal>
+    ensures { Says (λ _. tt) result (is_no_enum (context_view context.now) tag) }
+{
+    unless(tag.from, Kind::DoubleName, !context.is_enum_tag(tag))
+}
+
+/// There are 256 structs with braces at most.
+pub fn braces_fit(context: &Context<'_>, place: u32) -> Result<(), Refusal>
+    ensures { Says (λ _. tt) result (braces_fit (context_view context.now) place) }
+{
+    within(place, 3, 256, context.begun.len())
+}
+
+/// A tag's braces: once.
 pub fn opened(context: &Context<'_>, tag: Name, number: u32) -> Result<(), Refusal>
     ensures { number ≡ tag_number (context_view context.now) tag → Says (λ _. tt) result (opened (context_view context.now) tag) }
 {
     let once = unless(tag.from, Kind::DoubleName, !context.is_begun(number));
-    both_fine(once, within(tag.from, 3, 256, context.begun.len()))
+    let others = both_fine(is_no_enum(context, tag), braces_fit(context, tag.from));
+    both_fine(once, others)
+}
+
+// A struct of this number, if nothing is wrong with its tag.
+#[tactic(auto, using(type_context::proofs::Judging::refused_part))]
+fn struct_if(fine: Result<(), Refusal>, number: u32) -> Result<Part, Refusal>
+    ensures { (j : Judged (Unit {0})) → Says (λ _. tt) fine j → Says part_view result (struct_part j number) }
+{
+    fine?;
+    Ok(Part::Whole(CType::Struct(number)))
+}
+
+/// A struct by its tag; one that wasn't named before isn't declared.
+pub fn tagged(context: &mut Context<'_>, tag: Name) -> Result<Part, CompileFault>
+    ensures { Tells part_view result context.new (tagged tag (context_view context.old)) }
+{
+    let fine = is_no_enum(context, tag);
+    let number = named_tag(context, tag)?;
+    as_fault(struct_if(fine, number))
+}
+
+/// A struct without a tag; its number.
+pub fn unnamed_struct(context: &mut Context<'_>) -> Result<u32, CompileFault>
+    ensures after { OnOk result (context_view context.new ≡ with_new_struct (context_view context.old) []) }
+    ensures number { IfOk result (λ n. n ≡ length (context_view context.old).structs) }
+    ensures memory { IfErr result (λ e. e ≡ NoMemory) }
+{
+    let number = count(context.structs.len())?;
+    context.add_struct(&[])?;
+    Ok(number)
 }
 
 // Whether a name is one of these.
@@ -136,24 +180,24 @@ fn tag_of(
     opened: Result<(), CompileFault>,
     fits: Result<(), CompileFault>,
 ) -> Result<Part, CompileFault>
-    ensures { Finishes part_view (joined opened fits) (λ _. faults.typed (tag number)) result }
+    ensures { Finishes part_view (joined opened fits) (λ _. faults.typed (whole (structure number))) result }
 {
     both(opened, fits)?;
-    Ok(Part::Tag(number))
+    Ok(Part::Whole(CType::Struct(number)))
 }
 
 /// Behind the closing brace the struct is declared, unless it was begun before.
 pub fn closed<'t>(
     context: &mut Context<'t>,
-    tag: Name,
+    place: u32,
     number: u32,
     opened: Result<(), CompileFault>,
     again: bool,
     members: Result<Vec<MemberType<'t>>, CompileFault>,
 ) -> Result<Part, CompileFault>
-    ensures { (j : Judged (Unit {0})) (J : Judging (List (List ℕ × Ty))) (c : scopes.Context) → Gives (λ _. tt) opened j → Tells types_of_members members.entry context.old (J c) → Tells part_view result context.new (closing tag.from number j again J c) }
+    ensures { (j : Judged (Unit {0})) (J : Judging (List (List ℕ × Ty))) (c : scopes.Context) → Gives (λ _. tt) opened j → Tells types_of_members members.entry context.old (J c) → Tells part_view result context.new (closing place number j again J c) }
 {
-    let fits = fitting(context, tag.from, number, again, members);
+    let fits = fitting(context, place, number, again, members);
     tag_of(number, opened, fits)
 }
 
@@ -229,16 +273,20 @@ pub fn type_of_parts(
     specified(alloc, place_of_specs(specs), &parts)
 }
 
-/// A type behind pointers (C11 6.7.6.1).
+/// The type of a type name: a type behind pointers, made of 64 stars and brackets at most (C11
+/// 6.7.6.1).
+#[tactic(auto, using(type_context::proofs::Judging::fails_part))]
 pub fn pointers_to(
     alloc: Global,
+    place: u32,
     named: Result<CType, CompileFault>,
     pointers: &[Pointer],
 ) -> Result<CType, CompileFault>
-    ensures { Finishes type_view named (λ t. faults.typed (behind_pointers (type_view t) pointers.now)) result }
+    ensures { Finishes type_view named (λ t. plain_type place (behind_pointers (type_view t) pointers.now)) result }
 {
     let named = named?;
-    behind_pointers(alloc, named, pointers)
+    let whole = behind_pointers(alloc, named, pointers)?;
+    as_fault(plain_type(place, whole))
 }
 
 /// The size of an array, by what stands between the brackets and its typed form (C11 6.7.6.2).

@@ -1,3 +1,4 @@
 pub mod Rowed
 pub mod Fitting
 pub mod Numbers
+pub mod Objects

@@ -3,7 +3,8 @@ use Rattle.std.specs.Prelude.{ℕ, List, map, Option, Some, None, Vec}
 use Rattle.std.specs.Borrow.{Bor}
 use Rattle.std.specs.declared.alloc.Global.{Global}
 use Rattle.c_tree.specs.declared.syntax.Span.{Span}
-use Rattle.c_typing.specs.Judgement.{Part, word, tag, Declarator}
+use Rattle.c_tree.specs.TypedViews.{type_view}
+use Rattle.c_typing.specs.Judgement.{Part, word, whole, Declarator}
 use Rattle.type_rules.specs.declared.declarators.Declared.{Declared}
 use Rattle.type_rules.specs.declared.specifiers.Part.{Part as CodePart}
 use Rattle.type_rules.specs.declared.specifiers.Part.TheVariants as parts
@@ -17,10 +18,10 @@ abbrev pub parts_seen : Option (Bor (List Span)) → Option (List Span)
 parts_seen None = None
 parts_seen (Some b) = Some b.now
 
--- the specifier that one of the code stands for: a word, or the struct of a number (C11 6.7.2)
+-- the specifier that one of the code stands for: a word, or a type of its own (C11 6.7.2)
 abbrev pub part_view : CodePart → Part
 part_view (parts.Word w) = word w
-part_view (parts.Tag n) = tag n
+part_view (parts.Whole t) = whole (type_view t)
 
 -- the specifiers that those of a list of the code stand for
 abbrev pub parts_view : Vec CodePart Global → List Part

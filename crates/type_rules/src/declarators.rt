@@ -4,9 +4,10 @@ ghost use Rattle.c_tree.specs.SyntaxViews as sources;
 ghost use Rattle.c_tree.specs.TypedViews.{type_view, expr_view};
 ghost use Rattle.c_typing.specs.Faults.{Gives, typed};
 ghost use Rattle.c_typing.specs.Types.{arrays_of};
-ghost use Rattle.c_typing.specs.Judgement.{declared_type, dimension_by, dimension, object_type, object_declared};
+ghost use Rattle.c_typing.specs.Judgement.{declared_type, dimension_by, dimension, fits_depth, plain_type, object_type, object_declared};
 ghost use Rattle.type_context.specs.ContextViews.{context_view};
-ghost use Rattle.type_context.specs.Telling.{Says};
+ghost use Rattle.type_context.specs.Telling.{Says, both_fine};
+ghost use Rattle.type_rules.specs.inner.Objects.{sized};
 ghost use Rattle.type_rules.specs.SpecifierViews.{declared_view};
 
 use crate::constants::constant_value;
@@ -20,8 +21,9 @@ use c_tree::typed::{CType, Expr};
 use std::alloc::Global;
 use type_context::context::Context;
 use type_context::faults::{as_fault, unless};
-use type_context::kinds::has_size;
+use type_context::kinds::{has_size, is_within_depth};
 use type_context::layouts::{GREATEST_OBJECT, is_small};
+use type_context::outcomes::both_fine;
 
 /// A declarator, once its sizes are known.
 #[derive(Drop)]
@@ -31,8 +33,8 @@ pub struct Declared<'a> {
     pub sizes: Vec<u32>,
 }
 
-// Arrays of these sizes, the outermost first: at most 64, since no declarator has more stars and
-// dimensions.
+// Arrays of these sizes, the outermost first: at most 64, since no declarator as it is written has
+// more stars and dimensions.
 fn arrays_of(alloc: Global, t: CType, sizes: &[u32]) -> Result<CType, CompileFault>
     ensures { Gives type_view result (typed (arrays_of (type_view t) sizes.now)) }
 {
@@ -53,13 +55,40 @@ fn declared_type(alloc: Global, t: CType, d: &Declared<'_>) -> Result<CType, Com
     arrays_of(alloc, t, &d.sizes)
 }
 
-/// An object has a size, and at most the greatest object's.
+// The stars and brackets of a type, of which there are so many at most.
+const MOST_DEPTH: u32 = 64;
+
+/// A type is made of 64 stars and brackets at most.
+pub fn fits_depth(place: u32, t: &CType) -> Result<(), Refusal>
+    ensures { Says (λ _. tt) result (fits_depth place (type_view t.now)) }
+{
+    unless(place, Kind::TooMany(15), is_within_depth(t, MOST_DEPTH))
+}
+
+/// The type of a type name or of a function's result.
 #[tactic(auto, using(type_context::proofs::Judging::refused_part))]
+pub fn plain_type(place: u32, t: CType) -> Result<CType, Refusal>
+    ensures { Says type_view result (plain_type place (type_view t)) }
+{
+    fits_depth(place, &t)?;
+    Ok(t)
+}
+
+// What is judged of an object's type.
+fn object_fine(context: &Context<'_>, place: u32, t: &CType) -> Result<(), Refusal>
+    ensures { Says (λ _. tt) result (both_fine (sized (context_view context.now) place (type_view t.now)) (fits_depth place (type_view t.now))) }
+{
+    let fine = has_size(&context.structs, t) && is_small(&context.structs, t);
+    let sized = unless(place, Kind::BadSize, fine);
+    both_fine(sized, fits_depth(place, t))
+}
+
+/// An object has a size, at most the greatest object's, and not too many stars and brackets.
+#[tactic(auto, using(type_context::proofs::Judging::refused_part, crate::proofs::Objects::object_from))]
 pub fn object_type(context: &Context<'_>, place: u32, t: CType) -> Result<CType, Refusal>
     ensures { Says type_view result (object_type (context_view context.now) place (type_view t)) }
 {
-    let fine = has_size(&context.structs, &t) && is_small(&context.structs, &t);
-    unless(place, Kind::BadSize, fine)?;
+    object_fine(context, place, &t)?;
     Ok(t)
 }
 

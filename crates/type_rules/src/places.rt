@@ -72,7 +72,12 @@ pub fn place_of_specs(specs: &[Spec]) -> u32
         [first, ..] => match first {
             Spec::Word { place, .. }
             | Spec::Struct { place, .. }
-            | Spec::StructBody { place, .. } => *place,
+            | Spec::StructBody { place, .. }
+            | Spec::UnnamedStruct { place, .. }
+            | Spec::Enum { place, .. }
+            | Spec::EnumBody { place, .. }
+            | Spec::UnnamedEnum { place, .. } => *place,
+            Spec::Alias(name) => name.from,
         },
     }
 }

@@ -4,21 +4,24 @@ ghost use Rattle.std.specs.Option.{option_map};
 ghost use Rattle.c_tree.specs.TypedViews.{type_view};
 ghost use Rattle.c_typing.specs.Faults.{Gives, typed};
 ghost use Rattle.c_typing.specs.Types.{behind_pointers};
-ghost use Rattle.c_typing.specs.Judgement.{words_of, tags_of, type_by, specified};
+ghost use Rattle.c_typing.specs.Judgement.{words_of, wholes_of, type_by, specified};
+ghost use Rattle.type_context.specs.ContextViews.{types_view};
 ghost use Rattle.type_rules.specs.SpecifierViews.{part_view};
 
 use c_lex::{CompileFault, Kind};
+use c_tree::copies::copy_type;
 use c_tree::syntax::{Pointer, TypeWord};
 use c_tree::typed::CType;
 use std::alloc::{AllocError, Global};
 use type_context::faults::refused;
 use type_context::words::{named_by, says_nothing};
 
-/// A word among specifiers, or the struct of a number.
-#[derive(Clone, Copy, Debug)]
+/// A word among specifiers, or a type of its own: a struct, an enum, or what the name of a type
+/// stands for.
+#[derive(Debug, Drop)]
 pub enum Part {
     Word(TypeWord),
-    Tag(u32),
+    Whole(CType),
 }
 
 // The words that say something of the type.
@@ -36,27 +39,27 @@ fn words_of(alloc: Global, parts: &[Part]) -> Result<Vec<TypeWord>, AllocError>
     Ok(words)
 }
 
-// The numbers of the structs.
-fn tags_of(alloc: Global, parts: &[Part]) -> Result<Vec<u32>, AllocError>
-    ensures { IfOk result (λ tags. tags.items ≡ tags_of (map part_view parts.now)) }
+// The types of their own.
+fn wholes_of(alloc: Global, parts: &[Part]) -> Result<Vec<CType>, AllocError>
+    ensures { IfOk result (λ wholes. types_view wholes.items ≡ wholes_of (map part_view parts.now)) }
 {
-    let mut tags = Vec::new(alloc);
+    let mut wholes = Vec::new(alloc);
     'parts: for part in parts {
-        if let Part::Tag(number) = part {
-            tags.push(*number)?;
+        if let Part::Whole(t) = part {
+            wholes.push(copy_type(alloc, t)?)?;
         }
     }
-    Ok(tags)
+    Ok(wholes)
 }
 
-// The type that structs and words name, if they name one.
-fn type_by(tags: &[u32], words: &[TypeWord]) -> Option<CType>
-    ensures { option_map type_view result ≡ type_by tags.now words.now }
+// The type that types of their own and words name, if they name one.
+fn type_by(alloc: Global, wholes: &[CType], words: &[TypeWord]) -> Result<Option<CType>, AllocError>
+    ensures { IfOk result (λ t. option_map type_view t ≡ type_by (types_view wholes.now) words.now) }
 {
-    match (tags, words) {
-        ([], words) => named_by(words),
-        ([number], []) => Some(CType::Struct(*number)),
-        _ => None,
+    match (wholes, words) {
+        ([], words) => Ok(named_by(words)),
+        ([t], []) => Ok(Some(copy_type(alloc, t)?)),
+        _ => Ok(None),
     }
 }
 
@@ -64,9 +67,9 @@ fn type_by(tags: &[u32], words: &[TypeWord]) -> Option<CType>
 pub fn specified(alloc: Global, place: u32, parts: &[Part]) -> Result<CType, CompileFault>
     ensures { Gives type_view result (specified place (map part_view parts.now)) }
 {
-    let tags = tags_of(alloc, parts)?;
+    let wholes = wholes_of(alloc, parts)?;
     let words = words_of(alloc, parts)?;
-    match type_by(&tags, &words) {
+    match type_by(alloc, &wholes, &words)? {
         Some(t) => Ok(t),
         None => refused(place, Kind::TypeMismatch),
     }

@@ -1,7 +1,7 @@
 use Rattle.std.proofs.Common.{◌≡◌, drop}
 use Rattle.c_typing.specs.Scope.{member_among}
 use Rattle.type_context.specs.ContextViews.{bytes_view}
-use Rattle.type_context.proofs.context.member_place.Given as goal
+use Rattle.type_context.proofs.context.place_among.Given as goal
 
 -- the names from here on say what all say
 abbrev pub invariant-names : goal.invariant-names
