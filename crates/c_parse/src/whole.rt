@@ -6,7 +6,7 @@ ghost use Rattle.c_tree.specs.SyntaxViews.{view};
 ghost use Rattle.c_grammar.specs.Laws.{EndOnce};
 ghost use Rattle.c_grammar.specs.Language.{refusal_of_word, or_too_deep, Parses, RefusesTokens};
 ghost use Rattle.c_grammar.specs.inner.TerminalFiles.{refusal_of, Parses as ParsesTerminals, RefusesTokens as RefusesTerminals};
-ghost use Rattle.mark_types.specs.inner.Looks.{IsInText};
+ghost use Rattle.mark_types.specs.Texts.{IsInText};
 ghost use Rattle.c_parse.specs.inner.Ends.{EndsWithEnd};
 
 use crate::files::whole_file;
