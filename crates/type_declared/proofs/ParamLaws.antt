@@ -1,5 +1,6 @@
 -- The types of parameters: which are void, and which are pointers to elements.
-use Rattle.std.proofs.Common.{◌≡◌, ℕ, suc, ◌<◌, ◌≤◌, ◌&&◌, ◌==◌, true, false, List, [], ◌∷◌, Option, Some, None, map, drop, length, get_or, is_some, ne_eqb, arith, Err, refl, ap, ◌∙◌}
+use Rattle.std.proofs.Common.{◌≡◌, ℕ, suc, ◌-◌, ◌<◌, ◌≤◌, ◌&&◌, ◌==◌, true, false, List, [], ◌∷◌, Option, Some, None, map, take, drop, length, get_or, is_some, ne_eqb, arith, Err, refl, ap, subst, ◌∙◌}
+use Rattle.std.proofs.lemmas.List.{take_all}
 use Rattle.std.proofs.Math.Seq.{drop-cons}
 use Rattle.c_lex.specs.declared.refusal.CompileFault.{CompileFault}
 use Rattle.c_lex.specs.declared.refusal.CompileFault.TheVariants.{Refused, NoMemory}
@@ -10,12 +11,13 @@ use Rattle.c_tree.specs.declared.syntax.ParamDim.{ParamDim as CodeParamDim}
 use Rattle.c_tree.specs.declared.typed.CType.{CType}
 use Rattle.c_tree.specs.SyntaxViews.{param_dim_view}
 use Rattle.c_tree.specs.Typed.{Ty, void, pointer, array, integer, structure, mutex}
-use Rattle.c_typing.specs.Faults.{Judged, typed, faulty, Fails, both, mapped, ◌>>=◌}
+use Rattle.c_typing.specs.Faults.{Judged, typed, faulty, Fails, mapped}
 use Rattle.c_typing.specs.Types.{is_void, behind_pointers, arrays_of}
 use Rattle.c_typing.specs.Scope.{Context}
 use Rattle.c_typing.specs.Judgement.{object_type, plain_type}
-use Rattle.c_typing.specs.Programs.{known, pointer_for, adjusted, void_by, is_bare_by}
+use Rattle.c_typing.specs.Programs.{known, adjusted, void_by, is_bare_by}
 use Rattle.type_context.specs.Telling.{lacks_memory}
+use Rattle.type_context.proofs.Judging.{fails_part}
 
 -- a pointer is not void, whatever stands behind it
 pub pointer_no_void : (t : Ty) (ps : List Pointer) → is_void (behind_pointers (pointer t) ps) ≡ false
@@ -70,12 +72,10 @@ bare_unnamed None [] h = refl
 bare_unnamed None (d ∷ ds) h = ne_eqb (length (d ∷ ds)) 0 (λ e. absurd (omega (arith, e)))
 bare_unnamed (Some n) ds h = cc
 
--- a parameter without brackets has its type, or is a pointer where that is an array
-pub adjusted_none : (c : Context) (place : ℕ) (t : Ty) (ss : List (Option ℕ)) → length ss < 1 → adjusted c place t ss ≡ plain_type place (pointer_for t)
-adjusted_none c place t [] h = refl
-adjusted_none c place t (s ∷ ss) h = absurd (omega arith)
-
--- an array is a pointer to its elements
-pub adjusted_some : (c : Context) (place : ℕ) (t : Ty) (ss : List (Option ℕ)) → 1 ≤ length ss → adjusted c place t ss ≡ (object_type c place (arrays_of t (known (drop 1 ss))) >>= λ element. plain_type place (pointer element))
-adjusted_some c place t [] h = absurd (omega arith)
-adjusted_some c place t (s ∷ ss) h = refl
+-- where the elements of an array are at fault, the parameter is
+pub element_fails : (e : CompileFault) (c : Context) (place : ℕ) (t : Ty) (ss inner : List (Option ℕ)) → 1 ≤ length ss → inner ≡ take (length ss - 1) (drop 1 ss)
+    → Fails e (object_type c place (arrays_of t (known inner))) → Fails e (adjusted c place t ss)
+element_fails e c place t [] inner h is k = absurd (omega arith)
+element_fails e c place t (s ∷ ss) inner h is k =
+    let same : inner ≡ ss = is ∙ take_all (length (s ∷ ss) - 1) ss (omega arith) in
+    fails_part (object_type c place (arrays_of t (known ss))) (λ element. plain_type place (pointer element)) e (subst (λ l. Fails e (object_type c place (arrays_of t (known l)))) same k)

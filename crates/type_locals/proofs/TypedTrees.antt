@@ -40,7 +40,7 @@ lib_renumbered f e which v xs ys is same k h =
 
 -- ---- statements
 
-stmts_renumbered : (f : ℕ → ℕ) (ss : List CodeStmt) → stmts_of (map (λ s. renumbered_stmt f (stmt_view s)) ss) ≡ renumbered_stmts f (stmts_of (map stmt_view ss))
+pub stmts_renumbered : (f : ℕ → ℕ) (ss : List CodeStmt) → stmts_of (map (λ s. renumbered_stmt f (stmt_view s)) ss) ≡ renumbered_stmts f (stmts_of (map stmt_view ss))
 stmts_renumbered f [] = refl
 stmts_renumbered f (s ∷ ss) = ap (more_stmts (renumbered_stmt f (stmt_view s))) (stmts_renumbered f ss)
 

@@ -1,5 +1,5 @@
 use Rattle.std.proofs.Common.{sym, subst, not}
-use Rattle.c_typing.specs.Faults.{Gives, Judged}
+use Rattle.c_typing.specs.Faults.{Gives}
 use Rattle.c_typing.specs.Scope.{is_double}
 use Rattle.c_typing.specs.Programs.{not_library, alias_fits, alias_fine}
 use Rattle.type_context.specs.ContextViews.{context_view}
