@@ -2,20 +2,30 @@
 
 ghost use Rattle.std.specs.Prelude.{◌≡◌, map};
 ghost use Rattle.c_tree.specs.TypedViews.{label_view};
-ghost use Rattle.c_meaning.specs.Switches.{default_from, chosen, starts_at};
+ghost use Rattle.c_meaning.specs.Switches.{is_number, default_from, chosen, starts_at};
 ghost use Rattle.source_statements.specs.inner.Labels.{is_case};
 
+use ak_words::Num;
 use block_store::Value;
 use c_tree::typed::Label;
+
+// Whether a value is this number.
+fn is_number(n: Num, v: Value) -> bool
+    ensures { result ≡ is_number n v }
+{
+    match v {
+        Value::Num(m) => m.value == n.value,
+        Value::Pointer(_) => false,
+    }
+}
 
 // Whether a label is a case of this value.
 fn is_case(label: &Label, v: Value) -> bool
     ensures { result ≡ is_case (label_view label.now) v }
 {
-    match (label.value, v) {
-        (Some(n), Value::Num(m)) => m.value == n.value,
-        (Some(_), Value::Pointer(_)) => false,
-        (None, _) => false,
+    match label.value {
+        None => false,
+        Some(n) => is_number(n, v),
     }
 }
 
