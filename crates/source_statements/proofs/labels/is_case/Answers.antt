@@ -1,4 +1,4 @@
-use Rattle.source_statements.proofs.Labels.{case_of, no_case}
+use Rattle.source_statements.proofs.Cases.{case_of, no_case}
 use Rattle.source_statements.proofs.labels.is_case.Goals as goal
 
 pub returns-in-None : goal.returns-in-None

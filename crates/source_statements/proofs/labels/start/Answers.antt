@@ -2,7 +2,7 @@ use Rattle.std.proofs.Common.{◌≡◌, ◌∙◌, ap, map, length, refl}
 use Rattle.std.proofs.lemmas.Option.{slice_get_past, slice_get_read}
 use Rattle.c_tree.specs.TypedViews.{label_view}
 use Rattle.c_meaning.specs.Switches.{starts_at}
-use Rattle.source_statements.proofs.Labels.{starts_none, starts_some}
+use Rattle.source_statements.proofs.Cases.{starts_none, starts_some}
 use Rattle.source_statements.proofs.labels.start.Goals as goal
 
 pub returns-in-None : goal.returns-in-None
