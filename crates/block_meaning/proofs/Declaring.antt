@@ -1,5 +1,5 @@
 -- The same of statements, of what is left to do, and of whole turns.
-use Rattle.std.proofs.Common.{◌≡◌, ◌≤◌, ◌+◌, ℕ, Bool, true, false, List, [], ◌∷◌, length, replicate, Option, Some, None, refl, ap, ◌∙◌, arith}
+use Rattle.std.proofs.Common.{◌≡◌, ◌≤◌, ◌+◌, ℕ, zero, suc, Bool, true, false, List, [], ◌∷◌, length, replicate, Option, Some, None, refl, ap, ◌∙◌, arith}
 use Rattle.std.specs.Prelude.{if◌then◌else◌}
 use Rattle.std.proofs.lemmas.List.{length-set, length_push}
 use Rattle.block_store.specs.declared.values.Answer.{Answer}
@@ -12,8 +12,9 @@ use Rattle.c_tree.specs.Typed as tree
 use Rattle.c_tree.specs.TypedLayout.{size_in, align_in}
 use Rattle.c_meaning.specs.Control as control
 use Rattle.c_meaning.specs.Control.{Control, Variable, Todo, Use, TurnStart, Loop, Update, wanted, dropped}
+use Rattle.c_meaning.specs.Switches.{chosen, starts_at}
 use Rattle.c_meaning.specs.Values.{access_of_type, is_scalar, truth_of, updated}
-use Rattle.c_meaning.specs.Turns.{TurnContext, Now, Does, Way, stays, after_call, local_at, is_block, size_of_local, variable_at, with_variable, ended_if, ended_local, ended_locals, made_local, declared_local, declared, declared_by, pointer_in, run, run_node, run_place, run_place_node, run_arguments, nowhere_way, drops_object, run_dropped, run_dropped_node, local_way, place_way, left_way, struct_right_way, struct_left_way, is_struct, assigns_object, assigns, update_read_way, update_right_way, update_left_way, updates_variable, update_local_way, updates, initialises, declares, caller_way, returns, if_way, nothing, leave_way, row_way, end_way, round_over, step_way, body_way, loop_test_way, rounds_if, rounds, loop_way, while_loop, for_loop, update_of, run_stmt, run_stmt_node, run_row, way_of, use_of, from_point, here, turn}
+use Rattle.c_meaning.specs.Turns.{TurnContext, Now, Does, Way, stays, after_call, local_at, is_block, size_of_local, variable_at, with_variable, ended_if, ended_local, ended_locals, made_local, declared_local, declared, declared_by, pointer_in, run, run_node, run_place, run_place_node, run_arguments, nowhere_way, drops_object, run_dropped, run_dropped_node, local_way, place_way, left_way, struct_right_way, struct_left_way, is_struct, assigns_object, assigns, update_read_way, update_right_way, update_left_way, updates_variable, update_local_way, updates, initialises, declares, caller_way, returns, if_way, nothing, leaving, leave_way, row_way, end_way, round_over, step_way, body_way, loop_test_way, rounds_if, rounds, loop_way, while_loop, for_loop, do_loop, switch_way, starts, switch_test_way, update_of, run_stmt, run_stmt_node, run_row, run_from, way_of, use_of, from_point, here, turn}
 use Rattle.source_statements.proofs.Names.{name_todo, name_use}
 use Rattle.block_meaning.specs.Counts.{in_stmt, in_node, in_row, in_loop, reached, reached_by, Fits, FitsUse, FitsPoint, FitsControl, HasFewDeclarations}
 use Rattle.block_meaning.proofs.Counting.{Within, within_more, within_if, Makes, makes_more, MakesUse, MakesWay, Few, on_ok_within, plainly_within, acts_within, after_fits, leaves_makes, block_value, read_makes, only_makes, second_makes, first_makes, second_test_makes, first_test_makes, choice_makes, argument_makes, run_makes, run_node_makes, run_place_makes, run_place_node_makes, run_arguments_makes}
@@ -321,6 +322,34 @@ loop_makes n h l run_body run_step w f b s g round = record {
 skips : (n : ℕ) → Executes n 0 (λ v. v.end)
 skips n w g fits = makes_more n (reached w.k) (0 + reached w.k) w.end (omega arith) g.ends
 
+-- a loop is left
+leaves_loop : (n : ℕ) → Executes n 0 (λ v. v.breaks)
+leaves_loop n w g fits = makes_more n (reached w.k) (0 + reached w.k) w.breaks (omega arith) g.breaks
+
+-- the condition of a do
+again_makes : (n : ℕ) (h : TurnContext) → Few n h → (e : tree.Expr) → Executes n (0 + 0) (λ v. run h e (if_way (tree.place_of e) (nothing (tree.place_of e)) (leaving (tree.place_of e)) (λ u. u.end) (λ u. u.breaks) v))
+again_makes n h f e w g fits x =
+    run_makes n h f e (if_way (tree.place_of e) (nothing (tree.place_of e)) (leaving (tree.place_of e)) (λ u. u.end) (λ u. u.breaks) w)
+    (if_makes n (tree.place_of e) (nothing (tree.place_of e)) (leaving (tree.place_of e)) (λ u. u.end) (λ u. u.breaks) w (skips n) (leaves_loop n) g fits) x
+
+-- ---- switch
+
+switch_makes : (n : ℕ) (w : Way) → MakesWay n w → MakesWay n (switch_way w)
+switch_makes n w g = record { fits = g.fits; ends = g.ends; breaks = g.ends; continues = g.continues }
+
+starts_makes : (n : ℕ) (body : tree.Stmts) (run_at : (at : ℕ) → Way → Does) (w : Way) (start : Option ℕ) → ((at : ℕ) → Executes n (in_row body) (run_at at)) → MakesWay n w → in_row body + reached w.k ≤ n
+    → Makes n (in_row body + reached w.k) (starts run_at w start)
+starts_makes n body run_at w None s g fits x =
+    within_more n (length x.world.blocks + reached w.k) (length x.world.blocks + (in_row body + reached w.k)) (w.end x) (omega arith) (g.ends x)
+starts_makes n body run_at w (Some at) s g fits x = s at (switch_way w) (switch_makes n w g) fits x
+
+switch_test_makes : (n : ℕ) (labels : List tree.Label) (body : tree.Stmts) (run_at : (at : ℕ) → Way → Does) (w : Way) → ((at : ℕ) → Executes n (in_row body) (run_at at)) → MakesWay n w → in_row body + reached w.k ≤ n
+    → MakesUse n (switch_test_way labels body run_at w)
+switch_test_makes n labels body run_at w s g fits = record {
+  fits = (fits, g.fits);
+  goes = λ v x. starts_makes n body run_at w (starts_at labels (chosen labels v)) s g fits x;
+}
+
 -- ---- statements
 
 mutual
@@ -346,6 +375,13 @@ mutual
       within_more n (length x.world.blocks + (in_stmt first + (in_loop l + reached w.k))) (length x.world.blocks + (in_stmt first + (in_stmt body + in_stmt step) + reached w.k)) (run_stmt h first (loop_way h l (run_stmt h body) (run_stmt h step) v) x) (omega arith)
       (stmt_makes n h f first (loop_way h l (run_stmt h body) (run_stmt h step) v)
       (loop_makes n h l (run_stmt h body) (run_stmt h step) v f (stmt_makes n h f body) (stmt_makes n h f step) (end_makes n (declared_by first []) w g) (omega (arith, fits))) (omega (arith, fits)) x)
+  node_makes n h f place (tree.do_while body e) w g fits x =
+      let l = do_loop body e in
+      within_more n (length x.world.blocks + (in_stmt body + (0 + 0) + reached w.k)) (length x.world.blocks + (in_stmt body + reached w.k)) (rounds h l (run_stmt h body) (λ v. run h e (if_way (tree.place_of e) (nothing (tree.place_of e)) (leaving (tree.place_of e)) (λ u. u.end) (λ u. u.breaks) v)) w x) (omega arith)
+      (rounds_makes n h l (run_stmt h body) (λ v. run h e (if_way (tree.place_of e) (nothing (tree.place_of e)) (leaving (tree.place_of e)) (λ u. u.end) (λ u. u.breaks) v)) w f (stmt_makes n h f body) (again_makes n h f e) g (omega (arith, fits)) x)
+  node_makes n h f place (tree.switch e labels body) w g fits x =
+      run_makes n h f e (switch_test_way labels body (run_from h body) w)
+      (switch_test_makes n labels body (run_from h body) w (from_makes n h f body) g fits) x
   node_makes n h f place tree.break_ w g fits x = within_more n (length x.world.blocks + reached w.k) (length x.world.blocks + (0 + reached w.k)) (w.breaks x) (omega arith) (g.breaks x)
   node_makes n h f place tree.continue_ w g fits x = within_more n (length x.world.blocks + reached w.k) (length x.world.blocks + (0 + reached w.k)) (w.continues x) (omega arith) (g.continues x)
   node_makes n h f place (tree.return_ value) w g fits x = returns_makes n (0 + reached w.k) h value f x
@@ -362,6 +398,15 @@ mutual
   stmts_makes n h f (tree.more_stmts s rest) w g fits x =
       within_more n (length x.world.blocks + (in_stmt s + (in_row rest + reached w.k))) (length x.world.blocks + (in_stmt s + in_row rest + reached w.k)) (run_stmt h s (row_way rest (run_row h rest) w) x) (omega arith)
       (stmt_makes n h f s (row_way rest (run_row h rest) w) (row_makes n rest (run_row h rest) w g (stmts_makes n h f rest w g (omega (arith, fits))) (omega (arith, fits))) (omega (arith, fits)) x)
+
+  from_makes : (n : ℕ) (h : TurnContext) → Few n h → (row : tree.Stmts) (at : ℕ) → Executes n (in_row row) (run_from h row at)
+  from_makes n h f tree.no_stmts at w g fits x = skips n w g fits x
+  from_makes n h f (tree.more_stmts s rest) zero w g fits x =
+      within_more n (length x.world.blocks + (in_stmt s + (in_row rest + reached w.k))) (length x.world.blocks + (in_stmt s + in_row rest + reached w.k)) (run_stmt h s (row_way rest (run_row h rest) w) x) (omega arith)
+      (stmt_makes n h f s (row_way rest (run_row h rest) w) (row_makes n rest (run_row h rest) w g (stmts_makes n h f rest w g (omega (arith, fits))) (omega (arith, fits))) (omega (arith, fits)) x)
+  from_makes n h f (tree.more_stmts s rest) (suc at) w g fits x =
+      within_more n (length x.world.blocks + (in_row rest + reached w.k)) (length x.world.blocks + (in_stmt s + in_row rest + reached w.k)) (run_from h rest at w x) (omega arith)
+      (from_makes n h f rest at w g (omega (arith, fits)) x)
 
 -- ---- what is left to do
 
@@ -384,6 +429,7 @@ way_makes n h f (control.then_loop l k) fits =
 way_makes n h f (control.in_body l k) fits =
     body_makes n h l (run_stmt h l.step) (way_of h k) f (stmt_makes n h f l.step) (way_makes n h f k fits.1) (under_name n (in_loop l) h k fits.0)
 way_makes n h f (control.in_step l k) fits = step_makes n h l (way_of h k) f (way_makes n h f k fits.1) (under_name n (in_loop l) h k fits.0)
+way_makes n h f (control.in_switch k) fits = switch_makes n (way_of h k) (way_makes n h f k fits)
 
 use_makes : (n : ℕ) (h : TurnContext) → Few n h → (k : Use) → FitsUse n k → MakesUse n (use_of h k)
 use_makes n h f (control.first_of place op right k) fits = first_makes n place op right (run h right) (use_of h k) (run_makes n h f right) (use_makes n h f k fits)
@@ -408,6 +454,8 @@ use_makes n h f (control.if_test place one other k) fits =
     if_makes n place one other (run_stmt h one) (run_stmt h other) (way_of h k) (stmt_makes n h f one) (stmt_makes n h f other) (way_makes n h f k fits.1) (under_name n (in_stmt one + in_stmt other) h k fits.0)
 use_makes n h f (control.loop_test place l k) fits =
     test_makes n h place l (run_stmt h l.body) (run_stmt h l.step) (way_of h k) f (stmt_makes n h f l.body) (stmt_makes n h f l.step) (way_makes n h f k fits.1) (under_name n (in_loop l) h k fits.0)
+use_makes n h f (control.switch_test labels body k) fits =
+    switch_test_makes n labels body (run_from h body) (way_of h k) (from_makes n h f body) (way_makes n h f k fits.1) (under_name n (in_row body) h k fits.0)
 use_makes n h f control.to_caller fits = caller_makes n h f
 use_makes n h f (control.to_nowhere k) fits = nowhere_makes n (way_of h k) (way_makes n h f k fits)
 
@@ -419,6 +467,7 @@ todo_reaches n (control.then_end numbers k) fits = todo_reaches n k fits
 todo_reaches n (control.then_loop l k) fits = fits.0
 todo_reaches n (control.in_body l k) fits = omega (arith, fits.0)
 todo_reaches n (control.in_step l k) fits = omega (arith, fits.0)
+todo_reaches n (control.in_switch k) fits = todo_reaches n k fits
 
 use_reaches : (n : ℕ) (k : Use) → FitsUse n k → reached_by k ≤ n
 use_reaches n (control.first_of place op right k) fits = use_reaches n k fits
@@ -440,6 +489,7 @@ use_reaches n (control.update_right u at k) fits = todo_reaches n k fits
 use_reaches n (control.update_read u at by k) fits = todo_reaches n k fits
 use_reaches n (control.if_test place one other k) fits = fits.0
 use_reaches n (control.loop_test place l k) fits = fits.0
+use_reaches n (control.switch_test labels body k) fits = fits.0
 use_reaches n control.to_caller fits = omega arith
 use_reaches n (control.to_nowhere k) fits = todo_reaches n k fits
 

@@ -2,8 +2,8 @@
 use Rattle.std.specs.Prelude.{ℕ, ◌+◌, ◌≤◌, ◌≡◌, List, [], ◌∷◌, length, slice_get, Option, Some, None}
 use Rattle.block_store.specs.Runs.{State}
 use Rattle.c_tree.specs.Typed as tree
-use Rattle.c_meaning.specs.Control.{Loop, Todo, leaves, then_row, then_end, then_loop, in_body, in_step}
-use Rattle.c_meaning.specs.Control.{Use, first_of, second_of, only_of, place_read, first_test, second_test, choice, argument, to_local, left_place, to_place, struct_left, struct_right, update_left, update_local, update_right, update_read, if_test, loop_test, to_caller, to_nowhere}
+use Rattle.c_meaning.specs.Control.{Loop, Todo, leaves, then_row, then_end, then_loop, in_body, in_step, in_switch}
+use Rattle.c_meaning.specs.Control.{Use, first_of, second_of, only_of, place_read, first_test, second_test, choice, argument, to_local, left_place, to_place, struct_left, struct_right, update_left, update_local, update_right, update_read, if_test, loop_test, switch_test, to_caller, to_nowhere}
 use Rattle.c_meaning.specs.Control.{Wait, wanted, dropped, Caller, TurnStart, gives, lacks, begins, round, Control}
 
 -- the declarations of a statement, with those of all statements in it
@@ -18,6 +18,8 @@ abbrev mutual
   in_node (tree.if_else e one other) = in_stmt one + in_stmt other
   in_node (tree.while_ e body) = in_stmt body
   in_node (tree.for_ first e step body) = in_stmt first + (in_stmt body + in_stmt step)
+  in_node (tree.do_while body e) = in_stmt body
+  in_node (tree.switch e labels body) = in_row body
   in_node tree.break_ = 0
   in_node tree.continue_ = 0
   in_node (tree.return_ value) = 0
@@ -42,6 +44,7 @@ reached (then_end numbers k) = reached k
 reached (then_loop l k) = in_loop l + reached k
 reached (in_body l k) = in_stmt l.step + reached k
 reached (in_step l k) = reached k
+reached (in_switch k) = reached k
 
 -- the same of a turn that goes on with a value: an action and a call end it
 abbrev pub reached_by : Use → ℕ
@@ -64,6 +67,7 @@ reached_by (update_right u at k) = reached k
 reached_by (update_read u at by k) = reached k
 reached_by (if_test place one other k) = in_stmt one + in_stmt other + reached k
 reached_by (loop_test place l k) = in_loop l + reached k
+reached_by (switch_test labels body k) = in_row body + reached k
 reached_by to_caller = 0
 reached_by (to_nowhere k) = reached k
 
@@ -75,6 +79,7 @@ Fits n (then_end numbers k) = Fits n k
 Fits n (then_loop l k) = (in_loop l + reached k ≤ n) × Fits n k
 Fits n (in_body l k) = (in_loop l + reached k ≤ n) × Fits n k
 Fits n (in_step l k) = (in_loop l + reached k ≤ n) × Fits n k
+Fits n (in_switch k) = Fits n k
 
 -- the same of a use of a value, and of what waits for one
 abbrev mutual
@@ -98,6 +103,7 @@ abbrev mutual
   FitsUse n (update_read u at by k) = Fits n k
   FitsUse n (if_test place one other k) = (in_stmt one + in_stmt other + reached k ≤ n) × Fits n k
   FitsUse n (loop_test place l k) = (in_loop l + reached k ≤ n) × Fits n k
+  FitsUse n (switch_test labels body k) = (in_row body + reached k ≤ n) × Fits n k
   FitsUse n to_caller = Unit {0}
   FitsUse n (to_nowhere k) = Fits n k
 

@@ -10,7 +10,7 @@ use Rattle.c_meaning.specs.Turns.{declared, declared_by, nothing}
 use Rattle.source_tree.specs.declared.tree.Callee.{Callee}
 use Rattle.source_tree.specs.declared.tree.Callee.TheVariants as callees
 use Rattle.source_tree.specs.declared.tree.SharedStmt.{SharedStmt}
-use Rattle.source_tree.specs.SharedViews.{expr_of, optional_expr_of, args_of, stmt_of, row_of, row_from}
+use Rattle.source_tree.specs.SharedViews.{expr_of, optional_expr_of, args_of, labels_of, stmt_of, row_of, row_from}
 use Rattle.source_state.specs.Operations.{unary_of, binary_of}
 use Rattle.source_state.specs.declared.control.LoopParts.{LoopParts}
 use Rattle.source_state.specs.declared.control.Updating.{Updating}
@@ -55,6 +55,7 @@ todo_of (todos.ThenEndFirst' s x k) = control.then_end (declared_by (stmt_of s.v
 todo_of (todos.ThenLoop' l x k) = control.then_loop (loop_of l.value) (todo_of k)
 todo_of (todos.InBody' l x k) = control.in_body (loop_of l.value) (todo_of k)
 todo_of (todos.InStep' l x k) = control.in_step (loop_of l.value) (todo_of k)
+todo_of (todos.InSwitch' x k) = control.in_switch (todo_of k)
 
 -- what a value is used for
 abbrev pub use_of : Use → control.Use
@@ -80,6 +81,7 @@ use_of (uses.UpdateRight u to k) = control.update_right (updating_of u.value) to
 use_of (uses.UpdateRead u to by k) = control.update_read (updating_of u.value) to by (todo_of k.value)
 use_of (uses.IfTest place at one other k) = control.if_test place (stmt_of one.value) (stmt_or_nothing at other) (todo_of k.value)
 use_of (uses.LoopTest place l k) = control.loop_test place (loop_of l.value) (todo_of k.value)
+use_of (uses.SwitchTest labels body k) = control.switch_test (labels_of labels.value) (row_of body.value) (todo_of k.value)
 use_of uses.ToCaller = control.to_caller
 use_of (uses.ToNowhere k) = control.to_nowhere (todo_of k.value)
 

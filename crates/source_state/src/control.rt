@@ -5,7 +5,7 @@ use crate::operations::{Binary, Unary};
 use ak_words::{Op, Rule};
 use block_store::{Access, Value};
 use c_tree::typed::CType;
-use source_tree::tree::{Callee, SharedArgs, SharedExpr, SharedRow, SharedStmt};
+use source_tree::tree::{Callee, SharedArgs, SharedExpr, SharedLabels, SharedRow, SharedStmt};
 use std::rc::Rc;
 
 /// A loop, at its place: its condition, its step and its body (C11 6.8.5).
@@ -88,6 +88,8 @@ pub enum Todo {
     InBody(Rc<LoopParts>, Rc<Todo>),
     /// A loop's step.
     InStep(Rc<LoopParts>, Rc<Todo>),
+    /// The statements of a `switch`.
+    InSwitch(Rc<Todo>),
 }
 
 impl Drop for Todo {
@@ -100,6 +102,7 @@ impl Drop for Todo {
             Self::ThenLoop(_, _) => {}
             Self::InBody(_, _) => {}
             Self::InStep(_, _) => {}
+            Self::InSwitch(_) => {}
         }
     }
 }
@@ -146,6 +149,8 @@ pub enum Use {
     IfTest(u32, u32, Rc<SharedStmt>, Option<Rc<SharedStmt>>, Rc<Todo>),
     /// The condition of a loop.
     LoopTest(u32, Rc<LoopParts>, Rc<Todo>),
+    /// What chooses a label of a `switch`, with its labels and its statements.
+    SwitchTest(Rc<SharedLabels>, Rc<SharedRow>, Rc<Todo>),
     /// A returned value.
     ToCaller,
     /// A value that nothing uses.
@@ -175,6 +180,7 @@ impl Drop for Use {
             Self::UpdateRead(_, _, _, _) => {}
             Self::IfTest(_, _, _, _, _) => {}
             Self::LoopTest(_, _, _) => {}
+            Self::SwitchTest(_, _, _) => {}
             Self::ToCaller => {}
             Self::ToNowhere(_) => {}
         }

@@ -10,6 +10,7 @@ name_todo h (control.then_end numbers k) = ap (control.then_end numbers) (name_t
 name_todo h (control.then_loop l k) = ap (control.then_loop l) (name_todo h k)
 name_todo h (control.in_body l k) = ap (control.in_body l) (name_todo h k)
 name_todo h (control.in_step l k) = ap (control.in_step l) (name_todo h k)
+name_todo h (control.in_switch k) = ap control.in_switch (name_todo h k)
 
 pub name_use : (h : TurnContext) (k : control.Use) → (use_of h k).k ≡ k
 name_use h (control.first_of place op right k) = ap (control.first_of place op right) (name_use h k)
@@ -31,5 +32,6 @@ name_use h (control.update_right u at k) = ap (control.update_right u at) (name_
 name_use h (control.update_read u at by k) = ap (control.update_read u at by) (name_todo h k)
 name_use h (control.if_test place one other k) = ap (control.if_test place one other) (name_todo h k)
 name_use h (control.loop_test place l k) = ap (control.loop_test place l) (name_todo h k)
+name_use h (control.switch_test labels body k) = ap (control.switch_test labels body) (name_todo h k)
 name_use h control.to_caller = refl
 name_use h (control.to_nowhere k) = ap control.to_nowhere (name_todo h k)

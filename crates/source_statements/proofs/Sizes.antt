@@ -6,6 +6,7 @@ use Rattle.c_tree.specs.Typed as tree
 use Rattle.source_tree.specs.declared.tree.SharedStmt.{SharedStmt}
 use Rattle.source_tree.specs.declared.tree.SharedRow.{SharedRow}
 use Rattle.source_tree.specs.SharedViews.{stmt_of, these, row_of}
+use Rattle.source_state.specs.Views.{stmt_or_nothing}
 
 abbrev mutual
   pub stmt_size : tree.Stmt → ℕ
@@ -17,6 +18,8 @@ abbrev mutual
   node_size (tree.if_else e one other) = stmt_size one + stmt_size other + 1
   node_size (tree.while_ e body) = stmt_size body + 1
   node_size (tree.for_ first e step body) = stmt_size first + stmt_size step + stmt_size body + 1
+  node_size (tree.do_while body e) = stmt_size body + 2
+  node_size (tree.switch e labels body) = row_size body + 1
   node_size node = 0
 
   pub row_size : tree.Stmts → ℕ
@@ -30,6 +33,11 @@ shared_size s = stmt_size (stmt_of s.value)
 abbrev pub step_size : Option (Rc SharedStmt Global) → ℕ
 step_size None = 0
 step_size (Some s) = shared_size s
+
+-- a step is no larger than the statement that it is
+pub step_bound : (at : ℕ) (o : Option (Rc SharedStmt Global)) → step_size o ≤ stmt_size (stmt_or_nothing at o)
+step_bound at None = omega arith
+step_bound at (Some s) = omega arith
 
 item_size : (xs : List (Rc SharedStmt Global)) (i : ℕ) (d : Rc SharedStmt Global) → i < length xs → shared_size (get_or xs i d) ≤ row_size (these xs)
 item_size [] i d h = absurd (omega arith)

@@ -1,5 +1,5 @@
 -- How statements go on behind a part of them.
-use Rattle.std.proofs.Common.{◌≡◌, ◌∙◌, ◌+◌, ◌<◌, ◌≤◌, ℕ, Bool, true, false, List, [], Option, Some, None, Result, Ok, Err, length, get_or, refl, ap, sym, subst}
+use Rattle.std.proofs.Common.{◌≡◌, ◌∙◌, ◌+◌, ◌<◌, ◌≤◌, ℕ, zero, suc, Bool, true, false, List, [], ◌∷◌, drop, Option, Some, None, Result, Ok, Err, length, get_or, refl, ap, sym, subst}
 use Rattle.std.proofs.lemmas.List.{at_drop_more, at_drop_all}
 use Rattle.std.specs.Prelude.{if◌then◌else◌}
 use Rattle.std.specs.Global.{Global}
@@ -10,13 +10,14 @@ use Rattle.block_store.specs.Actions.{World}
 use Rattle.block_store.specs.Blocks.{Blocks}
 use Rattle.c_tree.specs.Typed as tree
 use Rattle.c_meaning.specs.Control as control
+use Rattle.c_meaning.specs.Switches.{chosen, starts_at}
 use Rattle.c_meaning.specs.Values.{truth_of}
-use Rattle.c_meaning.specs.Turns.{TurnContext, Way, Now, Does, on_ok, run, run_stmt, run_row, row_way, if_way, loop_test_way, loop_way, body_way, step_way, round_over, rounds, rounds_if, while_loop, for_loop, end_way, ended_locals, declared_by, declared_local, declares, initialises, nothing, caller_way}
+use Rattle.c_meaning.specs.Turns.{TurnContext, Way, WayOfUse, Now, Does, on_ok, run, run_stmt, run_row, run_from, row_way, if_way, loop_test_way, loop_way, body_way, step_way, round_over, rounds, rounds_if, while_loop, for_loop, do_loop, switch_way, switch_test_way, starts, end_way, ended_locals, declared_by, declared_local, declares, initialises, nothing, caller_way}
 use Rattle.source_tree.specs.declared.tree.SharedExpr.{SharedExpr}
 use Rattle.source_tree.specs.declared.tree.SharedStmt.{SharedStmt}
 use Rattle.source_tree.specs.declared.tree.SharedRow.{SharedRow}
 use Rattle.source_tree.specs.declared.tree.SharedProgram.{SharedProgram}
-use Rattle.source_tree.specs.SharedViews.{expr_of, optional_expr_of, stmt_of, these, row_from}
+use Rattle.source_tree.specs.SharedViews.{expr_of, optional_expr_of, stmt_of, these, row_of, row_from}
 use Rattle.source_state.specs.Views.{stmt_or_nothing}
 use Rattle.source_state.specs.declared.control.Progress.{Progress}
 use Rattle.source_state.specs.declared.control.Progress.TheVariants as flows
@@ -247,6 +248,15 @@ while_exit p function place at e body l k locals blocks new_locals new_blocks g 
   goes = λ r w x n. ap (λ (m : control.Loop). rounds (here_at p function r) m (run_stmt (here_at p function r) body) (run_stmt (here_at p function r) (nothing place)) w (now_in locals blocks x)) (sym same) ∙ a.goes r w x n;
 }
 
+-- a do, by its loop
+pub do_exit : (p : SharedProgram) (function : ℕ) (e : tree.Expr) (body found : tree.Stmt) (l : control.Loop) (k : control.Todo) (locals : List control.Variable) (blocks : Blocks) (new_locals : List control.Variable) (new_blocks : Blocks) (g : Exit)
+    → l ≡ do_loop body e → found ≡ l.step
+    → ExitsAs (λ h w. rounds h l (run_stmt h body) (run_stmt h found) w) p function k locals blocks new_locals new_blocks g
+    → ExitsAs (λ h w. rounds h (do_loop body e) (run_stmt h body) (run_stmt h (do_loop body e).step) w) p function k locals blocks new_locals new_blocks g
+do_exit p function e body found l k locals blocks new_locals new_blocks g same same_step a =
+    let at_step : ExitsAs (λ h w. rounds h l (run_stmt h body) (run_stmt h l.step) w) p function k locals blocks new_locals new_blocks g = subst (λ (s : tree.Stmt). ExitsAs (λ h w. rounds h l (run_stmt h body) (run_stmt h s) w) p function k locals blocks new_locals new_blocks g) same_step a in
+    subst (λ (m : control.Loop). ExitsAs (λ h w. rounds h m (run_stmt h body) (run_stmt h m.step) w) p function k locals blocks new_locals new_blocks g) same at_step
+
 -- a for, by its loop
 pub for_exit : (p : SharedProgram) (function : ℕ) (e : Option tree.Expr) (first step found body : tree.Stmt) (l : control.Loop) (inside k : control.Todo) (locals : List control.Variable) (blocks : Blocks) (mid_locals : List control.Variable) (mid_blocks : Blocks) (new_locals : List control.Variable) (new_blocks : Blocks) (d g : Exit)
     → ExitsAs (λ h w. run_stmt h first (loop_way h l (run_stmt h body) (run_stmt h found) w)) p function inside locals blocks mid_locals mid_blocks d
@@ -313,3 +323,43 @@ row_next all i s within is = at_drop_more these all.stmts.items i s within ∙ a
 
 pub row_none : (all : SharedRow) (i : ℕ) → length all.stmts.items ≤ i → row_from all i ≡ tree.no_stmts
 row_none all i beyond = at_drop_all these all.stmts.items i beyond
+
+-- ---- switches
+
+-- an expression ended the turn
+pub value_ended : (p : SharedProgram) (function : ℕ) (locals : List control.Variable) (blocks b : Blocks) (e f : tree.Expr) (after : control.Use) (g : Progress) (q : Pending) (way : TurnContext → Way → WayOfUse) (k : control.Todo)
+    → Flows p locals b f after g → b ≡ blocks → f ≡ e → g ≡ flows.Ends q
+    → ((h : TurnContext) (w : Way) → w.k ≡ k → (way h w).k ≡ after)
+    → ExitsAs (λ h w. run h e (way h w)) p function k locals blocks locals blocks (exits.Ends q)
+value_ended p function locals blocks b e f after g q way k flow same_blocks same_expr is_q named =
+    let at_e : Flows p locals blocks e after (flows.Ends q) = subst (λ (d : tree.Expr). Flows p locals blocks d after (flows.Ends q)) same_expr (subst (λ (c : Blocks). Flows p locals c f after (flows.Ends q)) same_blocks (subst (λ (d : Progress). Flows p locals b f after d) is_q flow)) in
+    record { goes = λ r w x n. at_e.goes function r (way (here_at p function r) w) x (named (here_at p function r) w n) }
+
+-- the statements from the one of this index on
+from_drop : (h : TurnContext) (all : List (Rc SharedStmt Global)) (at : ℕ) (w : Way) (x : Now) → run_from h (these all) at w x ≡ run_row h (these (drop at all)) w x
+from_drop h [] zero w x = refl
+from_drop h [] (suc at) w x = refl
+from_drop h (s ∷ all) zero w x = refl
+from_drop h (s ∷ all) (suc at) w x = from_drop h all at w x
+
+-- a value chooses no label
+pub none_chosen : (p : SharedProgram) (function : ℕ) (labels : List tree.Label) (body : tree.Stmts) (v : Value) (k : control.Todo) (locals : List control.Variable) (blocks : Blocks)
+    → starts_at labels (chosen labels v) ≡ None
+    → ExitsAs (λ h w. (switch_test_way labels body (run_from h body) w).go v) p function k locals blocks locals blocks exits.End
+none_chosen p function labels body v k locals blocks is_none = record {
+  goes = λ r w x n. ap (λ (o : Option ℕ). starts (run_from (here_at p function r) body) w o (now_in locals blocks x)) is_none;
+}
+
+-- it chooses one, at this statement
+pub one_chosen : (p : SharedProgram) (function : ℕ) (labels : List tree.Label) (all : SharedRow) (v : Value) (at : ℕ) (inside k : control.Todo) (locals : List control.Variable) (blocks : Blocks) (new_locals : List control.Variable) (new_blocks : Blocks) (d g : Exit)
+    → starts_at labels (chosen labels v) ≡ Some at → inside ≡ control.in_switch k
+    → ExitsAs (λ h w. run_row h (row_from all at) w) p function inside locals blocks new_locals new_blocks d
+    → Passes (λ h. switch_way) p function k d new_locals new_blocks new_locals new_blocks g
+    → ExitsAs (λ h w. (switch_test_way labels (row_of all) (run_from h (row_of all)) w).go v) p function k locals blocks new_locals new_blocks g
+one_chosen p function labels all v at inside k locals blocks new_locals new_blocks d g is_some named a s = record {
+  goes = λ r w x n.
+      ap (λ (o : Option ℕ). starts (run_from (here_at p function r) (row_of all)) w o (now_in locals blocks x)) is_some
+      ∙ from_drop (here_at p function r) all.stmts.items at (switch_way w) (now_in locals blocks x)
+      ∙ a.goes r (switch_way w) x (ap control.in_switch n ∙ sym named)
+      ∙ s.goes r w x n;
+}

@@ -1,3 +1,4 @@
 -- What only bodies use.
 pub mod Behind
 pub mod Conditions
+pub mod Labels

@@ -4,13 +4,13 @@ ghost use Rattle.std.specs.Prelude.{◌≡◌, [], IfOk};
 ghost use Rattle.c_tree.specs.Typed.{place_of};
 ghost use Rattle.c_meaning.specs.Control as control;
 ghost use Rattle.c_meaning.specs.Turns.{declared, declared_by};
-ghost use Rattle.source_tree.specs.SharedViews.{expr_of, stmt_of, row_of, row_from};
+ghost use Rattle.source_tree.specs.SharedViews.{expr_of, labels_of, stmt_of, row_of, row_from};
 ghost use Rattle.source_state.specs.Views.{loop_of, todo_of, use_of};
 ghost use Rattle.source_statements.specs.inner.Behind.{EndsRound};
 
 use ak_words::NoMemory;
 use source_state::control::{LoopParts, Pending, Todo, Use};
-use source_tree::tree::{SharedExpr, SharedRow, SharedStmt};
+use source_tree::tree::{SharedExpr, SharedLabels, SharedRow, SharedStmt};
 use std::alloc::Global;
 use std::rc::Rc;
 
@@ -71,6 +71,28 @@ pub fn condition_end(
     ensures { IfOk result (λ after. use_of after.value ≡ control.loop_test (place_of (expr_of c.now.value)) (loop_of l.now.value) (todo_of k.now.value)) }
 {
     Ok(Rc::new(alloc, Use::LoopTest(c.place, l.clone()?, k.clone()?))?)
+}
+
+/// Behind the value that chooses a label of a `switch`.
+pub fn label_end(
+    alloc: Global,
+    labels: &Rc<SharedLabels>,
+    body: &Rc<SharedRow>,
+    k: &Rc<Todo>,
+) -> Result<Rc<Use>, NoMemory>
+    ensures { IfOk result (λ after. use_of after.value ≡ control.switch_test (labels_of labels.now.value) (row_of body.now.value) (todo_of k.now.value)) }
+{
+    Ok(Rc::new(
+        alloc,
+        Use::SwitchTest(labels.clone()?, body.clone()?, k.clone()?),
+    )?)
+}
+
+/// Behind the statements of a `switch`.
+pub fn switch_end(alloc: Global, k: &Rc<Todo>) -> Result<Rc<Todo>, NoMemory>
+    ensures { IfOk result (λ inside. todo_of inside.value ≡ control.in_switch (todo_of k.now.value)) }
+{
+    Ok(Rc::new(alloc, Todo::InSwitch(k.clone()?))?)
 }
 
 /// The end of a round.

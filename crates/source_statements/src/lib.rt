@@ -4,6 +4,7 @@
 #![tactic(auto)]
 
 mod behind_statements;
+mod labels;
 mod resume;
 mod scopes;
 mod statements;

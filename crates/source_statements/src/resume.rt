@@ -10,7 +10,9 @@ ghost use Rattle.source_statements.specs.inner.Behind.{Passes};
 ghost use Rattle.source_statements.specs.Finishing.{Finishes};
 ghost use Rattle.source_assignments.specs.Exits.{exit};
 
-use crate::statements::{after_body, after_first, after_step, close_first, close_row, row};
+use crate::statements::{
+    after_body, after_first, after_step, after_switch, close_first, close_row, row,
+};
 use ak_words::NoMemory;
 use source_assignments::Exit;
 use source_state::control::{LoopParts, Pending, Todo};
@@ -110,6 +112,10 @@ fn work_off(
         }
         Todo::InBody(l, k) => behind_body(l, k, left, alloc, program, function, locals, store),
         Todo::InStep(l, k) => behind_step(l, k, left, alloc, program, function, locals, store),
+        Todo::InSwitch(k) => {
+            let exit = after_switch(left);
+            finish(k, exit, alloc, program, function, locals, store)
+        }
     }
 }
 

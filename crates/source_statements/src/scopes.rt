@@ -37,6 +37,8 @@ pub fn end_first(s: &SharedStmt, locals: &mut Locals, store: &mut KeptStore) -> 
         SharedStmt::IfElse(_, _, _, _) => Ok(()),
         SharedStmt::While(_, _, _) => Ok(()),
         SharedStmt::For(_, _, _, _, _) => Ok(()),
+        SharedStmt::DoWhile(_, _, _) => Ok(()),
+        SharedStmt::Switch(_, _, _, _) => Ok(()),
         SharedStmt::Break(_) => Ok(()),
         SharedStmt::Continue(_) => Ok(()),
         SharedStmt::Return(_, _) => Ok(()),

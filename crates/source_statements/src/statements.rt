@@ -6,22 +6,24 @@ ghost use Rattle.c_tree.specs.Typed.{place_of};
 ghost use Rattle.c_meaning.specs.Control as control;
 ghost use Rattle.c_meaning.specs.Turns as turns;
 ghost use Rattle.source_tree.specs.declared.tree.SharedProgram.{SharedProgram};
-ghost use Rattle.source_tree.specs.SharedViews.{expr_of, optional_expr_of, stmt_of, row_of, row_from};
+ghost use Rattle.source_tree.specs.SharedViews.{expr_of, optional_expr_of, labels_of, stmt_of, row_of, row_from};
 ghost use Rattle.source_state.specs.Views.{todo_of, use_of, loop_of, stmt_or_nothing};
 ghost use Rattle.source_statements.specs.inner.Conditions.{Tests};
 ghost use Rattle.source_statements.specs.inner.Behind.{Passes};
 ghost use Rattle.source_assignments.specs.Exits.{ExitsAs};
 
 use crate::behind_statements;
+use crate::labels::start;
 use crate::scopes::{end_first, end_row};
 use ak_words::NoMemory;
+use block_store::Value;
 use source_assignments::Exit;
 use source_assignments::assignments::{assign, drop_value, initialise, update};
 use source_assignments::locals::declare_local;
 use source_expressions::expressions::expr;
 use source_state::control::{LoopParts, Pending, Progress, Todo, Use};
 use source_state::{KeptStore, Locals};
-use source_tree::tree::{SharedExpr, SharedProgram, SharedRow, SharedStmt};
+use source_tree::tree::{SharedExpr, SharedLabels, SharedProgram, SharedRow, SharedStmt};
 use source_values::truth_of;
 use std::alloc::Global;
 use std::rc::Rc;
@@ -169,6 +171,12 @@ pub fn stmt(
         SharedStmt::For(place, first, c, step, body) => for_each(
             *place, first, c, step, body, alloc, program, function, locals, store, k,
         ),
+        SharedStmt::DoWhile(_, body, c) => {
+            do_while(body, c, alloc, program, function, locals, store, k)
+        }
+        SharedStmt::Switch(_, e, labels, body) => {
+            switch(e, labels, body, alloc, program, function, locals, store, k)
+        }
         SharedStmt::Break(_) => Ok(Exit::Break),
         SharedStmt::Continue(_) => Ok(Exit::Next),
         SharedStmt::Return(_, value) => return_value(value, alloc, program, locals, store),
@@ -328,6 +336,25 @@ fn parts_of(
     )?)
 }
 
+// The parts of a `do`: its step is `if (c) ; else break;`.
+fn do_parts(
+    alloc: Global,
+    body: &Rc<SharedStmt>,
+    c: &Rc<SharedExpr>,
+) -> Result<Rc<LoopParts>, NoMemory>
+    ensures { IfOk result (λ l. loop_of l.value ≡ turns.do_loop (stmt_of body.now.value) (expr_of c.now.value)) }
+{
+    let place = c.place;
+    let goes_on = Rc::new(alloc, SharedStmt::Empty(place))?;
+    let leaves = Rc::new(alloc, SharedStmt::Break(place))?;
+    let tests = Rc::new(
+        alloc,
+        SharedStmt::IfElse(place, c.clone()?, goes_on, leaves),
+    )?;
+    let step = Some(tests);
+    parts_of(alloc, place, &None, &step, body)
+}
+
 // A return.
 fn return_value(
     value: &Option<Rc<SharedExpr>>,
@@ -383,6 +410,28 @@ fn while_holds(
     let or = Some(again);
     let l = parts_of(alloc, place, &or, &None, body)?;
     rounds(body, alloc, program, function, locals, store, &None, &l, k)
+}
+
+// A `do`.
+#[cycle(walk)]
+fn do_while(
+    body: &Rc<SharedStmt>,
+    c: &Rc<SharedExpr>,
+    alloc: Global,
+    program: &SharedProgram,
+    function: u32,
+    locals: &mut Locals,
+    store: &mut KeptStore,
+    k: &Rc<Todo>,
+) -> Result<Exit, NoMemory>
+    ensures exits { IfOk result (λ g. let l = turns.do_loop (stmt_of body.now.value) (expr_of c.now.value) in ExitsAs (λ h w. turns.rounds h l (turns.run_stmt h l.body) (turns.run_stmt h l.step) w) program.now function (todo_of k.now.value) locals.old.now store.old.now locals.new.now store.new.now g) }
+    ensures locals { OnOk result (locals.new.kept ≡ locals.old.kept) }
+    ensures store { OnOk result (store.new.kept ≡ store.old.kept) }
+{
+    let l = do_parts(alloc, body, c)?;
+    rounds(
+        body, alloc, program, function, locals, store, &l.step, &l, k,
+    )
 }
 
 // A `for`.
@@ -628,6 +677,72 @@ pub fn after_step(left: Exit, l: &Rc<LoopParts>, k: &Rc<Todo>) -> Result<Exit, N
         }
         Exit::Break => Ok(Exit::End),
         Exit::Ends(q) => Ok(Exit::Ends(q)),
+    }
+}
+
+// A `switch`.
+#[cycle(walk)]
+fn switch(
+    e: &Rc<SharedExpr>,
+    labels: &Rc<SharedLabels>,
+    body: &Rc<SharedRow>,
+    alloc: Global,
+    program: &SharedProgram,
+    function: u32,
+    locals: &mut Locals,
+    store: &mut KeptStore,
+    k: &Rc<Todo>,
+) -> Result<Exit, NoMemory>
+    ensures exits { IfOk result (λ g. ExitsAs (λ h w. turns.run h (expr_of e.now.value) (turns.switch_test_way (labels_of labels.now.value) (row_of body.now.value) (turns.run_from h (row_of body.now.value)) w)) program.now function (todo_of k.now.value) locals.old.now store.old.now locals.new.now store.new.now g) }
+    ensures locals { OnOk result (locals.new.kept ≡ locals.old.kept) }
+    ensures store { OnOk result (store.new.kept ≡ store.old.kept) }
+{
+    let after = behind_statements::label_end(alloc, labels, body, k)?;
+    let flow = expr(e, alloc, program, locals, store.store(), &after)?;
+    match flow {
+        Progress::Ends(q) => Ok(Exit::Ends(q)),
+        Progress::Gives(v) => enter_switch(
+            v, labels, body, alloc, program, function, locals, store, k,
+        ),
+    }
+}
+
+/// The statements of a `switch` from the label on that a value chooses, if it chooses one.
+#[cycle(walk)]
+pub fn enter_switch(
+    v: Value,
+    labels: &Rc<SharedLabels>,
+    body: &Rc<SharedRow>,
+    alloc: Global,
+    program: &SharedProgram,
+    function: u32,
+    locals: &mut Locals,
+    store: &mut KeptStore,
+    k: &Rc<Todo>,
+) -> Result<Exit, NoMemory>
+    ensures exits { IfOk result (λ g. ExitsAs (λ h w. (turns.switch_test_way (labels_of labels.now.value) (row_of body.now.value) (turns.run_from h (row_of body.now.value)) w).go v) program.now function (todo_of k.now.value) locals.old.now store.old.now locals.new.now store.new.now g) }
+    ensures locals { OnOk result (locals.new.kept ≡ locals.old.kept) }
+    ensures store { OnOk result (store.new.kept ≡ store.old.kept) }
+{
+    match start(&labels.labels, v) {
+        None => Ok(Exit::End),
+        Some(at) => {
+            let inside = behind_statements::switch_end(alloc, k)?;
+            let left = row(body, alloc, program, function, locals, store, at, &inside)?;
+            Ok(after_switch(left))
+        }
+    }
+}
+
+/// Behind the statements of a `switch` that were left so: a break leaves it, and no loop around it.
+pub fn after_switch(left: Exit) -> Exit
+    ensures { (p : SharedProgram) (function : ℕ) (k : control.Todo) (locals : List control.Variable) (blocks : Blocks) → Passes (λ h. turns.switch_way) p function k left locals blocks locals blocks result }
+{
+    match left {
+        Exit::End => Exit::End,
+        Exit::Break => Exit::End,
+        Exit::Next => Exit::Next,
+        Exit::Ends(q) => Exit::Ends(q),
     }
 }
 

@@ -5,7 +5,7 @@ ghost use Rattle.c_tree.specs.TypedViews.{type_view};
 ghost use Rattle.c_meaning.specs.Control as control;
 ghost use Rattle.c_meaning.specs.Turns as turns;
 ghost use Rattle.source_tree.specs.declared.tree.SharedProgram.{SharedProgram};
-ghost use Rattle.source_tree.specs.SharedViews.{expr_of, args_of, stmt_of};
+ghost use Rattle.source_tree.specs.SharedViews.{expr_of, args_of, labels_of, stmt_of, row_of};
 ghost use Rattle.source_state.specs.Operations.{unary_of, binary_of};
 ghost use Rattle.source_state.specs.Views.{todo_of, use_of, loop_of, stmt_or_nothing, updating_of, callee_of, values_of, wait_of};
 ghost use Rattle.source_expressions.specs.Progress.{FlowsCall};
@@ -14,7 +14,7 @@ ghost use Rattle.source_statements.specs.Finishing.{Finishes, GivesTo};
 ghost use Rattle.source_assignments.specs.Exits.{ExitsAs};
 
 use crate::resume::finish;
-use crate::statements::{enter_body, stmt};
+use crate::statements::{enter_body, enter_switch, stmt};
 use ak_words::NoMemory;
 use block_store::{Access, Value};
 use c_tree::typed::CType;
@@ -29,7 +29,9 @@ use source_state::control::{LoopParts, Pending, Progress, Todo, Updating, Use, V
 use source_state::frames::one_more;
 use source_state::operations::{Binary, Unary};
 use source_state::{KeptStore, Locals, Variable};
-use source_tree::tree::{Callee, SharedArgs, SharedExpr, SharedProgram, SharedStmt};
+use source_tree::tree::{
+    Callee, SharedArgs, SharedExpr, SharedLabels, SharedProgram, SharedRow, SharedStmt,
+};
 use source_values::{truth_of, updated};
 use std::alloc::Global;
 use std::rc::Rc;
@@ -381,6 +383,9 @@ pub fn give(
         Use::LoopTest(place, l, k) => finish_round(
             *place, l, k, v, alloc, program, function, locals, store,
         ),
+        Use::SwitchTest(labels, body, k) => finish_switch(
+            labels, body, k, v, alloc, program, function, locals, store,
+        ),
     }
 }
 
@@ -675,6 +680,26 @@ fn finish_round(
     ensures store { OnOk result (store.new.kept ≡ store.old.kept) }
 {
     let exit = round_if(v, alloc, program, function, locals, store, place, l, k)?;
+    complete(k, exit, alloc, program, function, locals, store)
+}
+
+// What chooses a label of a `switch` has its value.
+fn finish_switch(
+    labels: &Rc<SharedLabels>,
+    body: &Rc<SharedRow>,
+    k: &Rc<Todo>,
+    v: Value,
+    alloc: Global,
+    program: &SharedProgram,
+    function: u32,
+    locals: &mut Locals,
+    store: &mut KeptStore,
+) -> Result<Pending, NoMemory>
+    ensures comes { IfOk result (λ q. GivesTo program.now function (control.switch_test (labels_of labels.now.value) (row_of body.now.value) (todo_of k.now.value)) v locals.old.now store.old.now locals.new.now store.new.now q) }
+    ensures locals { OnOk result (locals.new.kept ≡ locals.old.kept) }
+    ensures store { OnOk result (store.new.kept ≡ store.old.kept) }
+{
+    let exit = enter_switch(v, labels, body, alloc, program, function, locals, store, k)?;
     complete(k, exit, alloc, program, function, locals, store)
 }
 

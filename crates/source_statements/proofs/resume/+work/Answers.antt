@@ -2,7 +2,7 @@ use Rattle.std.proofs.Common.{ap, refl, sym, ◌∙◌, []}
 use Rattle.std.proofs.lemmas.Result.{IfOk-weaker}
 use Rattle.c_tree.specs.Typed as tree
 use Rattle.c_meaning.specs.Control as control
-use Rattle.c_meaning.specs.Turns.{run_stmt, run_row, row_way, end_way, loop_way, body_way, step_way, declared, declared_by, way_of}
+use Rattle.c_meaning.specs.Turns.{run_stmt, run_row, row_way, end_way, loop_way, body_way, step_way, switch_way, declared, declared_by, way_of}
 use Rattle.source_tree.specs.SharedViews.{stmt_of, row_of, row_from}
 use Rattle.source_state.specs.Views.{loop_of, stmt_or_nothing, todo_of}
 use Rattle.source_state.specs.declared.control.LoopParts.{LoopParts}
@@ -51,6 +51,13 @@ work_off-returns-in-InBody-clause-comes t c =
 pub work_off-returns-in-InStep-clause-comes : goal.work_off-returns-in-InStep-clause-comes
 work_off-returns-in-InStep-clause-comes t c =
     IfOk-weaker c.behind_step.result _ _ (λ q f. finishes_at c.args.program.now c.args.function _ (todo_of c.args.k.now) c.args.left _ _ _ _ q (sym (ap todo_of c.in-InStep.is)) f) c.behind_step.ensures.comes
+
+pub work_off-returns-in-InSwitch-clause-comes : goal.work_off-returns-in-InSwitch-clause-comes
+work_off-returns-in-InSwitch-clause-comes t c =
+    IfOk-weaker c.finish-in-InSwitch.result _ _
+    (λ q f. finish_behind (λ h. switch_way) c.args.program.now c.args.function (todo_of c.args.k.now) (control.in_switch (todo_of c.in-InSwitch.k.value)) _ (todo_of c.in-InSwitch.k.value) c.args.left _ _ _ _ _ _ _ q
+    (ap todo_of c.in-InSwitch.is) (ap todo_of c.deref-in-InSwitch.ensures) (λ h. refl) (c.after_switch-exit-in-InSwitch.ensures _ _ _ _ _) f)
+    c.finish-in-InSwitch.ensures.comes
 
 -- ---- the parts of a work list
 

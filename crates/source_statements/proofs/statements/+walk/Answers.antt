@@ -4,12 +4,14 @@ use Rattle.c_tree.specs.Typed as tree
 use Rattle.c_meaning.specs.Control as control
 use Rattle.c_meaning.specs.Turns as turns
 use Rattle.source_tree.specs.declared.tree.SharedStmt.{SharedStmt}
-use Rattle.source_tree.specs.SharedViews.{expr_of, optional_expr_of, stmt_of, row_of, row_from}
-use Rattle.source_tree.proofs.Views.{shared_block}
+use Rattle.source_tree.specs.SharedViews.{expr_of, optional_expr_of, labels_of, stmt_of, row_of, row_from}
+use Rattle.source_tree.proofs.Views.{shared_block, shared_switch}
 use Rattle.source_state.specs.Views.{loop_of, stmt_or_nothing, todo_of, use_of}
+use Rattle.source_state.specs.declared.control.LoopParts.{LoopParts}
+use Rattle.source_assignments.proofs.Tails.{gives_exit}
 use Rattle.source_assignments.specs.declared.exit.Exit.TheVariants as exits
-use Rattle.source_statements.proofs.Sizes.{stmt_size, step_size, in_row}
-use Rattle.source_statements.proofs.Walking.{stmt_like, chain_passes, passes_at, if_held, if_not, if_ended, nothing_exit, loop_held, loop_not, loop_ended, rounds_none, rounds_some, while_exit, for_exit, no_step, one_step, next_exit, row_stays, row_over, row_next, row_none}
+use Rattle.source_statements.proofs.Sizes.{stmt_size, step_size, step_bound, in_row}
+use Rattle.source_statements.proofs.Walking.{stmt_like, chain_passes, passes_at, if_held, if_not, if_ended, nothing_exit, loop_held, loop_not, loop_ended, rounds_none, rounds_some, while_exit, do_exit, for_exit, value_ended, none_chosen, one_chosen, no_step, one_step, next_exit, row_stays, row_over, row_next, row_none}
 use Rattle.source_statements.proofs.statements.+walk.Goals as goal
 
 -- ---- statements, by their forms
@@ -44,6 +46,20 @@ pub stmt-returns-in-For-clause-exits : goal.stmt-returns-in-For-clause-exits
 stmt-returns-in-For-clause-exits t c =
     IfOk-weaker c.for_each.result _ _ (λ g e. stmt_like (λ h w. turns.run_stmt h (stmt_of c.in-For.first.value) (turns.loop_way h (turns.for_loop (optional_expr_of c.in-For.c) (stmt_of c.in-For.step.value) (stmt_of c.in-For.body.value)) (turns.run_stmt h (stmt_of c.in-For.body.value)) (turns.run_stmt h (stmt_of c.in-For.step.value)) (turns.end_way (turns.declared_by (stmt_of c.in-For.first.value) []) w))) c.args.program.now c.args.function (stmt_of c.args.s.now.value) (tree.at_stmt c.in-For.place (tree.for_ (stmt_of c.in-For.first.value) (optional_expr_of c.in-For.c) (stmt_of c.in-For.step.value) (stmt_of c.in-For.body.value))) (todo_of c.args.k.now.value) _ _ _ _ _
     (search rules) (λ h w x. refl) e) c.for_each.ensures.exits
+
+pub stmt-returns-in-DoWhile-clause-exits : goal.stmt-returns-in-DoWhile-clause-exits
+stmt-returns-in-DoWhile-clause-exits t c =
+    let l = turns.do_loop (stmt_of c.in-DoWhile.body.value) (expr_of c.in-DoWhile.c.value) in
+    IfOk-weaker c.do_while.result _ _ (λ g e. stmt_like (λ h w. turns.rounds h l (turns.run_stmt h l.body) (turns.run_stmt h l.step) w) c.args.program.now c.args.function (stmt_of c.args.s.now.value) (tree.at_stmt c.in-DoWhile.field-0 (tree.do_while (stmt_of c.in-DoWhile.body.value) (expr_of c.in-DoWhile.c.value))) (todo_of c.args.k.now.value) _ _ _ _ _
+    (search rules) (λ h w x. refl) e) c.do_while.ensures.exits
+
+pub stmt-returns-in-Switch-clause-exits : goal.stmt-returns-in-Switch-clause-exits
+stmt-returns-in-Switch-clause-exits t c =
+    let e = expr_of c.in-Switch.e.value in
+    let labels = labels_of c.in-Switch.labels.value in
+    let body = row_of c.in-Switch.body.value in
+    IfOk-weaker c.switch.result _ _ (λ g d. stmt_like (λ h w. turns.run h e (turns.switch_test_way labels body (turns.run_from h body) w)) c.args.program.now c.args.function (stmt_of c.args.s.now.value) (tree.at_stmt c.in-Switch.field-0 (tree.switch e labels body)) (todo_of c.args.k.now.value) _ _ _ _ _
+    (let a = ap stmt_of c.in-Switch.is in let b = shared_switch c.in-Switch.field-0 c.in-Switch.e c.in-Switch.labels c.in-Switch.body in search (rules, a, b)) (λ h w x. refl) d) c.switch.ensures.exits
 
 pub stmt-returns-in-Return-clause-exits : goal.stmt-returns-in-Return-clause-exits
 stmt-returns-in-Return-clause-exits t c =
@@ -114,6 +130,12 @@ pub while_holds-returns-clause-exits : goal.while_holds-returns-clause-exits
 while_holds-returns-clause-exits t c =
     IfOk-weaker c.rounds.result _ _ (λ g e. while_exit c.args.program.now c.args.function c.args.place c.in_ok-l.l.value.place (expr_of c.args.c.now.value) (stmt_of c.args.body.now.value) (loop_of c.in_ok-l.l.value) (todo_of c.args.k.now.value) _ _ _ _ _
     (search rules) e)
+    c.rounds.ensures.exits
+
+pub do_while-returns-clause-exits : goal.do_while-returns-clause-exits
+do_while-returns-clause-exits t c =
+    IfOk-weaker c.rounds.result _ _ (λ g e. do_exit c.args.program.now c.args.function (expr_of c.args.c.now.value) (stmt_of c.args.body.now.value) (stmt_or_nothing c.in_ok-l.l.value.place c.deref.result.now.step) (loop_of c.in_ok-l.l.value) (todo_of c.args.k.now.value) _ _ _ _ _
+    c.in_ok-l.ensures (ap (λ (m : LoopParts). stmt_or_nothing c.in_ok-l.l.value.place m.step) c.deref.ensures) e)
     c.rounds.ensures.exits
 
 pub for_each-returns-clause-exits : goal.for_each-returns-clause-exits
@@ -192,6 +214,32 @@ last-returns-in-Some-clause-exits t c =
     IfOk-weaker c.last_some.result _ _ (λ g e. one_step c.args.program.now c.args.function c.args.l.now.value.place c.args.step.now c.in-Some.s (loop_of c.args.l.now.value) (todo_of c.args.k.now.value) _ _ _ _ _ c.in-Some.is e)
     c.last_some.ensures.exits
 
+-- ---- switches
+
+pub switch-returns-in-Ends-clause-exits : goal.switch-returns-in-Ends-clause-exits
+switch-returns-in-Ends-clause-exits t c =
+    let labels = labels_of c.args.labels.now.value in
+    let body = row_of c.args.body.now.value in
+    value_ended c.args.program.now c.args.function _ _ _ (expr_of c.args.e.now.value) _ _ _ c.in-Ends.q (λ h w. turns.switch_test_way labels body (turns.run_from h body) w) (todo_of c.args.k.now.value)
+    c.in_ok-flow.ensures c.store.ensures (search rules) c.in-Ends.is (λ h w n. ap (control.switch_test labels body) n ∙ sym c.in_ok-after.ensures)
+
+pub switch-returns-in-Gives-clause-exits : goal.switch-returns-in-Gives-clause-exits
+switch-returns-in-Gives-clause-exits t c =
+    let labels = labels_of c.args.labels.now.value in
+    let body = row_of c.args.body.now.value in
+    IfOk-weaker c.enter_switch.result _ _ (λ g a. gives_exit c.args.program.now c.args.function _ _ _ (expr_of c.args.e.now.value) _ _ _ c.in-Gives.v (λ h w. turns.switch_test_way labels body (turns.run_from h body) w) (todo_of c.args.k.now.value) _ _ g
+    c.in_ok-flow.ensures c.store.ensures (search rules) c.in-Gives.is (λ h w n. ap (control.switch_test labels body) n ∙ sym c.in_ok-after.ensures) (λ r w x n. a.goes r w x n))
+    c.enter_switch.ensures.exits
+
+pub enter_switch-returns-in-None-clause-exits : goal.enter_switch-returns-in-None-clause-exits
+enter_switch-returns-in-None-clause-exits t c =
+    none_chosen c.args.program.now c.args.function (labels_of c.args.labels.now.value) (row_of c.args.body.now.value) c.args.v (todo_of c.args.k.now.value) _ _ (search rules)
+
+pub enter_switch-returns-in_ok-left-in-Some-clause-exits : goal.enter_switch-returns-in_ok-left-in-Some-clause-exits
+enter_switch-returns-in_ok-left-in-Some-clause-exits t c =
+    one_chosen c.args.program.now c.args.function (labels_of c.args.labels.now.value) c.args.body.now.value c.args.v c.in-Some.at (todo_of c.in_ok-inside.inside.value) (todo_of c.args.k.now.value) _ _ _ _ _ _
+    (search rules) c.in_ok-inside.ensures c.in_ok-left.ensures.exits (c.after_switch.ensures _ _ _ _ _)
+
 -- ---- rows
 
 pub row-row-init : goal.row-row-init
@@ -243,6 +291,30 @@ pub stmt-while_holds-requires : goal.stmt-while_holds-requires
 stmt-while_holds-requires t c =
     let is : stmt_of c.args.s.now.value ≡ tree.at_stmt c.in-While.place (tree.while_ (expr_of c.in-While.c.value) (stmt_of c.in-While.body.value)) = search rules in
     (omega (arith, c.decreases, ap stmt_size is), tt)
+
+pub stmt-do_while-requires : goal.stmt-do_while-requires
+stmt-do_while-requires t c =
+    let is : stmt_of c.args.s.now.value ≡ tree.at_stmt c.in-DoWhile.field-0 (tree.do_while (stmt_of c.in-DoWhile.body.value) (expr_of c.in-DoWhile.c.value)) = search rules in
+    (omega (arith, c.decreases, ap stmt_size is), tt)
+
+pub stmt-switch-requires : goal.stmt-switch-requires
+stmt-switch-requires t c =
+    let is : stmt_of c.args.s.now.value ≡ tree.at_stmt c.in-Switch.field-0 (tree.switch (expr_of c.in-Switch.e.value) (labels_of c.in-Switch.labels.value) (row_of c.in-Switch.body.value)) = let a = ap stmt_of c.in-Switch.is in let b = shared_switch c.in-Switch.field-0 c.in-Switch.e c.in-Switch.labels c.in-Switch.body in search (rules, a, b) in
+    (omega (arith, c.decreases, ap stmt_size is), tt)
+
+pub switch-enter_switch-requires : goal.switch-enter_switch-requires
+switch-enter_switch-requires t c =
+    (omega (arith, c.decreases), tt)
+
+pub enter_switch-row-requires : goal.enter_switch-row-requires
+enter_switch-row-requires t c =
+    (omega (arith, c.decreases), tt)
+
+pub do_while-rounds-requires : goal.do_while-rounds-requires
+do_while-rounds-requires t c =
+    let is : stmt_or_nothing c.in_ok-l.l.value.place c.deref.result.now.step ≡ (turns.do_loop (stmt_of c.args.body.now.value) (expr_of c.args.c.now.value)).step = ap (λ (m : LoopParts). stmt_or_nothing c.in_ok-l.l.value.place m.step) c.deref.ensures ∙ ap (λ (m : control.Loop). m.step) c.in_ok-l.ensures in
+    let one : stmt_size (stmt_or_nothing c.in_ok-l.l.value.place c.deref.result.now.step) ≡ 1 = ap stmt_size is in
+    (omega (arith, c.decreases, one, step_bound c.in_ok-l.l.value.place c.deref.result.now.step), tt)
 
 pub stmt-for_each-requires : goal.stmt-for_each-requires
 stmt-for_each-requires t c =

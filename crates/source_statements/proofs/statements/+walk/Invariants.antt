@@ -49,6 +49,15 @@ decreases-after_first l = 16 * (shared_size l.body.now + step_size l.step.now) +
 abbrev pub decreases-while_holds : goal.decreases-while_holds
 decreases-while_holds l = 16 * shared_size l.body.now + 7
 
+abbrev pub decreases-do_while : goal.decreases-do_while
+decreases-do_while l = 16 * shared_size l.body.now + 23
+
+abbrev pub decreases-enter_switch : goal.decreases-enter_switch
+decreases-enter_switch l = 16 * row_size (row_of l.body.now.value) + 2
+
+abbrev pub decreases-switch : goal.decreases-switch
+decreases-switch l = 16 * row_size (row_of l.body.now.value) + 3
+
 abbrev pub decreases-run_for : goal.decreases-run_for
 decreases-run_for l = 16 * (shared_size l.first.now + shared_size l.body.now + step_size l.step.now) + 8
 

@@ -137,6 +137,10 @@ pub give-returns-in-LoopTest-clause-comes : goal.give-returns-in-LoopTest-clause
 give-returns-in-LoopTest-clause-comes t c =
     IfOk-weaker c.finish_round.result _ _ (λ q g. gives_at c.args.program.now c.args.function _ (use_of c.args.k.now) c.args.v _ _ _ _ q (sym (ap use_of c.in-LoopTest.is)) g) c.finish_round.ensures.comes
 
+pub give-returns-in-SwitchTest-clause-comes : goal.give-returns-in-SwitchTest-clause-comes
+give-returns-in-SwitchTest-clause-comes t c =
+    IfOk-weaker c.finish_switch.result _ _ (λ q g. gives_at c.args.program.now c.args.function _ (use_of c.args.k.now) c.args.v _ _ _ _ q (sym (ap use_of c.in-SwitchTest.is)) g) c.finish_switch.ensures.comes
+
 pub give-returns-in-ToCaller-clause-comes : goal.give-returns-in-ToCaller-clause-comes
 give-returns-in-ToCaller-clause-comes t c =
     give_caller c.args.program.now c.args.function (use_of c.args.k.now) _ _ _ (ap use_of c.in-ToCaller.is)
