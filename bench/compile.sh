@@ -44,23 +44,24 @@ measure "500 pointers" "$work/pointers.c"
 make_main 'for (k = 0; k < 1000; k++) print "do s += p[1]; while (s < 9);"' >"$work/dos.c"
 measure "1000 dos" "$work/dos.c"
 
-# The shortest time of 9 runs, in microseconds.
-shortest() { # file
-  for _ in 1 2 3 4 5 6 7 8 9; do
-    (cd "$work" && "$program" compile "$1") >"$work/out" 2>"$work/note"
-    grep -q ' tokens$' "$work/out" || { cat "$work/out" "$work/note" >&2; exit 1; }
-    tail -n 1 "$work/note" | awk '{ print $2 + $3 + $4 }'
-  done | sort -n | head -n 1
+# How long a text's compiling takes, in microseconds.
+time_of() { # file
+  (cd "$work" && "$program" compile "$1") >"$work/out" 2>"$work/note"
+  grep -q ' tokens$' "$work/out" || { cat "$work/out" "$work/note" >&2; exit 1; }
+  tail -n 1 "$work/note" | awk '{ print $2 + $3 + $4 }'
 }
 
-# A text that an awk program prints, for n and for twice n.
+# A text that an awk program prints, for n and for twice n: they are compiled in turn.
 double() { # name n program
-  local short long
   awk "BEGIN { n = $2; $3 }" >"$work/half.c"
   awk "BEGIN { n = $2 * 2; $3 }" >"$work/whole.c"
-  short=$(shortest "$work/half.c")
-  long=$(shortest "$work/whole.c")
-  awk -v name="$1" -v half="$2" -v s="$short" -v l="$long" 'BEGIN { printf "%-24s %9d %9.4f %9.4f %7.2f\n", name, half * 2, s / 1e6, l / 1e6, l / s }'
+  for _ in 1 2 3 4 5 6 7 8 9; do
+    echo "$(time_of "$work/half.c") $(time_of "$work/whole.c")"
+  done >"$work/times"
+  awk -v name="$1" -v half="$2" '
+    NR == 1 || $1 < s { s = $1 }
+    NR == 1 || $2 < l { l = $2 }
+    END { printf "%-24s %9d %9.4f %9.4f %7.2f\n", name, half * 2, s / 1e6, l / 1e6, l / s }' "$work/times"
 }
 
 begin='print "int main(void) { int s = 0; switch (s) {"'
