@@ -1,7 +1,8 @@
 #!/usr/bin/env bash
 # Runs the program over texts that are changed at random: those of examples/, in which tokens and bytes are deleted, doubled and exchanged, and in
-# one run of four words of the command line too. Each run is of one worker with 1000 entries, and must end in EACH seconds, by no signal, with a
-# status of README's table and what that table says of standard error.
+# one run of four words of the command line too. One text of three gets names of types, an enum, and a function of drawn switches and dos, before
+# it is changed. Each run is of one worker with 1000 entries, and must end in EACH seconds, by no signal, with a status of README's table and what
+# that table says of standard error.
 # Use: scripts/fuzz.sh SECONDS [SEED [EACH]]      prints how many runs had each status and how many texts were compiled. It ends with 0 where each run
 #   was as it must be and a tenth or more of the texts were compiled. The texts, words and outputs of the runs at fault lie in a folder that it names.
 # SEED is 1 and EACH 20 where they are left out. The same seed gives the same texts in the same order.
@@ -30,13 +31,18 @@ OPTIONS = {
     "mode": "run check check churn walk", "seed": "0 1 99", "size": "1 3 40 4000",
 }
 
+# What the drawn statements are made of.
+PLAIN = "s += k;", "k--;", "k++;", "s = SIX - s;", "*p = s;", "s ^= p[k & 1];", ";"
+LOOP = "break;", "continue;"
+LABELS = "case 0", "case ONE", "case TWO", "case 'a'", "case -1", "case sizeof(Row)", "case SIX * 5", "default"
+
 
 def kind(token):
     """Tells which tokens may stand in a token's place and often leave a text that compiles."""
     if token[0].isdigit():
         return "number"
     if token[0].isalpha() or token[0] == "_":
-        return "type" if token in ("int", "char", "long") else "name"
+        return "type" if token in ("int", "char", "long", "Drawn") else "name"
     return "operator" if re.fullmatch(r"[-+*/%<>&|^]|[<>=!]=|<<|>>|&&|\|\|", token) else token
 
 
@@ -56,9 +62,43 @@ def replace(draw, parts):
     parts[at] = draw.choice([it for it in parts if kind(it) == kind(parts[at])])
 
 
+def statement(draw, deep, jumps):
+    """Returns a statement that holds dos and switches, so many of them in each other at most, with these jumps."""
+    how = draw.choice(("plain", "plain", "if", "block", "do", "switch")) if deep else "plain"
+    if how == "if":
+        return f"if (k % {draw.randrange(1, 4)}) {statement(draw, deep - 1, jumps)}"
+    if how == "block":
+        return f"{{ Drawn d = k; {statement(draw, deep - 1, jumps)} s += d; }}"
+    if how == "do":
+        return f"do {statement(draw, deep - 1, LOOP)} while ({draw.choice(('k < 5', 's - k', '0', 'k == TWO'))});"
+    if how == "switch":
+        return f"switch ({draw.choice(('k', 's % 3', '(char)s', 's + 0l'))}) {{ {entries(draw, deep - 1, (*jumps, 'break;'))} }}"
+    return draw.choice((*PLAIN, *jumps))
+
+
+def entries(draw, deep, jumps):
+    """Returns what stands between the braces of a switch: labels, mostly of different values, each before up to two statements."""
+    labels = draw.sample(LABELS, draw.randrange(len(LABELS) + 1))
+    if draw.random() < 0.05:
+        labels.append(draw.choice(LABELS))
+    return " ".join(" ".join([f"{it}:", *(statement(draw, deep, jumps) for _ in range(draw.randrange(3)))]) for it in labels)
+
+
+def with_forms(draw, text):
+    """Returns a text with names of types, an enum, and a function of drawn statements, which main calls first."""
+    body = " ".join(statement(draw, 4, ()) for _ in range(3))
+    forms = f"typedef {draw.choice(('int', 'long', 'unsigned', 'char'))} Drawn; typedef Drawn *To, Row[3]; enum drawn {{ ONE = 1, TWO, SIX = TWO * 3, }};\n"
+    forms += f"int form(Drawn k, To p) {{ Row r; Drawn s = 0; r[ONE] = k; p = r; {body} return s + p[ONE]; }}\n"
+    head = "int main(void)"
+    before, found, behind = text.partition(head)
+    start, brace, rest = behind.partition("{")
+    return before + forms + found + start + brace + f' printf("%d\\n", form({draw.randrange(-2, 8)}, NULL));' + rest if brace else text
+
+
 def text_of(draw, texts):
     """Returns a changed text: by tokens and then, in one of four, by bytes."""
-    tokens = TOKEN.findall(draw.choice(texts))
+    text = draw.choice(texts)
+    tokens = TOKEN.findall(with_forms(draw, text) if draw.random() < 0.33 else text)
     for _ in range(draw.choice((1, 1, 2, 3, 6))):
         (replace if draw.random() < 0.6 else change)(draw, tokens)
     text = list("".join(tokens).encode())

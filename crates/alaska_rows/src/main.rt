@@ -31,7 +31,7 @@ use std::io;
 #[derive(Clone, Copy)]
 struct Row(&'static str, &'static str);
 
-const ROWS: [Row; 49] = [
+const ROWS: [Row; 66] = [
     Row("alaska nothing.c", "all"),
     Row("alaska answer.c", "all"),
     Row("alaska heap.c", "ended live"),
@@ -80,6 +80,23 @@ const ROWS: [Row; 49] = [
     Row("alaska endless_calls.c", "ended"),
     Row("alaska large_local.c", "ended entries"),
     Row("alaska integers.c", "ended"),
+    Row("alaska kinds.c", "ended"),
+    Row("alaska kinds.c --mode check", "all"),
+    Row("alaska falls.c", "ended"),
+    Row("alaska falls.c --mode check", "all"),
+    Row("alaska inner_jumps.c", "ended"),
+    Row("alaska inner_jumps.c --mode check", "all"),
+    Row("alaska nested_switches.c", "ended"),
+    Row("alaska nested_switches.c --mode check", "all"),
+    Row("alaska wide_labels.c", "ended"),
+    Row("alaska wide_labels.c --mode check", "all"),
+    Row("alaska states.c", "ended"),
+    Row("alaska states.c --mode check", "all"),
+    Row("alaska aliases.c --every 1", "ended live"),
+    Row("alaska unset_by_label.c --mode check", "all"),
+    Row("alaska do_by_zero.c --mode check", "all"),
+    Row("alaska hidden_type.c", "all"),
+    Row("alaska double_label.c", "all"),
     Row("alaska fragmented.c", "all"),
     Row("alaska fragmented.c --every 100", "all"),
     Row("alaska null_load.c --mode check", "all"),

@@ -1,0 +1,1 @@
+int main(void){int i=3;do{i--;if(i==2)continue;}while(6/i>1);return 0;}

@@ -1,0 +1,1 @@
+typedef int T;int main(void){int T=1;return 0;}

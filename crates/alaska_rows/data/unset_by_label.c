@@ -1,0 +1,1 @@
+int main(void){int k=2;int y;switch(k){case 1:y=1;case 2:return y;}return 0;}
