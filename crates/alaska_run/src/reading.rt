@@ -31,10 +31,11 @@ pub fn read(alloc: Global, text: &[u8]) -> Result<Reading, CompileFault>
     ensures well_formed { IfOk result (λ r. IsWellFormed (typed_view r.typed)) }
     ensures refused { IfRefused result (λ r. Refuses text.now r) }
 {
+    c_lex::laws::ordered();
     c_grammar::laws::tokens_end_once();
     type_laws::laws::well_formed();
     let tokens = lex(alloc, text)?;
-    let file = parse(alloc, &tokens)?;
+    let file = parse(alloc, text, &tokens)?;
     let typed = check(alloc, text, &file)?;
     Ok(Reading { tokens, typed })
 }

@@ -27,7 +27,8 @@ use Rattle.c_typing.specs.Rules.{operated_by}
 use Rattle.c_typing.specs.Faults.{earlier, typed}
 use Rattle.c_typing.specs.Programs.{judged_file}
 use Rattle.c_grammar.specs.Grammar.{leaves, IsFile}
-use Rattle.c_grammar.specs.Leaves.{Spelt, over}
+use Rattle.c_grammar.specs.Leaves.{over}
+use Rattle.c_grammar.specs.Names.{first_types, Spelt}
 use Rattle.std.specs.List.{AllByRecursion}
 use Rattle.headline_example.specs.Text.{text, tree}
 
@@ -69,27 +70,23 @@ star_p place = source.prefix place prefixes.Deref (source.name (name (place + 1)
 
 pub file : source.File
 file = record {
-  externals = record {
-    storage = [];
-    specs = source.word 0 types.Int ∷ [];
-    rest = source.function [] (name 4 8) (record { specs = source.word 9 types.Void ∷ []; pointers = []; name = None; dims = [] } ∷ []) (Some (record {
-      place = 14;
-      items =
-          source.declare (record {
-            specs = source.word 15 types.Int ∷ [];
-            declarators = record {
-              declarator = source.declarator (pointers.Star ∷ []) (name 20 21) source.no_exprs;
-              value = Some (source.call (name 22 28) (source.more_exprs (source.int 29 (num int (pos 4))) source.no_exprs));
-            } ∷ [];
-          })
-          ∷ source.simple (source.assign 34 assigns.Plain (star_p 32) (source.int 35 (num int (pos 41))))
-          ∷ source.simple (source.assign 40 assigns.Plain (star_p 38) (source.binary 43 (binaries.Value ops.Add) (star_p 41) (source.int 44 (num int (pos 1)))))
-          ∷ source.simple (source.eval (source.call (name 46 52) (source.more_exprs (source.text (record { from = 53; to = 59 } ∷ [])) (source.more_exprs (star_p 60) source.no_exprs))))
-          ∷ source.simple (source.eval (source.call (name 64 68) (source.more_exprs (source.name (name 69 70)) source.no_exprs)))
-          ∷ source.return 72 (Some (source.int 79 (num int (pos 0))))
-          ∷ [];
-    }));
-  } ∷ [];
+  externals = source.external_of [] (source.word 0 types.Int ∷ []) (source.function [] (name 4 8) (record { specs = source.word 9 types.Void ∷ []; pointers = []; name = None; dims = [] } ∷ []) (Some (record {
+    place = 14;
+    items =
+        source.declare (record {
+          specs = source.word 15 types.Int ∷ [];
+          declarators = record {
+            declarator = source.declarator (pointers.Star ∷ []) (name 20 21) source.no_exprs;
+            value = Some (source.call (name 22 28) (source.more_exprs (source.int 29 (num int (pos 4))) source.no_exprs));
+          } ∷ [];
+        })
+        ∷ source.simple (source.assign 34 assigns.Plain (star_p 32) (source.int 35 (num int (pos 41))))
+        ∷ source.simple (source.assign 40 assigns.Plain (star_p 38) (source.binary 43 (binaries.Value ops.Add) (star_p 41) (source.int 44 (num int (pos 1)))))
+        ∷ source.simple (source.eval (source.call (name 46 52) (source.more_exprs (source.text (record { from = 53; to = 59 } ∷ [])) (source.more_exprs (star_p 60) source.no_exprs))))
+        ∷ source.simple (source.eval (source.call (name 64 68) (source.more_exprs (source.name (name 69 70)) source.no_exprs)))
+        ∷ source.return 72 (Some (source.int 79 (num int (pos 0))))
+        ∷ [];
+  }))) ∷ [];
 }
 
 pub judged : judged_file text file ≡ typed tree
@@ -110,12 +107,12 @@ fits = (
   tt,
 )
 
-pub spelt : Spelt (leaves file) all
+pub spelt : Spelt text first_types (leaves file) all
 unfolding file front
 spelt = (
   (refl, refl),
   (
-    (refl, refl, refl),
+    (refl, refl, refl, refl),
     (
       refl,
       (
@@ -129,11 +126,11 @@ spelt = (
               (
                 refl,
                 (
-                  (refl, refl, refl),
+                  (refl, refl, refl, refl),
                   (
                     refl,
                     (
-                      (refl, refl, refl),
+                      (refl, refl, refl, refl),
                       (
                         refl,
                         (
@@ -145,7 +142,7 @@ spelt = (
                               (
                                 (refl, refl),
                                 (
-                                  (refl, refl, refl),
+                                  (refl, refl, refl, refl),
                                   (
                                     (refl, refl),
                                     (
@@ -155,13 +152,13 @@ spelt = (
                                         (
                                           (refl, refl),
                                           (
-                                            (refl, refl, refl),
+                                            (refl, refl, refl, refl),
                                             (
                                               (refl, refl),
                                               (
                                                 (refl, refl),
                                                 (
-                                                  (refl, refl, refl),
+                                                  (refl, refl, refl, refl),
                                                   (
                                                     (refl, refl),
                                                     (
@@ -169,7 +166,7 @@ spelt = (
                                                       (
                                                         refl,
                                                         (
-                                                          (refl, refl, refl),
+                                                          (refl, refl, refl, refl),
                                                           (
                                                             refl,
                                                             (
@@ -179,17 +176,17 @@ spelt = (
                                                                 (
                                                                   (refl, refl),
                                                                   (
-                                                                    (refl, refl, refl),
+                                                                    (refl, refl, refl, refl),
                                                                     (
                                                                       refl,
                                                                       (
                                                                         refl,
                                                                         (
-                                                                          (refl, refl, refl),
+                                                                          (refl, refl, refl, refl),
                                                                           (
                                                                             refl,
                                                                             (
-                                                                              (refl, refl, refl),
+                                                                              (refl, refl, refl, refl),
                                                                               (
                                                                                 refl,
                                                                                 (

@@ -14,6 +14,6 @@ pub record IsTheTree : Type 0 where
   pub tokens : List Token
   pub file : File
   pub lexed : AreTokens text tokens
-  pub parsed : Parses tokens file
+  pub parsed : Parses text tokens file
   pub judged : judged_file text file ≡ typed tree
   pub well_formed : IsWellFormed tree

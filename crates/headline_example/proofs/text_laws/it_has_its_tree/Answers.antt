@@ -7,7 +7,7 @@ returns c = record {
   tokens = all;
   file = file;
   lexed = lexed;
-  parsed = record { fits = fits; spelt = spelt; within = within; only = λ g is_file is_spelt. c.one_file.ensures all file g fits spelt within is_file is_spelt };
+  parsed = record { fits = fits; spelt = spelt; within = within; only = λ g is_file is_spelt. c.one_file.ensures text all file g fits spelt within is_file is_spelt };
   judged = judged;
   well_formed = c.well_formed-2.ensures text file tree fits judged;
 }
