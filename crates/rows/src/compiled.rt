@@ -1,4 +1,4 @@
-//! What C texts come to as they are compiled: a table in data/ tells the listing of each text's typed tree, or where and why it has none, and of
+//! What C texts come to as they are compiled: two tables in data/ tell the listing of each text's typed tree, or where and why it has none, and of
 //! some texts the code is printed, in outline or whole. It is told which trees are as they were worked out by hand, and the others are shown.
 
 mod codes;
@@ -12,7 +12,10 @@ use crate::compiled::codes::show_codes;
 use crate::compiled::row::Row;
 use std::{fs, io};
 
-// In the table `== ` begins a row, `# ` what is to be said of it, and `| ` its text; all else is its listing.
+// The tables: of the other forms, and of names of types, enums, switches and dos.
+const TABLES: [&str; 2] = ["trees.txt", "form_trees.txt"];
+
+// In a table `== ` begins a row, `# ` what is to be said of it, and `| ` its text; all else is its listing.
 fn judge_table(rt: &HostRuntime, table: &str) -> io::Result<()> {
     let mut row = Row::new(rt.alloc(), "");
     for line in table.lines() {
@@ -30,7 +33,9 @@ fn judge_table(rt: &HostRuntime, table: &str) -> io::Result<()> {
 
 /// Prints what the texts come to.
 pub fn run(rt: &HostRuntime) -> io::Result<()> {
-    let table = fs::read_to_string(rt, "trees.txt")?;
-    judge_table(rt, &table)?;
+    for name in TABLES {
+        let table = fs::read_to_string(rt, name)?;
+        judge_table(rt, &table)?;
+    }
     show_codes(rt)
 }

@@ -8,8 +8,8 @@ mod marked;
 use crate::texts::group::Group;
 use std::{fs, io};
 
-// The tables: of bytes and tokens, of the grammar, and of names and types.
-const TABLES: [&str; 3] = ["tokens.txt", "grammar.txt", "types.txt"];
+// The tables: of bytes and tokens, of the grammar, of names and types, and of names of types, enums, switches and dos.
+const TABLES: [&str; 4] = ["tokens.txt", "grammar.txt", "types.txt", "forms.txt"];
 
 // Judges each row of a table, whose first line is a heading, and prints a line for each of its groups.
 fn judge_table(rt: &HostRuntime, table: &str) -> io::Result<()> {
