@@ -24,7 +24,7 @@ pub(crate) fn fine_with<T: Drop>(
     all: Result<(), CompileFault>,
     next: Result<T, CompileFault>,
 ) -> Result<(), CompileFault>
-    ensures { Finishes (λ _. tt) (joined all next) (λ _. typed tt) result }
+    ensures { Finishes (λ (u : Unit {0}). u) (joined all next) (λ _. typed (tt {0})) result }
 {
     both(all, next)?;
     Ok(())

@@ -1,6 +1,12 @@
-use Rattle.std.proofs.Common.{◌∙◌, sym, ap}
+use Rattle.std.proofs.Common.{List, ap, ◌∙◌}
+use Rattle.std.specs.List.{list_any}
+use Rattle.c_tree.specs.declared.typed.Label.{Label}
+use Rattle.c_tree.specs.TypedViews.{label_view}
+use Rattle.c_types.specs.inner.Switches.{is_case}
 use Rattle.c_types.proofs.LabelRows.{any_value}
 use Rattle.c_types.proofs.switches.Entries.has_value.Goals as goal
 
 pub returns : goal.returns
-returns c = (rw c.deref.ensures.value at c.any_case.ensures) ∙ any_value c.args.z c.args.self.now.labels.items
+returns c =
+    c.any_case.ensures ∙ ap (λ (ls : List Label). list_any (λ l. is_case c.args.z (label_view l)) ls) c.deref.ensures.value
+    ∙ any_value c.args.z c.args.self.now.labels.items
