@@ -32,7 +32,7 @@ all_behind b (e ∷ es) = all_behind (one_behind b e) es
 abbrev pub none_behind : (next : ℤ) → Context → Behind
 none_behind next c = record { fine = typed tt; next = next; left = c }
 
-regroup : (i : Judged (Unit {0})) (j : Judged ℤ) (k : Judged (Unit {0})) → (both (both i j >>= λ p. typed tt) k >>= λ p. typed (tt {0})) ≡ (both i (both j k >>= λ p. typed tt) >>= λ p. typed (tt {0}))
+regroup : (i : Judged (Unit {0})) (j : Judged ℤ) (k : Judged (Unit {0})) → (both (both i j >>= λ p. typed (tt {0})) k >>= λ p. typed (tt {0})) ≡ (both i (both j k >>= λ p. typed (tt {0})) >>= λ p. typed (tt {0}))
 regroup (typed u) (typed z) (typed v) = refl
 regroup (typed u) (typed z) (faulty t ts) = refl
 regroup (typed u) (faulty s ss) (typed v) = refl
