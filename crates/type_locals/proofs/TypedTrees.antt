@@ -40,23 +40,24 @@ lib_renumbered f e which v xs ys is same k h =
 
 -- ---- statements
 
-pub stmts_renumbered : (f : ℕ → ℕ) (ss : List CodeStmt) → stmts_of (map (λ s. renumbered_stmt f (stmt_view s)) ss) ≡ renumbered_stmts f (stmts_of (map stmt_view ss))
+stmts_renumbered : (f : ℕ → ℕ) (ss : List CodeStmt) → stmts_of (map (λ s. renumbered_stmt f (stmt_view s)) ss) ≡ renumbered_stmts f (stmts_of (map stmt_view ss))
 stmts_renumbered f [] = refl
 stmts_renumbered f (s ∷ ss) = ap (more_stmts (renumbered_stmt f (stmt_view s))) (stmts_renumbered f ss)
 
-pub block_renumbered : (f : ℕ → ℕ) (s : CodeStmt) (v : Vec CodeStmt) (xs ys : List CodeStmt) → s.node ≡ stmt_views.Block v → xs ≡ v.items → length ys ≡ v.len → map stmt_view ys ≡ map (λ x. renumbered_stmt f (stmt_view x)) xs
-    → at_stmt s.place (stmt_node_view (stmt_views.Block (with_items v ys))) ≡ renumbered_stmt f (stmt_view s)
-block_renumbered f s v xs ys is same k h =
-    let w = with_items v ys in
-    ap (at_stmt s.place) (block_view w ∙ (ap (λ l. block (stmts_of l)) (items_put stmt_view (renumbered_stmt f) v xs ys same k h) ∙ (ap block (stmts_renumbered f v.items)
-    ∙ ap (renumbered_stmt_node f) (sym (block_view v) ∙ ap stmt_node_view (sym is)))))
+-- what stands in a Vec of statements again
+pub body_renumbered : (f : ℕ → ℕ) (v : Vec CodeStmt) (xs ys : List CodeStmt) → xs ≡ v.items → length ys ≡ v.len → map stmt_view ys ≡ map (λ x. renumbered_stmt f (stmt_view x)) xs
+    → stmts_of (map stmt_view (with_items v ys).items) ≡ renumbered_stmts f (stmts_of (map stmt_view v.items))
+body_renumbered f v xs ys same k h = ap stmts_of (items_put stmt_view (renumbered_stmt f) v xs ys same k h) ∙ stmts_renumbered f v.items
 
-pub switch_renumbered : (f : ℕ → ℕ) (s : CodeStmt) (e new : CodeExpr) (labels : Vec Label) (v : Vec CodeStmt) (xs ys : List CodeStmt) → s.node ≡ stmt_views.Switch e labels v → expr_view new ≡ renumbered f (expr_view e)
-    → xs ≡ v.items → length ys ≡ v.len → map stmt_view ys ≡ map (λ x. renumbered_stmt f (stmt_view x)) xs
-    → at_stmt s.place (stmt_node_view (stmt_views.Switch new labels (with_items v ys))) ≡ renumbered_stmt f (stmt_view s)
-switch_renumbered f s e new labels v xs ys is told same k h =
-    let w = with_items v ys in
+pub block_renumbered : (f : ℕ → ℕ) (s : CodeStmt) (v w : Vec CodeStmt) → s.node ≡ stmt_views.Block v → stmts_of (map stmt_view w.items) ≡ renumbered_stmts f (stmts_of (map stmt_view v.items))
+    → at_stmt s.place (stmt_node_view (stmt_views.Block w)) ≡ renumbered_stmt f (stmt_view s)
+block_renumbered f s v w is h =
+    ap (at_stmt s.place) (block_view w ∙ (ap block h ∙ ap (renumbered_stmt_node f) (sym (block_view v) ∙ ap stmt_node_view (sym is))))
+
+pub switch_renumbered : (f : ℕ → ℕ) (s : CodeStmt) (e new : CodeExpr) (labels kept : Vec Label) (v w : Vec CodeStmt) → s.node ≡ stmt_views.Switch e labels v → kept ≡ labels → expr_view new ≡ renumbered f (expr_view e)
+    → stmts_of (map stmt_view w.items) ≡ renumbered_stmts f (stmts_of (map stmt_view v.items)) → at_stmt s.place (stmt_node_view (stmt_views.Switch new kept w)) ≡ renumbered_stmt f (stmt_view s)
+switch_renumbered f s e new labels kept v w is same told h =
     let ls = map label_view labels.items in
-    ap (at_stmt s.place) (switch_view new labels w ∙ (ap (λ x. switch x ls (stmts_of (map stmt_view w.items))) told
-    ∙ (ap (λ l. switch (renumbered f (expr_view e)) ls (stmts_of l)) (items_put stmt_view (renumbered_stmt f) v xs ys same k h) ∙ (ap (switch (renumbered f (expr_view e)) ls) (stmts_renumbered f v.items)
-    ∙ ap (renumbered_stmt_node f) (sym (switch_view e labels v) ∙ ap stmt_node_view (sym is))))))
+    ap (at_stmt s.place) (switch_view new kept w ∙ (ap (λ (x : Vec Label). switch (expr_view new) (map label_view x.items) (stmts_of (map stmt_view w.items))) same
+    ∙ (ap (λ x. switch x ls (stmts_of (map stmt_view w.items))) told
+    ∙ (ap (switch (renumbered f (expr_view e)) ls) h ∙ ap (renumbered_stmt_node f) (sym (switch_view e labels v) ∙ ap stmt_node_view (sym is))))))

@@ -1,7 +1,8 @@
 //! Other numbers for the locals of a function's body.
 ghost use Rattle.std.specs.Prelude.{◌≡◌, OnOk, IfOk, map};
+ghost use Rattle.c_tree.specs.Typed.{stmts_of};
 ghost use Rattle.c_tree.specs.TypedViews.{expr_view, optional_expr_view, stmt_view};
-ghost use Rattle.c_typing.specs.Numbering.{renumbered, renumbered_if, renumbered_stmt};
+ghost use Rattle.c_typing.specs.Numbering.{renumbered, renumbered_if, renumbered_stmt, renumbered_stmts};
 ghost use Rattle.type_locals.specs.inner.Numbers.{new_number};
 
 use c_tree::typed::{Expr, ExprNode, Stmt, StmtNode};
@@ -112,7 +113,7 @@ impl Numbers {
     {
         match &mut s.node {
             StmtNode::Break | StmtNode::Continue | StmtNode::Empty => Ok(()),
-            StmtNode::Block(body) => self.statements(body),
+            StmtNode::Block(body) => self.body(body),
             StmtNode::Declare(n, init) => {
                 *n = self.of(*n)?;
                 self.optional(init)
@@ -141,7 +142,7 @@ impl Numbers {
             }
             StmtNode::Switch(e, _, body) => {
                 self.renumber(e)?;
-                self.statements(body)
+                self.body(body)
             }
             StmtNode::Return(value) => self.optional(value),
             StmtNode::Assign(left, right) => {
@@ -154,6 +155,14 @@ impl Numbers {
             }
             StmtNode::Eval(e) => self.renumber(e),
         }
+    }
+
+    // The same of the statements of a block or of a switch.
+    #[cycle(statements)]
+    fn body(&self, body: &mut Vec<Stmt>) -> Result<(), AllocError>
+        ensures { OnOk result (stmts_of (map stmt_view body.new.items) ≡ renumbered_stmts (new_number self.now) (stmts_of (map stmt_view body.old.items))) }
+    {
+        self.statements(body)
     }
 
     /// Gives the locals of statements in a row their numbers.
