@@ -54,7 +54,7 @@ aliases_last base (x ∷ ds) d c =
 -- one more
 pub aliases_more : (base : Judged Ty) (ys : List CodeDeclarator) (i : ℕ) (y : CodeDeclarator) (c : Context) (n m : CodeContext) (all next r : Result (Unit {0}) CompileFault)
     → i < length ys → y ≡ get_or ys i y → Tells (λ (u : Unit {0}). tt) all n (judged_aliases base (map declarator_view (take i ys)) c) → Tells (λ (u : Unit {0}). tt) next m (judged_alias base (declarator_view y) (context_view n))
-    → Finishes (λ (u : Unit {0}). tt) (joined all next) (λ p. typed tt) r
+    → Finishes (λ (u : Unit {0}). tt) (joined all next) (λ p. typed (tt {0})) r
     → Tells (λ (u : Unit {0}). tt) r m (judged_aliases base (map declarator_view (take (i + 1) ys)) c)
 aliases_more base ys i y c n m all next r h is before here fin =
     let ds = map declarator_view (take i ys) in

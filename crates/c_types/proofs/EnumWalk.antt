@@ -48,9 +48,9 @@ alone_tells place M c n o p number fine v r is_n is_number is_o fits told =
 -- ---- enumerators
 
 -- what is known of the enumerators before the index
-pub record Counted (es : List source.Enumerator) (c : Context) (all : Result (Unit {0}) CompileFault) (next : ℤ) (n : CodeContext) : Type 0 where
+pub record Counted (es : List source.Enumerator) (c : Context) (all : Result (Unit {0}) CompileFault) (value : ℤ) (n : CodeContext) : Type 0 where
   pub told : Tells (λ (u : Unit {0}). u) all n ((all_behind (none_behind (pos 0) c) es).fine, (all_behind (none_behind (pos 0) c) es).left)
-  pub next : lacks_memory all ≡ false → next ≡ (all_behind (none_behind (pos 0) c) es).next
+  pub next : lacks_memory all ≡ false → value ≡ (all_behind (none_behind (pos 0) c) es).next
 
 pub counted_none : (n : CodeContext) → Counted [] (context_view n) (Ok tt) (pos 0) n
 counted_none n = record { told = record { gives = refl; leaves = refl }; next = λ known. refl }

@@ -18,7 +18,7 @@ use Rattle.c_tree.specs.declared.syntax.Spec.TheVariants as code_specs
 use Rattle.c_tree.specs.declared.syntax.TypeName.{TypeName as CodeTypeName}
 use Rattle.c_tree.specs.declared.syntax.Pointer.{Pointer}
 use Rattle.c_tree.specs.declared.syntax.Declarator.{Declarator as CodeDeclarator}
-use Rattle.c_tree.specs.declared.syntax.Expr.TheViews.{out-TypeName, out-Member}
+use Rattle.c_tree.specs.declared.syntax.Expr.TheViews.{out-TypeName, out-Member, out-Enumerator}
 use Rattle.c_tree.specs.declared.syntax.Member.{Member as CodeMember}
 use Rattle.c_tree.specs.declared.syntax.Enumerator.{Enumerator as CodeEnumerator}
 use Rattle.c_tree.specs.declared.typed.Expr.{Expr as CodeExpr}
@@ -263,24 +263,24 @@ enumerator_by next e name None comma c is = subst (λ x. judged_enumerator next 
 enumerator_by next e name (Some value) comma c is = subst (λ x. judged_enumerator next x c ≡ enumerated name (value_or next x) c) (sym is) refl
 
 pub enumerator_told : (next : ℤ) (e : CodeEnumerator) (c : Context) (n : CodeContext) (r : Result ℤ CompileFault)
-    → Tells (λ (z : ℤ). z) r n (enumerated e.name (value_or next (enumerator_view e)) c) → Tells (λ (z : ℤ). z) r n (judged_enumerator next (enumerator_view e) c)
+    → Tells (λ (z : ℤ). z) r n (enumerated (out-Enumerator e).name (value_or next (enumerator_view e)) c) → Tells (λ (z : ℤ). z) r n (judged_enumerator next (enumerator_view e) c)
 enumerator_told next e c n r h =
-    subst (λ p. Tells (λ (z : ℤ). z) r n p) (sym (enumerator_by next (enumerator_view e) e.name (option_map seen e.value) e.comma c (views.enumerator_seen e))) h
+    subst (λ p. Tells (λ (z : ℤ). z) r n p) (sym (enumerator_by next (enumerator_view e) (out-Enumerator e).name (option_map seen (out-Enumerator e).value) (out-Enumerator e).comma c (views.enumerator_seen e))) h
 
 pub given_told : (next : ℤ) (e : CodeEnumerator) (value : Tree) (c : Context) (n : CodeContext) (r : Result ℤ CompileFault)
-    → e.value ≡ Some value
-    → Tells (λ (z : ℤ). z) r n (ruled (valued (judged (seen value))) (λ d x. enumerator_value e.name.from (whole_value (constant_value d (seen value) x))) c)
+    → (out-Enumerator e).value ≡ Some value
+    → Tells (λ (z : ℤ). z) r n (ruled (valued (judged (seen value))) (λ d x. enumerator_value (out-Enumerator e).name.from (whole_value (constant_value d (seen value) x))) c)
     → Tells (λ (z : ℤ). z) r n (value_or next (enumerator_view e) c)
 given_told next e value c n r is h =
-    subst (λ (x : source.Enumerator). Tells (λ (z : ℤ). z) r n (value_or next x c)) (sym (views.enumerator_seen e ∙ ap (λ (o : Option Tree). source.enumerator_of e.name (option_map seen o) e.comma) is)) h
+    subst (λ (x : source.Enumerator). Tells (λ (z : ℤ). z) r n (value_or next x c)) (sym (views.enumerator_seen e ∙ ap (λ (o : Option Tree). source.enumerator_of (out-Enumerator e).name (option_map seen o) (out-Enumerator e).comma) is)) h
 
 pub next_told : (next : ℤ) (e : CodeEnumerator) (n : CodeContext) (r : Result ℤ CompileFault)
-    → e.value ≡ None
-    → Gives (λ (z : ℤ). z) r (enumerator_value e.name.from (Some next))
+    → (out-Enumerator e).value ≡ None
+    → Gives (λ (z : ℤ). z) r (enumerator_value (out-Enumerator e).name.from (Some next))
     → Tells (λ (z : ℤ). z) r n (value_or next (enumerator_view e) (context_view n))
 next_told next e n r is h =
-    subst (λ (x : source.Enumerator). Tells (λ (z : ℤ). z) r n (value_or next x (context_view n))) (sym (views.enumerator_seen e ∙ ap (λ (o : Option Tree). source.enumerator_of e.name (option_map seen o) e.comma) is))
-    (lone_tells (λ (z : ℤ). z) r n (enumerator_value e.name.from (Some next)) h)
+    subst (λ (x : source.Enumerator). Tells (λ (z : ℤ). z) r n (value_or next x (context_view n))) (sym (views.enumerator_seen e ∙ ap (λ (o : Option Tree). source.enumerator_of (out-Enumerator e).name (option_map seen o) (out-Enumerator e).comma) is))
+    (lone_tells (λ (z : ℤ). z) r n (enumerator_value (out-Enumerator e).name.from (Some next)) h)
 
 -- ---- the names of types, and members
 

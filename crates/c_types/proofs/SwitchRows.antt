@@ -144,12 +144,12 @@ faulty_known : (x : Judged Entries × Context) (b : Entries) (one : Entries → 
     → entries_view none ≡ no_entries → lacks_memory after ≡ false → entries_view none ≡ entries_or (one b x.1).0
 faulty_known x b one fine (Ok u) e none f n m h so told more is known = absurd more
 faulty_known x b one fine (Err g) e none f n m h so told more is known =
-    let parts = joined_keeps {A = Unit {0}} {B = Unit {0}} fine (Err f) (subst (λ (q : Result (Unit {0} × Unit {0}) CompileFault). lacks_memory q ≡ false) more (again g known)) in
-    is ∙ fault_known x b one fine e f n m h so told parts.0 (again f parts.1)
+    let parts = joined_keeps {A = Unit {0}} {B = Unit {0}} fine (Err f) (subst (λ (q : Result (Unit {0} × Unit {0}) CompileFault). lacks_memory q ≡ false) more (again (Unit {0}) (Unit {0} × Unit {0}) g known)) in
+    is ∙ fault_known x b one fine e f n m h so told parts.0 (again (Unit {0}) CodeEntries f parts.1)
   where
-    again : {A B : Type 0} (g : CompileFault) → lacks_memory {A = A} (Err g) ≡ false → lacks_memory {A = B} (Err g) ≡ false
-    again NoMemory h = h
-    again (Refused r) h = h
+    again : (A B : Type 0) (g : CompileFault) → lacks_memory {A = A} (Err g) ≡ false → lacks_memory {A = B} (Err g) ≡ false
+    again A B NoMemory h = h
+    again A B (Refused r) h = h
 
 -- ---- the code's loop
 

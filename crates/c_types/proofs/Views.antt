@@ -12,7 +12,7 @@ use Rattle.c_tree.specs.declared.syntax.TypeWord.{TypeWord}
 use Rattle.c_tree.specs.declared.syntax.Expr.{Expr}
 use Rattle.c_tree.specs.declared.syntax.Expr.TheFolds.{fold-roll-Expr, fold-roll-Spec, fold_out-Member, fold_out-TypeName, fold_out-Declarator, fold_out-Enumerator}
 use Rattle.c_tree.specs.declared.syntax.Expr.TheOpen.{Expr-F, Spec-F}
-use Rattle.c_tree.specs.declared.syntax.Expr.TheViews.{out-Member, out-TypeName}
+use Rattle.c_tree.specs.declared.syntax.Expr.TheViews.{out-Member, out-TypeName, out-Enumerator}
 use Rattle.c_tree.specs.declared.syntax.Expr.TheVariants as codes
 use Rattle.c_tree.specs.declared.syntax.TypeName.{TypeName}
 use Rattle.c_tree.specs.declared.syntax.Member.{Member}
@@ -146,7 +146,7 @@ alias_seen n =
     ap spec_view (sym (specs.rolls-Alias n))
     ∙ fold-roll-Spec source.Expr source.Spec source.Declarator source.Enumerator source.Member source.TypeName expr_layer spec_layer declarator_layer enumerator_layer member_layer type_name_layer (Spec-F.Alias n)
 
-pub enumerator_seen : (e : Enumerator) → enumerator_view e ≡ source.enumerator_of e.name (option_map expr_view e.value) e.comma
+pub enumerator_seen : (e : Enumerator) → enumerator_view e ≡ source.enumerator_of (out-Enumerator e).name (option_map expr_view (out-Enumerator e).value) (out-Enumerator e).comma
 enumerator_seen e = fold_out-Enumerator source.Expr source.Spec source.Declarator source.Enumerator source.Member source.TypeName expr_layer spec_layer declarator_layer enumerator_layer member_layer type_name_layer e
 
 pub member_seen : (m : Member) → member_view m ≡ source.members_of (source.specs_of (map spec_view (out-Member m).specs.items)) (source.declarators_of (map declarator_view (out-Member m).declarators.items))

@@ -86,6 +86,7 @@ impl Entries {
     }
 
     // Whether a label of this value stands before.
+    #[tactic(auto, using(crate::proofs::LabelRows::any_value))]
     fn has_value(&self, z: i128) -> bool
         ensures { result ≡ has_value z (entries_view self.now).labels }
     {
@@ -93,6 +94,7 @@ impl Entries {
     }
 
     // Whether a default stands before.
+    #[tactic(auto, using(crate::proofs::LabelRows::any_is_default))]
     fn has_default(&self) -> bool
         ensures { result ≡ has_default (entries_view self.now).labels }
     {
