@@ -1,5 +1,5 @@
 -- Functions: what their parts tell together.
-use Rattle.std.proofs.Common.{◌≡◌, ℕ, false, List, [], ◌∷◌, ◌++◌, Option, Some, Result, Ok, Err, refl, ap, sym, subst, ◌∙◌}
+use Rattle.std.proofs.Common.{◌≡◌, ℕ, List, [], ◌∷◌, ◌++◌, Option, Some, Result, Ok, Err, refl, ap, sym, subst, ◌∙◌}
 use Rattle.std.specs.Borrow.{Bor}
 use Rattle.std.specs.Prelude.{Vec}
 use Rattle.std.specs.declared.alloc.Global.{Global}
@@ -11,6 +11,7 @@ use Rattle.c_tree.specs.declared.typed.CType.{CType}
 use Rattle.c_tree.specs.declared.typed.Func.{Func as CodeFunc}
 use Rattle.c_tree.specs.Syntax as source
 use Rattle.c_tree.specs.Typed.{Ty, Func}
+use Rattle.c_tree.specs.TypedForm.{in_function}
 use Rattle.c_tree.specs.TypedViews.{type_view, func_view}
 use Rattle.c_typing.specs.Faults.{Judged, typed, Gives, ◌>>=◌}
 use Rattle.c_typing.specs.Scope.{Frame, Context, inside, back_to}
@@ -57,14 +58,14 @@ whole_told J k n body es d m o p q (Ok x) into h out more =
     let told : Tells (each func_view) (Ok x) o (judged_body J k (Some body) e) = subst (λ f. Tells (each func_view) (Ok x) o (judged_body J k (Some body) f)) into h in
     record {
       gives = told.gives;
-      leaves = more ∙ ap (λ f. with_body f n) (out d (ap (λ (f : Context). f.outer) told.leaves ∙ ap (λ (p : List ℕ × List Frame). p.1) (stmts_stays (or_int k) false (source.stmts_of body.items) e)) ∙ ap (back_to d) told.leaves);
+      leaves = more ∙ ap (λ f. with_body f n) (out d (ap (λ (f : Context). f.outer) told.leaves ∙ ap (λ (p : List ℕ × List Frame). p.1) (stmts_stays (or_int k) in_function (source.stmts_of body.items) e)) ∙ ap (back_to d) told.leaves);
     }
 whole_told J k n body es d m o p q (Err (Refused r)) into h out more =
     let e = record (inside d) { inner = frame_view es } in
     let told : Tells (each func_view) (Err (Refused r)) o (judged_body J k (Some body) e) = subst (λ f. Tells (each func_view) (Err (Refused r)) o (judged_body J k (Some body) f)) into h in
     record {
       gives = told.gives;
-      leaves = more ∙ ap (λ f. with_body f n) (out d (ap (λ (f : Context). f.outer) told.leaves ∙ ap (λ (p : List ℕ × List Frame). p.1) (stmts_stays (or_int k) false (source.stmts_of body.items) e)) ∙ ap (back_to d) told.leaves);
+      leaves = more ∙ ap (λ f. with_body f n) (out d (ap (λ (f : Context). f.outer) told.leaves ∙ ap (λ (p : List ℕ × List Frame). p.1) (stmts_stays (or_int k) in_function (source.stmts_of body.items) e)) ∙ ap (back_to d) told.leaves);
     }
 
 -- ---- functions

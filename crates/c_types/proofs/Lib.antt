@@ -13,3 +13,8 @@ pub mod FileParts
 pub mod Functions
 pub mod Externals
 pub mod Objects
+pub mod SwitchRows
+pub mod SwitchNodes
+pub mod EnumWalk
+pub mod AliasRows
+pub mod LabelRows

@@ -1,7 +1,9 @@
 -- What each kind of node tells, as the code has it.
-use Rattle.std.proofs.Common.{◌≡◌, ℕ, map, List, [], ◌∷◌, ◌++◌, Result, ap, sym, subst, ◌∙◌}
-use Rattle.std.specs.Prelude.{Vec, Box}
+use Rattle.std.proofs.Common.{◌≡◌, ℕ, Bool, map, List, [], ◌∷◌, ◌++◌, Option, Some, None, Result, refl, ap, sym, subst, ◌∙◌}
+use Rattle.std.specs.Option.{option_map}
+use Rattle.std.specs.Prelude.{Vec, Box, ℤ, pos}
 use Rattle.std.specs.declared.alloc.Global.{Global}
+use Rattle.ak_words.specs.IntType.{int}
 use Rattle.ak_words.specs.declared.number.Num.{Num}
 use Rattle.c_lex.specs.declared.refusal.CompileFault.{CompileFault}
 use Rattle.c_tree.specs.declared.syntax.Name.{Name}
@@ -16,21 +18,24 @@ use Rattle.c_tree.specs.declared.syntax.Spec.TheVariants as code_specs
 use Rattle.c_tree.specs.declared.syntax.TypeName.{TypeName as CodeTypeName}
 use Rattle.c_tree.specs.declared.syntax.Pointer.{Pointer}
 use Rattle.c_tree.specs.declared.syntax.Declarator.{Declarator as CodeDeclarator}
-use Rattle.c_tree.specs.declared.syntax.Expr.TheViews.{out-TypeName, out-Member}
+use Rattle.c_tree.specs.declared.syntax.Expr.TheViews.{out-TypeName, out-Member, out-Enumerator}
 use Rattle.c_tree.specs.declared.syntax.Member.{Member as CodeMember}
+use Rattle.c_tree.specs.declared.syntax.Enumerator.{Enumerator as CodeEnumerator}
 use Rattle.c_tree.specs.declared.typed.Expr.{Expr as CodeExpr}
 use Rattle.c_tree.specs.declared.typed.CType.{CType}
 use Rattle.c_tree.specs.Syntax as source
-use Rattle.c_tree.specs.SyntaxViews.{expr_view as seen, type_name_view, spec_view, member_view, declarator_view}
+use Rattle.c_tree.specs.SyntaxViews.{expr_view as seen, type_name_view, spec_view, member_view, declarator_view, enumerator_view}
 use Rattle.c_tree.specs.Typed.{Ty, at, pointer, void, null, integer, num}
 use Rattle.c_tree.specs.TypedViews.{type_view, boxed_expr_view}
 use Rattle.c_typing.specs.Faults.{Judged, typed, Gives}
 use Rattle.c_typing.specs.Literals.{joined_bytes, place_of_parts}
 use Rattle.c_typing.specs.Types.{behind_pointers}
 use Rattle.c_typing.specs.Scope.{Context, meaning_of}
+use Rattle.c_typing.specs.Constants.{constant_value}
 use Rattle.c_typing.specs.Rules.{element, cast}
 use Rattle.c_typing.specs.Statements.{judged_declarator, name_of}
-use Rattle.c_typing.specs.Judgement.{judged, valued, judged_type, judged_specs, judged_spec, judged_members, judged_member, judged_declarators, judged_dims, names_in, names_of_member, named, spelled, prefixed, name_in, braced, word}
+use Rattle.c_typing.specs.Judgement.{judged, valued, judged_type, judged_specs, judged_spec, judged_members, judged_member, judged_declarators, judged_dims, names_in, names_of_member, named, spelled, prefixed, name_in, braced, braced_alone, enum_tagged, enum_braced, judged_enumerators, enumerated, judged_enumerator, aliased, whole, plain_type, enumerator_value, whole_value, place_of_specs, ruled, word}
+use Rattle.c_types.specs.inner.Enumerators.{value_or}
 use Rattle.type_context.specs.declared.context.Context.{Context as CodeContext}
 use Rattle.type_context.specs.ContextViews.{context_view}
 use Rattle.type_context.specs.inner.Outcomes.{joined}
@@ -211,18 +216,85 @@ pub body_told : (x : CodeSpec) (place : ℕ) (t : Name) (v : Vec CodeMember Glob
 body_told x place t v all c n r is same h =
     spec_as_seen x (source.struct_body place t (source.members_row (map member_view all))) c n r (ap spec_view is ∙ views.body_seen place t v ∙ ap (λ (l : List CodeMember). source.struct_body place t (source.members_row (map member_view l))) (sym same)) h
 
+pub unnamed_struct_told : (x : CodeSpec) (place : ℕ) (v : Vec CodeMember Global) (all : List CodeMember) (c : Context) (n : CodeContext) (r : Result CodePart CompileFault)
+    → x ≡ code_specs.UnnamedStruct place v
+    → all ≡ v.items
+    → Tells part_view r n (braced_alone place (judged_members [] (source.members_row (map member_view all))) c)
+    → Tells part_view r n (judged_spec (spec_view x) c)
+unnamed_struct_told x place v all c n r is same h =
+    spec_as_seen x (source.unnamed_struct place (source.members_row (map member_view all))) c n r (ap spec_view is ∙ views.unnamed_struct_seen place v ∙ ap (λ (l : List CodeMember). source.unnamed_struct place (source.members_row (map member_view l))) (sym same)) h
+
+pub enum_told : (x : CodeSpec) (place : ℕ) (t : Name) (n : CodeContext) (r : Result CodePart CompileFault)
+    → x ≡ code_specs.Enum place t
+    → Gives part_view r (enum_tagged (context_view n) t)
+    → Tells part_view r n (judged_spec (spec_view x) (context_view n))
+enum_told x place t n r is h =
+    spec_as_seen x (source.enum place t) (context_view n) n r (ap spec_view is ∙ views.enum_seen place t) (lone_tells part_view r n (enum_tagged (context_view n) t) h)
+
+pub enum_body_told : (x : CodeSpec) (place : ℕ) (t : Name) (v : Vec CodeEnumerator Global) (all : List CodeEnumerator) (c : Context) (n : CodeContext) (r : Result CodePart CompileFault)
+    → x ≡ code_specs.EnumBody place t v
+    → all ≡ v.items
+    → Tells part_view r n (enum_braced t (judged_enumerators (pos 0) (source.enumerators_of (map enumerator_view all))) c)
+    → Tells part_view r n (judged_spec (spec_view x) c)
+enum_body_told x place t v all c n r is same h =
+    spec_as_seen x (source.enum_body place t (source.enumerators_of (map enumerator_view all))) c n r (ap spec_view is ∙ views.enum_body_seen place t v ∙ ap (λ (l : List CodeEnumerator). source.enum_body place t (source.enumerators_of (map enumerator_view l))) (sym same)) h
+
+pub unnamed_enum_told : (x : CodeSpec) (place : ℕ) (v : Vec CodeEnumerator Global) (all : List CodeEnumerator) (c : Context) (n : CodeContext) (r : Result CodePart CompileFault)
+    → x ≡ code_specs.UnnamedEnum place v
+    → all ≡ v.items
+    → Tells part_view r n (ruled (judged_enumerators (pos 0) (source.enumerators_of (map enumerator_view all))) (λ d u. typed (whole (integer int))) c)
+    → Tells part_view r n (judged_spec (spec_view x) c)
+unnamed_enum_told x place v all c n r is same h =
+    spec_as_seen x (source.unnamed_enum place (source.enumerators_of (map enumerator_view all))) c n r (ap spec_view is ∙ views.unnamed_enum_seen place v ∙ ap (λ (l : List CodeEnumerator). source.unnamed_enum place (source.enumerators_of (map enumerator_view l))) (sym same)) h
+
+pub alias_told : (x : CodeSpec) (name : Name) (n : CodeContext) (r : Result CodePart CompileFault)
+    → x ≡ code_specs.Alias name
+    → Gives part_view r (aliased name.from (meaning_of (context_view n) name))
+    → Tells part_view r n (judged_spec (spec_view x) (context_view n))
+alias_told x name n r is h =
+    spec_as_seen x (source.alias name) (context_view n) n r (ap spec_view is ∙ views.alias_seen name) (lone_tells part_view r n (aliased name.from (meaning_of (context_view n) name)) h)
+
+-- ---- enumerators
+
+-- an enumerator, by its value
+enumerator_by : (next : ℤ) (e : source.Enumerator) (name : Name) (value : Option source.Expr) (comma : Bool) (c : Context) → e ≡ source.enumerator_of name value comma
+    → judged_enumerator next e c ≡ enumerated name (value_or next e) c
+enumerator_by next e name None comma c is = subst (λ x. judged_enumerator next x c ≡ enumerated name (value_or next x) c) (sym is) refl
+enumerator_by next e name (Some value) comma c is = subst (λ x. judged_enumerator next x c ≡ enumerated name (value_or next x) c) (sym is) refl
+
+pub enumerator_told : (next : ℤ) (e : CodeEnumerator) (c : Context) (n : CodeContext) (r : Result ℤ CompileFault)
+    → Tells (λ (z : ℤ). z) r n (enumerated (out-Enumerator e).name (value_or next (enumerator_view e)) c) → Tells (λ (z : ℤ). z) r n (judged_enumerator next (enumerator_view e) c)
+enumerator_told next e c n r h =
+    subst (λ p. Tells (λ (z : ℤ). z) r n p) (sym (enumerator_by next (enumerator_view e) (out-Enumerator e).name (option_map seen (out-Enumerator e).value) (out-Enumerator e).comma c (views.enumerator_seen e))) h
+
+pub given_told : (next : ℤ) (e : CodeEnumerator) (value : Tree) (c : Context) (n : CodeContext) (r : Result ℤ CompileFault)
+    → (out-Enumerator e).value ≡ Some value
+    → Tells (λ (z : ℤ). z) r n (ruled (valued (judged (seen value))) (λ d x. enumerator_value (out-Enumerator e).name.from (whole_value (constant_value d (seen value) x))) c)
+    → Tells (λ (z : ℤ). z) r n (value_or next (enumerator_view e) c)
+given_told next e value c n r is h =
+    subst (λ (x : source.Enumerator). Tells (λ (z : ℤ). z) r n (value_or next x c)) (sym (views.enumerator_seen e ∙ ap (λ (o : Option Tree). source.enumerator_of (out-Enumerator e).name (option_map seen o) (out-Enumerator e).comma) is)) h
+
+pub next_told : (next : ℤ) (e : CodeEnumerator) (n : CodeContext) (r : Result ℤ CompileFault)
+    → (out-Enumerator e).value ≡ None
+    → Gives (λ (z : ℤ). z) r (enumerator_value (out-Enumerator e).name.from (Some next))
+    → Tells (λ (z : ℤ). z) r n (value_or next (enumerator_view e) (context_view n))
+next_told next e n r is h =
+    subst (λ (x : source.Enumerator). Tells (λ (z : ℤ). z) r n (value_or next x (context_view n))) (sym (views.enumerator_seen e ∙ ap (λ (o : Option Tree). source.enumerator_of (out-Enumerator e).name (option_map seen o) (out-Enumerator e).comma) is))
+    (lone_tells (λ (z : ℤ). z) r n (enumerator_value (out-Enumerator e).name.from (Some next)) h)
+
 -- ---- the names of types, and members
 
-pub type_name_told : (t : CodeTypeName) (specs : List CodeSpec) (pointers : List Pointer) (c : Context) (n : CodeContext) (a r : Result CType CompileFault)
-    → specs ≡ (out-TypeName t).specs.items → pointers ≡ (out-TypeName t).pointers.items
-    → Tells type_view a n (judged_specs (source.specs_of (map spec_view specs)) c) → Finishes type_view a (λ s. typed (behind_pointers (type_view s) pointers)) r
+pub type_name_told : (t : CodeTypeName) (specs : List CodeSpec) (pointers : List Pointer) (place : ℕ) (c : Context) (n : CodeContext) (a r : Result CType CompileFault)
+    → specs ≡ (out-TypeName t).specs.items → pointers ≡ (out-TypeName t).pointers.items → place ≡ place_of_specs (source.specs_of (map spec_view specs))
+    → Tells type_view a n (judged_specs (source.specs_of (map spec_view specs)) c) → Finishes type_view a (λ s. plain_type place (behind_pointers (type_view s) pointers)) r
     → Tells type_view r n (judged_type (type_name_view t) c)
-type_name_told t specs pointers c n a r is_specs is_pointers h f =
+type_name_told t specs pointers place c n a r is_specs is_pointers is_place h f =
     let is = views.type_name_seen t
     ∙ ap (λ (l : List CodeSpec). source.type_name (source.specs_of (map spec_view l)) (out-TypeName t).pointers.items) (sym is_specs)
     ∙ ap (λ (l : List Pointer). source.type_name (source.specs_of (map spec_view specs)) l) (sym is_pointers) in
     subst (λ (s : source.TypeName). Tells type_view r n (judged_type s c)) (sym is)
-    (types.type_name_tells (source.specs_of (map spec_view specs)) pointers c n a r h f)
+    (types.type_name_tells (source.specs_of (map spec_view specs)) pointers c n a r h
+    (subst (λ (p : ℕ). Finishes type_view a (λ s. plain_type p (behind_pointers (type_view s) pointers)) r) is_place f))
 
 pub member_told : (before : List Name) (d : CodeMember) (specs : List CodeSpec) (ds : List CodeDeclarator) (c : Context) (n m : CodeContext)
     (a : Result CType CompileFault) (b r : Result (Vec MemberType Global) CompileFault)

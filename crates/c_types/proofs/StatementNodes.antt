@@ -8,15 +8,16 @@ use Rattle.c_tree.specs.Syntax as source
 use Rattle.c_tree.specs.declared.syntax.Name.{Name}
 use Rattle.c_tree.specs.declared.syntax.Declarator.{Declarator as CodeDeclarator}
 use Rattle.c_tree.specs.declared.syntax.Expr.TheFolds.{fold_out-Declarator}
-use Rattle.c_tree.specs.SyntaxViews.{declarator_view, expr_layer, spec_layer, declarator_layer, member_layer, type_name_layer}
+use Rattle.c_tree.specs.SyntaxViews.{declarator_view, expr_layer, spec_layer, declarator_layer, enumerator_layer, member_layer, type_name_layer}
 use Rattle.c_tree.specs.Typed.{Ty, at_stmt, declare}
-use Rattle.c_tree.specs.TypedViews.{type_view, boxed_expr_view, stmt_view}
+use Rattle.c_tree.specs.TypedForm.{Jumps}
+use Rattle.c_tree.specs.TypedViews.{type_view, boxed_expr_view, stmt_view, boxed_stmt_view}
 use Rattle.c_tree.specs.declared.typed.CType.{CType}
 use Rattle.c_tree.specs.declared.typed.Expr.{Expr as CodeExpr}
 use Rattle.c_tree.specs.declared.typed.Stmt.{Stmt as CodeStmt}
 use Rattle.c_typing.specs.Faults.{Judged, typed, Gives}
 use Rattle.c_typing.specs.Scope.{Context, inside}
-use Rattle.c_typing.specs.Statements.{or_int, object_of, name_of, local_fine, with_local, judged_init, judged_local}
+use Rattle.c_typing.specs.Statements.{or_int, object_of, name_of, local_fine, with_local, judged_init, judged_local, one_of, judged_stmt}
 use Rattle.type_context.specs.declared.context.Context.{Context as CodeContext}
 use Rattle.type_context.specs.declared.names.Binding.{Binding as CodeMeaning}
 use Rattle.type_context.specs.ContextViews.{context_view, frame_view}
@@ -30,9 +31,14 @@ use Rattle.c_types.proofs.Steps.{declared_parts, object_parts, err_finish}
 pub entered : (m : CodeContext) (c : Context) (es : List (Bor (List ℕ) × CodeMeaning)) → context_view m ≡ record (inside c) { inner = frame_view es } → es ≡ [] → context_view m ≡ inside c
 entered m c es h none = h ∙ ap (λ fs. record (inside c) { inner = frame_view fs }) none
 
+-- the statement under a loop
+pub looped : (t : Ty) (k l : Jumps) (s : source.Stmt) (d : Context) (n : CodeContext) (r : Result (Box CodeStmt Global) CompileFault)
+    → k ≡ l → Tells boxed_stmt_view r n (one_of (judged_stmt t k s) d) → Tells boxed_stmt_view r n (one_of (judged_stmt t l s) d)
+looped t k l s d n r is = subst (λ (j : Jumps). Tells boxed_stmt_view r n (one_of (judged_stmt t j s) d)) is
+
 -- the name that a declarator of the code declares
 pub declared_name : (d : CodeDeclarator) → name_of (declarator_view d) ≡ d.name
-declared_name d = ap name_of (fold_out-Declarator source.Expr source.Spec source.Declarator source.Member source.TypeName expr_layer spec_layer declarator_layer member_layer type_name_layer d)
+declared_name d = ap name_of (fold_out-Declarator source.Expr source.Spec source.Declarator source.Enumerator source.Member source.TypeName expr_layer spec_layer declarator_layer enumerator_layer member_layer type_name_layer d)
 
 -- what doesn't lack memory leaves its context
 pub left_known : {A : Type 0} (r : Result A CompileFault) (n : CodeContext) (d : Context) → Leaves r n d → lacks_memory r ≡ false → context_view n ≡ d

@@ -1,11 +1,12 @@
 -- Rows of declarations and statements: one more behind the others.
-use Rattle.std.proofs.Common.{◌≡◌, ℕ, ◌+◌, ◌<◌, ◌≤◌, Bool, List, [], ◌∷◌, ◌++◌, map, take, length, get_or, Result, refl, ap, sym, subst, ◌∙◌, append_assoc, append-nil}
+use Rattle.std.proofs.Common.{◌≡◌, ℕ, ◌+◌, ◌<◌, ◌≤◌, List, [], ◌∷◌, ◌++◌, map, take, length, get_or, Result, refl, ap, sym, subst, ◌∙◌, append_assoc, append-nil}
 use Rattle.std.proofs.lemmas.List.{map_more, take_all}
 use Rattle.std.specs.Prelude.{Vec}
 use Rattle.std.specs.declared.alloc.Global.{Global}
 use Rattle.c_lex.specs.declared.refusal.CompileFault.{CompileFault}
 use Rattle.c_tree.specs.Syntax as source
 use Rattle.c_tree.specs.Typed.{Ty, Stmt}
+use Rattle.c_tree.specs.TypedForm.{Jumps}
 use Rattle.c_typing.specs.Faults.{Judged, typed, both, ◌>>=◌}
 use Rattle.c_typing.specs.Scope.{Context}
 use Rattle.c_typing.specs.Judgement.{Judging, in_turn, ruled}
@@ -62,21 +63,21 @@ at_end view seen F ys i c n all h before = subst (λ xs. Tells (each view) all n
 
 -- ---- statements, of which each gives several
 
-abbrev appending : Ty → Bool → List source.Stmt → Judging (List Stmt)
+abbrev appending : Ty → Jumps → List source.Stmt → Judging (List Stmt)
 appending t l ss = row (λ (u : Unit {0}) s. judged_stmt t l s) (λ u s. u) (λ x ys. x ++ ys) tt ss
 
-stmts_alike : (t : Ty) (l : Bool) (ss : List source.Stmt) (c : Context) → judged_stmts t l (source.stmts_of ss) c ≡ appending t l ss c
+stmts_alike : (t : Ty) (l : Jumps) (ss : List source.Stmt) (c : Context) → judged_stmts t l (source.stmts_of ss) c ≡ appending t l ss c
 stmts_alike t l [] c = refl
 stmts_alike t l (s ∷ ss) c = ap (λ q. (both (judged_stmt t l s c).0 q.0 >>= (λ p. typed (p.0 ++ p.1)), q.1)) (stmts_alike t l ss (judged_stmt t l s c).1)
 
-stmts_row : (t : Ty) (l : Bool) (ss : List source.Stmt) (s : source.Stmt) (c : Context)
+stmts_row : (t : Ty) (l : Jumps) (ss : List source.Stmt) (s : source.Stmt) (c : Context)
     → judged_stmts t l (source.stmts_of (ss ++ s ∷ [])) c ≡ ruled (in_turn (judged_stmts t l (source.stmts_of ss)) (judged_stmt t l s)) (λ d p. typed (p.0 ++ p.1)) c
 stmts_row t l ss s c =
     stmts_alike t l (ss ++ s ∷ []) c
     ∙ row_last (λ (u : Unit {0}) s. judged_stmt t l s) (λ u s. u) (λ x ys. x ++ ys) (λ ys x. ys ++ x) (λ x. append-nil x) (λ x ys z. sym (append_assoc x ys z)) tt ss s c
     ∙ ap (λ q. (both q.0 (judged_stmt t l s q.1).0 >>= (λ p. typed (p.0 ++ p.1)), (judged_stmt t l s q.1).1)) (sym (stmts_alike t l ss c))
 
-pub several_more : {A Y : Type 0} (view : A → Stmt) (seen : Y → source.Stmt) (t : Ty) (l : Bool)
+pub several_more : {A Y : Type 0} (view : A → Stmt) (seen : Y → source.Stmt) (t : Ty) (l : Jumps)
     → (ys : List Y) (i : ℕ) (y : Y) (c : Context) (n m : CodeContext) (all next r : Result (Vec A Global) CompileFault)
     → i < length ys → y ≡ get_or ys i y → Tells (each view) all n (judged_stmts t l (source.stmts_of (map seen (take i ys))) c) → Tells (each view) next m (judged_stmt t l (seen y) (context_view n)) → IsAppended (joined all next) r
     → Tells (each view) r m (judged_stmts t l (source.stmts_of (map seen (take (i + 1) ys))) c)

@@ -34,6 +34,18 @@ pub for_is : (place : ℕ) (first : CodeForFirst) (e : Option CodeExpr) (step : 
     → stmt_view (stmts.For place first e step s) ≡ trees.for place (for_first_view first) (option_map expr_view e) (option_map simple_view step) (stmt_view s.value)
 for_is place first e step s = ap stmt_view (sym (stmts.rolls-For place first e step s)) ∙ fold-roll-Stmt trees.Stmt stmt_layer (Stmt-F.For place first e step s)
 
+pub do_is : (place : ℕ) (s : Box CodeStmt Global) (e : CodeExpr) → stmt_view (stmts.DoWhile place s e) ≡ trees.do_while place (stmt_view s.value) (expr_view e)
+do_is place s e = ap stmt_view (sym (stmts.rolls-DoWhile place s e)) ∙ fold-roll-Stmt trees.Stmt stmt_layer (Stmt-F.DoWhile place s e)
+
+pub switch_is : (place : ℕ) (e : CodeExpr) (entries : Vec CodeStmt Global) → stmt_view (stmts.Switch place e entries) ≡ trees.switch place (expr_view e) (trees.stmts_of (map stmt_view entries.items))
+switch_is place e entries = ap stmt_view (sym (stmts.rolls-Switch place e entries)) ∙ fold-roll-Stmt trees.Stmt stmt_layer (Stmt-F.Switch place e entries)
+
+pub case_is : (place : ℕ) (e : CodeExpr) → stmt_view (stmts.Case place e) ≡ trees.case_label place (expr_view e)
+case_is place e = ap stmt_view (sym (stmts.rolls-Case place e)) ∙ fold-roll-Stmt trees.Stmt stmt_layer (Stmt-F.Case place e)
+
+pub default_is : (place : ℕ) → stmt_view (stmts.Default place) ≡ trees.default_label place
+default_is place = ap stmt_view (sym (stmts.rolls-Default place)) ∙ fold-roll-Stmt trees.Stmt stmt_layer (Stmt-F.Default place)
+
 pub break_is : (place : ℕ) → stmt_view (stmts.Break place) ≡ trees.break place
 break_is place = ap stmt_view (sym (stmts.rolls-Break place)) ∙ fold-roll-Stmt trees.Stmt stmt_layer (Stmt-F.Break place)
 

@@ -3,3 +3,4 @@ pub mod Parts
 pub mod Functions
 pub mod Files
 pub mod Switches
+pub mod Enumerators

@@ -10,13 +10,15 @@ ghost use Rattle.c_typing.specs.Constants.{constant_value};
 ghost use Rattle.type_context.specs.ContextViews.{context_view};
 ghost use Rattle.type_context.specs.Telling.{Tells};
 ghost use Rattle.type_rules.specs.SpecifierViews.{part_view};
+ghost use Rattle.c_types.specs.inner.Enumerators.{value_or};
 
 use crate::expressions::value;
+use crate::outcomes::fine_with;
 use c_lex::CompileFault;
 use c_tree::syntax as tree;
 use c_tree::syntax::Name;
 use type_context::context::Context;
-use type_context::faults::{as_fault, both};
+use type_context::faults::as_fault;
 use type_nodes::enums::{
     enum_closed, enum_opened, enumerated, enumerator_value, given_value, unnamed_enum, value_behind,
 };
@@ -60,7 +62,7 @@ fn enumerators(context: &mut Context<'_>, list: &[tree::Enumerator]) -> Result<(
     'list: for e in list {
         let value = enumerator(context, next, e);
         next = value_behind(&value)?;
-        all = both(all, value).map(|_| ());
+        all = fine_with(all, value);
     }
     all
 }
@@ -74,11 +76,23 @@ fn enumerator(
 ) -> Result<i32, CompileFault>
     ensures { Tells (λ z. z) result context.new (judged_enumerator next (source.enumerator_view e.now) (context_view context.old)) }
 {
-    let value = match &e.value {
+    let value = value_or(context, next, e);
+    enumerated(context, e.name, value)
+}
+
+// The value of an enumerator: the one that is given, or else this.
+#[cycle(nodes)]
+fn value_or(
+    context: &mut Context<'_>,
+    next: i128,
+    e: &tree::Enumerator,
+) -> Result<i32, CompileFault>
+    ensures { Tells (λ z. z) result context.new (value_or next (source.enumerator_view e.now) (context_view context.old)) }
+{
+    match &e.value {
         Some(value) => given(context, e.name.from, value),
         None => as_fault(enumerator_value(e.name.from, Some(next))),
-    };
-    enumerated(context, e.name, value)
+    }
 }
 
 // A value that is given.

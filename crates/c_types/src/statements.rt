@@ -309,7 +309,7 @@ fn stmt(
 
 /// The items of a body, of which a declaration may give several.
 #[cycle(statements)]
-pub fn stmts(
+pub(crate) fn stmts(
     context: &mut Context<'_>,
     t: &CType,
     jumps: Jumps,

@@ -1,5 +1,6 @@
 //! Switches: their expressions, and the labels and statements between their braces (C11 6.8.4.2).
 ghost use Rattle.std.specs.Prelude.{◌≡◌, false, length, IfErr, OnOk};
+ghost use Rattle.std.specs.List.{list_any};
 ghost use Rattle.c_lex.specs.declared.refusal.CompileFault.TheVariants.{NoMemory};
 ghost use Rattle.c_tree.specs.TypedForm as forms;
 ghost use Rattle.c_tree.specs.Typed.{type_of, Expr as TypedExpr};
@@ -9,7 +10,7 @@ ghost use Rattle.c_typing.specs.Faults.{Judged, Gives};
 ghost use Rattle.c_typing.specs.Statements as rules;
 ghost use Rattle.c_typing.specs.Statements.{switched_by, type_of_switch, has_value, has_default, label_fine, label_value, cased, defaulted, with_stmt, no_entries};
 ghost use Rattle.type_context.specs.Telling.{Says, lacks_memory};
-ghost use Rattle.c_types.specs.inner.Switches.{jumps_view, entries_view, value_view, typed_value, IsFaultMore};
+ghost use Rattle.c_types.specs.inner.Switches.{jumps_view, entries_view, value_view, typed_value, is_case, is_default, IsFaultMore};
 
 use ak_words::{IntType, Num, promote};
 use c_lex::{CompileFault, Kind, Refusal};
@@ -85,19 +86,19 @@ impl Entries {
     }
 
     // Whether a label of this value stands before.
+    #[tactic(auto, using(crate::proofs::LabelRows::any_value))]
     fn has_value(&self, z: i128) -> bool
         ensures { result ≡ has_value z (entries_view self.now).labels }
     {
-        self.labels
-            .iter()
-            .any(|label| label.value.is_some_and(|n| n.value == z))
+        any_case(&self.labels, z)
     }
 
     // Whether a default stands before.
+    #[tactic(auto, using(crate::proofs::LabelRows::any_is_default))]
     fn has_default(&self) -> bool
         ensures { result ≡ has_default (entries_view self.now).labels }
     {
-        self.labels.iter().any(|label| label.value.is_none())
+        any_default(&self.labels)
     }
 
     // A label at its word: it differs from those before it, and is not too many.
@@ -149,6 +150,40 @@ impl Entries {
         self.body.push(s)?;
         Ok(self)
     }
+}
+
+// Whether a label is a case of this value.
+fn is_case(label: &Label, z: i128) -> bool
+    ensures { result ≡ is_case z (label_view label.now) }
+{
+    match label.value {
+        Some(n) => n.value == z,
+        None => false,
+    }
+}
+
+// Whether a label is a default.
+fn is_default(label: &Label) -> bool
+    ensures { result ≡ is_default (label_view label.now) }
+{
+    match label.value {
+        Some(_) => false,
+        None => true,
+    }
+}
+
+// Whether one of these labels is a case of this value.
+fn any_case(labels: &[Label], z: i128) -> bool
+    ensures { result ≡ list_any (λ l. is_case z (label_view l)) labels.now }
+{
+    labels.iter().any(|label| is_case(label, z))
+}
+
+// Whether one of these labels is a default.
+fn any_default(labels: &[Label]) -> bool
+    ensures { result ≡ list_any (λ l. is_default (label_view l)) labels.now }
+{
+    labels.iter().any(|label| is_default(label))
 }
 
 // The value of a label: an integer constant expression, converted to the type of its switch.

@@ -11,6 +11,7 @@ ghost use Rattle.type_context.specs.ContextViews.{context_view};
 ghost use Rattle.type_context.specs.Telling.{Tells};
 
 use crate::declarators::{declarator, specifiers};
+use crate::outcomes::fine_with;
 use c_lex::CompileFault;
 use c_tree::syntax::{Declarator, Spec};
 use c_tree::typed::CType;
@@ -56,7 +57,7 @@ fn aliases(
     let mut all = Ok(());
     'declarators: for d in ds {
         let next = alias(context, base, d);
-        all = both(all, next).map(|_| ());
+        all = fine_with(all, next);
     }
     all
 }

@@ -1,11 +1,15 @@
 use Rattle.std.proofs.Common.{ℕ, ◌-◌, [], ◌∷◌, ◌++◌, List, map, take, drop, length, refl, ap, sym, subst, ◌∙◌, arith, Option}
-use Rattle.std.specs.Prelude.{Vec}
+use Rattle.std.specs.Prelude.{Vec, ℤ, pos}
 use Rattle.std.specs.declared.alloc.Global.{Global}
+use Rattle.ak_words.specs.IntType.{int}
 use Rattle.c_tree.specs.declared.syntax.Name.{Name}
 use Rattle.c_tree.specs.Syntax as source
 use Rattle.c_tree.specs.SyntaxViews as sources
-use Rattle.c_tree.specs.TypedViews.{expr_view}
-use Rattle.c_typing.specs.Judgement.{valued, judged, judged_all, judged_spec, judged_members, judged_member, array_size, begun_by, name_in, meaning_in}
+use Rattle.c_tree.specs.Typed.{integer}
+use Rattle.c_tree.specs.TypedViews.{expr_view, boxed_expr_view}
+use Rattle.c_typing.specs.Judgement.{valued, judged, judged_all, judged_spec, judged_members, judged_member, array_size, begun_by, name_in, meaning_in, judged_enumerators, enumerator_value, whole_value, whole}
+use Rattle.c_typing.specs.Faults.{typed}
+use Rattle.c_typing.specs.Constants.{constant_value}
 use Rattle.type_context.specs.ContextViews.{context_view, member_type_view}
 use Rattle.type_rules.specs.ListViews.{exprs_view}
 use Rattle.type_rules.specs.SpecifierViews.{part_view, parts_view, parts_seen}
@@ -14,10 +18,12 @@ use Rattle.type_context.proofs.Judging.{fault_gives}
 use Rattle.type_context.proofs.Rows.{starts, pushed_next, state_next, ends}
 use Rattle.type_nodes.specs.Nodes.{types_of_members}
 use Rattle.type_nodes.proofs.Rows.{behind_member, declarator_node, behind_declarator, args_are, dims_are, parts_are, members_are, declarators_are, members_next, appended_keeps}
-use Rattle.type_nodes.proofs.Telling.{braces_tell, numbers_told, keeps_second, unboxed_tells}
+use Rattle.type_nodes.proofs.Telling.{finishes, braces_tell, numbers_told, keeps_second, unboxed_tells}
 use Rattle.type_nodes.proofs.Expressions.{value_tells, size_of_type_tells, size_of_expression_tells, member_tells, arrow_tells, prefixed_tells, binary_tells, conditional_tells, starting_known, starting_other}
 use Rattle.type_nodes.proofs.Types as types
+use Rattle.c_types.specs.inner.Enumerators.{value_or}
 use Rattle.c_types.proofs.Sizes.{most_rest}
+use Rattle.c_types.proofs.EnumWalk.{enum_tells, alone_tells, counted_none, counted_more, counted_all}
 use Rattle.c_types.proofs.Views as views
 use Rattle.c_types.proofs.Nodes as nodes
 use Rattle.c_types.proofs.Walking.{address_tells, text_told, no_text_told, call_prints, call_starts, call_calls, print_some, start_some, started_some, names_told}
@@ -182,7 +188,7 @@ expressions::starting-returns-in-None t c =
 
 pub declarators::type_name-returns : goal.declarators::type_name-returns
 declarators::type_name-returns t c =
-    nodes.type_name_told c.args.t.now c.deref.result.now c.deref-2.result.now (context_view c.args.context.now) c.specifiers-named.new.context c.specifiers-named.result c.pointers_to.result c.deref.ensures.value c.deref-2.ensures.value c.specifiers-named.ensures c.pointers_to.ensures
+    nodes.type_name_told c.args.t.now c.deref.result.now c.deref-2.result.now c.place_of_specs.result (context_view c.args.context.now) c.specifiers-named.new.context c.specifiers-named.result c.pointers_to.result c.deref.ensures.value c.deref-2.ensures.value c.place_of_specs.ensures c.specifiers-named.ensures c.pointers_to.ensures
 
 pub declarators::specifiers-returns : goal.declarators::specifiers-returns
 declarators::specifiers-returns t c =
@@ -192,19 +198,44 @@ pub declarators::part-returns-in-Word : goal.declarators::part-returns-in-Word
 declarators::part-returns-in-Word t c =
     nodes.word_told c.args.spec.now _ c.in-Word.word c.args.context.now _ c.in-Word.is refl
 
-pub declarators::part-returns-in_ok-number-in-Struct : goal.declarators::part-returns-in_ok-number-in-Struct
-declarators::part-returns-in_ok-number-in-Struct t c =
-    nodes.struct_told c.args.spec.now c.in-Struct.place c.in-Struct.tag (context_view c.args.context.now) c.named_tag.new.context _ c.in-Struct.is
-    (types.tag_tells c.in-Struct.place c.in-Struct.tag (context_view c.args.context.now) c.named_tag.new.context c.in_ok-number-in-Struct.number c.in_ok-number-in-Struct.ensures.after c.in_ok-number-in-Struct.ensures.number)
+pub declarators::part-returns-in-Struct : goal.declarators::part-returns-in-Struct
+declarators::part-returns-in-Struct t c =
+    nodes.struct_told c.args.spec.now _ c.in-Struct.tag (context_view c.args.context.now) c.tagged.new.context c.tagged.result c.in-Struct.is c.tagged.ensures
 
 pub declarators::part-returns-in-StructBody : goal.declarators::part-returns-in-StructBody
 declarators::part-returns-in-StructBody t c =
     nodes.body_told c.args.spec.now _ c.in-StructBody.tag c.in-StructBody.members c.deref.result.now (context_view c.args.context.now) c.braces.new.context c.braces.result c.in-StructBody.is c.deref.ensures.value c.braces.ensures
 
+pub declarators::part-returns-in-UnnamedStruct : goal.declarators::part-returns-in-UnnamedStruct
+declarators::part-returns-in-UnnamedStruct t c =
+    nodes.unnamed_struct_told c.args.spec.now c.in-UnnamedStruct.place c.in-UnnamedStruct.members c.deref-in-UnnamedStruct.result.now (context_view c.args.context.now) c.unnamed_braces.new.context c.unnamed_braces.result c.in-UnnamedStruct.is c.deref-in-UnnamedStruct.ensures.value c.unnamed_braces.ensures
+
+pub declarators::part-returns-in-Enum : goal.declarators::part-returns-in-Enum
+declarators::part-returns-in-Enum t c =
+    nodes.enum_told c.args.spec.now _ c.in-Enum.tag c.args.context.now c.as_fault.result c.in-Enum.is (fault_gives part_view _ _ _ c.as_fault.ensures c.enum_tagged.ensures)
+
+pub declarators::part-returns-in-EnumBody : goal.declarators::part-returns-in-EnumBody
+declarators::part-returns-in-EnumBody t c =
+    nodes.enum_body_told c.args.spec.now _ c.in-EnumBody.tag c.in-EnumBody.list c.deref-in-EnumBody.result.now (context_view c.args.context.now) c.enum_braces.new.context c.enum_braces.result c.in-EnumBody.is c.deref-in-EnumBody.ensures.value c.enum_braces.ensures
+
+pub declarators::part-returns-in-UnnamedEnum : goal.declarators::part-returns-in-UnnamedEnum
+declarators::part-returns-in-UnnamedEnum t c =
+    nodes.unnamed_enum_told c.args.spec.now _ c.in-UnnamedEnum.list c.deref-in-UnnamedEnum.result.now (context_view c.args.context.now) c.unnamed_list.new.context c.unnamed_list.result c.in-UnnamedEnum.is c.deref-in-UnnamedEnum.ensures.value c.unnamed_list.ensures
+
+pub declarators::part-returns-in-Alias : goal.declarators::part-returns-in-Alias
+declarators::part-returns-in-Alias t c =
+    nodes.alias_told c.args.spec.now c.in-Alias.name c.args.context.now c.aliased.result c.in-Alias.is c.aliased.ensures
+
 pub declarators::braces-returns : goal.declarators::braces-returns
 declarators::braces-returns t c =
     braces_tell c.args.tag (judged_members [] (source.members_row (map sources.member_view c.args.all.now))) (context_view c.args.context.now) c.named_tag.new.context c.begin.new.self c.closed.new.context c.in_ok-number.number c.is_begun-again.result c.as_fault-opened.result part_view c.closed.result
     c.in_ok-number.ensures.after c.in_ok-number.ensures.number c.is_begun-again.ensures c.in_ok-begin.ensures.after (λ is. fault_gives (λ (u : Unit {0}). tt) _ _ _ c.as_fault-opened.ensures (c.opened.ensures is))
+    (λ j h. c.closed.ensures j (judged_members [] (source.members_row (map sources.member_view c.args.all.now))) (context_view c.begin.new.self) h c.members-members.ensures)
+
+pub declarators::unnamed_braces-returns : goal.declarators::unnamed_braces-returns
+declarators::unnamed_braces-returns t c =
+    alone_tells c.args.place (judged_members [] (source.members_row (map sources.member_view c.args.all.now))) (context_view c.args.context.now) c.unnamed_struct.new.context c.begin.new.self c.closed.new.context c.in_ok-number.number c.as_fault-fit.result part_view c.closed.result
+    c.in_ok-number.ensures.after c.in_ok-number.ensures.number c.in_ok-begin.ensures.after (fault_gives (λ (u : Unit {0}). tt) _ _ _ c.as_fault-fit.ensures c.braces_fit.ensures)
     (λ j h. c.closed.ensures j (judged_members [] (source.members_row (map sources.member_view c.args.all.now))) (context_view c.begin.new.self) h c.members-members.ensures)
 
 pub declarators::member-returns-clause-judged : goal.declarators::member-returns-clause-judged
@@ -322,3 +353,44 @@ expressions::start-function_and_rest-rest-requires t c = grind (arith, most_rest
 
 pub expressions::function_and_rest-arguments-rest-requires : goal.expressions::function_and_rest-arguments-rest-requires
 expressions::function_and_rest-arguments-rest-requires t c = grind (arith, most_rest)
+
+-- ---- enums
+
+pub enums::enum_braces-returns : goal.enums::enum_braces-returns
+enums::enum_braces-returns t c =
+    enum_tells c.args.tag (judged_enumerators (pos 0) (source.enumerators_of (map sources.enumerator_view c.args.list.now))) (context_view c.args.context.now) c.begin_enum.new.self c.enumerators-list.new.context c.enum_closed.new.context c.as_fault-opened.result c.enumerators-list.result c.enum_closed.result
+    c.in_ok-begin_enum.ensures.after (fault_gives (λ (u : Unit {0}). tt) _ _ _ c.as_fault-opened.ensures c.enum_opened.ensures) c.enumerators-list.ensures c.enum_closed.ensures
+
+pub enums::unnamed_list-returns : goal.enums::unnamed_list-returns
+enums::unnamed_list-returns t c =
+    finishes (λ (u : Unit {0}). tt) part_view (judged_enumerators (pos 0) (source.enumerators_of (map sources.enumerator_view c.args.list.now))) (λ d u. typed (whole (integer int))) (context_view c.args.context.now) c.enumerators-list.new.context c.enumerators-list.result c.unnamed_enum.result
+    c.enumerators-list.ensures c.unnamed_enum.ensures
+
+pub enums::enumerators-list-init : goal.enums::enumerators-list-init
+enums::enumerators-list-init t c = counted_none c.args.context.now
+
+pub enums::enumerators-list-preserved : goal.enums::enumerators-list-preserved
+enums::enumerators-list-preserved t c =
+    counted_more c.args.list.now c.list.e-index c.e-item.result (context_view c.args.context.now) c.list.all c.list.next c.in_ok-next.next c.list.context c.enumerator-value.new.context c.enumerator-value.result c.fine_with-all.result
+    (omega arith) c.e-item.is c.list.invariant c.enumerator-value.ensures c.in_ok-next.ensures.value c.fine_with-all.ensures
+
+pub enums::enumerators-returns : goal.enums::enumerators-returns
+enums::enumerators-returns t c = counted_all c.args.list.now c.list.e-index (context_view c.args.context.now) c.list.all c.list.next c.list.context (omega arith) c.list.invariant
+
+pub enums::enumerator-returns : goal.enums::enumerator-returns
+enums::enumerator-returns t c =
+    nodes.enumerator_told c.args.next c.args.e.now (context_view c.args.context.now) c.enumerated.new.context c.enumerated.result
+    (c.enumerated.ensures (value_or c.args.next (sources.enumerator_view c.args.e.now)) (context_view c.args.context.now) c.value_or-value.ensures)
+
+pub enums::value_or-returns-in-Some : goal.enums::value_or-returns-in-Some
+enums::value_or-returns-in-Some t c =
+    nodes.given_told c.args.next c.args.e.now c.in-Some.value (context_view c.args.context.now) c.given.new.context c.given.result c.in-Some.is c.given.ensures
+
+pub enums::value_or-returns-in-None : goal.enums::value_or-returns-in-None
+enums::value_or-returns-in-None t c =
+    nodes.next_told c.args.next c.args.e.now c.args.context.now c.as_fault.result c.in-None.is (fault_gives (λ (z : ℤ). z) _ _ _ c.as_fault.ensures c.enumerator_value.ensures)
+
+pub enums::given-returns : goal.enums::given-returns
+enums::given-returns t c =
+    finishes boxed_expr_view (λ (z : ℤ). z) (valued (judged (sources.expr_view c.args.e.now))) (λ d x. enumerator_value c.args.place (whole_value (constant_value d (sources.expr_view c.args.e.now) x))) (context_view c.args.context.now) c.value-typed.new.context c.value-typed.result c.given_value.result
+    c.value-typed.ensures c.given_value.ensures

@@ -1,7 +1,7 @@
 use Rattle.std.proofs.Common.{◌≡◌, ℕ, [], map, take, false}
 use Rattle.std.specs.Prelude.{Vec}
 use Rattle.std.specs.declared.alloc.Global.{Global}
-use Rattle.c_tree.specs.SyntaxViews.{expr_view, spec_view, member_view, declarator_view}
+use Rattle.c_tree.specs.SyntaxViews.{expr_view, spec_view, member_view, declarator_view, enumerator_view}
 use Rattle.c_tree.specs.Typed.{Ty}
 use Rattle.c_tree.specs.TypedViews.{type_view}
 use Rattle.c_typing.specs.Faults.{Judged, Gives}
@@ -12,6 +12,7 @@ use Rattle.type_context.specs.Telling.{Tells, lacks_memory}
 use Rattle.type_context.specs.Rows.{state_behind}
 use Rattle.type_nodes.specs.Nodes.{types_of_members}
 use Rattle.type_nodes.proofs.Rows.{args_row, dims_row, parts_row, members_row, behind_member, declarators_row, behind_declarator}
+use Rattle.c_types.proofs.EnumWalk.{Counted}
 use Rattle.c_types.proofs.+nodes.Given as goal
 
 abbrev pub invariant-expressions::arguments-arguments : goal.invariant-expressions::arguments-arguments
@@ -34,3 +35,6 @@ invariant-declarators::declarators-declarators l = record {
   told : (j : Judged Ty) → Gives type_view l.base j → Tells types_of_members l.all l.context (declarators_row j l.fn.before.items (map declarator_view (take l.d-index l.declarators)) (context_view l.fn.context));
   names : l.before.items ≡ state_behind behind_declarator l.fn.before.items (map declarator_view (take l.d-index l.declarators));
 }
+
+abbrev pub invariant-enums::enumerators-list : goal.invariant-enums::enumerators-list
+invariant-enums::enumerators-list l = Counted (map enumerator_view (take l.e-index l.list)) (context_view l.fn.context) l.all l.next l.context

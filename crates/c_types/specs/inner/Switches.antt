@@ -1,9 +1,11 @@
 -- What the code has of a switch: where jumps may stand, and what stands between its braces so far.
-use Rattle.std.specs.Prelude.{◌≡◌, map, ℤ, Result, Ok, Err}
+use Rattle.std.specs.Prelude.{◌≡◌, map, Bool, true, false, ℤ, Result, Ok, Err}
+use Rattle.std.specs.Ordering.{int_eq}
 use Rattle.c_lex.specs.declared.refusal.CompileFault.{CompileFault}
 use Rattle.type_context.specs.inner.Outcomes.{joined}
 use Rattle.ak_words.specs.declared.int_type.IntType.{IntType}
 use Rattle.ak_words.specs.declared.number.Num.{Num}
+use Rattle.c_tree.specs.Typed.{Label, case_at, default_at}
 use Rattle.c_tree.specs.TypedForm as forms
 use Rattle.c_tree.specs.TypedViews.{stmt_view, label_view}
 use Rattle.c_typing.specs.Faults.{Judged, typed, ◌>>=◌}
@@ -18,6 +20,16 @@ jumps_view j = record { breaks = j.breaks; continues = j.continues }
 -- the labels and the statements between the braces of a switch
 abbrev pub entries_view : Entries → rules.Entries
 entries_view es = record { labels = map label_view es.labels.items; body = map stmt_view es.body.items }
+
+-- a label is a case of this value
+abbrev pub is_case : ℤ → Label → Bool
+is_case z (case_at t value n) = int_eq value z
+is_case z (default_at n) = false
+
+-- a label is a default
+abbrev pub is_default : Label → Bool
+is_default (case_at t value n) = false
+is_default (default_at n) = true
 
 -- the value of a label, which has the type of its switch
 abbrev pub value_view : Num → IntType × ℤ

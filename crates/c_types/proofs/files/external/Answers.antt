@@ -1,30 +1,7 @@
-use Rattle.std.proofs.Common.{refl, map}
-use Rattle.c_tree.specs.Syntax as trees
-use Rattle.c_tree.specs.SyntaxViews as source
-use Rattle.c_tree.specs.TypedViews.{type_view}
-use Rattle.c_typing.specs.Faults.{typed}
-use Rattle.c_typing.specs.Judgement.{judged_specs}
-use Rattle.c_typing.specs.Programs.{judged_rest}
-use Rattle.type_context.specs.ContextViews.{context_view}
-use Rattle.type_context.specs.Telling.{Tells}
-use Rattle.c_types.proofs.Steps.{two_pass, two_rule}
-use Rattle.c_types.specs.inner.Files.{made_view}
 use Rattle.c_types.proofs.files.external.Goals as goal
 
-pub returns-in_err-made : goal.returns-in_err-made
-returns-in_err-made c = λ names is.
-    let specs = trees.specs_of (map source.spec_view c.args.x.now.specs.items) in
-    let base = (judged_specs specs (context_view c.args.context.now)).0 in
-    let told : Tells type_view c.specifiers-base.result c.specifiers-base.new.context (judged_specs specs (context_view c.args.context.now)) = rw c.deref.ensures.value at c.specifiers-base.ensures in
-    two_pass type_view made_view made_view (judged_specs specs) (judged_rest names base (source.rest_view c.args.x.now.rest)) (λ d p. typed p.1) (context_view c.args.context.now)
-    c.specifiers-base.new.context c.rest-made.new.context c.specifiers-base.result c.rest-made.result c.both.result c.in_err-made.field-0.0 c.from_residual.result
-    told (c.rest-made.ensures names base is told.gives) c.both.ensures c.in_err-made.was c.from_residual.ensures.1
+pub returns-in-Typedef : goal.returns-in-Typedef
+returns-in-Typedef c = λ names is. rw c.in-Typedef.is (rw (c.deref.ensures.value, c.deref-2.ensures.value) at c.typedef_alone.ensures)
 
-pub returns : goal.returns
-returns c = λ names is.
-    let specs = trees.specs_of (map source.spec_view c.args.x.now.specs.items) in
-    let base = (judged_specs specs (context_view c.args.context.now)).0 in
-    let told : Tells type_view c.specifiers-base.result c.specifiers-base.new.context (judged_specs specs (context_view c.args.context.now)) = rw c.deref.ensures.value at c.specifiers-base.ensures in
-    two_rule type_view made_view made_view (judged_specs specs) (judged_rest names base (source.rest_view c.args.x.now.rest)) (λ d p. typed p.1) (context_view c.args.context.now)
-    c.specifiers-base.new.context c.rest-made.new.context c.specifiers-base.result c.rest-made.result c.both.result (c.in_ok-made.field-0-0, c.in_ok-made.made) _
-    told (c.rest-made.ensures names base is told.gives) c.both.ensures c.in_ok-made.was refl
+pub returns-in-Other : goal.returns-in-Other
+returns-in-Other c = λ names is. rw c.in-Other.is (rw c.deref-in-Other.ensures.value at (c.other.ensures names is))
