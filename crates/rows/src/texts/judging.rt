@@ -2,6 +2,7 @@
 ghost use Rattle.std.specs.Prelude.{◌≤◌, length};
 
 use c_grammar::laws::tokens_end_once;
+use c_lex::laws::ordered;
 use c_lex::{CompileFault, Refusal, lex};
 use c_parse::parse;
 use c_types::files::check;
@@ -22,9 +23,10 @@ pub enum Stage {
 fn judge(alloc: Global, text: &[u8], stage: Stage) -> Result<(), CompileFault>
     requires { length text.now ≤ 1048576 }
 {
+    ordered();
     tokens_end_once();
     let tokens = lex(alloc, text)?;
-    let file = parse(alloc, &tokens)?;
+    let file = parse(alloc, text, &tokens)?;
     match stage {
         Stage::Grammar => Ok(()),
         Stage::Types => check(alloc, text, &file).map(|_| ()),
