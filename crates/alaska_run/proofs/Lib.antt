@@ -4,6 +4,7 @@ pub mod Prepared
 pub mod Headlines
 pub mod Told
 mod Reasons
+pub mod FewTokens
 pub mod SameTurns
 pub mod SomeAnswers
 pub mod SizedExprs

@@ -49,11 +49,11 @@ module _ (only : lexed.OneTokenList) where
   -- the file that the tokens of a text are is one
   one_file : (text : List ℕ) (ts us : List Token) (f g : File) → IsFileOf text ts f → IsFileOf text us g → g ≡ f
   one_file text ts us f g a b =
-      let here = subst (λ (vs : List Token). Parses vs g) (only text us ts b.lexed a.lexed) b.parsed in
+      let here = subst (λ (vs : List Token). Parses text vs g) (only text us ts b.lexed a.lexed) b.parsed in
       a.parsed.only g here.fits here.spelt
 
-  unread_there : (text : List ℕ) (ts us : List Token) (r : Refusal) → AreTokens text ts → AreTokens text us → RefusesTokens us r → RefusesTokens ts r
-  unread_there text ts us r these those refused = subst (λ (vs : List Token). RefusesTokens vs r) (only text us ts those these) refused
+  unread_there : (text : List ℕ) (ts us : List Token) (r : Refusal) → AreTokens text ts → AreTokens text us → RefusesTokens text us r → RefusesTokens text ts r
+  unread_there text ts us r these those refused = subst (λ (vs : List Token). RefusesTokens text vs r) (only text us ts those these) refused
 
   pub one_tree : OneTree
   one_tree text ts us t u a b = (
@@ -63,7 +63,7 @@ module _ (only : lexed.OneTokenList) where
 
   -- a file is no fault of the grammar
   file_or_not : grammar.ParseOrRefuse → (text : List ℕ) (ts : List Token) (f : File) (r : Refusal) → IsFileOf text ts f → RefusesGrammar text r → ⊥
-  file_or_not apart text ts f r a b = apart ts f r a.parsed (unread_there text ts b.tokens r a.lexed b.lexed b.refused)
+  file_or_not apart text ts f r a b = apart text ts f r a.parsed (unread_there text ts b.tokens r a.lexed b.lexed b.refused)
 
   pub not_both : lexed.TokensOrRefusal → grammar.ParseOrRefuse → NotBoth
   not_both either apart text ts t r a (inl fault) = either text ts r a.of_text.lexed fault
@@ -74,7 +74,7 @@ module _ (only : lexed.OneTokenList) where
 
   -- one reason of two that the tokens have
   one_there : grammar.RefuseOnce → grammar.ParseOrRefuse → (text : List ℕ) (r s : Refusal) → RefusesGrammar text r ⊎ RefusesTyping text r → RefusesGrammar text s ⊎ RefusesTyping text s → r ≡ s
-  one_there once apart text r s (inl a) (inl b) = once a.tokens r s a.refused (unread_there text a.tokens b.tokens s a.lexed b.lexed b.refused)
+  one_there once apart text r s (inl a) (inl b) = once text a.tokens r s a.refused (unread_there text a.tokens b.tokens s a.lexed b.lexed b.refused)
   one_there once apart text r s (inl a) (inr b) = absurd (file_or_not apart text b.tokens b.file r b.of_text a)
   one_there once apart text r s (inr a) (inl b) = absurd (file_or_not apart text a.tokens a.file s a.of_text b)
   one_there once apart text r s (inr a) (inr b) =
@@ -95,12 +95,12 @@ module _ (only : lexed.OneTokenList) where
 -- ---- each text
 
 module _ (text : List ℕ) (ts : List Token) (are : AreTokens text ts) where
-  judged_types : (f : File) → Parses ts f → ((t : Typed) × (judged_file text f ≡ typed t)) ⊎ ((r : Refusal) × (first (judged_file text f) ≡ Some r))
+  judged_types : (f : File) → Parses text ts f → ((t : Typed) × (judged_file text f ≡ typed t)) ⊎ ((r : Refusal) × (first (judged_file text f) ≡ Some r))
       → ((us : List Token) × (t : Typed) × IsRead text us t) ⊎ ((r : Refusal) × Refuses text r)
   judged_types f is (inl (t, e)) = inl (ts, t, record { file = f; of_text = record { lexed = are; parsed = is }; judged = e })
   judged_types f is (inr (r, e)) = inr (r, inr (inr (record { tokens = ts; file = f; of_text = record { lexed = are; parsed = is }; refused = e })))
 
-  judged_tokens : ((f : File) × Parses ts f) ⊎ ((r : Refusal) × RefusesTokens ts r) → ((us : List Token) × (t : Typed) × IsRead text us t) ⊎ ((r : Refusal) × Refuses text r)
+  judged_tokens : ((f : File) × Parses text ts f) ⊎ ((r : Refusal) × RefusesTokens text ts r) → ((us : List Token) × (t : Typed) × IsRead text us t) ⊎ ((r : Refusal) × Refuses text r)
   judged_tokens (inl (f, is)) = judged_types f is (typed_or_fault (judged_file text f))
   judged_tokens (inr (r, refused)) = inr (r, inr (inl (record { tokens = ts; lexed = are; refused = refused })))
 
@@ -108,7 +108,7 @@ pub each_read : lexed.EachTextIsRead → grammar.TokensEndOnce → grammar.EachI
 each_read has ends reads text = by (has text)
   where
     by : ((ts : List Token) × AreTokens text ts) ⊎ ((r : Refusal) × RefusesText text r) → ((us : List Token) × (t : Typed) × IsRead text us t) ⊎ ((r : Refusal) × Refuses text r)
-    by (inl (ts, are)) = judged_tokens text ts are (reads ts (ends text ts are))
+    by (inl (ts, are)) = judged_tokens text ts are (reads text ts (ends text ts are))
     by (inr (r, fault)) = inr (r, inl fault)
 
 -- ---- what a function returned

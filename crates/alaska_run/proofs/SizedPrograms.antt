@@ -3,7 +3,7 @@ use Rattle.std.proofs.Common.{◌≡◌, ℕ, zero, suc, ◌==◌, Bool, true, f
 use Rattle.std.proofs.lemmas.List.Elements.{All-from_recursion}
 use Rattle.std.specs.List.{AllByRecursion}
 use Rattle.c_tree.specs.Typed as tree
-use Rattle.c_tree.specs.TypedForm.{IsFunc, IsWellFormed, context_of}
+use Rattle.c_tree.specs.TypedForm.{in_function, IsFunc, IsWellFormed, context_of}
 use Rattle.struct_ir.specs.Nodes.{Act, set, call, step, look, safepoint, begin_object, end_object, plain, if_, loop, break_, next_, ret, Nodes, no_nodes, more_nodes, Func, Ir}
 use Rattle.struct_ir.specs.Lists.{bare_act}
 use Rattle.struct_ir.specs.Erased.{is_kept, put, erased, func_erased, ir_erased}
@@ -25,7 +25,7 @@ last_sized false n = tt
 funcs_sized : (t : tree.Typed) (i : ℕ) (fs : List tree.Func) → AllByRecursion (IsFunc t) fs → AllByRecursion FuncIsSized (funcs_lowered t.structs t.main i fs)
 funcs_sized t i [] h = tt
 funcs_sized t i (f ∷ fs) h = (
-  row_sized (context_of t f) (frame_of t.structs f) refl f.params f.result f.body false h.0.body [] _ (last_sized (i == t.main) (registers_of f)),
+  row_sized (context_of t f) f.params f.result (frame_of t.structs f) refl f.body in_function h.0.body [] _ (last_sized (i == t.main) (registers_of f)),
   funcs_sized t (suc i) fs h.1,
 )
 

@@ -13,7 +13,7 @@ use Rattle.c_typing.specs.Programs.{judged_file}
 -- the tokens of a text, which are a file of the grammar (C11 5.1.1.2, 6.4, 6.5 to 6.9)
 pub record IsFileOf (text : List ℕ) (tokens : List Token) (f : File) : Type 0 where
   pub lexed : AreTokens text tokens
-  pub parsed : Parses tokens f
+  pub parsed : Parses text tokens f
 
 -- the tokens of a text, and the typed tree of the file that they are
 pub record IsRead (text : List ℕ) (tokens : List Token) (t : Typed) : Type 0 where
@@ -25,7 +25,7 @@ pub record IsRead (text : List ℕ) (tokens : List Token) (t : Typed) : Type 0 w
 pub record RefusesGrammar (text : List ℕ) (r : Refusal) : Type 0 where
   pub tokens : List Token
   pub lexed : AreTokens text tokens
-  pub refused : RefusesTokens tokens r
+  pub refused : RefusesTokens text tokens r
 
 -- they are a file, of which a name or a type breaks a rule
 pub record RefusesTyping (text : List ℕ) (r : Refusal) : Type 0 where
