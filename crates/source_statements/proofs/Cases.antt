@@ -1,6 +1,7 @@
 -- The label of a switch that a value chooses.
-use Rattle.std.proofs.Common.{◌≡◌, ◌∙◌, ℕ, Bool, false, List, map, Option, Some, None, refl, ap, sym}
+use Rattle.std.proofs.Common.{◌≡◌, ◌∙◌, ℕ, suc, Bool, false, List, ◌∷◌, map, Option, Some, None, refl, ap, sym}
 use Rattle.std.proofs.lemmas.Option.{slice_get-map}
+use Rattle.std.specs.Prelude.{if◌then◌else◌}
 use Rattle.std.specs.List.{slice_get}
 use Rattle.std.specs.Option.{option_map}
 use Rattle.ak_words.specs.declared.number.Num.{Num}
@@ -9,8 +10,9 @@ use Rattle.ak_words.proofs.Numbers.{num_is}
 use Rattle.ak_words.proofs.Wraps.{wrapped_value-in_type}
 use Rattle.block_store.specs.declared.values.Value.{Value}
 use Rattle.c_tree.specs.declared.typed.Label.{Label as CodeLabel}
+use Rattle.c_tree.specs.Typed.{Label, case_at, default_at}
 use Rattle.c_tree.specs.TypedViews.{label_at, label_view}
-use Rattle.c_meaning.specs.Switches.{is_number, stands_at, stands_at_if, starts_at}
+use Rattle.c_meaning.specs.Switches.{is_number, equal_from, stands_at, stands_at_if, starts_at}
 use Rattle.source_statements.specs.inner.Labels.{is_case}
 
 same_number : (n : Num) (v : Value) → is_number (num n.ty n.value) v ≡ is_number n v
@@ -22,6 +24,12 @@ case_of label n v b found is = is ∙ sym (same_number n v) ∙ ap (λ (o : Opti
 
 pub no_case : (label : CodeLabel) (v : Value) → label.value ≡ None → false ≡ is_case (label_view label) v
 no_case label v found = ap (λ (o : Option Num). is_case (label_at o label.at) v) (sym found)
+
+-- the labels from one on: it is the chosen one, or it is passed
+pub equal_more : (v : Value) (other number : ℕ) (l : Label) (rest : List Label)
+    → equal_from v other number (l ∷ rest) ≡ (if is_case l v then number else equal_from v other (suc number) rest)
+equal_more v other number (case_at t value at) rest = refl
+equal_more v other number (default_at at) rest = refl
 
 stands : (o : Option Num) (at : ℕ) → stands_at (label_at o at) ≡ at
 stands None at = refl

@@ -42,6 +42,7 @@ fn default_number(labels: &[Label]) -> usize
 }
 
 // The number of the label that a value chooses: that of equal value before the default.
+#[tactic(auto, using(crate::proofs::Cases::equal_more))]
 fn chosen(labels: &[Label], v: Value) -> usize
     ensures { result ≡ chosen (map label_view labels.now) v }
 {

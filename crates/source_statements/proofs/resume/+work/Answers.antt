@@ -56,7 +56,7 @@ pub work_off-returns-in-InSwitch-clause-comes : goal.work_off-returns-in-InSwitc
 work_off-returns-in-InSwitch-clause-comes t c =
     IfOk-weaker c.finish-in-InSwitch.result _ _
     (λ q f. finish_behind (λ h. switch_way) c.args.program.now c.args.function (todo_of c.args.k.now) (control.in_switch (todo_of c.in-InSwitch.k.value)) _ (todo_of c.in-InSwitch.k.value) c.args.left _ _ _ _ _ _ _ q
-    (ap todo_of c.in-InSwitch.is) (ap todo_of c.deref-in-InSwitch.ensures) (λ h. refl) (c.after_switch-exit-in-InSwitch.ensures _ _ _ _ _) f)
+    (ap todo_of c.in-InSwitch.is) (ap todo_of c.deref-in-InSwitch.ensures) (λ h. refl) (c.after_switch-exit.ensures _ _ _ _ _) f)
     c.finish-in-InSwitch.ensures.comes
 
 -- ---- the parts of a work list

@@ -237,8 +237,8 @@ enter_switch-returns-in-None-clause-exits t c =
 
 pub enter_switch-returns-in_ok-left-in-Some-clause-exits : goal.enter_switch-returns-in_ok-left-in-Some-clause-exits
 enter_switch-returns-in_ok-left-in-Some-clause-exits t c =
-    one_chosen c.args.program.now c.args.function (labels_of c.args.labels.now.value) c.args.body.now.value c.args.v c.in-Some.at (todo_of c.in_ok-inside.inside.value) (todo_of c.args.k.now.value) _ _ _ _ _ _
-    (search rules) c.in_ok-inside.ensures c.in_ok-left.ensures.exits (c.after_switch.ensures _ _ _ _ _)
+    one_chosen c.args.program.now c.args.function (labels_of c.args.labels.now.value) c.args.body.now.value c.args.v c.in-Some.at (todo_of c.in_ok-inside-in-Some.inside.value) (todo_of c.args.k.now.value) _ _ _ _ _ _
+    (search rules) c.in_ok-inside-in-Some.ensures c.in_ok-left-in-Some.ensures.exits (c.after_switch.ensures _ _ _ _ _)
 
 -- ---- rows
 
