@@ -7,6 +7,7 @@ use Rattle.struct_ir.specs.Nodes.{Action, calloc, realloc, step}
 use Rattle.struct_ir.specs.Flow.{Here, does}
 use Rattle.struct_ir.specs.Linear.{Spot}
 use Rattle.flat_meaning.specs.Accesses.{Choice, plain, got}
+use Rattle.flat_meaning.specs.Allowed.{MayAct, MayBeGiven}
 use Rattle.flat_meaning.specs.Effects.{Effect, act_effect, look_effect, serve_effect}
 use Rattle.flat_meaning.specs.Image.{Image}
 use Rattle.flat_meaning.specs.Memory.{Memory, with_storage}
@@ -79,3 +80,8 @@ pub record StepTouchesAlone (y : Image Spot) (thread : ℕ) (choice : Choice) (s
 -- whatever the code, the thread, its stage, the choice and the memory
 abbrev pub StepsTouchAlone : Type 0
 StepsTouchAlone = (y : Image Spot) (thread : ℕ) (choice : Choice) (stage : Stage Spot) (m : Memory) → StepTouchesAlone y thread choice stage m
+
+-- a calloc or realloc has room for each object that it may get, at its own step or served at a barrier
+pub record HaveRoom : Type 0 where
+  pub acts : (s : Storage) (l : Words) (choice : Choice) (h : Here) → IsConsistent s → MayAct s l choice h → HasRoomHere s choice l h
+  pub serves : (s : Storage) (l : Words) (choice : Choice) (h : Here) → IsConsistent s → MayBeGiven s l choice h → HasRoomHere s choice l h
