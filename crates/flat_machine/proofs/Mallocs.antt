@@ -1,21 +1,23 @@
--- What alloc answers is what the machine chooses.
-use Rattle.std.proofs.Common.{◌≡◌, ℕ, ◌%◌, ◌≤◌, false, ltb, Option, Some, None, refl, arith}
+-- What an allocation of the arena answers is what the machine chooses.
+use Rattle.std.proofs.Common.{◌≡◌, ℕ, ◌*◌, ◌%◌, ◌<◌, ◌≤◌, true, false, ltb, Option, Some, None, refl, ap, arith}
 use Rattle.std.proofs.lemmas.Bool.Decides.{nat_tests}
 use Rattle.handle_words.specs.Handle.{handle_of}
 use Rattle.sub_heaps.specs.SubHeaps.{rounded}
 use Rattle.arena_meaning.specs.declared.answers.Alloced.{Alloced}
 use Rattle.arena_meaning.specs.declared.answers.Alloced.TheVariants.{Got, NoGap, NoId}
 use Rattle.arena_meaning.specs.Arena.{Storage, IsConsistent}
-use Rattle.arena_meaning.specs.Changes.{IsAnswer, after_alloc}
-use Rattle.flat_meaning.specs.Accesses.{Choice, got, null, wait, allocated}
+use Rattle.arena_meaning.specs.Changes.{IsAnswer, after_alloc, after_alloc_copy, after_alloc_zero}
+use Rattle.flat_meaning.specs.Accesses as actions
+use Rattle.flat_meaning.specs.Accesses.{Choice, got, null, wait, with_copy}
+use Rattle.flat_meaning.specs.Memory.{Memory, with_storage}
 use Rattle.flat_machine.specs.declared.done.Done.{Done}
 use Rattle.flat_machine.specs.declared.done.Done.TheVariants as dones
 use Rattle.flat_machine.specs.declared.turned.Turned.TheVariants as code
 use Rattle.flat_threads.specs.declared.wait.Wait.TheVariants.{Room}
-use Rattle.flat_machine.specs.Choices.{got_or, least_free, lowest_fit, room_or, malloc_choice}
+use Rattle.flat_machine.specs.Choices.{got_or, least_free, lowest_fit, room_or, sized_choice}
 use Rattle.flat_machine.specs.Shares.{Shared}
 use Rattle.flat_machine.specs.Turns.{malloc_turned}
-use Rattle.flat_machine.specs.inner.Dones.{Does, Went}
+use Rattle.flat_machine.specs.inner.Dones.{Does, Went, with_memory}
 use Rattle.flat_machine.proofs.Choices.{least_free_is, none_free, lowest_fit_is, none_fits}
 use Rattle.flat_machine.proofs.Doing.{with_arena}
 
@@ -44,11 +46,18 @@ chosen_is s size NoId other h = rw (none_free s.table h) (got_or-no_id (lowest_f
 rounded_within : (bytes size : ℕ) → bytes ≤ size → size % 16 ≡ 0 → 16 ≤ size → rounded bytes ≤ size
 rounded_within bytes size within multiple least = omega arith
 
-pub malloc_is : (s : Storage) → IsConsistent s → (size : ℕ) (a : Alloced) → size ≤ s.heaps.size → IsAnswer s size a → malloc_choice s size ≡ chosen a wait
-malloc_is s kept size a within h =
+pub sized_is : (s : Storage) → IsConsistent s → (size : ℕ) (a : Alloced) → size ≤ s.heaps.size → IsAnswer s size a → sized_choice s size ≡ chosen a wait
+sized_is s kept size a within h =
     let shape = kept.heaps.shape in
     let small : ltb s.heaps.size (rounded size) ≡ false = grind (arith, nat_tests, rounded_within size s.heaps.size within shape.size_multiple shape.size_least) in
     rw small (chosen_is s size a wait h)
+
+-- above a sub-heap it is null
+pub above_is : (s : Storage) (size : ℕ) → s.heaps.size < size → sized_choice s size ≡ null
+above_is s size above =
+    let more : size ≤ rounded size = omega arith in
+    let large : ltb s.heaps.size (rounded size) ≡ true = grind (arith, nat_tests, more) in
+    rw large refl
 
 -- ---- what is done
 
@@ -58,18 +67,40 @@ AnswerIs (Got id place) r other = r ≡ dones.Went (Some (handle_of id 0)) (code
 AnswerIs NoGap r other = r ≡ other
 AnswerIs NoId r other = r ≡ other
 
-module _ (v : Shared) (size : ℕ) (storage : Storage) (r : Done) where
-  -- a malloc, or it waits
-  pub does_alloc : (a : Alloced) → storage ≡ after_alloc v.memory.storage size a → AnswerIs a r (dones.Waits Room) → Does v (with_arena v storage) r (allocated (chosen a wait) size v.memory)
-  does_alloc (Got id place) after is = rw (is, after) (record { done_ = refl; left = refl })
-  does_alloc NoGap after is = rw (is, after) (record { done_ = refl; left = refl })
-  does_alloc NoId after is = rw (is, after) (record { done_ = refl; left = refl })
+-- what an allocation leaves, where it gets this memory
+abbrev pub Leaves : Shared → (given : (id place : ℕ) → Memory) → Alloced → (new : Shared) → Type 0
+Leaves v given (Got id place) new = new ≡ with_memory v (given id place)
+Leaves v given NoGap new = new ≡ v
+Leaves v given NoId new = new ≡ v
+
+module _ (v new : Shared) (r : Done) (d : Choice → actions.Done) (given : (id place : ℕ) → Memory) (gets : (id place : ℕ) → d (got id place) ≡ actions.went (Some (handle_of id 0)) (given id place)) where
+  -- it is done, or waits
+  pub does_alloc : d wait ≡ actions.waits → (a : Alloced) → Leaves v given a new → AnswerIs a r (dones.Waits Room) → Does v new r (d (chosen a wait))
+  does_alloc waits (Got id place) after is = rw (is, after, gets id place) (record { done_ = refl; left = refl })
+  does_alloc waits NoGap after is = rw (is, after, waits) (record { done_ = refl; left = refl })
+  does_alloc waits NoId after is = rw (is, after, waits) (record { done_ = refl; left = refl })
 
   -- or it gets null
-  pub does_serve : (a : Alloced) → storage ≡ after_alloc v.memory.storage size a → AnswerIs a r (dones.Went (Some 0) code.GotNull) → Does v (with_arena v storage) r (allocated (chosen a null) size v.memory)
-  does_serve (Got id place) after is = rw (is, after) (record { done_ = refl; left = refl })
-  does_serve NoGap after is = rw (is, after) (record { done_ = refl; left = refl })
-  does_serve NoId after is = rw (is, after) (record { done_ = refl; left = refl })
+  pub does_serve : d null ≡ actions.went (Some 0) v.memory → (a : Alloced) → Leaves v given a new → AnswerIs a r (dones.Went (Some 0) code.GotNull) → Does v new r (d (chosen a null))
+  does_serve nothing (Got id place) after is = rw (is, after, gets id place) (record { done_ = refl; left = refl })
+  does_serve nothing NoGap after is = rw (is, after, nothing) (record { done_ = refl; left = refl })
+  does_serve nothing NoId after is = rw (is, after, nothing) (record { done_ = refl; left = refl })
+
+-- null is given
+pub does_null : (v : Shared) (r : Done) (d : Choice → actions.Done) → d null ≡ actions.went (Some 0) v.memory → r ≡ dones.Went (Some 0) code.GotNull → Does v v r (d null)
+does_null v r d nothing is = rw (is, nothing) (record { done_ = refl; left = refl })
+
+module _ (v : Shared) (storage : Storage) where
+  -- of the arena's three calls
+  pub leaves_alloc : (size : ℕ) (a : Alloced) → storage ≡ after_alloc v.memory.storage size a → Leaves v (λ id place. with_storage v.memory (after_alloc v.memory.storage size (Got id place))) a (with_arena v storage)
+  leaves_alloc size (Got id place) after = ap (with_arena v) after
+  leaves_alloc size NoGap after = ap (with_arena v) after
+  leaves_alloc size NoId after = ap (with_arena v) after
+
+  pub leaves_zero : (size : ℕ) (a : Alloced) → storage ≡ after_alloc_zero v.memory.storage size a → Leaves v (λ id place. with_storage v.memory (after_alloc_zero v.memory.storage size (Got id place))) a (with_arena v storage)
+  leaves_zero size (Got id place) after = ap (with_arena v) after
+  leaves_zero size NoGap after = ap (with_arena v) after
+  leaves_zero size NoId after = ap (with_arena v) after
 
 -- how it went
 pub went_alloc : (a : Alloced) (r : Done) → AnswerIs a r (dones.Waits Room) → Went r (malloc_turned (chosen a wait))
@@ -81,3 +112,6 @@ pub went_serve : (a : Alloced) (r : Done) → AnswerIs a r (dones.Went (Some 0) 
 went_serve (Got id place) r is = rw is refl
 went_serve NoGap r is = rw is refl
 went_serve NoId r is = rw is refl
+
+pub went_null : (r : Done) → r ≡ dones.Went (Some 0) code.GotNull → Went r (malloc_turned null)
+went_null r is = rw is refl

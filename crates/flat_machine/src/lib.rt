@@ -10,6 +10,7 @@ mod barriers;
 mod done;
 mod flat;
 mod laws;
+mod leaving;
 mod loading;
 mod locking;
 mod made;

@@ -1,5 +1,5 @@
 -- The step, the Look or the return before which a thread stands, from what stands there.
-use Rattle.std.proofs.Common.{◌≡◌, ℕ, ◌+◌, ◌<◌, Bool, true, false, cond, ◌&&◌, ◌||◌, ◌==◌, not, eqb, ◌≢◌, List, [], ◌∷◌, length, map, get_or, Option, Some, None, refl, ap, sym, ◌∙◌, subst, arith}
+use Rattle.std.proofs.Common.{◌≡◌, ℕ, ◌+◌, ◌*◌, ◌<◌, Bool, true, false, cond, ◌&&◌, ◌||◌, ◌==◌, not, eqb, ◌≢◌, List, [], ◌∷◌, length, map, get_or, Option, Some, None, refl, ap, sym, ◌∙◌, subst, arith}
 use Rattle.std.specs.Prelude.{slice_get, slice_index_or, slice_set, is_none, nat_lt}
 use Rattle.std.proofs.lemmas.Bool.{and_parts, eqb-true, ltb-true}
 use Rattle.struct_ir.specs.declared.code.StepNode.{StepNode}
@@ -9,7 +9,7 @@ use Rattle.struct_ir.specs.Views.{action_view, place_view, step_view}
 use Rattle.std.proofs.lemmas.Option.{slice_get-get_or}
 use Rattle.std.proofs.lemmas.List.{get_or-map, get_or-set_same, length-map, length-set}
 use Rattle.handle_table.specs.Table.{translated}
-use Rattle.struct_ir.specs.Nodes.{Action, Place, load, store, copy_bytes, malloc, free, print, lock, unlock, destroy, start, join, Step, step, look, own_list, may_wait}
+use Rattle.struct_ir.specs.Nodes.{Action, Place, load, store, copy_bytes, malloc, calloc, realloc, free, change, compare, print, lock, unlock, destroy, start, join, Step, step, look, own_list, may_wait}
 use Rattle.struct_ir.specs.Flow.{Here, does, returns}
 use Rattle.std.specs.List.{list_all}
 use Rattle.struct_ir.proofs.ValidCode.{of_all}
@@ -56,20 +56,14 @@ use Rattle.flat_machine.specs.Acting.{effect_before, effect_if}
 use Rattle.flat_machine.specs.Choices.{action_choice, choice_here, malloc_choice}
 use Rattle.flat_machine.specs.Shares.{Shared, image_of}
 use Rattle.flat_machine.specs.Turns.{done_turned, blocked_turned, outcome_turned, turned_before, turned_of, value_of, value_if}
+use Rattle.flat_machine.specs.lemmas.Outcomes.{allocated_waits, zeroed_waits, reallocated_waits}
 use Rattle.flat_machine.specs.inner.Acted.{IsSettled, IsStepOf, StepIsDone, settled_stage, settled_turned, settled_wait, wait_turned}
 use Rattle.flat_machine.specs.inner.Dones.{Does, WaitsFor, Went, done_view, memory_after, with_memory}
 use Rattle.flat_machine.specs.inner.Turneds.{turned_view}
 
 -- ---- a step that couldn't be done
 
--- where nothing that a malloc gives is `waits` but a choice to wait
-malloc_waits : (choice : Choice) (size : ℕ) (m : Memory) → actions.allocated choice size m ≡ actions.waits → turns.wants_room ≡ blocked_turned choice
-malloc_waits actions.plain size m e = absurd cc
-malloc_waits (actions.got id place) size m e = absurd cc
-malloc_waits actions.null size m e = absurd cc
-malloc_waits actions.wait size m e = refl
-
-module _ (x : Image Spot) (n : ℕ) (rule : (size : ℕ) → Choice) (l : Words) (m : Memory) (for : Wait) where
+module _ (x : Image Spot) (n : ℕ) (rule : (word size : ℕ) → Choice) (l : Words) (m : Memory) (for : Wait) where
   lock_blocked : (places : List Place) (temps : List ℕ) → action_waits lock (map (target_of l) places) (map (word_at l) temps) ≡ Some for → wait_turned for ≡ turns.found_busy
   lock_blocked [] temps e = absurd cc
   lock_blocked (a ∷ []) [] e = let is : waits.Mutex (target_of l a).address ≡ for = cc in ap wait_turned (sym is)
@@ -89,7 +83,27 @@ module _ (x : Image Spot) (n : ℕ) (rule : (size : ℕ) → Choice) (l : Words)
   malloc_blocked (a ∷ places) temps e f = absurd cc
   malloc_blocked [] [] e f = absurd cc
   malloc_blocked [] (t ∷ u ∷ temps) e f = absurd cc
-  malloc_blocked [] (t ∷ []) e f = let is : waits.Room ≡ for = cc in ap wait_turned (sym is) ∙ malloc_waits (rule (word_at l t)) (word_at l t) m e
+  malloc_blocked [] (t ∷ []) e f = let is : waits.Room ≡ for = cc in ap wait_turned (sym is) ∙ sym (ap blocked_turned (allocated_waits (rule 0 (word_at l t)) (word_at l t) m e))
+
+  calloc_blocked : (places : List Place) (temps : List ℕ)
+      → acted x.layout n (action_choice rule l calloc temps) calloc (map (target_of l) places) (map (word_at l) temps) m ≡ actions.waits → Some waits.Room ≡ Some for
+      → wait_turned for ≡ blocked_turned (action_choice rule l calloc temps)
+  calloc_blocked (a ∷ places) temps e f = absurd cc
+  calloc_blocked [] [] e f = absurd cc
+  calloc_blocked [] (t ∷ []) e f = absurd cc
+  calloc_blocked [] (t ∷ u ∷ v ∷ temps) e f = absurd cc
+  calloc_blocked [] (t ∷ u ∷ []) e f = let is : waits.Room ≡ for = cc in ap wait_turned (sym is) ∙ sym (ap blocked_turned (zeroed_waits (rule 0 (word_at l t * word_at l u)) (word_at l t * word_at l u) m e))
+
+  realloc_blocked : (places : List Place) (temps : List ℕ)
+      → acted x.layout n (action_choice rule l realloc temps) realloc (map (target_of l) places) (map (word_at l) temps) m ≡ actions.waits → Some waits.Room ≡ Some for
+      → wait_turned for ≡ blocked_turned (action_choice rule l realloc temps)
+  realloc_blocked (a ∷ places) temps e f = absurd cc
+  realloc_blocked [] [] e f = absurd cc
+  realloc_blocked [] (t ∷ []) e f = absurd cc
+  realloc_blocked [] (t ∷ u ∷ v ∷ temps) e f = absurd cc
+  realloc_blocked [] (t ∷ u ∷ []) e f =
+      let is : waits.Room ≡ for = cc in
+      ap wait_turned (sym is) ∙ sym (ap blocked_turned (reallocated_waits (eqb (word_at l t) 0) m.leaving (rule (word_at l t) (word_at l u)) (word_at l t) (word_at l u) m e))
 
   -- it is told so
   pub blocked_is : (a : Action) (places : List Place) (temps : List ℕ)
@@ -99,7 +113,11 @@ module _ (x : Image Spot) (n : ℕ) (rule : (size : ℕ) → Choice) (l : Words)
   blocked_is (store how) places temps e f = absurd cc
   blocked_is (copy_bytes align same) places temps e f = absurd cc
   blocked_is malloc places temps e f = malloc_blocked places temps e f
+  blocked_is calloc places temps e f = calloc_blocked places temps e f
+  blocked_is realloc places temps e f = realloc_blocked places temps e f
   blocked_is free places temps e f = absurd cc
+  blocked_is (change how t) places temps e f = absurd cc
+  blocked_is (compare t) places temps e f = absurd cc
   blocked_is (print pieces) places temps e f = absurd cc
   blocked_is lock places temps e f = lock_blocked places temps f
   blocked_is unlock places temps e f = absurd cc
@@ -383,7 +401,7 @@ counted s a is h =
 
 -- ---- actions with their places and words
 
-module _ (x : Layout) (n : ℕ) (rule : (size : ℕ) → Choice) (l : Words) (m : Memory) (a : Action) (ps xs : List CodePlace) (ts ys : List ℕ) (d : CodePlace) (e : ℕ) (xs_is : xs ≡ ps) (ys_is : ys ≡ ts) where
+module _ (x : Layout) (n : ℕ) (rule : (word size : ℕ) → Choice) (l : Words) (m : Memory) (a : Action) (ps xs : List CodePlace) (ts ys : List ℕ) (d : CodePlace) (e : ℕ) (xs_is : xs ≡ ps) (ys_is : ys ≡ ts) where
   abbrev acts : actions.Done
   acts = acted x n (action_choice rule l a ts) a (map (target_of l) (map place_view ps)) (map (word_at l) ts) m
 
