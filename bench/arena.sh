@@ -2,6 +2,7 @@
 # How fast the arena places and slides: so many objects of 16 to 256 bytes are placed, every second one is freed, and the others slide down.
 # Use: bench/arena.sh      for 10000, 100000 and 1000000 objects: seconds for all places, for the plan, for judging it and for its moves
 # Then MiB a second: of the moves, of their copies alone, and of the C library's memmove on the same bytes, in the same run of this script.
+# Last, for objects of 1 MiB, MiB a second: of new objects that are copied from one, beside memmove, and of new ones that are cleared, beside memset.
 # It measures crates/bench/out/bench as `rt ci` left it in this checkout; where there is none, it proves and builds it first. It
 # compiles the program of memmove with gcc.
 set -eu
@@ -80,4 +81,51 @@ for objects in 10000 100000 1000000; do
   tr -d '\na-z:,' <"$work/times" | awk -v n="$objects" -v b="$taken" -v m="$micros" '
     function rate(t) { return t > 0 ? b / t * 1e6 / 1048576 : 0 }
     { printf "%9d %9.3f %9.3f %9.3f %9.3f %12.0f %12.0f %12.0f\n", n, $1 / 1e6, $2 / 1e6, $3 / 1e6, $4 / 1e6, rate($4), rate($5), rate(m) }'
+done
+
+# The same bytes, copied and cleared as often in C.
+cat >"$work/filled.c" <<'C'
+#include <stdio.h>
+#include <stdlib.h>
+#include <string.h>
+#include <time.h>
+
+enum { BYTES = 1048576 };
+
+static double now(void) {
+  struct timespec t;
+  clock_gettime(CLOCK_MONOTONIC, &t);
+  return t.tv_sec + t.tv_nsec / 1e9;
+}
+
+int main(int argc, char **argv) {
+  unsigned rounds = argc > 1 ? strtoul(argv[1], 0, 10) : 1000;
+  char *bytes = malloc(2 * BYTES);
+  if (!bytes) return 1;
+  memset(bytes, 1, 2 * BYTES);
+  double begin = now();
+  for (unsigned k = 0; k < rounds; k++) {
+    memmove(bytes + BYTES, bytes, BYTES);
+    __asm__ volatile("" : : "r"(bytes) : "memory");
+  }
+  double copied = now() - begin;
+  begin = now();
+  for (unsigned k = 0; k < rounds; k++) {
+    memset(bytes + BYTES, 0, BYTES);
+    __asm__ volatile("" : : "r"(bytes) : "memory");
+  }
+  printf("%.0f %.0f\n", copied * 1e6, (now() - begin) * 1e6);
+  return 0;
+}
+C
+gcc -O2 -o "$work/filled" "$work/filled.c"
+
+printf '\n%9s %14s %12s %14s %12s\n' objects 'copied MiB/s' memmove 'cleared MiB/s' memset
+for objects in 1000 10000; do
+  "$program" filled "$objects" >"$work/out" 2>"$work/times"
+  grep -qx "$objects objects of 1048576 bytes copied, of which $objects hold the mark, and as many cleared, of which $objects hold 0" "$work/out" || { echo "the objects don't hold what they should" >&2; cat "$work/out" >&2; exit 1; }
+  read -r moved set < <("$work/filled" "$objects")
+  tr -d '\na-z:,' <"$work/times" | awk -v n="$objects" -v m="$moved" -v s="$set" '
+    function rate(t) { return t > 0 ? n / t * 1e6 : 0 }
+    { printf "%9d %14.0f %12.0f %14.0f %12.0f\n", n, rate($1), rate(m), rate($2), rate(s) }'
 done

@@ -1,6 +1,7 @@
 //! Measures parts of this project: `bench compile FILE` reads a C text, lowers it and makes it the machine's code; `bench run FILE` runs its thread 0
 //! by the interpreter of the source; `bench table IDS` takes and gives ids; `bench heaps OBJECTS` places and frees objects in sub-heaps; `bench
-//! arena OBJECTS` places objects and slides them; `bench turns TURNS` takes turns under the lock. Without words each is done once, over what is small.
+//! arena OBJECTS` places objects and slides them; `bench filled OBJECTS` takes objects of 1 MiB that are copied, and such that are cleared; `bench
+//! turns TURNS` takes turns under the lock. Without words each is done once, over what is small.
 //! Promises nothing upward: it is a program. What it prints on standard output is the same at each run of one text or number, and the times go to
 //! standard error.
 //! Stands on alaska_run's `read`, ir_lower, compile_passes and block_meaning, on ak_io and run_edges for the file, on handle_table, sub_heaps,
@@ -8,6 +9,7 @@
 #![tactic(auto)]
 
 mod arena;
+mod filled;
 mod heaps;
 mod table;
 mod texts;
@@ -18,6 +20,9 @@ use std::{env, io};
 
 // How many ids, objects or turns there are where no number is given.
 const USUAL: u32 = 1000;
+
+// How many objects of 1 MiB there are then.
+const FEW: u32 = 10;
 
 // Measures each part but the turns over what is small.
 fn run_small(rt: &HostRuntime) -> io::Result<()> {
@@ -30,7 +35,9 @@ fn run_small(rt: &HostRuntime) -> io::Result<()> {
     println!(rt; "# heaps")?;
     heaps::run(rt, USUAL)?;
     println!(rt; "# arena")?;
-    arena::run(rt, USUAL)
+    arena::run(rt, USUAL)?;
+    println!(rt; "# filled")?;
+    filled::run(rt, FEW)
 }
 
 fn main(rt: HostRuntime) -> io::Result<()> {
@@ -50,6 +57,7 @@ fn main(rt: HostRuntime) -> io::Result<()> {
         "table" => table::run(&rt, number),
         "heaps" => heaps::run(&rt, number),
         "arena" => arena::run(&rt, number),
+        "filled" => filled::run(&rt, number),
         "turns" => turns::run(&rt, rt.alloc(), number),
         _ => Err(io::Error::from(io::ErrorKind::InvalidInput)),
     }

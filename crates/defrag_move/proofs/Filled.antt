@@ -1,5 +1,5 @@
 -- A new object: it is the one at its place, the others stay, and what it is filled with.
-use Rattle.std.proofs.Common.{◌≡◌, ℕ, ◌+◌, ◌*◌, ◌^◌, ◌≤◌, min, true, false, cond, nat_le, eqb, List, [], ◌∷◌, take, replicate, Option, Some, None, IsSome, IfSome, is_some, refl, sym, ap, ◌∙◌, subst, inl, inr, arith}
+use Rattle.std.proofs.Common.{◌≡◌, ℕ, ◌+◌, ◌*◌, ◌^◌, ◌≤◌, min, true, false, cond, nat_le, eqb, List, [], ◌∷◌, length, take, replicate, Option, Some, None, IsSome, IfSome, is_some, refl, sym, ap, ◌∙◌, subst, inl, inr, arith}
 use Rattle.std.specs.List.{AllByRecursion as Each, find}
 use Rattle.std.specs.Option.{option_map}
 use Rattle.std.proofs.lemmas.Bool.{cases_lt, eq-eqb, ne_eqb, false≢true, le-leb}
@@ -7,14 +7,15 @@ use Rattle.std.proofs.lemmas.List.{take-take, take_all, length-take}
 use Rattle.std.proofs.lemmas.List.Elements.{recursion_from_All}
 use Rattle.std.proofs.lemmas.Option.{none-some, same_Some}
 use Rattle.handle_words.specs.Handle.{id_of, offset_of}
-use Rattle.flat_store.specs.Flat.{bytes_from}
+use Rattle.flat_store.specs.Flat.{first_address, bytes_from, with_bytes}
 use Rattle.sub_heaps.specs.declared.objects.Object.{Object}
 use Rattle.sub_heaps.specs.ByPlace.{end_of, object_at, with_object}
 use Rattle.sub_heaps.specs.SubHeaps.{FitsAt, IsApartFrom, StandFrom, rounded}
 use Rattle.sub_heaps.proofs.Taken.{found_at}
 use Rattle.arena_meaning.specs.Arena.{IsConsistent, IsLiveStart, Storage, object_of}
 use Rattle.arena_meaning.specs.Changes.{bytes_named, first_bytes_of, is_live_start, with_filled, with_new}
-use Rattle.defrag_move.proofs.Kept.{end_within, has_size, matches, object_within}
+use Rattle.defrag_move.proofs.Bytes.{length-with_bytes}
+use Rattle.defrag_move.proofs.Kept.{IsConsistent-changed, end_within, has_size, matches, object_within}
 use Rattle.defrag_move.proofs.Owners.{find-with_object_new, find-with_object_other, find_each, object_at-owned, value_in}
 use Rattle.defrag_move.proofs.Turns.{find-placed}
 
@@ -48,6 +49,25 @@ part_of_part n size xs = elim (cases_lt n size) [
       let least : min size n ≡ size = omega arith in
       take_all n (take size xs) (omega (arith, length-take size xs)) ∙ ap (λ k. take k xs) (sym least)
 ]
+
+-- ---- storage with bytes written into its sub-heaps
+
+pub IsConsistent-filled : (s : Storage) → IsConsistent s → (at : ℕ) (bytes : List ℕ) → at + length bytes ≤ s.heaps.count * s.heaps.size → IsConsistent (with_filled s at bytes)
+IsConsistent-filled s consistent at bytes within =
+    let low : first_address ≤ s.start + at = omega (arith, consistent.above) in
+    IsConsistent-changed s consistent s.table s.heaps.objects (with_bytes s.bytes (s.start + at) bytes) refl (length-with_bytes s.bytes bytes (s.start + at) low (omega (arith, consistent.whole, within))) consistent.heaps (matches s consistent)
+
+-- the bytes of an object, as far as it reaches
+length-first_bytes_of : (s : Storage) (n : ℕ) (r : Option Object) → length (first_bytes_of s n r) ≤ n
+length-first_bytes_of s n None = omega arith
+length-first_bytes_of s n (Some o) = omega (arith, length-take n (bytes_from s.bytes (s.start + o.at) o.size))
+
+pub length-bytes_named : (s : Storage) (word n : ℕ) → length (bytes_named s word n) ≤ n
+length-bytes_named s word n =
+    elim (is_live_start s word) as (λ b. length (cond b (first_bytes_of s n (object_of (id_of word) s.heaps.objects)) []) ≤ n) [
+      | true ↦ length-first_bytes_of s n (object_of (id_of word) s.heaps.objects)
+      | false ↦ omega arith
+    ]
 
 -- ---- a new object among the others
 

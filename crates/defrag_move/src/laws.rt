@@ -1,4 +1,4 @@
-ghost use Rattle.std.specs.Prelude.{◌≡◌, ℕ, ◌+◌, ◌≤◌, Bool, List, length, is_some, count_by};
+ghost use Rattle.std.specs.Prelude.{◌≡◌, ℕ, ◌+◌, ◌*◌, ◌≤◌, Bool, List, length, is_some, count_by};
 ghost use Rattle.std.specs.FinSet as set;
 ghost use Rattle.std.specs.Ordering.{nat_cmp};
 ghost use Rattle.handle_table.specs.Table.{IsFree};
@@ -6,13 +6,14 @@ ghost use Rattle.sub_heaps.specs.SubHeaps.{FitsAt, rounded};
 ghost use Rattle.sub_heaps.specs.declared.moves.Move.{Move};
 ghost use Rattle.sub_heaps.specs.Moving.{AreLegal};
 ghost use Rattle.arena_meaning.specs.Arena.{IsConsistent, Storage, places_named};
-ghost use Rattle.arena_meaning.specs.Changes.{with_new, with_places, without_id};
+ghost use Rattle.arena_meaning.specs.Changes.{with_filled, with_new, with_places, without_id};
 ghost use Rattle.arena_meaning.specs.Moves.{KeepsObjects, after_plan};
 
-/// The laws of storage: it stays consistent whichever free id and fitting place a new object takes, whichever id is freed, and
-/// whichever legal moves are made, and those keep each object with its bytes.
+/// The laws of storage: it stays consistent whichever free id and fitting place a new object takes, whichever bytes are written into
+/// the sub-heaps, whichever id is freed, and whichever legal moves are made, and those keep each object with its bytes.
 pub fn storage_stays_consistent()
     ensures new { (s : Storage) → IsConsistent s → (id at bytes : ℕ) → IsFree s.table id → FitsAt s.heaps (rounded bytes) at → IsConsistent (with_new s (record { at = at; size = rounded bytes; owner = id })) }
+    ensures filled { (s : Storage) → IsConsistent s → (at : ℕ) (bytes : List ℕ) → at + length bytes ≤ s.heaps.count * s.heaps.size → IsConsistent (with_filled s at bytes) }
     ensures free { (s : Storage) → IsConsistent s → (id : ℕ) → IsConsistent (without_id s id) }
     ensures moves { (pinned : ℕ → Bool) → (s : Storage) → IsConsistent s → (moves : List Move) → AreLegal pinned s.heaps moves → IsConsistent (after_plan moves s) }
     ensures kept { (pinned : ℕ → Bool) → (s : Storage) → IsConsistent s → (moves : List Move) → AreLegal pinned s.heaps moves → KeepsObjects pinned moves s (after_plan moves s) }

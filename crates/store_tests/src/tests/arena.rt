@@ -215,7 +215,10 @@ fn take_a_copy(rt: &impl Abort, arena: &mut Arena) {
     check_answers(rt, arena, &[(16, Alloced::NoId)]);
     let none = [arena.alloc_copy(word, 16), arena.alloc_zero(16)];
     assert_eq!(rt; none, [Alloced::NoId; 2]);
-    assert_eq!(rt; [arena.is_live(word), arena.is_live(word + 8)], [true, false]);
+    assert_eq!(rt;
+        [arena.is_live(word), arena.is_live(word + 8)],
+        [true, false]
+    );
     assert_eq!(rt; arena.free(word), Ok(()));
     assert_eq!(rt; [arena.is_live(word), arena.is_live(0)], [false, false]);
 }

@@ -74,6 +74,33 @@ fn stores_the_low_bytes(rt: HostRuntime) -> Result<(), Fail> {
     Ok(())
 }
 
+// Stores the bytes one to eight, clears so many from the second on, and reads all.
+fn read_after_clear(flat: &mut Flat, n: u64) -> Result<u64, OutsideFlat> {
+    flat.store(4096, 8, ONE_TO_EIGHT)?;
+    flat.clear(4097, n)?;
+    flat.load(4096, 8)
+}
+
+#[test]
+fn clears_bytes(rt: HostRuntime) -> Result<(), Fail> {
+    let mut flat = Flat::new(rt.alloc(), 8)?;
+    let read = [
+        read_after_clear(&mut flat, 0),
+        read_after_clear(&mut flat, 3),
+        read_after_clear(&mut flat, 7),
+        read_after_clear(&mut flat, 8),
+    ];
+    let wanted = [
+        Ok(ONE_TO_EIGHT),
+        Ok(0x0807060500000001),
+        Ok(1),
+        Err(OutsideFlat(4104)),
+    ];
+    assert_eq!(rt; read, wanted);
+    assert_eq!(rt; flat.load(4096, 8), Ok(ONE_TO_EIGHT));
+    Ok(())
+}
+
 // What a copy among the bytes one to eight answers, and what they are then.
 fn read_after_copy(
     flat: &mut Flat,
