@@ -86,7 +86,7 @@ length-home_at code (o ∷ own) (c ∷ home) = ap suc (length-home_at code own h
 
 -- ---- what an allocation asks for
 
-pub asks_of : {a : Action} {temps : List ℕ} → Words → Operands a temps → Asked
+abbrev pub asks_of : {a : Action} {temps : List ℕ} → Words → Operands a temps → Asked
 asks_of l (of_malloc size) = record { word = 0; size = word_at l size }
 asks_of l (of_calloc count size) = record { word = 0; size = word_at l count * word_at l size }
 asks_of l (of_realloc word size) = record { word = word_at l word; size = word_at l size }

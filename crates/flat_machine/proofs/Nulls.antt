@@ -182,7 +182,7 @@ module _ (pinned : ℕ → Bool) (m : Memory) (is : IsSlidStorage pinned m.stora
     inside = end_within m.storage.heaps.count m.storage.heaps.size (has_size m.storage is.kept) (rounded size) place (fits_is m.storage.heaps (rounded size) place at).inside
 
     with_zeros : IsSlidStorage pinned (with_filled (with_object m.storage id place size) place (replicate (rounded size) 0))
-    with_zeros = filled (with_object m.storage id place size) with_one place (replicate (rounded size) 0) (omega (arith, inside, length-replicate (rounded size) 0))
+    with_zeros = filled (with_object m.storage id place size) with_one place (replicate (rounded size) 0) (omega (arith, inside, length-replicate {A = ℕ} (rounded size) 0))
 
     with_its : (word : ℕ) → IsSlidStorage pinned (with_copy m.storage id place word size)
     with_its word = filled (with_object m.storage id place size) with_one place (bytes_named m.storage word (rounded size)) (omega (arith, inside, length-bytes_named m.storage word (rounded size)))

@@ -248,7 +248,7 @@ module _ (x : Layout) (n : ℕ) (rule : (word size : ℕ) → Choice) (l : Words
 -- ---- an allocation fits
 
 -- something is chosen
-data IsGiven : Choice → Type 0 where
+pub data IsGiven : Choice → Type 0 where
   given_got : (id place : ℕ) → IsGiven (actions.got id place)
   given_null : IsGiven actions.null
   given_wait : IsGiven actions.wait
@@ -369,7 +369,7 @@ module _ (x : Layout) (n : ℕ) (m : Memory) where
   either_keeps a false d e h k = k
 
   -- with other storage or output alone
-  as_before : (a : Action) (word : Option ℕ) (after : Memory) → (m.threads, m.leaving) ≡ (after.threads, after.leaving) → Keeps a (actions.went word after)
+  as_before : (a : Action) (word : Option ℕ) (after : Memory) → ◌≡◌ {A = List Made × Option (List ℕ)} (m.threads, m.leaving) (after.threads, after.leaving) → Keeps a (actions.went word after)
   as_before a word after e =
       was_done word after (subst (AreThreads a x.limits.threads m.threads) (ap (λ (p : List Made × Option (List ℕ)). p.0) e) same) (λ none. sym (ap (λ (p : List Made × Option (List ℕ)). p.1) e) ∙ none)
 

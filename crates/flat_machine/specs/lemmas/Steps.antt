@@ -28,9 +28,11 @@ use Rattle.struct_ir.specs.Linear.{Spot, instr_here, instr_next, linear}
 use Rattle.struct_ir.specs.Threads.{Thread, Outcome, ended, left_call, served, stop_at}
 use Rattle.flat_meaning.specs.declared.endings.Stop.{Stop}
 use Rattle.flat_meaning.specs.declared.endings.Stop.TheVariants.{AtStep, Spent, NoRoom}
+use Rattle.ak_words.specs.declared.int_type.IntType.{IntType}
+use Rattle.block_store.specs.declared.values.Change.{Change}
 use Rattle.flat_meaning.specs.Accesses as actions
 use Rattle.flat_meaning.specs.Accesses.{Choice}
-use Rattle.flat_meaning.specs.Actions.{acted, locked, started, unlocked}
+use Rattle.flat_meaning.specs.Actions.{acted, locked, started, unlocked, changed, compared}
 use Rattle.flat_meaning.specs.Effects as effects
 use Rattle.flat_meaning.specs.Effects.{Effect, landing, own_list_of}
 use Rattle.ak_trace.specs.declared.endings.End.{End}
@@ -414,6 +416,19 @@ module _ (x : Layout) (n : ℕ) (rule : (word size : ℕ) → Choice) (l : Words
   pub copies : (align : ℕ) (same : Bool) (to from : Target) (w : ℕ) → a ≡ copy_bytes align same → length ps ≡ 2 → length ts ≡ 1 → to ≡ target_of l (place_view (slice_index_or xs 0 d)) → from ≡ target_of l (place_view (slice_index_or xs 1 d)) → w ≡ word_at l (slice_index_or ys 0 e)
       → actions.copied to from w m ≡ acts
   copies align same to from w a_is two one to_is from_is w_is = rw (target_here 0 to to_is, target_here 1 from from_is, word_here 0 w w_is, a_is, two_are ps d two, one_is ts e one) refl
+
+  pub callocs : (k w : ℕ) → a ≡ calloc → length ps ≡ 0 → length ts ≡ 2 → k ≡ word_at l (slice_index_or ys 0 e) → w ≡ word_at l (slice_index_or ys 1 e) → actions.zeroed (rule 0 (k * w)) (k * w) m ≡ acts
+  callocs k w a_is none two k_is w_is = rw (word_here 0 k k_is, word_here 1 w w_is, a_is, none_are ps none, two_are ts e two) refl
+
+  pub reallocs : (k w : ℕ) → a ≡ realloc → length ps ≡ 0 → length ts ≡ 2 → k ≡ word_at l (slice_index_or ys 0 e) → w ≡ word_at l (slice_index_or ys 1 e) → actions.reallocated (rule k w) k w m ≡ acts
+  reallocs k w a_is none two k_is w_is = rw (word_here 0 k k_is, word_here 1 w w_is, a_is, none_are ps none, two_are ts e two) refl
+
+  pub changes : (how : Change) (t : IntType) (at : Target) (w : ℕ) → a ≡ change how t → length ps ≡ 1 → length ts ≡ 1 → at ≡ target_of l (place_view (slice_index_or xs 0 d)) → w ≡ word_at l (slice_index_or ys 0 e) → changed how t at w m ≡ acts
+  changes how t at w a_is one one_word at_is w_is = rw (target_here 0 at at_is, word_here 0 w w_is, a_is, one_is ps d one, one_is ts e one_word) refl
+
+  pub compares : (t : IntType) (at want : Target) (w : ℕ) → a ≡ compare t → length ps ≡ 2 → length ts ≡ 1 → at ≡ target_of l (place_view (slice_index_or xs 0 d)) → want ≡ target_of l (place_view (slice_index_or xs 1 d)) → w ≡ word_at l (slice_index_or ys 0 e)
+      → compared t at want w m ≡ acts
+  compares t at want w a_is two one at_is want_is w_is = rw (target_here 0 at at_is, target_here 1 want want_is, word_here 0 w w_is, a_is, two_are ps d two, one_is ts e one) refl
 
   pub locks : (number : ℕ) (at : Target) → a ≡ lock → length ps ≡ 1 → length ts ≡ 0 → at ≡ target_of l (place_view (slice_index_or xs 0 d)) → number ≡ n → locked number at m ≡ acts
   locks number at a_is one none at_is n_is = rw (n_is, target_here 0 at at_is, a_is, one_is ps d one, none_are ts none) refl

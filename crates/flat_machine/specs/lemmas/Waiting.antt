@@ -214,6 +214,10 @@ pub record IsAt (p : LinearCode) (t : Thread Spot Words) (i : Instr) : Type 0 wh
   pub is : i ≡ acts place (step node)
   pub action : takes_room node.action ≡ true
   pub has : IsSized (length t.top.own.temps) node
+  pub scope : Scope
+  pub valid : is_step scope node ≡ true
+  pub temps : length t.top.own.temps ≡ scope.temps
+  pub slots : length t.top.own.slots ≡ scope.slots
 
 instr_is : (i : Instr) → IsMalloc (instr_here (Some i)) → (place : ℕ) × (node : Step) × (i ≡ acts place (step node)) × (takes_room node.action ≡ true)
 instr_is (acts place (step s)) m = let same : s ≡ m.node = cc in (place, s, refl, ap (λ (n : Step). takes_room n.action) same ∙ m.action)
@@ -236,7 +240,7 @@ malloc_at p t i below valid of_call m at =
     let all = of_all (λ g. list_all (is_instr (code_scope_of p g)) g.instrs) p.funcs t.top.at.function f valid of_call.there in
     let one = of_all (is_instr (code_scope_of p f)) f.instrs t.top.at.index i all inside in
     let step_valid : is_step (code_scope_of p f) is.1 ≡ true = subst (λ j. is_instr (code_scope_of p f) j ≡ true) is.2 one in
-    record { place = is.0; node = is.1; is = is.2; action = is.3; has = subst (λ n. IsSized n is.1) (sym of_call.temps) (sized (code_scope_of p f) is.1 is.3 step_valid) }
+    record { place = is.0; node = is.1; is = is.2; action = is.3; has = subst (λ n. IsSized n is.1) (sym of_call.temps) (sized (code_scope_of p f) is.1 is.3 step_valid); scope = code_scope_of p f; valid = step_valid; temps = of_call.temps; slots = of_call.slots }
 
 first_call : (p : LinearCode) (x : Layout) (q : Point Spot Words) (callers : List (Point Spot Words)) → AreCallsOf p x (q ∷ callers) → (below : Used) × IsCallOf p below q
 first_call p x q [] calls = (none_used, calls)
@@ -265,7 +269,7 @@ list_before p c i of_ b =
     let calls : IsThreadOf p b.thread = subst (IsStageIf p) b.is of_.stage in
     let call = first_call p (layout_of p) b.thread.top b.thread.callers calls in
     let here : (linear p.funcs).here b.thread.top.at ≡ does b.at.place (step b.at.node) = ap instr_here (b.there ∙ ap Some b.at.is) in
-    let list : list_at ((linear p.funcs).here b.thread.top.at) ≡ Some b.at.node.slots = ap list_at here ∙ ap (λ b. cond b (Some b.at.node.slots) None) (room_may b.at.node.action b.at.action) in
+    let list : list_at ((linear p.funcs).here b.thread.top.at) ≡ Some b.at.node.slots = ap list_at here ∙ ap (λ (may : Bool). cond may (Some b.at.node.slots) None) (room_may b.at.node.action b.at.action) in
     subst (λ (q : Point Spot Words). IsListFor q.own b.at.node.slots) (sym b.top) (listed_for p of_.program call.0 b.thread.top call.1 b.at.node.slots list)
 
 -- ---- what serving it does
@@ -379,13 +383,13 @@ same_leaving m after e = record { serves = λ some. ap is_some e ∙ some; few =
 
 allocated_leaves : (choice : Choice) (size : ℕ) (m : Memory) → LeavesOne m (memory_of m (allocated choice size m))
 allocated_leaves plain size m = no_more m
-allocated_leaves (got id place) size m = no_more m
+allocated_leaves (got id place) size m = same_leaving m _ refl
 allocated_leaves null size m = no_more m
 allocated_leaves wait size m = no_more m
 
 zeroed_leaves : (choice : Choice) (size : ℕ) (m : Memory) → LeavesOne m (memory_of m (zeroed choice size m))
 zeroed_leaves plain size m = no_more m
-zeroed_leaves (got id place) size m = no_more m
+zeroed_leaves (got id place) size m = same_leaving m _ refl
 zeroed_leaves null size m = no_more m
 zeroed_leaves wait size m = no_more m
 

@@ -36,6 +36,24 @@ target-requires-in-Copy-2-clause-place c =
     let places : c.as_slice-places.result.now ≡ c.args.node.now.places.items = c.as_slice-places.ensures in
     rw places (place_is (top_of c.args.ctx.now).own c.args.node.now.places.items 1 _ c.requires.step.places (omega (arith, count)))
 
+pub target-requires-in-Change-clause-place : goal.target-requires-in-Change-clause-place
+target-requires-in-Change-clause-place c =
+    let count = (counted c.args.node.now _ (ap action_view c.in-Change.is) c.requires.step.counts).0 in
+    let places : c.as_slice-places.result.now ≡ c.args.node.now.places.items = c.as_slice-places.ensures in
+    rw places (place_is (top_of c.args.ctx.now).own c.args.node.now.places.items 0 _ c.requires.step.places (omega (arith, count)))
+
+pub target-requires-in-Compare-clause-place : goal.target-requires-in-Compare-clause-place
+target-requires-in-Compare-clause-place c =
+    let count = (counted c.args.node.now _ (ap action_view c.in-Compare.is) c.requires.step.counts).0 in
+    let places : c.as_slice-places.result.now ≡ c.args.node.now.places.items = c.as_slice-places.ensures in
+    rw places (place_is (top_of c.args.ctx.now).own c.args.node.now.places.items 0 _ c.requires.step.places (omega (arith, count)))
+
+pub target-requires-in-Compare-2-clause-place : goal.target-requires-in-Compare-2-clause-place
+target-requires-in-Compare-2-clause-place c =
+    let count = (counted c.args.node.now _ (ap action_view c.in-Compare.is) c.requires.step.counts).0 in
+    let places : c.as_slice-places.result.now ≡ c.args.node.now.places.items = c.as_slice-places.ensures in
+    rw places (place_is (top_of c.args.ctx.now).own c.args.node.now.places.items 1 _ c.requires.step.places (omega (arith, count)))
+
 pub target-requires-in-Lock-clause-place : goal.target-requires-in-Lock-clause-place
 target-requires-in-Lock-clause-place c =
     let count = (counted c.args.node.now _ (ap action_view c.in-Lock.is) c.requires.step.counts).0 in
