@@ -1,14 +1,17 @@
 -- What an allocation of the arena answers is what the machine chooses.
-use Rattle.std.proofs.Common.{◌≡◌, ℕ, ◌*◌, ◌%◌, ◌<◌, ◌≤◌, true, false, ltb, Option, Some, None, refl, ap, arith}
+use Rattle.std.proofs.Common.{◌≡◌, ℕ, ◌+◌, ◌*◌, ◌%◌, ◌<◌, ◌≤◌, Bool, true, false, cond, eqb, ltb, List, [], ◌∷◌, ◌++◌, get_or, set, Option, Some, None, is_some, refl, ap, ◌∙◌, inl, inr, arith, get_or-set_same, get_or-set_other}
+use Rattle.std.proofs.lemmas.Bool.{cases_eq}
 use Rattle.std.proofs.lemmas.Bool.Decides.{nat_tests}
-use Rattle.handle_words.specs.Handle.{handle_of}
+use Rattle.handle_words.specs.Handle.{handle_of, id_of}
+use Rattle.handle_table.specs.Table.{IsFree, IsInUse}
+use Rattle.ak_trace.specs.declared.endings.TrapKind.TheVariants as kinds
 use Rattle.sub_heaps.specs.SubHeaps.{rounded}
 use Rattle.arena_meaning.specs.declared.answers.Alloced.{Alloced}
 use Rattle.arena_meaning.specs.declared.answers.Alloced.TheVariants.{Got, NoGap, NoId}
-use Rattle.arena_meaning.specs.Arena.{Storage, IsConsistent}
-use Rattle.arena_meaning.specs.Changes.{IsAnswer, after_alloc, after_alloc_copy, after_alloc_zero}
+use Rattle.arena_meaning.specs.Arena.{Storage, IsConsistent, IsLiveStart}
+use Rattle.arena_meaning.specs.Changes.{IsAnswer, after_alloc, after_alloc_copy, after_alloc_zero, is_live_start, without_id}
 use Rattle.flat_meaning.specs.Accesses as actions
-use Rattle.flat_meaning.specs.Accesses.{Choice, got, null, wait, with_copy}
+use Rattle.flat_meaning.specs.Accesses.{Choice, got, null, wait, reallocated, with_copy}
 use Rattle.flat_meaning.specs.Memory.{Memory, with_storage}
 use Rattle.flat_machine.specs.declared.done.Done.{Done}
 use Rattle.flat_machine.specs.declared.done.Done.TheVariants as dones
@@ -115,3 +118,49 @@ went_serve NoId r is = rw is refl
 
 pub went_null : (r : Done) → r ≡ dones.Went (Some 0) code.GotNull → Went r (malloc_turned null)
 went_null r is = rw is refl
+
+-- ---- reallocs
+
+-- a word that is live stays so when another object comes
+pub live_stays : (s : Storage) (word size id place : ℕ) → IsFree s.table id → IsLiveStart s word → IsLiveStart (after_alloc_copy s word size (Got id place)) word
+live_stays s word size id place free live = record { handle = live.handle; start = live.start; in_use = used } where
+  entry : Option ℕ
+  entry = Some (s.start + place)
+
+  used : IsInUse (set s.table id entry) (id_of word)
+  used = elim (cases_eq (id_of word) id) [
+    | inl same ↦ ap is_some (ap (λ k. get_or (set s.table id entry) k None) same ∙ get_or-set_same s.table id entry None free.0)
+    | inr other ↦ ap is_some (get_or-set_other s.table id (id_of word) entry None other) ∙ live.in_use
+  ]
+
+module _ (v : Shared) (word size : ℕ) (not_null : eqb word 0 ≡ false) where
+  -- what one leaves that is done at once: the old object ends
+  abbrev pub ended : (id place : ℕ) → Memory
+  ended id place = with_storage v.memory (without_id (with_copy v.memory.storage id place word size) (id_of word))
+
+  module _ (idle : v.memory.leaving ≡ None) (live : is_live_start v.memory.storage word ≡ true) where
+    pub gets_now : (id place : ℕ) → reallocated (got id place) word size v.memory ≡ actions.went (Some (handle_of id 0)) (ended id place)
+    gets_now id place = rw (not_null, idle, live) refl
+
+    pub waits_now : reallocated wait word size v.memory ≡ actions.waits
+    waits_now = rw (not_null, idle, live) refl
+
+    pub null_now : reallocated null word size v.memory ≡ actions.went (Some 0) v.memory
+    null_now = rw (not_null, idle, live) refl
+
+  -- of what isn't live it is a trap
+  pub traps_now : v.memory.leaving ≡ None → is_live_start v.memory.storage word ≡ false → (choice : Choice) → reallocated choice word size v.memory ≡ actions.over (actions.trap word kinds.Free)
+  traps_now idle dead choice = rw (not_null, idle, dead) refl
+
+  -- what one leaves that a barrier serves: the old object leaves later, if it is live
+  abbrev pub left_later : (words : List ℕ) (id place : ℕ) → Memory
+  left_later words id place =
+      let new : Memory = with_storage v.memory (with_copy v.memory.storage id place word size) in
+      cond (is_live_start v.memory.storage word) (record new { leaving = Some (words ++ word ∷ []) }) new
+
+  module _ (words : List ℕ) (serves : v.memory.leaving ≡ Some words) where
+    pub gets_later : (id place : ℕ) → reallocated (got id place) word size v.memory ≡ actions.went (Some (handle_of id 0)) (left_later words id place)
+    gets_later id place = rw (not_null, serves) refl
+
+    pub null_later : reallocated null word size v.memory ≡ actions.went (Some 0) v.memory
+    null_later = rw (not_null, serves) refl

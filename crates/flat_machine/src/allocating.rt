@@ -1,6 +1,7 @@
 //! Allocations and frees.
 
-ghost use Rattle.std.specs.Prelude.{◌≡◌, ◌*◌, ◌<◌, length, Some, None, IsSome};
+ghost use Rattle.std.specs.Prelude.{◌≡◌, ◌*◌, ◌<◌, ◌≤◌, length, Some, None, IsSome, IfSome, IfNone};
+ghost use Rattle.arena_meaning.specs.Arena.{IsConsistent};
 ghost use Rattle.flat_meaning.specs.Accesses.{allocated, freed, reallocated, zeroed};
 ghost use Rattle.flat_meaning.specs.Memory.{words_leaving};
 ghost use Rattle.flat_machine.specs.Choices.{malloc_choice, served_choice};
@@ -36,13 +37,9 @@ impl Shared {
         ensures told { Went result (malloc_turned (malloc_choice self.old.memory.storage 0 (count * size))) }
         ensures waits { WaitsFor result (Some Wait.Room) }
     {
-        let most = u64::from(self.arena.heaps().size());
-        let Some(bytes) = count.checked_mul(size) else {
+        let Some(bytes) = self.product(count, size) else {
             return Done::null();
         };
-        if bytes > most {
-            return Done::null();
-        }
         match self.arena.alloc_zero(bytes) {
             Alloced::Got { id, place } => Done::got(id, place),
             Alloced::NoGap | Alloced::NoId => Done::Waits(Wait::Room),
@@ -91,7 +88,7 @@ impl Shared {
         ensures does { Does self.old self.new result (zeroed (served_choice self.old.memory.storage 0 (count * size)) (count * size) self.old.memory) }
         ensures told { Went result (malloc_turned (served_choice self.old.memory.storage 0 (count * size))) }
     {
-        let Some(bytes) = count.checked_mul(size) else {
+        let Some(bytes) = self.product(count, size) else {
             return Done::null();
         };
         match self.arena.alloc_zero(bytes) {
@@ -110,16 +107,26 @@ impl Shared {
         if word == 0 {
             return self.serve_malloc(size);
         }
-        let leaves = self.arena.is_live(word);
+        let live = self.arena.is_live(word);
         match self.arena.alloc_copy(word, size) {
             Alloced::Got { id, place } => {
-                if leaves {
-                    self.leaving.add(word);
-                }
+                self.leaving.add_if(live, word);
                 Done::got(id, place)
             }
             Alloced::NoGap | Alloced::NoId => Done::null(),
         }
+    }
+
+    // So many elements of so many bytes, where that is at most a sub-heap.
+    fn product(&self, count: u64, size: u64) -> Option<u64>
+        ensures product { IfSome result (λ bytes. bytes ≡ count * size) }
+        ensures within { IfSome result (λ bytes. bytes ≤ self.now.memory.storage.heaps.size) }
+        ensures above { IfNone result (self.now.memory.storage.heaps.size < count * size) }
+        ensures consistent { IsConsistent self.now.memory.storage }
+    {
+        let most = u64::from(self.arena.heaps().size());
+        let bytes = count.checked_mul(size)?;
+        if bytes <= most { Some(bytes) } else { None }
     }
 
     /// Ends the object whose start a word is the handle of; 0 is taken, and does nothing.

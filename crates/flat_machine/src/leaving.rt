@@ -1,6 +1,6 @@
 //! Objects that leave once a barrier has served.
 
-ghost use Rattle.std.specs.Prelude.{◌≡◌, ◌<◌, ◌∷◌, ◌++◌, [], length, Some, None, IsSome, IfOk};
+ghost use Rattle.std.specs.Prelude.{◌≡◌, ◌<◌, ◌∷◌, ◌++◌, [], if◌then◌else◌, length, Some, None, IsSome, IfOk};
 ghost use Rattle.arena_meaning.specs.Changes.{without_words};
 ghost use Rattle.flat_meaning.specs.Memory.{words_leaving};
 
@@ -50,12 +50,15 @@ impl Leaving {
         self.serves = true;
     }
 
-    /// The object of a word leaves, too.
-    pub(crate) fn add(&mut self, word: u64)
-        requires { length (words_leaving self.old) < 64 }
-        ensures { IsSome self.old → self.new ≡ Some (words_leaving self.old ++ word ∷ []) }
+    /// The object of a word leaves, too, if it is live.
+    pub(crate) fn add_if(&mut self, live: bool, word: u64)
+        requires serves { IsSome self.old }
+        requires room { length (words_leaving self.old) < 64 }
+        ensures { self.new ≡ if live then Some (words_leaving self.old ++ word ∷ []) else self.old }
     {
-        self.words.push_reserved(word);
+        if live {
+            self.words.push_reserved(word);
+        }
     }
 
     /// The barrier has served: the objects leave, in order, and a word that is no longer live is passed over.
@@ -74,7 +77,7 @@ impl Leaving {
 fn end_all(arena: &mut Arena, words: &[u64])
     ensures { arena.new ≡ without_words words.now arena.old }
 {
-    for word in words {
-        let _ = arena.free(*word);
+    for index in 0..words.len() {
+        let _ = arena.free(words[index]);
     }
 }

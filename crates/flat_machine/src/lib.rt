@@ -14,6 +14,7 @@ mod leaving;
 mod loading;
 mod locking;
 mod made;
+mod numbers;
 mod printing;
 mod ready;
 mod shared;
