@@ -1,23 +1,23 @@
 -- What an allocation of the arena answers is what the machine chooses.
-use Rattle.std.proofs.Common.{◌≡◌, ℕ, ◌+◌, ◌*◌, ◌%◌, ◌<◌, ◌≤◌, Bool, true, false, cond, eqb, ltb, List, [], ◌∷◌, ◌++◌, get_or, set, Option, Some, None, is_some, refl, ap, ◌∙◌, inl, inr, arith, get_or-set_same, get_or-set_other}
-use Rattle.std.proofs.lemmas.Bool.{cases_eq}
+use Rattle.std.proofs.Common.{◌≡◌, ℕ, ◌+◌, ◌*◌, ◌%◌, ◌<◌, ◌≤◌, ◌⊎◌, Bool, true, false, cond, eqb, ltb, ◌||◌, List, [], ◌∷◌, ◌++◌, get_or, set, Option, Some, None, is_some, refl, ap, ◌∙◌, inl, inr, arith, get_or-set_same, get_or-set_other}
+use Rattle.std.proofs.lemmas.Bool.{cases_eq, ne_eqb}
 use Rattle.std.proofs.lemmas.Bool.Decides.{nat_tests}
 use Rattle.handle_words.specs.Handle.{handle_of, id_of}
 use Rattle.handle_table.specs.Table.{IsFree, IsInUse}
 use Rattle.ak_trace.specs.declared.endings.TrapKind.TheVariants as kinds
-use Rattle.sub_heaps.specs.SubHeaps.{rounded}
+use Rattle.sub_heaps.specs.SubHeaps.{FitsAt, rounded}
 use Rattle.arena_meaning.specs.declared.answers.Alloced.{Alloced}
 use Rattle.arena_meaning.specs.declared.answers.Alloced.TheVariants.{Got, NoGap, NoId}
 use Rattle.arena_meaning.specs.Arena.{Storage, IsConsistent, IsLiveStart}
 use Rattle.arena_meaning.specs.Changes.{IsAnswer, after_alloc, after_alloc_copy, after_alloc_zero, is_live_start, without_id}
 use Rattle.flat_meaning.specs.Accesses as actions
 use Rattle.flat_meaning.specs.Accesses.{Choice, got, null, wait, reallocated, with_copy}
-use Rattle.flat_meaning.specs.Memory.{Memory, with_storage}
+use Rattle.flat_meaning.specs.Memory.{Memory, with_storage, words_leaving}
 use Rattle.flat_machine.specs.declared.done.Done.{Done}
 use Rattle.flat_machine.specs.declared.done.Done.TheVariants as dones
 use Rattle.flat_machine.specs.declared.turned.Turned.TheVariants as code
 use Rattle.flat_threads.specs.declared.wait.Wait.TheVariants.{Room}
-use Rattle.flat_machine.specs.Choices.{got_or, least_free, lowest_fit, room_or, sized_choice}
+use Rattle.flat_machine.specs.Choices.{got_or, least_free, lowest_fit, malloc_choice, room_or, sized_choice}
 use Rattle.flat_machine.specs.Shares.{Shared}
 use Rattle.flat_machine.specs.Turns.{malloc_turned}
 use Rattle.flat_machine.specs.inner.Dones.{Does, Went, with_memory}
@@ -164,3 +164,48 @@ module _ (v : Shared) (word size : ℕ) (not_null : eqb word 0 ≡ false) where
 
     pub null_later : reallocated null word size v.memory ≡ actions.went (Some 0) v.memory
     null_later = rw (not_null, serves) refl
+
+-- where a barrier serves, what is above a sub-heap gets null
+pub above_served : (s : Storage) (size : ℕ) → s.heaps.size < size → room_or s size null ≡ null
+above_served s size above =
+    let nowhere : (at : ℕ) → ¬ FitsAt s.heaps (rounded size) at = λ at fits. absurd (omega (arith, fits.inside.1, above)) in
+    ap (λ (place : Option ℕ). got_or (least_free s.table) place null) (none_fits s.heaps (rounded size) nowhere) ∙ got_or-no_place (least_free s.table) null
+
+-- where there is no room it waits, and the arena is as it was
+pub none_chosen : (a : Alloced) (other : Choice) → (a ≡ NoGap) ⊎ (a ≡ NoId) → chosen a other ≡ other
+none_chosen (Got id place) other (inl e) = absurd cc
+none_chosen (Got id place) other (inr e) = absurd cc
+none_chosen NoGap other is = refl
+none_chosen NoId other is = refl
+
+pub none_copied : (s storage : Storage) (word size : ℕ) (a : Alloced) → (a ≡ NoGap) ⊎ (a ≡ NoId) → storage ≡ after_alloc_copy s word size a → storage ≡ s
+none_copied s storage word size (Got id place) (inl e) after = absurd cc
+none_copied s storage word size (Got id place) (inr e) after = absurd cc
+none_copied s storage word size NoGap is after = after
+none_copied s storage word size NoId is after = after
+
+pub does_wait : (v : Shared) (storage : Storage) (d : actions.Done) → storage ≡ v.memory.storage → d ≡ actions.waits → Does v (with_arena v storage) (dones.Waits Room) d
+does_wait v storage d same is = rw (same, is) (record { done_ = refl; left = refl })
+
+pub does_nothing : (v : Shared) (storage : Storage) (r : Done) (d : actions.Done) → storage ≡ v.memory.storage → r ≡ dones.Went (Some 0) code.GotNull → d ≡ actions.went (Some 0) v.memory → Does v (with_arena v storage) r d
+does_nothing v storage r d same r_is is = rw (same, r_is, is) (record { done_ = refl; left = refl })
+
+-- a word that is live may be one of a realloc
+pub live_renewable : (s : Storage) (word size : ℕ) → is_live_start s word ≡ true → malloc_choice s word size ≡ sized_choice s size
+live_renewable s word size live = ap (λ b. cond b (sized_choice s size) null) (either (eqb word 0) (is_live_start s word) live) where
+  either : (a b : Bool) → b ≡ true → (a || b) ≡ true
+  either true b e = refl
+  either false b e = e
+
+pub not_zero : (word : ℕ) → (word ≡ 0 → ⊥) → eqb word 0 ≡ false
+not_zero word other = ne_eqb word 0 other
+
+-- what a served realloc leaves, in its parts
+pub parts_later : (v : Shared) (word size id place : ℕ) (words : List ℕ) (live : Bool) (storage : Storage) (leaving : Option (List ℕ)) → v.memory.leaving ≡ Some words → live ≡ is_live_start v.memory.storage word → storage ≡ with_copy v.memory.storage id place word size
+    → leaving ≡ cond live (Some (words_leaving v.memory.leaving ++ word ∷ [])) v.memory.leaving
+    → record { storage = storage; output = v.memory.output; threads = v.memory.threads; leaving = leaving } ≡ (let new : Memory = with_storage v.memory (with_copy v.memory.storage id place word size) in cond (is_live_start v.memory.storage word) (record new { leaving = Some (words ++ word ∷ []) }) new)
+parts_later v word size id place words live storage leaving serves live_is storage_is leaving_is = by live live_is leaving_is where
+  by : (b : Bool) → b ≡ is_live_start v.memory.storage word → leaving ≡ cond b (Some (words_leaving v.memory.leaving ++ word ∷ [])) v.memory.leaving
+      → record { storage = storage; output = v.memory.output; threads = v.memory.threads; leaving = leaving } ≡ (let new : Memory = with_storage v.memory (with_copy v.memory.storage id place word size) in cond (is_live_start v.memory.storage word) (record new { leaving = Some (words ++ word ∷ []) }) new)
+  by true e l = rw (← e) (λ i. record { storage = storage_is i; output = v.memory.output; threads = v.memory.threads; leaving = (l ∙ ap (λ (w : Option (List ℕ)). Some (words_leaving w ++ word ∷ [])) serves) i })
+  by false e l = rw (← e) (λ i. record { storage = storage_is i; output = v.memory.output; threads = v.memory.threads; leaving = l i })

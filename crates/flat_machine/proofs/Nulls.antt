@@ -223,7 +223,7 @@ module _ (pinned : ℕ → Bool) (m : Memory) (is : IsSlidStorage pinned m.stora
       either_stays (eqb w 0) (allocated choice k m) (guarded m.leaving w m.storage (renewed choice w k m)) (allocated_stays k _ _ refl refl)
       (subst (λ (leaving : Option (List ℕ)). Stays (guarded leaving w m.storage (renewed choice w k m))) (sym serves) (renewed_stays words serves w k _ _ refl refl))
 
-some_words : (leaving : Option (List ℕ)) → is_some leaving ≡ true → (words : List ℕ) × (leaving ≡ Some words)
+pub some_words : (leaving : Option (List ℕ)) → is_some leaving ≡ true → (words : List ℕ) × (leaving ≡ Some words)
 some_words None some = absurd cc
 some_words (Some words) some = (words, refl)
 

@@ -1,4 +1,4 @@
-use Rattle.std.proofs.Common.{◌≡◌, ◌<◌, ◌++◌, None, [], ◌∷◌, length, map, true, sym, ap, ◌∙◌, subst}
+use Rattle.std.proofs.Common.{◌≡◌, ◌<◌, ◌++◌, None, [], ◌∷◌, length, map, true, sym, ap, ◌∙◌, subst, arith}
 use Rattle.struct_ir.specs.Instrs.{acts}
 use Rattle.struct_ir.specs.Nodes.{Step, step}
 use Rattle.struct_ir.specs.Linear.{Spot}
@@ -13,34 +13,55 @@ use Rattle.flat_threads.specs.Contexts.{Context, IsInCall, IsListFor, standing}
 use Rattle.flat_rules.specs.Entries.{served_with}
 use Rattle.flat_machine.specs.declared.done.Done.TheVariants as dones
 use Rattle.flat_machine.specs.Choices.{action_choice, served_choice}
-use Rattle.flat_machine.specs.Shares.{image_of}
+use Rattle.flat_machine.specs.Shares.{Shared, image_of}
 use Rattle.flat_machine.specs.Turns.{malloc_turned}
 use Rattle.flat_machine.specs.inner.Acted.{IsStepOf}
 use Rattle.flat_machine.specs.inner.Dones.{Does}
 use Rattle.flat_machine.specs.inner.Swept.{object_told}
 use Rattle.flat_machine.specs.inner.Turneds.{turned_view}
 use Rattle.flat_machine.specs.lemmas.Steps.{step_fits}
-use Rattle.flat_machine.specs.lemmas.Waiting.{IsBefore, before_malloc, list_before, served_is}
+use Rattle.flat_machine.specs.lemmas.Waiting.{before_malloc, list_before, served_is}
+use Rattle.flat_machine.specs.lemmas.Serving.{gives}
+use Rattle.flat_machine.proofs.Doing.{went_only}
 use Rattle.flat_machine.proofs.barriers.serve.Goals as goal
 
--- what the thread waits at
-before : (c : goal.In-Step) → IsBefore c.args.program.now c.args.ctx.now (instr_view c.instr.result.now)
-before c = before_malloc c.args.program.now c.args.ctx.now (instr_view c.instr.result.now) c.requires.of c.requires.waits c.instr.ensures.is
-
-same_node : (c : goal.In-Step) → step_view c.in-Step.node ≡ (before c).at.node
-same_node c =
-    let view : acts c.instr.result.now.place (step (step_view c.in-Step.node)) ≡ instr_view c.instr.result.now = ap (instr_kind_view c.instr.result.now.place) (sym c.in-Step.is) in
-    let w = view ∙ (before c).at.is in
-    cc
-
 pub serve-requires-clause-call : goal.serve-requires-clause-call
-serve-requires-clause-call c = subst IsInCall (sym (before c).is) tt
+serve-requires-clause-call c =
+    let b = before_malloc c.args.program.now c.args.ctx.now (instr_view c.instr.result.now) c.requires.of c.requires.waits c.instr.ensures.is in
+    let view : acts c.instr.result.now.place (step (step_view c.in-Step.node)) ≡ instr_view c.instr.result.now = ap (instr_kind_view c.instr.result.now.place) (sym c.in-Step.is) in
+    let same : step_view c.in-Step.node ≡ b.at.node = let w = view ∙ b.at.is in cc in
+    subst IsInCall (sym b.is) tt
 
 pub serve-requires-clause-step : goal.serve-requires-clause-step
 serve-requires-clause-step c =
-    let b = before c in
+    let b = before_malloc c.args.program.now c.args.ctx.now (instr_view c.instr.result.now) c.requires.of c.requires.waits c.instr.ensures.is in
+    let view : acts c.instr.result.now.place (step (step_view c.in-Step.node)) ≡ instr_view c.instr.result.now = ap (instr_kind_view c.instr.result.now.place) (sym c.in-Step.is) in
+    let same : step_view c.in-Step.node ≡ b.at.node = let w = view ∙ b.at.is in cc in
     let fits : IsStepOf b.thread.top.own b.at.node = step_fits b.at.scope b.thread.top.own b.at.node b.at.temps b.at.slots b.at.valid in
-    subst (λ (s : Step). IsStepOf (top_of c.args.ctx.now).own s) (sym (same_node c)) (subst (λ (q : Point Spot Words). IsStepOf q.own b.at.node) (sym b.top) fits)
+    subst (λ (s : Step). IsStepOf (top_of c.args.ctx.now).own s) (sym same) (subst (λ (q : Point Spot Words). IsStepOf q.own b.at.node) (sym b.top) fits)
+
+pub tell_served-requires-clause-room : goal.tell_served-requires-clause-room
+tell_served-requires-clause-room c =
+    let b = before_malloc c.args.program.now c.args.ctx.now (instr_view c.instr.result.now) c.requires.of c.requires.waits c.instr.ensures.is in
+    let view : acts c.instr.result.now.place (step (step_view c.in-Step.node)) ≡ instr_view c.instr.result.now = ap (instr_kind_view c.instr.result.now.place) (sym c.in-Step.is) in
+    let same : step_view c.in-Step.node ≡ b.at.node = let w = view ∙ b.at.is in cc in
+    let takes : takes_room (step_view c.in-Step.node).action ≡ true = ap (λ (s : Step). takes_room s.action) same ∙ b.at.action in
+    omega (arith, c.requires.room, ap (λ (v : Shared). length v.made) (c.in-Went.ensures.does c.args.program.now takes).left)
+
+pub returns-in_default-serve : goal.returns-in_default-serve
+returns-in_default-serve c =
+    let b = before_malloc c.args.program.now c.args.ctx.now (instr_view c.instr.result.now) c.requires.of c.requires.waits c.instr.ensures.is in
+    let view : acts c.instr.result.now.place (step (step_view c.in-Step.node)) ≡ instr_view c.instr.result.now = ap (instr_kind_view c.instr.result.now.place) (sym c.in-Step.is) in
+    let same : step_view c.in-Step.node ≡ b.at.node = let w = view ∙ b.at.is in cc in
+    let code = c.args.program.now in
+    let old = c.args.shared.now in
+    let ctx = c.args.ctx.now in
+    let takes : takes_room (step_view c.in-Step.node).action ≡ true = ap (λ (s : Step). takes_room s.action) same ∙ b.at.action in
+    let given = gives (image_of code old).layout ctx.number b.thread.top.own (length b.thread.top.own.temps) b.at.node b.at.has old.memory c.requires.serves in
+    let done_at = λ (q : Point Spot Words) (s : Step). acted (image_of code old).layout ctx.number (action_choice (served_choice old.memory.storage) q.own s.action s.temps) s.action (map (target_of q.own) s.places) (map (word_at q.own) s.temps) old.memory in
+    let did = (c.serve.ensures.does code takes).done_ ∙ ap (λ (s : Step). done_at (top_of ctx) s) same ∙ ap (λ (q : Point Spot Words). done_at q b.at.node) b.top ∙ given.is in
+    let went = went_only c.serve.result c.serve.new.self.memory given.word given.after did in
+    absurd (c.in_default-serve.not-Went went.0 went.1 went.2)
 
 pub land-requires-clause-to : goal.land-requires-clause-to
 land-requires-clause-to c = λ r e.
