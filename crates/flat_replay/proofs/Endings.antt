@@ -22,7 +22,7 @@ use Rattle.flat_meaning.specs.Image.{Image}
 use Rattle.flat_meaning.specs.Machine.{served_by, words_machine, words_world}
 use Rattle.flat_meaning.specs.Memory.{Memory}
 use Rattle.flat_meaning.specs.Order.{act_picks, answer_here, pick, pick_if, picks_of_act, tried_action, tried_answer, tried_at, tried_before, tried_if}
-use Rattle.flat_meaning.specs.Ready.{is_malloc, takes_room}
+use Rattle.flat_meaning.specs.Ready.{is_allocation, takes_room}
 use Rattle.flat_meaning.specs.Stages.{Stage, starts, going, waiting, landed, Before, safe, looks, steps, calls, turn_over, nothing, before, can_go, room_for}
 use Rattle.flat_meaning.specs.Words.{Target, Words, target_of, word_at}
 use Rattle.flat_rules.specs.inner.Cases.{same_number}
@@ -134,7 +134,7 @@ module _ (x : Image Spot) (thread : ℕ) (choice : Choice) (m : Memory) where
     plain_action join temps e may = may
 
     -- of any step but a malloc nothing is chosen
-    pub plain_of : (h : Here) → is_malloc h ≡ false → MayAct m.storage t.top.own choice h → choice ≡ plain
+    pub plain_of : (h : Here) → is_allocation h ≡ false → MayAct m.storage t.top.own choice h → choice ≡ plain
     plain_of (does place (set to calc)) e may = may
     plain_of (does place (call c)) e may = may
     plain_of (does place (step s)) e may = plain_action s.action s.temps e may
@@ -149,8 +149,8 @@ module _ (x : Image Spot) (thread : ℕ) (choice : Choice) (m : Memory) where
 
     -- so what ended the run wasn't left waiting
     not_wait : (stage : Stage Spot) (h : Here) (end : End) → MayAct m.storage t.top.own choice h → (acted thread stage t (own_list_of h) m (outcome_at h)).end ≡ Some end → choice ≡ wait → ⊥
-    not_wait stage h end may stops waiting_ = by (is_malloc h) refl where
-      by : (b : Bool) → is_malloc h ≡ b → ⊥
+    not_wait stage h end may stops waiting_ = by (is_allocation h) refl where
+      by : (b : Bool) → is_allocation h ≡ b → ⊥
       by true is = let bad : None ≡ Some end = sym (malloc_ends x thread choice m stage t (own_list_of h) h is) ∙ stops in cc
       by false is = let bad : plain ≡ wait = sym (plain_of h is may) ∙ waiting_ in cc
 

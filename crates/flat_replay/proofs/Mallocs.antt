@@ -11,7 +11,7 @@ use Rattle.flat_meaning.specs.Effects.{Effect, acted}
 use Rattle.flat_meaning.specs.Image.{Image}
 use Rattle.flat_meaning.specs.Machine.{served_by, words_machine, words_world}
 use Rattle.flat_meaning.specs.Memory.{Memory}
-use Rattle.flat_meaning.specs.Ready.{is_malloc, takes_room}
+use Rattle.flat_meaning.specs.Ready.{is_allocation, takes_room}
 use Rattle.flat_meaning.specs.Stages.{Stage}
 use Rattle.flat_meaning.specs.Words.{Target, Words, target_of, word_at}
 
@@ -59,7 +59,7 @@ module _ (x : Image Spot) (thread : ℕ) (choice : Choice) (m : Memory) (stage :
   action_goes join ts ws e = absurd cc
 
   -- nor does what stands there, if that is a malloc
-  pub malloc_ends : (list : Option (List ℕ)) (h : Here) → is_malloc h ≡ true → (acted thread stage t list m (stop_at x.flow (words_machine x.layout thread) (words_world x.layout thread) x.start choice t m h)).end ≡ None
+  pub malloc_ends : (list : Option (List ℕ)) (h : Here) → is_allocation h ≡ true → (acted thread stage t list m (stop_at x.flow (words_machine x.layout thread) (words_world x.layout thread) x.start choice t m h)).end ≡ None
   malloc_ends list (does place (set to calc)) e = absurd cc
   malloc_ends list (does place (call c)) e = absurd cc
   malloc_ends list (does place (step s)) e = done_ends list t.top.own s.to _ (action_goes s.action (map (target_of t.top.own) s.places) (map (word_at t.top.own) s.temps) e)

@@ -19,7 +19,7 @@ use Rattle.flat_meaning.specs.Image.{Image}
 use Rattle.flat_meaning.specs.Machine.{words_machine, words_world}
 use Rattle.flat_meaning.specs.Memory.{Made, Memory}
 use Rattle.flat_meaning.specs.Order.{answer_here, choice_answer, pick, pick_if, picks_of_serve, picks_of_serves}
-use Rattle.flat_meaning.specs.Ready.{is_malloc, takes_room}
+use Rattle.flat_meaning.specs.Ready.{is_allocation, takes_room}
 use Rattle.flat_meaning.specs.Stages.{Stage, going, landed, starts, waiting}
 use Rattle.flat_meaning.specs.Words.{Words, word_at}
 use Rattle.flat_rules.specs.Lawful.{IsOfRun}
@@ -56,7 +56,7 @@ only_malloc destroy e = absurd cc
 only_malloc (start function) e = absurd cc
 only_malloc join e = absurd cc
 
-malloc_there : (h : Here) → is_malloc h ≡ true → IsMallocAt h
+malloc_there : (h : Here) → is_allocation h ≡ true → IsMallocAt h
 malloc_there (does place (sets to calc)) e = absurd cc
 malloc_there (does place (call c)) e = absurd cc
 malloc_there (does place (step node)) e = record { place = place; node = node; there = refl; action = only_malloc node.action e }
@@ -97,7 +97,7 @@ module _ (code : LinearCode) (program : IsProgram code) (sh : Shared) where
   abbrev x : Image Spot
   x = image_of code sh
 
-  turn_here : (m : Memory) (k : ℕ) (t : Thread Spot Words) → IsThreadOf code t → is_malloc (x.flow.here t.top.at) ≡ true → IsTurn x k t m (choice_here (served_choice m.storage) t.top.own (x.flow.here t.top.at)) (x.flow.here t.top.at)
+  turn_here : (m : Memory) (k : ℕ) (t : Thread Spot Words) → IsThreadOf code t → is_allocation (x.flow.here t.top.at) ≡ true → IsTurn x k t m (choice_here (served_choice m.storage) t.top.own (x.flow.here t.top.at)) (x.flow.here t.top.at)
   turn_here m k t all is =
       let there = malloc_there (x.flow.here t.top.at) is in
       let func = top_is code t.top t.callers all in
@@ -133,7 +133,7 @@ module _ (code : LinearCode) (program : IsProgram code) (sh : Shared) where
       later = λ k le lt. own_at-front (set st.own n e.stage) (new_stages st.own e.memory) k (omega (arith, lt, left.long, length-set st.own n e.stage)) ∙ own_at_set-later st.own n k e.stage (omega (arith, le)) ∙ left.later k (omega (arith, le)) lt;
     }
 
-    serves : (n : ℕ) (st : State Spot) → AreLeft n st → (t : Thread Spot Words) → own_at st.own n ≡ Some (waiting t) → IsThreadOf code t → is_malloc (x.flow.here t.top.at) ≡ true → Says (n + 1) (serve_of x st n (waiting t) ∷ []) st
+    serves : (n : ℕ) (st : State Spot) → AreLeft n st → (t : Thread Spot Words) → own_at st.own n ≡ Some (waiting t) → IsThreadOf code t → is_allocation (x.flow.here t.top.at) ≡ true → Says (n + 1) (serve_of x st n (waiting t) ∷ []) st
     serves n st left t own all is =
         let v : Serve = serve_of x st n (waiting t) in
         let turn = turn_here st.memory n t all is in
@@ -150,8 +150,8 @@ module _ (code : LinearCode) (program : IsProgram code) (sh : Shared) where
     turn_at n st left (Some (starts function argument)) own is = idle n st left
     turn_at n st left (Some (going t)) own is = idle n st left
     turn_at n st left (Some (landed list t)) own is = idle n st left
-    turn_at n st left (Some (waiting t)) own is = by (is_malloc (x.flow.here t.top.at)) refl where
-      by : (b : Bool) → is_malloc (x.flow.here t.top.at) ≡ b → Says (n + 1) (if_wants b (serve_of x st n (waiting t))) st
+    turn_at n st left (Some (waiting t)) own is = by (is_allocation (x.flow.here t.top.at)) refl where
+      by : (b : Bool) → is_allocation (x.flow.here t.top.at) ≡ b → Says (n + 1) (if_wants b (serve_of x st n (waiting t))) st
       by true e = serves n st left t own (is (waiting t) refl) e
       by false e = idle n st left
 

@@ -273,9 +273,9 @@ module _ (instrs : List Instr) (shrinks : Shrinks (flow instrs)) (limits : Limit
 
     -- the malloc, where an object is chosen
     pub malloc_on : s.action ≡ malloc → (id at word : ℕ) (n : Memory) → n.threads ≡ m.threads → choice_at x 0 m place s l ≡ accesses.got id at → done_at x 0 m place s l ≡ accesses.went (Some word) n → Fine rest → On true ns stage
-    malloc_on is_malloc id at word n threads chosen done_is fine =
+    malloc_on is_allocation id at word n threads chosen done_is fine =
         let u : turned stage ≡ turns.got id at =
-        turned_is ∙ (ap (outcome_turns place s i l) done_is ∙ (went_turns (Some word) n ∙ (ap (done_turned x m (choice_at x 0 m place s l)) is_malloc ∙ ap (λ c. done_turned x m c malloc) chosen))) in
+        turned_is ∙ (ap (outcome_turns place s i l) done_is ∙ (went_turns (Some word) n ∙ (ap (done_turned x m (choice_at x 0 m place s l)) is_allocation ∙ ap (λ c. done_turned x m c malloc) chosen))) in
         record {
           later = false;
           rest = rest;

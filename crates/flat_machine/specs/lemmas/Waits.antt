@@ -7,7 +7,7 @@ use Rattle.flat_meaning.specs.Image.{Image}
 use Rattle.flat_meaning.specs.Memory.{Memory}
 use Rattle.flat_meaning.specs.Words.{Target, Words, word_at, target_of}
 use Rattle.flat_meaning.specs.Ready as stages
-use Rattle.flat_meaning.specs.Ready.{action_ready, ready_at, takes_room, is_malloc}
+use Rattle.flat_meaning.specs.Ready.{action_ready, ready_at, takes_room, is_allocation}
 use Rattle.flat_meaning.specs.Stages.{Stage, starts, going, waiting, landed}
 use Rattle.flat_threads.specs.Waits.{action_waits, waits_here, waits_at}
 use Rattle.flat_machine.specs.Readiness.{WaitsAreTold, is_ready, wants_room}
@@ -95,7 +95,7 @@ act_room destroy places words = refl
 act_room (start function) places words = refl
 act_room join places words = join_room places words
 
-here_room : (l : Words) (h : Here) → wants_room (waits_here l h) ≡ is_malloc h
+here_room : (l : Words) (h : Here) → wants_room (waits_here l h) ≡ is_allocation h
 here_room l (does place (step s)) = act_room s.action (map (target_of l) s.places) (map (word_at l) s.temps)
 here_room l (does place (set to calc)) = refl
 here_room l (does place (call c)) = refl
