@@ -144,8 +144,13 @@ module _ (s : Storage) (rule : (word size : ℕ) → Choice) (may : (word size :
     action_tries (load how) temps = tt
     action_tries (store how) temps = tt
     action_tries (copy_bytes align same) temps = tt
-    action_tries malloc temps = tt
-    action_tries calloc temps = tt
+    action_tries malloc [] = tt
+    action_tries malloc (t ∷ []) = tt
+    action_tries malloc (t ∷ u ∷ temps) = tt
+    action_tries calloc [] = tt
+    action_tries calloc (t ∷ []) = tt
+    action_tries calloc (t ∷ u ∷ []) = tt
+    action_tries calloc (t ∷ u ∷ v ∷ temps) = tt
     action_tries realloc [] = tt
     action_tries realloc (t ∷ []) = tt
     action_tries realloc (t ∷ u ∷ []) = tries (word_at l t) (word_at l u)

@@ -27,7 +27,7 @@ impl Shared {
         ensures told { Went result turns.stepped }
     {
         match self.number_at(ty, at.address) {
-            Ok(old) => self.put_number(ty, at.address, changed_word(how, ty, old, by), old),
+            Ok(old) => self.write_number(ty, at.address, changed_word(how, ty, old, by), old),
             Err(outside) => Done::Trap(outside.0, TrapKind::Store),
         }
     }
@@ -47,9 +47,9 @@ impl Shared {
         };
         let same = equal(ty, old, wanted);
         if same == 1 {
-            self.put_number(ty, at.address, new, 1)
+            self.write_number(ty, at.address, new, 1)
         } else {
-            self.put_number(ty, want.address, old, 0)
+            self.write_number(ty, want.address, old, 0)
         }
     }
 
@@ -64,7 +64,7 @@ impl Shared {
     }
 
     // Writes a number at an address, and gives a word.
-    fn put_number(&mut self, ty: IntType, at: u64, word: u64, gives: u64) -> Done
+    fn write_number(&mut self, ty: IntType, at: u64, word: u64, gives: u64) -> Done
         ensures does { Does self.old self.new result (within kinds.Store (first_outside self.old.memory.storage.bytes at (ty.bits / 8)) (went (Some gives) (written self.old.memory at (low_bytes (ty.bits / 8) word)))) }
         ensures told { Went result turns.stepped }
     {

@@ -30,7 +30,7 @@ pub returns-clause-does : goal.returns-clause-does
 returns-clause-does c =
     let v = the_view c.self.inside in
     does_same v c.args.self.now _ c.match-alloc.result (λ s. allocated (served_choice s.memory.storage 0 c.args.size) c.args.size s.memory) c.self.view_is
-    (subst (λ (k : Choice). Does v (with_arena v c.alloc.new.self) c.match-alloc.result (allocated k c.args.size v.memory)) (sym (choice_is c)) 
+    (subst (λ (k : Choice). Does v (with_arena v c.alloc.new.self) c.match-alloc.result (allocated k c.args.size v.memory)) (sym (choice_is c))
     (does_serve v (with_arena v c.alloc.new.self) c.match-alloc.result (λ k. allocated k c.args.size v.memory) (λ id place. with_storage v.memory (after_alloc v.memory.storage c.args.size (answers.Got id place))) (λ id place. refl) refl
     c.alloc.result (leaves_alloc v c.alloc.new.self c.args.size c.alloc.result c.alloc.ensures.after) (answer_is c)))
 
