@@ -17,7 +17,9 @@ serve_all-requires-clause-home c =
     subst (λ (v : Shared). AreHome (machine_of c.args.program.now) v c.args.home.now) (sym (c.begin_to_serve.ensures ∙ ap (λ (v : Shared). with_memory v (serving v.memory)) (c.tell.ensures ∙ ap (λ (v : Shared). record v { made = c.entry.result ∷ [] }) c.sweep.ensures))) c.requires.home
 
 pub serve_all-requires-clause-few : goal.serve_all-requires-clause-few
-serve_all-requires-clause-few c = omega (arith, ap (λ (v : Shared). length v.memory.threads) (c.begin_to_serve.ensures ∙ ap (λ (v : Shared). with_memory v (serving v.memory)) (c.tell.ensures ∙ ap (λ (v : Shared). record v { made = c.entry.result ∷ [] }) c.sweep.ensures)), c.requires.shared.few)
+serve_all-requires-clause-few c =
+    let same : length c.begin_to_serve.new.self.memory.threads ≡ length c.args.shared.now.memory.threads = ap (λ (v : Shared). length v.memory.threads) (c.begin_to_serve.ensures ∙ ap (λ (v : Shared). with_memory v (serving v.memory)) (c.tell.ensures ∙ ap (λ (v : Shared). record v { made = c.entry.result ∷ [] }) c.sweep.ensures)) in
+    omega (arith, same, c.requires.shared.few)
 
 pub serve_all-requires-clause-one : goal.serve_all-requires-clause-one
 serve_all-requires-clause-one c = ap (λ (v : Shared). length v.made) (c.begin_to_serve.ensures ∙ ap (λ (v : Shared). with_memory v (serving v.memory)) (c.tell.ensures ∙ ap (λ (v : Shared). record v { made = c.entry.result ∷ [] }) c.sweep.ensures))

@@ -5,7 +5,7 @@ use Rattle.flat_meaning.specs.Accesses.{Choice, got, wait, reallocated}
 use Rattle.flat_machine.specs.Choices.{malloc_choice}
 use Rattle.flat_machine.specs.Shares.{Shared}
 use Rattle.sub_heaps.specs.SubHeaps.{SubHeaps}
-use Rattle.arena_meaning.specs.Arena.{Storage}
+use Rattle.arena_meaning.specs.Arena.{IsLiveStart, Storage}
 use Rattle.arena_meaning.specs.declared.answers.Alloced.TheVariants as answers
 use Rattle.flat_meaning.specs.Memory.{with_storage}
 use Rattle.flat_threads.specs.declared.wait.Wait.TheVariants.{Room}
@@ -31,7 +31,7 @@ returns-in-Got-clause-does c =
     let a = answers.Got c.in-Got.id c.in-Got.place in
     let choice = live_renewable v.memory.storage word size live ∙ sized_is v.memory.storage c.self.invariant.0.consistent size a small c.in-Got.ensures.answer in
     let stays = live_stays v.memory.storage word size c.in-Got.id c.in-Got.place c.in-Got.ensures.answer.0.free ((live_starts_are_told v.memory.storage word).0 live) in
-    let freed = c.free.ensures.freed (rw (← c.in-Got.ensures.after) at stays) ∙ ap (λ (s : Storage). without_id s (id_of word)) c.in-Got.ensures.after in
+    let freed = c.free.ensures.freed (subst (λ (s : Storage). IsLiveStart s word) (sym c.in-Got.ensures.after) stays) ∙ ap (λ (s : Storage). without_id s (id_of word)) c.in-Got.ensures.after in
     does_same v c.args.self.now _ c.got.result (λ s. reallocated (malloc_choice s.memory.storage word size) word size s.memory) c.self.view_is
     (subst (λ (k : Choice). Does v (with_arena v c.free.new.self) c.got.result (reallocated k word size v.memory)) (sym choice)
     (does_alloc v (with_arena v c.free.new.self) c.got.result (λ k. reallocated k word size v.memory) (ended v word size not_null) (gets_now v word size not_null idle live) (waits_now v word size not_null idle live)
