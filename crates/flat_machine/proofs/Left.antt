@@ -3,8 +3,9 @@ use Rattle.std.proofs.Common.{◌≡◌, ℕ, ◌+◌, ◌<◌, ◌≤◌, ◌�
 use Rattle.std.specs.Prelude.{IsOk, IsSome, OnErr}
 use Rattle.std.proofs.lemmas.List.{drop_all, drop_more}
 use Rattle.handle_words.specs.Handle.{id_of}
-use Rattle.arena_meaning.specs.Arena.{IsLiveStart, Storage}
+use Rattle.arena_meaning.specs.Arena.{IsConsistent, IsLiveStart, Storage}
 use Rattle.arena_meaning.specs.Changes.{is_live_start, without_id, without_words}
+use Rattle.defrag_move.proofs.Choices.{chosen_free}
 use Rattle.flat_meaning.specs.Memory.{words_leaving}
 use Rattle.flat_meaning.proofs.LiveStarts.{live_starts_are_told}
 
@@ -40,3 +41,25 @@ has_room false items view is some few = absurd (let bad : false ≡ true = ap is
 pub with_one : (serves : Bool) (items more : List ℕ) (word : ℕ) (view : Option (List ℕ)) → cond serves (Some items) None ≡ view → IsSome view → more ≡ items ++ word ∷ [] → cond serves (Some more) None ≡ Some (words_leaving view ++ word ∷ [])
 with_one true items more word view is some e = ap Some e ∙ ap (λ (w : Option (List ℕ)). Some (words_leaving w ++ word ∷ [])) is
 with_one false items more word view is some e = absurd (let bad : false ≡ true = ap is_some is ∙ some in cc)
+
+-- ---- what they keep
+
+one_keeps : (s : Storage) (word : ℕ) → IsConsistent s → IsConsistent (without_word s word)
+one_keeps s word consistent = by (is_live_start s word) where
+  by : (b : Bool) → IsConsistent (cond b (without_id s (id_of word)) s)
+  by true = chosen_free s consistent (id_of word)
+  by false = consistent
+
+pub words_keep : (words : List ℕ) (s : Storage) → IsConsistent s → IsConsistent (without_words words s)
+words_keep [] s consistent = consistent
+words_keep (word ∷ words) s consistent = words_keep words (without_word s word) (one_keeps s word consistent)
+
+one_most : (s : Storage) (word : ℕ) → (without_word s word).heaps.most ≡ s.heaps.most
+one_most s word = by (is_live_start s word) where
+  by : (b : Bool) → (cond b (without_id s (id_of word)) s).heaps.most ≡ s.heaps.most
+  by true = refl
+  by false = refl
+
+pub most_kept : (words : List ℕ) (s : Storage) → (without_words words s).heaps.most ≡ s.heaps.most
+most_kept [] s = refl
+most_kept (word ∷ words) s = most_kept words (without_word s word) ∙ one_most s word

@@ -17,7 +17,7 @@ pub mod Allowed
 pub mod ActEvents
 pub mod BarrierEvents
 pub mod Left
-pub mod Numbers
+pub mod Changing
 pub mod Rooms
 pub mod Nulls
 pub mod ServedNulls

@@ -1,5 +1,5 @@
 -- What an allocation of the arena answers is what the machine chooses.
-use Rattle.std.proofs.Common.{◌≡◌, ℕ, ◌+◌, ◌*◌, ◌%◌, ◌<◌, ◌≤◌, ◌⊎◌, Bool, true, false, cond, eqb, ltb, ◌||◌, List, [], ◌∷◌, ◌++◌, get_or, set, Option, Some, None, is_some, refl, ap, ◌∙◌, inl, inr, arith, get_or-set_same, get_or-set_other}
+use Rattle.std.proofs.Common.{◌≡◌, ℕ, ◌+◌, ◌*◌, ◌%◌, ◌<◌, ◌≤◌, ◌⊎◌, Bool, true, false, cond, eqb, ltb, ◌||◌, List, [], ◌∷◌, ◌++◌, get_or, set, Option, Some, None, is_some, refl, ap, subst, ◌∙◌, inl, inr, arith, get_or-set_same, get_or-set_other}
 use Rattle.std.proofs.lemmas.Bool.{cases_eq, ne_eqb}
 use Rattle.std.proofs.lemmas.Bool.Decides.{nat_tests}
 use Rattle.handle_words.specs.Handle.{handle_of, id_of}
@@ -205,7 +205,10 @@ pub parts_later : (v : Shared) (word size id place : ℕ) (words : List ℕ) (li
     → leaving ≡ cond live (Some (words_leaving v.memory.leaving ++ word ∷ [])) v.memory.leaving
     → record { storage = storage; output = v.memory.output; threads = v.memory.threads; leaving = leaving } ≡ (let new : Memory = with_storage v.memory (with_copy v.memory.storage id place word size) in cond (is_live_start v.memory.storage word) (record new { leaving = Some (words ++ word ∷ []) }) new)
 parts_later v word size id place words live storage leaving serves live_is storage_is leaving_is = by live live_is leaving_is where
+  abbrev told : Bool → Type 0
+  told b = record { storage = storage; output = v.memory.output; threads = v.memory.threads; leaving = leaving } ≡ (let new : Memory = with_storage v.memory (with_copy v.memory.storage id place word size) in cond b (record new { leaving = Some (words ++ word ∷ []) }) new)
+
   by : (b : Bool) → b ≡ is_live_start v.memory.storage word → leaving ≡ cond b (Some (words_leaving v.memory.leaving ++ word ∷ [])) v.memory.leaving
       → record { storage = storage; output = v.memory.output; threads = v.memory.threads; leaving = leaving } ≡ (let new : Memory = with_storage v.memory (with_copy v.memory.storage id place word size) in cond (is_live_start v.memory.storage word) (record new { leaving = Some (words ++ word ∷ []) }) new)
-  by true e l = rw (← e) (λ i. record { storage = storage_is i; output = v.memory.output; threads = v.memory.threads; leaving = (l ∙ ap (λ (w : Option (List ℕ)). Some (words_leaving w ++ word ∷ [])) serves) i })
-  by false e l = rw (← e) (λ i. record { storage = storage_is i; output = v.memory.output; threads = v.memory.threads; leaving = l i })
+  by true e l = subst told e (λ i. record { storage = storage_is i; output = v.memory.output; threads = v.memory.threads; leaving = (l ∙ ap (λ (w : Option (List ℕ)). Some (words_leaving w ++ word ∷ [])) serves) i })
+  by false e l = subst told e (λ i. record { storage = storage_is i; output = v.memory.output; threads = v.memory.threads; leaving = l i })

@@ -1,6 +1,6 @@
 use Rattle.std.proofs.Common.{◌∙◌, sym, ap}
 use Rattle.flat_meaning.specs.Actions.{becomes}
-use Rattle.flat_machine.proofs.Numbers.{added_is}
+use Rattle.flat_machine.proofs.Changing.{added_is}
 use Rattle.flat_machine.proofs.numbers.changed_word.Goals as goal
 
 pub returns-in-Add : goal.returns-in-Add

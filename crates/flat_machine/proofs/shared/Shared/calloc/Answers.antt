@@ -48,7 +48,7 @@ pub returns-clause-does : goal.returns-clause-does
 returns-clause-does c =
     let v = the_view c.self.inside in
     let n = c.in-Some.bytes in
-    subst (λ (n : ℕ). Does c.args.self.now _ c.match-alloc_zero.result (zeroed (malloc_choice c.args.self.now.memory.storage 0 n) n c.args.self.now.memory)) c.in-Some.ensures.product
+    subst (λ (n : ℕ). Does c.args.self.now (with_arena v c.alloc_zero.new.self) c.match-alloc_zero.result (zeroed (malloc_choice c.args.self.now.memory.storage 0 n) n c.args.self.now.memory)) c.in-Some.ensures.product
     (does_same v c.args.self.now _ c.match-alloc_zero.result (λ s. zeroed (malloc_choice s.memory.storage 0 n) n s.memory) c.self.view_is
     (subst (λ (k : Choice). Does v (with_arena v c.alloc_zero.new.self) c.match-alloc_zero.result (zeroed k n v.memory)) (sym (choice_is c))
     (does_alloc v (with_arena v c.alloc_zero.new.self) c.match-alloc_zero.result (λ k. zeroed k n v.memory) (λ id place. with_storage v.memory (after_alloc_zero v.memory.storage n (answers.Got id place))) (λ id place. refl) refl

@@ -1,7 +1,7 @@
 use Rattle.std.proofs.Common.{subst}
 use Rattle.flat_threads.specs.Targets.{target_view}
 use Rattle.flat_machine.specs.inner.Dones.{Does}
-use Rattle.flat_machine.proofs.Numbers.{changed_is}
+use Rattle.flat_machine.proofs.Changing.{changed_is}
 use Rattle.flat_machine.proofs.shared.Shared.change.Goals as goal
 
 pub returns-in-Ok-clause-does : goal.returns-in-Ok-clause-does

@@ -4,7 +4,7 @@ use Rattle.flat_meaning.specs.Actions.{compared}
 use Rattle.flat_threads.specs.Targets.{target_view}
 use Rattle.flat_machine.specs.inner.Dones.{Does}
 use Rattle.flat_machine.proofs.Doing.{does_trap}
-use Rattle.flat_machine.proofs.Numbers.{are_equal, are_unequal, equal_puts, second_traps, unequal_puts}
+use Rattle.flat_machine.proofs.Changing.{are_equal, are_unequal, equal_puts, second_traps, unequal_puts}
 use Rattle.flat_machine.proofs.shared.Shared.compare.Goals as goal
 
 pub returns-in-Err-number_at-clause-does : goal.returns-in-Err-number_at-clause-does
@@ -25,8 +25,8 @@ returns-then-same-eq1-clause-does c =
     (are_equal c.args.ty c.in-Ok.old c.in-Ok-number_at.wanted c.equal-same.result c.equal-same.ensures c.if-same-eq1.true))
     c.write_number.ensures.does
 
-pub returns-clause-does : goal.returns-clause-does
-returns-clause-does c =
+pub returns-else-same-eq1-clause-does : goal.returns-else-same-eq1-clause-does
+returns-else-same-eq1-clause-does c =
     let m = c.args.self.now.memory in
     let at = target_view c.args.at in
     let want = target_view c.args.want in

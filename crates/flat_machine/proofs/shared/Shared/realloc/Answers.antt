@@ -27,7 +27,7 @@ returns-in-Got-clause-does c =
     let live : is_live_start v.memory.storage word ≡ true = sym c.is_live.ensures.test ∙ c.if-not-is_live.false in
     let idle : v.memory.leaving ≡ None = ap (λ (s : Shared). s.memory.leaving) c.self.view_is ∙ c.requires in
     let not_null = not_zero word c.if-word-eq0.false in
-    let small = omega (arith, ap (λ (h : SubHeaps). h.size) c.heaps.ensures.heaps) in
+    let small : size ≤ v.memory.storage.heaps.size = omega (arith, ap (λ (h : SubHeaps). h.size) c.heaps.ensures.heaps) in
     let a = answers.Got c.in-Got.id c.in-Got.place in
     let choice = live_renewable v.memory.storage word size live ∙ sized_is v.memory.storage c.self.invariant.0.consistent size a small c.in-Got.ensures.answer in
     let stays = live_stays v.memory.storage word size c.in-Got.id c.in-Got.place c.in-Got.ensures.answer.0.free ((live_starts_are_told v.memory.storage word).0 live) in
@@ -43,7 +43,7 @@ returns-in-Got-clause-told c =
     let word = c.args.word in
     let size = c.args.size in
     let live : is_live_start v.memory.storage word ≡ true = sym c.is_live.ensures.test ∙ c.if-not-is_live.false in
-    let small = omega (arith, ap (λ (h : SubHeaps). h.size) c.heaps.ensures.heaps) in
+    let small : size ≤ v.memory.storage.heaps.size = omega (arith, ap (λ (h : SubHeaps). h.size) c.heaps.ensures.heaps) in
     let a = answers.Got c.in-Got.id c.in-Got.place in
     let choice = live_renewable v.memory.storage word size live ∙ sized_is v.memory.storage c.self.invariant.0.consistent size a small c.in-Got.ensures.answer in
     subst (λ s. Went c.got.result (malloc_turned (malloc_choice s.memory.storage word size))) c.self.view_is
@@ -57,7 +57,7 @@ returns-in-NoGap-clause-does c =
     let live : is_live_start v.memory.storage word ≡ true = sym c.is_live.ensures.test ∙ c.if-not-is_live.false in
     let idle : v.memory.leaving ≡ None = ap (λ (s : Shared). s.memory.leaving) c.self.view_is ∙ c.requires in
     let not_null = not_zero word c.if-word-eq0.false in
-    let small = omega (arith, ap (λ (h : SubHeaps). h.size) c.heaps.ensures.heaps) in
+    let small : size ≤ v.memory.storage.heaps.size = omega (arith, ap (λ (h : SubHeaps). h.size) c.heaps.ensures.heaps) in
     let choice = live_renewable v.memory.storage word size live ∙ sized_is v.memory.storage c.self.invariant.0.consistent size c.alloc_copy.result small c.alloc_copy.ensures.answer ∙ none_chosen c.alloc_copy.result wait c.in-NoGap.is in
     does_same v c.args.self.now _ (dones.Waits Room) (λ s. reallocated (malloc_choice s.memory.storage word size) word size s.memory) c.self.view_is
     (does_wait v c.alloc_copy.new.self (reallocated (malloc_choice v.memory.storage word size) word size v.memory) (none_copied v.memory.storage c.alloc_copy.new.self word size c.alloc_copy.result c.in-NoGap.is c.alloc_copy.ensures.after)

@@ -31,8 +31,8 @@ returns-in-Got-clause-does c =
     let choice = chosen_is v.memory.storage size a null c.in-Got.ensures.answer in
     let parts = parts_later v word size c.in-Got.id c.in-Got.place words.0 c.is_live-live.result c.alloc_copy.new.self c.add_if.new.self words.1 c.is_live-live.ensures.test c.in-Got.ensures.after c.add_if.ensures in
     does_same v c.args.self.now _ c.got.result (λ s. reallocated (served_choice s.memory.storage word size) word size s.memory) c.self.view_is
-    (subst (λ (k : Choice). Does v _ c.got.result (reallocated k word size v.memory)) (sym choice)
-    (does_serve v _ c.got.result (λ k. reallocated k word size v.memory) (left_later v word size not_null words.0) (gets_later v word size not_null words.0 words.1) (null_later v word size not_null words.0 words.1)
+    (subst (λ (k : Choice). Does v (with_memory v (record { storage = c.alloc_copy.new.self; output = v.memory.output; threads = v.memory.threads; leaving = c.add_if.new.self })) c.got.result (reallocated k word size v.memory)) (sym choice)
+    (does_serve v (with_memory v (record { storage = c.alloc_copy.new.self; output = v.memory.output; threads = v.memory.threads; leaving = c.add_if.new.self })) c.got.result (λ k. reallocated k word size v.memory) (left_later v word size not_null words.0) (gets_later v word size not_null words.0 words.1) (null_later v word size not_null words.0 words.1)
     a (ap (with_memory v) parts) c.got.ensures))
 
 pub returns-in-Got-clause-told : goal.returns-in-Got-clause-told
