@@ -205,10 +205,7 @@ pub parts_later : (v : Shared) (word size id place : ℕ) (words : List ℕ) (li
     → leaving ≡ cond live (Some (words_leaving v.memory.leaving ++ word ∷ [])) v.memory.leaving
     → record { storage = storage; output = v.memory.output; threads = v.memory.threads; leaving = leaving } ≡ (let new : Memory = with_storage v.memory (with_copy v.memory.storage id place word size) in cond (is_live_start v.memory.storage word) (record new { leaving = Some (words ++ word ∷ []) }) new)
 parts_later v word size id place words live storage leaving serves live_is storage_is leaving_is = by live live_is leaving_is where
-  abbrev told : Bool → Type 0
-  told b = record { storage = storage; output = v.memory.output; threads = v.memory.threads; leaving = leaving } ≡ (let new : Memory = with_storage v.memory (with_copy v.memory.storage id place word size) in cond b (record new { leaving = Some (words ++ word ∷ []) }) new)
-
   by : (b : Bool) → b ≡ is_live_start v.memory.storage word → leaving ≡ cond b (Some (words_leaving v.memory.leaving ++ word ∷ [])) v.memory.leaving
       → record { storage = storage; output = v.memory.output; threads = v.memory.threads; leaving = leaving } ≡ (let new : Memory = with_storage v.memory (with_copy v.memory.storage id place word size) in cond (is_live_start v.memory.storage word) (record new { leaving = Some (words ++ word ∷ []) }) new)
-  by true e l = subst told e (λ i. record { storage = storage_is i; output = v.memory.output; threads = v.memory.threads; leaving = (l ∙ ap (λ (w : Option (List ℕ)). Some (words_leaving w ++ word ∷ [])) serves) i })
-  by false e l = subst told e (λ i. record { storage = storage_is i; output = v.memory.output; threads = v.memory.threads; leaving = l i })
+  by true e l = subst (λ (x : Bool). record { storage = storage; output = v.memory.output; threads = v.memory.threads; leaving = leaving } ≡ (let new : Memory = with_storage v.memory (with_copy v.memory.storage id place word size) in cond x (record new { leaving = Some (words ++ word ∷ []) }) new)) e (λ i. record { storage = storage_is i; output = v.memory.output; threads = v.memory.threads; leaving = (l ∙ ap (λ (w : Option (List ℕ)). Some (words_leaving w ++ word ∷ [])) serves) i })
+  by false e l = subst (λ (x : Bool). record { storage = storage; output = v.memory.output; threads = v.memory.threads; leaving = leaving } ≡ (let new : Memory = with_storage v.memory (with_copy v.memory.storage id place word size) in cond x (record new { leaving = Some (words ++ word ∷ []) }) new)) e (λ i. record { storage = storage_is i; output = v.memory.output; threads = v.memory.threads; leaving = l i })

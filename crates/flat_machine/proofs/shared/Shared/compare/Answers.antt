@@ -30,7 +30,7 @@ returns-else-same-eq1-clause-does c =
     let m = c.args.self.now.memory in
     let at = target_view c.args.at in
     let want = target_view c.args.want in
-    subst (Does c.args.self.now c.write_number-2.new.self c.write_number-2.result)
+    subst (Does c.args.self.now c.write_number-else-same-eq1.new.self c.write_number-else-same-eq1.result)
     (unequal_puts m c.args.ty at want c.args.new c.in-Ok.old c.in-Ok-number_at.wanted c.in-Ok.ensures.number c.in-Ok-number_at.ensures.number c.in-Ok.ensures.inside c.in-Ok-number_at.ensures.inside
     (are_unequal c.args.ty c.in-Ok.old c.in-Ok-number_at.wanted c.equal-same.result c.equal-same.ensures c.if-same-eq1.false))
-    c.write_number-2.ensures.does
+    c.write_number-else-same-eq1.ensures.does

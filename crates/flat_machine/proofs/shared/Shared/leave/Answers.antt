@@ -20,4 +20,6 @@ invariant_of-self c =
         words_room = old.0.words_room;
       },
       old.1,
+      old.2,
+      old.3,
     )
