@@ -1,6 +1,6 @@
 -- What a context waits for is what its stage waits for.
 use Rattle.std.proofs.Common.{◌≡◌, List, [], ◌∷◌, ℕ, false, Some, refl, map}
-use Rattle.struct_ir.specs.Nodes.{Action, load, store, copy_bytes, malloc, free, print, lock, unlock, destroy, start, join, set, call, step, look, safepoint, begin_object, end_object}
+use Rattle.struct_ir.specs.Nodes.{Action, load, store, copy_bytes, malloc, calloc, realloc, free, change, compare, print, lock, unlock, destroy, start, join, set, call, step, look, safepoint, begin_object, end_object}
 use Rattle.struct_ir.specs.Flow.{Here, does, tests, passes, round, returns}
 use Rattle.struct_ir.specs.Linear.{Spot}
 use Rattle.flat_meaning.specs.Image.{Image}
@@ -32,7 +32,11 @@ act_ready m (load how) places words = refl
 act_ready m (store how) places words = refl
 act_ready m (copy_bytes align same) places words = refl
 act_ready m malloc places words = refl
+act_ready m calloc places words = refl
+act_ready m realloc places words = refl
 act_ready m free places words = refl
+act_ready m (change how t) places words = refl
+act_ready m (compare t) places words = refl
 act_ready m (print pieces) places words = refl
 act_ready m lock places words = lock_ready m places words
 act_ready m unlock places words = refl
@@ -79,7 +83,11 @@ act_room (load how) places words = refl
 act_room (store how) places words = refl
 act_room (copy_bytes align same) places words = refl
 act_room malloc places words = refl
+act_room calloc places words = refl
+act_room realloc places words = refl
 act_room free places words = refl
+act_room (change how t) places words = refl
+act_room (compare t) places words = refl
 act_room (print pieces) places words = refl
 act_room lock places words = lock_room places words
 act_room unlock places words = refl
