@@ -14,6 +14,7 @@ use Rattle.struct_ir.specs.Linear.{Spot}
 use Rattle.struct_ir.specs.Machine.{Point}
 use Rattle.struct_ir.specs.Nodes.{Action, Place, Step, step}
 use Rattle.struct_ir.specs.Threads.{Thread}
+use Rattle.flat_meaning.specs.Allocations.{Allocation}
 use Rattle.flat_meaning.specs.Accesses as actions
 use Rattle.flat_meaning.specs.Actions.{acted}
 use Rattle.flat_meaning.specs.Allowed.{AllStand, MayServe, MayServeAll, pinned}
@@ -34,7 +35,7 @@ use Rattle.flat_threads.specs.declared.wait.Wait.TheVariants.{Room}
 use Rattle.flat_machine.specs.Choices.{action_choice, served_choice}
 use Rattle.flat_machine.specs.Laws.{BarrierIsItsEvent}
 use Rattle.flat_machine.specs.Machine.{machine_of, stands_of}
-use Rattle.flat_machine.specs.Nulls.{Asked, asked_at, asked_by}
+use Rattle.flat_machine.specs.Nulls.{asked_at, asked_by, old_word}
 use Rattle.flat_machine.specs.Shares.{Shared, image_of}
 use Rattle.flat_machine.specs.Sweeping.{at_home, context_at, home_at, if_wants, place_at, serve_of, serves_from, serves_if, stage_home, stage_or, stages_home, sweep_moves, sweep_serves, swept_state, waits_at_home}
 use Rattle.flat_machine.proofs.Allowed.{given_may, served_goes, served_may}
@@ -86,17 +87,17 @@ length-home_at code (o ∷ own) (c ∷ home) = ap suc (length-home_at code own h
 
 -- ---- what an allocation asks for
 
-abbrev pub asks_of : {a : Action} {temps : List ℕ} → Words → Operands a temps → Asked
-asks_of l (of_malloc size) = record { word = 0; size = word_at l size }
-asks_of l (of_calloc count size) = record { word = 0; size = word_at l count * word_at l size }
-asks_of l (of_realloc word size) = record { word = word_at l word; size = word_at l size }
+abbrev pub asks_of : {a : Action} {temps : List ℕ} → Words → Operands a temps → Allocation
+asks_of l (of_malloc size) = record { bytes = word_at l size; old = None }
+asks_of l (of_calloc count size) = record { bytes = word_at l count * word_at l size; old = None }
+asks_of l (of_realloc word size) = record { bytes = word_at l size; old = Some (word_at l word) }
 
 asked_there : {a : Action} {temps : List ℕ} → (l : Words) (o : Operands a temps) → asked_by l a [] temps ≡ Some (asks_of l o)
 asked_there l (of_malloc size) = refl
 asked_there l (of_calloc count size) = refl
 asked_there l (of_realloc word size) = refl
 
-chosen_there : {a : Action} {temps : List ℕ} → (rule : (word size : ℕ) → actions.Choice) (l : Words) (o : Operands a temps) → let asks = asks_of l o in action_choice rule l a temps ≡ rule asks.word asks.size
+chosen_there : {a : Action} {temps : List ℕ} → (rule : (word size : ℕ) → actions.Choice) (l : Words) (o : Operands a temps) → let asks = asks_of l o in action_choice rule l a temps ≡ rule (old_word asks) asks.bytes
 chosen_there rule l (of_malloc size) = refl
 chosen_there rule l (of_calloc count size) = refl
 chosen_there rule l (of_realloc word size) = refl
@@ -115,7 +116,7 @@ module _ (code : LinearCode) where
     pub node : Step
     pub has : IsSized (length thread.top.own.temps) node
     pub asked : asked_at (image_of code s) (waiting thread) ≡ Some (asks_of thread.top.own has.operands)
-    pub chosen : let asks = asks_of thread.top.own has.operands in (serve_of (image_of code s) st n (waiting thread)).choice ≡ served_choice st.memory.storage asks.word asks.size
+    pub chosen : let asks = asks_of thread.top.own has.operands in (serve_of (image_of code s) st n (waiting thread)).choice ≡ served_choice st.memory.storage (old_word asks) asks.bytes
     pub wants : readiness.wants_room (own_image code) (waiting thread) ≡ true
     pub goes : (serve_of (image_of code s) st n (waiting thread)).choice ≡ actions.wait → ⊥
     pub after : Memory
@@ -140,7 +141,7 @@ module _ (code : LinearCode) where
       let asks = asks_of l has.operands in
       let choice = action_choice (served_choice m.storage) l node.action node.temps in
       let given = gives x.layout n l (length l.temps) node has m some in
-      let asked_for : choice ≡ served_choice m.storage asks.word asks.size = chosen_there (served_choice m.storage) l has.operands in
+      let asked_for : choice ≡ served_choice m.storage (old_word asks) asks.bytes = chosen_there (served_choice m.storage) l has.operands in
       let chosen : (serve_of x st n (waiting t)).choice ≡ choice = choice_is code s t n place node at (served_choice m.storage) in
       record {
         thread = t;
@@ -150,7 +151,7 @@ module _ (code : LinearCode) where
         asked = asked_is s t place node at has;
         chosen = chosen ∙ asked_for;
         wants = wants_is code s t n place node at takes;
-        goes = λ e. served_goes m.storage asks.word asks.size (sym (chosen ∙ asked_for) ∙ e);
+        goes = λ e. served_goes m.storage (old_word asks) asks.bytes (sym (chosen ∙ asked_for) ∙ e);
         after = given.after;
         word = given.word;
         done = given.is;

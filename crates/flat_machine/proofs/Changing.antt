@@ -1,5 +1,5 @@
 -- Numbers that are changed and compared.
-use Rattle.std.proofs.Common.{◌≡◌, ℕ, ◌/◌, ◌^◌, ◌+ℤ◌, Bool, true, false, cond, List, Option, Some, None, refl, sym, ap, ◌∙◌}
+use Rattle.std.proofs.Common.{◌≡◌, ℕ, ◌/◌, ◌^◌, ◌+ℤ◌, Bool, true, false, cond, Some, None, refl, sym, ap, ◌∙◌}
 use Rattle.std.specs.Ordering.{int_eq}
 use Rattle.std.specs.Result.{result_unwrap_or}
 use Rattle.ak_words.specs.declared.int_type.IntType.{IntType}
@@ -12,7 +12,7 @@ use Rattle.ak_words.specs.Num.{num}
 use Rattle.ak_words.specs.Op.{exact_result, rule_of, replacement, outcome, rule_if, overflows, truth}
 use Rattle.ak_words.specs.Wrapped.{residue, wrapped_value}
 use Rattle.block_store.specs.declared.values.Change.{Change}
-use Rattle.flat_store.specs.Flat.{first_outside, first_outside_of_both}
+use Rattle.flat_store.specs.Flat.{first_outside}
 use Rattle.ak_trace.specs.declared.endings.TrapKind.TheVariants as kinds
 use Rattle.flat_words.specs.Words.{applied, number_in, number_word}
 use Rattle.flat_meaning.specs.Accesses.{Done, over, trap, went, within}

@@ -23,3 +23,4 @@ pub mod Nulls
 pub mod ServedNulls
 pub mod ToldNulls
 pub mod Limits
+pub mod WorkedRows

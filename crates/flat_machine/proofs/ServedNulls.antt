@@ -18,6 +18,7 @@ use Rattle.arena_meaning.specs.Moves.{after_plan}
 use Rattle.defrag_move.proofs.Kept.{IsConsistent-after_plan, heaps_after}
 use Rattle.struct_ir.specs.Instrs.{LinearCode}
 use Rattle.struct_ir.specs.Linear.{Spot}
+use Rattle.flat_meaning.specs.Allocations.{Allocation}
 use Rattle.flat_meaning.specs.Allowed.{pinned}
 use Rattle.flat_meaning.specs.Events.{State, Serve, after_serves, moved_state, serving_state}
 use Rattle.flat_meaning.specs.Image.{Image}
@@ -26,7 +27,7 @@ use Rattle.flat_rules.specs.Lawful.{AreHome, IsOfRun}
 use Rattle.flat_threads.specs.Belonging.{IsContextOf}
 use Rattle.flat_threads.specs.Contexts.{Context}
 use Rattle.flat_machine.specs.Machine.{machine_of}
-use Rattle.flat_machine.specs.Nulls.{Asked, HasNoRoom, IsNullForRoom, NullAtBarrier}
+use Rattle.flat_machine.specs.Nulls.{HasNoRoom, IsNullForRoom, NullAtBarrier, old_word}
 use Rattle.flat_machine.specs.Shares.{Shared, image_of}
 use Rattle.flat_machine.specs.Sweeping.{at_home, object_got, serve_of, served_of, serves_from, serves_if, sweep_moves, sweep_serves, waits_at_home}
 use Rattle.flat_machine.specs.lemmas.Homes.{after_serves-append, length-stages_home, none_served}
@@ -116,7 +117,7 @@ module _ (code : LinearCode) (s : Shared) (home : List (Option Context)) (kept :
       abbrev serve : Serve
       serve = serve_of x st n (waiting v.thread)
 
-      abbrev asks : Asked
+      abbrev asks : Allocation
       asks = asks_of v.thread.top.own v.has.operands
 
       one : IsNullForRoom x here (served_of serve)
@@ -125,7 +126,7 @@ module _ (code : LinearCode) (s : Shared) (home : List (Option Context)) (kept :
         waited = sym (is.turned.later n (omega arith)) ∙ own_is code s home all homes n st is.turned below c at v;
         asks = asks;
         asked = v.asked;
-        null = subst (λ choice. (object_got choice ≡ None) ↔ (HasNoRoom pins st.memory.storage.heaps asks.size ⊎ IsFull st.memory.storage.table)) (sym v.chosen) (served_null pins st.memory.storage is.storage asks.word asks.size);
+        null = subst (λ choice. (object_got choice ≡ None) ↔ (HasNoRoom pins st.memory.storage.heaps asks.bytes ⊎ IsFull st.memory.storage.table)) (sym v.chosen) (served_null pins st.memory.storage is.storage (old_word asks) asks.bytes);
       }
 
       storage_next : IsSlidStorage pins (after_serves x (serve ∷ []) st).memory.storage

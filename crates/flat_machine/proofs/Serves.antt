@@ -43,7 +43,7 @@ module _ (x : Image Spot) where
       ∙ sym (append_assoc v rest (turn_of (after_serves x rest next) k))
       ∙ ap (λ (now : State Spot). (v ++ rest) ++ turn_of now k) (sym (after_serves-append x v rest s))
 
--- the entry of a malloc that was served
+-- the entry of an allocation that was served
 abbrev pub told : Serve → Entry
 told v = served_entry 0 (served_of v)
 

@@ -12,6 +12,7 @@ use Rattle.struct_ir.specs.Machine.{Point}
 use Rattle.struct_ir.specs.Nodes.{Action, Place, load, store, copy_bytes, malloc, calloc, realloc, free, change, compare, print, lock, unlock, destroy, start, join, set, call, step, look, safepoint, begin_object, end_object, Step}
 use Rattle.struct_ir.specs.Threads.{Thread, left_call, stop_at}
 use Rattle.struct_ir.specs.Threads as threads
+use Rattle.flat_meaning.specs.Allocations.{Allocation, allocation_of}
 use Rattle.flat_meaning.specs.declared.endings.Stop.{Stop}
 use Rattle.flat_meaning.specs.declared.endings.Stop.TheVariants.{AtStep, Spent, NoRoom}
 use Rattle.flat_meaning.specs.Accesses as actions
@@ -26,7 +27,7 @@ use Rattle.flat_meaning.specs.Words.{Words, target_of, word_at}
 use Rattle.flat_rules.specs.Machine.{Turned, got_null}
 use Rattle.flat_rules.specs.Machine as turns
 use Rattle.flat_machine.specs.Choices.{action_choice, choice_here, is_renewable, malloc_choice, sized_choice}
-use Rattle.flat_machine.specs.Nulls.{Asked, NullAtAct, asked_by, asked_at, asked_here}
+use Rattle.flat_machine.specs.Nulls.{NullAtAct, asked_by, asked_at, asked_here, old_word}
 use Rattle.flat_machine.specs.Shares.{Shared, image_of}
 use Rattle.flat_machine.specs.Turns.{blocked_turned, done_turned, fault_turned, outcome_turned, start_turned, turned_before, turned_of}
 use Rattle.flat_machine.proofs.Nulls.{renewable_choice, sized_null}
@@ -68,10 +69,10 @@ module _ (x : Image Spot) (n : ℕ) (m : Memory) (idle : m.leaving ≡ None) (t 
 
   -- an allocation of more than a sub-heap has
   record IsNull (here : Here) : Type 0 where
-    asks : Asked
+    asks : Allocation
     asked : asked_here l here ≡ Some asks
-    null : malloc_choice m.storage asks.word asks.size ≡ null
-    renewable : is_renewable m.storage asks.word ≡ true
+    null : malloc_choice m.storage (old_word asks) asks.bytes ≡ null
+    renewable : is_renewable m.storage (old_word asks) ≡ true
 
   -- a step, by its action and operands
   abbrev node : Action → List Place → (to : Option ℕ) → (temps slots : List ℕ) → Step
@@ -211,47 +212,52 @@ module _ (x : Image Spot) (n : ℕ) (m : Memory) (idle : m.leaving ≡ None) (t 
   there round e = absurd cc
   there (returns temp) e = returned temp t.callers e
 
-  step_back : (place : ℕ) (a : Action) (places : List Place) (to : Option ℕ) (temps slots : List ℕ) (asks : Asked) → asked_by l a places temps ≡ Some asks → malloc_choice m.storage asks.word asks.size ≡ null → is_renewable m.storage asks.word ≡ true
+  -- what is no allocation asks for nothing
+  none_asked : (a : Action) (places : List Place) (temps : List ℕ) (asks : Allocation) → allocation_of a (map (word_at l) temps) ≡ None → asked_by l a places temps ≡ Some asks → ⊥
+  none_asked a [] temps asks none asked = let z : None ≡ Some asks = sym none ∙ asked in cc z
+  none_asked a (p ∷ places) temps asks none asked = absurd cc
+
+  step_back : (place : ℕ) (a : Action) (places : List Place) (to : Option ℕ) (temps slots : List ℕ) (asks : Allocation) → asked_by l a places temps ≡ Some asks → malloc_choice m.storage (old_word asks) asks.bytes ≡ null → is_renewable m.storage (old_word asks) ≡ true
       → told_step place a places to temps slots ≡ got_null
   step_back place malloc [] to (r ∷ []) slots asks asked chosen renewable =
-      let same : record { word = 0; size = word_at l r } ≡ asks = same_Some _ asks asked in
-      malloc_told place (node malloc [] to (r ∷ []) slots) (word_at l r) refl (malloc_choice m.storage 0 (word_at l r)) (ap (λ (k : Asked). malloc_choice m.storage k.word k.size) same ∙ chosen)
+      let same : record { bytes = word_at l r; old = None } ≡ asks = same_Some _ asks asked in
+      malloc_told place (node malloc [] to (r ∷ []) slots) (word_at l r) refl (malloc_choice m.storage 0 (word_at l r)) (ap (λ (k : Allocation). malloc_choice m.storage (old_word k) k.bytes) same ∙ chosen)
   step_back place malloc [] to [] slots asks asked chosen renewable = absurd cc
   step_back place malloc [] to (r ∷ q ∷ temps) slots asks asked chosen renewable = absurd cc
   step_back place malloc (p ∷ places) to temps slots asks asked chosen renewable = absurd cc
   step_back place calloc [] to (r ∷ q ∷ []) slots asks asked chosen renewable =
-      let same : record { word = 0; size = word_at l r * word_at l q } ≡ asks = same_Some _ asks asked in
-      calloc_told place (node calloc [] to (r ∷ q ∷ []) slots) (word_at l r * word_at l q) refl (malloc_choice m.storage 0 (word_at l r * word_at l q)) (ap (λ (k : Asked). malloc_choice m.storage k.word k.size) same ∙ chosen)
+      let same : record { bytes = word_at l r * word_at l q; old = None } ≡ asks = same_Some _ asks asked in
+      calloc_told place (node calloc [] to (r ∷ q ∷ []) slots) (word_at l r * word_at l q) refl (malloc_choice m.storage 0 (word_at l r * word_at l q)) (ap (λ (k : Allocation). malloc_choice m.storage (old_word k) k.bytes) same ∙ chosen)
   step_back place calloc [] to [] slots asks asked chosen renewable = absurd cc
   step_back place calloc [] to (r ∷ []) slots asks asked chosen renewable = absurd cc
   step_back place calloc [] to (r ∷ q ∷ o ∷ temps) slots asks asked chosen renewable = absurd cc
   step_back place calloc (p ∷ places) to temps slots asks asked chosen renewable = absurd cc
   step_back place realloc [] to (r ∷ q ∷ []) slots asks asked chosen renewable =
-      let same : record { word = word_at l r; size = word_at l q } ≡ asks = same_Some _ asks asked in
+      let same : record { bytes = word_at l q; old = Some (word_at l r) } ≡ asks = same_Some _ asks asked in
       let s = node realloc [] to (r ∷ q ∷ []) slots in
       let w = word_at l r in
       let size = word_at l q in
       let c = malloc_choice m.storage w size in
       ap (told_of place s c) (outside_barrier place s size w c)
-      ∙ realloc_told place s size refl (eqb w 0) (is_live_start m.storage w) w c (ap (λ (k : Asked). malloc_choice m.storage k.word k.size) same ∙ chosen) (ap (λ (k : Asked). is_renewable m.storage k.word) same ∙ renewable)
+      ∙ realloc_told place s size refl (eqb w 0) (is_live_start m.storage w) w c (ap (λ (k : Allocation). malloc_choice m.storage (old_word k) k.bytes) same ∙ chosen) (ap (λ (k : Allocation). is_renewable m.storage (old_word k)) same ∙ renewable)
   step_back place realloc [] to [] slots asks asked chosen renewable = absurd cc
   step_back place realloc [] to (r ∷ []) slots asks asked chosen renewable = absurd cc
   step_back place realloc [] to (r ∷ q ∷ o ∷ temps) slots asks asked chosen renewable = absurd cc
   step_back place realloc (p ∷ places) to temps slots asks asked chosen renewable = absurd cc
-  step_back place (load how) places to temps slots asks asked chosen renewable = absurd cc
-  step_back place (store how) places to temps slots asks asked chosen renewable = absurd cc
-  step_back place (copy_bytes align same) places to temps slots asks asked chosen renewable = absurd cc
-  step_back place free places to temps slots asks asked chosen renewable = absurd cc
-  step_back place (change how ty) places to temps slots asks asked chosen renewable = absurd cc
-  step_back place (compare ty) places to temps slots asks asked chosen renewable = absurd cc
-  step_back place (print pieces) places to temps slots asks asked chosen renewable = absurd cc
-  step_back place lock places to temps slots asks asked chosen renewable = absurd cc
-  step_back place unlock places to temps slots asks asked chosen renewable = absurd cc
-  step_back place destroy places to temps slots asks asked chosen renewable = absurd cc
-  step_back place (start function) places to temps slots asks asked chosen renewable = absurd cc
-  step_back place join places to temps slots asks asked chosen renewable = absurd cc
+  step_back place (load how) places to temps slots asks asked chosen renewable = absurd (none_asked (load how) places temps asks refl asked)
+  step_back place (store how) places to temps slots asks asked chosen renewable = absurd (none_asked (store how) places temps asks refl asked)
+  step_back place (copy_bytes align same) places to temps slots asks asked chosen renewable = absurd (none_asked (copy_bytes align same) places temps asks refl asked)
+  step_back place free places to temps slots asks asked chosen renewable = absurd (none_asked free places temps asks refl asked)
+  step_back place (change how ty) places to temps slots asks asked chosen renewable = absurd (none_asked (change how ty) places temps asks refl asked)
+  step_back place (compare ty) places to temps slots asks asked chosen renewable = absurd (none_asked (compare ty) places temps asks refl asked)
+  step_back place (print pieces) places to temps slots asks asked chosen renewable = absurd (none_asked (print pieces) places temps asks refl asked)
+  step_back place lock places to temps slots asks asked chosen renewable = absurd (none_asked lock places temps asks refl asked)
+  step_back place unlock places to temps slots asks asked chosen renewable = absurd (none_asked unlock places temps asks refl asked)
+  step_back place destroy places to temps slots asks asked chosen renewable = absurd (none_asked destroy places temps asks refl asked)
+  step_back place (start function) places to temps slots asks asked chosen renewable = absurd (none_asked (start function) places temps asks refl asked)
+  step_back place join places to temps slots asks asked chosen renewable = absurd (none_asked join places temps asks refl asked)
 
-  back : (here : Here) (asks : Asked) → asked_here l here ≡ Some asks → malloc_choice m.storage asks.word asks.size ≡ null → is_renewable m.storage asks.word ≡ true → told_at here (before_here t.callers here) ≡ got_null
+  back : (here : Here) (asks : Allocation) → asked_here l here ≡ Some asks → malloc_choice m.storage (old_word asks) asks.bytes ≡ null → is_renewable m.storage (old_word asks) ≡ true → told_at here (before_here t.callers here) ≡ got_null
   back (does place (step s)) asks asked chosen renewable = step_back place s.action s.places s.to s.temps s.slots asks asked chosen renewable
   back (does place (set to calc)) asks asked chosen renewable = absurd cc
   back (does place (call c)) asks asked chosen renewable = absurd cc
@@ -282,10 +288,10 @@ module _ (code : LinearCode) (s : Shared) (sound : IsSound s.memory.storage.heap
     at_stage : Stage Spot
     is : stage ≡ Some at_stage
     stops : stop ≡ Some AtStep
-    wanted : Asked
+    wanted : Allocation
     asked : asked_at (image_of code s) at_stage ≡ Some wanted
-    above : s.memory.storage.heaps.size < wanted.size
-    renewable : is_renewable s.memory.storage wanted.word ≡ true
+    above : s.memory.storage.heaps.size < wanted.bytes
+    renewable : is_renewable s.memory.storage (old_word wanted) ≡ true
 
   asks : (n : ℕ) (stage : Option (Stage Spot)) (stop : Option Stop) → turned_of x n s.memory stage stop ≡ got_null → Asks stage stop
   asks n None stop e = absurd cc
@@ -295,13 +301,13 @@ module _ (code : LinearCode) (s : Shared) (sound : IsSound s.memory.storage.heap
   asks n (Some stage) (Some AtStep) e =
       let t = thread_at x stage in
       let is = there x n s.memory idle t (x.flow.here t.top.at) (sym (told_is x n s.memory idle t (stages.before x t)) ∙ e) in
-      let sized : sized_choice s.memory.storage is.asks.size ≡ null = sym (renewable_choice s.memory.storage is.asks.word is.asks.size is.renewable) ∙ is.null in
-      record { at_stage = stage; is = refl; stops = refl; wanted = is.asks; asked = is.asked; above = (sized_null s.memory.storage sound is.asks.size).0 sized; renewable = is.renewable }
+      let sized : sized_choice s.memory.storage is.asks.bytes ≡ null = sym (renewable_choice s.memory.storage (old_word is.asks) is.asks.bytes is.renewable) ∙ is.null in
+      record { at_stage = stage; is = refl; stops = refl; wanted = is.asks; asked = is.asked; above = (sized_null s.memory.storage sound is.asks.bytes).0 sized; renewable = is.renewable }
 
   tells : (n : ℕ) (stage : Option (Stage Spot)) (stop : Option Stop) → Asks stage stop → turned_of x n s.memory stage stop ≡ got_null
   tells n stage stop a =
       let t = thread_at x a.at_stage in
-      let chosen : malloc_choice s.memory.storage a.wanted.word a.wanted.size ≡ null = renewable_choice s.memory.storage a.wanted.word a.wanted.size a.renewable ∙ (sized_null s.memory.storage sound a.wanted.size).1 a.above in
+      let chosen : malloc_choice s.memory.storage (old_word a.wanted) a.wanted.bytes ≡ null = renewable_choice s.memory.storage (old_word a.wanted) a.wanted.bytes a.renewable ∙ (sized_null s.memory.storage sound a.wanted.bytes).1 a.above in
       let told = told_is x n s.memory idle t (stages.before x t) ∙ back x n s.memory idle t (x.flow.here t.top.at) a.wanted a.asked chosen a.renewable in
       ap (λ o. turned_of x n s.memory o stop) a.is ∙ ap (turned_of x n s.memory (Some a.at_stage)) a.stops ∙ told
 

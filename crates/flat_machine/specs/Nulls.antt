@@ -1,6 +1,6 @@
 -- Where an allocation gives null: at its own step just where it asks for more than a sub-heap has, and at a barrier just where, at that moment,
 -- no sub-heap has room for it or no id is free; the old objects of reallocs that the barrier serves count as there.
-use Rattle.std.specs.Prelude.{◌≡◌, ℕ, ◌*◌, ◌<◌, ◌⊎◌, ◌↔◌, Bool, true, List, [], ◌∷◌, All, Option, Some, None}
+use Rattle.std.specs.Prelude.{◌≡◌, ℕ, ◌<◌, ◌⊎◌, ◌↔◌, Bool, true, List, [], All, map, Option, Some, None}
 use Rattle.std.specs.List.{range_with_len}
 use Rattle.block_store.specs.Runs.{own_at}
 use Rattle.handle_table.specs.Table.{IsFull}
@@ -10,8 +10,9 @@ use Rattle.arena_meaning.specs.Arena.{Storage, IsConsistent}
 use Rattle.struct_ir.specs.Flow.{Here, does}
 use Rattle.struct_ir.specs.Instrs.{LinearCode}
 use Rattle.struct_ir.specs.Linear.{Spot}
-use Rattle.struct_ir.specs.Nodes.{Action, Place, malloc, calloc, realloc, step}
+use Rattle.struct_ir.specs.Nodes.{Action, Place, step}
 use Rattle.flat_meaning.specs.declared.endings.Stop.TheVariants.{AtStep}
+use Rattle.flat_meaning.specs.Allocations.{Allocation, allocation_of}
 use Rattle.flat_meaning.specs.Allowed.{pinned}
 use Rattle.flat_meaning.specs.Events.{State, after_serves, moved_state, serving_state}
 use Rattle.flat_meaning.specs.Image.{Image}
@@ -29,25 +30,27 @@ use Rattle.flat_machine.specs.Sweeping.{at_home, serves_from, sweep_moves, swept
 
 -- ---- what an allocation asks for
 
--- so many bytes, in place of the object of a word, which is null but at a realloc
-pub record Asked : Type 0 where
-  pub word : ℕ
-  pub size : ℕ
-
--- by an action with its operands
-abbrev pub asked_by : Words → Action → List Place → List ℕ → Option Asked
-asked_by l malloc [] (size ∷ []) = Some (record { word = 0; size = word_at l size })
-asked_by l calloc [] (count ∷ size ∷ []) = Some (record { word = 0; size = word_at l count * word_at l size })
-asked_by l realloc [] (word ∷ size ∷ []) = Some (record { word = word_at l word; size = word_at l size })
+-- by an action with its operands: an allocation has no places
+abbrev pub asked_by : Words → Action → List Place → List ℕ → Option Allocation
+asked_by l action [] temps = allocation_of action (map (word_at l) temps)
 asked_by l action places temps = None
 
+-- a word, if there is one
+abbrev pub word_or_null : Option ℕ → ℕ
+word_or_null None = 0
+word_or_null (Some word) = word
+
+-- the word in place of whose object it is: null but at a realloc
+abbrev pub old_word : Allocation → ℕ
+old_word a = word_or_null a.old
+
 -- by what stands there
-abbrev pub asked_here : Words → Here → Option Asked
+abbrev pub asked_here : Words → Here → Option Allocation
 asked_here l (does place (step x)) = asked_by l x.action x.places x.temps
 asked_here l here = None
 
 -- where the thread of a stage stands
-abbrev pub asked_at : Image Spot → Stage Spot → Option Asked
+abbrev pub asked_at : Image Spot → Stage Spot → Option Allocation
 asked_at x stage = let p = (thread_at x stage).top in asked_here p.own (x.flow.here p.at)
 
 -- ---- act
@@ -57,10 +60,10 @@ pub record AsksTooMuch (code : LinearCode) (s : Shared) (c : Context) : Type 0 w
   pub stage : Stage Spot
   pub is : c.stage ≡ Some stage
   pub stops : c.stop ≡ Some AtStep
-  pub asks : Asked
+  pub asks : Allocation
   pub asked : asked_at (image_of code s) stage ≡ Some asks
-  pub above : s.memory.storage.heaps.size < asks.size
-  pub renewable : is_renewable s.memory.storage asks.word ≡ true
+  pub above : s.memory.storage.heaps.size < asks.bytes
+  pub renewable : is_renewable s.memory.storage (old_word asks) ≡ true
 
 -- act tells of null just there
 abbrev pub NullAtAct : Type 0
@@ -81,9 +84,9 @@ storage_at_turn x s thread = let moved = serving_state (moved_state (sweep_moves
 pub record IsNullForRoom (x : Image Spot) (s : State Spot) (v : Served) : Type 0 where
   pub stage : Stage Spot
   pub waited : own_at s.own v.thread ≡ Some stage
-  pub asks : Asked
+  pub asks : Allocation
   pub asked : asked_at x stage ≡ Some asks
-  pub null : let now = storage_at_turn x s v.thread in (v.object ≡ None) ↔ (HasNoRoom (pinned x s) now.heaps asks.size ⊎ IsFull now.table)
+  pub null : let now = storage_at_turn x s v.thread in (v.object ≡ None) ↔ (HasNoRoom (pinned x s) now.heaps asks.bytes ⊎ IsFull now.table)
 
 -- so it is with each thread that a barrier serves, where all contexts are at home
 abbrev pub NullAtBarrier : Type 0

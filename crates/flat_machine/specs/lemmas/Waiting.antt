@@ -1,5 +1,5 @@
 -- An allocation that waits, and what serving it does.
-use Rattle.std.proofs.Common.{◌≡◌, ℕ, ◌+◌, ◌*◌, ◌<◌, ◌≤◌, Bool, true, false, eqb, ltb, ◌&&◌, cond, List, [], ◌∷◌, ◌++◌, length, map, Option, Some, None, refl, sym, ap, ◌∙◌, subst, length-append, arith}
+use Rattle.std.proofs.Common.{◌≡◌, ℕ, ◌+◌, ◌*◌, ◌<◌, ◌≤◌, Bool, true, false, eqb, ◌&&◌, cond, List, [], ◌∷◌, ◌++◌, length, map, Option, Some, None, refl, sym, ap, ◌∙◌, subst, length-append, arith}
 use Rattle.std.specs.Prelude.{slice_get, is_some}
 use Rattle.std.specs.List.{list_all}
 use Rattle.std.specs.Option.{ForSome}
@@ -136,6 +136,7 @@ pub data Operands : Action → List ℕ → Type 0 where
   of_calloc : (count size : ℕ) → Operands calloc (count ∷ size ∷ [])
   of_realloc : (word size : ℕ) → Operands realloc (word ∷ size ∷ [])
 
+-- an allocation in a call with so many registers: its operands are below them, and so is its result; it has no places
 pub record IsSized (temps : ℕ) (s : Step) : Type 0 where
   pub operands : Operands s.action s.temps
   pub below : are_below temps s.temps ≡ true

@@ -1,22 +1,20 @@
-use Rattle.std.proofs.Common.{◌≡◌, ◌≤◌, true, false, None, ◌∙◌, ap, sym, subst, refl, arith}
+use Rattle.std.proofs.Common.{◌≡◌, ◌≤◌, true, None, ◌∙◌, ap, sym, subst, refl, arith}
 use Rattle.arena_meaning.specs.Changes.{is_live_start, without_id}
 use Rattle.handle_words.specs.Handle.{id_of}
-use Rattle.flat_meaning.specs.Accesses.{Choice, got, wait, reallocated}
+use Rattle.flat_meaning.specs.Accesses.{Choice, wait, reallocated}
 use Rattle.flat_machine.specs.Choices.{malloc_choice}
 use Rattle.flat_machine.specs.Shares.{Shared}
 use Rattle.sub_heaps.specs.SubHeaps.{SubHeaps}
 use Rattle.arena_meaning.specs.Arena.{IsLiveStart, Storage}
 use Rattle.arena_meaning.specs.declared.answers.Alloced.TheVariants as answers
-use Rattle.flat_meaning.specs.Memory.{with_storage}
 use Rattle.flat_threads.specs.declared.wait.Wait.TheVariants.{Room}
 use Rattle.flat_machine.specs.declared.done.Done.TheVariants as dones
-use Rattle.flat_machine.specs.declared.turned.Turned.TheVariants as code
 use Rattle.flat_machine.specs.Turns.{malloc_turned}
 use Rattle.flat_machine.specs.inner.Dones.{Does, Went}
 use Rattle.flat_machine.specs.contracts.shared.Shared.{the_view}
 use Rattle.flat_machine.proofs.Doing.{does_same, with_arena}
 use Rattle.flat_meaning.proofs.LiveStarts.{live_starts_are_told}
-use Rattle.flat_machine.proofs.Mallocs.{chosen, does_alloc, does_wait, ended, gets_now, live_renewable, live_stays, none_chosen, none_copied, not_zero, sized_is, waits_now, went_alloc}
+use Rattle.flat_machine.proofs.Mallocs.{does_alloc, does_wait, ended, gets_now, live_renewable, live_stays, none_chosen, none_copied, not_zero, sized_is, waits_now, went_alloc}
 use Rattle.flat_machine.proofs.shared.Shared.realloc.Goals as goal
 
 pub returns-in-Got-clause-does : goal.returns-in-Got-clause-does

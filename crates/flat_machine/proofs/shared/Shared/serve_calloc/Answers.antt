@@ -1,12 +1,9 @@
-use Rattle.std.proofs.Common.{◌≡◌, ◌*◌, ℕ, Some, ◌∙◌, inl, inr, ap, sym, subst, refl}
+use Rattle.std.proofs.Common.{◌≡◌, ◌*◌, ℕ, Some, ◌∙◌, inl, inr, sym, subst, refl}
 use Rattle.arena_meaning.specs.Changes.{after_alloc_zero}
 use Rattle.flat_meaning.specs.Accesses.{Choice, null, zeroed}
 use Rattle.flat_machine.specs.Choices.{served_choice}
-use Rattle.sub_heaps.specs.SubHeaps.{SubHeaps}
-use Rattle.arena_meaning.specs.Arena.{Storage}
 use Rattle.arena_meaning.specs.declared.answers.Alloced.TheVariants as answers
 use Rattle.flat_meaning.specs.Memory.{with_storage}
-use Rattle.flat_threads.specs.declared.wait.Wait.TheVariants.{Room}
 use Rattle.flat_machine.specs.declared.done.Done.TheVariants as dones
 use Rattle.flat_machine.specs.declared.turned.Turned.TheVariants as code
 use Rattle.flat_machine.specs.Turns.{malloc_turned}

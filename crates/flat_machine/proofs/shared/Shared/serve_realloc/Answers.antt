@@ -1,20 +1,13 @@
-use Rattle.std.proofs.Common.{◌≡◌, true, false, Some, ◌∙◌, ap, sym, subst, refl}
+use Rattle.std.proofs.Common.{◌∙◌, ap, sym, subst}
 use Rattle.std.specs.Prelude.{is_some}
-use Rattle.arena_meaning.specs.Changes.{is_live_start}
 use Rattle.flat_meaning.specs.Accesses.{Choice, null, reallocated}
 use Rattle.flat_machine.specs.Choices.{served_choice}
 use Rattle.flat_machine.specs.Shares.{Shared}
-use Rattle.sub_heaps.specs.SubHeaps.{SubHeaps}
-use Rattle.arena_meaning.specs.Arena.{Storage}
 use Rattle.arena_meaning.specs.declared.answers.Alloced.TheVariants as answers
-use Rattle.flat_meaning.specs.Memory.{with_storage}
-use Rattle.flat_threads.specs.declared.wait.Wait.TheVariants.{Room}
-use Rattle.flat_machine.specs.declared.done.Done.TheVariants as dones
-use Rattle.flat_machine.specs.declared.turned.Turned.TheVariants as code
 use Rattle.flat_machine.specs.Turns.{malloc_turned}
 use Rattle.flat_machine.specs.inner.Dones.{Does, Went}
 use Rattle.flat_machine.specs.contracts.shared.Shared.{the_view}
-use Rattle.flat_machine.proofs.Doing.{does_same, with_arena}
+use Rattle.flat_machine.proofs.Doing.{does_same}
 use Rattle.flat_machine.specs.inner.Dones.{with_memory}
 use Rattle.flat_machine.proofs.Mallocs.{chosen_is, does_nothing, does_serve, gets_later, left_later, none_chosen, none_copied, not_zero, null_later, parts_later, went_null, went_serve}
 use Rattle.flat_machine.proofs.Nulls.{some_words}
