@@ -51,7 +51,7 @@ pub record Told : Type 0 where
   pub thread : ℕ
   pub turned : Turned
 
--- but for Looks, and for steps that neither allocate nor end the run
+-- but for Looks, threads that are made, and steps that neither allocate nor end the run
 abbrev pub told_of : (thread : ℕ) → Turned → List Told
 told_of thread looked = []
 told_of thread stepped = []
@@ -104,11 +104,11 @@ function params all = record { params = params; temps = 8; slots = 2; objects = 
 abbrev pub program : List LinearFunc → LinearCode
 program funcs = record { globals = two_globals; literals = []; funcs = funcs; main = 0 }
 
--- a thread is started with what register 0 has; global 0 gets its number
+-- a thread is started with what a register has; its number is stored behind register 6
 abbrev pub starts : (function argument : ℕ) → Act
 starts f argument = does (start f) (behind 0 6 1 ∷ []) (Some 5) (argument ∷ [])
 
--- through slot 1
+-- register 6 is the address of global 0, and slot 1 has it
 abbrev pub before_starts : List Act
 before_starts = set 6 (global 0) ∷ look 1 6 ∷ []
 
@@ -128,7 +128,7 @@ frees temp = does free [] None (temp ∷ [])
 abbrev pub shows : (temp : ℕ) → List Act
 shows temp = look 0 temp ∷ load_int 3 temp ∷ print_int 3 ∷ []
 
--- a thread goes on and does so many things
+-- a thread goes on, and does what it stands before then
 abbrev pub goes_and_acts : (thread : ℕ) → List Call
 goes_and_acts thread = goes thread ∷ acts thread ∷ []
 
@@ -184,7 +184,7 @@ at_once_calls =
 
 -- ---- what they come to
 
--- so a thread's step went
+-- a thread's step went so
 abbrev pub told : (thread : ℕ) → Turned → Told
 told thread turned = record { thread = thread; turned = turned }
 
