@@ -1,9 +1,12 @@
 -- Code that keeps every turn of a well formed program takes some answer in each turn.
-use Rattle.std.proofs.Common.{◌≡◌, ℕ, zero, suc, List, [], ◌∷◌, Option, Some, None, sym, subst}
+use Rattle.std.proofs.Common.{◌≡◌, ℕ, zero, suc, List, [], ◌∷◌, Option, Some, None, Ok, Err, sym, subst}
+use Rattle.std.specs.Prelude.{Result}
+use Rattle.ak_words.specs.declared.rule.Rule.{Rule}
 use Rattle.block_store.specs.declared.values.Answer.{Answer}
 use Rattle.block_store.specs.declared.values.Answer.TheVariants as answers
 use Rattle.block_store.specs.Actions as actions
-use Rattle.block_store.specs.Actions.{SharedAction}
+use Rattle.block_store.specs.Actions.{SharedAction, World}
+use Rattle.block_store.specs.Blocks.{Blocks, renewed}
 use Rattle.block_store.specs.Runs as runs
 use Rattle.block_store.specs.Runs.{State, Pick, own_at}
 use Rattle.c_tree.specs.Typed.{Typed}
@@ -12,31 +15,39 @@ use Rattle.c_meaning.specs.Control.{Control}
 use Rattle.c_meaning.specs.Turns.{turn}
 use Rattle.c_meaning.specs.Meaning.{program, start, run, shown}
 use Rattle.c_meaning.specs.Kinds.{IsTypedControl}
-use Rattle.c_meaning.specs.Sound.{Takes, End, breaking, quiet, acting, FitsEnd, IsUnfit, TurnsGoOn, AreTypedThreads, RunsKeepTypes}
+use Rattle.c_meaning.specs.Sound.{TakesRenewed, Takes, End, breaking, quiet, acting, FitsEnd, IsUnfit, TurnsGoOn, AreTypedThreads, RunsKeepTypes}
 use Rattle.alaska_run.proofs.SameTurns.{both_reach, threads_run, turn_unfit}
 
 -- ---- an answer that fits
 
+-- a realloc takes that there is none, unless it breaks a rule
+renewed_takes : (size : ℕ) (r : Result Blocks Rule) → (answer : Answer) × TakesRenewed r size answer
+renewed_takes size (Ok blocks) = (answers.None, tt)
+renewed_takes size (Err rule) = (answers.Plain, tt)
+
 -- an action that asks for something takes that there is none, and each other one takes Plain
-action_takes : (a : SharedAction) → (answer : Answer) × Takes a answer
-action_takes (actions.load at how) = (answers.Plain, tt)
-action_takes (actions.store at value) = (answers.Plain, tt)
-action_takes (actions.copy to from n align same) = (answers.Plain, tt)
-action_takes (actions.allocate size first) = (answers.None, tt)
-action_takes (actions.free at) = (answers.Plain, tt)
-action_takes (actions.print parts) = (answers.Plain, tt)
-action_takes (actions.lock at) = (answers.Plain, tt)
-action_takes (actions.unlock at) = (answers.Plain, tt)
-action_takes (actions.destroy at) = (answers.Plain, tt)
-action_takes (actions.start to function argument) = (answers.None, tt)
-action_takes (actions.join thread to) = (answers.Plain, tt)
-action_takes (actions.finish value) = (answers.Plain, tt)
+action_takes : (w : World) (a : SharedAction) → (answer : Answer) × Takes w a answer
+action_takes w (actions.load at how) = (answers.Plain, tt)
+action_takes w (actions.store at value) = (answers.Plain, tt)
+action_takes w (actions.copy to from n align same) = (answers.Plain, tt)
+action_takes w (actions.allocate size first) = (answers.None, tt)
+action_takes w (actions.reallocate at size) = renewed_takes size (renewed w.blocks at size)
+action_takes w (actions.change at ty how by) = (answers.Plain, tt)
+action_takes w (actions.compare at want ty new) = (answers.Plain, tt)
+action_takes w (actions.free at) = (answers.Plain, tt)
+action_takes w (actions.print parts) = (answers.Plain, tt)
+action_takes w (actions.lock at) = (answers.Plain, tt)
+action_takes w (actions.unlock at) = (answers.Plain, tt)
+action_takes w (actions.destroy at) = (answers.Plain, tt)
+action_takes w (actions.start to function argument) = (answers.None, tt)
+action_takes w (actions.join thread to) = (answers.Plain, tt)
+action_takes w (actions.finish value) = (answers.Plain, tt)
 
 -- and so does each end of a turn
 some_fits : (e : End) → (answer : Answer) × FitsEnd e answer
 some_fits (breaking rule place) = (answers.Plain, tt)
 some_fits (quiet own w) = (answers.Plain, tt)
-some_fits (acting place action w) = action_takes action
+some_fits (acting place action w) = action_takes w action
 
 -- ---- turns of the program
 

@@ -2,6 +2,8 @@
 use Rattle.std.proofs.Common.{◌≡◌, ◌≤◌, ◌+◌, ◌==◌, ℕ, Bool, true, false, List, [], ◌∷◌, ◌++◌, length, replicate, Option, Some, None, Ok, Err, ℤ, refl, ap, ◌∙◌, arith}
 use Rattle.std.specs.Prelude.{Result, pos, if◌then◌else◌, ◌^◌, nat_lt, slice_get}
 use Rattle.std.proofs.lemmas.List.{length-set, length_push}
+use Rattle.std.specs.Ordering.{int_eq}
+use Rattle.ak_words.specs.declared.int_type.IntType.{IntType}
 use Rattle.ak_words.specs.declared.rule.Rule.{Rule}
 use Rattle.ak_words.specs.declared.rule.Rule.TheVariants.{C10, C11, C12, C13, C14}
 use Rattle.ak_words.specs.IntType.{int}
@@ -9,6 +11,8 @@ use Rattle.ak_words.specs.Num.{num}
 use Rattle.block_store.specs.declared.values.Answer.{Answer}
 use Rattle.block_store.specs.declared.values.Answer.TheVariants as answers
 use Rattle.block_store.specs.declared.values.Cell.{Cell}
+use Rattle.block_store.specs.declared.values.Cell.TheVariants.{Unknown}
+use Rattle.block_store.specs.declared.values.Change.{Change}
 use Rattle.block_store.specs.declared.values.Ptr.{Ptr}
 use Rattle.block_store.specs.declared.values.Ptr.TheVariants.{Null, To}
 use Rattle.block_store.specs.declared.values.Value.{Value}
@@ -16,7 +20,8 @@ use Rattle.block_store.specs.declared.values.Value.TheVariants as values
 use Rattle.block_store.specs.declared.values.BlockKind.TheVariants as kinds
 use Rattle.block_store.specs.Actions as actions
 use Rattle.block_store.specs.Actions.{World, Done, Outcomes, SharedAction, Stage, ThreadRecord, with_blocks}
-use Rattle.block_store.specs.Blocks.{Blocks, Range, live, made, is_freeable, is_literal, spot_at, range_at, cells_at, with_cells, with_cells_at, written_at, stored, clash, copied_to, copied_between, copied, freed, ended, loaded}
+use Rattle.block_store.specs.Atomics.{Number, writable_at, number_in, with_number, becomes, change_of, compare_numbers, compare_places}
+use Rattle.block_store.specs.Blocks.{Blocks, Range, live, made, is_freeable, is_literal, spot_at, range_at, cells_at, with_cells, with_cells_at, written_at, stored, clash, copied_to, copied_between, copied, freed, ended, loaded, renewed, resized, cells_in, made_with}
 use Rattle.block_store.specs.Cells.{size_of, access_of, cells_of}
 use Rattle.block_store.specs.Mutexes.{Mutex, mutex_at, renumbered, lock_by, locked, unlock_by, unlocked, destroyed}
 use Rattle.c_meaning.specs.Control as control
@@ -121,6 +126,49 @@ small_allocated w size first =
     let one : length (made w.blocks size kinds.Heap first) ≤ length w.blocks + 1 = omega (arith, length_push w.blocks (Some (record { kind = kinds.Heap; cells = replicate size first }))) in
     small_if (length w.blocks) (nat_lt size (2 ^ 32)) _ actions.unfit one tt
 
+-- one block more
+abbrev Grows : (b : ℕ) → Result Blocks Rule → Type 0
+Grows b (Ok blocks) = length blocks ≡ b + 1
+Grows b (Err rule) = Unit {0}
+
+grows_if : (b : ℕ) (c : Bool) (x y : Result Blocks Rule) → Grows b x → Grows b y → Grows b (if c then x else y)
+grows_if b true x y p q = p
+grows_if b false x y p q = q
+
+renewed_grows : (blocks : Blocks) (at : Ptr) (size : ℕ) → Grows (length blocks) (renewed blocks at size)
+renewed_grows blocks Null size = length_push blocks (Some (record { kind = kinds.Heap; cells = replicate size Unknown }))
+renewed_grows blocks (To name offset) size =
+    let cells = resized size (cells_in (live blocks name)) in
+    grows_if (length blocks) (is_freeable offset (live blocks name)) (Ok (ended (made_with blocks cells) name)) (Err C10)
+    (length-set (made_with blocks cells) name None ∙ length_push blocks (Some (record { kind = kinds.Heap; cells = cells }))) tt
+
+small_renews : (w : World) (size : ℕ) (answer : Answer) (r : Result Blocks Rule) → Grows (length w.blocks) r → Small (length w.blocks) (actions.under answer (actions.renews w size r))
+small_renews w size answers.Plain (Err rule) k = tt
+small_renews w size answers.Got (Err rule) k = tt
+small_renews w size answers.None (Err rule) k = tt
+small_renews w size answers.Plain (Ok blocks) k = tt
+small_renews w size answers.Got (Ok blocks) k = small_if (length w.blocks) (nat_lt size (2 ^ 32)) _ actions.unfit (omega (arith, k)) tt
+small_renews w size answers.None (Ok blocks) k = omega arith
+
+small_changes_number : (w : World) (ty : IntType) (how : Change) (by : ℤ) (r : Result Number Rule) → Small (length w.blocks) (actions.changes_number w (change_of w.blocks ty how by r))
+small_changes_number w ty how by (Err rule) = tt
+small_changes_number w ty how by (Ok n) = omega (arith, cells_kept w.blocks (cells_of (values.Num (becomes how ty n.value.value by))) n.spot)
+
+small_compare_of : (w : World) (ty : IntType) (new : ℤ) (at want : Number) (equal : Bool)
+    → Small (length w.blocks) (actions.compares w (Ok (if equal then record { blocks = with_number w.blocks at.spot (num ty new); equal = true } else record { blocks = with_number w.blocks want.spot at.value; equal = false })))
+small_compare_of w ty new at want true = omega (arith, cells_kept w.blocks (cells_of (values.Num (num ty new))) at.spot)
+small_compare_of w ty new at want false = omega (arith, cells_kept w.blocks (cells_of (values.Num at.value)) want.spot)
+
+small_compare_numbers : (w : World) (ty : IntType) (new : ℤ) (at want : Result Number Rule) → Small (length w.blocks) (actions.compares w (compare_numbers w.blocks ty new at want))
+small_compare_numbers w ty new (Err rule) want = tt
+small_compare_numbers w ty new (Ok at) (Err rule) = tt
+small_compare_numbers w ty new (Ok at) (Ok want) = small_compare_of w ty new at want (int_eq at.value.value want.value.value)
+
+small_compares : (w : World) (ty : IntType) (new : ℤ) (at want : Result Range Rule) → Small (length w.blocks) (actions.compares w (compare_places w.blocks ty new at want))
+small_compares w ty new (Err rule) want = tt
+small_compares w ty new (Ok at) (Err rule) = tt
+small_compares w ty new (Ok at) (Ok want) = small_compare_numbers w ty new (number_in ty (Ok at)) (number_in ty (Ok want))
+
 small_starts : (w : World) (function : ℕ) (argument : Ptr) (r : Result Blocks Rule) → Keeps (length w.blocks) r → Small (length w.blocks) (actions.starts w function argument r)
 small_starts w function argument (Ok blocks) k = omega (arith, k)
 small_starts w function argument (Err rule) k = tt
@@ -164,6 +212,11 @@ small_outcome w thread answer (actions.copy to from n align same) =
 small_outcome w thread answer (actions.allocate size first) =
     let same : length w.blocks ≤ length w.blocks + 1 = omega arith in
     small_under (length w.blocks) answer (actions.outcomes w thread (actions.allocate size first)) tt (small_allocated w size first) same
+small_outcome w thread answer (actions.reallocate at size) = small_renews w size answer (renewed w.blocks at size) (renewed_grows w.blocks at size)
+small_outcome w thread answer (actions.change at ty how by) =
+    small_under (length w.blocks) answer (actions.outcomes w thread (actions.change at ty how by)) (small_changes_number w ty how by (number_in ty (writable_at w.blocks ty at))) tt tt
+small_outcome w thread answer (actions.compare at want ty new) =
+    small_under (length w.blocks) answer (actions.outcomes w thread (actions.compare at want ty new)) (small_compares w ty new (writable_at w.blocks ty at) (writable_at w.blocks ty want)) tt tt
 small_outcome w thread answer (actions.free at) = small_under (length w.blocks) answer (actions.outcomes w thread (actions.free at)) (small_changes w (freed w.blocks at) (freed_keeps w.blocks at)) tt tt
 small_outcome w thread answer (actions.print parts) = small_under (length w.blocks) answer (actions.outcomes w thread (actions.print parts)) (small_prints w (actions.all_bytes w.blocks parts)) tt tt
 small_outcome w thread answer (actions.lock at) =
@@ -190,7 +243,7 @@ small_telling b reached (actions.broke rule) small = tt
 -- any action
 pub small_acted : (w : World) (thread : ℕ) (answer : Answer) (action : SharedAction) → Small (length w.blocks) (actions.acted w thread answer action)
 small_acted w thread answer action =
-    small_telling (length w.blocks) (actions.reads_of w action ++ actions.writes_of answer action) (actions.under answer (actions.outcomes w thread action)) (small_outcome w thread answer action)
+    small_telling (length w.blocks) (actions.reads_of w action ++ actions.writes_of w answer action) (actions.under answer (actions.outcomes w thread action)) (small_outcome w thread answer action)
 
 -- ---- locals that end
 

@@ -1,17 +1,23 @@
-ghost use Rattle.std.specs.Prelude.{◌≡◌, ◌≢◌, ◌<◌, ◌≤◌, ◌+◌, ◌-◌, ◌^◌, [], ◌∷◌, ◌++◌, length, take, set, false, Ok, Err, Some, IfOk, OnOk, OnErr, MatchResult, IsSome, IsSomeAnd, IfSome};
+ghost use Rattle.std.specs.Prelude.{◌≡◌, ◌≢◌, ◌↔◌, ◌<◌, ◌≤◌, ◌+◌, ◌-◌, ◌^◌, [], ◌∷◌, ◌++◌, length, take, set, false, Ok, Err, Some, IfOk, OnOk, OnErr, MatchResult, IsSome, IsSomeAnd, IfSome};
 ghost use Rattle.block_store.specs.inner.Copying.{is_read_late, overwritten, held};
 ghost use Rattle.std.specs.Option.{option_copied};
-ghost use Rattle.block_store.specs.Cells.{size_of, access_of};
-ghost use Rattle.block_store.specs.Blocks.{is_freeable, is_heap, is_literal, live, range_at, live_size, made, made_literal, ended, freed, loaded, stored, copied, answer_of, store_after};
+ghost use Rattle.ak_words.specs.declared.rule.Rule.{Rule};
+ghost use Rattle.block_store.specs.Cells.{size_of, access_of, cells_of, read_number};
+ghost use Rattle.block_store.specs.Atomics.{writable_at, number_read, changed, old_number, store_after_change, compared, found_equal, store_after_compare};
+ghost use Rattle.block_store.specs.declared.fault.StoreFault.TheVariants.{Broke};
+ghost use Rattle.block_store.specs.declared.values.Access.TheVariants as accesses;
+ghost use Rattle.block_store.specs.declared.values.Value.TheVariants as values;
+ghost use Rattle.block_store.specs.Blocks.{is_freeable, is_heap, is_literal, live, range_at, live_size, made, made_literal, ended, freed, renewed, resized, cells_in, loaded, stored, copied, answer_of, store_after};
 ghost use Rattle.block_store.specs.Mutexes.{mutex_at, locked, unlocked, destroyed, lock_end, store_after_lock};
 ghost use Rattle.block_store.specs.Texts.{text_len, text_at};
 ghost use Rattle.block_store.specs.Actions.{joined_bytes};
 ghost use Rattle.block_store.specs.Undo.{appended};
 
 use crate::cells::{byte_cells, cells_of, copy_inside, literal_cells, read, read_number, text_len};
+use crate::fault::StoreFault;
 use crate::texts::append_text;
-use crate::values::{Access, BlockKind, Cell, LockEnd, Ptr, Value};
-use ak_words::{NoMemory, Rule};
+use crate::values::{Access, BlockKind, Cell, Change, LockEnd, Ptr, Value};
+use ak_words::{IntType, NoMemory, Num, Rule};
 use std::alloc::Global;
 use std::marker::Model;
 
@@ -137,6 +143,17 @@ impl<'a> Spot<'a> {
         self.block.cells(self.offset as usize, size as usize)
     }
 
+    // The number of a type that these bytes are.
+    fn number(self, ty: IntType) -> Result<Num, Rule>
+        requires { self.offset + size_of (accesses.Number ty) ≤ length self.block.now.cells }
+        ensures { MatchResult result (λ n. number_read ty (record { name = self.entry.name; block = self.entry.block.now; offset = self.entry.offset }) (read_number (cells_at (size_of (accesses.Number ty)) (record { name = self.entry.name; block = self.entry.block.now; offset = self.entry.offset }))) ≡ Ok (record { spot = record { name = self.entry.name; block = self.entry.block.now; offset = self.entry.offset }; value = n })) (λ rule. read_number (cells_at (size_of (accesses.Number ty)) (record { name = self.entry.name; block = self.entry.block.now; offset = self.entry.offset })) ≡ Err rule) }
+    {
+        match read_number(self.cells(Access::Number(ty).size())) {
+            Ok(bits) => Ok(Num::from_bits(ty, bits)),
+            Err(rule) => Err(rule),
+        }
+    }
+
     // Whether `n` cells may not be copied here from there, since the ranges overlap.
     fn clashes(self, from: Spot<'_>, n: u32, same: bool) -> bool
         ensures { result ≡ clash n same (record { name = self.entry.name; block = self.entry.block.now; offset = self.entry.offset }) (record { name = from.entry.name; block = from.entry.block.now; offset = from.entry.offset }) }
@@ -223,7 +240,7 @@ impl Store {
     }
 
     /// Ends the block that starts at `at`: does nothing at null, and breaks C10 where `at` is neither null nor the start
-    /// of a live block of malloc (C11 7.22.3.3).
+    /// of a live block of malloc, calloc or realloc (C11 7.22.3.3).
     pub fn free(&mut self, at: Ptr) -> Result<(), Rule>
         ensures answer { result ≡ answer_of (freed self.old at) }
         ensures after { self.new ≡ store_after (freed self.old at) self.old }
@@ -237,6 +254,96 @@ impl Store {
         } else {
             Err(Rule::C10)
         }
+    }
+
+    /// Whether `free` may be given `at`, which changes nothing, or C10 (C11 7.22.3.3, 7.22.3.5).
+    pub fn may_end(&self, at: Ptr) -> Result<(), Rule>
+        ensures { result ≡ answer_of (freed self.now at) }
+    {
+        match at {
+            Ptr::Null => Ok(()),
+            Ptr::To { block, offset: 0 } if self.is_heap(block) => Ok(()),
+            Ptr::To { .. } => Err(Rule::C10),
+        }
+    }
+
+    /// Makes a block of `size` cells in place of the one that starts at `at`, and gives its name, as `make` does: its
+    /// first cells are the old block's, as far as both reach, the rest was never written, and the old block ends. At null
+    /// it is `make`. It breaks C10 exactly where `free` would, and a refusal changes nothing (C11 7.22.3.5).
+    pub fn renew(&mut self, at: Ptr, size: u32) -> Result<u64, StoreFault>
+        requires { length self.old < 2 ^ 64 - 1 }
+        ensures name { IfOk result (λ name. name ≡ length self.old) }
+        ensures renewed { OnOk result (renewed self.old at size ≡ Ok self.new) }
+        ensures broke { (rule : Rule) → (result ≡ Err (Broke rule)) ↔ (renewed self.old at size ≡ Err rule) }
+        ensures unchanged { OnErr result (self.new ≡ self.old) }
+    {
+        let Ptr::To { block: old, offset } = at else {
+            return Ok(self.make(size, BlockKind::Heap, Cell::Unknown)?);
+        };
+        if offset != 0 || !self.is_heap(old) {
+            return Err(StoreFault::Broke(Rule::C10));
+        }
+        let cells = self.resized(old, size)?;
+        let name = self.add(Block {
+            cells,
+            kind: BlockKind::Heap,
+        })?;
+        self.end(old);
+        Ok(name)
+    }
+
+    /// Changes the number of type `ty` at `at`, and gives the old one, or names the first rule that this breaks and
+    /// changes nothing: C5 and C6 as for a load, C12 in a string literal, then C4 and C16 of its cells. The new number
+    /// is the sum or the other number, modulo the range of the type (C11 7.17.7.3, 7.17.7.5).
+    pub fn change(&mut self, at: Ptr, ty: IntType, how: Change, by: Num) -> Result<Num, Rule>
+        ensures answer { result ≡ old_number (changed self.old at ty how by.value) }
+        ensures after { self.new ≡ store_after_change (changed self.old at ty how by.value) self.old }
+    {
+        let spot = match self.writable_at(at, ty) {
+            Ok(spot) => spot,
+            Err(rule) => return Err(rule),
+        };
+        let old = match spot.number(ty) {
+            Ok(old) => old,
+            Err(rule) => return Err(rule),
+        };
+        let place = spot.place();
+        self.write_number(place, how.changed(ty, old, by));
+        Ok(old)
+    }
+
+    /// Whether the number of type `ty` at `at` is the one at `want`, or the first rule that finding it out breaks, which
+    /// changes nothing: C5, C6 and C12 of `at`, then of `want`, then C4 and C16 of the cells at `at`, then of those at
+    /// `want`. Where they are equal the number at `at` becomes `new`, modulo the range of the type, and else the number
+    /// at `want` becomes that at `at` (C11 7.17.7.4).
+    pub fn compare(&mut self, at: Ptr, want: Ptr, ty: IntType, new: Num) -> Result<bool, Rule>
+        ensures answer { result ≡ found_equal (compared self.old at want ty new.value) }
+        ensures after { self.new ≡ store_after_compare (compared self.old at want ty new.value) self.old }
+    {
+        let target = match self.writable_at(at, ty) {
+            Ok(spot) => spot,
+            Err(rule) => return Err(rule),
+        };
+        let wanted = match self.writable_at(want, ty) {
+            Ok(spot) => spot,
+            Err(rule) => return Err(rule),
+        };
+        let found = match target.number(ty) {
+            Ok(found) => found,
+            Err(rule) => return Err(rule),
+        };
+        let expected = match wanted.number(ty) {
+            Ok(expected) => expected,
+            Err(rule) => return Err(rule),
+        };
+        let (target, wanted) = (target.place(), wanted.place());
+        let equal = found.value == expected.value;
+        if equal {
+            self.write_number(target, Num::wrapping(ty, new.value));
+        } else {
+            self.write_number(wanted, found);
+        }
+        Ok(equal)
     }
 
     /// The size of a live block in bytes, and none where no live block has this name.
@@ -481,6 +588,49 @@ impl Store {
                 offset,
             })
         }
+    }
+
+    // The bytes of a number that a pointer points to, where they may be written.
+    fn writable_at(&self, at: Ptr, ty: IntType) -> Result<Spot<'_>, Rule>
+        ensures spot { MatchResult result (λ s. writable_at self.now ty at ≡ Ok (record { name = s.name; block = s.block.now; offset = s.offset })) (λ rule. writable_at self.now ty at ≡ Err rule) }
+        ensures live { IfOk result (λ s. live self.now s.name ≡ Some s.block.now) }
+        ensures within { IfOk result (λ s. s.offset + size_of (accesses.Number ty) ≤ length s.block.now.cells) }
+    {
+        let size = Access::Number(ty).size();
+        let spot = match self.range_at(at, size, size) {
+            Ok(spot) => spot,
+            Err(rule) => return Err(rule),
+        };
+        if spot.block.is_literal() {
+            Err(Rule::C12)
+        } else {
+            Ok(spot)
+        }
+    }
+
+    // So many cells, of which the first are those of the block of a name, if it lives, and the rest was never written.
+    #[tactic(auto, using(crate::proofs::Resized::kept_resized))]
+    fn resized(&self, name: u64, size: u32) -> Result<Vec<Cell>, NoMemory>
+        ensures { IfOk result (λ cells. cells.items ≡ resized size (cells_in (live self.now name))) }
+    {
+        let mut cells = match self.live(name) {
+            Some(block) => {
+                let kept = block.size().min(size);
+                block.cells(0, kept as usize).to_vec(self.alloc)?
+            }
+            None => Vec::new(self.alloc),
+        };
+        cells.resize(size as usize, Cell::Unknown)?;
+        Ok(cells)
+    }
+
+    // Writes a number at a place, where its block has its cells.
+    fn write_number(&mut self, place: Place, number: Num)
+        requires within { IsSomeAnd (live self.old place.name) (λ b. place.offset + size_of (accesses.Number number.ty) ≤ length b.cells) }
+        ensures { self.new ≡ overwritten self.old place.name place.offset (cells_of (values.Num number)) }
+    {
+        let size = Access::Number(number.ty).size();
+        self.write(place, &cells_of(Value::Num(number))[..size as usize]);
     }
 
     // The mutex that a pointer points to.

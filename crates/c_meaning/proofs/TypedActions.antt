@@ -46,7 +46,7 @@ under_done t P answers.None o p g n = n
 pub acted_done : (t : tree.Typed) (P : Option Value → Type 0) (w : World) (thread : ℕ) (answer : Answer) (action : SharedAction)
     → DoneWith t P (outcomes w thread action).plain → DoneWith t P (outcomes w thread action).got → DoneWith t P (outcomes w thread action).none → DoneWith t P (acted w thread answer action)
 acted_done t P w thread answer action p g n =
-    telling_done t P (actions.reads_of w action ++ actions.writes_of answer action) (under answer (outcomes w thread action)) (under_done t P answer (outcomes w thread action) p g n)
+    telling_done t P (actions.reads_of w action ++ actions.writes_of w answer action) (under answer (outcomes w thread action)) (under_done t P answer (outcomes w thread action) p g n)
 
 -- no value
 abbrev pub IsNoValue : Option Value → Type 0

@@ -12,13 +12,14 @@ use Rattle.block_store.specs.declared.values.Value.{Value}
 use Rattle.block_store.specs.declared.values.Value.TheVariants as values
 use Rattle.block_store.specs.Actions as actions
 use Rattle.block_store.specs.Actions.{World, ThreadRecord, Stage, SharedAction, Done, Reached, acted, under, outcomes, telling}
-use Rattle.block_store.specs.Blocks.{Blocks, made, loaded, stored, copied, freed}
+use Rattle.block_store.specs.Atomics.{Changed, changed, Compared, compared}
+use Rattle.block_store.specs.Blocks.{Blocks, made, loaded, stored, copied, freed, renewed}
 use Rattle.block_store.specs.Mutexes.{locked, unlocked, destroyed}
 use Rattle.block_store.specs.Runs as runs
 use Rattle.block_store.specs.Runs.{Turn}
 use Rattle.c_meaning.specs.Control.{Control}
 use Rattle.c_meaning.specs.Turns.{plainly}
-use Rattle.c_meaning.specs.Sound.{Takes, End, breaking, quiet, acting, FitsEnd, ComesOutAs, EndsAs, IsUnfit}
+use Rattle.c_meaning.specs.Sound.{TakesRenewed, Takes, End, breaking, quiet, acting, FitsEnd, ComesOutAs, EndsAs, IsUnfit}
 
 -- ---- actions
 
@@ -46,6 +47,14 @@ passes_fits w (Err rule) h = h
 prints_fits : (w : World) (r : Result (List ℕ) Rule) → Refuses (actions.prints w r) → ⊥
 prints_fits w (Ok all) h = h
 prints_fits w (Err rule) h = h
+
+changes_number_fits : (w : World) (r : Result Changed Rule) → Refuses (actions.changes_number w r) → ⊥
+changes_number_fits w (Ok c) h = h
+changes_number_fits w (Err rule) h = h
+
+compares_fits : (w : World) (r : Result Compared Rule) → Refuses (actions.compares w r) → ⊥
+compares_fits w (Ok c) h = h
+compares_fits w (Err rule) h = h
 
 starts_fits : (w : World) (function : ℕ) (argument : Ptr) (r : Result Blocks Rule) → Refuses (actions.starts w function argument r) → ⊥
 starts_fits w function argument (Ok blocks) h = h
@@ -94,7 +103,15 @@ allocated_taken : (size : ℕ) (d : Done) (b : Bool) → (Refuses d → ⊥) →
 allocated_taken size d true n e = (λ m. ltb-true size (2 ^ 32) e, λ l. n)
 allocated_taken size d false n e = (λ m. absurd (m tt), λ l h. not_below size (2 ^ 32) (ltb-false size (2 ^ 32) e) l)
 
-under_takes : (w : World) (thread : ℕ) (action : SharedAction) (answer : Answer) → Exactly (under answer (outcomes w thread action)) (Takes action answer)
+renewed_takes : (w : World) (size : ℕ) (r : Result Blocks Rule) (answer : Answer) → Exactly (under answer (actions.renews w size r)) (TakesRenewed r size answer)
+renewed_takes w size (Err rule) answers.Plain = taken (actions.broke rule) (λ h. h)
+renewed_takes w size (Err rule) answers.Got = taken (actions.broke rule) (λ h. h)
+renewed_takes w size (Err rule) answers.None = taken (actions.broke rule) (λ h. h)
+renewed_takes w size (Ok blocks) answers.Plain = not_taken
+renewed_takes w size (Ok blocks) answers.Got = allocated_taken size (actions.went (Some (values.Pointer (To (length w.blocks) 0))) (actions.with_blocks w blocks)) (nat_lt size (2 ^ 32)) (λ h. h) refl
+renewed_takes w size (Ok blocks) answers.None = taken (actions.refused_allocation w) (λ h. h)
+
+under_takes : (w : World) (thread : ℕ) (action : SharedAction) (answer : Answer) → Exactly (under answer (outcomes w thread action)) (Takes w action answer)
 under_takes w thread (actions.load at how) answers.Plain = taken (actions.gives w (loaded w.blocks at how)) (gives_fits w (loaded w.blocks at how))
 under_takes w thread (actions.load at how) answers.Got = not_taken
 under_takes w thread (actions.load at how) answers.None = not_taken
@@ -107,6 +124,13 @@ under_takes w thread (actions.copy to from n align same) answers.None = not_take
 under_takes w thread (actions.allocate size first) answers.Plain = not_taken
 under_takes w thread (actions.allocate size first) answers.Got = allocated_taken size (actions.went (Some (values.Pointer (To (length w.blocks) 0))) (actions.with_blocks w (made w.blocks size kinds.Heap first))) (nat_lt size (2 ^ 32)) (λ h. h) refl
 under_takes w thread (actions.allocate size first) answers.None = taken (actions.refused_allocation w) (λ h. h)
+under_takes w thread (actions.reallocate at size) answer = renewed_takes w size (renewed w.blocks at size) answer
+under_takes w thread (actions.change at ty how by) answers.Plain = taken (actions.changes_number w (changed w.blocks at ty how by)) (changes_number_fits w (changed w.blocks at ty how by))
+under_takes w thread (actions.change at ty how by) answers.Got = not_taken
+under_takes w thread (actions.change at ty how by) answers.None = not_taken
+under_takes w thread (actions.compare at want ty new) answers.Plain = taken (actions.compares w (compared w.blocks at want ty new)) (compares_fits w (compared w.blocks at want ty new))
+under_takes w thread (actions.compare at want ty new) answers.Got = not_taken
+under_takes w thread (actions.compare at want ty new) answers.None = not_taken
 under_takes w thread (actions.free at) answers.Plain = taken (actions.changes w (freed w.blocks at)) (changes_fits w (freed w.blocks at))
 under_takes w thread (actions.free at) answers.Got = not_taken
 under_takes w thread (actions.free at) answers.None = not_taken
@@ -134,9 +158,9 @@ under_takes w thread (actions.finish value) answers.Got = not_taken
 under_takes w thread (actions.finish value) answers.None = not_taken
 
 -- an action takes just these answers
-pub action_takes : (w : World) (thread : ℕ) (action : SharedAction) (answer : Answer) → Exactly (acted w thread answer action) (Takes action answer)
+pub action_takes : (w : World) (thread : ℕ) (action : SharedAction) (answer : Answer) → Exactly (acted w thread answer action) (Takes w action answer)
 action_takes w thread action answer =
-    telling_exactly (actions.reads_of w action ++ actions.writes_of answer action) (under answer (outcomes w thread action)) (Takes action answer) (under_takes w thread action answer)
+    telling_exactly (actions.reads_of w action ++ actions.writes_of w answer action) (under answer (outcomes w thread action)) (Takes w action answer) (under_takes w thread action answer)
 
 -- ---- turns
 
@@ -161,4 +185,4 @@ plain_takes own w answers.None = (λ n. n tt, λ e h. e)
 pub end_takes : (thread : ℕ) (t : Answer → Turn Control) (e : End) → EndsAs thread t e → (answer : Answer) → (IsUnfit (t answer) → ⊥) ↔ FitsEnd e answer
 end_takes thread t (breaking rule place) h answer = subst (λ (u : Turn Control). (IsUnfit u → ⊥) ↔ Unit {0}) (sym (h.1 answer)) (λ n. tt, λ u i. i)
 end_takes thread t (quiet own w) h answer = subst (λ (u : Turn Control). (IsUnfit u → ⊥) ↔ FitsEnd (quiet own w) answer) (sym (h answer)) (plain_takes own w answer)
-end_takes thread t (acting place action w) h answer = comes_out place (acted w thread answer action) (t answer) (Takes action answer) (h answer) (action_takes w thread action answer)
+end_takes thread t (acting place action w) h answer = comes_out place (acted w thread answer action) (t answer) (Takes w action answer) (h answer) (action_takes w thread action answer)

@@ -1,5 +1,7 @@
 -- Whole turns of a thread come out well, and threads begin so.
-use Rattle.std.proofs.Common.{◌≡◌, ◌↔◌, ℕ, zero, suc, ◌^◌, ◌<◌, ◌≤◌, List, Option, None, refl, sym, subst, ◌⊎◌, inl, inr, arith}
+use Rattle.std.proofs.Common.{◌≡◌, ◌↔◌, ℕ, zero, suc, ◌^◌, ◌<◌, ◌≤◌, false, List, Option, None, Ok, Err, refl, sym, subst, ◌⊎◌, inl, inr, arith}
+use Rattle.std.specs.Prelude.{Result}
+use Rattle.ak_words.specs.declared.rule.Rule.{Rule}
 use Rattle.ak_words.specs.IntType.{int}
 use Rattle.ak_words.specs.declared.rule.Rule.TheVariants.{C15}
 use Rattle.block_store.specs.declared.values.Access.{Access}
@@ -7,6 +9,7 @@ use Rattle.block_store.specs.declared.values.Access.TheVariants as accesses
 use Rattle.block_store.specs.declared.values.Answer.{Answer}
 use Rattle.block_store.specs.declared.values.Answer.TheVariants as answers
 use Rattle.block_store.specs.declared.values.Ptr.{Ptr}
+use Rattle.block_store.specs.Blocks.{Blocks, renewed}
 use Rattle.block_store.specs.Actions as actions
 use Rattle.block_store.specs.Actions.{World, SharedAction}
 use Rattle.block_store.specs.Runs.{Turn}
@@ -18,7 +21,7 @@ use Rattle.c_meaning.specs.Values.{access_of_type}
 use Rattle.c_meaning.specs.Turns.{WayOfUse, read_way, leave_way, run, run_arguments, run_stmt, run_row, run_from, way_of, use_of, from_point, turn}
 use Rattle.c_meaning.specs.Meaning.{arguments_if, begins_if}
 use Rattle.c_meaning.specs.Kinds.{IsTypedTodo, Expects, IsTypedPoint, IsTypedControl, IsTypedWorld}
-use Rattle.c_meaning.specs.Sound.{Takes, End, breaking, quiet, acting, FitsEnd, EndsAs, IsChosen, AllocatesTooMuch, IsUnfit, ThreadsBeginTyped, TurnsKeepTypes, TurnsGoOn, SomeAnswerFits}
+use Rattle.c_meaning.specs.Sound.{TakesRenewed, Takes, End, breaking, quiet, acting, FitsEnd, EndsAs, IsChosen, AllocatesTooMuch, IsUnfit, ThreadsBeginTyped, TurnsKeepTypes, TurnsGoOn, SomeAnswerFits}
 use Rattle.c_meaning.proofs.TypedValues.{not_c15}
 use Rattle.c_meaning.proofs.TypedLocals.{Site, here_at, inside_at, Stands, ArgumentsHold, first_hold, pointer_holds, at_number}
 use Rattle.c_meaning.proofs.TypedFits.{end_takes}
@@ -126,31 +129,42 @@ turns_go_on t wf thread c w h n = let fine = turn_fine t wf thread c w h n in (f
 
 -- ---- where Plain isn't taken
 
-chosen_action : (action : SharedAction) → (Takes action answers.Plain → ⊥) → IsChosen action
-chosen_action (actions.allocate size first) n = tt
-chosen_action (actions.start to function argument) n = tt
-chosen_action action n = absurd (n tt)
+chosen_action : (w : World) (action : SharedAction) → (Takes w action answers.Plain → ⊥) → IsChosen action
+chosen_action w (actions.allocate size first) n = tt
+chosen_action w (actions.reallocate at size) n = tt
+chosen_action w (actions.start to function argument) n = tt
+chosen_action w action n = absurd (n tt)
 
-none_taken : (action : SharedAction) → IsChosen action → Takes action answers.None
-none_taken (actions.allocate size first) c = tt
-none_taken (actions.start to function argument) c = tt
-none_taken action c = elim c [ ]
+none_renewed : (size : ℕ) (r : Result Blocks Rule) → TakesRenewed r size answers.None
+none_renewed size (Ok blocks) = tt
+none_renewed size (Err rule) = tt
+
+none_taken : (w : World) (action : SharedAction) → IsChosen action → Takes w action answers.None
+none_taken w (actions.allocate size first) c = tt
+none_taken w (actions.reallocate at size) c = none_renewed size (renewed w.blocks at size)
+none_taken w (actions.start to function argument) c = tt
+none_taken w action c = elim c [ ]
 
 at_least : (size : ℕ) → (size < 2 ^ 32 → ⊥) → 2 ^ 32 ≤ size
 at_least size n = omega arith
 
-got_taken : (action : SharedAction) → IsChosen action → (Takes action answers.Got → ⊥) → AllocatesTooMuch action
-got_taken (actions.allocate size first) c n = at_least size n
-got_taken (actions.start to function argument) c n = absurd (n tt)
-got_taken action c n = elim c [ ]
+got_renewed : (size : ℕ) (r : Result Blocks Rule) → (TakesRenewed r size answers.Got → ⊥) → 2 ^ 32 ≤ size
+got_renewed size (Ok blocks) n = at_least size n
+got_renewed size (Err rule) n = absurd (n tt)
+
+got_taken : (w : World) (action : SharedAction) → IsChosen action → (Takes w action answers.Got → ⊥) → AllocatesTooMuch action
+got_taken w (actions.allocate size first) c n = at_least size n
+got_taken w (actions.reallocate at size) c n = got_renewed size (renewed w.blocks at size) n
+got_taken w (actions.start to function argument) c n = absurd (n tt)
+got_taken w action c n = elim c [ ]
 
 fits_some : (thread : ℕ) (u : Answer → Turn Control) (e : End) → EndsAs thread u e → ((answer : Answer) → (IsUnfit (u answer) → ⊥) ↔ FitsEnd e answer) → IsUnfit (u answers.Plain)
     → (place : ℕ) × (action : SharedAction) × (x : World) × EndsAs thread u (acting place action x) × IsChosen action × (IsUnfit (u answers.None) → ⊥) × (IsUnfit (u answers.Got) → AllocatesTooMuch action)
 fits_some thread u (breaking rule place) h f n = absurd ((f answers.Plain).1 tt n)
 fits_some thread u (quiet own w) h f n = absurd ((f answers.Plain).1 tt n)
 fits_some thread u (acting place action w) h f n =
-    let c = chosen_action action (λ i. (f answers.Plain).1 i n) in
-    (place, action, w, h, c, (f answers.None).1 (none_taken action c), λ m. got_taken action c (λ i. (f answers.Got).1 i m))
+    let c = chosen_action w action (λ i. (f answers.Plain).1 i n) in
+    (place, action, w, h, c, (f answers.None).1 (none_taken w action c), λ m. got_taken w action c (λ i. (f answers.Got).1 i m))
 
 pub some_answer_fits : SomeAnswerFits
 some_answer_fits t wf thread c w h n m = let g = turns_go_on t wf thread c w h n in fits_some thread (λ answer. turn t thread answer c w) g.0 g.1 g.2 m

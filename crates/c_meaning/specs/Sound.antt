@@ -1,6 +1,6 @@
 -- That the meaning of a well formed program never goes wrong: all values keep their types, and a turn comes to nothing for one reason
 -- alone, that the answer doesn't fit its action.
-use Rattle.std.specs.Prelude.{◌≡◌, ◌↔◌, ℕ, ◌^◌, ◌<◌, ◌≤◌, List, [], ◌∷◌, ◌++◌, Option, Some, None}
+use Rattle.std.specs.Prelude.{◌≡◌, ◌↔◌, ℕ, ◌^◌, ◌<◌, ◌≤◌, List, [], ◌∷◌, ◌++◌, Option, Some, None, Result, Ok, Err}
 use Rattle.ak_words.specs.declared.rule.Rule.{Rule}
 use Rattle.ak_words.specs.declared.rule.Rule.TheVariants.{C16}
 use Rattle.block_store.specs.declared.values.Answer.{Answer}
@@ -8,6 +8,7 @@ use Rattle.block_store.specs.declared.values.Answer.TheVariants as answers
 use Rattle.block_store.specs.declared.values.Ptr.{Ptr}
 use Rattle.block_store.specs.Actions as actions
 use Rattle.block_store.specs.Actions.{World, SharedAction, Done, acted}
+use Rattle.block_store.specs.Blocks.{Blocks, renewed}
 use Rattle.block_store.specs.Runs as runs
 use Rattle.block_store.specs.Runs.{Turn, State, Pick}
 use Rattle.c_tree.specs.Typed as tree
@@ -19,17 +20,27 @@ use Rattle.c_meaning.specs.Kinds.{IsTypedControl, IsTypedWorld, CanBegin}
 
 -- ---- answers
 
--- an action takes this answer: only an allocation and a new thread leave a choice, and there is no block of 2^32 bytes or more
-abbrev pub Takes : SharedAction → Answer → Type 0
-Takes (actions.allocate size first) answers.Plain = ⊥
-Takes (actions.allocate size first) answers.Got = size < 2 ^ 32
-Takes (actions.allocate size first) answers.None = Unit {0}
-Takes (actions.start to function argument) answers.Plain = ⊥
-Takes (actions.start to function argument) answers.Got = Unit {0}
-Takes (actions.start to function argument) answers.None = Unit {0}
-Takes action answers.Plain = Unit {0}
-Takes action answers.Got = ⊥
-Takes action answers.None = ⊥
+-- an allocation of so many bytes takes this answer: there is no block of 2^32 bytes or more
+abbrev pub TakesRoom : (size : ℕ) → Answer → Type 0
+TakesRoom size answers.Plain = ⊥
+TakesRoom size answers.Got = size < 2 ^ 32
+TakesRoom size answers.None = Unit {0}
+
+-- a realloc, by what comes of it where it gets its block: one that breaks a rule breaks it whatever it is told
+abbrev pub TakesRenewed : Result Blocks Rule → (size : ℕ) → Answer → Type 0
+TakesRenewed (Err rule) size answer = Unit {0}
+TakesRenewed (Ok blocks) size answer = TakesRoom size answer
+
+-- an action in a world takes this answer: only an allocation and a new thread leave a choice
+abbrev pub Takes : World → SharedAction → Answer → Type 0
+Takes w (actions.allocate size first) answer = TakesRoom size answer
+Takes w (actions.reallocate at size) answer = TakesRenewed (renewed w.blocks at size) size answer
+Takes w (actions.start to function argument) answers.Plain = ⊥
+Takes w (actions.start to function argument) answers.Got = Unit {0}
+Takes w (actions.start to function argument) answers.None = Unit {0}
+Takes w action answers.Plain = Unit {0}
+Takes w action answers.Got = ⊥
+Takes w action answers.None = ⊥
 
 -- how a turn ends: by a rule that it breaks before any action; without an action, where a round of a loop is over, or a call is
 -- entered or left; or by an action in a world
@@ -44,7 +55,7 @@ FitsEnd (breaking rule place) answer = Unit {0}
 FitsEnd (quiet own w) answers.Plain = Unit {0}
 FitsEnd (quiet own w) answers.Got = ⊥
 FitsEnd (quiet own w) answers.None = ⊥
-FitsEnd (acting place action w) answer = Takes action answer
+FitsEnd (acting place action w) answer = Takes w action answer
 
 -- the turn comes out as its action does
 abbrev pub ComesOutAs : (place : ℕ) → Done → Turn Control → Type 0
@@ -68,12 +79,14 @@ EndsAs thread t (acting place action w) = (answer : Answer) → ComesOutAs place
 -- an action that asks for something, so that it's chosen whether the thread gets it
 abbrev pub IsChosen : SharedAction → Type 0
 IsChosen (actions.allocate size first) = Unit {0}
+IsChosen (actions.reallocate at size) = Unit {0}
 IsChosen (actions.start to function argument) = Unit {0}
 IsChosen action = ⊥
 
 -- an allocation of 2^32 bytes or more
 abbrev pub AllocatesTooMuch : SharedAction → Type 0
 AllocatesTooMuch (actions.allocate size first) = 2 ^ 32 ≤ size
+AllocatesTooMuch (actions.reallocate at size) = 2 ^ 32 ≤ size
 AllocatesTooMuch action = ⊥
 
 -- ---- turns

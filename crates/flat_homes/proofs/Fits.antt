@@ -4,7 +4,7 @@ use Rattle.std.specs.Prelude.{slice_get, is_none}
 use Rattle.std.specs.List.{list_all}
 use Rattle.std.proofs.lemmas.Bool.{and_parts, eqb-true}
 use Rattle.std.proofs.lemmas.List.{length-map}
-use Rattle.struct_ir.specs.Nodes.{Action, load, store, copy_bytes, malloc, free, print, lock, unlock, destroy, start, join, Step}
+use Rattle.struct_ir.specs.Nodes.{Action, load, store, copy_bytes, malloc, calloc, realloc, free, change, compare, print, lock, unlock, destroy, start, join, Step}
 use Rattle.struct_ir.specs.Valid.{Scope, Counts, are_below, counts_of, has_counts, is_action, is_below_if, is_own_list, is_place, is_step}
 use Rattle.handle_words.specs.Handle.{id_of}
 use Rattle.arena_meaning.specs.Changes.{without_id}
@@ -12,9 +12,10 @@ use Rattle.ak_trace.specs.declared.endings.TrapKind.{TrapKind}
 use Rattle.ak_trace.specs.declared.endings.TrapKind.TheVariants as kinds
 use Rattle.flat_meaning.specs.Accesses as actions
 use Rattle.flat_meaning.specs.Accesses.{Done, is_live_start, within, prints}
-use Rattle.flat_meaning.specs.Actions.{acted, joined_at, joined_if}
+use Rattle.flat_meaning.specs.Actions.{acted, is_equal, joined_at, joined_if, number_at}
 use Rattle.flat_meaning.specs.Image.{Layout}
 use Rattle.flat_meaning.specs.Memory.{Made, Memory, with_storage}
+use Rattle.flat_meaning.specs.Ready.{takes_room}
 use Rattle.flat_meaning.specs.Printing.{Read, reads, outside, too_long}
 use Rattle.flat_meaning.specs.Words.{Target, Words, target_of, word_at}
 use Rattle.flat_machine.specs.Choices.{action_choice, malloc_choice}
@@ -91,6 +92,21 @@ module _ (x : Layout) (n : ℕ) (m : Memory) where
   free_fits [] (v ∷ u ∷ ws) p w = absurd (omega (arith, w))
   free_fits [] (v ∷ []) p w = freed_fits (v == 0) (is_live_start m.storage v) m (with_storage m (without_id m.storage (id_of v))) (actions.trap v kinds.Free)
 
+  change_fits : (how : _) (t : _) (ps : List Target) (ws : List ℕ) → length ps ≡ 1 → length ws ≡ 1 → Fits (acted x n actions.plain (change how t) ps ws m)
+  change_fits how t [] ws p w = absurd (omega (arith, p))
+  change_fits how t (a ∷ b ∷ ps) ws p w = absurd (omega (arith, p))
+  change_fits how t (a ∷ []) [] p w = absurd (omega (arith, w))
+  change_fits how t (a ∷ []) (v ∷ u ∷ ws) p w = absurd (omega (arith, w))
+  change_fits how t (a ∷ []) (v ∷ []) p w = within_fits _ _ _ (went_fits _ _)
+
+  compare_fits : (t : _) (ps : List Target) (ws : List ℕ) → length ps ≡ 2 → length ws ≡ 1 → Fits (acted x n actions.plain (compare t) ps ws m)
+  compare_fits t [] ws p w = absurd (omega (arith, p))
+  compare_fits t (a ∷ []) ws p w = absurd (omega (arith, p))
+  compare_fits t (a ∷ b ∷ c ∷ ps) ws p w = absurd (omega (arith, p))
+  compare_fits t (a ∷ b ∷ []) [] p w = absurd (omega (arith, w))
+  compare_fits t (a ∷ b ∷ []) (v ∷ u ∷ ws) p w = absurd (omega (arith, w))
+  compare_fits t (a ∷ b ∷ []) (v ∷ []) p w = within_fits _ _ _ (either_fits (is_equal t (number_at t a.address m) (number_at t b.address m)) _ _ (went_fits _ _) (went_fits _ _))
+
   lock_fits : (ps : List Target) (ws : List ℕ) → length ps ≡ 1 → length ws ≡ 0 → Fits (acted x n actions.plain lock ps ws m)
   lock_fits [] ws p w = absurd (omega (arith, p))
   lock_fits (a ∷ b ∷ ps) ws p w = absurd (omega (arith, p))
@@ -135,12 +151,16 @@ module _ (x : Layout) (n : ℕ) (m : Memory) where
       let q = and_parts (length s.temps == n.temps) (n.gives || is_none s.to) p.1 in
       (length-map s.places (target_of l) ∙ eqb-true _ _ p.0, length-map s.temps (word_at l) ∙ eqb-true _ _ q.0)
 
-  others_fit : (l : Words) (a : Action) (temps : List ℕ) (ps : List Target) (ws : List ℕ) → (a ≡ malloc → ⊥) → length ps ≡ (counts_of a).places → length ws ≡ (counts_of a).temps → Fits (acted x n (action_choice (malloc_choice m.storage) l a temps) a ps ws m)
+  others_fit : (l : Words) (a : Action) (temps : List ℕ) (ps : List Target) (ws : List ℕ) → (takes_room a ≡ true → ⊥) → length ps ≡ (counts_of a).places → length ws ≡ (counts_of a).temps → Fits (acted x n (action_choice (malloc_choice m.storage) l a temps) a ps ws m)
   others_fit l (load how) temps ps ws not p w = load_fits how ps ws p w
   others_fit l (store how) temps ps ws not p w = store_fits how ps ws p w
   others_fit l (copy_bytes align same) temps ps ws not p w = copy_fits align same ps ws p w
   others_fit l malloc temps ps ws not p w = absurd (not refl)
+  others_fit l calloc temps ps ws not p w = absurd (not refl)
+  others_fit l realloc temps ps ws not p w = absurd (not refl)
   others_fit l free temps ps ws not p w = free_fits ps ws p w
+  others_fit l (change how t) temps ps ws not p w = change_fits how t ps ws p w
+  others_fit l (compare t) temps ps ws not p w = compare_fits t ps ws p w
   others_fit l (print pieces) temps ps ws not p w = prints_fits _ m
   others_fit l lock temps ps ws not p w = lock_fits ps ws p w
   others_fit l unlock temps ps ws not p w = unlock_fits ps ws p w
@@ -151,7 +171,7 @@ module _ (x : Layout) (n : ℕ) (m : Memory) where
   pub step_is_fit : (l : Words) (scope : Scope) (s : Step) → is_step scope s ≡ true
       → acted x n (action_choice (malloc_choice m.storage) l s.action s.temps) s.action (map (target_of l) s.places) (map (word_at l) s.temps) m ≡ actions.unfit → ⊥
   step_is_fit l scope s valid e =
-      others_fit l s.action s.temps (map (target_of l) s.places) (map (word_at l) s.temps) (λ is. malloc_fits x n l m scope.temps s (sized scope s is valid) is e) counts.0 counts.1 e where
+      others_fit l s.action s.temps (map (target_of l) s.places) (map (word_at l) s.temps) (λ is. malloc_fits x n l m scope.temps s (sized scope s is valid) e) counts.0 counts.1 e where
         counts : (length (map (target_of l) s.places) ≡ (counts_of s.action).places) × (length (map (word_at l) s.temps) ≡ (counts_of s.action).temps)
         counts =
             let p = and_parts (list_all (is_place scope) s.places && (are_below scope.temps s.temps && is_below_if scope.temps s.to)) (has_counts (counts_of s.action) s && (is_action scope s.action && is_own_list scope s.action s.slots)) valid in

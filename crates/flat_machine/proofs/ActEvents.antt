@@ -19,7 +19,7 @@ use Rattle.flat_meaning.specs.Words.{Words}
 use Rattle.flat_machine.specs.Acting.{choice_for, effect_before}
 use Rattle.flat_machine.specs.Choices.{malloc_choice}
 use Rattle.flat_machine.specs.Laws.{ActIsItsEvent, IsTheEvent, event_before}
-use Rattle.flat_machine.proofs.Allowed.{here_may, malloc_may}
+use Rattle.flat_machine.proofs.Allowed.{here_may, malloc_may, malloc_tries}
 
 -- a stage that is put where it stands
 set_same : {A : Type 0} (own : List (Option A)) (n : ℕ) (v : A) → own_at own n ≡ Some v → set own n (Some v) ≡ own
@@ -84,7 +84,7 @@ module _ (x : Image Spot) (s : State Spot) (number : ℕ) (stage : Stage Spot) (
     by_before looks is AtStep e = look_is (may_look is)
     by_before looks is Spent e = absurd cc
     by_before looks is NoRoom e = absurd cc
-    by_before steps is AtStep e = act_is choice (may_step choice (subst (MayStep x m choice t) (sym is) (here_may m.storage (malloc_choice m.storage) (malloc_may m.storage) t.top.own (x.flow.here t.top.at))))
+    by_before steps is AtStep e = act_is choice (may_step choice (subst (MayStep x m choice t) (sym is) (here_may m.storage (malloc_choice m.storage) (malloc_may m.storage) t.top.own (malloc_tries m.storage) (x.flow.here t.top.at))))
     by_before steps is Spent e = absurd cc
     by_before steps is NoRoom e = absurd cc
     by_before (stages.calls function) is AtStep e = let bad = no_room_only _ AtStep e in absurd cc

@@ -1,6 +1,6 @@
--- What barrier does is what an event does, which may come: what is pinned isn't moved, and each malloc that waits gets what is allowed.
-use Rattle.std.proofs.Common.{◌≡◌, ℕ, zero, suc, ◌+◌, ◌<◌, ◌≤◌, ◌⊎◌, Bool, true, false, List, [], ◌∷◌, ◌++◌, length, map, get_or, set, Option, Some, None, refl, sym, ap, ◌∙◌, subst, arith, inl, inr}
-use Rattle.std.specs.Prelude.{All, nat_le, slice_get}
+-- What barrier does is what an event does, which may come: what is pinned isn't moved, and each allocation that waits gets what is allowed.
+use Rattle.std.proofs.Common.{◌≡◌, ℕ, zero, suc, ◌+◌, ◌*◌, ◌<◌, ◌≤◌, ◌⊎◌, Bool, true, false, List, [], ◌∷◌, ◌++◌, length, map, get_or, set, Option, Some, None, refl, sym, ap, ◌∙◌, subst, arith, inl, inr}
+use Rattle.std.specs.Prelude.{All, is_some, nat_le, slice_get}
 use Rattle.std.specs.List.{range_with_len}
 use Rattle.std.proofs.lemmas.Bool.Decides.{leb_tells}
 use Rattle.std.proofs.lemmas.List.{append-nil, drop_all, length-set}
@@ -12,35 +12,37 @@ use Rattle.move_plan.proofs.Slid as lower
 use Rattle.struct_ir.specs.Instrs.{Instr, acts, LinearCode, instrs_of}
 use Rattle.struct_ir.specs.Linear.{Spot}
 use Rattle.struct_ir.specs.Machine.{Point}
-use Rattle.struct_ir.specs.Nodes.{step}
+use Rattle.struct_ir.specs.Nodes.{Action, Place, Step, step}
 use Rattle.struct_ir.specs.Threads.{Thread}
+use Rattle.flat_meaning.specs.Allocations.{Allocation}
 use Rattle.flat_meaning.specs.Accesses as actions
-use Rattle.flat_meaning.specs.Accesses.{allocated}
+use Rattle.flat_meaning.specs.Actions.{acted}
 use Rattle.flat_meaning.specs.Allowed.{AllStand, MayServe, MayServeAll, pinned}
 use Rattle.flat_meaning.specs.Allowed as stages
 use Rattle.flat_meaning.specs.Ready as readiness
+use Rattle.flat_meaning.specs.Ready.{takes_room}
 use Rattle.flat_meaning.specs.Effects.{serve_effect}
-use Rattle.flat_meaning.specs.Events.{State, Serve, after_serve, after_serves, moved_state, new_stages, put, put_if, stage_made}
+use Rattle.flat_meaning.specs.Events.{State, Serve, after_serve, after_serves, moved_state, serving_state, new_stages, put, put_if, stage_made}
 use Rattle.flat_meaning.specs.Image.{Image}
 use Rattle.flat_meaning.specs.Memory.{Made, Memory, beginning}
 use Rattle.flat_meaning.specs.Stages.{Stage, starts, waiting}
-use Rattle.flat_meaning.specs.Words.{Words, word_at}
+use Rattle.flat_meaning.specs.Words.{Words, target_of, word_at}
 use Rattle.flat_rules.specs.Lawful.{AreHome, IsHomeAt, IsOfRun}
 use Rattle.flat_threads.specs.Belonging.{IsContextOf}
 use Rattle.flat_threads.specs.Contexts.{Context, own_image}
 use Rattle.flat_threads.specs.Deeds.{stepped, top_at}
 use Rattle.flat_threads.specs.declared.wait.Wait.TheVariants.{Room}
-use Rattle.flat_machine.specs.Choices.{served_choice}
+use Rattle.flat_machine.specs.Choices.{action_choice, served_choice}
 use Rattle.flat_machine.specs.Laws.{BarrierIsItsEvent}
 use Rattle.flat_machine.specs.Machine.{machine_of, stands_of}
-use Rattle.flat_machine.specs.Nulls.{size_at}
+use Rattle.flat_machine.specs.Nulls.{asked_at, asked_by, old_word}
 use Rattle.flat_machine.specs.Shares.{Shared, image_of}
 use Rattle.flat_machine.specs.Sweeping.{at_home, context_at, home_at, if_wants, place_at, serve_of, serves_from, serves_if, stage_home, stage_or, stages_home, sweep_moves, sweep_serves, swept_state, waits_at_home}
-use Rattle.flat_machine.proofs.Allowed.{here_may, served_goes, served_may}
+use Rattle.flat_machine.proofs.Allowed.{given_may, served_goes, served_may}
 use Rattle.flat_machine.specs.lemmas.Homes.{after_serves-append, each_here, length-stages_home, none_served, own_at_set, own_at_set-later, place_is, wants_same}
 use Rattle.flat_machine.proofs.Slid.{slide_is}
 use Rattle.flat_machine.specs.lemmas.Serving.{gives, instr_there, room_waits}
-use Rattle.flat_machine.specs.lemmas.Waiting.{IsBefore, before_malloc, choice_is, keeps, node_is, node_of, serve_is, waiting_of, wants_is}
+use Rattle.flat_machine.specs.lemmas.Waiting.{IsBefore, IsSized, Operands, of_malloc, of_calloc, of_realloc, before_malloc, choice_is, keeps, leaves, serve_is, waiting_of, wants_is}
 
 -- ---- stages by number
 
@@ -83,6 +85,23 @@ length-home_at code own [] = refl
 length-home_at code [] (c ∷ home) = refl
 length-home_at code (o ∷ own) (c ∷ home) = ap suc (length-home_at code own home)
 
+-- ---- what an allocation asks for
+
+abbrev pub asks_of : {a : Action} {temps : List ℕ} → Words → Operands a temps → Allocation
+asks_of l (of_malloc size) = record { bytes = word_at l size; old = None }
+asks_of l (of_calloc count size) = record { bytes = word_at l count * word_at l size; old = None }
+asks_of l (of_realloc word size) = record { bytes = word_at l size; old = Some (word_at l word) }
+
+asked_there : {a : Action} {temps : List ℕ} → (l : Words) (o : Operands a temps) → asked_by l a [] temps ≡ Some (asks_of l o)
+asked_there l (of_malloc size) = refl
+asked_there l (of_calloc count size) = refl
+asked_there l (of_realloc word size) = refl
+
+chosen_there : {a : Action} {temps : List ℕ} → (rule : (word size : ℕ) → actions.Choice) (l : Words) (o : Operands a temps) → let asks = asks_of l o in action_choice rule l a temps ≡ rule (old_word asks) asks.bytes
+chosen_there rule l (of_malloc size) = refl
+chosen_there rule l (of_calloc count size) = refl
+chosen_there rule l (of_realloc word size) = refl
+
 -- ---- one serve after the other
 
 may_serve_all : (x : Image Spot) (vs ws : List Serve) (s : State Spot) → MayServeAll x vs s → MayServeAll x ws (after_serves x vs s) → MayServeAll x (vs ++ ws) s
@@ -94,57 +113,63 @@ module _ (code : LinearCode) where
   pub record Served (s : Shared) (st : State Spot) (n : ℕ) (c : Context) : Type 0 where
     pub thread : Thread Spot Words
     pub is : c.stage ≡ Some (waiting thread)
-    pub size : ℕ
-    pub asked : size_at (image_of code s) (waiting thread) ≡ Some size
-    pub chosen : (serve_of (image_of code s) st n (waiting thread)).choice ≡ served_choice st.memory.storage size
+    pub node : Step
+    pub has : IsSized (length thread.top.own.temps) node
+    pub asked : asked_at (image_of code s) (waiting thread) ≡ Some (asks_of thread.top.own has.operands)
+    pub chosen : let asks = asks_of thread.top.own has.operands in (serve_of (image_of code s) st n (waiting thread)).choice ≡ served_choice st.memory.storage (old_word asks) asks.bytes
     pub wants : readiness.wants_room (own_image code) (waiting thread) ≡ true
     pub goes : (serve_of (image_of code s) st n (waiting thread)).choice ≡ actions.wait → ⊥
     pub after : Memory
     pub word : Option ℕ
-    pub done : allocated (served_choice st.memory.storage size) size st.memory ≡ actions.went word after
+    pub done : acted (image_of code s).layout n (action_choice (served_choice st.memory.storage) thread.top.own node.action node.temps) node.action (map (target_of thread.top.own) node.places) (map (word_at thread.top.own) node.temps) st.memory ≡ actions.went word after
     pub behind : Stage Spot
     pub effect : serve_effect (image_of code s) n (serve_of (image_of code s) st n (waiting thread)).choice (waiting thread) st.memory ≡ record { memory = after; stage = Some behind; end = None }
     pub threads : after.threads ≡ st.memory.threads
+    pub serves : is_some after.leaving ≡ true
 
-  asked_is : (s : Shared) (t : Thread Spot Words) (n place size : ℕ) (to : Option ℕ) (slots : List ℕ) → slice_get (instrs_of code.funcs t.top.at.function) t.top.at.index ≡ Some (acts place (step (node_of code s t n place size to slots))) → size_at (image_of code s) (waiting t) ≡ Some (word_at t.top.own size)
-  asked_is s t n place size to slots at = rw at refl
+  asked_is : (s : Shared) (t : Thread Spot Words) (place : ℕ) (node : Step) → slice_get (instrs_of code.funcs t.top.at.function) t.top.at.index ≡ Some (acts place (step node)) → (h : IsSized (length t.top.own.temps) node) → asked_at (image_of code s) (waiting t) ≡ Some (asks_of t.top.own h.operands)
+  asked_is s t place node at h =
+      let here : asked_at (image_of code s) (waiting t) ≡ asked_by t.top.own node.action node.places node.temps = rw at refl in
+      here ∙ ap (λ (places : List Place). asked_by t.top.own node.action places node.temps) h.no_places ∙ asked_there t.top.own h.operands
 
-  served_at : (s : Shared) (st : State Spot) (n : ℕ) (c : Context) (t : Thread Spot Words) → c.stage ≡ Some (waiting t) → (place size : ℕ) (to : Option ℕ) (slots : List ℕ)
-      → slice_get (instrs_of code.funcs t.top.at.function) t.top.at.index ≡ Some (acts place (step (node_of code s t n place size to slots))) → Served s st n c
-  served_at s st n c t is place size to slots at =
+  served_at : (s : Shared) (st : State Spot) (n : ℕ) (c : Context) → is_some st.memory.leaving ≡ true → (t : Thread Spot Words) → c.stage ≡ Some (waiting t) → (place : ℕ) (node : Step)
+      → slice_get (instrs_of code.funcs t.top.at.function) t.top.at.index ≡ Some (acts place (step node)) → takes_room node.action ≡ true → IsSized (length t.top.own.temps) node → Served s st n c
+  served_at s st n c some t is place node at takes has =
       let m = st.memory in
-      let choice = served_choice m.storage (word_at t.top.own size) in
-      let given = gives _ _ (word_at t.top.own size) m in
-      let done : allocated choice (word_at t.top.own size) m ≡ actions.went given.word given.after = given.is in
-      let chosen : (serve_of (image_of code s) st n (waiting t)).choice ≡ choice = choice_is code (record s { memory = m }) t n place size to slots at in
+      let x = image_of code s in
+      let l = t.top.own in
+      let asks = asks_of l has.operands in
+      let choice = action_choice (served_choice m.storage) l node.action node.temps in
+      let given = gives x.layout n l (length l.temps) node has m some in
+      let asked_for : choice ≡ served_choice m.storage (old_word asks) asks.bytes = chosen_there (served_choice m.storage) l has.operands in
+      let chosen : (serve_of x st n (waiting t)).choice ≡ choice = choice_is code s t n place node at (served_choice m.storage) in
       record {
         thread = t;
         is = is;
-        size = word_at t.top.own size;
-        asked = asked_is s t n place size to slots at;
-        chosen = chosen;
-        wants = wants_is code s t n place size to slots at;
-        goes = λ e. served_goes m.storage (word_at t.top.own size) (sym chosen ∙ e);
+        node = node;
+        has = has;
+        asked = asked_is s t place node at has;
+        chosen = chosen ∙ asked_for;
+        wants = wants_is code s t n place node at takes;
+        goes = λ e. served_goes m.storage (old_word asks) asks.bytes (sym (chosen ∙ asked_for) ∙ e);
         after = given.after;
         word = given.word;
-        done = done;
-        behind = stepped (node_of code s t n place size to slots) t given.word;
-        effect = ap (λ v. serve_effect (image_of code s) n v (waiting t) m) chosen ∙ serve_is code s t n place size to slots m given.after choice given.word at done;
-        threads = (keeps choice (word_at t.top.own size) m given.after given.word done).threads;
+        done = given.is;
+        behind = stepped node t given.word;
+        effect = ap (λ v. serve_effect x n v (waiting t) m) chosen ∙ serve_is code s t n place node at m given.after choice given.word given.is;
+        threads = (keeps x.layout n choice l (length l.temps) node has m given.after given.word given.is).threads;
+        serves = (leaves x.layout n choice l (length l.temps) node has m given.after given.word given.is).serves some;
       }
 
-  served_before : (s : Shared) (st : State Spot) (n : ℕ) (c : Context) (i : Instr) → IsBefore code c i → Served s st n c
-  served_before s st n c i b =
-      let h = b.at.has in
-      let form : b.at.node ≡ node_of code s b.thread n b.at.place h.size b.at.node.to b.at.node.slots = node_is (length b.thread.top.own.temps) b.at.node h b.at.action in
-      served_at s st n c b.thread b.is b.at.place h.size b.at.node.to b.at.node.slots (b.there ∙ ap Some b.at.is ∙ ap (λ node. Some (acts b.at.place (step node))) form)
+  served_before : (s : Shared) (st : State Spot) (n : ℕ) (c : Context) → is_some st.memory.leaving ≡ true → (i : Instr) → IsBefore code c i → Served s st n c
+  served_before s st n c some i b = served_at s st n c some b.thread b.is b.at.place b.at.node (b.there ∙ ap Some b.at.is) b.at.action b.at.has
 
-  pub served : (s : Shared) (st : State Spot) (n : ℕ) (c : Context) → IsContextOf code c → c.wait ≡ Some Room → Served s st n c
-  served s st n c of_ wait =
+  pub served : (s : Shared) (st : State Spot) (n : ℕ) (c : Context) → IsContextOf code c → c.wait ≡ Some Room → is_some st.memory.leaving ≡ true → Served s st n c
+  served s st n c of_ wait some =
       let w = waiting_of code c.stage (sym of_.wait ∙ wait) in
       let there = instr_there (slice_get (instrs_of code.funcs w.thread.top.at.function) w.thread.top.at.index) w.here in
       let at_top = subst (λ (q : Point Spot Words). slice_get (instrs_of code.funcs q.at.function) q.at.index ≡ Some there.0) (sym (ap top_at w.is)) there.1 in
-      served_before s st n c there.0 (before_malloc code c there.0 of_ wait at_top)
+      served_before s st n c some there.0 (before_malloc code c there.0 of_ wait at_top)
 
   -- ---- one thread after the other
 
@@ -173,11 +198,12 @@ module _ (code : LinearCode) where
       pub long : length st.own ≡ length s.memory.threads
       pub threads : st.memory.threads ≡ s.memory.threads
       pub going : st.end ≡ None
+      pub serves : is_some st.memory.leaving ≡ true
       pub later : (k : ℕ) → n ≤ k → own_at st.own k ≡ own_at first k
       pub told : (k : ℕ) → k < n → Told k (own_at st.own k)
 
-    pub begin_turned : IsTurned 0 (moved_state (sweep_moves x (at_home s home)) (at_home s home))
-    begin_turned = record { long = length-stages_home s.memory.threads home; threads = refl; going = refl; later = λ k le. refl; told = λ k lt. absurd (omega (arith, lt)) }
+    pub begin_turned : IsTurned 0 (serving_state (moved_state (sweep_moves x (at_home s home)) (at_home s home)))
+    begin_turned = record { long = length-stages_home s.memory.threads home; threads = refl; going = refl; serves = refl; later = λ k le. refl; told = λ k lt. absurd (omega (arith, lt)) }
 
     module _ (n : ℕ) (st : State Spot) (is : IsTurned n st) (below : n < length s.memory.threads) where
       pub within : n < length home
@@ -207,7 +233,7 @@ module _ (code : LinearCode) where
       unserved : waits_at_home (place n) ≡ false → HasTurn turn_serves
       unserved none =
           let idle : turn_serves ≡ [] = ap (serves_if x st n) own_stage ∙ none_served code s st n (made n) (place n) of_run none in
-          subst HasTurn (sym idle) (record { may = tt; next = record { long = is.long; threads = is.threads; going = is.going; later = λ k le. is.later k (omega (arith, le)); told = λ k lt. by k (more k lt) } })
+          subst HasTurn (sym idle) (record { may = tt; next = record { long = is.long; threads = is.threads; going = is.going; serves = is.serves; later = λ k le. is.later k (omega (arith, le)); told = λ k lt. by k (more k lt) } })
         where
           here : Told n (own_at st.own n)
           here = subst (Told n) (sym own_stage) (ap (stage_home (made n)) (place_is code (made n) (place n) of_run))
@@ -231,7 +257,7 @@ module _ (code : LinearCode) where
         turn_is = ap (serves_if x st n) own_is ∙ ap (λ b. if_wants b serve) wants_here
 
         may_serve : MayServe x st.memory serve.choice (Some (waiting v.thread))
-        may_serve = (wants_here, v.goes, here_may st.memory.storage (served_choice st.memory.storage) (served_may st.memory.storage) v.thread.top.own (x.flow.here v.thread.top.at))
+        may_serve = (wants_here, v.goes, given_may st.memory.storage (served_choice st.memory.storage) (served_may st.memory.storage) v.thread.top.own (x.flow.here v.thread.top.at))
 
         abbrev pub next : State Spot
         next = put st n (record { memory = v.after; stage = Some v.behind; end = None })
@@ -262,6 +288,7 @@ module _ (code : LinearCode) where
           long = ap length next_own ∙ length-set st.own n (Some v.behind) ∙ is.long;
           threads = v.threads ∙ is.threads;
           going = is.going;
+          serves = v.serves;
           later = λ k le. own_now k ∙ own_at_set-later st.own n k (Some v.behind) (omega (arith, le)) ∙ is.later k (omega (arith, le));
           told = λ k lt. told_by k (more k lt);
         }
@@ -273,7 +300,7 @@ module _ (code : LinearCode) where
       turn = by (waits_at_home (place n)) refl where
         waits_here : (p : Option Context) → place n ≡ p → waits_at_home p ≡ true → HasTurn turn_serves
         waits_here None at w = absurd cc
-        waits_here (Some c) at w = let of_ : IsContextOf code c = subst (IsOfRun (machine_of code) (IsContextOf code)) at of_run in was_served c at (served s st n c of_ (room_waits c.wait w))
+        waits_here (Some c) at w = let of_ : IsContextOf code c = subst (IsOfRun (machine_of code) (IsContextOf code)) at of_run in was_served c at (served s st n c of_ (room_waits c.wait w) is.serves)
 
         by : (b : Bool) → waits_at_home (place n) ≡ b → HasTurn turn_serves
         by true w = waits_here (place n) refl w
@@ -298,7 +325,7 @@ module _ (code : LinearCode) where
     here = at_home s home
 
     abbrev slid : State Spot
-    slid = moved_state (sweep_moves (image_of code s) (at_home s home)) (at_home s home)
+    slid = serving_state (moved_state (sweep_moves (image_of code s) (at_home s home)) (at_home s home))
 
     all_turns : HaveTurns (sweep_serves x here) slid
     all_turns =
@@ -331,8 +358,9 @@ module _ (code : LinearCode) where
         let slide = IsSlide-slide_moves (pinned x here) h sound in
         subst (AreLegal (pinned x here) h) (slide_is (pinned x here) h (lower.slide_moves (pinned x here) h.size 0 h.objects) sound slide) slide.legal
 
+    -- the old objects of reallocs leave behind this
     abbrev end_state : State Spot
-    end_state = swept_state (image_of code s) (at_home s home)
+    end_state = after_serves (image_of code s) (sweep_serves (image_of code s) (at_home s home)) (serving_state (moved_state (sweep_moves (image_of code s) (at_home s home)) (at_home s home)))
 
     home_told : stages_home end_state.memory.threads (home_at code end_state.own home) ≡ end_state.own
     home_told =

@@ -40,6 +40,13 @@ module _ (v : Shared) (r : Done) (d : actions.Done) where
   pub does_trap : (new : Shared) (address : ℕ) (kind : TrapKind) → r ≡ dones.Trap address kind → d ≡ actions.over (trap address kind) → new ≡ v → Does v new r d
   does_trap new address kind r_is d_is new_is = rw (r_is, d_is, new_is) (record { done_ = refl; left = refl })
 
+-- what went is told so
+pub went_only : (r : Done) (m : Memory) (word : Option ℕ) (after : Memory) → done_view m r ≡ actions.went word after → (w : Option ℕ) × (t : Turned) × (r ≡ dones.Went w t)
+went_only (dones.Went w t) m word after e = (w, t, refl)
+went_only (dones.Waits for) m word after e = absurd cc
+went_only (dones.Trap w kind) m word after e = absurd cc
+went_only dones.Full m word after e = absurd cc
+
 -- ---- tests
 
 pub within_none : (kind : TrapKind) (outside : Option ℕ) (d : actions.Done) → outside ≡ None → within kind outside d ≡ d

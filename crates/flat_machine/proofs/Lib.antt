@@ -16,8 +16,11 @@ pub mod Acts
 pub mod Allowed
 pub mod ActEvents
 pub mod BarrierEvents
+pub mod Left
+pub mod Changing
 pub mod Rooms
 pub mod Nulls
 pub mod ServedNulls
 pub mod ToldNulls
 pub mod Limits
+pub mod WorkedRows

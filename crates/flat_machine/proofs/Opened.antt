@@ -1,5 +1,5 @@
 -- What threads share when a run is opened.
-use Rattle.std.proofs.Common.{◌≡◌, ℕ, zero, suc, ◌+◌, ◌<◌, true, List, [], ◌∷◌, ◌-◌, ◌*◌, length, get_or, map, replicate, None, refl, ap, ◌∙◌, arith}
+use Rattle.std.proofs.Common.{◌≡◌, ℕ, zero, suc, ◌+◌, ◌<◌, true, List, [], ◌∷◌, ◌-◌, ◌*◌, length, get_or, map, replicate, Option, None, refl, ap, ◌∙◌, arith}
 use Rattle.std.specs.Prelude.{slice_get}
 use Rattle.std.proofs.lemmas.List.{length-map}
 use Rattle.ak_trace.specs.declared.entry.Entry.{Entry}
@@ -41,9 +41,9 @@ module _ (code : LinearCode) (limits : Limits) where
       ∙ ap (λ (s : Storage). record s { bytes = literals_written (literal_address x 0) code.literals (globals_written (layout_of code) (global_address x 0) code.globals s.bytes) }) (made_is ∙ ap (λ p. record { start = start_behind p; table = replicate limits.ids None; heaps = record { count = limits.heaps; size = limits.heap; most = limits.ids; objects = [] }; bytes = replicate (start_behind p - first_address + limits.heaps * limits.heap) 0 }) plain_is)
       ∙ ap (λ (bs : List ℕ). record (first_storage x) { bytes = literals_written (literal_address x 0) code.literals bs }) (globals_same (global_address x 0) code.globals (replicate (start_behind (plain_size x) - first_address + limits.heaps * limits.heap) 0))
 
-  pub opened_is : (storage : Storage) (output : List ℕ) (threads : List Made) (made : List Entry) → storage ≡ first_storage x → output ≡ [] → threads ≡ beginning code.main 0 ∷ [] → made ≡ []
-      → record { memory = record { storage = storage; output = output; threads = threads }; output_limit = limits.output; made = made; barriers = no_barriers } ≡ first_shared code limits
-  opened_is storage output threads made p0 p1 p2 p3 = λ i. record { memory = record { storage = p0 i; output = p1 i; threads = p2 i }; output_limit = limits.output; made = p3 i; barriers = no_barriers }
+  pub opened_is : (storage : Storage) (output : List ℕ) (threads : List Made) (made : List Entry) (leaving : Option (List ℕ)) → storage ≡ first_storage x → output ≡ [] → threads ≡ beginning code.main 0 ∷ [] → made ≡ [] → leaving ≡ None
+      → record { memory = record { storage = storage; output = output; threads = threads; leaving = leaving }; output_limit = limits.output; made = made; barriers = no_barriers } ≡ first_shared code limits
+  opened_is storage output threads made leaving p0 p1 p2 p3 p4 = λ i. record { memory = record { storage = p0 i; output = p1 i; threads = p2 i; leaving = p4 i }; output_limit = limits.output; made = p3 i; barriers = no_barriers }
 
   has_some : (xs : List ℕ) (n : ℕ) → has_params (slice_get xs n) 0 ≡ true → n < length xs
   has_some [] n is = absurd cc
@@ -53,7 +53,7 @@ module _ (code : LinearCode) (limits : Limits) where
   pub opened_of : IsProgram code → IsSharedOf code (first_shared code limits)
   opened_of program =
       let main : code.main < length code.funcs = omega (arith, has_some (map (λ f. f.params) code.funcs) code.main program.main, length-map code.funcs (λ f. f.params)) in
-      record { program = program; some = omega arith; few = omega arith; functions = only main }
+      record { program = program; some = omega arith; few = omega arith; functions = only main; idle = refl }
     where
       only : code.main < length code.funcs → (k : ℕ) (d : Made) → k < 1 → (get_or (beginning code.main 0 ∷ []) k d).function < length code.funcs
       only main zero d below = main

@@ -18,20 +18,21 @@ use Rattle.arena_meaning.specs.Moves.{after_plan}
 use Rattle.defrag_move.proofs.Kept.{IsConsistent-after_plan, heaps_after}
 use Rattle.struct_ir.specs.Instrs.{LinearCode}
 use Rattle.struct_ir.specs.Linear.{Spot}
+use Rattle.flat_meaning.specs.Allocations.{Allocation}
 use Rattle.flat_meaning.specs.Allowed.{pinned}
-use Rattle.flat_meaning.specs.Events.{State, Serve, after_serves, moved_state}
+use Rattle.flat_meaning.specs.Events.{State, Serve, after_serves, moved_state, serving_state}
 use Rattle.flat_meaning.specs.Image.{Image}
 use Rattle.flat_meaning.specs.Stages.{waiting}
 use Rattle.flat_rules.specs.Lawful.{AreHome, IsOfRun}
 use Rattle.flat_threads.specs.Belonging.{IsContextOf}
 use Rattle.flat_threads.specs.Contexts.{Context}
 use Rattle.flat_machine.specs.Machine.{machine_of}
-use Rattle.flat_machine.specs.Nulls.{HasNoRoom, IsNullForRoom, NullAtBarrier}
+use Rattle.flat_machine.specs.Nulls.{HasNoRoom, IsNullForRoom, NullAtBarrier, old_word}
 use Rattle.flat_machine.specs.Shares.{Shared, image_of}
 use Rattle.flat_machine.specs.Sweeping.{at_home, object_got, serve_of, served_of, serves_from, serves_if, sweep_moves, sweep_serves, waits_at_home}
 use Rattle.flat_machine.specs.lemmas.Homes.{after_serves-append, length-stages_home, none_served}
 use Rattle.flat_machine.specs.lemmas.Serving.{room_waits}
-use Rattle.flat_machine.proofs.BarrierEvents.{IsTurned, Served, begin_turned, made, next_is, of_run, own_is, own_stage, place, served, turn, turn_is}
+use Rattle.flat_machine.proofs.BarrierEvents.{IsTurned, Served, asks_of, begin_turned, made, next_is, of_run, own_is, own_stage, place, served, turn, turn_is}
 use Rattle.flat_machine.proofs.Nulls.{IsSlidStorage, served_null, served_stays}
 use Rattle.flat_machine.proofs.Serves.{range_push, serves_from-push, turn_of}
 use Rattle.flat_machine.proofs.Slid.{slide_is}
@@ -58,7 +59,7 @@ module _ (code : LinearCode) (s : Shared) (home : List (Option Context)) (kept :
   moves = sweep_moves (image_of code s) (at_home s home)
 
   abbrev moved : State Spot
-  moved = moved_state (sweep_moves (image_of code s) (at_home s home)) (at_home s home)
+  moved = serving_state (moved_state (sweep_moves (image_of code s) (at_home s home)) (at_home s home))
 
   -- ---- the slide
 
@@ -116,19 +117,22 @@ module _ (code : LinearCode) (s : Shared) (home : List (Option Context)) (kept :
       abbrev serve : Serve
       serve = serve_of x st n (waiting v.thread)
 
+      abbrev asks : Allocation
+      asks = asks_of v.thread.top.own v.has.operands
+
       one : IsNullForRoom x here (served_of serve)
       one = record {
         stage = waiting v.thread;
         waited = sym (is.turned.later n (omega arith)) ∙ own_is code s home all homes n st is.turned below c at v;
-        size = v.size;
+        asks = asks;
         asked = v.asked;
-        null = subst (λ choice. (object_got choice ≡ None) ↔ (HasNoRoom pins st.memory.storage.heaps v.size ⊎ IsFull st.memory.storage.table)) (sym v.chosen) (served_null pins st.memory.storage is.storage v.size);
+        null = subst (λ choice. (object_got choice ≡ None) ↔ (HasNoRoom pins st.memory.storage.heaps asks.bytes ⊎ IsFull st.memory.storage.table)) (sym v.chosen) (served_null pins st.memory.storage is.storage (old_word asks) asks.bytes);
       }
 
       storage_next : IsSlidStorage pins (after_serves x (serve ∷ []) st).memory.storage
       storage_next =
           subst (λ (t : State Spot). IsSlidStorage pins t.memory.storage) (sym (next_is code s home all homes n st is.turned below c at v))
-          (served_stays pins st.memory.storage is.storage v.size st.memory v.after v.word refl v.done)
+          (served_stays pins x.layout n v.thread.top.own (length v.thread.top.own.temps) v.node v.has st.memory v.after v.word is.turned.serves is.storage v.done)
 
       adds_one : Adds turn_serves
       adds_one = subst Adds (sym (turn_is code s home all homes n st is.turned below c at v)) (record { storage = storage_next; told = All-from_recursion (IsNullForRoom x here) (served_of serve ∷ []) (one, tt) })
@@ -139,7 +143,7 @@ module _ (code : LinearCode) (s : Shared) (home : List (Option Context)) (kept :
       waits_here None at w = absurd cc
       waits_here (Some c) at w =
           let of_ : IsContextOf code c = subst (IsOfRun (machine_of code) (IsContextOf code)) at (of_run code s home all homes n st is.turned below) in
-          adds_one c at (served code s st n c of_ (room_waits c.wait w))
+          adds_one c at (served code s st n c of_ (room_waits c.wait w) is.turned.serves)
 
       by : (b : Bool) → waits_at_home (place code s home all homes n) ≡ b → Adds turn_serves
       by true w = waits_here (place code s home all homes n) refl w

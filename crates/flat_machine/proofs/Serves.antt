@@ -1,6 +1,6 @@
--- Mallocs that are served one after the other: so many threads, counted from 0, have had their turn.
+-- Allocations that are served one after the other: so many threads, counted from 0, have had their turn.
 use Rattle.std.proofs.Common.{◌≡◌, ◌≢◌, ℕ, zero, suc, ◌+◌, ◌<◌, ◌≤◌, true, false, List, [], ◌∷◌, ◌++◌, length, get_or, set, map, add-one, Option, Some, None, refl, sym, ap, ◌∙◌, subst, append_assoc, arith}
-use Rattle.std.specs.Prelude.{All}
+use Rattle.std.specs.Prelude.{All, is_some}
 use Rattle.std.specs.List.{range_with_len}
 use Rattle.std.proofs.lemmas.List.{append-nil, drop_all, get_or-set_other, length-append, length-set, map-append, set-get_or}
 use Rattle.ak_trace.specs.declared.entry.Entry.{Entry}
@@ -10,7 +10,7 @@ use Rattle.struct_ir.specs.Linear.{Spot}
 use Rattle.flat_meaning.specs.Effects.{Effect, serve_effect}
 use Rattle.flat_meaning.specs.Events.{State, Serve, after_serves, new_stages, put, put_if, stage_made}
 use Rattle.flat_meaning.specs.Image.{Image, linear_image}
-use Rattle.flat_meaning.specs.Memory.{Memory}
+use Rattle.flat_meaning.specs.Memory.{Memory, words_leaving}
 use Rattle.flat_meaning.specs.Stages.{Stage}
 use Rattle.flat_rules.specs.Entries.{served_entry}
 use Rattle.flat_rules.specs.Lawful.{AreHome, IsHomeAt, IsOfRun}
@@ -43,7 +43,7 @@ module _ (x : Image Spot) where
       ∙ sym (append_assoc v rest (turn_of (after_serves x rest next) k))
       ∙ ap (λ (now : State Spot). (v ++ rest) ++ turn_of now k) (sym (after_serves-append x v rest s))
 
--- the entry of a malloc that was served
+-- the entry of an allocation that was served
 abbrev pub told : Serve → Entry
 told v = served_entry 0 (served_of v)
 
@@ -58,12 +58,14 @@ module _ (code : LinearCode) (s : Shared) (home : List (Option Context)) where
     pub later : (k : ℕ) → count ≤ k → own_at (after_serves (image_of code s) vs (at_home s home)).own k ≡ own_at (at_home s home).own k
     pub unserved : (k : ℕ) → count ≤ k → get_or places k None ≡ get_or home k None
     pub few : length shared.made ≤ length s.made + count
+    pub serves : is_some shared.memory.leaving ≡ true
+    pub leaving : length (words_leaving shared.memory.leaving) ≤ count
 
   -- so many threads have had their turn
   abbrev pub IsBelow : (count : ℕ) → Shared → List (Option Context) → Type 0
   IsBelow count shared places = IsAfter (serves_below code s home count) count shared places
 
-  module _ (all : All (IsOfRun (machine_of code) (IsContextOf code)) home) (homes : AreHome (machine_of code) s home) where
+  module _ (all : All (IsOfRun (machine_of code) (IsContextOf code)) home) (homes : AreHome (machine_of code) s home) (begun : s.memory.leaving ≡ Some []) where
     pub none_below : IsBelow 0 s home
     none_below = record {
       now = ap (λ (made : List Entry). record s { made = made }) (sym (append-nil s.made));
@@ -74,6 +76,8 @@ module _ (code : LinearCode) (s : Shared) (home : List (Option Context)) where
       later = λ k le. refl;
       unserved = λ k le. refl;
       few = omega arith;
+      serves = ap is_some begun;
+      leaving = omega (arith, ap (λ (words : Option (List ℕ)). length (words_leaving words)) begun);
     }
 
     module _ (vs : List Serve) (n : ℕ) (shared : Shared) (places : List (Option Context)) (is : IsAfter vs n shared places) (below : n < length s.memory.threads) where
@@ -98,7 +102,7 @@ module _ (code : LinearCode) (s : Shared) (home : List (Option Context)) where
           let idle : turn_of x state n ≡ [] = ap (serves_if x state n) own_stage.1 ∙ none_served code s state n own_stage.0 (get_or home n None) of_run (ap waits_at_home (sym (is.unserved n (omega arith))) ∙ none) in
           let kept : set places n q ≡ places = ap (set places n) same ∙ set-get_or places n None in
           let whole : vs ++ turn_of x state n ≡ vs = ap (λ (ws : List Serve). vs ++ ws) idle ∙ append-nil vs in
-          let after : IsAfter vs (n + 1) shared places = record { now = is.now; there = is.there; long = is.long; threads = is.threads; limits = is.limits; later = λ k le. is.later k (omega arith); unserved = λ k le. is.unserved k (omega arith); few = omega (arith, is.few) } in
+          let after : IsAfter vs (n + 1) shared places = record { now = is.now; there = is.there; long = is.long; threads = is.threads; limits = is.limits; later = λ k le. is.later k (omega arith); unserved = λ k le. is.unserved k (omega arith); few = omega (arith, is.few); serves = is.serves; leaving = omega (arith, is.leaving) } in
           subst (λ (ws : List Serve). IsAfter ws (n + 1) shared (set places n q)) (sym whole) (subst (λ (ps : List (Option Context)). IsAfter vs (n + 1) shared ps) (sym kept) after)
 
       -- it waited, and was served
@@ -214,6 +218,8 @@ module _ (code : LinearCode) (s : Shared) (home : List (Option Context)) where
           later = in_state.later;
           unserved = λ k le. let apart : k ≢ n = λ e. omega arith in get_or-set_other places n k (Some d) None apart ∙ is.unserved k (omega arith);
           few = omega (arith, ap length (ap (λ (v : Shared). v.made) served.shared), length-append shared.made (told (serve_now code shared c.number served.stage) ∷ []), is.few);
+          serves = served.serves is.serves;
+          leaving = omega (arith, served.leaving, is.leaving);
         }
 
         pub one_more : IsAfter (vs ++ turn_of x state n) (n + 1) new (set places n (Some d))

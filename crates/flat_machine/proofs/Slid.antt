@@ -19,12 +19,13 @@ use Rattle.arena_meaning.specs.Moves.{after_plan, moved, moved_with}
 use Rattle.struct_ir.specs.Instrs.{LinearCode}
 use Rattle.struct_ir.specs.Linear.{Spot}
 use Rattle.flat_meaning.specs.Allowed.{pinned}
-use Rattle.flat_meaning.specs.Events.{State, Serve, after_serves, moved_state}
+use Rattle.flat_meaning.specs.Events.{State, Serve, after_serves, moved_state, serving_state}
 use Rattle.flat_meaning.specs.Image.{Image, limits_for, linear_image}
 use Rattle.flat_rules.specs.Entries.{barrier_entry, served_entry}
 use Rattle.flat_machine.specs.Shares.{Shared, image_of}
 use Rattle.flat_machine.specs.Slides.{move_to, slide_moves}
-use Rattle.flat_meaning.specs.Memory.{with_storage}
+use Rattle.flat_meaning.specs.Memory.{with_storage, serving, served}
+use Rattle.flat_machine.specs.inner.Dones.{with_memory}
 use Rattle.flat_machine.specs.Sweeping.{at_home, counted, home_at, last_of, with_barrier, served_of, serves_from, swept_by, sweep_moves, waits_at_home}
 use Rattle.flat_machine.specs.inner.Swept.{AreServed, handles_home, shared_slid}
 use Rattle.flat_threads.specs.Contexts.{Context}
@@ -92,10 +93,14 @@ module _ (code : LinearCode) (s : Shared) (home : List (Option Context)) (told :
   abbrev moves : List Move
   moves = sweep_moves (image_of code s) (at_home s home)
 
-  abbrev slid : State Spot
-  slid = moved_state moves (at_home s home)
+  -- it begins to serve
+  abbrev pub begun : Shared
+  begun = with_memory slid_and_told (serving slid_and_told.memory)
 
-  same_limits : image_of code slid_and_told ≡ image_of code s
+  abbrev slid : State Spot
+  slid = serving_state (moved_state moves (at_home s home))
+
+  same_limits : image_of code begun ≡ image_of code s
   same_limits =
       let kept = plan_keeps moves s.memory.storage in
       let old = s.memory.storage.heaps in
@@ -107,7 +112,7 @@ module _ (code : LinearCode) (s : Shared) (home : List (Option Context)) (told :
   serves_in x count = serves_from x (range_with_len 0 count) slid
 
   abbrev left_in : Image Spot → (count : ℕ) → Shared
-  left_in x count = record slid_and_told { memory = (after_serves x (serves_in x count) slid).memory; made = (told ∷ []) ++ map (λ v. served_entry 0 (served_of v)) (serves_in x count) }
+  left_in x count = record begun { memory = (after_serves x (serves_in x count) slid).memory; made = (told ∷ []) ++ map (λ v. served_entry 0 (served_of v)) (serves_in x count) }
 
   abbrev home_in : Image Spot → (count : ℕ) → List (Option Context)
   home_in x count = home_at code (after_serves x (serves_in x count) slid).own home
@@ -115,14 +120,21 @@ module _ (code : LinearCode) (s : Shared) (home : List (Option Context)) (told :
   count_is : length s.memory.threads ≡ length (at_home s home).own
   count_is = sym (length-stages_home s.memory.threads home)
 
-  pub barrier_shared : (new : Shared) (behind : List (Option Context)) (for_room : Bool) → AreServed code slid_and_told new home behind → told ≡ barrier_entry 0 for_room → for_room ≡ nat_lt 0 (count_by waits_at_home home) → new ≡ (swept_by code s home).shared
-  barrier_shared new behind for_room served entry room =
-      served.shared
+  -- the old objects of reallocs leave
+  abbrev without_left : Shared → Shared
+  without_left v = with_memory v (served v.memory)
+
+  pub barrier_shared : (given new : Shared) (behind : List (Option Context)) (for_room : Bool) → AreServed code begun given home behind → new ≡ without_left given → told ≡ barrier_entry 0 for_room → for_room ≡ nat_lt 0 (count_by waits_at_home home) → new ≡ (swept_by code s home).shared
+  barrier_shared given new behind for_room are left entry room =
+      left
+      ∙ ap without_left (
+      are.shared
       ∙ ap (λ x. left_in x (length s.memory.threads)) same_limits
       ∙ ap (left_in (image_of code s)) count_is
       ∙ ap (λ e. record (left_in (image_of code s) (length (at_home s home).own)) { made = (e ∷ []) ++ map (λ v. served_entry 0 (served_of v)) (serves_in (image_of code s) (length (at_home s home).own)) }) (entry ∙ ap (barrier_entry 0) room)
+      )
 
-  pub barrier_home : (new : Shared) (behind : List (Option Context)) → AreServed code slid_and_told new home behind → behind ≡ (swept_by code s home).homes
+  pub barrier_home : (new : Shared) (behind : List (Option Context)) → AreServed code begun new home behind → behind ≡ (swept_by code s home).homes
   barrier_home new behind served = served.home_ ∙ ap (λ x. home_in x (length s.memory.threads)) same_limits ∙ ap (home_in (image_of code s)) count_is
 
 -- ---- the slide
@@ -133,9 +145,9 @@ slid_by s moves pinned = record { memory = with_storage s.memory (after_plan mov
 
 pub parts_are : (s : Shared) (ms : List Move) (pinned : ℕ → Bool) (storage : Storage) (count objects bytes before after room : ℕ) → storage ≡ after_plan ms s.memory.storage → count ≡ counted (s.barriers.count + 1) → objects ≡ counted (s.barriers.objects + length ms) → bytes ≡ counted (s.barriers.bytes + sum_by (λ m. m.size) ms)
     → before ≡ extent_of s.memory.storage.heaps → after ≡ extent_of (after_moves ms s.memory.storage.heaps) → room ≡ room_of pinned (after_moves ms s.memory.storage.heaps)
-    → record { memory = record { storage = storage; output = s.memory.output; threads = s.memory.threads }; output_limit = s.output_limit; made = s.made; barriers = record { count = count; objects = objects; bytes = bytes; last = Some (record { before = before; after = after; room = room }) } } ≡ slid_by s ms pinned
+    → record { memory = record { storage = storage; output = s.memory.output; threads = s.memory.threads; leaving = s.memory.leaving }; output_limit = s.output_limit; made = s.made; barriers = record { count = count; objects = objects; bytes = bytes; last = Some (record { before = before; after = after; room = room }) } } ≡ slid_by s ms pinned
 parts_are s ms pinned storage count objects bytes before after room p0 p1 p2 p3 p4 p5 p6 = λ i. record {
-  memory = record { storage = p0 i; output = s.memory.output; threads = s.memory.threads };
+  memory = record { storage = p0 i; output = s.memory.output; threads = s.memory.threads; leaving = s.memory.leaving };
   output_limit = s.output_limit;
   made = s.made;
   barriers = record { count = p1 i; objects = p2 i; bytes = p3 i; last = Some (record { before = p4 i; after = p5 i; room = p6 i }) };

@@ -43,7 +43,7 @@ module _ (v : Shared) (function : ℕ) (to : Target) (argument number : ℕ) whe
   -- its number was stored
   pub does_start : (storage : Storage) (threads : List Made) (r : Done) (t : Turned) → r ≡ dones.Went (Some 0) t → number ≡ length v.memory.threads → number < 64 → HasBytes v.memory.storage.bytes to.address 8
       → storage ≡ record v.memory.storage { bytes = with_bytes v.memory.storage.bytes to.address (low_bytes 8 number) } → threads ≡ v.memory.threads ++ (beginning function argument ∷ [])
-      → Does v (with_memory v (record { storage = storage; output = v.memory.output; threads = threads })) r (started 64 function to argument v.memory)
+      → Does v (with_memory v (record { storage = storage; output = v.memory.output; threads = threads; leaving = v.memory.leaving })) r (started 64 function to argument v.memory)
   does_start storage threads r t r_is number_is few has storage_is threads_are =
       let m : Memory = v.memory in
       let may : may_start 64 m ≡ true = rw (← number_is) (below number few) in

@@ -1,11 +1,12 @@
--- What the machine chooses: at a malloc the least free id and the lowest place.
-use Rattle.std.specs.Prelude.{ℕ, ◌+◌, ◌*◌, ◌%◌, ◌&&◌, ◌||◌, nat_le, nat_lt, Bool, if◌then◌else◌, List, [], ◌∷◌, is_none, position, Option, Some}
+-- What the machine chooses: at an allocation the least free id and the lowest place.
+use Rattle.std.specs.Prelude.{ℕ, ◌+◌, ◌*◌, ◌%◌, ◌==◌, ◌&&◌, ◌||◌, nat_le, nat_lt, Bool, if◌then◌else◌, List, [], ◌∷◌, is_none, position, Option, Some}
 use Rattle.std.specs.List.{list_all, find, range_with_len}
 use Rattle.sub_heaps.specs.declared.objects.Object.{Object}
 use Rattle.sub_heaps.specs.ByPlace.{end_of}
 use Rattle.sub_heaps.specs.SubHeaps.{SubHeaps, rounded}
 use Rattle.arena_meaning.specs.Arena.{Storage}
-use Rattle.struct_ir.specs.Nodes.{Action, malloc, step}
+use Rattle.arena_meaning.specs.Changes.{is_live_start}
+use Rattle.struct_ir.specs.Nodes.{Action, malloc, calloc, realloc, step}
 use Rattle.struct_ir.specs.Flow.{Here, does}
 use Rattle.flat_meaning.specs.Words.{Words, word_at}
 use Rattle.flat_meaning.specs.Accesses.{Choice, plain, got, null, wait}
@@ -39,20 +40,30 @@ room_or s size other = got_or (least_free s.table) (lowest_fit s.heaps (rounded 
 
 -- ---- choices
 
--- at a malloc: above a sub-heap null at once, and else it waits where there is no room
-abbrev pub malloc_choice : Storage → (size : ℕ) → Choice
-malloc_choice s size = if nat_lt s.heaps.size (rounded size) then null else room_or s size wait
+-- for so many bytes: above a sub-heap null at once, and else it waits where there is no room
+abbrev pub sized_choice : Storage → (size : ℕ) → Choice
+sized_choice s size = if nat_lt s.heaps.size (rounded size) then null else room_or s size wait
 
--- where a malloc that waits is served: null where there is no room
-abbrev pub served_choice : Storage → (size : ℕ) → Choice
-served_choice s size = room_or s size null
+-- a word in place of which an object may be allocated: null, or that of a live object
+abbrev pub is_renewable : Storage → (word : ℕ) → Bool
+is_renewable s word = word == 0 || is_live_start s word
 
--- by the action, with a rule for mallocs
-abbrev pub action_choice : ((size : ℕ) → Choice) → Words → Action → List ℕ → Choice
-action_choice rule l malloc (size ∷ []) = rule (word_at l size)
+-- at an allocation of so many bytes in place of a word, which is null but at a realloc: where the word isn't live, which is a trap, null
+abbrev pub malloc_choice : Storage → (word size : ℕ) → Choice
+malloc_choice s word size = if is_renewable s word then sized_choice s size else null
+
+-- where an allocation that waits is served: null where there is no room
+abbrev pub served_choice : Storage → (word size : ℕ) → Choice
+served_choice s word size = room_or s size null
+
+-- by the action, with a rule for allocations
+abbrev pub action_choice : ((word size : ℕ) → Choice) → Words → Action → List ℕ → Choice
+action_choice rule l malloc (size ∷ []) = rule 0 (word_at l size)
+action_choice rule l calloc (count ∷ size ∷ []) = rule 0 (word_at l count * word_at l size)
+action_choice rule l realloc (word ∷ size ∷ []) = rule (word_at l word) (word_at l size)
 action_choice rule l action temps = plain
 
 -- by what stands there
-abbrev pub choice_here : ((size : ℕ) → Choice) → Words → Here → Choice
+abbrev pub choice_here : ((word size : ℕ) → Choice) → Words → Here → Choice
 choice_here rule l (does place (step x)) = action_choice rule l x.action x.temps
 choice_here rule l here = plain

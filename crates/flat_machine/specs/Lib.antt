@@ -12,5 +12,6 @@ pub mod Replays
 pub mod Limits
 pub mod Nulls
 pub mod Laws
+pub mod ServedRows
 pub mod inner
 pub mod lemmas

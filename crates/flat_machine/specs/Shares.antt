@@ -1,5 +1,5 @@
 -- What clauses see of what threads share.
-use Rattle.std.specs.Prelude.{ℕ, ◌≤◌, ◌<◌, List, All, length, Option, None}
+use Rattle.std.specs.Prelude.{◌≡◌, ℕ, ◌≤◌, ◌<◌, List, All, length, Option, None}
 use Rattle.ak_trace.specs.declared.entry.Entry.{Entry}
 use Rattle.struct_ir.specs.Instrs.{LinearCode}
 use Rattle.struct_ir.specs.Linear.{Spot}
@@ -35,9 +35,10 @@ abbrev pub image_of : LinearCode → Shared → Image Spot
 image_of code s = linear_image code (limits_of s)
 
 -- what threads share is that of a run of this program: there is a thread, there are 64 at most, and each has a function of the program,
--- with one parameter at most
+-- with one parameter at most; and no barrier serves
 pub record IsSharedOf (code : LinearCode) (s : Shared) : Type 0 where
   pub program : IsProgram code
   pub some : 0 < length s.memory.threads
   pub few : length s.memory.threads ≤ 64
   pub functions : All (λ (t : Made). t.function < length code.funcs) s.memory.threads
+  pub idle : s.memory.leaving ≡ None

@@ -13,7 +13,7 @@ use Rattle.flat_meaning.specs.Memory.{Made}
 use Rattle.flat_meaning.specs.Accesses.{Choice, got}
 use Rattle.flat_meaning.specs.Stages.{Stage, thread_at}
 use Rattle.flat_meaning.specs.Ready as stages
-use Rattle.flat_meaning.specs.Events.{State, Serve, stage_made, moved_state, after_serves}
+use Rattle.flat_meaning.specs.Events.{State, Serve, stage_made, moved_state, serving_state, served_state, after_serves}
 use Rattle.flat_meaning.specs.Allowed.{pinned}
 use Rattle.flat_rules.specs.Entries.{barrier_entry, served_entry}
 use Rattle.flat_rules.specs.Machine.{Served, Swept}
@@ -57,9 +57,9 @@ moves_of pinned h = slide_moves pinned h.size 0 h.objects
 abbrev pub sweep_moves : Image Spot → State Spot → List Move
 sweep_moves x s = moves_of (pinned x s) s.memory.storage.heaps
 
--- ---- served mallocs
+-- ---- served allocations
 
--- what is chosen for a malloc that waits
+-- what is chosen for an allocation that waits
 abbrev pub serve_of : Image Spot → State Spot → (thread : ℕ) → Stage Spot → Serve
 serve_of x s thread stage = let p = (thread_at x stage).top in record { thread = thread; choice = choice_here (served_choice s.memory.storage) p.own (x.flow.here p.at) }
 
@@ -80,15 +80,15 @@ serves_from x (thread ∷ threads) s = let v = serves_if x s thread (own_at s.ow
 
 -- of all threads, in rising order, once the objects have moved
 abbrev pub sweep_serves : Image Spot → State Spot → List Serve
-sweep_serves x s = serves_from x (range_with_len 0 (length s.own)) (moved_state (sweep_moves x s) s)
+sweep_serves x s = serves_from x (range_with_len 0 (length s.own)) (serving_state (moved_state (sweep_moves x s) s))
 
 -- ---- behind it
 
--- the state
+-- the state, without the old objects of reallocs that were served
 abbrev pub swept_state : Image Spot → State Spot → State Spot
-swept_state x s = after_serves x (sweep_serves x s) (moved_state (sweep_moves x s) s)
+swept_state x s = served_state (after_serves x (sweep_serves x s) (serving_state (moved_state (sweep_moves x s) s)))
 
--- a context, where this is its thread's stage; a blank one stays blank, and one whose malloc was served waits for nothing
+-- a context, where this is its thread's stage; a blank one stays blank, and one whose allocation was served waits for nothing
 abbrev pub context_at : LinearCode → Context → Option (Stage Spot) → Option (Stage Spot) → Context
 context_at code c None stage = c
 context_at code c (Some before) None = c
@@ -116,12 +116,12 @@ abbrev pub waits_at_home : Option Context → Bool
 waits_at_home None = false
 waits_at_home (Some c) = wants_room c.wait
 
--- what a malloc that was served got
+-- what an allocation that was served got
 abbrev pub object_got : Choice → Option (ℕ × ℕ)
 object_got (got id place) = Some (id, place)
 object_got choice = None
 
--- a served malloc as its entry tells it
+-- a served allocation as its entry tells it
 abbrev pub served_of : Serve → Served
 served_of v = record { thread = v.thread; object = object_got v.choice }
 

@@ -1,7 +1,7 @@
 -- How a thread's pending step went, as its entry tells it.
 use Rattle.std.specs.Prelude.{ℕ, Bool, true, false, length, slice_get, Option, Some, None, ℤ, pos}
 use Rattle.ak_words.specs.IntType.{int}
-use Rattle.struct_ir.specs.Nodes.{Action, malloc, start, step}
+use Rattle.struct_ir.specs.Nodes.{Action, malloc, calloc, realloc, start, step}
 use Rattle.struct_ir.specs.Flow.{Here, does}
 use Rattle.struct_ir.specs.Linear.{Spot}
 use Rattle.struct_ir.specs.Threads.{Thread, Outcome, went, ended, blocked, broke, unfit}
@@ -19,7 +19,7 @@ use Rattle.flat_rules.specs.Machine as turns
 use Rattle.flat_rules.specs.Machine.{Turned}
 use Rattle.flat_machine.specs.Choices.{malloc_choice, choice_here}
 
--- a malloc's, by what is chosen
+-- an allocation's, by what is chosen
 abbrev pub malloc_turned : Choice → Turned
 malloc_turned (got id place) = turns.got id place
 malloc_turned choice = turns.got_null
@@ -32,6 +32,8 @@ start_turned false made = turns.refused_thread
 -- an action's that was done
 abbrev pub done_turned : Image Spot → Memory → Choice → Action → Turned
 done_turned x m choice malloc = malloc_turned choice
+done_turned x m choice calloc = malloc_turned choice
+done_turned x m choice realloc = malloc_turned choice
 done_turned x m choice (start function) = start_turned (may_start x.layout.limits.threads m) (length m.threads)
 done_turned x m choice action = turns.stepped
 
@@ -40,7 +42,7 @@ abbrev pub done_here : Image Spot → Memory → Choice → Here → Turned
 done_here x m choice (does place (step s)) = done_turned x m choice s.action
 done_here x m choice here = turns.stepped
 
--- a step that wasn't done: a malloc waits for room, and any other for a mutex or a thread
+-- a step that wasn't done: an allocation waits for room, and any other for a mutex or a thread
 abbrev pub blocked_turned : Choice → Turned
 blocked_turned wait = turns.wants_room
 blocked_turned choice = turns.found_busy
@@ -75,7 +77,7 @@ turned_before x number m choice t NoRoom b = turns.lacked_stack
 turned_before x number m choice t AtStep looks = turns.looked
 turned_before x number m choice t AtStep b = outcome_turned x number m choice (x.flow.here t.top.at) (stop_of x number choice t m)
 
--- of a thread at a stage, with the least id and the lowest place at a malloc
+-- of a thread at a stage, with the least id and the lowest place at an allocation
 abbrev pub turned_at : Image Spot → (number : ℕ) → Memory → Stop → Thread Spot Words → Turned
 turned_at x number m stop t = turned_before x number m (choice_here (malloc_choice m.storage) t.top.own (x.flow.here t.top.at)) t stop (before x t)
 

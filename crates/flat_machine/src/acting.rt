@@ -1,6 +1,6 @@
 //! A thread's pending step.
 
-ghost use Rattle.std.specs.Prelude.{◌≡◌, ◌+◌, ◌^◌, ◌<◌, length, map, IsSome};
+ghost use Rattle.std.specs.Prelude.{◌≡◌, ◌+◌, ◌^◌, ◌<◌, length, map, None, IsSome};
 ghost use Rattle.struct_ir.specs.Instrs.{LinearCode};
 ghost use Rattle.struct_ir.specs.Views.{step_view};
 ghost use Rattle.flat_meaning.specs.declared.endings.Stop.{Stop as FlatStop};
@@ -28,7 +28,7 @@ use flat_threads::{Context, Program, Wait};
 use struct_ir::linear::InstrKind;
 use struct_ir::{Action, StepNode};
 
-/// Does a thread's pending step, with the least id and the lowest place at a malloc. Behind [`Stop::Spent`] it is a rest, and behind
+/// Does a thread's pending step, with the least id and the lowest place at an allocation. Behind [`Stop::Spent`] it is a rest, and behind
 /// [`Stop::NoRoom`] the end of the run.
 pub fn act(shared: &mut Shared, program: &Program, ctx: &mut Context) -> Step
     requires of { IsContextOf program.now ctx.old }
@@ -96,6 +96,7 @@ impl Shared {
         requires call { IsInCall ctx.now.stage }
         requires number { ctx.now.number < 64 }
         requires step { IsStepOf (top_of ctx.now).own (step_view node.now) }
+        requires idle { self.old.memory.leaving ≡ None }
         ensures does { (code : LinearCode) → let l = (top_of ctx.now).own in let s = step_view node.now in Does self.old self.new result
             (acted (image_of code self.old).layout ctx.now.number (action_choice (malloc_choice self.old.memory.storage) l s.action s.temps) s.action (map (target_of l) s.places) (map (word_at l) s.temps) self.old.memory) }
         ensures told { (code : LinearCode) → let l = (top_of ctx.now).own in let s = step_view node.now in
@@ -116,7 +117,18 @@ impl Shared {
                 )
             }
             Action::Malloc => self.malloc(ctx.word(temps[0])),
+            Action::Calloc => self.calloc(ctx.word(temps[0]), ctx.word(temps[1])),
+            Action::Realloc => self.realloc(ctx.word(temps[0]), ctx.word(temps[1])),
             Action::Free => self.free(ctx.word(temps[0])),
+            Action::Change(how, ty) => {
+                self.change(*how, *ty, ctx.target(&places[0]), ctx.word(temps[0]))
+            }
+            Action::Compare(ty) => self.compare(
+                *ty,
+                ctx.target(&places[0]),
+                ctx.target(&places[1]),
+                ctx.word(temps[0]),
+            ),
             Action::Print(pieces) => self.print(ctx, pieces, places, temps),
             Action::Lock => self.lock(ctx.thread(), ctx.target(&places[0])),
             Action::Unlock => self.unlock(ctx.target(&places[0])),

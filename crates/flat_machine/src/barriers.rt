@@ -1,11 +1,23 @@
-//! A barrier: objects slide, and then mallocs that wait are served.
+//! A barrier: objects slide, and then allocations that wait are served.
 
-ghost use Rattle.std.specs.Prelude.{◌≡◌, ◌+◌, ◌*◌, ◌^◌, ◌<◌, ◌≤◌, [], ◌∷◌, ◌++◌, All, length, flat_map, nat_lt, count_by, sum_by, Some};
+ghost use Rattle.std.specs.Prelude.{◌≡◌, ◌+◌, ◌*◌, ◌^◌, ◌<◌, ◌≤◌, [], ◌∷◌, ◌++◌, All, length, flat_map, nat_lt, count_by, sum_by, map, true, Some, IsSome};
+ghost use Rattle.struct_ir.specs.Instrs.{LinearCode};
+ghost use Rattle.struct_ir.specs.Views.{step_view};
+ghost use Rattle.flat_meaning.specs.Actions.{acted};
+ghost use Rattle.flat_meaning.specs.Memory.{served, serving, words_leaving};
+ghost use Rattle.flat_meaning.specs.Ready.{takes_room};
+ghost use Rattle.flat_meaning.specs.Words.{target_of, word_at};
 ghost use Rattle.flat_rules.specs.Entries.{served_with};
 ghost use Rattle.flat_rules.specs.Lawful.{AreHome, IsOfRun};
 ghost use Rattle.flat_threads.specs.Belonging.{IsContextOf};
+ghost use Rattle.flat_threads.specs.Contexts.{IsInCall};
+ghost use Rattle.flat_threads.specs.Deeds.{top_of};
 ghost use Rattle.flat_machine.specs.Machine.{machine_of};
-ghost use Rattle.flat_machine.specs.Shares.{IsSharedOf};
+ghost use Rattle.flat_machine.specs.Choices.{action_choice, served_choice};
+ghost use Rattle.flat_machine.specs.Shares.{IsSharedOf, image_of};
+ghost use Rattle.flat_machine.specs.Turns.{malloc_turned};
+ghost use Rattle.flat_machine.specs.inner.Acted.{IsStepOf};
+ghost use Rattle.flat_machine.specs.inner.Dones.{Does, Went, with_memory};
 ghost use Rattle.flat_machine.specs.Sweeping.{swept_by, waits_at_home};
 ghost use Rattle.flat_machine.specs.inner.Swept.{AreServed, IsServed, IsServedIf, handles_home, object_told, shared_slid};
 
@@ -18,9 +30,10 @@ use handle_table::PinWords;
 use move_plan::{Plan, room, slide};
 use run_report::LastBarrier;
 use struct_ir::linear::InstrKind;
+use struct_ir::{Action, StepNode};
 
-/// Slides all objects that no listed slot names, and then serves the mallocs that wait, in rising order of their threads: each gets the
-/// least id and the lowest place, or null where there is no room.
+/// Slides all objects that no listed slot names, and then serves the allocations that wait, in rising order of their threads: each gets the
+/// least id and the lowest place, or null where there is no room. Behind the last of them the old objects of reallocs leave.
 pub fn barrier(shared: &mut Shared, program: &Program, home: &mut [Option<Context>])
     requires shared { IsSharedOf program.now shared.old }
     requires contexts { All (IsOfRun (machine_of program.now) (IsContextOf program.now)) home.old }
@@ -42,7 +55,9 @@ pub fn barrier(shared: &mut Shared, program: &Program, home: &mut [Option<Contex
         0,
         0,
     ));
+    shared.begin_to_serve();
     serve_all(shared, program, home);
+    shared.leave();
 }
 
 // A thread waits for room.
@@ -85,12 +100,13 @@ fn bytes_of(plan: &Plan) -> u64
     sum
 }
 
-// Serves the mallocs that wait, in rising order of their threads.
+// Serves the allocations that wait, in rising order of their threads.
 fn serve_all(shared: &mut Shared, program: &Program, home: &mut [Option<Context>])
-    requires shared { IsSharedOf program.now shared.old }
+    requires few { length shared.old.memory.threads ≤ 64 }
     requires contexts { All (IsOfRun (machine_of program.now) (IsContextOf program.now)) home.old }
     requires home { AreHome (machine_of program.now) shared.old home.old }
     requires one { length shared.old.made ≡ 1 }
+    requires serves { shared.old.memory.leaving ≡ Some [] }
     ensures { AreServed program.now shared.old shared.new home.old home.new }
 {
     for number in 0..shared.threads.len() {
@@ -98,10 +114,12 @@ fn serve_all(shared: &mut Shared, program: &Program, home: &mut [Option<Context>
     }
 }
 
-// Serves the malloc at which the thread of a place waits, if it does.
+// Serves the allocation at which the thread of a place waits, if it does.
 fn serve_if(shared: &mut Shared, program: &Program, place: &mut Option<Context>)
     requires of { IsOfRun (machine_of program.now) (IsContextOf program.now) place.old }
     requires room { length shared.old.made < 66 }
+    requires serves { IsSome shared.old.memory.leaving }
+    requires leaving { length (words_leaving shared.old.memory.leaving) < 64 }
     ensures { IsServedIf program.now shared.old shared.new place.old place.new }
 {
     if let Some(ctx) = place
@@ -111,18 +129,19 @@ fn serve_if(shared: &mut Shared, program: &Program, place: &mut Option<Context>)
     }
 }
 
-// Serves the malloc at which a context's thread waits.
+// Serves the allocation at which a context's thread waits.
 fn serve(shared: &mut Shared, program: &Program, ctx: &mut Context)
     requires of { IsContextOf program.now ctx.old }
     requires waits { ctx.old.wait ≡ Some Wait.Room }
     requires room { length shared.old.made < 66 }
+    requires serves { IsSome shared.old.memory.leaving }
+    requires leaving { length (words_leaving shared.old.memory.leaving) < 64 }
     ensures { IsServed program.now shared.old shared.new ctx.old ctx.new }
 {
     let InstrKind::Step(node) = &ctx.instr(program).kind else {
         return;
     };
-    let size = ctx.word(node.temps.as_slice()[0]);
-    if let Done::Went(word, turned) = shared.serve(size) {
+    if let Done::Went(word, turned) = shared.serve(ctx, node) {
         ctx.land(node, word);
         shared.tell_served(ctx.thread(), turned);
     }
@@ -156,7 +175,41 @@ impl Shared {
         });
     }
 
-    // Keeps the entry of a malloc that was served.
+    // What comes of an allocation that waits.
+    fn serve(&mut self, ctx: &Context, node: &StepNode) -> Done
+        requires call { IsInCall ctx.now.stage }
+        requires step { IsStepOf (top_of ctx.now).own (step_view node.now) }
+        requires serves { IsSome self.old.memory.leaving }
+        requires leaving { length (words_leaving self.old.memory.leaving) < 64 }
+        ensures does { (code : LinearCode) → let l = (top_of ctx.now).own in let s = step_view node.now in takes_room s.action ≡ true → Does self.old self.new result
+            (acted (image_of code self.old).layout ctx.now.number (action_choice (served_choice self.old.memory.storage) l s.action s.temps) s.action (map (target_of l) s.places) (map (word_at l) s.temps) self.old.memory) }
+        ensures told { let l = (top_of ctx.now).own in let s = step_view node.now in takes_room s.action ≡ true →
+            Went result (malloc_turned (action_choice (served_choice self.old.memory.storage) l s.action s.temps)) }
+    {
+        let temps = node.temps.as_slice();
+        match &node.action {
+            Action::Malloc => self.serve_malloc(ctx.word(temps[0])),
+            Action::Calloc => self.serve_calloc(ctx.word(temps[0]), ctx.word(temps[1])),
+            Action::Realloc => self.serve_realloc(ctx.word(temps[0]), ctx.word(temps[1])),
+            _ => Done::plain(),
+        }
+    }
+
+    // The barrier begins to serve.
+    fn begin_to_serve(&mut self)
+        ensures { self.new ≡ with_memory self.old (serving self.old.memory) }
+    {
+        self.leaving.begin();
+    }
+
+    // The old objects of the reallocs that were served leave.
+    fn leave(&mut self)
+        ensures { self.new ≡ with_memory self.old (served self.old.memory) }
+    {
+        self.leaving.leave(&mut self.arena);
+    }
+
+    // Keeps the entry of an allocation that was served.
     fn tell_served(&mut self, thread: u32, turned: Turned)
         requires thread { thread < 64 }
         requires room { length self.old.made < 66 }

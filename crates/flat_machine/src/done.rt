@@ -36,7 +36,7 @@ impl Done {
         Done::Went(Some(word), Turned::Stepped)
     }
 
-    /// A malloc got an object.
+    /// An allocation got an object.
     pub(crate) fn got(id: u32, place: u32) -> Done
         requires { id < 2 ^ 31 }
         ensures { result ≡ Done.Went (Some (handle_of id 0)) (Turned.Got id place) }
@@ -44,7 +44,7 @@ impl Done {
         Done::Went(Some(make(id, 0)), Turned::Got { id, place })
     }
 
-    /// A malloc got null.
+    /// An allocation got null.
     pub(crate) fn null() -> Done
         ensures { result ≡ Done.Went (Some 0) Turned.GotNull }
     {

@@ -4,8 +4,9 @@ ghost use Rattle.flat_machine.specs.Laws.{ActIsItsEvent, BarrierIsItsEvent, Choi
 ghost use Rattle.flat_machine.specs.Limits.{JournalsFit};
 ghost use Rattle.flat_machine.specs.Nulls.{NullAtAct, NullAtBarrier};
 ghost use Rattle.flat_machine.specs.Readiness.{WaitsAreTold};
+ghost use Rattle.flat_machine.specs.ServedRows.{ServedRowsHold};
 
-/// What is chosen at a malloc is the least free id and the lowest place that fits.
+/// What is chosen at an allocation is the least free id and the lowest place that fits.
 pub fn choices_are_least()
     ensures { ChoicesAreLeast }
 {}
@@ -15,7 +16,7 @@ pub fn waits_are_told()
     ensures { WaitsAreTold }
 {}
 
-/// Act and barrier do events that may come: what is chosen at a malloc is free and fits, and what a listed slot names is not moved.
+/// Act and barrier do events that may come: what is chosen at an allocation is free and fits, and what a listed slot names is not moved.
 pub fn calls_are_events()
     ensures act { ActIsItsEvent }
     ensures barrier { BarrierIsItsEvent }
@@ -26,11 +27,16 @@ pub fn machine_is_flat()
     ensures { MachineIsFlat }
 {}
 
-/// A malloc gets null just where it asks for more than a sub-heap has, or, at a barrier, where no sub-heap has room for it when its turn
+/// An allocation gets null just where it asks for more than a sub-heap has, or, at a barrier, where no sub-heap has room for it when its turn
 /// comes, or no id is free.
 pub fn nulls_have_their_cause()
     ensures act { NullAtAct }
     ensures barrier { NullAtBarrier }
+{}
+
+/// Small codes with callocs and reallocs under what the machine chooses: what they get, at once and at barriers, and what objects are left.
+pub fn small_codes_get_what_they_should()
+    ensures { ServedRowsHold }
 {}
 
 /// No journal that replays has more entries than the settings allow.

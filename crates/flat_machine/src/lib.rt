@@ -10,9 +10,11 @@ mod barriers;
 mod done;
 mod flat;
 mod laws;
+mod leaving;
 mod loading;
 mod locking;
 mod made;
+mod numbers;
 mod printing;
 mod ready;
 mod shared;
@@ -26,7 +28,8 @@ pub use flat_meaning::Stop;
 pub use flat_rules::{Mode, Settings, Step};
 pub use flat_threads::{Context, Program, local};
 pub use laws::{
-    calls_are_events, choices_are_least, machine_is_flat, nulls_have_their_cause, waits_are_told,
+    calls_are_events, choices_are_least, machine_is_flat, nulls_have_their_cause,
+    small_codes_get_what_they_should, waits_are_told,
 };
 pub use ready::{begin, is_ready};
 pub use run_report::{LastBarrier, Report};

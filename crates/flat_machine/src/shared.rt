@@ -4,6 +4,7 @@ ghost use Rattle.flat_machine.specs.Reports.{report_of};
 ghost use Rattle.flat_machine.specs.Shares.{IsSharedOf};
 ghost use Rattle.flat_machine.specs.Start.{first_shared, settings_limits};
 
+use crate::leaving::Leaving;
 use crate::loading::write_plain_data;
 use crate::made::MadeThread;
 use ak_trace::Entry;
@@ -24,7 +25,7 @@ pub(crate) const THREADS: u32 = 64;
 // How many bytes the stack of each has.
 const STACK: u32 = 65536;
 
-// The entries of one event: a barrier, 64 served mallocs, and one more.
+// The entries of one event: a barrier, 64 served allocations, and one more.
 const ENTRIES: usize = 66;
 
 // The words in listed slots: 64 threads of 1,024 slots.
@@ -45,6 +46,7 @@ pub struct Shared {
     pub(crate) plan: Plan,
     pub(crate) pins: Pins,
     pub(crate) words: PinWords,
+    pub(crate) leaving: Leaving,
 }
 
 // Clauses see all but what a barrier needs.
@@ -57,7 +59,7 @@ impl Model for Shared {
     ghost Value = { SharedView };
 
     ghost view = { λ s. record {
-      memory = record { storage = s.arena; output = s.output.items; threads = map made_view s.threads.items };
+      memory = record { storage = s.arena; output = s.output.items; threads = map made_view s.threads.items; leaving = s.leaving };
       output_limit = s.output_limit;
       made = s.made.items;
       barriers = record { count = s.barriers; objects = s.moved_objects; bytes = s.moved_bytes; last = s.last };
@@ -95,6 +97,7 @@ impl Shared {
             plan: Plan::with_room(alloc, s.ids)?,
             pins: Pins::with_room(alloc, PIN_WORDS)?,
             words: PinWords::with_room(alloc, PIN_WORDS)?,
+            leaving: Leaving::none(alloc)?,
         })
     }
 
@@ -157,6 +160,7 @@ impl Shared {
             plan: _,
             pins: _,
             words: _,
+            leaving: _,
         } = self;
         output
     }

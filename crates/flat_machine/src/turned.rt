@@ -15,9 +15,9 @@ pub(crate) enum Turned {
     Looked,
     /// A step was done that neither allocates nor makes a thread.
     Stepped,
-    /// A malloc got an object.
+    /// An allocation got an object.
     Got { id: u32, place: u32 },
-    /// A malloc got null.
+    /// An allocation got null.
     GotNull,
     /// The thread of this number was made.
     MadeThread(u32),
@@ -25,13 +25,13 @@ pub(crate) enum Turned {
     RefusedThread,
     /// The mutex is held, or the thread that is joined hasn't ended.
     FoundBusy,
-    /// The malloc waits for room.
+    /// The allocation waits for room.
     WantsRoom,
     /// The thread rests.
     Rested,
     /// The thread ended with this value.
     Ended(i32),
-    /// An access would have reached an address without a byte, or a word was freed that is not live.
+    /// An access would have reached an address without a byte, or a word was freed, or renewed, that is not live.
     Trapped(u64, TrapKind),
     /// A byte would have passed the output's limit.
     PassedLimit,

@@ -94,7 +94,7 @@ pub record IsChecked (p : Ir) : Type 0 where
 abbrev pub FollowsTurns : Ir → Image Position → Type 0
 FollowsTurns p x = (es : List Event) → AreAllowed x es (first_state x) → UpToABreak (runs.run (program_of p) (start p) (order_of x es (first_state x))) (λ u. Simulates x p es u (after_all x es (first_state x)))
 
--- whatever the threads, the mallocs and the barriers do: the machine stands for the source after the same turns, till one of them breaks a rule
+-- whatever the threads, the allocations and the barriers do: the machine stands for the source after the same turns, till one of them breaks a rule
 abbrev pub EventsFollowTurns : Type 0
 EventsFollowTurns = (p : Ir) → IsChecked p → (output heaps heap ids : ℕ) → IsShape heaps heap ids → FollowsTurns p (structured_image p (limits_for output heaps heap ids))
 

@@ -30,7 +30,7 @@ abbrev pub chosen_id : Choice → List ℕ
 chosen_id (got id place) = id ∷ []
 chosen_id choice = []
 
--- those of mallocs that are served
+-- those of allocations that are served
 abbrev pub served_ids : List Serve → List ℕ
 served_ids [] = []
 served_ids (v ∷ vs) = chosen_id v.choice ++ served_ids vs

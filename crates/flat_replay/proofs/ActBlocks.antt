@@ -5,7 +5,7 @@ use Rattle.block_store.specs.declared.values.Answer.TheVariants as answers
 use Rattle.block_store.specs.Runs.{own_at}
 use Rattle.struct_ir.specs.Flow.{Here, does, tests, passes, round, returns}
 use Rattle.struct_ir.specs.Linear.{Spot}
-use Rattle.struct_ir.specs.Nodes.{Action, load, store, copy_bytes, malloc, free, print, lock, unlock, destroy, start, join, set, call, step, look, safepoint, begin_object, end_object}
+use Rattle.struct_ir.specs.Nodes.{Action, load, store, copy_bytes, malloc, calloc, realloc, free, change, compare, print, lock, unlock, destroy, start, join, set, call, step, look, safepoint, begin_object, end_object}
 use Rattle.struct_ir.specs.Threads.{Thread, Outcome, blocked, served, stop_at}
 use Rattle.flat_store.specs.Flat.{first_outside}
 use Rattle.ak_trace.specs.declared.endings.End.{End}
@@ -14,7 +14,7 @@ use Rattle.flat_meaning.specs.Accesses as choices
 use Rattle.flat_meaning.specs.Accesses.{Done, Fault, plain, within}
 use Rattle.flat_meaning.specs.Actions as actions
 use Rattle.flat_meaning.specs.Actions.{is_free, joined_if}
-use Rattle.flat_meaning.specs.Allowed.{IsAllowed, MayAct, MayDo, MayStep, MayStepAt}
+use Rattle.flat_meaning.specs.Allowed.{IsAllowed, MayAct, MayDo, MayStep, MayStepAt, MayTry}
 use Rattle.flat_meaning.specs.Effects.{act_before, act_effect, acted, own_list_of}
 use Rattle.flat_meaning.specs.Events.{State, act, after, end_or, put_if}
 use Rattle.flat_meaning.specs.Image.{Image}
@@ -33,7 +33,7 @@ module _ (x : Image Spot) (thread : ℕ) (m : Memory) (t : Thread Spot Words) wh
   record ActionBlocks (a : Action) (ts : List Target) (ws : List ℕ) : Type 0 where
     pub waits : actions.acted x.layout thread plain a ts ws m ≡ choices.waits
     pub told : tried_action a ≡ answers.Plain
-    pub may : (temps : List ℕ) → MayDo m.storage t.top.own plain a temps
+    pub may : (temps : List ℕ) → MayDo m.storage t.top.own plain a temps × MayTry m.storage t.top.own plain a temps
 
   within_waits : (kind : TrapKind) (o : Option ℕ) (b : Bool) (d : Done) → (is_some o || b) ≡ false → within kind o (cond b d choices.waits) ≡ choices.waits
   within_waits kind None true d e = absurd cc
@@ -59,10 +59,14 @@ module _ (x : Image Spot) (thread : ℕ) (m : Memory) (t : Thread Spot Words) wh
   action_blocks (store how) ts ws e room made = absurd cc
   action_blocks (copy_bytes align same) ts ws e room made = absurd cc
   action_blocks malloc ts ws e room made = absurd cc
+  action_blocks calloc ts ws e room made = absurd cc
+  action_blocks realloc ts ws e room made = absurd cc
   action_blocks free ts ws e room made = absurd cc
+  action_blocks (change how u) ts ws e room made = absurd cc
+  action_blocks (compare u) ts ws e room made = absurd cc
   action_blocks (print pieces) ts ws e room made = absurd cc
   action_blocks lock [] ws e room made = absurd cc
-  action_blocks lock (a ∷ []) [] e room made = record { waits = within_waits _ (first_outside m.storage.bytes a.address 8) (is_free m a.address) _ e; told = refl; may = λ temps. refl }
+  action_blocks lock (a ∷ []) [] e room made = record { waits = within_waits _ (first_outside m.storage.bytes a.address 8) (is_free m a.address) _ e; told = refl; may = λ temps. (refl, tt) }
   action_blocks lock (a ∷ []) (w ∷ ws) e room made = absurd cc
   action_blocks lock (a ∷ b ∷ ts) ws e room made = absurd cc
   action_blocks unlock ts ws e room made = absurd cc
@@ -70,7 +74,7 @@ module _ (x : Image Spot) (thread : ℕ) (m : Memory) (t : Thread Spot Words) wh
   action_blocks (start function) ts ws e room made = absurd cc
   action_blocks join [] ws e room made = absurd cc
   action_blocks join (to ∷ []) [] e room made = absurd cc
-  action_blocks join (to ∷ []) (number ∷ []) e room made = record { waits = join_waits to number made (slice_get m.threads number) refl e; told = refl; may = λ temps. refl }
+  action_blocks join (to ∷ []) (number ∷ []) e room made = record { waits = join_waits to number made (slice_get m.threads number) refl e; told = refl; may = λ temps. (refl, tt) }
   action_blocks join (to ∷ []) (number ∷ w ∷ ws) e room made = absurd cc
   action_blocks join (to ∷ b ∷ ts) ws e room made = absurd cc
 

@@ -92,7 +92,7 @@ module _ (code : LinearCode) (s : Settings) (program : IsProgram code) (loadable
 
   -- in a state that a journal reaches
   module _ (before : List Entry) (e : Entry) (x y : State Shared Context) (ran : run m (rules_of s) before first ≡ Some x) (st : step m (rules_of s) x e ≡ Some y) (is : e.kind ≡ kind.barrier) where
-    -- what is due are served mallocs
+    -- what is due are served allocations
     none_due : x.due ≡ []
     none_due = step_cases m (rules_of s) x e y {R = x.due ≡ []}
         (λ n. absurd (let h : AllServed (n.d ∷ n.ds) = subst AllServed n.due (due_served m (rules_of s) (first_shared code (settings_limits s)) before x ran) in let k : kind.barrier ≡ kind.served = sym is ∙ (same_kind e n.d n.same ∙ h.0) in cc k))

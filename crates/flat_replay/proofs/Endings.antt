@@ -1,13 +1,13 @@
 -- How an act ends a run of the machine: by a fault, without room for a call, or by main's return; which turn it does or tries, and what it
 -- leaves.
-use Rattle.std.proofs.Common.{◌≡◌, ℕ, ◌==◌, Bool, true, false, cond, List, [], ◌∷◌, map, Option, Some, None, refl, sym, ap, ◌∙◌, inl, inr}
+use Rattle.std.proofs.Common.{◌≡◌, ℕ, ◌*◌, ◌==◌, Bool, true, false, cond, List, [], ◌∷◌, map, Option, Some, None, refl, sym, ap, ◌∙◌, subst, inl, inr}
 use Rattle.std.specs.Prelude.{◌⊎◌, slice_get}
 use Rattle.block_store.specs.declared.values.Answer.{Answer}
 use Rattle.block_store.specs.declared.values.Answer.TheVariants as answers
 use Rattle.block_store.specs.Runs.{Pick}
 use Rattle.struct_ir.specs.Flow.{Here, does, tests, passes, round, returns}
 use Rattle.struct_ir.specs.Linear.{Spot}
-use Rattle.struct_ir.specs.Nodes.{Action, load, store, copy_bytes, malloc, free, print, lock, unlock, destroy, start, join, set, call, step, look, safepoint, begin_object, end_object}
+use Rattle.struct_ir.specs.Nodes.{Action, load, store, copy_bytes, malloc, calloc, realloc, free, change, compare, print, lock, unlock, destroy, start, join, set, call, step, look, safepoint, begin_object, end_object}
 use Rattle.struct_ir.specs.Threads.{Thread, Outcome, went, ended, blocked, broke, unfit, served, stop_at}
 use Rattle.ak_trace.specs.declared.endings.End.{End}
 use Rattle.ak_trace.specs.declared.endings.End.TheVariants as ends
@@ -22,11 +22,11 @@ use Rattle.flat_meaning.specs.Image.{Image}
 use Rattle.flat_meaning.specs.Machine.{served_by, words_machine, words_world}
 use Rattle.flat_meaning.specs.Memory.{Memory}
 use Rattle.flat_meaning.specs.Order.{act_picks, answer_here, pick, pick_if, picks_of_act, tried_action, tried_answer, tried_at, tried_before, tried_if}
-use Rattle.flat_meaning.specs.Ready.{is_malloc, takes_room}
+use Rattle.flat_meaning.specs.Ready.{is_allocation, takes_room}
 use Rattle.flat_meaning.specs.Stages.{Stage, starts, going, waiting, landed, Before, safe, looks, steps, calls, turn_over, nothing, before, can_go, room_for}
 use Rattle.flat_meaning.specs.Words.{Target, Words, target_of, word_at}
 use Rattle.flat_rules.specs.inner.Cases.{same_number}
-use Rattle.flat_replay.proofs.Mallocs.{malloc_ends}
+use Rattle.flat_replay.proofs.Allocations.{waiting_ends}
 
 -- what is tried is told Plain or Got
 told_either : (h : Here) → (tried_answer h ≡ answers.Plain) ⊎ (tried_answer h ≡ answers.Got)
@@ -38,7 +38,11 @@ told_either (does place (step s)) = by s.action where
   by (store how) = inl refl
   by (copy_bytes align same) = inl refl
   by malloc = inr refl
+  by calloc = inr refl
+  by realloc = inl refl
   by free = inl refl
+  by (change how t) = inl refl
+  by (compare t) = inl refl
   by (print pieces) = inl refl
   by lock = inl refl
   by unlock = inl refl
@@ -65,12 +69,18 @@ module _ (x : Image Spot) (thread : ℕ) (choice : Choice) (m : Memory) where
   started_limit true false kind o one other m1 m2 e = absurd cc
   started_limit false c kind o one other m1 m2 e = absurd cc
 
-  -- nor does a malloc
+  -- nor does a malloc or a calloc
   allocated_limit : (c : Choice) (size : ℕ) → choices.allocated c size m ≡ over output_limit → ⊥
   allocated_limit plain size e = absurd cc
   allocated_limit (choices.got id place) size e = absurd cc
   allocated_limit choices.null size e = absurd cc
   allocated_limit wait size e = absurd cc
+
+  zeroed_limit : (c : Choice) (size : ℕ) → choices.zeroed c size m ≡ over output_limit → ⊥
+  zeroed_limit plain size e = absurd cc
+  zeroed_limit (choices.got id place) size e = absurd cc
+  zeroed_limit choices.null size e = absurd cc
+  zeroed_limit wait size e = absurd cc
 
   -- so the turn is told Plain
   limit_action : (a : Action) (ts : List Target) (ws : List ℕ) → actions.acted x.layout thread choice a ts ws m ≡ over output_limit → tried_action a ≡ answers.Plain
@@ -81,7 +91,15 @@ module _ (x : Image Spot) (thread : ℕ) (choice : Choice) (m : Memory) where
   limit_action malloc [] (size ∷ []) e = absurd (allocated_limit choice size e)
   limit_action malloc [] (size ∷ w ∷ ws) e = absurd cc
   limit_action malloc (a ∷ ts) ws e = absurd cc
+  limit_action calloc [] [] e = absurd cc
+  limit_action calloc [] (count ∷ []) e = absurd cc
+  limit_action calloc [] (count ∷ size ∷ []) e = absurd (zeroed_limit choice (count * size) e)
+  limit_action calloc [] (count ∷ size ∷ w ∷ ws) e = absurd cc
+  limit_action calloc (a ∷ ts) ws e = absurd cc
+  limit_action realloc ts ws e = refl
   limit_action free ts ws e = refl
+  limit_action (change how t) ts ws e = refl
+  limit_action (compare t) ts ws e = refl
   limit_action (print pieces) ts ws e = refl
   limit_action lock ts ws e = refl
   limit_action unlock ts ws e = refl
@@ -125,7 +143,11 @@ module _ (x : Image Spot) (thread : ℕ) (choice : Choice) (m : Memory) where
     plain_action (store how) temps e may = may
     plain_action (copy_bytes align same) temps e may = may
     plain_action malloc temps e may = absurd cc
+    plain_action calloc temps e may = absurd cc
+    plain_action realloc temps e may = absurd cc
     plain_action free temps e may = may
+    plain_action (change how u) temps e may = may
+    plain_action (compare u) temps e may = may
     plain_action (print pieces) temps e may = may
     plain_action lock temps e may = may
     plain_action unlock temps e may = may
@@ -133,11 +155,11 @@ module _ (x : Image Spot) (thread : ℕ) (choice : Choice) (m : Memory) where
     plain_action (start function) temps e may = may
     plain_action join temps e may = may
 
-    -- of any step but a malloc nothing is chosen
-    pub plain_of : (h : Here) → is_malloc h ≡ false → MayAct m.storage t.top.own choice h → choice ≡ plain
+    -- of any step but an allocation nothing is chosen
+    pub plain_of : (h : Here) → is_allocation h ≡ false → MayAct m.storage t.top.own choice h → choice ≡ plain
     plain_of (does place (set to calc)) e may = may
     plain_of (does place (call c)) e may = may
-    plain_of (does place (step s)) e may = plain_action s.action s.temps e may
+    plain_of (does place (step s)) e may = plain_action s.action s.temps e may.0
     plain_of (does place (look slot base)) e may = may
     plain_of (does place (safepoint slots)) e may = may
     plain_of (does place (begin_object i)) e may = may
@@ -149,9 +171,12 @@ module _ (x : Image Spot) (thread : ℕ) (choice : Choice) (m : Memory) where
 
     -- so what ended the run wasn't left waiting
     not_wait : (stage : Stage Spot) (h : Here) (end : End) → MayAct m.storage t.top.own choice h → (acted thread stage t (own_list_of h) m (outcome_at h)).end ≡ Some end → choice ≡ wait → ⊥
-    not_wait stage h end may stops waiting_ = by (is_malloc h) refl where
-      by : (b : Bool) → is_malloc h ≡ b → ⊥
-      by true is = let bad : None ≡ Some end = sym (malloc_ends x thread choice m stage t (own_list_of h) h is) ∙ stops in cc
+    not_wait stage h end may stops waiting_ = by (is_allocation h) refl where
+      by : (b : Bool) → is_allocation h ≡ b → ⊥
+      by true is =
+          let still = waiting_ends x thread m stage t (own_list_of h) h is (subst (λ (c : Choice). MayAct m.storage t.top.own c h) waiting_ may) in
+          let bad : None ≡ Some end = sym still ∙ ap (λ (c : Choice). (acted thread stage t (own_list_of h) m (stop_at x.flow (words_machine x.layout thread) (words_world x.layout thread) x.start c t m h)).end) (sym waiting_) ∙ stops in
+          cc
       by false is = let bad : plain ≡ wait = sym (plain_of h is may) ∙ waiting_ in cc
 
   -- ---- how an act ends a run

@@ -1,5 +1,5 @@
 -- The first turns that events make are those of fewer events that may come: of the first of them, where the last may be a barrier that
--- serves fewer mallocs.
+-- serves fewer allocations.
 use Rattle.std.proofs.Common.{◌≡◌, ℕ, zero, suc, ◌+◌, ◌-◌, ◌<◌, ◌≤◌, ◌==◌, Bool, true, false, cond, List, [], ◌∷◌, ◌++◌, length, take, Option, Some, None, refl, sym, ap, ◌∙◌, arith, append-nil, inl, inr}
 use Rattle.std.specs.Prelude.{◌⊎◌}
 use Rattle.std.proofs.Math.Seq.{take-append-add}
@@ -12,7 +12,7 @@ use Rattle.struct_ir.specs.Threads.{Thread, Outcome, went, ended, blocked, broke
 use Rattle.flat_meaning.specs.Accesses.{Fault, Choice}
 use Rattle.flat_meaning.specs.Allowed.{AreAllowed, IsAllowed, MayServeAll}
 use Rattle.flat_meaning.specs.Effects.{stop_of}
-use Rattle.flat_meaning.specs.Events.{State, Serve, Event, local, look, act, barrier, after, after_all, after_serve, after_serves, moved_state}
+use Rattle.flat_meaning.specs.Events.{State, Serve, Event, local, look, act, barrier, after, after_all, after_serve, after_serves, moved_state, serving_state}
 use Rattle.flat_meaning.specs.Image.{Image}
 use Rattle.flat_meaning.specs.Memory.{Memory}
 use Rattle.flat_meaning.specs.Order.{act_picks, answer_of, local_picks, order_of, pick_if, picks_of, picks_of_act, picks_of_local, picks_of_serve, picks_of_serves}
@@ -126,11 +126,11 @@ module _ {P : Type 0} (x : Image P) where
   first_of_one (look thread) n s allowed lt = none_of (look thread) n s (omega arith) lt
   first_of_one (act thread choice) n s allowed lt = none_of (act thread choice) n s (act_few s.memory thread choice (own_at s.own thread)) lt
   first_of_one (barrier moves served) n s allowed lt =
-      let first = first_serves served n (moved_state moves s) allowed.1.2 in
+      let first = first_serves served n (serving_state (moved_state moves s)) allowed.1.2 in
       record {
         events = barrier moves first.served ∷ [];
         allowed = ((allowed.0, (allowed.1.0, allowed.1.1, first.may)), tt);
-        order = append-nil (picks_of_serves x first.served (moved_state moves s)) ∙ first.picks;
+        order = append-nil (picks_of_serves x first.served (serving_state (moved_state moves s))) ∙ first.picks;
         grows = first.grows;
       }
 

@@ -2,7 +2,9 @@
 use Rattle.std.proofs.Common.{ℕ, List, [], ◌∷◌, Option, Some, None, Result, Ok, Err}
 use Rattle.block_store.specs.declared.values.Answer.TheVariants as answers
 use Rattle.block_store.specs.Actions as actions
-use Rattle.block_store.specs.Actions.{World, Done, acted}
+use Rattle.ak_words.specs.declared.rule.Rule.{Rule}
+use Rattle.block_store.specs.Actions.{World, Done, Reached, acted, telling}
+use Rattle.block_store.specs.Blocks.{Blocks, renewed}
 use Rattle.block_store.specs.Runs as runs
 use Rattle.block_store.specs.Runs.{own_at, picked, turn_if}
 use Rattle.struct_ir.specs.Nodes.{Act, set, call, step, look, safepoint, begin_object, end_object, Ir}
@@ -44,12 +46,20 @@ Refuses actions.blocked = ⊥
 Refuses actions.unfit = Unit {0}
 Refuses (actions.broke rule) = Unit {0}
 
+-- a realloc takes no Plain, unless it breaks a rule
+renewed_refused : (w : World) (size : ℕ) (reached : List Reached) (r : Result Blocks Rule) → Refuses (telling reached (actions.renews w size r).plain)
+renewed_refused w size reached (Ok blocks) = tt
+renewed_refused w size reached (Err rule) = tt
+
 -- where Got breaks a rule, Plain isn't taken
 fails_refused : (w : World) (thread : ℕ) (a : actions.SharedAction) → Fails (acted w thread answers.Got a) → Refuses (acted w thread answers.Plain a)
 fails_refused w thread (actions.load at how) h = absurd h
 fails_refused w thread (actions.store at v) h = absurd h
 fails_refused w thread (actions.copy to from n align same) h = absurd h
 fails_refused w thread (actions.allocate size first) h = tt
+fails_refused w thread (actions.reallocate at size) h = renewed_refused w size _ (renewed w.blocks at size)
+fails_refused w thread (actions.change at ty how by) h = absurd h
+fails_refused w thread (actions.compare at want ty new) h = absurd h
 fails_refused w thread (actions.free at) h = absurd h
 fails_refused w thread (actions.print parts) h = absurd h
 fails_refused w thread (actions.lock at) h = absurd h

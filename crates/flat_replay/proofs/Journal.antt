@@ -8,11 +8,11 @@ use Rattle.struct_ir.specs.Instrs.{LinearCode}
 use Rattle.struct_ir.specs.Linear.{Spot}
 use Rattle.ak_trace.specs.declared.endings.End.{End}
 use Rattle.flat_meaning.specs.Events as events
-use Rattle.flat_meaning.specs.Events.{Serve, after_serves, first_state, moved_state}
+use Rattle.flat_meaning.specs.Events.{Serve, after_serves, first_state, moved_state, serving_state}
 use Rattle.flat_meaning.specs.Image.{Limits, linear_image}
 use Rattle.flat_meaning.specs.Journals.{journal_picks}
 use Rattle.flat_meaning.specs.Local.{Came, goes_for}
-use Rattle.flat_meaning.specs.Memory.{Made}
+use Rattle.flat_meaning.specs.Memory.{Made, Memory}
 use Rattle.flat_meaning.specs.Order.{picks_of_serves}
 use Rattle.flat_meaning.specs.Simulation.{IsLoadable}
 use Rattle.flat_meaning.specs.Stages.{Stage}
@@ -51,7 +51,7 @@ use Rattle.flat_replay.specs.Journals.{IsOfEvents, context_in}
 use Rattle.flat_replay.specs.Laws.{AJournalIsOfEvents}
 use Rattle.flat_replay.proofs.Barriers.{opened}
 use Rattle.flat_replay.proofs.Consistent.{Good, all_good, barrier_here, good_keeps}
-use Rattle.flat_replay.proofs.Doings.{SameHeaps, more_heaps}
+use Rattle.flat_replay.proofs.Doings.{SameHeaps, more_heaps, served_heaps}
 use Rattle.flat_replay.proofs.Entries.{same_is, serves_attempts, serves_ids, serves_picks}
 use Rattle.flat_replay.proofs.LocalTurns.{GoesAlone, goes_alone_to}
 use Rattle.flat_replay.proofs.Segments.{Comes, none_come}
@@ -174,7 +174,7 @@ module _ (code : LinearCode) (rules : Rules) where
       here = at_home x.shared (homes_of x.places)
 
       abbrev slid : events.State Spot
-      slid = moved_state (sweep_moves (image_of code x.shared) (at_home x.shared (homes_of x.places))) (at_home x.shared (homes_of x.places))
+      slid = serving_state (moved_state (sweep_moves (image_of code x.shared) (at_home x.shared (homes_of x.places))) (at_home x.shared (homes_of x.places)))
 
       here_is : here ≡ standing_in x
       here_is = λ i. record { memory = x.shared.memory; own = stages_home x.shared.memory.threads (sym (all_home x.places quiet) i); end = None }
@@ -193,7 +193,7 @@ module _ (code : LinearCode) (rules : Rules) where
       served : (picks_of_serves (image_of code x.shared) serves slid ≡ map serve_pick serves) × SameHeaps slid.memory (after_serves (image_of code x.shared) serves slid).memory
       served = all_say code program x.shared here.own (length here.own)
           (stages_of_run code x.shared.memory.threads homes good.held.of_.functions (of_run m (IsContextOf code) (IsSharedOf code) (machine_is_flat code) x.shared x.places good.held.of_ good.held.few sits))
-          (length here.own) 0 slid (omega arith) (from_first code program x.shared here.own (length here.own) (stages_of_run code x.shared.memory.threads homes good.held.of_.functions (of_run m (IsContextOf code) (IsSharedOf code) (machine_is_flat code) x.shared x.places good.held.of_ good.held.few sits)) slid refl refl)
+          (length here.own) 0 slid (omega arith) (from_first code program x.shared here.own (length here.own) (stages_of_run code x.shared.memory.threads homes good.held.of_.functions (of_run m (IsContextOf code) (IsSharedOf code) (machine_is_flat code) x.shared x.places good.held.of_ good.held.few sits)) slid refl refl refl)
 
       sweeps : let v = barrier_event m rules x w (m.barrier x.shared homes) in Goes_on code x v.after v.entries
       sweeps =
@@ -210,7 +210,7 @@ module _ (code : LinearCode) (rules : Rules) where
             attempts = λ turns. sym (serves_attempts w serves (turns + 0));
             ids = sym (serves_ids w serves);
             stands = record { memory = refl; ending = sym going; stages = λ none. ap (stages_home b.shared.memory.threads) (sym (all_after code x.places b.homes swept.kept quiet)) };
-            same = same_limits x.shared.output_limit x.shared.memory b.shared.memory (more_heaps x.shared.memory slid.memory b.shared.memory (record { count = kept.0; size = kept.1; most = kept.2 }) served.1);
+            same = let before : Memory = (after_serves (image_of code x.shared) serves slid).memory in same_limits x.shared.output_limit x.shared.memory b.shared.memory (more_heaps x.shared.memory before b.shared.memory (more_heaps x.shared.memory slid.memory before (record { count = kept.0; size = kept.1; most = kept.2 }) served.1) (served_heaps before));
           }
 
     -- ---- each event

@@ -1,6 +1,6 @@
 -- The event that ends a run of the machine is an act, and none comes behind it.
 use Rattle.std.proofs.Common.{◌≡◌, ℕ, Bool, true, false, cond, List, [], ◌∷◌, ◌++◌, Option, Some, None, refl, sym, ap, ◌∙◌, subst, inl, inr}
-use Rattle.std.specs.Prelude.{◌⊎◌}
+use Rattle.std.specs.Prelude.{◌⊎◌, is_some}
 use Rattle.block_store.specs.Runs.{own_at}
 use Rattle.struct_ir.specs.Flow.{Here, does, tests, passes, round, returns}
 use Rattle.struct_ir.specs.Linear.{Spot}
@@ -10,13 +10,14 @@ use Rattle.ak_trace.specs.declared.endings.End.{End}
 use Rattle.flat_meaning.specs.Accesses.{Choice, plain}
 use Rattle.flat_meaning.specs.Allowed.{AreAllowed, IsAllowed, MayCome, MayServe, MayServeAll}
 use Rattle.flat_meaning.specs.Effects.{Effect, acted, gone_effect, look_before, look_effect, no_effect, own_list_of, serve_effect}
-use Rattle.flat_meaning.specs.Events.{State, Serve, Event, local, look as does_look, act, barrier, after, after_all, after_serve, after_serves, end_or, moved_state, put_if}
+use Rattle.flat_meaning.specs.Events.{State, Serve, Event, local, look as does_look, act, barrier, after, after_all, after_serve, after_serves, end_or, moved_state, put_if, serving_state}
 use Rattle.flat_meaning.specs.Image.{Image}
 use Rattle.flat_meaning.specs.Machine.{words_machine, words_world}
 use Rattle.flat_meaning.specs.Memory.{Memory}
 use Rattle.flat_meaning.specs.Stages.{Stage, starts, going, waiting, landed, Before, safe, looks, steps, calls, turn_over, nothing, before, before_here, can_go, gone}
 use Rattle.flat_meaning.specs.Words.{Words}
-use Rattle.flat_replay.proofs.Mallocs.{malloc_ends}
+use Rattle.flat_simulation.proofs.StepKinds.{malloc_goes_on}
+use Rattle.flat_replay.proofs.Allocations.{still_serves}
 
 module _ (x : Image Spot) where
   -- ---- how events leave the end
@@ -69,18 +70,25 @@ module _ (x : Image Spot) where
   put_end s thread effect none None = refl
   put_end s thread effect none (Some stage) = ap (λ (e : Option End). end_or e s.end) (none stage)
 
-  -- a malloc that is served leaves it, too
-  serve_end : (s : State Spot) (v : Serve) (o : Option (Stage Spot)) → MayServe x s.memory v.choice o → (put_if s v.thread (serve_effect x v.thread v.choice) o).end ≡ s.end
-  serve_end s v None may = refl
-  serve_end s v (Some (starts function argument)) may = refl
-  serve_end s v (Some (going t)) may = refl
-  serve_end s v (Some (waiting t)) may = ap (λ (e : Option End). end_or e s.end) (malloc_ends x v.thread v.choice s.memory (waiting t) t (own_list_of (x.flow.here t.top.at)) (x.flow.here t.top.at) may.0)
-  serve_end s v (Some (landed list t)) may = refl
+  -- an allocation that is served leaves it, too, and the barrier still serves behind it
+  record Serves (s after : State Spot) : Type 0 where
+    pub end_ : after.end ≡ s.end
+    pub on_ : is_some after.memory.leaving ≡ true
+
+  serve_end : (s : State Spot) (v : Serve) (o : Option (Stage Spot)) → is_some s.memory.leaving ≡ true → MayServe x s.memory v.choice o → Serves s (put_if s v.thread (serve_effect x v.thread v.choice) o)
+  serve_end s v None serves may = record { end_ = refl; on_ = serves }
+  serve_end s v (Some (starts function argument)) serves may = record { end_ = refl; on_ = serves }
+  serve_end s v (Some (going t)) serves may = record { end_ = refl; on_ = serves }
+  serve_end s v (Some (waiting t)) serves may = record {
+    end_ = ap (λ (e : Option End). end_or e s.end) (malloc_goes_on x v.thread t s.memory v.choice (waiting t) (own_list_of (x.flow.here t.top.at)) (x.flow.here t.top.at) may.0 serves);
+    on_ = still_serves x v.thread s.memory (waiting t) t serves v.choice (own_list_of (x.flow.here t.top.at)) (x.flow.here t.top.at) may.0;
+  }
+  serve_end s v (Some (landed list t)) serves may = record { end_ = refl; on_ = serves }
 
   -- and so do all of a barrier
-  serves_end : (vs : List Serve) (s : State Spot) → MayServeAll x vs s → (after_serves x vs s).end ≡ s.end
-  serves_end [] s may = refl
-  serves_end (v ∷ vs) s may = serves_end vs (after_serve x s v) may.1 ∙ serve_end s v (own_at s.own v.thread) may.0
+  serves_end : (vs : List Serve) (s : State Spot) → is_some s.memory.leaving ≡ true → MayServeAll x vs s → (after_serves x vs s).end ≡ s.end
+  serves_end [] s serves may = refl
+  serves_end (v ∷ vs) s serves may = let one = serve_end s v (own_at s.own v.thread) serves may.0 in serves_end vs (after_serve x s v) one.on_ may.1 ∙ one.end_
 
   -- it is an act
   pub record IsAct (e : Event) : Type 0 where
@@ -93,7 +101,7 @@ module _ (x : Image Spot) where
   event_end s (local thread) may = inr (put_end s thread (gone_effect x thread) (λ stage. gone_end thread stage s.memory) (own_at s.own thread))
   event_end s (does_look thread) may = inr (put_end s thread (look_effect x thread) (λ stage. look_end thread stage s.memory) (own_at s.own thread))
   event_end s (act thread choice) may = inl (record { thread = thread; choice = choice; is = refl })
-  event_end s (barrier moves served) may = inr (serves_end served (moved_state moves s) may.2)
+  event_end s (barrier moves served) may = inr (serves_end served (serving_state (moved_state moves s)) refl may.2)
 
   -- ---- the last event
 

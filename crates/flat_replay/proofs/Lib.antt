@@ -11,7 +11,7 @@ pub mod Stages
 pub mod Told
 pub mod Journal
 pub mod GotBreaks
-pub mod Mallocs
+pub mod Allocations
 pub mod LastEvent
 pub mod Endings
 pub mod MainRuns

@@ -1,27 +1,28 @@
 -- What was printed stays: an event leaves the output as it is, or prints behind it.
-use Rattle.std.proofs.Common.{ℕ, ◌==◌, Bool, true, false, cond, List, [], ◌∷◌, map, Option, Some, None, refl}
+use Rattle.std.proofs.Common.{ℕ, ◌*◌, ◌/◌, ◌==◌, Bool, true, false, cond, List, [], ◌∷◌, map, Option, Some, None, refl}
 use Rattle.std.specs.Prelude.{slice_get}
 use Rattle.ak_words.specs.Prefix.{IsPrefix}
 use Rattle.ak_words.proofs.Prefixes.{prefix_of_itself, prefix_of_prefix}
 use Rattle.block_store.specs.Cells.{size_of}
 use Rattle.block_store.specs.Runs.{own_at}
 use Rattle.flat_store.specs.Flat.{first_outside, first_outside_of_both}
-use Rattle.struct_ir.specs.Nodes.{Action, load, store, copy_bytes, malloc, free, print, lock, unlock, destroy, start, join, set, call, step, look, safepoint, begin_object, end_object}
+use Rattle.arena_meaning.specs.Changes.{is_live_start}
+use Rattle.struct_ir.specs.Nodes.{Action, load, store, copy_bytes, malloc, calloc, realloc, free, change, compare, print, lock, unlock, destroy, start, join, set, call, step, look, safepoint, begin_object, end_object}
 use Rattle.struct_ir.specs.Flow.{Here, does, tests, passes, round, returns}
 use Rattle.struct_ir.specs.Machine.{Point}
 use Rattle.struct_ir.specs.Threads as threads
 use Rattle.struct_ir.specs.Threads.{Thread, Outcome, Served, serves, refuses, fails, if_fits, finished, left_call, stop_at}
 use Rattle.ak_trace.specs.declared.endings.TrapKind.{TrapKind}
 use Rattle.ak_trace.specs.declared.endings.TrapKind.TheVariants as kinds
-use Rattle.flat_meaning.specs.Accesses.{Fault, Choice, plain, got, null, wait, Done, went, waits, unfit, over, is_plain, within, allocated, is_live_start, prints, output_room}
-use Rattle.flat_meaning.specs.Actions.{acted, is_free, joined_at, joined_if, joined_with, may_start, printed_parts}
+use Rattle.flat_meaning.specs.Accesses.{Fault, Choice, plain, got, null, wait, Done, went, waits, unfit, over, is_plain, within, allocated, zeroed, renewed, guarded, with_copy, trap, prints, output_room}
+use Rattle.flat_meaning.specs.Actions.{acted, is_equal, is_free, joined_at, joined_if, joined_with, may_start, number_at, printed_parts}
 use Rattle.flat_meaning.specs.Effects as effects
 use Rattle.flat_meaning.specs.Effects.{Effect, act_before, act_effect, gone_effect, look_before, look_effect, own_list_of, serve_effect, step_effect, stop_of}
 use Rattle.flat_meaning.specs.Events as events
-use Rattle.flat_meaning.specs.Events.{State, Serve, Event, act, barrier, local, after, after_all, after_serve, after_serves, moved_state, put_if}
+use Rattle.flat_meaning.specs.Events.{State, Serve, Event, act, barrier, local, after, after_all, after_serve, after_serves, moved_state, put_if, serving_state}
 use Rattle.flat_meaning.specs.Image.{Image, Layout}
 use Rattle.flat_meaning.specs.Machine.{given, served_by, served_plainly, words_machine, words_world}
-use Rattle.flat_meaning.specs.Memory.{Made, Memory, thread_ended}
+use Rattle.flat_meaning.specs.Memory.{Made, Memory, left_by, thread_ended, with_storage}
 use Rattle.flat_meaning.specs.Printing.{Read, outside, read_parts, reads, too_long}
 use Rattle.flat_meaning.specs.Stages.{Stage, starts, going, waiting, landed, Before, safe, looks, steps, calls, turn_over, nothing, before, room_for, can_go}
 use Rattle.flat_meaning.specs.Words.{Target, Words, target_of, word_at}
@@ -78,6 +79,32 @@ module _ (m : Memory) where
   allocated_grows null size = still
   allocated_grows wait size = tt
 
+  zeroed_grows : (c : Choice) (size : ℕ) → DoneGrows m (zeroed c size m)
+  zeroed_grows plain size = tt
+  zeroed_grows (got id place) size = still
+  zeroed_grows null size = still
+  zeroed_grows wait size = tt
+
+  left_grows_by : (leaving : Option (List ℕ)) (word : ℕ) (new : Memory) → Grows m new → Grows m (left_by leaving word new)
+  left_grows_by None word new h = h
+  left_grows_by (Some words) word new h = h
+
+  either_memory : (b : Bool) (one other : Memory) → Grows m one → Grows m other → Grows m (cond b one other)
+  either_memory true one other h k = h
+  either_memory false one other h k = k
+
+  renewed_grows : (c : Choice) (word size : ℕ) → DoneGrows m (renewed c word size m)
+  renewed_grows plain word size = tt
+  renewed_grows (got id place) word size =
+      let new : Memory = with_storage m (with_copy m.storage id place word size) in
+      either_memory (is_live_start m.storage word) (left_by m.leaving word new) new (left_grows_by m.leaving word new still) still
+  renewed_grows null word size = still
+  renewed_grows wait word size = tt
+
+  guarded_grows : (leaving : Option (List ℕ)) (word : ℕ) (d : Done) → DoneGrows m d → DoneGrows m (guarded leaving word m.storage d)
+  guarded_grows None word d h = either (is_live_start m.storage word) d (over (trap word kinds.Free)) h tt
+  guarded_grows (Some words) word d h = h
+
   module _ (y : Layout) (n : ℕ) (c : Choice) where
     -- only print appends
     action_grows : (a : Action) (ps : List Target) (ws : List ℕ) → DoneGrows m (acted y n c a ps ws m)
@@ -85,6 +112,12 @@ module _ (m : Memory) where
     action_grows (store how) (a ∷ []) (w ∷ []) = plainly c _ (within_grows kinds.Store (first_outside m.storage.bytes a.address (size_of how)) _ still)
     action_grows (copy_bytes align same) (a ∷ b ∷ []) (w ∷ []) = plainly c _ (within_grows kinds.Copy (first_outside_of_both m.storage.bytes a.address b.address w) _ still)
     action_grows malloc [] (w ∷ []) = allocated_grows c w
+    action_grows calloc [] (count ∷ size ∷ []) = zeroed_grows c (count * size)
+    action_grows realloc [] (word ∷ size ∷ []) =
+        either (word == 0) (allocated c size m) (guarded m.leaving word m.storage (renewed c word size m)) (allocated_grows c size) (guarded_grows m.leaving word (renewed c word size m) (renewed_grows c word size))
+    action_grows (change how t) (a ∷ []) (w ∷ []) = plainly c _ (within_grows kinds.Store (first_outside m.storage.bytes a.address (t.bits / 8)) _ still)
+    action_grows (compare t) (a ∷ b ∷ []) (w ∷ []) =
+        plainly c _ (within_grows kinds.Store (first_outside_of_both m.storage.bytes a.address b.address (t.bits / 8)) _ (either (is_equal t (number_at t a.address m) (number_at t b.address m)) _ _ still still))
     action_grows free [] (w ∷ []) = plainly c _ (either (w == 0) _ _ still (either (is_live_start m.storage w) _ _ still tt))
     action_grows (print pieces) ps ws = plainly c _ (prints_grows (read_parts m.storage.bytes (printed_parts pieces ps ws) (output_room y.limits.output m)))
     action_grows lock (a ∷ []) [] = plainly c _ (within_grows kinds.Lock (first_outside m.storage.bytes a.address 8) _ (either (is_free m a.address) _ _ still tt))
@@ -236,7 +269,7 @@ module _ {P : Type 0} (x : Image P) where
   after_grows s (local thread) = put_grows s thread (gone_effect x thread) (gone_grows s.memory x thread) (own_at s.own thread)
   after_grows s (events.look thread) = put_grows s thread (look_effect x thread) (look_grows s.memory x thread) (own_at s.own thread)
   after_grows s (act thread choice) = put_grows s thread (act_effect x thread choice) (act_grows s.memory x thread choice) (own_at s.own thread)
-  after_grows s (barrier moves served) = after_serves_grows served (moved_state moves s)
+  after_grows s (barrier moves served) = after_serves_grows served (serving_state (moved_state moves s))
 
   pub after_all_grows : (es : List Event) (s : State P) → Grows s.memory (after_all x es s).memory
   after_all_grows [] s = still s.memory

@@ -1,4 +1,4 @@
--- An entry of a barrier: each malloc that it serves stays in what its turn reaches.
+-- An entry of a barrier: each allocation that it serves stays in what its turn reaches.
 use Rattle.std.proofs.Common.{◌≡◌, List, [], ◌∷◌, ◌++◌, Some, None, refl, sym, ap, subst, ◌∙◌, append-nil}
 use Rattle.std.specs.Prelude.{count_by}
 use Rattle.ak_trace.specs.declared.entry.Entry.{Entry}
@@ -10,9 +10,10 @@ use Rattle.struct_ir.specs.Linear.{Spot}
 use Rattle.struct_ir.specs.Threads.{Thread}
 use Rattle.struct_ir.specs.meaning.Start.{start}
 use Rattle.struct_ir.specs.meaning.Threads.{program_of}
-use Rattle.flat_meaning.specs.Allowed.{AreAllowed, MayServe, MayServeAll}
+use Rattle.defrag_move.proofs.Kept.{IsConsistent-after_plan}
+use Rattle.flat_meaning.specs.Allowed.{AreAllowed, MayServe, MayServeAll, pinned}
 use Rattle.flat_meaning.specs.Events as events
-use Rattle.flat_meaning.specs.Events.{Serve, after_all, after_serves, barrier, first_state}
+use Rattle.flat_meaning.specs.Events.{Serve, after_all, after_serves, barrier, first_state, served_state}
 use Rattle.flat_meaning.specs.Image.{Image, Limits, linear_image}
 use Rattle.flat_meaning.specs.Journals.{journal_picks}
 use Rattle.flat_meaning.specs.Order.{order_of, picks_of_serves}
@@ -36,6 +37,8 @@ use Rattle.flat_machine.specs.Start.{settings_limits}
 use Rattle.flat_machine.specs.Sweeping.{at_home, stages_home, sweep_moves, sweep_serves}
 use Rattle.flat_machine.specs.lemmas.Homes.{after_serves-append}
 use Rattle.flat_simulation.specs.LinearSteps.{Follows}
+use Rattle.flat_simulation.proofs.AllocationsFit.{allocations_fit}
+use Rattle.flat_simulation.proofs.ServedSteps.{IsServing}
 use Rattle.flat_replay.specs.Accesses.{ServeStays, ServesStay, swept_first}
 use Rattle.flat_replay.specs.Ids.{ids_told}
 use Rattle.flat_replay.specs.Journals.{image_for}
@@ -43,7 +46,7 @@ use Rattle.flat_replay.proofs.Barriers.{Sweeps, SweepsIf, sweeps_if}
 use Rattle.flat_replay.proofs.Consistent.{Good, barrier_here}
 use Rattle.flat_replay.proofs.Segments.{Comes, joins}
 use Rattle.flat_replay.proofs.Stages.{all_home}
-use Rattle.flat_replay.proofs.StepAccesses.{Waiting, run_serve_stays, serves_front, serves_on, waits_there}
+use Rattle.flat_replay.proofs.StepAccesses.{Waiting, run_serve_stays, serves_front, serves_on, serving_all, waits_there}
 use Rattle.flat_replay.proofs.Told.{Told}
 
 module _ (p : Ir) (code : LinearCode) (s : Settings) (program : IsProgram code)
@@ -73,7 +76,11 @@ module _ (p : Ir) (code : LinearCode) (s : Settings) (program : IsProgram code)
     all_on : (after_serves (image_of code x.shared) serves slid).end ≡ None
     all_on = sym (ap (λ (z : events.State Spot). z.end) the_barrier.after)
 
-    -- a malloc, behind these
+    -- where it begins to serve, no object is about to leave
+    begins : IsServing slid
+    begins = record { words = []; leaving = refl; live = tt; consistent = IsConsistent-after_plan (pinned (image_of code x.shared) here) (sweep_moves (image_of code x.shared) here) x.shared.memory.storage good.agrees the_barrier.allowed.0.1.1 }
+
+    -- an allocation, behind these
     module _ (vs : List Serve) (v : Serve) (us : List Serve) (is : sweep_serves (image_of code x.shared) (at_home x.shared (homes_of x.places)) ≡ vs ++ v ∷ us) where
       abbrev r : events.State Spot
       r = after_serves (image_of code x.shared) vs (swept_first code x)
@@ -91,7 +98,7 @@ module _ (p : Ir) (code : LinearCode) (s : Settings) (program : IsProgram code)
       its_picks = journal_picks log ++ picks_of_serves (image_of code x.shared) vs (swept_first code x)
 
       -- a barrier that serves but these
-      first_part : Comes (image_of code x.shared) here r (picks_of_serves (image_of code x.shared) vs (swept_first code x)) (λ turns. []) (served_ids vs)
+      first_part : Comes (image_of code x.shared) here (served_state r) (picks_of_serves (image_of code x.shared) vs (swept_first code x)) (λ turns. []) (served_ids vs)
       first_part = record {
         events = barrier (sweep_moves (image_of code x.shared) here) vs ∷ [];
         allowed = ((the_barrier.allowed.0.0, (the_barrier.allowed.0.1.0, the_barrier.allowed.0.1.1, may.0)), tt);
@@ -102,17 +109,17 @@ module _ (p : Ir) (code : LinearCode) (s : Settings) (program : IsProgram code)
       }
 
       stays : (q : Thread Spot Words) × (own_at r.own v.thread ≡ Some (waiting q))
-          × UpToABreak (run (program_of p) (start p) (journal_picks log ++ picks_of_serves (image_of code x.shared) vs (swept_first code x))) (λ u. ServeStays (image_of code x.shared) p (ids_told log ++ served_ids vs) u r v q)
+          × UpToABreak (run (program_of p) (start p) (journal_picks log ++ picks_of_serves (image_of code x.shared) vs (swept_first code x))) (λ u. ServeStays (image_of code x.shared) p (ids_told log ++ served_ids vs) u (served_state r) v q)
       stays =
-          let at_loaded : Comes loaded here r (picks_of_serves (image_of code x.shared) vs (swept_first code x)) (λ turns. []) (served_ids vs) =
-          subst (λ (limits : Limits). Comes (linear_image code limits) here r (picks_of_serves (image_of code x.shared) vs (swept_first code x)) (λ turns. []) (served_ids vs)) told.same first_part in
+          let at_loaded : Comes loaded here (served_state r) (picks_of_serves (image_of code x.shared) vs (swept_first code x)) (λ turns. []) (served_ids vs) =
+          subst (λ (limits : Limits). Comes (linear_image code limits) here (served_state r) (picks_of_serves (image_of code x.shared) vs (swept_first code x)) (λ turns. []) (served_ids vs)) told.same first_part in
           let may_loaded : MayServe loaded r.memory v.choice (Some (waiting who.thread)) = subst (λ (limits : Limits). MayServe (linear_image code limits) r.memory v.choice (Some (waiting who.thread))) told.same who.may in
-          let all = joins loaded (first_state loaded) told.state r _ _ _ _ (ids_told log) (served_ids vs) told.comes
-          (subst (λ (z : events.State Spot). Comes loaded z r (picks_of_serves (image_of code x.shared) vs (swept_first code x)) (λ turns. []) (served_ids vs)) (sym here_is) at_loaded) in (
+          let all = joins loaded (first_state loaded) told.state (served_state r) _ _ _ _ (ids_told log) (served_ids vs) told.comes
+          (subst (λ (z : events.State Spot). Comes loaded z (served_state r) (picks_of_serves (image_of code x.shared) vs (swept_first code x)) (λ turns. []) (served_ids vs)) (sym here_is) at_loaded) in (
             who.thread,
             who.is,
-            subst (λ (limits : Limits). UpToABreak (run (program_of p) (start p) (journal_picks log ++ picks_of_serves (image_of code x.shared) vs (swept_first code x))) (λ u. ServeStays (linear_image code limits) p (ids_told log ++ served_ids vs) u r v who.thread)) (sym told.same)
-                (run_serve_stays loaded p follows r _ _ _ all v who.thread on who.is may_loaded),
+            subst (λ (limits : Limits). UpToABreak (run (program_of p) (start p) (journal_picks log ++ picks_of_serves (image_of code x.shared) vs (swept_first code x))) (λ u. ServeStays (linear_image code limits) p (ids_told log ++ served_ids vs) u (served_state r) v who.thread)) (sym told.same)
+                (run_serve_stays loaded p follows (allocations_fit code program.valid) r (serving_all (image_of code x.shared) vs slid begins may.0) _ _ _ all v who.thread on who.is may_loaded),
           )
 
   -- an entry of a barrier

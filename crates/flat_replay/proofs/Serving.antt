@@ -1,73 +1,60 @@
--- The mallocs that a barrier serves, as turns, and how their entries tell of them.
+-- The allocations that a barrier serves, as turns, and how their entries tell of them.
 use Rattle.std.proofs.Common.{◌≡◌, ℕ, zero, suc, ◌+◌, ◌<◌, ◌≤◌, Bool, true, false, List, [], ◌∷◌, ◌++◌, length, map, set, Option, Some, None, refl, sym, ap, ◌∙◌, subst, arith, append_assoc}
-use Rattle.std.specs.Prelude.{All}
+use Rattle.std.specs.Prelude.{All, is_some}
 use Rattle.std.specs.List.{range_with_len}
 use Rattle.std.proofs.lemmas.List.{append-nil, length-append, length-set, map-append}
 use Rattle.block_store.specs.Runs.{Pick, own_at}
 use Rattle.struct_ir.specs.Flow.{Here, does, tests, passes, round, returns}
 use Rattle.struct_ir.specs.Instrs.{LinearCode}
 use Rattle.struct_ir.specs.Linear.{Spot}
-use Rattle.struct_ir.specs.Nodes.{Action, load, store, copy_bytes, malloc, free, print, lock, unlock, destroy, start, join, Step, set as sets, call, step, look, safepoint, begin_object, end_object}
-use Rattle.struct_ir.specs.Threads.{Thread, Outcome, stop_at}
+use Rattle.struct_ir.specs.Nodes.{Action, Step, set as sets, call, step, look, safepoint, begin_object, end_object}
+use Rattle.struct_ir.specs.Threads.{Thread, Outcome, served, stop_at}
 use Rattle.struct_ir.specs.Valid.{Scope, is_step}
 use Rattle.struct_ir.specs.ValidCode.{code_scope_of, is_here}
-use Rattle.flat_meaning.specs.Accesses.{Choice, Fault, null}
+use Rattle.flat_meaning.specs.Accesses.{Choice, Fault, went}
 use Rattle.flat_meaning.specs.Effects as effects
 use Rattle.flat_meaning.specs.Effects.{Effect, own_list_of, serve_effect}
 use Rattle.flat_meaning.specs.Events.{State, Serve, after_serve, after_serves, new_stages, put, put_if}
 use Rattle.flat_meaning.specs.Image.{Image}
-use Rattle.flat_meaning.specs.Machine.{words_machine, words_world}
+use Rattle.flat_meaning.specs.Machine.{served_by, words_machine, words_world}
 use Rattle.flat_meaning.specs.Memory.{Made, Memory}
-use Rattle.flat_meaning.specs.Order.{answer_here, choice_answer, pick, pick_if, picks_of_serve, picks_of_serves}
-use Rattle.flat_meaning.specs.Ready.{is_malloc, takes_room}
+use Rattle.flat_meaning.specs.Order.{action_answer, answer_here, choice_answer, pick, pick_if, picks_of_serve, picks_of_serves}
+use Rattle.flat_meaning.specs.Ready.{is_allocation, takes_room}
 use Rattle.flat_meaning.specs.Stages.{Stage, going, landed, starts, waiting}
-use Rattle.flat_meaning.specs.Words.{Words, word_at}
+use Rattle.flat_meaning.specs.Words.{Words}
 use Rattle.flat_rules.specs.Lawful.{IsOfRun}
 use Rattle.flat_threads.proofs.Threads.{here_fits, top_is}
 use Rattle.flat_threads.specs.Belonging.{IsContextOf}
 use Rattle.flat_threads.specs.Contexts.{Context, IsProgram, IsStageIf, IsStageOf, IsThreadOf}
-use Rattle.flat_machine.specs.Choices.{choice_here, got_or, least_free, lowest_fit, served_choice}
+use Rattle.flat_machine.specs.Choices.{choice_here, served_choice}
 use Rattle.flat_machine.specs.Machine.{machine_of}
-use Rattle.sub_heaps.specs.SubHeaps.{rounded}
 use Rattle.flat_machine.specs.Shares.{Shared, image_of}
 use Rattle.flat_machine.specs.Sweeping.{if_wants, serve_of, serves_from, serves_if, stage_home, stage_or, stages_home}
 use Rattle.flat_machine.specs.lemmas.Homes.{after_serves-append, own_at_set-later}
-use Rattle.flat_machine.specs.lemmas.Waiting.{IsSized, node_is, sized}
+use Rattle.flat_machine.specs.lemmas.Serving.{Gives, gives}
+use Rattle.flat_machine.specs.lemmas.Waiting.{IsSized, Operands, of_malloc, of_calloc, of_realloc, keeps, leaves, sized}
 use Rattle.flat_replay.proofs.Doings.{SameHeaps, more_heaps, same_heaps}
 
--- ---- which malloc stands there
+-- ---- which allocation stands there
 
-record IsMallocAt (h : Here) : Type 0 where
+record IsAllocationAt (h : Here) : Type 0 where
   pub place : ℕ
   pub node : Step
   pub there : h ≡ does place (step node)
-  pub action : node.action ≡ malloc
+  pub action : takes_room node.action ≡ true
 
-only_malloc : (a : Action) → takes_room a ≡ true → a ≡ malloc
-only_malloc (load how) e = absurd cc
-only_malloc (store how) e = absurd cc
-only_malloc (copy_bytes align same) e = absurd cc
-only_malloc malloc e = refl
-only_malloc free e = absurd cc
-only_malloc (print pieces) e = absurd cc
-only_malloc lock e = absurd cc
-only_malloc unlock e = absurd cc
-only_malloc destroy e = absurd cc
-only_malloc (start function) e = absurd cc
-only_malloc join e = absurd cc
-
-malloc_there : (h : Here) → is_malloc h ≡ true → IsMallocAt h
-malloc_there (does place (sets to calc)) e = absurd cc
-malloc_there (does place (call c)) e = absurd cc
-malloc_there (does place (step node)) e = record { place = place; node = node; there = refl; action = only_malloc node.action e }
-malloc_there (does place (look slot base)) e = absurd cc
-malloc_there (does place (safepoint slots)) e = absurd cc
-malloc_there (does place (begin_object i)) e = absurd cc
-malloc_there (does place (end_object i)) e = absurd cc
-malloc_there (tests place temp) e = absurd cc
-malloc_there passes e = absurd cc
-malloc_there round e = absurd cc
-malloc_there (returns temp) e = absurd cc
+allocation_there : (h : Here) → is_allocation h ≡ true → IsAllocationAt h
+allocation_there (does place (sets to calc)) e = absurd cc
+allocation_there (does place (call c)) e = absurd cc
+allocation_there (does place (step node)) e = record { place = place; node = node; there = refl; action = e }
+allocation_there (does place (look slot base)) e = absurd cc
+allocation_there (does place (safepoint slots)) e = absurd cc
+allocation_there (does place (begin_object i)) e = absurd cc
+allocation_there (does place (end_object i)) e = absurd cc
+allocation_there (tests place temp) e = absurd cc
+allocation_there passes e = absurd cc
+allocation_there round e = absurd cc
+allocation_there (returns temp) e = absurd cc
 
 -- ---- the pick of a serve
 
@@ -78,39 +65,55 @@ module _ (x : Image Spot) (k : ℕ) (t : Thread Spot Words) (m : Memory) where
   abbrev outcome_here : Choice → Here → Outcome Spot Words Fault Memory
   outcome_here c h = stop_at x.flow (words_machine x.layout k) (words_world x.layout k) x.start c t m h
 
-  -- a step with this choice is a turn
-  record IsTurn (c : Choice) (h : Here) : Type 0 where
-    pub picks : pick_if k (answer_here x m c h) (outcome_here c h) ≡ pick k (choice_answer c) ∷ []
-    pub heaps : SameHeaps m (effects.acted k (waiting t) t (own_list_of h) m (outcome_here c h)).memory
+  -- what comes of a step with this choice is a turn, behind which the barrier still serves
+  record ComesAsTurn (c : Choice) (h : Here) (o : Outcome Spot Words Fault Memory) : Type 0 where
+    pub picks : pick_if k (answer_here x m c h) o ≡ pick k (choice_answer c) ∷ []
+    pub heaps : SameHeaps m (effects.acted k (waiting t) t (own_list_of h) m o).memory
+    pub serves : is_some (effects.acted k (waiting t) t (own_list_of h) m o).memory.leaving ≡ true
 
-  gives : (place size : ℕ) (to : Option ℕ) (slots : List ℕ) (a q : Option ℕ) → IsTurn (got_or a q null) (does place (step (record { action = malloc; places = []; to = to; temps = size ∷ []; slots = slots })))
-  gives place size to slots None q = record { picks = refl; heaps = record { count = refl; size = refl; most = refl } }
-  gives place size to slots (Some a) None = record { picks = refl; heaps = record { count = refl; size = refl; most = refl } }
-  gives place size to slots (Some a) (Some q) = record { picks = refl; heaps = record { count = refl; size = refl; most = refl } }
+  abbrev IsTurn : Choice → Here → Type 0
+  IsTurn c h = ComesAsTurn c h (outcome_here c h)
 
-  malloc_turn : (temps place : ℕ) (node : Step) → node.action ≡ malloc → IsSized temps node → IsTurn (choice_here (served_choice m.storage) t.top.own (does place (step node))) (does place (step node))
-  malloc_turn temps place node action h =
-      subst (λ (s : Step). IsTurn (choice_here (served_choice m.storage) t.top.own (does place (step s))) (does place (step s))) (sym (node_is temps node h action))
-      (gives place h.size node.to node.slots (least_free m.storage.table) (lowest_fit m.storage.heaps (rounded (word_at t.top.own h.size))))
+  -- an allocation is told what is chosen
+  told : (c : Choice) (a : Action) (temps : List ℕ) → Operands a temps → action_answer x m c a ≡ choice_answer c
+  told c _ _ (of_malloc size) = refl
+  told c _ _ (of_calloc count size) = refl
+  told c _ _ (of_realloc word size) = refl
+
+  went_turn : (c : Choice) (place : ℕ) (node : Step) (word : Option ℕ) (after : Memory) → action_answer x m c node.action ≡ choice_answer c → SameHeaps m after → is_some after.leaving ≡ true
+      → ComesAsTurn c (does place (step node)) (served x.flow t (served_by t.top.own node.to (went word after)))
+  went_turn c place node None after tells heaps some = record { picks = ap (λ a. pick k a ∷ []) tells; heaps = heaps; serves = some }
+  went_turn c place node (Some word) after tells heaps some = record { picks = ap (λ a. pick k a ∷ []) tells; heaps = heaps; serves = some }
+
+  allocation_turn : (temps place : ℕ) (node : Step) → IsSized temps node → is_some m.leaving ≡ true → IsTurn (choice_here (served_choice m.storage) t.top.own (does place (step node))) (does place (step node))
+  allocation_turn temps place node h some =
+      let c : Choice = choice_here (served_choice m.storage) t.top.own (does place (step node)) in
+      let g : Gives _ = gives x.layout k t.top.own temps node h m some in
+      let shape = keeps x.layout k c t.top.own temps node h m g.after g.word g.is in
+      let heaps : SameHeaps m g.after = record { count = shape.count; size = shape.size; most = shape.most } in
+      let still : is_some g.after.leaving ≡ true = (leaves x.layout k c t.top.own temps node h m g.after g.word g.is).serves some in
+      subst (ComesAsTurn c (does place (step node))) (sym (ap (λ d. served x.flow t (served_by t.top.own node.to d)) g.is))
+      (went_turn c place node g.word g.after (told c node.action node.temps h.operands) heaps still)
 
 module _ (code : LinearCode) (program : IsProgram code) (sh : Shared) where
   abbrev x : Image Spot
   x = image_of code sh
 
-  turn_here : (m : Memory) (k : ℕ) (t : Thread Spot Words) → IsThreadOf code t → is_malloc (x.flow.here t.top.at) ≡ true → IsTurn x k t m (choice_here (served_choice m.storage) t.top.own (x.flow.here t.top.at)) (x.flow.here t.top.at)
-  turn_here m k t all is =
-      let there = malloc_there (x.flow.here t.top.at) is in
+  turn_here : (m : Memory) (k : ℕ) (t : Thread Spot Words) → IsThreadOf code t → is_allocation (x.flow.here t.top.at) ≡ true → is_some m.leaving ≡ true → IsTurn x k t m (choice_here (served_choice m.storage) t.top.own (x.flow.here t.top.at)) (x.flow.here t.top.at)
+  turn_here m k t all is some =
+      let there = allocation_there (x.flow.here t.top.at) is in
       let func = top_is code t.top t.callers all in
       let scope : Scope = code_scope_of code func.1.function in
       let valid : is_step scope there.node ≡ true = subst (λ (h : Here). is_here scope h ≡ true) there.there (here_fits code program t.top.at func.1.function func.1.there) in
       subst (λ (h : Here). IsTurn x k t m (choice_here (served_choice m.storage) t.top.own h) h) (sym there.there)
-      (malloc_turn x k t m scope.temps there.place there.node there.action (sized scope there.node there.action valid))
+      (allocation_turn x k t m scope.temps there.place there.node (sized scope there.node there.action valid) some)
 
   -- ---- one serve
 
   module _ (first : List (Option (Stage Spot))) (count : ℕ) (each : (k : ℕ) (stage : Stage Spot) → own_at first k ≡ Some stage → IsStageOf code stage) where
-    -- threads from one on have not had their turn
+    -- threads from one on have not had their turn, and the barrier serves
     pub record AreLeft (n : ℕ) (st : State Spot) : Type 0 where
+      pub serves_on : is_some st.memory.leaving ≡ true
       pub long : count ≤ length st.own
       pub later : (k : ℕ) → n ≤ k → k < count → own_at st.own k ≡ own_at first k
 
@@ -120,28 +123,29 @@ module _ (code : LinearCode) (program : IsProgram code) (sh : Shared) where
       pub left : AreLeft n (after_serves x vs st)
 
     idle : (n : ℕ) (st : State Spot) → AreLeft n st → Says (n + 1) [] st
-    idle n st left = record { picks = refl; heaps = same_heaps st.memory; left = record { long = left.long; later = λ k le lt. left.later k (omega (arith, le)) lt } }
+    idle n st left = record { picks = refl; heaps = same_heaps st.memory; left = record { serves_on = left.serves_on; long = left.long; later = λ k le lt. left.later k (omega (arith, le)) lt } }
 
     own_at-front : {A : Type 0} (own more : List (Option A)) (k : ℕ) → k < length own → own_at (own ++ more) k ≡ own_at own k
     own_at-front [] more k below = absurd (omega (arith, below))
     own_at-front (o ∷ own) more zero below = refl
     own_at-front (o ∷ own) more (suc k) below = own_at-front own more k (omega (arith, below))
 
-    put_left : (n : ℕ) (st : State Spot) (e : Effect Spot) → AreLeft n st → AreLeft (n + 1) (put st n e)
-    put_left n st e left = record {
+    put_left : (n : ℕ) (st : State Spot) (e : Effect Spot) → AreLeft n st → is_some e.memory.leaving ≡ true → AreLeft (n + 1) (put st n e)
+    put_left n st e left some = record {
+      serves_on = some;
       long = omega (arith, left.long, length-set st.own n e.stage, length-append (set st.own n e.stage) (new_stages st.own e.memory));
       later = λ k le lt. own_at-front (set st.own n e.stage) (new_stages st.own e.memory) k (omega (arith, lt, left.long, length-set st.own n e.stage)) ∙ own_at_set-later st.own n k e.stage (omega (arith, le)) ∙ left.later k (omega (arith, le)) lt;
     }
 
-    serves : (n : ℕ) (st : State Spot) → AreLeft n st → (t : Thread Spot Words) → own_at st.own n ≡ Some (waiting t) → IsThreadOf code t → is_malloc (x.flow.here t.top.at) ≡ true → Says (n + 1) (serve_of x st n (waiting t) ∷ []) st
+    serves : (n : ℕ) (st : State Spot) → AreLeft n st → (t : Thread Spot Words) → own_at st.own n ≡ Some (waiting t) → IsThreadOf code t → is_allocation (x.flow.here t.top.at) ≡ true → Says (n + 1) (serve_of x st n (waiting t) ∷ []) st
     serves n st left t own all is =
         let v : Serve = serve_of x st n (waiting t) in
-        let turn = turn_here st.memory n t all is in
+        let turn = turn_here st.memory n t all is left.serves_on in
         let after_is : after_serve x st v ≡ put st n (serve_effect x n v.choice (waiting t) st.memory) = ap (put_if st n (serve_effect x n v.choice)) own in
         record {
           picks = append-nil (picks_of_serve x st.memory v (own_at st.own n)) ∙ ap (picks_of_serve x st.memory v) own ∙ turn.picks;
           heaps = subst (λ (z : State Spot). SameHeaps st.memory z.memory) (sym after_is) turn.heaps;
-          left = subst (AreLeft (n + 1)) (sym after_is) (put_left n st (serve_effect x n v.choice (waiting t) st.memory) left);
+          left = subst (AreLeft (n + 1)) (sym after_is) (put_left n st (serve_effect x n v.choice (waiting t) st.memory) left turn.serves);
         }
 
     -- one thread's turn, by its stage
@@ -150,8 +154,8 @@ module _ (code : LinearCode) (program : IsProgram code) (sh : Shared) where
     turn_at n st left (Some (starts function argument)) own is = idle n st left
     turn_at n st left (Some (going t)) own is = idle n st left
     turn_at n st left (Some (landed list t)) own is = idle n st left
-    turn_at n st left (Some (waiting t)) own is = by (is_malloc (x.flow.here t.top.at)) refl where
-      by : (b : Bool) → is_malloc (x.flow.here t.top.at) ≡ b → Says (n + 1) (if_wants b (serve_of x st n (waiting t))) st
+    turn_at n st left (Some (waiting t)) own is = by (is_allocation (x.flow.here t.top.at)) refl where
+      by : (b : Bool) → is_allocation (x.flow.here t.top.at) ≡ b → Says (n + 1) (if_wants b (serve_of x st n (waiting t))) st
       by true e = serves n st left t own (is (waiting t) refl) e
       by false e = idle n st left
 
@@ -173,8 +177,8 @@ module _ (code : LinearCode) (program : IsProgram code) (sh : Shared) where
           subst (λ (z : State Spot). SameHeaps st.memory z.memory) (sym (after_serves-append x vs ws st)) (more_heaps st.memory next.memory (after_serves x ws next).memory here.heaps rest.1),
         )
 
-    pub from_first : (st : State Spot) → st.own ≡ first → count ≡ length first → AreLeft 0 st
-    from_first st own long = record { long = omega (arith, long, ap length own); later = λ k le lt. ap (λ (os : List (Option (Stage Spot))). own_at os k) own }
+    pub from_first : (st : State Spot) → st.own ≡ first → count ≡ length first → is_some st.memory.leaving ≡ true → AreLeft 0 st
+    from_first st own long some = record { serves_on = some; long = omega (arith, long, ap length own); later = λ k le lt. ap (λ (os : List (Option (Stage Spot))). own_at os k) own }
 
 -- ---- stages at home are of the program
 

@@ -8,13 +8,14 @@ use Rattle.block_store.specs.declared.values.Answer.TheVariants as answers
 use Rattle.block_store.specs.declared.values.Ptr.{Ptr}
 use Rattle.block_store.specs.declared.values.Value.{Value}
 use Rattle.block_store.specs.declared.values.Value.TheVariants as values
-use Rattle.block_store.specs.Blocks.{Blocks, copied, freed, loaded, stored}
+use Rattle.block_store.specs.Atomics.{Changed, changed, Compared, compared}
+use Rattle.block_store.specs.Blocks.{Blocks, copied, freed, loaded, renewed, stored}
 use Rattle.block_store.specs.Mutexes.{destroyed, locked, unlocked}
 use Rattle.block_store.specs.Actions as actions
 use Rattle.block_store.specs.Actions.{World, Done, Reached, Stage, running, returned, joined, acted, at_stage, beginning, settled, staged_if, starts, telling, under, with_blocks, gives, changes, changes_or_waits, passes, prints, joins, joins_at, joins_if, joined_by}
 use Rattle.struct_ir.specs.Flow.{Here, does, tests, passes as passes_by, round, returns}
 use Rattle.struct_ir.specs.Machine.{Point, run}
-use Rattle.struct_ir.specs.Nodes.{Action, load, store, copy_bytes, malloc, free, print, lock, unlock, destroy, start, join, set as sets, call, step, look, safepoint, begin_object, end_object, Ir}
+use Rattle.struct_ir.specs.Nodes.{Action, load, store, copy_bytes, malloc, calloc, realloc, free, change, compare, print, lock, unlock, destroy, start, join, set as sets, call, step, look, safepoint, begin_object, end_object, Ir}
 use Rattle.struct_ir.specs.Structured.{Position, structured}
 use Rattle.struct_ir.specs.Threads.{Thread, Outcome, went, ended, blocked, broke, unfit, alone, back_in, served, finished, if_fits, left_call, result_to, stop_at, stop_event, and_then, turn}
 use Rattle.struct_ir.specs.meaning.Blocks.{Own, Fault, blocks_machine, with_blocks as with_own}
@@ -28,6 +29,9 @@ IsStep (actions.load at how) = Unit {0}
 IsStep (actions.store at value) = Unit {0}
 IsStep (actions.copy to from n align eq) = Unit {0}
 IsStep (actions.allocate size first) = Unit {0}
+IsStep (actions.reallocate at size) = Unit {0}
+IsStep (actions.change at ty how by) = Unit {0}
+IsStep (actions.compare at want ty new) = Unit {0}
 IsStep (actions.free at) = Unit {0}
 IsStep (actions.print parts) = Unit {0}
 IsStep (actions.lock at) = Unit {0}
@@ -48,6 +52,11 @@ ok_step (Err f) go h = tt
 test_step : (b : Bool) (action : actions.SharedAction) (f : Fault) → IsStep action → StepIf (cond b (Ok action) (Err f))
 test_step true action f h = h
 test_step false action f h = tt
+
+both_step : (b c : Bool) (action : actions.SharedAction) (f g : Fault) → IsStep action → StepIf (on_ok (cond b (Ok action) (Err f)) (λ a. cond c (Ok a) (Err g)))
+both_step true true action f g h = h
+both_step true false action f g h = tt
+both_step false c action f g h = tt
 
 -- the action of a step
 with_step : (a : Action) (places : List Ptr) (vs : List Value) → StepIf (action_with a places vs)
@@ -72,6 +81,33 @@ with_step malloc [] [] = tt
 with_step malloc [] (values.Num n ∷ []) = test_step _ _ _ tt
 with_step malloc [] (values.Num n ∷ w ∷ vs) = tt
 with_step malloc [] (values.Pointer p ∷ vs) = tt
+with_step calloc (at ∷ places) vs = tt
+with_step calloc [] [] = tt
+with_step calloc [] (values.Num n ∷ []) = tt
+with_step calloc [] (values.Num n ∷ values.Num m ∷ []) = both_step _ _ _ _ _ tt
+with_step calloc [] (values.Num n ∷ values.Num m ∷ w ∷ vs) = tt
+with_step calloc [] (values.Num n ∷ values.Pointer p ∷ vs) = tt
+with_step calloc [] (values.Pointer p ∷ vs) = tt
+with_step realloc (at ∷ places) vs = tt
+with_step realloc [] [] = tt
+with_step realloc [] (values.Pointer p ∷ []) = tt
+with_step realloc [] (values.Pointer p ∷ values.Num n ∷ []) = test_step _ _ _ tt
+with_step realloc [] (values.Pointer p ∷ values.Num n ∷ w ∷ vs) = tt
+with_step realloc [] (values.Pointer p ∷ values.Pointer q ∷ vs) = tt
+with_step realloc [] (values.Num n ∷ vs) = tt
+with_step (change how t) [] vs = tt
+with_step (change how t) (at ∷ []) [] = tt
+with_step (change how t) (at ∷ []) (values.Num n ∷ []) = test_step _ _ _ tt
+with_step (change how t) (at ∷ []) (values.Num n ∷ w ∷ vs) = tt
+with_step (change how t) (at ∷ []) (values.Pointer p ∷ vs) = tt
+with_step (change how t) (at ∷ b ∷ places) vs = tt
+with_step (compare t) [] vs = tt
+with_step (compare t) (at ∷ []) vs = tt
+with_step (compare t) (at ∷ want ∷ []) [] = tt
+with_step (compare t) (at ∷ want ∷ []) (values.Num n ∷ []) = test_step _ _ _ tt
+with_step (compare t) (at ∷ want ∷ []) (values.Num n ∷ w ∷ vs) = tt
+with_step (compare t) (at ∷ want ∷ []) (values.Pointer p ∷ vs) = tt
+with_step (compare t) (at ∷ want ∷ b ∷ places) vs = tt
 with_step free (at ∷ places) vs = tt
 with_step free [] [] = tt
 with_step free [] (values.Pointer p ∷ []) = tt
@@ -162,6 +198,20 @@ module _ (w : World) (thread : ℕ) where
   allocated_changes true v blocks = same
   allocated_changes false v blocks = tt
 
+  renews_changes : (answer : Answer) (size : ℕ) (r : Result Blocks Rule) → Changes (under answer (actions.renews w size r))
+  renews_changes answers.Plain size (Err rule) = tt
+  renews_changes answers.Got size (Err rule) = tt
+  renews_changes answers.None size (Err rule) = tt
+  renews_changes answer size (Ok blocks) = chosen_changes answer _ (actions.refused_allocation w) (allocated_changes _ _ blocks) same
+
+  number_changes : (r : Result Changed Rule) → Changes (actions.changes_number w r)
+  number_changes (Ok c) = same
+  number_changes (Err rule) = tt
+
+  compares_changes : (r : Result Compared Rule) → Changes (actions.compares w r)
+  compares_changes (Ok c) = same
+  compares_changes (Err rule) = tt
+
   starts_changes : (function : ℕ) (argument : Ptr) (r : Result Blocks Rule) → Changes (starts w function argument r)
   starts_changes function argument (Ok blocks) = more function argument
   starts_changes function argument (Err rule) = tt
@@ -196,6 +246,9 @@ module _ (w : World) (thread : ℕ) where
   under_changes answer (actions.store at v) h = told (changes w (stored w.blocks at v)) (changes_changes (stored w.blocks at v)) answer
   under_changes answer (actions.copy to from n align eq) h = told (changes w (copied w.blocks to from n align eq)) (changes_changes (copied w.blocks to from n align eq)) answer
   under_changes answer (actions.allocate size first) h = chosen_changes answer (actions.allocated w size first) (actions.refused_allocation w) (allocated_changes _ _ _) same
+  under_changes answer (actions.reallocate at size) h = renews_changes answer size (renewed w.blocks at size)
+  under_changes answer (actions.change at ty how by) h = told (actions.changes_number w (changed w.blocks at ty how by)) (number_changes (changed w.blocks at ty how by)) answer
+  under_changes answer (actions.compare at want ty new) h = told (actions.compares w (compared w.blocks at want ty new)) (compares_changes (compared w.blocks at want ty new)) answer
   under_changes answer (actions.free at) h = told (changes w (freed w.blocks at)) (changes_changes (freed w.blocks at)) answer
   under_changes answer (actions.print parts) h = told (prints w (actions.all_bytes w.blocks parts)) (prints_changes (actions.all_bytes w.blocks parts)) answer
   under_changes answer (actions.lock at) h = told (changes_or_waits w (locked w.blocks at thread)) (waits_changes (locked w.blocks at thread)) answer

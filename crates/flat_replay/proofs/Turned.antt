@@ -10,7 +10,7 @@ use Rattle.block_store.specs.declared.values.Answer.TheVariants as answers
 use Rattle.struct_ir.specs.Flow.{Here, does, returns}
 use Rattle.struct_ir.specs.Instrs.{LinearCode}
 use Rattle.struct_ir.specs.Linear.{Spot, linear}
-use Rattle.struct_ir.specs.Nodes.{Action, load, store, copy_bytes, malloc, free, print, lock, unlock, destroy, start, join, Step, step, look, own_list}
+use Rattle.struct_ir.specs.Nodes.{Action, load, store, copy_bytes, malloc, calloc, realloc, free, change, compare, print, lock, unlock, destroy, start, join, Step, step, look, own_list}
 use Rattle.struct_ir.specs.Threads.{Thread, Outcome, went, ended, blocked, broke, left_call, stop_at}
 use Rattle.struct_ir.specs.Valid.{Scope, are_below, counts_of, has_counts, is_action, is_below_if, is_own_list, is_place, is_step}
 use Rattle.struct_ir.specs.ValidCode.{code_scope_of, is_here}
@@ -46,7 +46,7 @@ use Rattle.flat_machine.specs.lemmas.Goes.{Pending, looks_so, does_so, returns_s
 use Rattle.flat_machine.specs.lemmas.Outcomes.{AreThreads, same, one_more, threads_are}
 use Rattle.flat_machine.specs.lemmas.Steps.{choice_at, done_at, last_call, leave_effect_is, leave_turned_is, look_effect_is, look_turned_is, outcome_at, step_effect_is, step_turned_is}
 use Rattle.flat_replay.specs.Attempts.{placed}
-use Rattle.flat_replay.proofs.Doings.{GivesNone, SameHeaps, Sound, action_sound, gives_none, malloc_goes, same_heaps}
+use Rattle.flat_replay.proofs.Doings.{GivesNone, SameHeaps, Sound, action_sound, gives_none, same_heaps}
 use Rattle.flat_replay.proofs.Entries.{turned_ids, turned_picks, turned_tries}
 
 -- ---- threads that were made
@@ -162,7 +162,11 @@ module _ (x : Image Spot) (n : ℕ) (m : Memory) where
   done_says c (store how) none = stepped_says (chosen_id c) none
   done_says c (copy_bytes align eq) none = stepped_says (chosen_id c) none
   done_says c malloc none = malloc_says c
+  done_says c calloc none = malloc_says c
+  done_says c realloc none = malloc_says c
   done_says c free none = stepped_says (chosen_id c) none
+  done_says c (change how t) none = stepped_says (chosen_id c) none
+  done_says c (compare t) none = stepped_says (chosen_id c) none
   done_says c (print pieces) none = stepped_says (chosen_id c) none
   done_says c lock none = stepped_says (chosen_id c) none
   done_says c unlock none = stepped_says (chosen_id c) none
@@ -214,14 +218,11 @@ module _ (x : Image Spot) (n : ℕ) (m : Memory) where
     tried_fault null f goes_on = refl
     tried_fault wait f goes_on = absurd (goes_on refl)
 
-    no_wait : c ≡ plain → c ≡ wait → ⊥
-    no_wait is e = let bad : plain ≡ wait = sym is ∙ e in cc
-
-    broke_parts : (f : Fault) → c ≡ plain → PartsOf (broke f)
+    broke_parts : (f : Fault) → (chosen_id c ≡ []) × (c ≡ wait → ⊥) → PartsOf (broke f)
     broke_parts (actions.trap word kind) is =
-        record { end_ = refl; gone = λ e f. absurd cc; heaps = same_heaps m; threads = same_threads m.threads; picks = refl; tries = λ position. ap (tries_at position) (tried_fault c (actions.trap word kind) (no_wait is)); ids = ap chosen_id is }
+        record { end_ = refl; gone = λ e f. absurd cc; heaps = same_heaps m; threads = same_threads m.threads; picks = refl; tries = λ position. ap (tries_at position) (tried_fault c (actions.trap word kind) is.1); ids = is.0 }
     broke_parts actions.output_limit is =
-        record { end_ = refl; gone = λ e f. absurd cc; heaps = same_heaps m; threads = same_threads m.threads; picks = refl; tries = λ position. ap (tries_at position) (tried_fault c actions.output_limit (no_wait is)); ids = ap chosen_id is }
+        record { end_ = refl; gone = λ e f. absurd cc; heaps = same_heaps m; threads = same_threads m.threads; picks = refl; tries = λ position. ap (tries_at position) (tried_fault c actions.output_limit is.1); ids = is.0 }
 
     by_done : GivesNone c node.action → (d : actions.Done) → Sound c m d → ((word : Option ℕ) (after : Memory) → d ≡ actions.went word after → KeptThreads m.threads after.threads) → PartsOf (outcome_at x n m place node t d)
     by_done none (actions.went None after) sound threads = went_parts none _ after sound (threads None after refl)
@@ -330,7 +331,7 @@ module _ (code : LinearCode) (program : IsProgram code) (sh : Shared) (os : List
           let places : length (map (target_of t.top.own) node.places) ≡ (counts_of node.action).places = length-map node.places (target_of t.top.own) ∙ eqb-true (length node.places) (counts_of node.action).places r.0 in
           let temps : length node.temps ≡ (counts_of node.action).temps = eqb-true (length node.temps) (counts_of node.action).temps u.0 in
           let c : Choice = choice_at x n m place node t.top.own in
-          let sound : Sound c m (done_at x n m place node t.top.own) = action_sound m x.layout n (malloc_choice m.storage) (malloc_goes m.storage) t.top.own node.action (map (target_of t.top.own) node.places) node.temps places temps in
+          let sound : Sound c m (done_at x n m place node t.top.own) = action_sound m x.layout n t.top.own node.action (map (target_of t.top.own) node.places) node.temps places temps in
           from_parts c (does place (step node)) _ _ here_is refl refl (step_effect_is x n m place node stage inside here_is) (step_turned_is x n m place node stage inside here_is)
           (by_done x n m stage t place node c (gives_none (malloc_choice m.storage) t.top.own node.action node.temps) (done_at x n m place node t.top.own) sound
           (λ word after e. kept_by node.action _ m.threads after.threads (threads_are x.layout n m c node.action (map (target_of t.top.own) node.places) (map (word_at t.top.own) node.temps) word after e)))

@@ -10,7 +10,7 @@ use Rattle.struct_ir.specs.Linear.{Spot}
 use Rattle.struct_ir.specs.Threads.{Thread, Outcome, went, ended, blocked, broke, unfit}
 use Rattle.flat_meaning.specs.Accesses.{Choice, Fault, plain}
 use Rattle.flat_meaning.specs.Effects.{Effect, act_before, act_effect, acted, ends_run, gone_effect, landing, look_before, look_effect, no_effect, own_list_of, serve_effect, stop_of}
-use Rattle.flat_meaning.specs.Events.{State, Serve, Event, local, look, act, barrier, after, after_all, after_serve, after_serves, moved_state, new_stages, put, put_if}
+use Rattle.flat_meaning.specs.Events.{State, Serve, Event, local, look, act, barrier, after, after_all, after_serve, after_serves, moved_state, new_stages, put, put_if, serving_state}
 use Rattle.flat_meaning.specs.Image.{Image}
 use Rattle.flat_meaning.specs.Memory.{Memory}
 use Rattle.flat_meaning.specs.Order.{act_picks, answer_of, local_picks, order_of, pick, pick_if, picks_of, picks_of_act, picks_of_local, picks_of_serve, picks_of_serves}
@@ -203,7 +203,7 @@ module _ (x : Image Spot) (n : ℕ) where
   event_back s (look thread) later = if_back s thread (look_effect x thread) (λ o. []) refl (λ stage other. nobody) (look_says thread s.memory) (own_at s.own thread) refl later
   event_back s (act thread choice) later =
       if_back s thread (act_effect x thread choice) (picks_of_act x s.memory thread choice) refl (λ stage other. act_apart thread other s.memory choice stage) (act_says thread choice s.memory) (own_at s.own thread) refl later
-  event_back s (barrier moves served) later = serves_back served (moved_state moves s) later
+  event_back s (barrier moves served) later = serves_back served (serving_state (moved_state moves s)) later
 
   -- after events
   pub unstarted : (ds : List Event) (s : State Spot) → Unstarted (after_all x ds s) → Back s (order_of x ds s)

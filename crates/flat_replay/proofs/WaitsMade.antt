@@ -6,14 +6,14 @@ use Rattle.block_store.specs.Runs.{own_at}
 use Rattle.struct_ir.specs.Flow.{Here, does, tests, passes, round, returns}
 use Rattle.struct_ir.specs.Linear.{Spot}
 use Rattle.struct_ir.specs.Machine.{Point}
-use Rattle.struct_ir.specs.Nodes.{Action, load, store, copy_bytes, malloc, free, print, lock, unlock, destroy, start, join, set as sets, call, step, look, safepoint, begin_object, end_object}
+use Rattle.struct_ir.specs.Nodes.{Action, load, store, copy_bytes, malloc, calloc, realloc, free, change, compare, print, lock, unlock, destroy, start, join, set as sets, call, step, look, safepoint, begin_object, end_object}
 use Rattle.struct_ir.specs.Threads.{Thread, Outcome, went, ended, blocked, broke, unfit, finished, if_fits, left_call, refuses, served, serves, stop_at}
 use Rattle.flat_meaning.specs.Accesses as choices
 use Rattle.flat_meaning.specs.Accesses.{Choice, Done, Fault, is_plain, plain}
 use Rattle.flat_meaning.specs.Actions as actions
 use Rattle.flat_meaning.specs.Actions.{joined_if}
 use Rattle.flat_meaning.specs.Effects.{Effect, act_before, act_effect, acted, ends_run, gone_effect, landing, look_before, look_effect, no_effect, own_list_of, serve_effect, stop_of}
-use Rattle.flat_meaning.specs.Events.{State, Serve, Event, local, look as does_look, act, barrier, after, after_all, after_serve, after_serves, first_state, moved_state, put_if, stage_made}
+use Rattle.flat_meaning.specs.Events.{State, Serve, Event, local, look as does_look, act, barrier, after, after_all, after_serve, after_serves, first_state, moved_state, serving_state, put_if, stage_made}
 use Rattle.flat_meaning.specs.Image.{Image}
 use Rattle.flat_meaning.specs.Machine.{given, served_by, words_machine, words_world}
 use Rattle.flat_meaning.specs.Memory.{Made, Memory, beginning, ended_if, thread_ended, with_result}
@@ -103,7 +103,11 @@ module _ (x : Image Spot) where
     action_waits_made (store how) ts ws e = tt
     action_waits_made (copy_bytes align eq) ts ws e = tt
     action_waits_made malloc ts ws e = tt
+    action_waits_made calloc ts ws e = tt
+    action_waits_made realloc ts ws e = tt
     action_waits_made free ts ws e = tt
+    action_waits_made (change how u) ts ws e = tt
+    action_waits_made (compare u) ts ws e = tt
     action_waits_made (print pieces) ts ws e = tt
     action_waits_made lock [] ws e = tt
     action_waits_made lock (a ∷ []) [] e = tt
@@ -246,7 +250,7 @@ module _ (x : Image Spot) where
   event_made s (local thread) all = if_made s thread (gone_effect x thread) (gone_leaves thread s.memory) all (own_at s.own thread) refl
   event_made s (does_look thread) all = if_made s thread (look_effect x thread) (look_leaves thread s.memory) all (own_at s.own thread) refl
   event_made s (act thread choice) all = if_made s thread (act_effect x thread choice) (act_leaves thread choice s.memory) all (own_at s.own thread) refl
-  event_made s (barrier moves served) all = serves_made served (moved_state moves s) all
+  event_made s (barrier moves served) all = serves_made served (serving_state (moved_state moves s)) all
 
   -- events keep it
   pub all_made : (ds : List Event) (s : State Spot) → AllMade s → AllMade (after_all x ds s)

@@ -19,7 +19,7 @@ use Rattle.flat_meaning.specs.declared.endings.Stop.{Stop}
 use Rattle.flat_meaning.specs.Accesses.{Choice}
 use Rattle.flat_meaning.specs.Allowed.{StandsBefore}
 use Rattle.flat_meaning.specs.Events as events
-use Rattle.flat_meaning.specs.Events.{Serve, act, after, after_all, after_serves, moved_state}
+use Rattle.flat_meaning.specs.Events.{Serve, act, after, after_all, after_serves, moved_state, served_state, serving_state}
 use Rattle.flat_meaning.specs.Image.{Image}
 use Rattle.flat_meaning.specs.Journals.{journal_picks}
 use Rattle.flat_meaning.specs.Names.{Name, ids_in}
@@ -58,9 +58,9 @@ bound_of free = most_local
 bound_of asked = 0
 bound_of must = 0
 
--- all threads at home, behind a barrier's moves
+-- all threads at home, behind a barrier's moves, where it begins to serve
 abbrev pub swept_first : LinearCode → State Shared Context → events.State Spot
-swept_first code x = let s = at_home x.shared (homes_of x.places) in moved_state (sweep_moves (image_of code x.shared) s) s
+swept_first code x = let s = at_home x.shared (homes_of x.places) in serving_state (moved_state (sweep_moves (image_of code x.shared) s) s)
 
 -- ---- a step in a state
 
@@ -90,7 +90,8 @@ pub record ActStays (y : Image Spot) (p : Ir) (given : List ℕ) (u : runs.State
   pub prints : (after y s (act thread choice)).end ≡ Some ends.OutputLimit → AllComeOut p u (PrintsPast y.layout.limits.output) (tried_by y s (act thread choice))
   pub calls : (number : ℕ) → HasBegun stage → (after y s (act thread choice)).end ≡ Some (ends.StackLimit number) → AllComeOut p u (Enters own) (tried_by y s (act thread choice))
 
--- a malloc that is served, of a thread that waits there
+-- an allocation that is served, of a thread that waits there, in the state that its barrier leaves where it serves those before alone: their
+-- old objects have left. There a realloc of what has left with them is a trap, and so has no turn
 pub record ServeStays (y : Image Spot) (p : Ir) (given : List ℕ) (u : runs.State (Thread Position Own)) (s : events.State Spot) (v : Serve) (q : Thread Spot Words) : Type 0 where
   pub stands : StandsBy y p given u s
   pub own : Thread Position Own
@@ -125,18 +126,18 @@ pub record TurnStays (p : Ir) (code : LinearCode) (s : Settings) (log : List Ent
 
 -- ---- an entry of a barrier
 
--- what the journal leads to, where no thread is out; and of each malloc that is then served, behind the moves and the mallocs before it, by
--- which thread it waits, and unless a turn so far broke a rule, how it stays
+-- what the journal leads to, where no thread is out; and of each allocation that is then served, behind the moves and the allocations before
+-- it, by which thread it waits, and unless a turn so far broke a rule, how it stays
 pub record ServesStay (p : Ir) (code : LinearCode) (s : Settings) (log : List Entry) (e : Entry) : Type 0 where
   pub here : State Shared Context
   pub leads : replay code s log ≡ Some here
   pub alone : none_out (machine_of code) (rules_of s) here ≡ true
   pub next : State Shared Context
   pub goes : step (machine_of code) (rules_of s) here e ≡ Some next
-  pub memory : let y = image_of code here.shared in next.shared.memory ≡ (after_serves y (sweep_serves y (at_home here.shared (homes_of here.places))) (swept_first code here)).memory
+  pub memory : let y = image_of code here.shared in next.shared.memory ≡ (served_state (after_serves y (sweep_serves y (at_home here.shared (homes_of here.places))) (swept_first code here))).memory
   pub keeps : let y = image_of code here.shared in (vs : List Serve) (v : Serve) (us : List Serve) → sweep_serves y (at_home here.shared (homes_of here.places)) ≡ vs ++ v ∷ us
       → (q : Thread Spot Words) × (own_at (after_serves y vs (swept_first code here)).own v.thread ≡ Some (waiting q))
-      × UpToABreak (run (program_of p) (start p) (journal_picks log ++ picks_of_serves y vs (swept_first code here))) (λ u. ServeStays y p (ids_told log ++ served_ids vs) u (after_serves y vs (swept_first code here)) v q)
+      × UpToABreak (run (program_of p) (start p) (journal_picks log ++ picks_of_serves y vs (swept_first code here))) (λ u. ServeStays y p (ids_told log ++ served_ids vs) u (served_state (after_serves y vs (swept_first code here))) v q)
 
 -- ---- a journal
 

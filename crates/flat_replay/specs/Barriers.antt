@@ -30,7 +30,7 @@ moves_next code x = sweep_moves (image_of code x.shared) (threads_home x)
 
 -- a barrier between two states: before it objects and table agree; no pinned object moves, and each other has then slid down to its lower
 -- neighbour's end or its sub-heap's start; the object of every id in use has, at the address that the table then gives, the bytes that it
--- had; behind the moves just the mallocs that wait are served
+-- had; behind the moves just the allocations that wait are served
 pub record BarrierKeeps (code : LinearCode) (x y : State Shared Context) : Type 0 where
   pub consistent : IsConsistent x.shared.memory.storage
   pub slides : IsSlide (pinned (image_of code x.shared) (threads_home x)) x.shared.memory.storage.heaps (moves_next code x)

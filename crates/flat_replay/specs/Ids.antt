@@ -5,7 +5,7 @@ use Rattle.ak_trace.specs.declared.entry.Entry.{Entry}
 use Rattle.ak_trace.specs.Hows as how
 use Rattle.ak_trace.specs.Kinds as kind
 
--- that of a malloc that got an object, at its thread's step or served at a barrier
+-- that of an allocation that got an object, at its thread's step or served at a barrier
 abbrev pub entry_ids : Entry → List ℕ
 entry_ids e = if ((e.kind == kind.turn) || (e.kind == kind.served)) && (e.how == how.malloc_got) then e.id ∷ [] else []
 

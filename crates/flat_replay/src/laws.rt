@@ -25,8 +25,8 @@ pub fn a_journal_is_of_events()
     ensures { AJournalIsOfEvents }
 {}
 
-/// Of checked code, entry by entry: unless a turn so far broke a rule of C, each byte that the step of a Turn entry reads or writes, or a
-/// malloc that a barrier serves, is of a block, at an offset, that the source's turn reaches; and where the blocks of that turn lie is told.
+/// Of checked code, entry by entry: unless a turn so far broke a rule of C, each byte that the step of a Turn entry reads or writes, or an
+/// allocation that a barrier serves, is of a block, at an offset, that the source's turn reaches; and where the blocks of that turn lie is told.
 pub fn accesses_of_journals_stay()
     ensures { AccessesOfJournalsStay }
 {

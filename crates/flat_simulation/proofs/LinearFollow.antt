@@ -29,7 +29,7 @@ use Rattle.flat_meaning.specs.Simulation as structured_code
 use Rattle.flat_meaning.specs.Simulation.{AllComeOut, IsTrap, UpToABreak, IsChecked, EachTurnTakesAnAnswer}
 use Rattle.flat_meaning.specs.Start.{ids_of, AreMadeBy}
 use Rattle.flat_meaning.specs.Touched.{touched_at}
-use Rattle.flat_simulation.specs.LinearSteps.{MallocsFit, PrintsPast, Enters, StepTouches, StepsFollow, HasStack, Follows}
+use Rattle.flat_simulation.specs.LinearSteps.{AllocationsFit, PrintsPast, Enters, StepTouches, StepsFollow, HasStack, Follows}
 use Rattle.flat_simulation.specs.inner.EventRuns.{Leads}
 use Rattle.flat_simulation.specs.inner.Kept.{EventsKeep}
 use Rattle.flat_simulation.specs.inner.Level.{image, StagesMatch, StatesMatch}
@@ -204,7 +204,7 @@ module _ (p : Ir) (c : IsChecked p) (output heaps heap ids : ℕ) (shape : IsSha
   abbrev first : Image Position
   first = structured_image p its_limits
 
-  found_at : (D : Flow Spot) (code' : ℕ → Spot) (R : Position → Spot → Type 0) → AreOne first (image D code' first.layout) R → CallsAreGuarded (image D code' first.layout) → MallocsFit D
+  found_at : (D : Flow Spot) (code' : ℕ → Spot) (R : Position → Spot → Type 0) → AreOne first (image D code' first.layout) R → CallsAreGuarded (image D code' first.layout) → AllocationsFit D
       → (ds : List Event) → AreAllowed (image D code' first.layout) ds (first_state (image D code' first.layout)) → Found p first (image D code' first.layout) ds
   found_at D code' R one guarded fit ds may =
       let y = image D code' first.layout in
@@ -225,7 +225,7 @@ module _ (p : Ir) (c : IsChecked p) (output heaps heap ids : ℕ) (shape : IsSha
             (record { loaded = n.first; ids = n.ids ∙ ap (λ l. l ++ ids_of es) (first_ids p c output heaps heap ids shape) ∙ f.3 fit })) all,
       )
 
-  pub linear_found : (y : Image Spot) (R : Position → Spot → Type 0) → AreOne first y R → CallsAreGuarded y → MallocsFit y.flow → (ds : List Event) → AreAllowed y ds (first_state y) → Found p first y ds
+  pub linear_found : (y : Image Spot) (R : Position → Spot → Type 0) → AreOne first y R → CallsAreGuarded y → AllocationsFit y.flow → (ds : List Event) → AreAllowed y ds (first_state y) → Found p first y ds
   linear_found y R one guarded fit =
-      subst (λ (z : Image Spot). AreOne first z R → CallsAreGuarded z → MallocsFit z.flow → (ds : List Event) → AreAllowed z ds (first_state z) → Found p first z ds) (λ i. record { flow = y.flow; start = y.start; layout = sym one.layout i })
+      subst (λ (z : Image Spot). AreOne first z R → CallsAreGuarded z → AllocationsFit z.flow → (ds : List Event) → AreAllowed z ds (first_state z) → Found p first z ds) (λ i. record { flow = y.flow; start = y.start; layout = sym one.layout i })
       (λ (o : AreOne first (image y.flow y.start first.layout) R) (g : CallsAreGuarded (image y.flow y.start first.layout)). found_at y.flow y.start R o g) one guarded fit

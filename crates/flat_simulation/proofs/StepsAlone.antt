@@ -1,10 +1,10 @@
--- So do steps, Looks and mallocs that are served.
-use Rattle.std.proofs.Common.{◌≡◌, ℕ, ◌==◌, Bool, true, false, cond, List, [], ◌∷◌, map, Option, Some, None, refl, sym, ap, subst, inr}
+-- So do steps, Looks and allocations that are served.
+use Rattle.std.proofs.Common.{◌≡◌, ℕ, ◌==◌, Bool, true, false, cond, List, [], ◌∷◌, ◌++◌, map, Option, Some, None, refl, sym, ap, subst, inr}
 use Rattle.std.specs.Prelude.{slice_get}
 use Rattle.struct_ir.specs.Flow.{Here, does, tests, passes, round, returns}
 use Rattle.struct_ir.specs.Linear.{Spot}
 use Rattle.struct_ir.specs.Machine.{Point}
-use Rattle.struct_ir.specs.Nodes.{set, call, step, look, safepoint, begin_object, end_object}
+use Rattle.struct_ir.specs.Nodes.{Action, load, store, copy_bytes, malloc, calloc, realloc, free, change, compare, print, lock, unlock, destroy, start, join, set, call, step, look, safepoint, begin_object, end_object}
 use Rattle.struct_ir.specs.Threads.{Thread, serves, refuses, Outcome, went, ended, blocked, broke, unfit, behind, finished, if_fits, left_call, served, stop_at}
 use Rattle.flat_meaning.specs.Accesses as actions
 use Rattle.flat_meaning.specs.Accesses.{Choice, Done, Fault, is_plain, plain}
@@ -14,11 +14,11 @@ use Rattle.flat_meaning.specs.Image.{Image}
 use Rattle.flat_meaning.specs.Machine.{given, looked, served_by, words_machine, words_world}
 use Rattle.flat_meaning.specs.Memory.{Memory, thread_ended}
 use Rattle.flat_meaning.specs.Stages.{Before, Stage, before, calls, can_go, going, landed, looks, nothing, room_for, safe, starts, steps, thread_at, turn_over, waiting}
-use Rattle.flat_meaning.specs.Touched.{Touched, touched_at}
+use Rattle.flat_meaning.specs.Touched.{Touched, objects_touched_at, touched_at}
 use Rattle.flat_meaning.specs.Words.{Words, set_if, target_of, with_temps, word_at}
 use Rattle.ak_trace.specs.declared.endings.End.{End}
 use Rattle.ak_trace.specs.declared.endings.End.TheVariants as ends
-use Rattle.flat_simulation.specs.TouchedAlone.{ChangesWritten, ReadsSame, SameEffect, SameMemory, StepsTouchAlone, TouchesAlone, touched_there, with_other}
+use Rattle.flat_simulation.specs.TouchedAlone.{ChangesWritten, HasItsRoom, HasRoomHere, HasRoomThere, ReadsSame, SameEffect, SameMemory, StepsTouchAlone, TouchesAlone, touched_there, with_other}
 use Rattle.flat_simulation.proofs.TouchedAlone.{Both, acts_alone}
 
 module _ (y : Image Spot) (thread : ℕ) (choice : Choice) (t : Thread Spot Words) (m : Memory) where
@@ -101,26 +101,26 @@ module _ (y : Image Spot) (thread : ℕ) (choice : Choice) (t : Thread Spot Word
     served_plain false l = misfit
 
     -- by what stands there
-    by_here : (h : Here) (same : ReadsSame (touched_at y.layout t.top.own m h) m.storage.bytes other)
-        → Outcomes (touched_at y.layout t.top.own m h) (stop_at y.flow (words_machine y.layout thread) (words_world y.layout thread) y.start choice t m h) (stop_at y.flow (words_machine y.layout thread) (words_world y.layout thread) y.start choice t (with_other m other) h)
-    by_here (does place (set to calc)) same = misfit
-    by_here (does place (call c)) same = fits (is_plain choice) _ _ (still [], (refl, same_memory))
-    by_here (does place (step s)) same =
-        done (touched_at y.layout t.top.own m (does place (step s))) same s.to _ _ (acts_alone y.layout thread choice m other s.action (map (target_of t.top.own) s.places) (map (word_at t.top.own) s.temps) same)
-    by_here (does place (look slot base)) same = served_plain (is_plain choice) (looked m.storage t.top.own slot (word_at t.top.own base))
-    by_here (does place (safepoint slots)) same = served_plain (is_plain choice) t.top.own
-    by_here (does place (begin_object i)) same = misfit
-    by_here (does place (end_object i)) same = misfit
-    by_here (tests place temp) same = misfit
-    by_here passes same = misfit
-    by_here round same = fits (is_plain choice) _ _ (still [], (refl, same_memory))
-    by_here (returns temp) same = leaves temp t.callers
+    by_here : (h : Here) (same : ReadsSame (objects_touched_at choice t.top.own m h ++ touched_at y.layout t.top.own m h) m.storage.bytes other) → HasRoomHere m.storage choice t.top.own h
+        → Outcomes (objects_touched_at choice t.top.own m h ++ touched_at y.layout t.top.own m h) (stop_at y.flow (words_machine y.layout thread) (words_world y.layout thread) y.start choice t m h) (stop_at y.flow (words_machine y.layout thread) (words_world y.layout thread) y.start choice t (with_other m other) h)
+    by_here (does place (set to calc)) same room = misfit
+    by_here (does place (call c)) same room = fits (is_plain choice) _ _ (still [], (refl, same_memory))
+    by_here (does place (step s)) same room =
+        done (objects_touched_at choice t.top.own m (does place (step s)) ++ touched_at y.layout t.top.own m (does place (step s))) same s.to _ _ (acts_alone y.layout thread choice m other s.action (map (target_of t.top.own) s.places) (map (word_at t.top.own) s.temps) same room)
+    by_here (does place (look slot base)) same room = served_plain (is_plain choice) (looked m.storage t.top.own slot (word_at t.top.own base))
+    by_here (does place (safepoint slots)) same room = served_plain (is_plain choice) t.top.own
+    by_here (does place (begin_object i)) same room = misfit
+    by_here (does place (end_object i)) same room = misfit
+    by_here (tests place temp) same room = misfit
+    by_here passes same room = misfit
+    by_here round same room = fits (is_plain choice) _ _ (still [], (refl, same_memory))
+    by_here (returns temp) same room = leaves temp t.callers
 
 -- ---- effects
 
 module _ (y : Image Spot) (thread : ℕ) (choice : Choice) (stage : Stage Spot) (t : Thread Spot Words) (m : Memory) where
   abbrev touched : List Touched
-  touched = touched_at y.layout t.top.own m (y.flow.here t.top.at)
+  touched = objects_touched_at choice t.top.own m (y.flow.here t.top.at) ++ touched_at y.layout t.top.own m (y.flow.here t.top.at)
 
   abbrev ExitOf : Memory → Option End
   ExitOf after = cond (thread == 0) (exit_of (slice_get after.threads 0)) None
@@ -165,11 +165,11 @@ module _ (y : Image Spot) (thread : ℕ) (choice : Choice) (stage : Stage Spot) 
   acted_memory list unfit = refl
 
   -- a step
-  step_alone : TouchesAlone touched (step_effect y thread choice stage t) m
-  step_alone = record {
+  step_alone : HasRoomHere m.storage choice t.top.own (y.flow.here t.top.at) → TouchesAlone touched (step_effect y thread choice stage t) m
+  step_alone room = record {
     writes = subst (λ (z : Memory). ChangesWritten touched m.storage.bytes z.storage.bytes) (sym (acted_memory (own_list_of (y.flow.here t.top.at)) (stop_of y thread choice t m)))
-        (by_here y thread choice t m m.storage.bytes (y.flow.here t.top.at) (record { size = refl; same = λ address is t. refl })).0;
-    reads = λ other same. outcome_same other (own_list_of (y.flow.here t.top.at)) _ _ (by_here y thread choice t m other (y.flow.here t.top.at) same).1;
+        (by_here y thread choice t m m.storage.bytes (y.flow.here t.top.at) (record { size = refl; same = λ address is t. refl }) room).0;
+    reads = λ other same. outcome_same other (own_list_of (y.flow.here t.top.at)) _ _ (by_here y thread choice t m other (y.flow.here t.top.at) same room).1;
   }
 
   -- nothing is done to memory
@@ -185,18 +185,55 @@ module _ (y : Image Spot) (thread : ℕ) (choice : Choice) (stage : Stage Spot) 
   room_alone true end = nothing_done (λ n. no_effect n stage) (λ n. refl)
   room_alone false end = nothing_done (λ n. ends_run n stage end) (λ n. refl)
 
-  before_acts : (b : Before) → TouchesAlone touched (λ n. act_before y thread choice stage t n b) m
-  before_acts safe = nothing_done (λ n. no_effect n stage) (λ n. refl)
-  before_acts looks = nothing_done (λ n. no_effect n stage) (λ n. refl)
-  before_acts steps = step_alone
-  before_acts (calls function) = room_alone (room_for y t function) (ends.StackLimit thread)
-  before_acts turn_over = nothing_done (λ n. no_effect n stage) (λ n. refl)
-  before_acts nothing = nothing_done (λ n. no_effect n stage) (λ n. refl)
+  before_acts : (b : Before) → HasRoomHere m.storage choice t.top.own (y.flow.here t.top.at) → TouchesAlone touched (λ n. act_before y thread choice stage t n b) m
+  before_acts safe room = nothing_done (λ n. no_effect n stage) (λ n. refl)
+  before_acts looks room = nothing_done (λ n. no_effect n stage) (λ n. refl)
+  before_acts steps room = step_alone room
+  before_acts (calls function) room = room_alone (room_for y t function) (ends.StackLimit thread)
+  before_acts turn_over room = nothing_done (λ n. no_effect n stage) (λ n. refl)
+  before_acts nothing room = nothing_done (λ n. no_effect n stage) (λ n. refl)
 
 module _ (y : Image Spot) (thread : ℕ) (stage : Stage Spot) (t : Thread Spot Words) (m : Memory) where
-  before_looks : (b : Before) → TouchesAlone (touched_at y.layout t.top.own m (y.flow.here t.top.at)) (λ n. look_before y thread stage t n b) m
+  -- a choice of nothing asks for no room
+  no_room : (h : Here) → HasRoomHere m.storage plain t.top.own h
+  no_room (does place (step s)) = of_action s.action (map (word_at t.top.own) s.temps)
+    where
+      of_action : (a : Action) (ws : List ℕ) → HasItsRoom m.storage plain a ws
+      of_action calloc [] = tt
+      of_action calloc (w ∷ []) = tt
+      of_action calloc (w ∷ v ∷ []) = tt
+      of_action calloc (w ∷ v ∷ u ∷ ws) = tt
+      of_action realloc [] = tt
+      of_action realloc (w ∷ []) = tt
+      of_action realloc (w ∷ v ∷ []) = tt
+      of_action realloc (w ∷ v ∷ u ∷ ws) = tt
+      of_action malloc ws = tt
+      of_action (load how) ws = tt
+      of_action (store how) ws = tt
+      of_action (copy_bytes align same) ws = tt
+      of_action free ws = tt
+      of_action (change how n) ws = tt
+      of_action (compare n) ws = tt
+      of_action (print pieces) ws = tt
+      of_action lock ws = tt
+      of_action unlock ws = tt
+      of_action destroy ws = tt
+      of_action (start function) ws = tt
+      of_action join ws = tt
+  no_room (does place (set to calc)) = tt
+  no_room (does place (call c)) = tt
+  no_room (does place (look slot base)) = tt
+  no_room (does place (safepoint slots)) = tt
+  no_room (does place (begin_object i)) = tt
+  no_room (does place (end_object i)) = tt
+  no_room (tests place temp) = tt
+  no_room passes = tt
+  no_room round = tt
+  no_room (returns temp) = tt
+
+  before_looks : (b : Before) → TouchesAlone (objects_touched_at plain t.top.own m (y.flow.here t.top.at) ++ touched_at y.layout t.top.own m (y.flow.here t.top.at)) (λ n. look_before y thread stage t n b) m
   before_looks safe = nothing_done y thread plain stage t m (λ n. no_effect n stage) (λ n. refl)
-  before_looks looks = step_alone y thread plain stage t m
+  before_looks looks = step_alone y thread plain stage t m (no_room (y.flow.here t.top.at))
   before_looks steps = nothing_done y thread plain stage t m (λ n. no_effect n stage) (λ n. refl)
   before_looks (calls function) = nothing_done y thread plain stage t m (λ n. no_effect n stage) (λ n. refl)
   before_looks turn_over = nothing_done y thread plain stage t m (λ n. no_effect n stage) (λ n. refl)
@@ -205,23 +242,23 @@ module _ (y : Image Spot) (thread : ℕ) (stage : Stage Spot) (t : Thread Spot W
 -- ---- the law
 
 module _ (y : Image Spot) (thread : ℕ) (choice : Choice) (m : Memory) where
-  acts_so : (stage : Stage Spot) → TouchesAlone (touched_there y m stage) (act_effect y thread choice stage) m
-  acts_so (starts function argument) = room_alone y thread choice (starts function argument) (thread_at y (starts function argument)) m (can_go y (starts function argument)) (ends.StackLimit thread)
-  acts_so (going t) = before_acts y thread choice (going t) t m (before y t)
-  acts_so (waiting t) = before_acts y thread choice (waiting t) t m (before y t)
-  acts_so (landed list t) = before_acts y thread choice (landed list t) t m (before y t)
+  acts_so : (stage : Stage Spot) → HasRoomThere y m choice stage → TouchesAlone (touched_there y m choice stage) (act_effect y thread choice stage) m
+  acts_so (starts function argument) room = room_alone y thread choice (starts function argument) (thread_at y (starts function argument)) m (can_go y (starts function argument)) (ends.StackLimit thread)
+  acts_so (going t) room = before_acts y thread choice (going t) t m (before y t) room
+  acts_so (waiting t) room = before_acts y thread choice (waiting t) t m (before y t) room
+  acts_so (landed list t) room = before_acts y thread choice (landed list t) t m (before y t) room
 
-  looks_so : (stage : Stage Spot) → TouchesAlone (touched_there y m stage) (look_effect y thread stage) m
-  looks_so (starts function argument) = nothing_done y thread choice (starts function argument) (thread_at y (starts function argument)) m (λ n. no_effect n (starts function argument)) (λ n. refl)
+  looks_so : (stage : Stage Spot) → TouchesAlone (touched_there y m plain stage) (look_effect y thread stage) m
+  looks_so (starts function argument) = nothing_done y thread plain (starts function argument) (thread_at y (starts function argument)) m (λ n. no_effect n (starts function argument)) (λ n. refl)
   looks_so (going t) = before_looks y thread (going t) t m (before y t)
   looks_so (waiting t) = before_looks y thread (waiting t) t m (before y t)
   looks_so (landed list t) = before_looks y thread (landed list t) t m (before y t)
 
-  serves_so : (stage : Stage Spot) → TouchesAlone (touched_there y m stage) (serve_effect y thread choice stage) m
-  serves_so (starts function argument) = nothing_done y thread choice (starts function argument) (thread_at y (starts function argument)) m (λ n. no_effect n (starts function argument)) (λ n. refl)
-  serves_so (going t) = nothing_done y thread choice (going t) t m (λ n. no_effect n (going t)) (λ n. refl)
-  serves_so (waiting t) = step_alone y thread choice (waiting t) t m
-  serves_so (landed list t) = nothing_done y thread choice (landed list t) t m (λ n. no_effect n (landed list t)) (λ n. refl)
+  serves_so : (stage : Stage Spot) → HasRoomThere y m choice stage → TouchesAlone (touched_there y m choice stage) (serve_effect y thread choice stage) m
+  serves_so (starts function argument) room = nothing_done y thread choice (starts function argument) (thread_at y (starts function argument)) m (λ n. no_effect n (starts function argument)) (λ n. refl)
+  serves_so (going t) room = nothing_done y thread choice (going t) t m (λ n. no_effect n (going t)) (λ n. refl)
+  serves_so (waiting t) room = step_alone y thread choice (waiting t) t m room
+  serves_so (landed list t) room = nothing_done y thread choice (landed list t) t m (λ n. no_effect n (landed list t)) (λ n. refl)
 
 pub steps_touch_alone : StepsTouchAlone
 steps_touch_alone y thread choice stage m = record { acts = acts_so y thread choice m stage; looks = looks_so y thread choice m stage; serves = serves_so y thread choice m stage }

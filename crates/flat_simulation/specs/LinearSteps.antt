@@ -1,10 +1,10 @@
 -- Linear code after events: what threads share stands for the source's world after the same turns, and whatever step may come next follows
 -- the source's turn.
-use Rattle.std.specs.Prelude.{◌≡◌, ℕ, suc, ◌<◌, ◌≤◌, List, [], ◌∷◌, ◌++◌, All, length, Option, Some, None, Ok, Err}
+use Rattle.std.specs.Prelude.{◌≡◌, ℕ, suc, ◌<◌, ◌≤◌, true, List, [], ◌∷◌, ◌++◌, All, length, Option, Some, None, Ok, Err}
 use Rattle.block_store.specs.Blocks.{Block, Blocks, live}
 use Rattle.block_store.specs.Runs as runs
 use Rattle.block_store.specs.Runs.{Pick, Turn, own_at, picked}
-use Rattle.struct_ir.specs.Nodes.{malloc, step, Step, Ir}
+use Rattle.struct_ir.specs.Nodes.{step, Step, Ir}
 use Rattle.struct_ir.specs.Flow.{does, Flow}
 use Rattle.struct_ir.specs.Linear.{Spot}
 use Rattle.struct_ir.specs.Machine.{Point, Steps, run}
@@ -16,6 +16,7 @@ use Rattle.ak_trace.specs.declared.endings.End.TheVariants as ends
 use Rattle.flat_meaning.specs.Image.{Layout, Image}
 use Rattle.flat_meaning.specs.Words.{Words}
 use Rattle.flat_meaning.specs.Accesses.{Choice}
+use Rattle.flat_meaning.specs.Ready.{takes_room}
 use Rattle.flat_meaning.specs.Stages.{Stage, starts, going, waiting, landed, steps, thread_at}
 use Rattle.flat_meaning.specs.Events.{State, Event, act, after}
 use Rattle.flat_meaning.specs.Order.{picks_of, tried_by}
@@ -54,9 +55,9 @@ HasBegun (going t) = Unit {0}
 HasBegun (waiting t) = Unit {0}
 HasBegun (landed list t) = Unit {0}
 
--- no malloc takes a place
-abbrev pub MallocsFit : {P : Type 0} → Flow P → Type 0
-MallocsFit {P} C = (at : P) (place : ℕ) (s : Step) → C.here at ≡ does place (step s) → s.action ≡ malloc → s.places ≡ []
+-- no allocation takes a place
+abbrev pub AllocationsFit : {P : Type 0} → Flow P → Type 0
+AllocationsFit {P} C = (at : P) (place : ℕ) (s : Step) → C.here at ≡ does place (step s) → takes_room s.action ≡ true → s.places ≡ []
 
 -- ---- the step that may come next
 

@@ -1,6 +1,6 @@
 -- What a thread waits for that stands before a step that couldn't be done.
 use Rattle.std.specs.Prelude.{ℕ, List, [], ◌∷◌, map, Option, Some, None}
-use Rattle.struct_ir.specs.Nodes.{Action, malloc, lock, join, step}
+use Rattle.struct_ir.specs.Nodes.{Action, malloc, calloc, realloc, lock, join, step}
 use Rattle.struct_ir.specs.Flow.{Here, does}
 use Rattle.struct_ir.specs.Linear.{Spot}
 use Rattle.flat_meaning.specs.Image.{Image}
@@ -9,9 +9,11 @@ use Rattle.flat_meaning.specs.Stages.{Stage, waiting}
 use Rattle.flat_threads.specs.declared.wait.Wait.{Wait}
 use Rattle.flat_threads.specs.declared.wait.Wait.TheVariants as waits
 
--- a malloc for room, a lock for its mutex, a join for the thread
+-- an allocation for room, a lock for its mutex, a join for the thread
 abbrev pub action_waits : Action → List Target → List ℕ → Option Wait
 action_waits malloc places words = Some waits.Room
+action_waits calloc places words = Some waits.Room
+action_waits realloc places words = Some waits.Room
 action_waits lock (a ∷ []) [] = Some (waits.Mutex a.address)
 action_waits join (to ∷ []) (number ∷ []) = Some (waits.Thread number)
 action_waits action places words = None

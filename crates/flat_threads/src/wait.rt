@@ -1,7 +1,7 @@
 /// What a thread waits for.
 #[derive(Clone, Copy, PartialEq, Eq)]
 pub enum Wait {
-    /// Room for its malloc.
+    /// Room for what it allocates.
     Room,
     /// The mutex at this address.
     Mutex(u64),

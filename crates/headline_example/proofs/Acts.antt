@@ -3,7 +3,7 @@ use Rattle.std.proofs.Common.{◌≡◌, refl, sym, ap, subst, ◌∙◌, ℕ, s
 use Rattle.std.specs.Prelude.{◌⊎◌}
 use Rattle.ak_trace.specs.declared.order.Answer.TheVariants as told
 use Rattle.ak_trace.specs.Order.{step_answers}
-use Rattle.struct_ir.specs.Nodes.{Place, Action, load, store, copy_bytes, malloc, free, print, lock, unlock, destroy, start, join, Step, step, look, own_list, plain, ret, Nodes, more_nodes}
+use Rattle.struct_ir.specs.Nodes.{Place, Action, load, store, copy_bytes, malloc, calloc, realloc, free, change, compare, print, lock, unlock, destroy, start, join, Step, step, look, own_list, plain, ret, Nodes, more_nodes}
 use Rattle.struct_ir.specs.Flow.{does, returns, Shrinks}
 use Rattle.struct_ir.specs.Threads.{Thread}
 use Rattle.struct_ir.specs.Instrs.{Instr}
@@ -43,9 +43,9 @@ use Rattle.headline_example.proofs.Locals.{alone}
 
 -- ---- an action of a fine row
 
--- it is done, and makes no thread; or the run ends
+-- it is done, makes no thread and begins no barrier; or the run ends
 abbrev IsDone : Memory → Done → Type 0
-IsDone m (accesses.went word n) = n.threads ≡ m.threads
+IsDone m (accesses.went word n) = (n.threads ≡ m.threads) × (n.leaving ≡ m.leaving)
 IsDone m accesses.waits = ⊥
 IsDone m accesses.unfit = ⊥
 IsDone m (accesses.over f) = Unit {0}
@@ -53,24 +53,24 @@ IsDone m (accesses.over f) = Unit {0}
 loaded_done : (how : Access) (a : Target) (m : Memory) → IsDone m (accesses.loaded how a m)
 loaded_done how a m =
     let d : Done = accesses.went (Some (accesses.word_read how (bytes_from m.storage.bytes a.address (size_of how)))) m in
-    elim (first_outside m.storage.bytes a.address (size_of how)) as (λ o. IsDone m (accesses.within kinds.Load o d)) [ None ↦ refl | Some address ↦ tt ]
+    elim (first_outside m.storage.bytes a.address (size_of how)) as (λ o. IsDone m (accesses.within kinds.Load o d)) [ None ↦ (refl, refl) | Some address ↦ tt ]
 
 stored_done : (how : Access) (a : Target) (word : ℕ) (m : Memory) → IsDone m (accesses.stored how a word m)
 stored_done how a word m =
     let d : Done = accesses.went None (written m a.address (low_bytes (size_of how) word)) in
-    elim (first_outside m.storage.bytes a.address (size_of how)) as (λ o. IsDone m (accesses.within kinds.Store o d)) [ None ↦ refl | Some address ↦ tt ]
+    elim (first_outside m.storage.bytes a.address (size_of how)) as (λ o. IsDone m (accesses.within kinds.Store o d)) [ None ↦ (refl, refl) | Some address ↦ tt ]
 
 freed_done : (word : ℕ) (m : Memory) → IsDone m (accesses.freed word m)
 freed_done word m =
     let e : Done = accesses.went None (with_storage m (without_id m.storage (id_of word))) in
     let f : Done = accesses.over (accesses.trap word kinds.Free) in
     elim (word == 0) as (λ b. IsDone m (cond b (accesses.went None m) (cond (accesses.is_live_start m.storage word) e f))) [
-      | true ↦ refl
-      | false ↦ elim (accesses.is_live_start m.storage word) as (λ b. IsDone m (cond b e f)) [ true ↦ refl | false ↦ tt ]
+      | true ↦ (refl, refl)
+      | false ↦ elim (accesses.is_live_start m.storage word) as (λ b. IsDone m (cond b e f)) [ true ↦ (refl, refl) | false ↦ tt ]
     ]
 
 prints_done : (m : Memory) (r : Read) → IsDone m (accesses.prints r m)
-prints_done m (reads all) = refl
+prints_done m (reads all) = (refl, refl)
 prints_done m (outside address) = tt
 prints_done m too_long = tt
 
@@ -96,6 +96,10 @@ fits x m l free [] (w ∷ v ∷ ws) h = absurd h
 fits x m l free (p ∷ ps) temps h = absurd h
 fits x m l (copy_bytes align same) places temps h = absurd h
 fits x m l malloc places temps h = absurd h
+fits x m l calloc places temps h = absurd h
+fits x m l realloc places temps h = absurd h
+fits x m l (change how t) places temps h = absurd h
+fits x m l (compare t) places temps h = absurd h
 fits x m l lock places temps h = absurd h
 fits x m l unlock places temps h = absurd h
 fits x m l destroy places temps h = absurd h
@@ -149,6 +153,7 @@ module _ (instrs : List Instr) (shrinks : Shrinks (flow instrs)) (limits : Limit
     pub sits : Sits instrs rest at
     pub count : stops ns ≡ suc (stops rest)
     pub threads : memory.threads ≡ m.threads
+    pub leaving : memory.leaving ≡ m.leaving
     pub still : later ≡ true → memory ≡ first
     pub tells : Tells early later (turned stage)
 
@@ -192,6 +197,7 @@ module _ (instrs : List Instr) (shrinks : Shrinks (flow instrs)) (limits : Limit
         sits = a.behind;
         count = refl;
         threads = refl;
+        leaving = refl;
         still = still;
         tells = tells_nothing early (turned stage) u;
       } where
@@ -255,7 +261,8 @@ module _ (instrs : List Instr) (shrinks : Shrinks (flow instrs)) (limits : Limit
       asked = fine;
       sits = a.behind;
       count = refl;
-      threads = h;
+      threads = h.0;
+      leaving = h.1;
       still = λ (q : false ≡ true). absurd (cc q);
       tells = tt;
     })
@@ -272,8 +279,8 @@ module _ (instrs : List Instr) (shrinks : Shrinks (flow instrs)) (limits : Limit
     step_late fit fine = let d = fits x m l s.action s.places s.temps fit in late fine (done_at x 0 m place s l) d.done_ refl d.turned
 
     -- the malloc, where an object is chosen
-    pub malloc_on : s.action ≡ malloc → (id at word : ℕ) (n : Memory) → n.threads ≡ m.threads → choice_at x 0 m place s l ≡ accesses.got id at → done_at x 0 m place s l ≡ accesses.went (Some word) n → Fine rest → On true ns stage
-    malloc_on is_malloc id at word n threads chosen done_is fine =
+    pub malloc_on : s.action ≡ malloc → (id at word : ℕ) (n : Memory) → n.threads ≡ m.threads → n.leaving ≡ m.leaving → choice_at x 0 m place s l ≡ accesses.got id at → done_at x 0 m place s l ≡ accesses.went (Some word) n → Fine rest → On true ns stage
+    malloc_on is_malloc id at word n threads leaving chosen done_is fine =
         let u : turned stage ≡ turns.got id at =
         turned_is ∙ (ap (outcome_turns place s i l) done_is ∙ (went_turns (Some word) n ∙ (ap (done_turned x m (choice_at x 0 m place s l)) is_malloc ∙ ap (λ c. done_turned x m c malloc) chosen))) in
         record {
@@ -290,6 +297,7 @@ module _ (instrs : List Instr) (shrinks : Shrinks (flow instrs)) (limits : Limit
           sits = a.behind;
           count = refl;
           threads = threads;
+          leaving = leaving;
           still = λ (q : false ≡ true). absurd (cc q);
           tells = ap (λ u. step_answers (how_of u)) u;
         }

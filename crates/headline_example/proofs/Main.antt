@@ -3,7 +3,7 @@ use Rattle.std.proofs.Common.{◌≡◌, refl, sym, ap, subst, ◌∙◌, ℕ, �
 use Rattle.std.specs.Prelude.{slice_get, slice_set, replicate}
 use Rattle.std.specs.List.{list_all, AllByRecursion}
 use Rattle.ak_words.specs.Wrapped.{residue, wrapped_value}
-use Rattle.struct_ir.specs.Nodes.{Place, Action, load, store, copy_bytes, malloc, free, print, lock, unlock, destroy, start, join, set, call, step, look, safepoint, begin_object, end_object, plain, if_, loop, break_, next_, ret, Nodes, no_nodes, more_nodes, Func, Ir}
+use Rattle.struct_ir.specs.Nodes.{Place, Action, load, store, copy_bytes, malloc, calloc, realloc, free, change, compare, print, lock, unlock, destroy, start, join, set, call, step, look, safepoint, begin_object, end_object, plain, if_, loop, break_, next_, ret, Nodes, no_nodes, more_nodes, Func, Ir}
 use Rattle.struct_ir.specs.Lists.{bare_place}
 use Rattle.struct_ir.specs.Erased.{erased, func_erased}
 use Rattle.struct_ir.specs.Placed.{are_due}
@@ -44,6 +44,10 @@ fits_kept free (p ∷ ps) ts h = absurd h
 fits_kept (print pieces) ps ts h = tt
 fits_kept (copy_bytes align same) ps ts h = absurd h
 fits_kept malloc ps ts h = absurd h
+fits_kept calloc ps ts h = absurd h
+fits_kept realloc ps ts h = absurd h
+fits_kept (change how t) ps ts h = absurd h
+fits_kept (compare t) ps ts h = absurd h
 fits_kept lock ps ts h = absurd h
 fits_kept unlock ps ts h = absurd h
 fits_kept destroy ps ts h = absurd h
@@ -58,7 +62,11 @@ four_kept temps malloc (p ∷ ps) ts h = absurd h
 four_kept temps (load how) ps ts h = absurd h
 four_kept temps (store how) ps ts h = absurd h
 four_kept temps (copy_bytes align same) ps ts h = absurd h
+four_kept temps calloc ps ts h = absurd h
+four_kept temps realloc ps ts h = absurd h
 four_kept temps free ps ts h = absurd h
+four_kept temps (change how t) ps ts h = absurd h
+four_kept temps (compare t) ps ts h = absurd h
 four_kept temps (print pieces) ps ts h = absurd h
 four_kept temps lock ps ts h = absurd h
 four_kept temps unlock ps ts h = absurd h

@@ -157,7 +157,7 @@ no_end turns.lacked_stack e = absurd (cc e)
 same_some : {A : Type 0} (a b : A) → Some a ≡ Some b → a ≡ b
 same_some a b e = cc
 
-module _ (instrs : List Instr) (shrinks : Shrinks (flow instrs)) (entries : ℕ) (first : Memory) (chooses : malloc_choice first.storage 4 ≡ got 0 0) where
+module _ (instrs : List Instr) (shrinks : Shrinks (flow instrs)) (entries : ℕ) (first : Memory) (chooses : malloc_choice first.storage 0 4 ≡ got 0 0) where
   abbrev m : Machine Shared Context
   m = machine_of (code_with instrs)
 
@@ -177,7 +177,7 @@ module _ (instrs : List Instr) (shrinks : Shrinks (flow instrs)) (entries : ℕ)
 
   -- what is shared, where main alone was made
   abbrev shared : Storage → (output : List ℕ) → (limit : ℕ) → List Entry → Barriers → Shared
-  shared st output limit made barriers = record { memory = record { storage = st; output = output; threads = beginning 0 0 ∷ [] }; output_limit = limit; made = made; barriers = barriers }
+  shared st output limit made barriers = record { memory = record { storage = st; output = output; threads = beginning 0 0 ∷ []; leaving = None }; output_limit = limit; made = made; barriers = barriers }
 
   abbrev context : Stage Spot → (turns : ℕ) → Context
   context stage turns = record { number = 0; stage = Some stage; turns = turns; stop = None; wait = None }
@@ -373,8 +373,8 @@ module _ (instrs : List Instr) (shrinks : Shrinks (flow instrs)) (entries : ℕ)
         due = [];
       }
 
-      memory_is : n.memory ≡ record { storage = n.memory.storage; output = n.memory.output; threads = beginning 0 0 ∷ [] }
-      memory_is = λ i. record { storage = n.memory.storage; output = n.memory.output; threads = n.threads i }
+      memory_is : n.memory ≡ record { storage = n.memory.storage; output = n.memory.output; threads = beginning 0 0 ∷ []; leaving = None }
+      memory_is = λ i. record { storage = n.memory.storage; output = n.memory.output; threads = n.threads i; leaving = n.leaving i }
 
       state_is : behind did ≡ out_state (shared n.memory.storage n.memory.output o.limit (turn_entry 0 0 0 u ∷ []) o.barriers) (context stage1 0) (o.k + 1) (o.is_asked || calls_home) (after_draw None o.x) (o.since + 1) (o.spare - 1)
       state_is =

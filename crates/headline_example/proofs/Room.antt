@@ -94,7 +94,7 @@ module _ (instrs : List Instr) (shrinks : Shrinks (flow instrs)) (ns : Nodes) (f
   room : s.subheaps * s.subheap ≡ suc 1048575
   room = ap (λ n. n * s.subheap) d.subheaps ∙ ap (λ n. 16 * n) d.subheap
 
-  chooses : malloc_choice memory.storage 4 ≡ got 0 0
+  chooses : malloc_choice memory.storage 0 4 ≡ got 0 0
   chooses = first_choice memory.storage s.ids 65535 1048575 refl d.ids refl d.subheap room
 
   comes : (log : List Entry) (z : State Shared Context) → replay code s log ≡ Some z

@@ -6,7 +6,7 @@ use Rattle.std.specs.List.{find, list_all, range_with_len}
 use Rattle.sub_heaps.specs.SubHeaps.{rounded}
 use Rattle.arena_meaning.specs.Arena.{Storage}
 use Rattle.handle_words.specs.Handle.{handle_of}
-use Rattle.struct_ir.specs.Nodes.{Place, Action, load, store, copy_bytes, malloc, free, print, lock, unlock, destroy, start, join, Step, set, call, step, look, safepoint, begin_object, end_object, plain, if_, loop, break_, next_, ret, Nodes, no_nodes, more_nodes}
+use Rattle.struct_ir.specs.Nodes.{Place, Action, load, store, copy_bytes, malloc, calloc, realloc, free, change, compare, print, lock, unlock, destroy, start, join, Step, set, call, step, look, safepoint, begin_object, end_object, plain, if_, loop, break_, next_, ret, Nodes, no_nodes, more_nodes}
 use Rattle.struct_ir.specs.Flow.{Shrinks}
 use Rattle.struct_ir.specs.Instrs.{Instr}
 use Rattle.struct_ir.specs.Linear.{Spot}
@@ -39,7 +39,7 @@ fits_at_0 s none size = ap (λ n. nat_le (0 % n + 16) n && list_all (is_apart 16
 lowest : (s : Storage) (k : ℕ) → s.heaps.objects ≡ [] → s.heaps.size ≡ 65536 → s.heaps.count * s.heaps.size ≡ suc k → lowest_fit s.heaps 16 ≡ Some 0
 lowest s k none size some = ap (λ n. find (fits_at s.heaps 16) (range_with_len 0 n)) some ∙ ap (λ b. cond b (Some 0) (find (fits_at s.heaps 16) (range_with_len 1 k))) (fits_at_0 s none size)
 
-pub first_choice : (s : Storage) (ids n k : ℕ) → s.table ≡ replicate ids None → ids ≡ suc n → s.heaps.objects ≡ [] → s.heaps.size ≡ 65536 → s.heaps.count * s.heaps.size ≡ suc k → malloc_choice s 4 ≡ got 0 0
+pub first_choice : (s : Storage) (ids n k : ℕ) → s.table ≡ replicate ids None → ids ≡ suc n → s.heaps.objects ≡ [] → s.heaps.size ≡ 65536 → s.heaps.count * s.heaps.size ≡ suc k → malloc_choice s 0 4 ≡ got 0 0
 first_choice s ids n k table ids_are none size some =
     ap (λ h. cond (nat_lt h (rounded 4)) null (room_or s 4 wait)) size
     ∙ (ap (λ o. got_or o (lowest_fit s.heaps (rounded 4)) wait) (least s.table ids n table ids_are) ∙ ap (λ o. got_or (Some 0) o wait) (lowest s k none size some))
@@ -52,7 +52,11 @@ four temps malloc (p ∷ ps) ts h = absurd h
 four temps (load how) ps ts h = absurd h
 four temps (store how) ps ts h = absurd h
 four temps (copy_bytes align same) ps ts h = absurd h
+four temps calloc ps ts h = absurd h
+four temps realloc ps ts h = absurd h
 four temps free ps ts h = absurd h
+four temps (change how t) ps ts h = absurd h
+four temps (compare t) ps ts h = absurd h
 four temps (print pieces) ps ts h = absurd h
 four temps lock ps ts h = absurd h
 four temps unlock ps ts h = absurd h
@@ -60,7 +64,7 @@ four temps destroy ps ts h = absurd h
 four temps (start function) ps ts h = absurd h
 four temps join ps ts h = absurd h
 
-module _ (instrs : List Instr) (shrinks : Shrinks (flow instrs)) (limits : Limits) (first m : Memory) (chooses : malloc_choice first.storage 4 ≡ got 0 0) where
+module _ (instrs : List Instr) (shrinks : Shrinks (flow instrs)) (limits : Limits) (first m : Memory) (chooses : malloc_choice first.storage 0 4 ≡ got 0 0) where
   abbrev x : Image Spot
   x = linear_image (code_with instrs) limits
 
@@ -76,13 +80,13 @@ module _ (instrs : List Instr) (shrinks : Shrinks (flow instrs)) (limits : Limit
       let chosen : choice_at x 0 m place s l ≡ got 0 0 =
       ap (λ a. action_choice (malloc_choice m.storage) l a s.temps) h.0
       ∙ (ap (λ ts. action_choice (malloc_choice m.storage) l malloc ts) h.2.1
-      ∙ (ap (malloc_choice m.storage) h.2.2 ∙ (ap (λ (n : Memory). malloc_choice n.storage 4) (still refl) ∙ chooses))) in
+      ∙ (ap (malloc_choice m.storage 0) h.2.2 ∙ (ap (λ (n : Memory). malloc_choice n.storage 0 4) (still refl) ∙ chooses))) in
       let done_is : done_at x 0 m place s l ≡ accesses.went (Some (handle_of 0 0)) (with_storage m (with_object m.storage 0 0 (word_at l size))) =
       ap (λ c. acted x.layout 0 c s.action (map (target_of l) s.places) (map (word_at l) s.temps) m) chosen
       ∙ (ap (λ a. acted x.layout 0 (got 0 0) a (map (target_of l) s.places) (map (word_at l) s.temps) m) h.0
       ∙ (ap (λ ps. acted x.layout 0 (got 0 0) malloc (map (target_of l) ps) (map (word_at l) s.temps) m) h.1
       ∙ ap (λ ts. acted x.layout 0 (got 0 0) malloc [] (map (word_at l) ts) m) h.2.1)) in
-      inl (malloc_on instrs shrinks limits first m place s rest i l o f sits h.0 0 0 (handle_of 0 0) (with_storage m (with_object m.storage 0 0 (word_at l size))) refl chosen done_is asked.1)
+      inl (malloc_on instrs shrinks limits first m place s rest i l o f sits h.0 0 0 (handle_of 0 0) (with_storage m (with_object m.storage 0 0 (word_at l size))) refl refl chosen done_is asked.1)
 
   pub turn_goes : (early : Bool) (ns : Nodes) (i : ℕ) (l : Words) (o : Option (List ℕ)) → Flat ns → StopsFirst instrs ns → Asked early ns l.temps → Sits instrs ns i → (early ≡ true → m ≡ first) → Goes early ns i l o
   turn_goes early (more_nodes (plain place (look slot base)) rest) i l o f stop asked sits still = inl (looks_on instrs shrinks limits first m early place slot base rest i l o f (behind_look early asked) sits still)

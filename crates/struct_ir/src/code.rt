@@ -1,7 +1,7 @@
 ghost use Rattle.std.specs.Prelude.{◌≤◌};
 
 use ak_words::{IntType, Num, Op};
-use block_store::Access;
+use block_store::{Access, Change};
 use c_tree::typed::{Init, Piece};
 use smallvec::SmallVec;
 
@@ -70,8 +70,17 @@ pub enum Action {
     },
     /// Makes a block of the heap.
     Malloc,
+    /// Makes a block of the heap for a number of elements of so many bytes, whose bytes are 0.
+    Calloc,
+    /// Makes a block of the heap in place of another, with that one's first bytes.
+    Realloc,
     /// Ends a block of the heap.
     Free,
+    /// Changes a number of this type, and gives the old one.
+    Change(Change, IntType),
+    /// Compares two numbers of this type: where they are equal, the first becomes another, and else the second becomes
+    /// the first.
+    Compare(IntType),
     /// Writes the pieces of a format.
     Print(Vec<Piece>),
     /// Takes a mutex.

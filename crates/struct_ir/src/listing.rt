@@ -3,7 +3,7 @@
 use crate::code::{Action, Calc, CallNode, Node, NodeKind, Place, StepNode};
 use crate::ir::Ir;
 use ak_words::{IntType, NoMemory, Op};
-use block_store::Access;
+use block_store::{Access, Change};
 use c_tree::typed::Piece;
 use std::alloc::Global;
 
@@ -251,7 +251,11 @@ fn write_action(out: &mut String, action: &Action) -> Result<(), NoMemory> {
         Action::Store(how) => write_access(out, "store", how),
         Action::Copy { .. } => write_word(out, "copy"),
         Action::Malloc => write_word(out, "malloc"),
+        Action::Calloc => write_word(out, "calloc"),
+        Action::Realloc => write_word(out, "realloc"),
         Action::Free => write_word(out, "free"),
+        Action::Change(how, ty) => write_change(out, *how, *ty),
+        Action::Compare(ty) => write_compare(out, *ty),
         Action::Print(pieces) => write_pieces(out, pieces),
         Action::Lock => write_word(out, "lock"),
         Action::Unlock => write_word(out, "unlock"),
@@ -264,6 +268,23 @@ fn write_action(out: &mut String, action: &Action) -> Result<(), NoMemory> {
 fn write_access(out: &mut String, word: &str, how: &Access) -> Result<(), NoMemory> {
     write!(out, "{word} {how:?}")?;
     Ok(())
+}
+
+fn write_change(out: &mut String, how: Change, ty: IntType) -> Result<(), NoMemory> {
+    write_word(out, change_word(how))?;
+    write_type(out, ty)
+}
+
+fn change_word(how: Change) -> &'static str {
+    match how {
+        Change::Add => "add",
+        Change::Swap => "swap",
+    }
+}
+
+fn write_compare(out: &mut String, ty: IntType) -> Result<(), NoMemory> {
+    write_word(out, "compare")?;
+    write_type(out, ty)
 }
 
 fn write_pieces(out: &mut String, pieces: &[Piece]) -> Result<(), NoMemory> {

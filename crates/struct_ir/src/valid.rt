@@ -18,8 +18,8 @@ use c_tree::typed::Piece;
 
 /// Whether structured code is valid: each number is in range, operations are on promoted types, a
 /// call has as many arguments as its function has parameters, a started function has one, printf's
-/// numbers have 32 or 64 bits, a step has just what its action takes, each Break and Next stands in
-/// its loop, and no list names a slot twice.
+/// numbers have 32 or 64 bits, as those that are changed or compared do, a step has just what its
+/// action takes, each Break and Next stands in its loop, and no list names a slot twice.
 pub fn is_valid(ir: &Ir) -> bool
     ensures { result ≡ valid.is_valid (ir_view ir.now) }
 {
@@ -251,10 +251,12 @@ fn counts_of(action: &Action) -> Counts
         Action::Store(_) => counts(1, 1, false),
         Action::Copy { .. } => counts(2, 1, false),
         Action::Malloc => counts(0, 1, true),
+        Action::Calloc | Action::Realloc => counts(0, 2, true),
         Action::Free => counts(0, 1, false),
         Action::Print(pieces) => counts(texts(pieces), numbers(pieces), true),
         Action::Lock | Action::Unlock | Action::Destroy => counts(1, 0, false),
-        Action::Start(_) | Action::Join => counts(1, 1, true),
+        Action::Start(_) | Action::Join | Action::Change(..) => counts(1, 1, true),
+        Action::Compare(_) => counts(2, 1, true),
     }
 }
 
@@ -308,6 +310,7 @@ fn is_action(x: &Scope, action: &Action) -> bool
     match action {
         Action::Start(function) => has_params(x, *function, 1),
         Action::Print(pieces) => are_pieces(pieces),
+        Action::Change(_, ty) | Action::Compare(ty) => is_promoted(*ty),
         _ => true,
     }
 }

@@ -5,7 +5,7 @@ use Rattle.std.proofs.lemmas.List.{length-map}
 use Rattle.std.specs.Prelude.{nat_lt, is_none}
 use Rattle.std.specs.List.{list_all}
 use Rattle.struct_ir.specs.Nodes.{Calc, constant, unset, null, global, literal, object, copy, convert, apply, pointer_add, pointer_sub, pointer_diff, pointer_compare, pointer_test, Place, node_place}
-use Rattle.struct_ir.specs.Nodes.{Action, load, store, copy_bytes, malloc, free, print, lock, unlock, destroy, start, join, may_wait, Step, Act, set, call, step, look, safepoint, begin_object, end_object}
+use Rattle.struct_ir.specs.Nodes.{Action, load, store, copy_bytes, malloc, calloc, realloc, free, change, compare, print, lock, unlock, destroy, start, join, may_wait, Step, Act, set, call, step, look, safepoint, begin_object, end_object}
 use Rattle.struct_ir.specs.Nodes.{Node, plain, if_, loop, break_, next_, ret, Nodes, no_nodes, more_nodes, places_of}
 use Rattle.struct_ir.specs.Lists.{bare_place, bare_step, bare_act}
 use Rattle.struct_ir.specs.Erased.{is_kept, put, erased}
@@ -39,7 +39,11 @@ module _ (x : Scope) (n : ℕ) where
   action_same (store how) = refl
   action_same (copy_bytes align same) = refl
   action_same malloc = refl
+  action_same calloc = refl
+  action_same realloc = refl
   action_same free = refl
+  action_same (change how t) = refl
+  action_same (compare t) = refl
   action_same (print pieces) = refl
   action_same lock = refl
   action_same unlock = refl

@@ -6,7 +6,7 @@ use Rattle.struct_ir.specs.Flow.{Here, does, tests, passes, round, returns, Goes
 use Rattle.struct_ir.specs.Instrs.{LinearCode}
 use Rattle.struct_ir.specs.Linear.{Spot, linear}
 use Rattle.struct_ir.specs.Machine.{Point}
-use Rattle.struct_ir.specs.Nodes.{malloc, Step, set, call, step, look, safepoint, begin_object, end_object, may_wait, own_list}
+use Rattle.struct_ir.specs.Nodes.{Step, set, call, step, look, safepoint, begin_object, end_object, may_wait, own_list}
 use Rattle.struct_ir.specs.Threads.{Thread, behind}
 use Rattle.std.specs.List.{list_all}
 use Rattle.std.proofs.lemmas.Bool.{and_parts}
@@ -23,6 +23,7 @@ use Rattle.flat_meaning.specs.Image.{Image}
 use Rattle.flat_meaning.specs.Local.{no_room_if, stop_before}
 use Rattle.flat_meaning.specs.Local.{stop_at as stop_at_stage}
 use Rattle.flat_meaning.specs.Memory.{Memory}
+use Rattle.flat_meaning.specs.Ready.{takes_room}
 use Rattle.flat_meaning.specs.Stages.{Stage, starts, going, waiting, landed, thread_at, before_here, before_return}
 use Rattle.flat_meaning.specs.Words.{Used, Words, set_if, target_of, with_temps, word_at}
 use Rattle.flat_meaning.specs.Machine.{looked}
@@ -230,8 +231,8 @@ module _ (code : LinearCode) where
         stands_ = λ _. ap (λ (h : Here). is_some (list_at h)) here_is ∙ ap (λ (b : Bool). is_some (cond b (Some node.slots) None)) (waits_may x.layout n m choice node.action (map (target_of t.top.own) node.places) (map (word_at t.top.own) node.temps) e);
       }
       by_done actions.unfit e = λ _. record { stage = stage; is = refl; of_ = of_; waits = idle; stands_ = λ b. absurd cc } where
-        none_here : (node.action ≡ malloc) ⊎ (wants_room (action_waits node.action (map (target_of t.top.own) node.places) (map (word_at t.top.own) node.temps)) ≡ false) → wants_room (waits_here t.top.own ((linear code.funcs).here t.top.at)) ≡ false
-        none_here (inl is) = absurd (malloc_fits x.layout n t.top.own m scope.temps node (sized scope node is valid) is e)
+        none_here : (takes_room node.action ≡ true) ⊎ (wants_room (action_waits node.action (map (target_of t.top.own) node.places) (map (word_at t.top.own) node.temps)) ≡ false) → wants_room (waits_here t.top.own ((linear code.funcs).here t.top.at)) ≡ false
+        none_here (inl is) = absurd (malloc_fits x.layout n t.top.own m scope.temps node (sized scope node is valid) e)
         none_here (inr none) = waits_now ∙ none
 
         idle : wants_room (waits_at (own_image code) (Some stage)) ≡ false

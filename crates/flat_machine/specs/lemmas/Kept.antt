@@ -1,6 +1,6 @@
 -- What a barrier leaves: threads and their ends as they were, and each context at home as it was, but that it waits for room no more.
-use Rattle.std.proofs.Common.{◌≡◌, ℕ, zero, suc, ◌+◌, ◌<◌, ◌≤◌, Bool, true, false, List, [], ◌∷◌, ◌++◌, length, get_or, map, set, Option, Some, None, refl, sym, ap, ◌∙◌, subst, arith, inl, inr}
-use Rattle.std.specs.Prelude.{All, ◌⊎◌, slice_get, nat_le}
+use Rattle.std.proofs.Common.{◌≡◌, ℕ, zero, suc, ◌+◌, ◌<◌, ◌≤◌, Bool, true, false, cond, List, [], ◌∷◌, ◌++◌, length, get_or, map, set, Option, Some, None, refl, sym, ap, ◌∙◌, subst, arith, inl, inr}
+use Rattle.std.specs.Prelude.{All, ◌⊎◌, slice_get, is_some, nat_le}
 use Rattle.std.specs.List.{range_with_len, AllZip}
 use Rattle.std.proofs.lemmas.Bool.Decides.{leb_tells}
 use Rattle.std.proofs.lemmas.List.{append-nil, drop_all, length-set}
@@ -13,15 +13,15 @@ use Rattle.struct_ir.specs.Machine.{Point}
 use Rattle.struct_ir.specs.Threads.{Thread}
 use Rattle.flat_meaning.specs.declared.endings.Stop.{Stop}
 use Rattle.flat_meaning.specs.Accesses as actions
-use Rattle.flat_meaning.specs.Accesses.{allocated}
-use Rattle.flat_meaning.specs.Effects.{serve_effect}
-use Rattle.flat_meaning.specs.Events.{State, Serve, after_serves, moved_state, new_stages, put, put_if, stage_made}
+use Rattle.flat_meaning.specs.Actions.{acted}
+use Rattle.flat_meaning.specs.Effects.{serve_effect, landing}
+use Rattle.flat_meaning.specs.Events.{State, Serve, after_serves, moved_state, serving_state, new_stages, put, put_if, stage_made}
 use Rattle.flat_meaning.specs.Image.{Image}
 use Rattle.flat_meaning.specs.Memory.{Made, Memory}
 use Rattle.flat_meaning.specs.Ready as stages
-use Rattle.flat_meaning.specs.Ready.{has_ended}
-use Rattle.flat_meaning.specs.Stages.{Stage, waiting}
-use Rattle.flat_meaning.specs.Words.{Words, word_at}
+use Rattle.flat_meaning.specs.Ready.{has_ended, takes_room}
+use Rattle.flat_meaning.specs.Stages.{Stage, waiting, landed}
+use Rattle.flat_meaning.specs.Words.{Words, target_of, word_at}
 use Rattle.flat_rules.specs.Lawful.{AreHome, IsHomeAt, IsOfRun, KeptAt, Sweeps}
 use Rattle.flat_rules.specs.Machine.{blank, works}
 use Rattle.flat_threads.proofs.Standing.{behind_act}
@@ -31,15 +31,15 @@ use Rattle.flat_threads.specs.Contexts.{AreCallsOf, Context, IsListFor, IsProgra
 use Rattle.flat_threads.specs.Deeds.{stepped, thread_behind, top_at, with_word}
 use Rattle.flat_threads.specs.Waits.{waits_at}
 use Rattle.flat_threads.specs.declared.wait.Wait.TheVariants.{Room}
-use Rattle.flat_machine.specs.Choices.{served_choice}
+use Rattle.flat_machine.specs.Choices.{action_choice, served_choice}
 use Rattle.flat_machine.specs.Machine.{machine_of, progress_of, stands_of}
 use Rattle.flat_machine.specs.Readiness.{wants_room}
 use Rattle.flat_machine.specs.Shares.{Shared, IsSharedOf, image_of}
-use Rattle.flat_machine.specs.Sweeping.{at_home, context_at, home_at, if_wants, place_at, serve_of, serves_from, serves_if, stage_home, stage_or, stages_home, sweep_moves, swept_by, swept_state, waits_at_home}
+use Rattle.flat_machine.specs.Sweeping.{at_home, context_at, home_at, if_wants, place_at, serve_of, serves_from, serves_if, stage_home, stage_or, stages_home, sweep_moves, sweep_serves, swept_by, swept_state, waits_at_home}
 use Rattle.flat_machine.specs.lemmas.Homes.{after_serves-append, each_here, length-stages_home, none_served, own_at_home, own_at_set, own_at_set-later, place_is, wants_same}
 use Rattle.flat_machine.specs.lemmas.Lawful.{blank_stage}
 use Rattle.flat_machine.specs.lemmas.Serving.{gives, instr_there, room_waits}
-use Rattle.flat_machine.specs.lemmas.Waiting.{before_malloc, behind_waits, choice_is, keeps, list_before, node_is, node_of, serve_is, waiting_of, wants_is}
+use Rattle.flat_machine.specs.lemmas.Waiting.{IsSized, before_malloc, choice_is, keeps, leaves, list_before, room_may, serve_is, waiting_of, wants_is}
 
 -- ---- a context at home
 
@@ -77,7 +77,7 @@ module _ (code : LinearCode) where
   kept_same None of_ none = tt
   kept_same (Some c) of_ none = (of_, refl, refl, refl, none)
 
-  -- ---- behind a malloc
+  -- ---- behind an allocation
 
   word_counts : (l : Words) (to word : Option ℕ) → SameCounts code l (with_word l to word)
   word_counts l to None = same_counts code l
@@ -98,38 +98,38 @@ module _ (code : LinearCode) where
     pub behind : Stage Spot
     pub effect : serve_effect (image_of code s) n (serve_of (image_of code s) st n stage).choice stage st.memory ≡ record { memory = after; stage = Some behind; end = None }
     pub threads : after.threads ≡ st.memory.threads
+    pub serves : is_some after.leaving ≡ true
     pub kept : KeptAt (machine_of code) (IsContextOf code) (Some c) (Some (standing c (Some behind) (waits_at (own_image code) (Some behind))))
 
-  served : (s : Shared) (st : State Spot) (n : ℕ) (c : Context) → IsContextOf code c → c.stop ≡ None → stands_of code c.stage ≡ true → c.wait ≡ Some Room → Served s st n c
-  served s st n c of_ going stands wait =
+  served : (s : Shared) (st : State Spot) (n : ℕ) (c : Context) → IsContextOf code c → c.stop ≡ None → stands_of code c.stage ≡ true → c.wait ≡ Some Room → is_some st.memory.leaving ≡ true → Served s st n c
+  served s st n c of_ going stands wait some =
       let w = waiting_of code c.stage (sym of_.wait ∙ wait) in
       let there = instr_there (slice_get (instrs_of code.funcs w.thread.top.at.function) w.thread.top.at.index) w.here in
       let i = there.0 in
       let b = before_malloc code c i of_ wait (subst (λ (q : Point Spot Words). slice_get (instrs_of code.funcs q.at.function) q.at.index ≡ Some i) (sym (ap top_at w.is)) there.1) in
-      let form : b.at.node ≡ node_of code s b.thread n b.at.place b.at.has.size b.at.node.to b.at.node.slots = node_is (length b.thread.top.own.temps) b.at.node b.at.has b.at.action in
-      let at : slice_get (instrs_of code.funcs b.thread.top.at.function) b.thread.top.at.index ≡ Some (acts b.at.place (step (node_of code s b.thread n b.at.place b.at.has.size b.at.node.to b.at.node.slots))) =
-      b.there ∙ ap Some b.at.is ∙ ap (λ n. Some (acts b.at.place (step n))) form in
+      let at : slice_get (instrs_of code.funcs b.thread.top.at.function) b.thread.top.at.index ≡ Some (acts b.at.place (step b.at.node)) = b.there ∙ ap Some b.at.is in
       let list : IsListFor b.thread.top.own b.at.node.slots = subst (λ (q : Point Spot Words). IsListFor q.own b.at.node.slots) b.top (list_before code c i of_ b) in
-      of_parts s st n c of_ going stands b.thread b.is b.at.place b.at.has.size b.at.node.to b.at.node.slots at list
+      of_parts s st n c of_ going stands some b.thread b.is b.at.place b.at.node at b.at.action b.at.has list
     where
-      of_parts : (s : Shared) (st : State Spot) (n : ℕ) (c : Context) → IsContextOf code c → c.stop ≡ None → stands_of code c.stage ≡ true
-          → (t : Thread Spot Words) → c.stage ≡ Some (waiting t) → (place size : ℕ) (to : Option ℕ) (slots : List ℕ) → slice_get (instrs_of code.funcs t.top.at.function) t.top.at.index ≡ Some (acts place (step (node_of code s t n place size to slots))) → IsListFor t.top.own slots
+      of_parts : (s : Shared) (st : State Spot) (n : ℕ) (c : Context) → IsContextOf code c → c.stop ≡ None → stands_of code c.stage ≡ true → is_some st.memory.leaving ≡ true
+          → (t : Thread Spot Words) → c.stage ≡ Some (waiting t) → (place : ℕ) (node : Step) → slice_get (instrs_of code.funcs t.top.at.function) t.top.at.index ≡ Some (acts place (step node)) → takes_room node.action ≡ true → IsSized (length t.top.own.temps) node → IsListFor t.top.own node.slots
           → Served s st n c
-      of_parts s st n c of_ going stands t is place size to slots at list =
+      of_parts s st n c of_ going stands some t is place node at takes has list =
           let m = st.memory in
-          let here = record s { memory = m } in
-          let choice = served_choice m.storage (word_at t.top.own size) in
-          let given = gives _ _ (word_at t.top.own size) m in
-          let done : allocated choice (word_at t.top.own size) m ≡ actions.went given.word given.after = given.is in
-          let chosen : (serve_of (image_of code s) st n (waiting t)).choice ≡ choice = choice_is code here t n place size to slots at in
-          let behind : Stage Spot = stepped (node_of code s t n place size to slots) t given.word in
-          let same = word_counts t.top.own to given.word in
+          let x = image_of code s in
+          let choice = action_choice (served_choice m.storage) t.top.own node.action node.temps in
+          let given = gives x.layout n t.top.own (length t.top.own.temps) node has m some in
+          let done : acted x.layout n choice node.action (map (target_of t.top.own) node.places) (map (word_at t.top.own) node.temps) m ≡ actions.went given.word given.after = given.is in
+          let chosen : (serve_of x st n (waiting t)).choice ≡ choice = choice_is code s t n place node at (served_choice m.storage) in
+          let thread : Thread Spot Words = thread_behind t (with_word t.top.own node.to given.word) in
+          let behind : Stage Spot = landed node.slots thread in
+          let stepped_is : stepped node t given.word ≡ behind = ap (λ (b : Bool). landing (cond b (Some node.slots) None) thread) (room_may node.action takes) in
+          let same = word_counts t.top.own node.to given.word in
           let all : IsThreadOf code t = subst (IsStageIf code) is of_.stage in
           let stage : IsStageOf code behind = (
-            behind_thread of_.program t place (node_of code s t n place size to slots) (with_word t.top.own to given.word) (ap instr_here at) same all,
-            subst (λ k. All (λ j. j < k) slots × (length slots ≤ k)) (sym same.slots) list,
+            behind_thread of_.program t place node (with_word t.top.own node.to given.word) (ap instr_here at) same all,
+            subst (λ k. All (λ j. j < k) node.slots × (length node.slots ≤ k)) (sym same.slots) list,
           ) in
-          let none = behind_waits code s t n place size to slots given.word in
           let of_behind : IsContextOf code (standing c (Some behind) (waits_at (own_image code) (Some behind))) = record {
             program = of_.program;
             number = of_.number;
@@ -141,12 +141,13 @@ module _ (code : LinearCode) where
           record {
             stage = waiting t;
             is = is;
-            wants = wants_is code s t n place size to slots at;
+            wants = wants_is code s t n place node at takes;
             after = given.after;
             behind = behind;
-            effect = ap (λ v. serve_effect (image_of code s) n v (waiting t) m) chosen ∙ serve_is code s t n place size to slots m given.after choice given.word at done;
-            threads = (keeps choice (word_at t.top.own size) m given.after given.word done).threads;
-            kept = (of_behind, refl, ap (progress_of (Some behind)) going ∙ sym (ap (λ o. progress_of o c.stop) is ∙ ap (progress_of (Some (waiting t))) going), sym stands, ap wants_room none);
+            effect = ap (λ v. serve_effect x n v (waiting t) m) chosen ∙ serve_is code s t n place node at m given.after choice given.word done ∙ ap (λ (b : Stage Spot). record { memory = given.after; stage = Some b; end = None }) stepped_is;
+            threads = (keeps x.layout n choice t.top.own (length t.top.own.temps) node has m given.after given.word done).threads;
+            serves = (leaves x.layout n choice t.top.own (length t.top.own.temps) node has m given.after given.word done).serves some;
+            kept = (of_behind, refl, ap (progress_of (Some behind)) going ∙ sym (ap (λ o. progress_of o c.stop) is ∙ ap (progress_of (Some (waiting t))) going), sym stands, refl);
           }
 
   -- ---- one thread after the other
@@ -174,11 +175,12 @@ module _ (code : LinearCode) where
     record IsSwept (n : ℕ) (st : State Spot) : Type 0 where
       pub long : length st.own ≡ length s.memory.threads
       pub threads : st.memory.threads ≡ s.memory.threads
+      pub serves : is_some st.memory.leaving ≡ true
       pub later : (k : ℕ) → n ≤ k → own_at st.own k ≡ own_at first k
       pub kept : (k : ℕ) → k < n → Kept k (own_at st.own k)
 
-    begin_swept : IsSwept 0 (moved_state (sweep_moves x (at_home s home)) (at_home s home))
-    begin_swept = record { long = length-stages_home s.memory.threads home; threads = refl; later = λ k le. refl; kept = λ k lt. absurd (omega (arith, lt)) }
+    begin_swept : IsSwept 0 (serving_state (moved_state (sweep_moves x (at_home s home)) (at_home s home)))
+    begin_swept = record { long = length-stages_home s.memory.threads home; threads = refl; serves = refl; later = λ k le. refl; kept = λ k lt. absurd (omega (arith, lt)) }
 
     module _ (n : ℕ) (st : State Spot) (is : IsSwept n st) (below : n < length s.memory.threads) where
       within : n < length home
@@ -200,7 +202,7 @@ module _ (code : LinearCode) where
       unserved : waits_at_home (place n) ≡ false → IsSwept (n + 1) (after_serves x (serves_if x st n (own_at st.own n)) st)
       unserved none =
           let idle : serves_if x st n (own_at st.own n) ≡ [] = ap (serves_if x st n) own_stage.1 ∙ none_served code s st n own_stage.0 (place n) of_run none in
-          subst (λ (vs : List Serve). IsSwept (n + 1) (after_serves x vs st)) (sym idle) (record { long = is.long; threads = is.threads; later = λ k le. is.later k (omega (arith, le)); kept = λ k lt. by none k (more k lt) })
+          subst (λ (vs : List Serve). IsSwept (n + 1) (after_serves x vs st)) (sym idle) (record { long = is.long; threads = is.threads; serves = is.serves; later = λ k le. is.later k (omega (arith, le)); kept = λ k lt. by none k (more k lt) })
         where
           here : waits_at_home (place n) ≡ false → Kept n (own_at st.own n)
           here none = subst (KeptAt (machine_of code) (IsContextOf code) (place n)) (sym (ap (place_at code (place n)) own_stage.1 ∙ place_is code own_stage.0 (place n) of_run)) (kept_same (place n) of_run none)
@@ -251,6 +253,7 @@ module _ (code : LinearCode) where
         swept_next = record {
           long = ap length next_own ∙ length-set st.own n (Some v.behind) ∙ is.long;
           threads = v.threads ∙ is.threads;
+          serves = v.serves;
           later = λ k le. own_now k ∙ own_at_set-later st.own n k (Some v.behind) (omega (arith, le)) ∙ is.later k (omega (arith, le));
           kept = λ k lt. kept_by k (more k lt);
         }
@@ -265,7 +268,7 @@ module _ (code : LinearCode) where
         waits_here (Some c) at w =
             let of_ : IsContextOf code c = subst (IsOfRun (machine_of code) (IsContextOf code)) at of_run in
             let home_at_ : IsHomeAt (machine_of code) s n (Some c) = subst (IsHomeAt (machine_of code) s n) at (each_here (IsHomeAt (machine_of code) s) home n None homes.1 within) in
-            was_served c at (served s st n c of_ (rest_stop s n c of_ home_at_.rests) home_at_.stands (room_waits c.wait w))
+            was_served c at (served s st n c of_ (rest_stop s n c of_ home_at_.rests) home_at_.stands (room_waits c.wait w) is.serves)
 
         by : (b : Bool) → waits_at_home (place n) ≡ b → IsSwept (n + 1) (after_serves x (serves_if x st n (own_at st.own n)) st)
         by true w = waits_here (place n) refl w
@@ -282,9 +285,13 @@ module _ (code : LinearCode) where
     abbrev end_state : State Spot
     end_state = swept_state x (at_home s home)
 
-    end_swept : IsSwept (length s.memory.threads) end_state
+    -- before the old objects of reallocs leave
+    abbrev given_state : State Spot
+    given_state = after_serves x (sweep_serves x (at_home s home)) (serving_state (moved_state (sweep_moves x (at_home s home)) (at_home s home)))
+
+    end_swept : IsSwept (length s.memory.threads) given_state
     end_swept =
-        let start = moved_state (sweep_moves x (at_home s home)) (at_home s home) in
+        let start = serving_state (moved_state (sweep_moves x (at_home s home)) (at_home s home)) in
         subst (λ count. IsSwept (length s.memory.threads) (after_serves x (serves_from x (range_with_len 0 count) start) start)) (sym (length-stages_home s.memory.threads home))
         (swept_from (length s.memory.threads) 0 start (omega arith) begin_swept)
 
@@ -301,8 +308,9 @@ module _ (code : LinearCode) where
       same_kept (p ∷ ps) each = (each 0 (omega arith), same_kept ps (λ k lt. each (suc k) (omega (arith, lt))))
   zip_kept (o ∷ own) (c ∷ home) inside_ outside = (inside_ 0 (omega arith), zip_kept own home (λ k lt. inside_ (suc k) (omega (arith, lt))) (λ k le lt. outside (suc k) (omega (arith, le)) (omega (arith, lt))))
 
-  shared_same : (s t : Shared) → t.memory.threads ≡ s.memory.threads → IsSharedOf code s → IsSharedOf code t
-  shared_same s t same is = record {
+  shared_same : (s t : Shared) → t.memory.threads ≡ s.memory.threads → t.memory.leaving ≡ None → IsSharedOf code s → IsSharedOf code t
+  shared_same s t same idle is = record {
+    idle = idle;
     program = is.program;
     some = subst (λ (ts : List Made). 0 < length ts) (sym same) is.some;
     few = subst (λ (ts : List Made). length ts ≤ 64) (sym same) is.few;
@@ -315,7 +323,7 @@ module _ (code : LinearCode) where
       let is = end_swept s home all homes in
       let state = end_state s home all homes in
       record {
-        of_ = shared_same s (swept_by code s home).shared is.threads shared;
+        of_ = shared_same s (swept_by code s home).shared is.threads refl shared;
         kept = zip_kept state.own home (λ k lt. is.kept k (omega (arith, lt, is.long))) (λ k le lt. kept_same (get_or home k None) (all k None lt) (rest_waits s k (get_or home k None) (all k None lt) (each_here (IsHomeAt (machine_of code) s) home k None homes.1 lt) (omega (arith, le, is.long))));
         threads = ap length is.threads;
         ends = λ k. ap (λ (ts : List Made). has_ended (slice_get ts k)) is.threads;

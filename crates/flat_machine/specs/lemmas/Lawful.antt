@@ -10,7 +10,7 @@ use Rattle.struct_ir.specs.Instrs.{LinearCode}
 use Rattle.struct_ir.specs.Linear.{Spot}
 use Rattle.flat_meaning.specs.declared.endings.Stop.{Stop}
 use Rattle.flat_meaning.specs.Effects.{Effect, serve_effect}
-use Rattle.flat_meaning.specs.Events.{State, Serve, after_serves, moved_state, new_stages, put, put_if, stage_made}
+use Rattle.flat_meaning.specs.Events.{State, Serve, after_serves, moved_state, serving_state, new_stages, put, put_if, stage_made}
 use Rattle.flat_meaning.specs.Image.{Image}
 use Rattle.flat_meaning.specs.Local.{Came}
 use Rattle.flat_meaning.specs.Memory.{Made, Memory}
@@ -200,7 +200,7 @@ few_served code s home =
     let here = at_home s home in
     let x = image_of code s in
     let vs = sweep_serves x here in
-    let few = few_from x (length home) (length here.own) (length here.own) 0 (moved_state (sweep_moves x here) here) (omega arith) (record { long = omega arith; none = λ k le lt. none_home s.memory.threads home k le }) in
+    let few = few_from x (length home) (length here.own) (length here.own) 0 (serving_state (moved_state (sweep_moves x here) here)) (omega arith) (record { long = omega arith; none = λ k le lt. none_home s.memory.threads home k le }) in
     let long = length-map vs served_of in
     by (length vs) few long
   where

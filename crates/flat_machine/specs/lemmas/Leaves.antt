@@ -36,7 +36,7 @@ use Rattle.flat_machine.specs.Machine.{machine_of, progress_of}
 use Rattle.flat_machine.specs.Shares.{Shared, IsSharedOf, image_of}
 use Rattle.flat_machine.specs.Turns.{blocked_turned, fault_turned, outcome_turned, turned_of}
 use Rattle.flat_machine.specs.lemmas.Goes.{Pending, looks_so, does_so, returns_so, action_valid, pending, stop_is}
-use Rattle.flat_machine.specs.lemmas.Outcomes.{AreThreads, same, one_more, done_on, threads_are}
+use Rattle.flat_machine.specs.lemmas.Outcomes.{AreThreads, same, one_more, done_on, threads_are, idle_behind}
 use Rattle.flat_machine.specs.lemmas.Steps.{choice_at, done_at, lacks, last_call, leave_memory_is, leave_turned_is, look_effect_is, look_turned_is, outcome_at, stands, step_effect_is, step_turned_is}
 
 -- ---- the threads
@@ -188,6 +188,16 @@ module _ (code : LinearCode) (s : Shared) (of_ : IsSharedOf code s) (n : ℕ) wh
           subst (λ (e : Effect Spot). LeavesTo e.memory.threads turned_now) (sym (step_effect_is x n m place node stage inside here_is))
           (subst (LeavesTo (effects.acted n stage t (own_list node) m (outcome_at x n m place node t d)).memory.threads) (sym (step_turned_is x n m place node stage inside here_is)) (by_done_left d refl))
 
+      by_done_idle : (d : actions.Done) → done_at x n m place node t.top.own ≡ d → (effects.acted n stage t (own_list node) m (outcome_at x n m place node t d)).memory.leaving ≡ None
+      by_done_idle (actions.went None after) e = idle_behind x.layout n m choice node.action (map (target_of t.top.own) node.places) (map (word_at t.top.own) node.temps) None after e of_.idle
+      by_done_idle (actions.went (Some word) after) e = idle_behind x.layout n m choice node.action (map (target_of t.top.own) node.places) (map (word_at t.top.own) node.temps) (Some word) after e of_.idle
+      by_done_idle actions.waits e = of_.idle
+      by_done_idle actions.unfit e = of_.idle
+      by_done_idle (actions.over f) e = of_.idle
+
+      step_idle : (effect_if x n m (Some stage) (Some AtStep)).memory.leaving ≡ None
+      step_idle = ap (λ (e : Effect Spot). e.memory.leaving) (step_effect_is x n m place node stage inside here_is) ∙ by_done_idle (done_at x n m place node t.top.own) refl
+
     look_left : (place slot base : ℕ) → (linear code.funcs).here t.top.at ≡ does place (look slot base) → LeavesTo now turned_now
     look_left place slot base here_is =
         same_left now turned_now (ap (λ (e : Effect Spot). e.memory.threads) (look_effect_is x n m place slot base stage inside here_is)) (ap is_end (look_turned_is x n m place slot base stage inside here_is))
@@ -201,7 +211,27 @@ module _ (code : LinearCode) (s : Shared) (of_ : IsSharedOf code s) (n : ℕ) wh
     pending_left most ends below (does_so place node is) = step_left place node is
     pending_left most ends below (returns_so temp is stops) = return_left temp is (last_call (own_image code) most ends t t.callers stops) below
 
+    -- no barrier serves behind it
+    pending_idle : (most ends : ℕ) → Pending (own_image code) most ends t ((linear code.funcs).here t.top.at) → (effect_if x n m (Some stage) (Some AtStep)).memory.leaving ≡ None
+    pending_idle most ends (looks_so place slot base is) = ap (λ (e : Effect Spot). e.memory.leaving) (look_effect_is x n m place slot base stage inside is) ∙ of_.idle
+    pending_idle most ends (does_so place node is) = step_idle place node is
+    pending_idle most ends (returns_so temp is stops) = ap (λ (after : Memory). after.leaving) (leave_memory_is x n m temp stage inside is (last_call (own_image code) most ends t t.callers stops)) ∙ of_.idle
+
 module _ (code : LinearCode) where
+  left_idle : (s : Shared) (c : Context) → IsSharedOf code s → IsContextOf code c → (stop : Stop) → HasStopped (own_image code) c.stage stop → (effect_if (image_of code s) c.number s.memory c.stage (Some stop)).memory.leaving ≡ None
+  left_idle s c shared of_ AtStep h =
+      let st = stands code c of_ h in
+      let x : Image Spot = image_of code s in
+      let is_t : st.t ≡ thread_at x st.stage = st.t_is x in
+      let all : IsThreadOf code (thread_at x st.stage) = subst (IsThreadOf code) is_t st.thread in
+      let stops = subst (λ (t : Thread Spot Words). stop_before (own_image code) st.most st.ends t (before_here t.callers ((linear code.funcs).here t.top.at)) ≡ Some AtStep) is_t st.stops in
+      ap (λ (o : Option (Stage Spot)). (effect_if x c.number s.memory o (Some AtStep)).memory.leaving) st.is
+      ∙ pending_idle code s shared c.number st.stage st.inside all st.most st.ends (pending (own_image code) st.most st.ends (thread_at x st.stage) ((linear code.funcs).here (thread_at x st.stage).top.at) stops)
+  left_idle s c shared of_ Spent h = ap (λ (o : Option (Stage Spot)). (effect_if (image_of code s) c.number s.memory o (Some Spent)).memory.leaving) h.is ∙ shared.idle
+  left_idle s c shared of_ NoRoom h =
+      ap (λ (o : Option (Stage Spot)). (effect_if (image_of code s) c.number s.memory o (Some NoRoom)).memory.leaving) h.is
+      ∙ ap (λ (m : Memory). m.leaving) (lacks code s c.number h.at_stage h.most h.turns h.stops).memory ∙ shared.idle
+
   left_by : (s : Shared) (c : Context) → (shared : IsSharedOf code s) → IsContextOf code c → c.number < length s.memory.threads → (stop : Stop) → HasStopped (own_image code) c.stage stop
       → LeavesTo code s shared c.number (effect_if (image_of code s) c.number s.memory c.stage (Some stop)).memory.threads (turned_of (image_of code s) c.number s.memory c.stage (Some stop))
   left_by s c shared of_ made AtStep h =
@@ -228,7 +258,13 @@ module _ (code : LinearCode) where
       let x : Image Spot = image_of code s in
       let left = subst (λ (o : Option Stop). LeavesTo code s lives.shared c.number (effect_if x c.number s.memory c.stage o).memory.threads (turned_of x c.number s.memory c.stage o)) (sym r.1) (left_by s c lives.shared lives.context lives.made r.0 (lives.context.stopped r.0 r.1)) in
       record {
-        of_ = record { program = lives.shared.program; some = omega (arith, left.more, lives.shared.some); few = left.most; functions = left.functions };
+        of_ = record {
+          program = lives.shared.program;
+          some = omega (arith, left.more, lives.shared.some);
+          few = left.most;
+          functions = left.functions;
+          idle = ap (λ (o : Option Stop). (effect_if x c.number s.memory c.stage o).memory.leaving) r.1 ∙ left_idle s c lives.shared lives.context r.0 (lives.context.stopped r.0 r.1);
+        };
         more = left.more;
         most = left.most;
         ends = left.ends;

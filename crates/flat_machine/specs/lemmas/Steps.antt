@@ -1,5 +1,5 @@
 -- The step, the Look or the return before which a thread stands, from what stands there.
-use Rattle.std.proofs.Common.{◌≡◌, ℕ, ◌+◌, ◌<◌, Bool, true, false, cond, ◌&&◌, ◌||◌, ◌==◌, not, eqb, ◌≢◌, List, [], ◌∷◌, length, map, get_or, Option, Some, None, refl, ap, sym, ◌∙◌, subst, arith}
+use Rattle.std.proofs.Common.{◌≡◌, ℕ, ◌+◌, ◌*◌, ◌<◌, Bool, true, false, cond, ◌&&◌, ◌||◌, ◌==◌, not, eqb, ◌≢◌, List, [], ◌∷◌, length, map, get_or, Option, Some, None, refl, ap, sym, ◌∙◌, subst, arith}
 use Rattle.std.specs.Prelude.{slice_get, slice_index_or, slice_set, is_none, nat_lt}
 use Rattle.std.proofs.lemmas.Bool.{and_parts, eqb-true, ltb-true}
 use Rattle.struct_ir.specs.declared.code.StepNode.{StepNode}
@@ -9,7 +9,7 @@ use Rattle.struct_ir.specs.Views.{action_view, place_view, step_view}
 use Rattle.std.proofs.lemmas.Option.{slice_get-get_or}
 use Rattle.std.proofs.lemmas.List.{get_or-map, get_or-set_same, length-map, length-set}
 use Rattle.handle_table.specs.Table.{translated}
-use Rattle.struct_ir.specs.Nodes.{Action, Place, load, store, copy_bytes, malloc, free, print, lock, unlock, destroy, start, join, Step, step, look, own_list, may_wait}
+use Rattle.struct_ir.specs.Nodes.{Action, Place, load, store, copy_bytes, malloc, calloc, realloc, free, change, compare, print, lock, unlock, destroy, start, join, Step, step, look, own_list, may_wait}
 use Rattle.struct_ir.specs.Flow.{Here, does, returns}
 use Rattle.std.specs.List.{list_all}
 use Rattle.struct_ir.proofs.ValidCode.{of_all}
@@ -28,9 +28,11 @@ use Rattle.struct_ir.specs.Linear.{Spot, instr_here, instr_next, linear}
 use Rattle.struct_ir.specs.Threads.{Thread, Outcome, ended, left_call, served, stop_at}
 use Rattle.flat_meaning.specs.declared.endings.Stop.{Stop}
 use Rattle.flat_meaning.specs.declared.endings.Stop.TheVariants.{AtStep, Spent, NoRoom}
+use Rattle.ak_words.specs.declared.int_type.IntType.{IntType}
+use Rattle.block_store.specs.declared.values.Change.{Change}
 use Rattle.flat_meaning.specs.Accesses as actions
 use Rattle.flat_meaning.specs.Accesses.{Choice}
-use Rattle.flat_meaning.specs.Actions.{acted, locked, started, unlocked}
+use Rattle.flat_meaning.specs.Actions.{acted, locked, started, unlocked, changed, compared}
 use Rattle.flat_meaning.specs.Effects as effects
 use Rattle.flat_meaning.specs.Effects.{Effect, landing, own_list_of}
 use Rattle.ak_trace.specs.declared.endings.End.{End}
@@ -56,20 +58,14 @@ use Rattle.flat_machine.specs.Acting.{effect_before, effect_if}
 use Rattle.flat_machine.specs.Choices.{action_choice, choice_here, malloc_choice}
 use Rattle.flat_machine.specs.Shares.{Shared, image_of}
 use Rattle.flat_machine.specs.Turns.{done_turned, blocked_turned, outcome_turned, turned_before, turned_of, value_of, value_if}
+use Rattle.flat_machine.specs.lemmas.Outcomes.{allocated_waits, zeroed_waits, reallocated_waits}
 use Rattle.flat_machine.specs.inner.Acted.{IsSettled, IsStepOf, StepIsDone, settled_stage, settled_turned, settled_wait, wait_turned}
 use Rattle.flat_machine.specs.inner.Dones.{Does, WaitsFor, Went, done_view, memory_after, with_memory}
 use Rattle.flat_machine.specs.inner.Turneds.{turned_view}
 
 -- ---- a step that couldn't be done
 
--- where nothing that a malloc gives is `waits` but a choice to wait
-malloc_waits : (choice : Choice) (size : ℕ) (m : Memory) → actions.allocated choice size m ≡ actions.waits → turns.wants_room ≡ blocked_turned choice
-malloc_waits actions.plain size m e = absurd cc
-malloc_waits (actions.got id place) size m e = absurd cc
-malloc_waits actions.null size m e = absurd cc
-malloc_waits actions.wait size m e = refl
-
-module _ (x : Image Spot) (n : ℕ) (rule : (size : ℕ) → Choice) (l : Words) (m : Memory) (for : Wait) where
+module _ (x : Image Spot) (n : ℕ) (rule : (word size : ℕ) → Choice) (l : Words) (m : Memory) (for : Wait) where
   lock_blocked : (places : List Place) (temps : List ℕ) → action_waits lock (map (target_of l) places) (map (word_at l) temps) ≡ Some for → wait_turned for ≡ turns.found_busy
   lock_blocked [] temps e = absurd cc
   lock_blocked (a ∷ []) [] e = let is : waits.Mutex (target_of l a).address ≡ for = cc in ap wait_turned (sym is)
@@ -89,7 +85,27 @@ module _ (x : Image Spot) (n : ℕ) (rule : (size : ℕ) → Choice) (l : Words)
   malloc_blocked (a ∷ places) temps e f = absurd cc
   malloc_blocked [] [] e f = absurd cc
   malloc_blocked [] (t ∷ u ∷ temps) e f = absurd cc
-  malloc_blocked [] (t ∷ []) e f = let is : waits.Room ≡ for = cc in ap wait_turned (sym is) ∙ malloc_waits (rule (word_at l t)) (word_at l t) m e
+  malloc_blocked [] (t ∷ []) e f = let is : waits.Room ≡ for = cc in ap wait_turned (sym is) ∙ sym (ap blocked_turned (allocated_waits (rule 0 (word_at l t)) (word_at l t) m e))
+
+  calloc_blocked : (places : List Place) (temps : List ℕ)
+      → acted x.layout n (action_choice rule l calloc temps) calloc (map (target_of l) places) (map (word_at l) temps) m ≡ actions.waits → Some waits.Room ≡ Some for
+      → wait_turned for ≡ blocked_turned (action_choice rule l calloc temps)
+  calloc_blocked (a ∷ places) temps e f = absurd cc
+  calloc_blocked [] [] e f = absurd cc
+  calloc_blocked [] (t ∷ []) e f = absurd cc
+  calloc_blocked [] (t ∷ u ∷ v ∷ temps) e f = absurd cc
+  calloc_blocked [] (t ∷ u ∷ []) e f = let is : waits.Room ≡ for = cc in ap wait_turned (sym is) ∙ sym (ap blocked_turned (zeroed_waits (rule 0 (word_at l t * word_at l u)) (word_at l t * word_at l u) m e))
+
+  realloc_blocked : (places : List Place) (temps : List ℕ)
+      → acted x.layout n (action_choice rule l realloc temps) realloc (map (target_of l) places) (map (word_at l) temps) m ≡ actions.waits → Some waits.Room ≡ Some for
+      → wait_turned for ≡ blocked_turned (action_choice rule l realloc temps)
+  realloc_blocked (a ∷ places) temps e f = absurd cc
+  realloc_blocked [] [] e f = absurd cc
+  realloc_blocked [] (t ∷ []) e f = absurd cc
+  realloc_blocked [] (t ∷ u ∷ v ∷ temps) e f = absurd cc
+  realloc_blocked [] (t ∷ u ∷ []) e f =
+      let is : waits.Room ≡ for = cc in
+      ap wait_turned (sym is) ∙ sym (ap blocked_turned (reallocated_waits (eqb (word_at l t) 0) m.leaving (rule (word_at l t) (word_at l u)) (word_at l t) (word_at l u) m e))
 
   -- it is told so
   pub blocked_is : (a : Action) (places : List Place) (temps : List ℕ)
@@ -99,7 +115,11 @@ module _ (x : Image Spot) (n : ℕ) (rule : (size : ℕ) → Choice) (l : Words)
   blocked_is (store how) places temps e f = absurd cc
   blocked_is (copy_bytes align same) places temps e f = absurd cc
   blocked_is malloc places temps e f = malloc_blocked places temps e f
+  blocked_is calloc places temps e f = calloc_blocked places temps e f
+  blocked_is realloc places temps e f = realloc_blocked places temps e f
   blocked_is free places temps e f = absurd cc
+  blocked_is (change how t) places temps e f = absurd cc
+  blocked_is (compare t) places temps e f = absurd cc
   blocked_is (print pieces) places temps e f = absurd cc
   blocked_is lock places temps e f = lock_blocked places temps f
   blocked_is unlock places temps e f = absurd cc
@@ -383,7 +403,7 @@ counted s a is h =
 
 -- ---- actions with their places and words
 
-module _ (x : Layout) (n : ℕ) (rule : (size : ℕ) → Choice) (l : Words) (m : Memory) (a : Action) (ps xs : List CodePlace) (ts ys : List ℕ) (d : CodePlace) (e : ℕ) (xs_is : xs ≡ ps) (ys_is : ys ≡ ts) where
+module _ (x : Layout) (n : ℕ) (rule : (word size : ℕ) → Choice) (l : Words) (m : Memory) (a : Action) (ps xs : List CodePlace) (ts ys : List ℕ) (d : CodePlace) (e : ℕ) (xs_is : xs ≡ ps) (ys_is : ys ≡ ts) where
   abbrev acts : actions.Done
   acts = acted x n (action_choice rule l a ts) a (map (target_of l) (map place_view ps)) (map (word_at l) ts) m
 
@@ -396,6 +416,19 @@ module _ (x : Layout) (n : ℕ) (rule : (size : ℕ) → Choice) (l : Words) (m 
   pub copies : (align : ℕ) (same : Bool) (to from : Target) (w : ℕ) → a ≡ copy_bytes align same → length ps ≡ 2 → length ts ≡ 1 → to ≡ target_of l (place_view (slice_index_or xs 0 d)) → from ≡ target_of l (place_view (slice_index_or xs 1 d)) → w ≡ word_at l (slice_index_or ys 0 e)
       → actions.copied to from w m ≡ acts
   copies align same to from w a_is two one to_is from_is w_is = rw (target_here 0 to to_is, target_here 1 from from_is, word_here 0 w w_is, a_is, two_are ps d two, one_is ts e one) refl
+
+  pub callocs : (k w : ℕ) → a ≡ calloc → length ps ≡ 0 → length ts ≡ 2 → k ≡ word_at l (slice_index_or ys 0 e) → w ≡ word_at l (slice_index_or ys 1 e) → actions.zeroed (rule 0 (k * w)) (k * w) m ≡ acts
+  callocs k w a_is none two k_is w_is = rw (word_here 0 k k_is, word_here 1 w w_is, a_is, none_are ps none, two_are ts e two) refl
+
+  pub reallocs : (k w : ℕ) → a ≡ realloc → length ps ≡ 0 → length ts ≡ 2 → k ≡ word_at l (slice_index_or ys 0 e) → w ≡ word_at l (slice_index_or ys 1 e) → actions.reallocated (rule k w) k w m ≡ acts
+  reallocs k w a_is none two k_is w_is = rw (word_here 0 k k_is, word_here 1 w w_is, a_is, none_are ps none, two_are ts e two) refl
+
+  pub changes : (how : Change) (t : IntType) (at : Target) (w : ℕ) → a ≡ change how t → length ps ≡ 1 → length ts ≡ 1 → at ≡ target_of l (place_view (slice_index_or xs 0 d)) → w ≡ word_at l (slice_index_or ys 0 e) → changed how t at w m ≡ acts
+  changes how t at w a_is one one_word at_is w_is = rw (target_here 0 at at_is, word_here 0 w w_is, a_is, one_is ps d one, one_is ts e one_word) refl
+
+  pub compares : (t : IntType) (at want : Target) (w : ℕ) → a ≡ compare t → length ps ≡ 2 → length ts ≡ 1 → at ≡ target_of l (place_view (slice_index_or xs 0 d)) → want ≡ target_of l (place_view (slice_index_or xs 1 d)) → w ≡ word_at l (slice_index_or ys 0 e)
+      → compared t at want w m ≡ acts
+  compares t at want w a_is two one at_is want_is w_is = rw (target_here 0 at at_is, target_here 1 want want_is, word_here 0 w w_is, a_is, two_are ps d two, one_is ts e one) refl
 
   pub locks : (number : ℕ) (at : Target) → a ≡ lock → length ps ≡ 1 → length ts ≡ 0 → at ≡ target_of l (place_view (slice_index_or xs 0 d)) → number ≡ n → locked number at m ≡ acts
   locks number at a_is one none at_is n_is = rw (n_is, target_here 0 at at_is, a_is, one_is ps d one, none_are ts none) refl

@@ -1,13 +1,13 @@
 -- What a context waits for is what its stage waits for.
 use Rattle.std.proofs.Common.{◌≡◌, List, [], ◌∷◌, ℕ, false, Some, refl, map}
-use Rattle.struct_ir.specs.Nodes.{Action, load, store, copy_bytes, malloc, free, print, lock, unlock, destroy, start, join, set, call, step, look, safepoint, begin_object, end_object}
+use Rattle.struct_ir.specs.Nodes.{Action, load, store, copy_bytes, malloc, calloc, realloc, free, change, compare, print, lock, unlock, destroy, start, join, set, call, step, look, safepoint, begin_object, end_object}
 use Rattle.struct_ir.specs.Flow.{Here, does, tests, passes, round, returns}
 use Rattle.struct_ir.specs.Linear.{Spot}
 use Rattle.flat_meaning.specs.Image.{Image}
 use Rattle.flat_meaning.specs.Memory.{Memory}
 use Rattle.flat_meaning.specs.Words.{Target, Words, word_at, target_of}
 use Rattle.flat_meaning.specs.Ready as stages
-use Rattle.flat_meaning.specs.Ready.{action_ready, ready_at, takes_room, is_malloc}
+use Rattle.flat_meaning.specs.Ready.{action_ready, ready_at, takes_room, is_allocation}
 use Rattle.flat_meaning.specs.Stages.{Stage, starts, going, waiting, landed}
 use Rattle.flat_threads.specs.Waits.{action_waits, waits_here, waits_at}
 use Rattle.flat_machine.specs.Readiness.{WaitsAreTold, is_ready, wants_room}
@@ -32,7 +32,11 @@ act_ready m (load how) places words = refl
 act_ready m (store how) places words = refl
 act_ready m (copy_bytes align same) places words = refl
 act_ready m malloc places words = refl
+act_ready m calloc places words = refl
+act_ready m realloc places words = refl
 act_ready m free places words = refl
+act_ready m (change how t) places words = refl
+act_ready m (compare t) places words = refl
 act_ready m (print pieces) places words = refl
 act_ready m lock places words = lock_ready m places words
 act_ready m unlock places words = refl
@@ -79,7 +83,11 @@ act_room (load how) places words = refl
 act_room (store how) places words = refl
 act_room (copy_bytes align same) places words = refl
 act_room malloc places words = refl
+act_room calloc places words = refl
+act_room realloc places words = refl
 act_room free places words = refl
+act_room (change how t) places words = refl
+act_room (compare t) places words = refl
 act_room (print pieces) places words = refl
 act_room lock places words = lock_room places words
 act_room unlock places words = refl
@@ -87,7 +95,7 @@ act_room destroy places words = refl
 act_room (start function) places words = refl
 act_room join places words = join_room places words
 
-here_room : (l : Words) (h : Here) → wants_room (waits_here l h) ≡ is_malloc h
+here_room : (l : Words) (h : Here) → wants_room (waits_here l h) ≡ is_allocation h
 here_room l (does place (step s)) = act_room s.action (map (target_of l) s.places) (map (word_at l) s.temps)
 here_room l (does place (set to calc)) = refl
 here_room l (does place (call c)) = refl

@@ -1,7 +1,7 @@
 ghost use Rattle.std.specs.Prelude.{◌≡◌, IsTrue};
 
 use ak_words::{IntType, Num, Rule};
-use block_store::{Access, BlockKind, Cell, LockEnd, Ptr, Store, Value};
+use block_store::{Access, BlockKind, Cell, Change, LockEnd, Ptr, Store, StoreFault, Value};
 use std::process::Abort;
 use std::test::Fail;
 
@@ -189,5 +189,102 @@ fn copies(rt: HostRuntime) -> Result<(), Fail> {
     ];
     let wanted = [Ok(2), Ok(1), Err(Rule::C4), Err(Rule::C5)];
     assert_eq!(rt; lengths, wanted);
+    Ok(())
+}
+
+// A realloc ends the old block, so a second one of the same pointer breaks C10, and changes nothing.
+#[test]
+fn a_block_is_renewed_once(rt: HostRuntime) -> Result<(), Fail> {
+    let mut store = Store::new(rt.alloc());
+    let block = store.make(8, BlockKind::Heap, Cell::Unknown)?;
+    let seven = number(IntType::INT, 7);
+    assert_eq!(rt; store.store(to(block, 0), seven.access(), seven), Ok(()));
+    assert_eq!(rt; store.renew(to(block, 0), 40), Ok(1));
+    assert_eq!(rt;
+        store.renew(to(block, 0), 40),
+        Err(StoreFault::Broke(Rule::C10))
+    );
+    let rows = [
+        (to(block, 0), INT, Err(Rule::C5)),
+        (to(1, 0), INT, Ok(seven)),
+        (to(1, 4), INT, Err(Rule::C4)),
+        (to(1, 36), INT, Err(Rule::C4)),
+        (to(1, 40), UNSIGNED_CHAR, Err(Rule::C5)),
+    ];
+    check_loads(&rt, &store, &rows);
+    Ok(())
+}
+
+#[test]
+fn a_block_is_renewed_by_fewer_cells(rt: HostRuntime) -> Result<(), Fail> {
+    let mut store = Store::new(rt.alloc());
+    let block = store.make(4, BlockKind::Heap, Cell::Byte(9))?;
+    assert_eq!(rt; store.may_end(to(block, 1)), Err(Rule::C10));
+    assert_eq!(rt; store.may_end(to(block, 0)), Ok(()));
+    assert_eq!(rt; store.renew(to(block, 0), 2), Ok(1));
+    assert_eq!(rt; store.may_end(to(block, 0)), Err(Rule::C10));
+    let rows = [
+        (to(1, 1), UNSIGNED_CHAR, Ok(number(BYTE, 9))),
+        (to(1, 2), UNSIGNED_CHAR, Err(Rule::C5)),
+    ];
+    check_loads(&rt, &store, &rows);
+    Ok(())
+}
+
+// 8 + (2^31 - 1) is 2^31 + 7, which is -2^31 + 7 as an int.
+#[test]
+fn numbers_are_changed(rt: HostRuntime) -> Result<(), Fail> {
+    let mut store = Store::new(rt.alloc());
+    let literal = store.make_literal(&[5, 0, 0, 0])?;
+    let block = store.make(4, BlockKind::Global, Cell::Byte(0))?;
+    let unknown = store.make(4, BlockKind::Heap, Cell::Unknown)?;
+    let int = |value: i128| Num::wrapping(IntType::INT, value);
+    let answers = [
+        store.change(to(block, 0), IntType::INT, Change::Swap, int(8)),
+        store.change(to(block, 0), IntType::INT, Change::Add, int(2147483647)),
+        store.change(to(block, 0), IntType::INT, Change::Swap, int(9)),
+        store.change(to(block, 0), IntType::INT, Change::Add, int(-1)),
+        store.change(to(unknown, 0), IntType::INT, Change::Add, int(1)),
+        store.change(to(unknown, 0), IntType::INT, Change::Swap, int(1)),
+        store.change(to(literal, 0), IntType::INT, Change::Add, int(1)),
+        store.change(Ptr::Null, IntType::INT, Change::Add, int(1)),
+    ];
+    let wanted = [
+        Ok(int(0)),
+        Ok(int(8)),
+        Ok(int(-2147483641)),
+        Ok(int(9)),
+        Err(Rule::C4),
+        Err(Rule::C4),
+        Err(Rule::C12),
+        Err(Rule::C5),
+    ];
+    assert_eq!(rt; answers, wanted);
+    check_loads(
+        &rt,
+        &store,
+        &[(to(block, 0), INT, Ok(number(IntType::INT, 8)))],
+    );
+    Ok(())
+}
+
+// The wanted number becomes the one that was found; the next comparison finds it, and the new one is stored.
+#[test]
+fn numbers_are_compared(rt: HostRuntime) -> Result<(), Fail> {
+    let mut store = Store::new(rt.alloc());
+    let block = store.make(4, BlockKind::Global, Cell::Byte(0))?;
+    let want = store.make(4, BlockKind::Heap, Cell::Byte(1))?;
+    let nine = Num::wrapping(IntType::INT, 9);
+    let answers = [
+        store.compare(to(block, 0), to(want, 0), IntType::INT, nine),
+        store.compare(to(block, 0), to(want, 0), IntType::INT, nine),
+        store.compare(to(block, 0), to(want, 1), IntType::INT, nine),
+    ];
+    assert_eq!(rt; answers, [Ok(false), Ok(true), Err(Rule::C5)]);
+    let rows = [
+        (to(block, 0), INT, Ok(number(IntType::INT, 9))),
+        (to(want, 0), INT, Ok(number(IntType::INT, 0))),
+    ];
+    check_loads(&rt, &store, &rows);
     Ok(())
 }

@@ -19,7 +19,7 @@ returns-clause-made c =
     let thread : map made_view c.push_reserved.new.self.items ≡ beginning c.code-code.result.now.main 0 ∷ [] =
     ap (map made_view) (c.push_reserved.ensures.items ∙ ap (λ (ts : List MadeThread). ts ++ record { function = c.code-code.result.now.main; argument = 0; result = None } ∷ []) c.in_ok-threads.ensures.items) in
     let main : map made_view c.push_reserved.new.self.items ≡ beginning code.main 0 ∷ [] = thread ∙ ap (λ (p : LinearCode). beginning p.main 0 ∷ []) c.code-code.ensures.code in
-    opened_is code limits _ _ _ _ (c.arena.view_is ∙ storage) c.in_ok-with_capacity.ensures.items main c.in_ok-with_capacity-2.ensures.items
+    opened_is code limits _ _ _ _ _ (c.arena.view_is ∙ storage) c.in_ok-with_capacity.ensures.items main c.in_ok-with_capacity-2.ensures.items c.in_ok-none.ensures
 
 pub returns-clause-of : goal.returns-clause-of
 returns-clause-of c = subst (IsSharedOf c.args.program.now) (sym (returns-clause-made c)) (opened_of c.args.program.now (settings_limits c.args.s.now) c.code-code.ensures.program)

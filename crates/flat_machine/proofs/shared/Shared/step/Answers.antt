@@ -31,6 +31,9 @@ done-done-requires-clause-step c =
     let r = in_range c.args.program.now c.args.ctx.now c.requires.of.program s _ c.instr.ensures.is in
     step_fits r.scope (top_of c.args.ctx.now).own _ r.temps r.slots (subst (λ (k : InstrKind). is_instr r.scope (instr_kind_view c.instr.result.now.place k) ≡ true) c.in-Step.is r.valid)
 
+pub done-done-requires-clause-idle : goal.done-done-requires-clause-idle
+done-done-requires-clause-idle c = c.requires.shared.idle
+
 pub settle-requires-clause-step : goal.settle-requires-clause-step
 settle-requires-clause-step c =
     let s = stands c.args.program.now c.args.ctx.now c.requires.of c.requires.stopped in
