@@ -1,5 +1,5 @@
 -- What a switch, its entries and its labels tell.
-use Rattle.std.proofs.Common.{◌≡◌, ℕ, true, false, Bool, List, [], ◌∷◌, Option, Result, Ok, Err, Vec, Box, Global, refl, ap, sym, subst, ◌∙◌}
+use Rattle.std.proofs.Common.{◌≡◌, ℕ, true, false, Bool, List, [], ◌∷◌, Option, Some, None, Result, Ok, Err, Vec, Box, Global, refl, ap, sym, subst, ◌∙◌}
 use Rattle.std.specs.Result.{IsErrAnd}
 use Rattle.std.proofs.lemmas.Result.{err_from_is_err_and}
 use Rattle.ak_words.specs.declared.int_type.IntType.{IntType}
@@ -9,7 +9,10 @@ use Rattle.c_lex.specs.declared.refusal.CompileFault.TheVariants.{Refused, NoMem
 use Rattle.c_tree.specs.Syntax as source
 use Rattle.c_tree.specs.SyntaxViews as seen
 use Rattle.c_tree.specs.declared.syntax.Expr.{Expr as CodeSource}
-use Rattle.c_tree.specs.declared.syntax.Stmt.{Stmt as Tree, None', Some'}
+use Rattle.c_tree.specs.declared.syntax.Stmt.{Stmt as Tree}
+use Rattle.c_tree.specs.declared.syntax.Stmt.TheOpen.{Stmt-F}
+use Rattle.c_tree.specs.declared.syntax.Stmt.TheViews.{roll-Stmt}
+use Rattle.c_tree.specs.declared.syntax.Stmt.TheFolds.{ind-Stmt}
 use Rattle.c_tree.specs.declared.syntax.Stmt.TheVariants as codes
 use Rattle.c_tree.specs.Typed.{Ty, Stmt, Expr, at_stmt, switch, stmts_of}
 use Rattle.c_tree.specs.TypedForm.{Jumps, in_switch}
@@ -30,6 +33,7 @@ use Rattle.type_declared.specs.Gathering.{each}
 use Rattle.c_types.specs.declared.switches.Entries.{Entries as CodeEntries}
 use Rattle.c_types.specs.inner.Switches.{entries_view}
 use Rattle.c_types.proofs.Steps.{err_passes, two_pass, two_rule}
+use Rattle.c_types.proofs.StatementViews.{block_is, declare_is, empty_is, if_then_is, if_else_is, while_is, for_is, do_is, switch_is, break_is, continue_is, return_is, simple_is}
 
 -- ---- a switch
 
@@ -152,22 +156,30 @@ other_err s of es one c n a f r is h err back =
 
 -- ---- a statement of the code that is no label
 
-pub no_label : (s : Tree) → ((place : ℕ) (value : CodeSource) → s ≡ codes.Case place value → ⊥) → ((place : ℕ) → s ≡ codes.Default place → ⊥) → is_label (seen.stmt_view s) ≡ false
-no_label (codes.Block' place shape items) no_case no_default = refl
-no_label (codes.Declare d) no_case no_default = refl
-no_label (codes.Empty place) no_case no_default = refl
-no_label (codes.If' place e p s o) no_case no_default = by o
-  where
-    by : (o : _) → is_label (seen.stmt_view (codes.If' place e p s o)) ≡ false
-    by None' = refl
-    by (Some' q u) = refl
-no_label (codes.While' place e p s) no_case no_default = refl
-no_label (codes.For' place first e step p s) no_case no_default = refl
-no_label (codes.DoWhile' place p s e) no_case no_default = refl
-no_label (codes.Switch' place e shape entries) no_case no_default = refl
-no_label (codes.Case place e) no_case no_default = absurd (no_case place e refl)
-no_label (codes.Default place) no_case no_default = absurd (no_default place refl)
-no_label (codes.Break place) no_case no_default = refl
-no_label (codes.Continue place) no_case no_default = refl
-no_label (codes.Return place value) no_case no_default = refl
-no_label (codes.Simple s) no_case no_default = refl
+-- what is seen of a statement that is no label
+seen_so : (s t : Tree) (y : source.Stmt) → t ≡ s → seen.stmt_view t ≡ y → is_label y ≡ false → is_label (seen.stmt_view s) ≡ false
+seen_so s t y is view no = ap is_label (sym (ap seen.stmt_view is) ∙ view) ∙ no
+
+-- a statement of the code that is no label is seen as none
+abbrev pub SeenNoLabel : Tree → Type 0
+SeenNoLabel s = ((place : ℕ) (value : CodeSource) → s ≡ codes.Case place value → ⊥) → ((place : ℕ) → s ≡ codes.Default place → ⊥) → is_label (seen.stmt_view s) ≡ false
+
+layer_so : (s : Tree) (k : Stmt-F Tree) → roll-Stmt k ≡ s → SeenNoLabel s
+layer_so s (Stmt-F.Block place items) is no_case no_default = seen_so s (codes.Block place items) _ (sym (codes.rolls-Block place items) ∙ is) (block_is place items) refl
+layer_so s (Stmt-F.Declare d) is no_case no_default = seen_so s (codes.Declare d) _ (sym (codes.rolls-Declare d) ∙ is) (declare_is d) refl
+layer_so s (Stmt-F.Empty place) is no_case no_default = seen_so s (codes.Empty place) _ (sym (codes.rolls-Empty place) ∙ is) (empty_is place) refl
+layer_so s (Stmt-F.If place e b None) is no_case no_default = seen_so s (codes.If place e b None) _ (sym (codes.rolls-If place e b None) ∙ is) (if_then_is place e b) refl
+layer_so s (Stmt-F.If place e b (Some o)) is no_case no_default = seen_so s (codes.If place e b (Some o)) _ (sym (codes.rolls-If place e b (Some o)) ∙ is) (if_else_is place e b o) refl
+layer_so s (Stmt-F.While place e b) is no_case no_default = seen_so s (codes.While place e b) _ (sym (codes.rolls-While place e b) ∙ is) (while_is place e b) refl
+layer_so s (Stmt-F.For place first e step b) is no_case no_default = seen_so s (codes.For place first e step b) _ (sym (codes.rolls-For place first e step b) ∙ is) (for_is place first e step b) refl
+layer_so s (Stmt-F.DoWhile place b e) is no_case no_default = seen_so s (codes.DoWhile place b e) _ (sym (codes.rolls-DoWhile place b e) ∙ is) (do_is place b e) refl
+layer_so s (Stmt-F.Switch place e entries) is no_case no_default = seen_so s (codes.Switch place e entries) _ (sym (codes.rolls-Switch place e entries) ∙ is) (switch_is place e entries) refl
+layer_so s (Stmt-F.Case place e) is no_case no_default = absurd (no_case place e (sym is ∙ codes.rolls-Case place e))
+layer_so s (Stmt-F.Default place) is no_case no_default = absurd (no_default place (sym is ∙ codes.rolls-Default place))
+layer_so s (Stmt-F.Break place) is no_case no_default = seen_so s (codes.Break place) _ (sym (codes.rolls-Break place) ∙ is) (break_is place) refl
+layer_so s (Stmt-F.Continue place) is no_case no_default = seen_so s (codes.Continue place) _ (sym (codes.rolls-Continue place) ∙ is) (continue_is place) refl
+layer_so s (Stmt-F.Return place value) is no_case no_default = seen_so s (codes.Return place value) _ (sym (codes.rolls-Return place value) ∙ is) (return_is place value) refl
+layer_so s (Stmt-F.Simple x) is no_case no_default = seen_so s (codes.Simple x) _ (sym (codes.rolls-Simple x) ∙ is) (simple_is x) refl
+
+pub no_label : (s : Tree) → SeenNoLabel s
+no_label = ind-Stmt SeenNoLabel (λ x y is. layer_so (roll-Stmt x) x refl)

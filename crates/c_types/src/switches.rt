@@ -86,7 +86,6 @@ impl Entries {
     }
 
     // Whether a label of this value stands before.
-    #[tactic(auto, using(crate::proofs::LabelRows::any_value))]
     fn has_value(&self, z: i128) -> bool
         ensures { result ≡ has_value z (entries_view self.now).labels }
     {
