@@ -7,7 +7,7 @@ use Rattle.c_tree.specs.Syntax as source
 use Rattle.c_tree.specs.SyntaxViews as sources
 use Rattle.c_tree.specs.Typed.{integer}
 use Rattle.c_tree.specs.TypedViews.{expr_view, boxed_expr_view}
-use Rattle.c_typing.specs.Judgement.{valued, judged, judged_all, judged_spec, judged_members, judged_member, array_size, begun_by, name_in, meaning_in, judged_enumerators, enumerator_value, whole_value, whole}
+use Rattle.c_typing.specs.Judgement.{valued, judged, judged_all, judged_spec, judged_members, judged_member, array_size, begun_by, name_in, meaning_in, judged_enumerators, enumerator_value, whole_value, whole, place_of_specs}
 use Rattle.c_typing.specs.Faults.{typed}
 use Rattle.c_typing.specs.Constants.{constant_value}
 use Rattle.type_context.specs.ContextViews.{context_view, member_type_view}
@@ -188,7 +188,8 @@ expressions::starting-returns-in-None t c =
 
 pub declarators::type_name-returns : goal.declarators::type_name-returns
 declarators::type_name-returns t c =
-    nodes.type_name_told c.args.t.now c.deref.result.now c.deref-2.result.now c.place_of_specs.result (context_view c.args.context.now) c.specifiers-named.new.context c.specifiers-named.result c.pointers_to.result c.deref.ensures.value c.deref-2.ensures.value c.place_of_specs.ensures c.specifiers-named.ensures c.pointers_to.ensures
+    nodes.type_name_told c.args.t.now c.deref.result.now c.deref-3.result.now c.place_of_specs.result (context_view c.args.context.now) c.specifiers-named.new.context c.specifiers-named.result c.pointers_to.result c.deref.ensures.value c.deref-3.ensures.value
+    (c.place_of_specs.ensures ∙ ap (λ l. place_of_specs (source.specs_of (map sources.spec_view l))) (c.deref-2.ensures.value ∙ sym c.deref.ensures.value)) c.specifiers-named.ensures c.pointers_to.ensures
 
 pub declarators::specifiers-returns : goal.declarators::specifiers-returns
 declarators::specifiers-returns t c =

@@ -10,10 +10,10 @@ use Rattle.c_types.proofs.files.typedef_alone.Goals as goal
 
 pub returns-in_err-typedef : goal.returns-in_err-typedef
 returns-in_err-typedef c =
-    err_passes (λ (u : Unit {0}). tt) made_view (behind_specs (map source.spec_view c.args.specs.now) (λ base. judged_aliases base (map source.declarator_view c.args.declarators.now))) (λ c u. typed no_objects) (context_view c.args.context.now)
+    err_passes (λ (u : Unit {0}). tt {0}) made_view (behind_specs (map source.spec_view c.args.specs.now) (λ base. judged_aliases base (map source.declarator_view c.args.declarators.now))) (λ c u. typed no_objects) (context_view c.args.context.now)
     c.typedef.new.context c.typedef.result c.in_err-typedef.field-0.0 c.from_residual.result c.typedef.ensures c.in_err-typedef.was c.from_residual.ensures.1
 
 pub returns : goal.returns
 returns c =
-    ok_tells (λ (u : Unit {0}). tt) made_view (behind_specs (map source.spec_view c.args.specs.now) (λ base. judged_aliases base (map source.declarator_view c.args.declarators.now))) (λ c u. typed no_objects) (context_view c.args.context.now)
-    c.typedef.new.context c.typedef.result tt _ c.typedef.ensures c.in_ok-typedef.was (ap typed (sym c.made_nothing.ensures))
+    ok_tells (λ (u : Unit {0}). tt {0}) made_view (behind_specs (map source.spec_view c.args.specs.now) (λ base. judged_aliases base (map source.declarator_view c.args.declarators.now))) (λ c u. typed no_objects) (context_view c.args.context.now)
+    c.typedef.new.context c.typedef.result (tt {0}) _ c.typedef.ensures c.in_ok-typedef.was (ap typed (sym c.made_nothing.ensures))

@@ -7,7 +7,7 @@ use Rattle.c_types.proofs.AliasRows.{aliases_more, aliases_all}
 use Rattle.c_types.proofs.typedefs.aliases.Goals as goal
 
 pub declarators-init : goal.declarators-init
-declarators-init c = λ j h. lone_tells (λ (u : Unit {0}). tt) _ c.args.context.now (typed tt) refl
+declarators-init c = λ j h. lone_tells (λ (u : Unit {0}). tt {0}) _ c.args.context.now (typed (tt {0})) refl
 
 pub declarators-preserved : goal.declarators-preserved
 declarators-preserved c = λ j h.
