@@ -3,8 +3,7 @@ ghost use Rattle.std.specs.Prelude.{◌≡◌, ◌<◌, ◌≤◌, ◌↔◌, �
 ghost use Rattle.ak_io.specs.Faults.{Rose};
 ghost use Rattle.ak_io.specs.Bytes.{grown, GrewByPrefix};
 
-use std::error::Error;
-use std::fmt;
+use thiserror::Error;
 
 /// How a read ended.
 #[derive(Clone, Copy, Debug, PartialEq, Eq)]
@@ -16,28 +15,14 @@ pub enum ReadEnd {
 }
 
 /// A read that failed.
-#[derive(Clone, Copy, Debug, PartialEq, Eq, Hash)]
+#[derive(Clone, Copy, Debug, PartialEq, Eq, Hash, Error)]
+#[error("a read failed")]
 pub struct ReadFault;
 
-impl fmt::Display for ReadFault {
-    fn fmt<W: fmt::Write>(&self, f: &mut fmt::Formatter<W>) -> fmt::Result {
-        f.write_str("a read failed")
-    }
-}
-
-impl Error for ReadFault {}
-
 /// A write that failed.
-#[derive(Clone, Copy, Debug, PartialEq, Eq, Hash)]
+#[derive(Clone, Copy, Debug, PartialEq, Eq, Hash, Error)]
+#[error("a write failed")]
 pub struct WriteFault;
-
-impl fmt::Display for WriteFault {
-    fn fmt<W: fmt::Write>(&self, f: &mut fmt::Formatter<W>) -> fmt::Result {
-        f.write_str("a write failed")
-    }
-}
-
-impl Error for WriteFault {}
 
 /// Files that are read by name. Only a read can raise a count of faults.
 pub trait Shelf {

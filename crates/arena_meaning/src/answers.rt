@@ -1,5 +1,4 @@
-use std::error::Error;
-use std::fmt;
+use thiserror::Error;
 
 /// What an allocation answers.
 #[derive(Clone, Copy, Debug, PartialEq, Eq)]
@@ -13,13 +12,6 @@ pub enum Alloced {
 }
 
 /// A word is neither 0 nor the handle of a live object's start.
-#[derive(Clone, Copy, Debug, PartialEq, Eq)]
+#[derive(Clone, Copy, Debug, PartialEq, Eq, Error)]
+#[error("no live object starts there")]
 pub struct NotLive;
-
-impl fmt::Display for NotLive {
-    fn fmt<W: fmt::Write>(&self, f: &mut fmt::Formatter<W>) -> fmt::Result {
-        f.write_str("no live object starts there")
-    }
-}
-
-impl Error for NotLive {}

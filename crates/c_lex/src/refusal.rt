@@ -3,6 +3,8 @@ ghost use Rattle.c_lex.specs.declared.refusal.CompileFault.TheVariants.{NoMemory
 
 use std::alloc::{AllocError, AllocFailed};
 
+use thiserror::Error;
+
 /// Why a text is refused, one kind for each cause that this project's profile of C11 names.
 #[derive(Clone, Copy, Debug, PartialEq, Eq)]
 pub enum Kind {
@@ -42,10 +44,12 @@ pub struct Refusal {
 }
 
 /// Why a phase of the compiler gives nothing.
-#[derive(Clone, Copy, Debug, PartialEq, Eq)]
+#[derive(Clone, Copy, Debug, PartialEq, Eq, Error)]
 pub enum CompileFault {
+    #[error("{kind:?} at byte {place}", kind = .0.kind, place = .0.place)]
     Refused(Refusal),
     /// Want of memory, which no clause ties to a cause.
+    #[error("out of memory")]
     NoMemory,
 }
 

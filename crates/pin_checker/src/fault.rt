@@ -6,6 +6,7 @@ ghost use Rattle.pin_checker.specs.declared.fault.CheckFault.TheVariants as faul
 ghost use Rattle.pin_checker.specs.inner.Reports.{is_before, earlier, noted};
 
 use ak_words::NoMemory;
+use thiserror::Error;
 
 /// Why a node fails: the first reason that applies.
 #[derive(Clone, Copy, Debug, PartialEq, Eq)]
@@ -22,9 +23,10 @@ pub enum Why {
 }
 
 /// Why code isn't accepted.
-#[derive(Clone, Copy, Debug, PartialEq, Eq)]
+#[derive(Clone, Copy, Debug, PartialEq, Eq, Error)]
 pub enum CheckFault {
     /// The code isn't safe for moves.
+    #[error("{why:?} at byte {place}")]
     Refused {
         /// Where the first node stands that fails, as a byte offset from 0.
         place: u32,
@@ -32,6 +34,7 @@ pub enum CheckFault {
         why: Why,
     },
     /// Want of memory, which no clause ties to a cause.
+    #[error("out of memory")]
     NoMemory,
 }
 

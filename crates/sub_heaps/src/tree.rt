@@ -1,6 +1,6 @@
 ghost use Rattle.std.specs.Prelude.{◌≡◌, ℕ, ◌+◌, ◌<◌, ◌≤◌, max, ◌∷◌, ◌++◌, []};
 ghost use Rattle.std.specs.List.{sum_by};
-ghost use Rattle.sub_heaps.specs.declared.tree.Tree.TheVariants.{Fork};
+ghost use Rattle.sub_heaps.specs.declared.tree.Tree.TheVariants.{Empty, Fork};
 ghost use Rattle.sub_heaps.specs.inner.Order.{InOrder, last_end};
 ghost use Rattle.sub_heaps.specs.inner.Summaries.{extent_from, summary_of};
 ghost use Rattle.sub_heaps.specs.inner.Trees.{objects_of, height_of, DifferByAtMost, IsTree, AreSides};
@@ -75,7 +75,9 @@ impl Tree {
 
 impl Node {
     /// A node that holds no object yet.
-    pub fn spare() -> Node {
+    pub fn spare() -> Node
+        ensures { (result.left ≡ Empty) × (result.right ≡ Empty) }
+    {
         Node {
             left: Tree::Empty,
             object: Object {
