@@ -1,4 +1,4 @@
--- How a step went, or why a barrier came, by their numbers. Of a turn it is one of `look` to `no_stack`, of a served malloc
+-- How a step went, or why a barrier came, by their numbers. Of a turn it is one of `look` to `no_stack`, of a served allocation
 -- `malloc_got` or `malloc_null`, of a barrier `for_room` or `for_every`, and of any other entry 0.
 use Rattle.std.specs.Prelude.{ℕ}
 
@@ -10,11 +10,11 @@ look = 0
 abbrev pub plain_step : ℕ
 plain_step = 1
 
--- a malloc gave an object
+-- an allocation gave an object
 abbrev pub malloc_got : ℕ
 malloc_got = 2
 
--- a malloc gave null
+-- an allocation gave null
 abbrev pub malloc_null : ℕ
 malloc_null = 3
 
@@ -30,7 +30,7 @@ thread_refused = 5
 abbrev pub busy : ℕ
 busy = 6
 
--- the malloc found no room, and waits for a barrier
+-- the allocation found no room, and waits for a barrier
 abbrev pub waits_for_room : ℕ
 waits_for_room = 7
 
@@ -54,7 +54,7 @@ output_limit = 11
 abbrev pub no_stack : ℕ
 no_stack = 12
 
--- a barrier that a waiting malloc wanted
+-- a barrier that a waiting allocation wanted
 abbrev pub for_room : ℕ
 for_room = 0
 

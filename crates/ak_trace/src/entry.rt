@@ -15,9 +15,9 @@ pub struct Entry {
     pub local: u16,
     /// Always 0.
     pub zero: u16,
-    /// The object's id, where a malloc got one; the new thread's number, where one was made.
+    /// The object's id, where an allocation got one; the new thread's number, where one was made.
     pub id: u32,
-    /// The object's place, where a malloc got one.
+    /// The object's place, where an allocation got one.
     pub place: u32,
 }
 

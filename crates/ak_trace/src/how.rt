@@ -1,5 +1,5 @@
 //! How a step went, or why a barrier came: what the field `how` of an entry says.
-//! A turn has one of the hows from `LOOK` to `NO_STACK`, a served malloc `MALLOC_GOT` or `MALLOC_NULL`,
+//! A turn has one of the hows from `LOOK` to `NO_STACK`, a served allocation `MALLOC_GOT` or `MALLOC_NULL`,
 //! a barrier `FOR_ROOM` or `FOR_EVERY`, and every other entry 0.
 
 /// A pointer was translated.
@@ -8,10 +8,10 @@ pub const LOOK: u8 = 0;
 /// A step was done that neither allocates nor makes a thread.
 pub const PLAIN_STEP: u8 = 1;
 
-/// A malloc gave an object.
+/// An allocation gave an object.
 pub const MALLOC_GOT: u8 = 2;
 
-/// A malloc gave null.
+/// An allocation gave null.
 pub const MALLOC_NULL: u8 = 3;
 
 /// A thread was made.
@@ -23,7 +23,7 @@ pub const THREAD_REFUSED: u8 = 5;
 /// The mutex is held, or the joined thread has not ended.
 pub const BUSY: u8 = 6;
 
-/// The malloc found no room, and waits for a barrier.
+/// The allocation found no room, and waits for a barrier.
 pub const WAITS_FOR_ROOM: u8 = 7;
 
 /// The thread rests at a safepoint.
@@ -41,7 +41,7 @@ pub const OUTPUT_LIMIT: u8 = 11;
 /// The next call had no room on the thread's stack.
 pub const NO_STACK: u8 = 12;
 
-/// A barrier that a waiting malloc wanted.
+/// A barrier that a waiting allocation wanted.
 pub const FOR_ROOM: u8 = 0;
 
 /// A barrier that came after a set number of turns.

@@ -12,5 +12,5 @@ pub const TURN: u8 = 2;
 /// All threads are home, and objects are moved.
 pub const BARRIER: u8 = 3;
 
-/// A malloc that waited is served after a barrier.
+/// An allocation that waited is served after a barrier.
 pub const SERVED: u8 = 4;

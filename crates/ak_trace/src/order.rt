@@ -9,9 +9,9 @@ ghost use Rattle.ak_trace.specs.Rows.{local_journal, local_turns, full_journal, 
 pub enum Answer {
     /// The turn has no choice.
     Plain,
-    /// Its malloc gets an object, or its thread is made.
+    /// Its allocation gets an object, or its thread is made.
     Got,
-    /// Its malloc gets null, or no thread is made.
+    /// Its allocation gets null, or no thread is made.
     None,
 }
 

@@ -11,7 +11,7 @@ abbrev pub is_end : Turned → Bool
 is_end (ended value) = true
 is_end _ = false
 
--- the turn ended as a malloc that waits for room
+-- the turn ended as an allocation that waits for room
 abbrev pub is_for_room : Turned → Bool
 is_for_room wants_room = true
 is_for_room _ = false

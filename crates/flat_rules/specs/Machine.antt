@@ -60,7 +60,7 @@ pub record Machine (S C : Type 0) : Type 0 where
   pub barrier : S → List (Option C) → Swept S C
   -- whether a thread at home waits for nothing, or for a mutex whose word is now 0, or for a thread that has ended
   pub is_ready : S → C → Bool
-  -- whether the thread waits at a malloc for which no barrier has served it yet
+  -- whether the thread waits at an allocation for which no barrier has served it yet
   pub waits : C → Bool
   -- how many threads were made
   pub threads : S → ℕ

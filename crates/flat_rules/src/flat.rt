@@ -76,7 +76,7 @@ pub trait Flat<Code, Context>: Sized {
         requires { context_of code.now ctx.now }
         ensures { result ≡ (machine code.now).is_ready self.now ctx.now };
 
-    /// Whether the thread waits at a malloc for which no barrier has served it yet.
+    /// Whether the thread waits at an allocation for which no barrier has served it yet.
     fn wants_room(code: &Code, ctx: &Context) -> bool
         requires { context_of code.now ctx.now }
         ensures { result ≡ (machine code.now).waits ctx.now };

@@ -89,7 +89,7 @@ impl Context {
         self.wait
     }
 
-    /// Whether the thread waits at a malloc.
+    /// Whether the thread waits at an allocation.
     pub fn wants_room(&self) -> bool
         ensures { IsTrue result ↔ (self.now.wait ≡ Some Wait.Room) }
     {
