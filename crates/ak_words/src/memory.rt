@@ -1,5 +1,4 @@
 use std::alloc::{AllocError, AllocFailed};
-
 use thiserror::Error;
 
 /// Want of memory: the one answer that no clause ties to a cause.

@@ -20,19 +20,23 @@ use Rattle.c_grammar.specs.Language.{Parses, RefusesTokens}
 
 -- ---- typedef int T;int main(void){int T=1;return 0;}
 
+-- the text, byte by byte
 abbrev pub long_text : List ℕ
 long_text = codes "typedef int T;int main(void){int T=1;return 0;}"
 
+-- its tokens before the second T
 abbrev pub long_front : List Token
 long_front = token (Word words.Typedef) 0 7 ∷ token (Word words.Int) 8 11 ∷ token Name 12 13 ∷ token (Mark marks.Semicolon) 13 14 ∷ token (Word words.Int) 14 17 ∷ token Name 18 22 ∷ token (Mark marks.OpenParen) 22 23
     ∷ token (Word words.Void) 23 27 ∷ token (Mark marks.CloseParen) 27 28 ∷ token (Mark marks.OpenBrace) 28 29 ∷ token (Word words.Int) 29 32 ∷ []
 
+-- its tokens behind the second T
 abbrev pub long_rest : List Token
 long_rest = token (Mark marks.Assign) 34 35 ∷ token (Int (num int (pos 1))) 35 36 ∷ token (Mark marks.Semicolon) 36 37 ∷ token (Word words.Return) 37 43 ∷ token (Int (num int (pos 0))) 44 45 ∷ token (Mark marks.Semicolon) 45 46
     ∷ token (Mark marks.CloseBrace) 46 47 ∷ []
 
 -- ---- tokens of one byte
 
+-- tokens of these kinds, each of one byte, from this place on
 abbrev pub bytes : ℕ → List TokenKind → List Token
 bytes n [] = []
 bytes n (k ∷ ks) = token k n (n + 1) ∷ bytes (n + 1) ks
@@ -49,6 +53,7 @@ body ks = Word words.Int ∷ Name ∷ Mark marks.OpenParen ∷ Mark marks.CloseP
 abbrev pub close : List TokenKind
 close = Mark marks.Semicolon ∷ Mark marks.CloseBrace ∷ End ∷ []
 
+-- the byte at a place
 abbrev pub at : ℕ → Span
 at n = record { from = n; to = n + 1 }
 
@@ -60,6 +65,7 @@ made = trees.types_by (trees.word 1 types.Int ∷ []) (trees.declarator [] (at 2
 abbrev pub with_body : ℕ → trees.Stmt → trees.External
 with_body n s = trees.external_of [] (trees.word n types.Int ∷ []) (trees.function [] (at (n + 1)) [] (Some (record { place = n + 4; items = s ∷ [] })))
 
+-- the file of these externals
 abbrev pub file_of : List trees.External → trees.File
 file_of es = record { externals = es }
 
@@ -67,6 +73,7 @@ file_of es = record { externals = es }
 abbrev pub cast_kinds : List TokenKind
 cast_kinds = first (body (Mark marks.OpenParen ∷ Name ∷ Mark marks.CloseParen ∷ Name ∷ close))
 
+-- its tree: a cast, since T is a type
 abbrev pub cast_file : trees.File
 cast_file = file_of (made ∷ with_body 4 (trees.simple (trees.eval (trees.cast 9 (trees.type_name (trees.more_specs (trees.alias (at 10)) trees.no_specs) []) (trees.name (at 12))))) ∷ [])
 
@@ -74,9 +81,11 @@ cast_file = file_of (made ∷ with_body 4 (trees.simple (trees.eval (trees.cast 
 abbrev pub star_kinds : List TokenKind
 star_kinds = body (Name ∷ Mark marks.Star ∷ Name ∷ close)
 
+-- the first one's tree: x is declared as a pointer
 abbrev pub declaration_file : trees.File
 declaration_file = file_of (made ∷ with_body 4 (trees.declare (record { specs = trees.alias (at 9) ∷ []; declarators = record { declarator = trees.declarator (pointers.Star ∷ []) (at 11) trees.no_exprs; value = None } ∷ [] })) ∷ [])
 
+-- the second one's tree: a product, since T is no type
 abbrev pub product_file : trees.File
 product_file = file_of (with_body 0 (trees.simple (trees.eval (trees.binary 6 (binaries.Value ops.Mul) (trees.name (at 5)) (trees.name (at 7))))) ∷ [])
 
@@ -84,6 +93,7 @@ product_file = file_of (with_body 0 (trees.simple (trees.eval (trees.binary 6 (b
 abbrev pub comma_kinds : List TokenKind
 comma_kinds = Word words.Typedef ∷ Word words.Int ∷ Name ∷ Mark marks.Comma ∷ Mark marks.Star ∷ Name ∷ Mark marks.OpenBracket ∷ Word words.Sizeof ∷ Mark marks.OpenParen ∷ Name ∷ Mark marks.CloseParen ∷ Mark marks.CloseBracket ∷ Mark marks.Semicolon ∷ End ∷ []
 
+-- its tree: the second declarator's size is that of the first one's type
 abbrev pub comma_file : trees.File
 comma_file = file_of (trees.types_by (trees.word 1 types.Int ∷ []) (trees.declarator [] (at 2) trees.no_exprs
     ∷ trees.declarator (pointers.Star ∷ []) (at 5) (trees.more_exprs (trees.sizeof_type 7 (trees.type_name (trees.more_specs (trees.alias (at 9)) trees.no_specs) [])) trees.no_exprs) ∷ []) ∷ [])
@@ -92,6 +102,7 @@ comma_file = file_of (trees.types_by (trees.word 1 types.Int ∷ []) (trees.decl
 abbrev pub own_kinds : List TokenKind
 own_kinds = Word words.Typedef ∷ Word words.Int ∷ Name ∷ Mark marks.OpenBracket ∷ Word words.Sizeof ∷ Mark marks.OpenParen ∷ Name ∷ Mark marks.CloseParen ∷ Mark marks.CloseBracket ∷ Mark marks.Semicolon ∷ End ∷ []
 
+-- its tree: T is no type yet in its own declarator
 abbrev pub own_file : trees.File
 own_file = file_of (trees.types_by (trees.word 1 types.Int ∷ []) (trees.declarator [] (at 2) (trees.more_exprs (trees.sizeof_expr 4 (trees.group (trees.name (at 6)))) trees.no_exprs) ∷ []) ∷ [])
 
@@ -99,6 +110,7 @@ own_file = file_of (trees.types_by (trees.word 1 types.Int ∷ []) (trees.declar
 abbrev pub const_kinds : List TokenKind
 const_kinds = first (Word words.Const ∷ Name ∷ Name ∷ Mark marks.Semicolon ∷ End ∷ [])
 
+-- its tree: T is the specifier
 abbrev pub const_file : trees.File
 const_file = file_of (made ∷ trees.external_of [] (trees.word 4 types.Const ∷ trees.alias (at 5) ∷ []) (trees.variables (record { declarator = trees.declarator [] (at 6) trees.no_exprs; value = None } ∷ [])) ∷ [])
 
@@ -106,9 +118,11 @@ const_file = file_of (made ∷ trees.external_of [] (trees.word 4 types.Const �
 abbrev pub group_kinds : List TokenKind
 group_kinds = body (Mark marks.OpenParen ∷ Name ∷ Mark marks.CloseParen ∷ Name ∷ close)
 
+-- behind int T is no specifier, and no name of a variable
 abbrev pub twice_kinds : List TokenKind
 twice_kinds = first (Word words.Int ∷ Name ∷ Name ∷ Mark marks.Semicolon ∷ End ∷ [])
 
+-- the second T is no name of a variable
 abbrev pub again_kinds : List TokenKind
 again_kinds = first (Name ∷ Name ∷ Mark marks.Semicolon ∷ End ∷ [])
 
@@ -116,9 +130,11 @@ again_kinds = first (Name ∷ Name ∷ Mark marks.Semicolon ∷ End ∷ [])
 abbrev pub anew_kinds : List TokenKind
 anew_kinds = first (first (End ∷ []))
 
+-- the first one's tree: the same name twice
 abbrev pub anew_file : trees.File
 anew_file = file_of (made ∷ trees.types_by (trees.word 5 types.Int ∷ []) (trees.declarator [] (at 6) trees.no_exprs ∷ []) ∷ [])
 
+-- T is the specifier, so that no declarator is left
 abbrev pub bare_kinds : List TokenKind
 bare_kinds = first (Word words.Typedef ∷ Word words.Const ∷ Name ∷ Mark marks.Semicolon ∷ End ∷ [])
 
@@ -126,6 +142,7 @@ bare_kinds = first (Word words.Typedef ∷ Word words.Const ∷ Name ∷ Mark ma
 abbrev pub node_kinds : List TokenKind
 node_kinds = Word words.Typedef ∷ Word words.Struct ∷ Name ∷ Name ∷ Mark marks.Semicolon ∷ Word words.Struct ∷ Name ∷ Mark marks.OpenBrace ∷ Name ∷ Mark marks.Star ∷ Name ∷ Mark marks.Semicolon ∷ Word words.Int ∷ Name ∷ Mark marks.Semicolon ∷ Mark marks.CloseBrace ∷ Mark marks.Semicolon ∷ End ∷ []
 
+-- its tree: in the braces n is first the type's name, then a member's
 abbrev pub node_file : trees.File
 node_file = file_of (trees.types_by (trees.struct 1 (at 2) ∷ []) (trees.declarator [] (at 3) trees.no_exprs ∷ [])
     ∷ trees.external_of [] (trees.struct_body 5 (at 6) (trees.more_members (trees.members_of (trees.more_specs (trees.alias (at 8)) trees.no_specs) (trees.more_declarators (trees.declarator (pointers.Star ∷ []) (at 10) trees.no_exprs) trees.no_declarators))
@@ -135,13 +152,16 @@ node_file = file_of (trees.types_by (trees.struct 1 (at 2) ∷ []) (trees.declar
 abbrev pub one : TokenKind
 one = Int (num int (pos 1))
 
+-- the kinds of its tokens
 abbrev pub switch_kinds : List TokenKind
 switch_kinds = body (Word words.Switch ∷ Mark marks.OpenParen ∷ one ∷ Mark marks.CloseParen ∷ Mark marks.OpenBrace ∷ Word words.Case ∷ one ∷ Mark marks.Colon ∷ Word words.Default ∷ Mark marks.Colon ∷ Word words.Case ∷ one ∷ Mark marks.Question ∷ one ∷ Mark marks.Colon ∷ one ∷ Mark marks.Colon
     ∷ Mark marks.Semicolon ∷ Mark marks.CloseBrace ∷ Word words.Do ∷ Mark marks.Semicolon ∷ Word words.While ∷ Mark marks.OpenParen ∷ one ∷ Mark marks.CloseParen ∷ close)
 
+-- a 1 at a place
 abbrev pub one_at : ℕ → trees.Expr
 one_at n = trees.int n (num int (pos 1))
 
+-- its tree: three labels and an empty statement, then a do
 abbrev pub switch_file : trees.File
 switch_file = file_of (trees.external_of [] (trees.word 0 types.Int ∷ []) (trees.function [] (at 1) [] (Some (record {
   place = 4;
@@ -154,6 +174,7 @@ abbrev pub enum_kinds : List TokenKind
 enum_kinds = Word words.Enum ∷ Name ∷ Mark marks.OpenBrace ∷ Name ∷ Mark marks.Comma ∷ Name ∷ Mark marks.Assign ∷ one ∷ Mark marks.Comma ∷ Mark marks.CloseBrace ∷ Mark marks.Semicolon
     ∷ Word words.Struct ∷ Mark marks.OpenBrace ∷ Word words.Enum ∷ Name ∷ Name ∷ Mark marks.Semicolon ∷ Mark marks.CloseBrace ∷ Name ∷ Mark marks.Semicolon ∷ End ∷ []
 
+-- its tree: a comma behind the last enumerator, and a struct without a tag
 abbrev pub enum_file : trees.File
 enum_file = file_of (trees.external_of [] (trees.enum_body 0 (at 1) (trees.more_enumerators (trees.enumerator (at 3) true) (trees.more_enumerators (trees.valued (at 5) (one_at 7) true) trees.no_enumerators)) ∷ []) trees.nothing
     ∷ trees.external_of [] (trees.unnamed_struct 11 (trees.more_members (trees.members_of (trees.more_specs (trees.enum 13 (at 14)) trees.no_specs) (trees.more_declarators (trees.declarator [] (at 15) trees.no_exprs) trees.no_declarators)) trees.no_members) ∷ [])
@@ -163,6 +184,7 @@ enum_file = file_of (trees.external_of [] (trees.enum_body 0 (at 1) (trees.more_
 abbrev pub unnamed_kinds : List TokenKind
 unnamed_kinds = Word words.Typedef ∷ Word words.Enum ∷ Mark marks.OpenBrace ∷ Name ∷ Mark marks.CloseBrace ∷ Name ∷ Mark marks.Semicolon ∷ End ∷ []
 
+-- its tree: an enum without a tag has the name T
 abbrev pub unnamed_file : trees.File
 unnamed_file = file_of (trees.types_by (trees.unnamed_enum 1 (trees.more_enumerators (trees.enumerator (at 3) false) trees.no_enumerators) ∷ []) (trees.declarator [] (at 5) trees.no_exprs ∷ []) ∷ [])
 
@@ -170,9 +192,11 @@ unnamed_file = file_of (trees.types_by (trees.unnamed_enum 1 (trees.more_enumera
 abbrev pub none_kinds : List TokenKind
 none_kinds = Word words.Enum ∷ Mark marks.OpenBrace ∷ Mark marks.CloseBrace ∷ Mark marks.Semicolon ∷ End ∷ []
 
+-- two commas
 abbrev pub commas_kinds : List TokenKind
 commas_kinds = Word words.Enum ∷ Mark marks.OpenBrace ∷ Name ∷ Mark marks.Comma ∷ Mark marks.Comma ∷ Mark marks.CloseBrace ∷ Mark marks.Semicolon ∷ End ∷ []
 
+-- no comma between two enumerators
 abbrev pub beside_kinds : List TokenKind
 beside_kinds = Word words.Enum ∷ Mark marks.OpenBrace ∷ Name ∷ Name ∷ Mark marks.CloseBrace ∷ Mark marks.Semicolon ∷ End ∷ []
 
@@ -184,6 +208,7 @@ inside_kinds = body (Word words.Enum ∷ Mark marks.OpenBrace ∷ Name ∷ Mark 
 abbrev pub taken_kinds : List TokenKind
 taken_kinds = first (Word words.Enum ∷ Mark marks.OpenBrace ∷ Name ∷ Mark marks.CloseBrace ∷ Mark marks.Semicolon ∷ End ∷ [])
 
+-- each text's tree or refusal; beside a text of longer tokens they are spelt by one byte each
 pub record TextRows : Type 0 where
   -- a type's name is no name of a variable
   pub refused : RefusesTokens long_text (long_front ++ token Name 33 34 ∷ long_rest ++ token End 47 47 ∷ []) (record { place = 33; kind = UnexpectedToken })

@@ -2,7 +2,6 @@ ghost use Rattle.std.specs.Prelude.{◌≡◌};
 ghost use Rattle.c_lex.specs.declared.refusal.CompileFault.TheVariants.{NoMemory};
 
 use std::alloc::{AllocError, AllocFailed};
-
 use thiserror::Error;
 
 /// Why a text is refused, one kind for each cause that this project's profile of C11 names.

@@ -59,10 +59,11 @@ toy_world = first_world (Some (record { kind = kinds.Global; cells = replicate 8
 abbrev pub prints : List ℕ → SharedAction
 prints text = print (bytes text ∷ [])
 
--- a thread is made that begins with function 1, or is awaited
+-- a thread is made that begins with function 1
 abbrev pub starts : SharedAction
 starts = start (To 0 0) 1 Null
 
+-- a thread is awaited
 abbrev pub awaits : (thread : ℕ) → SharedAction
 awaits thread = join thread Null
 
@@ -70,6 +71,7 @@ awaits thread = join thread Null
 abbrev pub plain : (thread : ℕ) → Pick
 plain thread = record { thread = thread; answer = answers.Plain }
 
+-- a turn of a thread whose allocation got its memory
 abbrev pub got : (thread : ℕ) → Pick
 got thread = record { thread = thread; answer = answers.Got }
 
@@ -81,12 +83,15 @@ report verdict order output = record { verdict = verdict; order = order; output 
 abbrev pub falls : Program (List SharedAction)
 falls = toy ((prints (codes "a") ∷ load Null accesses.Pointer ∷ []) ∷ [])
 
+-- prints, and ends
 abbrev pub ends : Program (List SharedAction)
 ends = toy ((prints (codes "hi") ∷ []) ∷ [])
 
+-- main awaits a thread that awaits main
 abbrev pub hangs : Program (List SharedAction)
 hangs = toy ((starts ∷ awaits 1 ∷ []) ∷ (awaits 0 ∷ []) ∷ [])
 
+-- main and a thread print two texts each
 abbrev pub shares : Program (List SharedAction)
 shares = toy ((starts ∷ prints (codes "a") ∷ prints (codes "a") ∷ []) ∷ (prints (codes "b") ∷ prints (codes "b") ∷ []) ∷ [])
 
