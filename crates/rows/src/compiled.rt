@@ -1,8 +1,10 @@
 //! What C texts come to as they are compiled: two tables in data/ tell the listing of each text's typed tree, or where and why it has none, and of
 //! some texts the code is printed, in outline or whole. It is told which trees are as they were worked out by hand, and the others are shown.
 
+mod code_listing;
 mod codes;
 mod exprs;
+mod linear_listing;
 mod listing;
 mod row;
 mod stmts;

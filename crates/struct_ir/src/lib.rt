@@ -12,8 +12,6 @@ pub mod laws;
 pub mod linear;
 mod linear_facts;
 pub mod linear_laws;
-pub mod linear_listing;
-pub mod listing;
 pub mod placed;
 pub mod scope;
 mod step;
@@ -26,8 +24,6 @@ pub use code::{
 pub use erasing::erase;
 pub use ir::Ir;
 pub use linear::{CodeFunc, Instr, InstrKind};
-pub use linear_listing::code_text;
-pub use listing::text;
 pub use placed::is_placed;
 pub use valid::is_valid;
 

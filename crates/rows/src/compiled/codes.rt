@@ -1,6 +1,8 @@
 //! The code of C texts: of some its outline, each loop, Look, safepoint, call and allocation in order, and of others both listings whole.
 ghost use Rattle.std.specs.Prelude.{◌≤◌, length};
 
+use crate::compiled::code_listing::text;
+use crate::compiled::linear_listing::code_text;
 use ak_words::NoMemory;
 use alaska_run::read;
 use c_lex::CompileFault;
@@ -9,7 +11,6 @@ use ir_lower::lower;
 use run_edges::MOST_BYTES;
 use std::alloc::Global;
 use std::{fs, io};
-use struct_ir::{code_text, text};
 
 // The texts of which an outline is printed: their first lines tell what it shows.
 const OUTLINED: [&str; 3] = ["look_before_loop.c", "unset_word.c", "dead_word.c"];

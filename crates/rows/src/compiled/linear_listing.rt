@@ -1,11 +1,11 @@
 //! Linear code as text, for people and tests: one line an instruction.
 
-use crate::linear::{Code, Instr, InstrKind};
-use crate::listing::{
+use crate::compiled::code_listing::{
     write_call, write_head, write_look, write_return, write_safepoint, write_set, write_step,
 };
 use ak_words::NoMemory;
 use std::alloc::Global;
+use struct_ir::linear::{Code, Instr, InstrKind};
 
 /// The code as text, with one line for each function and for each instruction, which begins with
 /// its index. Registers are `t0` on, pin slots `s0` on.

@@ -1,11 +1,10 @@
 //! Structured code as text, for people and tests: one line a node.
 
-use crate::code::{Action, Calc, CallNode, Node, NodeKind, Place, StepNode};
-use crate::ir::Ir;
 use ak_words::{IntType, NoMemory, Op};
 use block_store::{Access, Change};
 use c_tree::typed::Piece;
 use std::alloc::Global;
+use struct_ir::{Action, Calc, CallNode, Ir, Node, NodeKind, Place, StepNode};
 
 /// The code as text, with one line for each function and for each node. A line begins with two
 /// spaces for each If or Loop around it; in the first row of one `+` stands there, in the second
