@@ -1,5 +1,5 @@
 -- The views of the code's nodes, written out.
-use Rattle.std.proofs.Common.{◌≡◌, ℕ, map, sym, ap, ◌∙◌}
+use Rattle.std.proofs.Common.{◌≡◌, ℕ, Bool, Option, Some, None, map, refl, sym, ap, ◌∙◌}
 use Rattle.std.specs.Prelude.{Vec, Box}
 use Rattle.std.specs.Option.{option_map}
 use Rattle.std.specs.declared.alloc.Global.{Global}
@@ -17,7 +17,8 @@ use Rattle.c_tree.specs.declared.syntax.Expr.TheVariants as codes
 use Rattle.c_tree.specs.declared.syntax.TypeName.{TypeName}
 use Rattle.c_tree.specs.declared.syntax.Member.{Member}
 use Rattle.c_tree.specs.declared.syntax.Declarator.{Declarator}
-use Rattle.c_tree.specs.declared.syntax.Enumerator.{Enumerator}
+use Rattle.c_tree.specs.declared.syntax.Enumerator.{Enumerator, map-Enumerator}
+use Rattle.c_tree.specs.declared.syntax.Spec.{Spec}
 use Rattle.c_tree.specs.declared.syntax.Spec.TheVariants as specs
 use Rattle.c_tree.specs.Syntax as source
 use Rattle.c_tree.specs.SyntaxViews.{expr_view, type_name_view, spec_view, declarator_view, enumerator_view, member_view, expr_layer, spec_layer, declarator_layer, enumerator_layer, member_layer, type_name_layer}
@@ -146,8 +147,17 @@ alias_seen n =
     ap spec_view (sym (specs.rolls-Alias n))
     ∙ fold-roll-Spec source.Expr source.Spec source.Declarator source.Enumerator source.Member source.TypeName expr_layer spec_layer declarator_layer enumerator_layer member_layer type_name_layer (Spec-F.Alias n)
 
+-- its layer, where the option in it is a value
+enumerator_layered : (n : Name) (o : Option Expr) (comma : Bool)
+    → enumerator_layer (map-Enumerator Expr Spec Declarator Enumerator Member TypeName source.Expr source.Spec source.Declarator source.Enumerator source.Member source.TypeName expr_view spec_view declarator_view enumerator_view member_view type_name_view (record { name = n; value = o; comma = comma }))
+    ≡ source.enumerator_of n (option_map expr_view o) comma
+enumerator_layered n None comma = refl
+enumerator_layered n (Some e) comma = refl
+
 pub enumerator_seen : (e : Enumerator) → enumerator_view e ≡ source.enumerator_of (out-Enumerator e).name (option_map expr_view (out-Enumerator e).value) (out-Enumerator e).comma
-enumerator_seen e = fold_out-Enumerator source.Expr source.Spec source.Declarator source.Enumerator source.Member source.TypeName expr_layer spec_layer declarator_layer enumerator_layer member_layer type_name_layer e
+enumerator_seen e =
+    fold_out-Enumerator source.Expr source.Spec source.Declarator source.Enumerator source.Member source.TypeName expr_layer spec_layer declarator_layer enumerator_layer member_layer type_name_layer e
+    ∙ enumerator_layered (out-Enumerator e).name (out-Enumerator e).value (out-Enumerator e).comma
 
 pub member_seen : (m : Member) → member_view m ≡ source.members_of (source.specs_of (map spec_view (out-Member m).specs.items)) (source.declarators_of (map declarator_view (out-Member m).declarators.items))
 member_seen m = fold_out-Member source.Expr source.Spec source.Declarator source.Enumerator source.Member source.TypeName expr_layer spec_layer declarator_layer enumerator_layer member_layer type_name_layer m
