@@ -86,6 +86,10 @@ counted_more xs i e c all next after n m v r h is before told value fin =
           ∙ sym (ap (λ (q : Behind). q.next) last);
     })
 
+-- the same by another name
+pub counted_as : (es : List source.Enumerator) (c : Context) (all : Result (Unit {0}) CompileFault) (value next : ℤ) (n : CodeContext) → next ≡ value → Counted es c all value n → Counted es c all next n
+counted_as es c all value next n is w = subst (λ (z : ℤ). Counted es c all z n) (sym is) w
+
 pub counted_all : (xs : List CodeEnumerator) (i : ℕ) (c : Context) (all : Result (Unit {0}) CompileFault) (next : ℤ) (n : CodeContext)
     → length xs ≤ i → Counted (map enumerator_view (take i xs)) c all next n → Tells (λ (u : Unit {0}). u) all n (judged_enumerators (pos 0) (source.enumerators_of (map enumerator_view xs)) c)
 counted_all xs i c all next n h w =

@@ -158,7 +158,7 @@ other_err s of es one c n a f r is h err back =
 
 -- what is seen of a statement that is no label
 seen_so : (s t : Tree) (y : source.Stmt) → t ≡ s → seen.stmt_view t ≡ y → is_label y ≡ false → is_label (seen.stmt_view s) ≡ false
-seen_so s t y is view no = ap is_label (sym (ap seen.stmt_view is) ∙ view) ∙ no
+seen_so s t y is view none = ap is_label (sym (ap seen.stmt_view is) ∙ view) ∙ none
 
 -- a statement of the code that is no label is seen as none
 abbrev pub SeenNoLabel : Tree → Type 0

@@ -199,6 +199,12 @@ walked_faulty r l t ys i y c fine after e none f n m a h is w told err more empt
     subst (λ xs. Walked r l t xs c after none m) (sym (taken ys i y h is))
     (walked_last r l t ss (stmt_view y) c after none m (faulty_more x b one fine after e none f n m w.told w.so_far here more) (faulty_known x b one fine after e none f n m w.told w.so_far here more empty))
 
+-- the same by other names
+pub walked_as : (r : Ty) (l : Jumps) (t : IntType) (ss : List source.Stmt) (c : Context) (fine after : Result (Unit {0}) CompileFault) (e next : CodeEntries) (n : CodeContext)
+    → after ≡ fine → next ≡ e → Walked r l t ss c fine e n → Walked r l t ss c after next n
+walked_as r l t ss c fine after e next n same is w =
+    subst (λ (f : Result (Unit {0}) CompileFault). Walked r l t ss c f next n) (sym same) (subst (λ (x : CodeEntries). Walked r l t ss c fine x n) (sym is) w)
+
 -- all were taken
 pub walked_all : (r : Ty) (l : Jumps) (t : IntType) (ys : List CodeStmt) (i : ℕ) (c : Context) (fine : Result (Unit {0}) CompileFault) (e : CodeEntries) (n : CodeContext)
     → length ys ≤ i → Walked r l t (map stmt_view (take i ys)) c fine e n → Tells (λ (u : Unit {0}). entries_view e) fine n (judged_entries r l t no_entries (source.stmts_of (map stmt_view ys)) c)

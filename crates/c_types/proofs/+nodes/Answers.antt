@@ -1,6 +1,8 @@
-use Rattle.std.proofs.Common.{ℕ, ◌-◌, [], ◌∷◌, ◌++◌, List, map, take, drop, length, refl, ap, sym, subst, ◌∙◌, arith, Option}
+use Rattle.std.proofs.Common.{◌≡◌, ℕ, ◌+◌, ◌-◌, to_z, of_z, [], ◌∷◌, ◌++◌, List, map, take, drop, length, refl, ap, sym, subst, ◌∙◌, arith, Option}
 use Rattle.std.specs.Prelude.{Vec, ℤ, pos}
 use Rattle.std.specs.declared.alloc.Global.{Global}
+use Rattle.std.specs.Int.{w128}
+use Rattle.std.proofs.lemmas.Int.{to_z-of_z, ints}
 use Rattle.ak_words.specs.IntType.{int}
 use Rattle.c_tree.specs.declared.syntax.Name.{Name}
 use Rattle.c_tree.specs.Syntax as source
@@ -23,7 +25,7 @@ use Rattle.type_nodes.proofs.Expressions.{value_tells, size_of_type_tells, size_
 use Rattle.type_nodes.proofs.Types as types
 use Rattle.c_types.specs.inner.Enumerators.{value_or}
 use Rattle.c_types.proofs.Sizes.{most_rest}
-use Rattle.c_types.proofs.EnumWalk.{enum_tells, alone_tells, counted_none, counted_more, counted_all}
+use Rattle.c_types.proofs.EnumWalk.{enum_tells, alone_tells, counted_none, counted_more, counted_as, counted_all}
 use Rattle.c_types.proofs.Views as views
 use Rattle.c_types.proofs.Nodes as nodes
 use Rattle.c_types.proofs.Walking.{address_tells, text_told, no_text_told, call_prints, call_starts, call_calls, print_some, start_some, started_some, names_told}
@@ -372,16 +374,21 @@ enums::enumerators-list-init t c = counted_none c.args.context.now
 
 pub enums::enumerators-list-preserved : goal.enums::enumerators-list-preserved
 enums::enumerators-list-preserved t c =
-    counted_more c.args.list.now c.list.e-index c.e-item.result (context_view c.args.context.now) c.list.all c.list.next c.in_ok-next.next c.list.context c.enumerator-value.new.context c.enumerator-value.result c.fine_with-all.result
-    (omega arith) c.e-item.is c.list.invariant c.enumerator-value.ensures c.in_ok-next.ensures.value c.fine_with-all.ensures
+    let known = rw c.in_ok-next.was at c.value_behind.type_inv in
+    let same : to_z w128 (of_z w128 c.in_ok-next.next) ≡ c.in_ok-next.next = omega (arith, ints) in
+    counted_as (map sources.enumerator_view (take (c.list.e-index + 1) c.args.list.now)) (context_view c.args.context.now) c.fine_with-all.result c.in_ok-next.next (to_z w128 (of_z w128 c.in_ok-next.next)) c.enumerator-value.new.context same
+    (counted_more c.args.list.now c.list.e-index c.e-item.result (context_view c.args.context.now) c.list.all (to_z w128 c.list.next-bits) c.in_ok-next.next c.list.context c.enumerator-value.new.context c.enumerator-value.result c.fine_with-all.result
+    c.list-test.true c.e-item.is c.list.invariant c.enumerator-value.ensures c.in_ok-next.ensures.value c.fine_with-all.ensures)
 
 pub enums::enumerators-returns : goal.enums::enumerators-returns
-enums::enumerators-returns t c = counted_all c.args.list.now c.list.e-index (context_view c.args.context.now) c.list.all c.list.next c.list.context (omega arith) c.list.invariant
+enums::enumerators-returns t c =
+    counted_all c.args.list.now c.list.e-index (context_view c.args.context.now) c.list.all (to_z w128 c.list.next-bits) c.list.context c.list-test.false c.list.invariant
 
 pub enums::enumerator-returns : goal.enums::enumerator-returns
 enums::enumerator-returns t c =
     nodes.enumerator_told c.args.next c.args.e.now (context_view c.args.context.now) c.enumerated.new.context c.enumerated.result
-    (c.enumerated.ensures (value_or c.args.next (sources.enumerator_view c.args.e.now)) (context_view c.args.context.now) c.value_or-value.ensures)
+    (c.enumerated.ensures (value_or c.args.next (sources.enumerator_view c.args.e.now)) (context_view c.args.context.now)
+    (subst (λ (z : ℤ). Tells (λ (y : ℤ). y) c.value_or-value.result c.value_or-value.new.context (value_or z (sources.enumerator_view c.args.e.now) (context_view c.args.context.now))) (to_z-of_z w128 c.args.next c.ranges.next) c.value_or-value.ensures))
 
 pub enums::value_or-returns-in-Some : goal.enums::value_or-returns-in-Some
 enums::value_or-returns-in-Some t c =
@@ -389,7 +396,7 @@ enums::value_or-returns-in-Some t c =
 
 pub enums::value_or-returns-in-None : goal.enums::value_or-returns-in-None
 enums::value_or-returns-in-None t c =
-    nodes.next_told c.args.next c.args.e.now c.args.context.now c.as_fault.result c.in-None.is (fault_gives (λ (z : ℤ). z) _ _ _ c.as_fault.ensures c.enumerator_value.ensures)
+    nodes.next_told c.args.next c.args.e.now c.args.context.now c.as_fault.result c.in-None.is (fault_gives (λ (z : ℤ). z) _ _ _ c.as_fault.ensures (rw (to_z-of_z w128 c.args.next c.ranges.next) at c.enumerator_value.ensures))
 
 pub enums::given-returns : goal.enums::given-returns
 enums::given-returns t c =

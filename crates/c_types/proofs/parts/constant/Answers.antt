@@ -18,4 +18,4 @@ returns-in_err-x c =
 pub returns : goal.returns
 returns c =
     ok_tells boxed_expr_view (λ (v : Option Num). v) (valued (judged (source.expr_view c.args.e.now))) (λ d x. typed (constant_value d (source.expr_view c.args.e.now) x)) (context_view c.args.context.now) c.value.new.context c.value.result c.in_ok-x.x _
-    c.value.ensures c.in_ok-x.was (ap typed (sym c.constant_value.ensures))
+    c.value.ensures c.in_ok-x.was (ap typed (sym (rw c.deref.ensures at c.constant_value.ensures)))

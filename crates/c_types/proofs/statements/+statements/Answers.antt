@@ -1,4 +1,4 @@
-use Rattle.std.proofs.Common.{ℕ, List, [], ◌∷◌, map, Option, refl, ap, sym, ◌∙◌, arith}
+use Rattle.std.proofs.Common.{ℕ, ◌+◌, List, [], ◌∷◌, map, take, inl, inr, Option, refl, ap, sym, ◌∙◌, arith}
 use Rattle.std.specs.Option.{option_map}
 use Rattle.std.specs.Prelude.{Box, Vec}
 use Rattle.std.specs.declared.alloc.Global.{Global}
@@ -25,11 +25,12 @@ use Rattle.c_typing.proofs.Unmoved.{stmt_stays, stmts_stays, for_stays}
 use Rattle.c_types.proofs.StatementRows.{several_more, at_end}
 use Rattle.c_types.proofs.StatementViews.{case_is, default_is}
 use Rattle.c_types.proofs.StatementNodes.{entered, looped}
-use Rattle.c_types.proofs.SwitchRows.{walked_none, walked_typed, walked_faulty, walked_all}
+use Rattle.c_types.proofs.SwitchRows.{walked_none, walked_typed, walked_faulty, walked_as, walked_all}
 use Rattle.c_types.proofs.SwitchNodes.{switch_ok, switch_err, case_ok, case_err, default_told, other_ok, other_err, no_label}
 use Rattle.c_types.proofs.Arms as arms
 use Rattle.c_types.specs.inner.Switches.{jumps_view, entries_view}
 use Rattle.c_types.proofs.statements.+statements.Goals as goal
+use Rattle.c_types.proofs.statements.+statements.Goals.{entries-in-Ok, entries-in-Err}
 
 -- one statement
 pub one-returns-in_err-all : goal.one-returns-in_err-all
@@ -209,16 +210,22 @@ switch-returns t c =
 pub entries-entries-init : goal.entries-entries-init
 entries-entries-init t c = walked_none (type_view c.args.t.now) (jumps_view c.args.jumps) c.args.of c.none-so_far.result c.args.context.now c.none-so_far.ensures
 
-pub entries-entries-preserved-in-Ok : goal.entries-entries-preserved-in-Ok
-entries-entries-preserved-in-Ok t c =
-    walked_typed (type_view c.args.t.now) (jumps_view c.args.jumps) c.args.of c.args.all.now c.entries.s-index c.s-item.result (context_view c.args.context.now) c.entries.fine c.entries.so_far c.in-Ok.next c.entries.context c.entry.new.context c.entry.result
-    (omega arith) c.s-item.is c.entries.invariant c.entry.ensures c.in-Ok.is
-
-pub entries-entries-preserved-in-Err : goal.entries-entries-preserved-in-Err
-entries-entries-preserved-in-Err t c =
-    walked_faulty (type_view c.args.t.now) (jumps_view c.args.jumps) c.args.of c.args.all.now c.entries.s-index c.s-item.result (context_view c.args.context.now) c.entries.fine c.one_fault_more-fine.result c.entries.so_far c.none-so_far-in-Err.result c.in-Err.fault
-    c.entries.context c.entry.new.context c.entry.result
-    (omega arith) c.s-item.is c.entries.invariant c.entry.ensures c.in-Err.is c.one_fault_more-fine.ensures c.none-so_far-in-Err.ensures
+pub entries-entries-preserved : goal.entries-entries-preserved
+entries-entries-preserved t c =
+    let r = type_view c.args.t.now in
+    let l = jumps_view c.args.jumps in
+    let ss = map source.stmt_view (take (c.entries.s-index + 1) c.args.all.now) in
+    elim c.match-entry.branch [
+      | entries-in-Ok w ↦
+          walked_as r l c.args.of ss (context_view c.args.context.now) c.entries.fine c.match-entry.fine w.in-Ok.next c.match-entry.so_far c.entry.new.context w.fine-is w.so_far-is
+          (walked_typed r l c.args.of c.args.all.now c.entries.s-index c.s-item.result (context_view c.args.context.now) c.entries.fine c.entries.so_far w.in-Ok.next c.entries.context c.entry.new.context c.entry.result
+          (omega arith) c.s-item.is c.entries.invariant c.entry.ensures w.in-Ok.is)
+      | entries-in-Err w ↦
+          walked_as r l c.args.of ss (context_view c.args.context.now) w.one_fault_more-fine.result c.match-entry.fine w.none-so_far-in-Err.result c.match-entry.so_far c.entry.new.context w.fine-is w.so_far-is
+          (walked_faulty r l c.args.of c.args.all.now c.entries.s-index c.s-item.result (context_view c.args.context.now) c.entries.fine w.one_fault_more-fine.result c.entries.so_far w.none-so_far-in-Err.result w.in-Err.fault
+          c.entries.context c.entry.new.context c.entry.result
+          (omega arith) c.s-item.is c.entries.invariant c.entry.ensures w.in-Err.is w.one_fault_more-fine.ensures w.none-so_far-in-Err.ensures)
+    ]
 
 pub entries-returns-in_err-fine : goal.entries-returns-in_err-fine
 entries-returns-in_err-fine t c =
@@ -306,6 +313,15 @@ pub stmt-returns-in-Switch : goal.stmt-returns-in-Switch
 stmt-returns-in-Switch t c =
     arms.switch_told c.args.s.now c.in-Switch.place c.in-Switch.condition c.in-Switch.entries c.deref-in-Switch.result.now (type_view c.args.t.now) (jumps_view c.args.jumps) (context_view c.args.context.now) c.switch.new.context c.switch.result
     c.in-Switch.is c.deref-in-Switch.ensures.value c.switch.ensures
+
+pub stmt-returns-in-Case : goal.stmt-returns-in-Case
+stmt-returns-in-Case t c =
+    let r = type_view c.args.t.now in
+    let l = jumps_view c.args.jumps in
+    elim c.in-Case.is [
+      | inl (e, is) ↦ arms.case_told c.args.s.now c.in-Case.place e r l c.args.context.now c.refused.result is c.refused.ensures
+      | inr is ↦ arms.default_told c.args.s.now c.in-Case.place r l c.args.context.now c.refused.result is c.refused.ensures
+    ]
 
 pub stmt-returns-in-Break : goal.stmt-returns-in-Break
 stmt-returns-in-Break t c = arms.break_told c.args.s.now c.in-Break.place (type_view c.args.t.now) (jumps_view c.args.jumps) c.args.context.now c.jump.result c.in-Break.is c.jump.ensures
