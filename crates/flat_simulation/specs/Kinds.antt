@@ -49,8 +49,8 @@ pub record IsGuarded (p : Ir) : Type 0 where
 
 -- ---- operations on values of kinds that they don't take
 
--- what comes of a turn, where its thread and main run. Of a program's turns such an operation and an answer that doesn't fit come out as one;
--- here they don't
+-- what comes of a turn, where its thread and main run. Among a program's turns such an operation comes out as an answer that doesn't fit does;
+-- here the two are apart
 abbrev pub outcome_if : Ir → runs.State (Thread Position Own) → Pick → (main own : Option (Thread Position Own)) → Option (Outcome Position Own Fault World)
 outcome_if p u k None own = None
 outcome_if p u k (Some main) None = None
@@ -64,7 +64,7 @@ outcome p u k = outcome_if p u k (own_at u.own 0) (own_at u.own k.thread)
 abbrev pub TakesWrongKind : Ir → runs.State (Thread Position Own) → Pick → Type 0
 TakesWrongKind p u k = outcome p u k ≡ Some (broke wrong_kind)
 
--- the thread's next turn is none, whatever it is told
+-- the thread's next turn is no such operation, whatever it is told
 abbrev pub TakesRightKinds : Ir → runs.State (Thread Position Own) → (thread : ℕ) → Type 0
 TakesRightKinds p u thread = (answer : Answer) → TakesWrongKind p u (pick thread answer) → ⊥
 
@@ -72,8 +72,8 @@ TakesRightKinds p u thread = (answer : Answer) → TakesWrongKind p u (pick thre
 abbrev pub KindsDontDependOnAnswers : Type 0
 KindsDontDependOnAnswers = (p : Ir) (u : runs.State (Thread Position Own)) (thread : ℕ) (one other : Answer) → TakesWrongKind p u (pick thread one) → TakesWrongKind p u (pick thread other)
 
--- a run of an order from a state on, before which n turns were done: the one after so many is such a turn, in the state that those before
--- it reach
+-- in the run of an order from a state on, before which n turns were done: the pick behind so many turns is such an operation, in the state that
+-- those before it reach
 pub record MeetsWrongKind (p : Ir) (order : List Pick) (n : ℕ) (u : runs.State (Thread Position Own)) (turns : ℕ) : Type 0 where
   pub before : List Pick
   pub next : Pick
@@ -84,7 +84,8 @@ pub record MeetsWrongKind (p : Ir) (order : List Pick) (n : ℕ) (u : runs.State
   pub reached : run_from (program_of p) before n u ≡ reaches state
   pub wrong : TakesWrongKind p state next
 
--- a state that a run of turns reaches; nothing is claimed once one of them broke a rule; and there is such a run up to where W holds
+-- R of the state that a run reaches; nothing, once one of its turns broke a rule; and where the pick behind so many turns is no turn that is
+-- done, W of their number
 abbrev pub UpTo : {A : Type 0} → Run A → (runs.State A → Type 0) → (W : ℕ → Type 0) → Type 0
 UpTo (reaches u) R W = R u
 UpTo (breaks rule k) R W = Unit {0}
