@@ -25,6 +25,7 @@ use Rattle.flat_meaning.specs.Allowed.{MayStep, MayStepAt, IsAllowed}
 use Rattle.flat_meaning.specs.Order.{pick, tried_before, tried_at, tried_by}
 use Rattle.flat_meaning.specs.Names.{Name}
 use Rattle.flat_meaning.specs.Simulation.{AllComeOut}
+use Rattle.flat_simulation.specs.Kinds.{TakesRightKinds}
 use Rattle.flat_simulation.specs.LinearSteps.{Enters, HasBegun}
 use Rattle.flat_simulation.specs.inner.Programs.{IsImage}
 use Rattle.flat_simulation.specs.inner.Threads.{ThreadStands, StageStands, StateStands}
@@ -32,17 +33,17 @@ use Rattle.flat_simulation.specs.inner.Kept.{source_turn}
 use Rattle.flat_simulation.proofs.Later.{fresh_thread}
 use Rattle.flat_simulation.proofs.Stopping.{IsStop, Stopped, stops_or_breaks, left}
 use Rattle.flat_simulation.proofs.Stepping.{there, turn_stops, turn_breaks}
-use Rattle.flat_simulation.proofs.Follow.{one_all, Halts, tried_all, TakeAnswers, picked_is, is_right}
+use Rattle.flat_simulation.proofs.Follow.{one_all, Halts, tried_all, picked_is, is_right}
 
 module _ (p : Ir) (limits : Limits) (image : IsImage (structured_image p limits) p) (names : List Name) (u : runs.State (Thread Position Own)) (s : State Position) (stand : StateStands (structured_image p limits) p names u s)
-    (takes : TakeAnswers p u) (goes_on : s.end ≡ None) where
+    (goes_on : s.end ≡ None) (thread : ℕ) (right : TakesRightKinds p u thread) where
   abbrev y : Image Position
   y = structured_image p limits
 
   abbrev m : Memory
   m = s.memory
 
-  module _ (thread number : ℕ) (choice : Choice) (k : Thread Position Own) (there_is : own_at u.own thread ≡ Some k) where
+  module _ (number : ℕ) (choice : Choice) (k : Thread Position Own) (there_is : own_at u.own thread ≡ Some k) where
     -- what comes of the source's turn
     abbrev its_turn : Outcome Position Own Fault World
     its_turn = source_turn p thread answers.Plain k u.world
@@ -56,7 +57,7 @@ module _ (p : Ir) (limits : Limits) (image : IsImage (structured_image p limits)
     -- a turn with a fault breaks a rule
     fault_enters : (f : Fault) → its_turn ≡ broke f → Enters k (Some (turned its_turn))
     fault_enters (broken rule place) e = subst (λ o. Enters k (Some (turned o))) (sym e) tt
-    fault_enters wrong_kind e = absurd (is_right p limits image names u s stand takes goes_on thread answers.Plain k there_is e)
+    fault_enters wrong_kind e = absurd (is_right p limits image names u s stand goes_on thread right answers.Plain k there_is e)
 
     -- a turn that comes to the call enters it
     call_enters : (q : Thread Position Words) → ThreadStands y p thread names u.world.blocks m.storage k q → (place : ℕ) (c : Call) → structured.here q.top.at ≡ does place (call c) → Enters k (Some (turned its_turn))
@@ -115,7 +116,7 @@ module _ (p : Ir) (limits : Limits) (image : IsImage (structured_image p limits)
       begun_enters steps at may end =
           tried_all Entered thread choice (structured.here q.top.at) (stop_of y thread choice q m) (λ moving halts. absurd (no_step (stop_of y thread choice q m) end halts))
       begun_enters (calls function) at may end =
-          let enters : Entered (pick thread answers.Plain) = subst (λ o. Enters k o) (sym (picked_is p limits image names u s stand takes goes_on thread answers.Plain k there_is)) (here_enters q its function (structured.here q.top.at) refl at) in
+          let enters : Entered (pick thread answers.Plain) = subst (λ o. Enters k o) (sym (picked_is p limits image names u s stand goes_on thread answers.Plain k there_is)) (here_enters q its function (structured.here q.top.at) refl at) in
           subst (λ b. All Entered (if b then [] else pick thread answers.Plain ∷ [])) (sym may.0) (one_all Entered (pick thread answers.Plain) enters)
       begun_enters turn_over at may end = absurd may
       begun_enters nothing at may end = absurd may
@@ -132,10 +133,10 @@ module _ (p : Ir) (limits : Limits) (image : IsImage (structured_image p limits)
     stage_enters (landed list q) its begun may end =
         begun_enters (landed list q) q (fresh_thread y p thread names u.world.blocks m.storage k q stand.world.blocks.names_stand.each its.fresh) (before y q) refl may end
 
-  pub act_enters : (thread number : ℕ) (choice : Choice) (t : Thread Position Own) (stage : Stage Position) → own_at u.own thread ≡ Some t → own_at s.own thread ≡ Some stage → HasBegun stage
+  pub act_enters : (number : ℕ) (choice : Choice) (t : Thread Position Own) (stage : Stage Position) → own_at u.own thread ≡ Some t → own_at s.own thread ≡ Some stage → HasBegun stage
       → IsAllowed y s (act thread choice) → (after y s (act thread choice)).end ≡ Some (ends.StackLimit number) → AllComeOut p u (Enters t) (tried_by y s (act thread choice))
-  act_enters thread number choice t stage source_is e begun may end =
+  act_enters number choice t stage source_is e begun may end =
       let its : StageStands y p thread names u.world.blocks m.storage (Some t) (Some stage)
       = subst (λ o. StageStands y p thread names u.world.blocks m.storage o (Some stage)) source_is (subst (λ o. StageStands y p thread names u.world.blocks m.storage (own_at u.own thread) o) e (stand.threads thread)) in
       subst (λ o. AllComeOut p u (Enters t) (tried_at y m thread choice o)) (sym e)
-      (stage_enters thread number choice t source_is stage its begun (subst (λ o. MayStepAt y m choice o) e may.1) (subst (λ o. (put_if s thread (act_effect y thread choice) o).end ≡ Some (ends.StackLimit number)) e end))
+      (stage_enters number choice t source_is stage its begun (subst (λ o. MayStepAt y m choice o) e may.1) (subst (λ o. (put_if s thread (act_effect y thread choice) o).end ≡ Some (ends.StackLimit number)) e end))

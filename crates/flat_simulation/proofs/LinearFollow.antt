@@ -5,7 +5,7 @@ use Rattle.std.proofs.lemmas.List.{length-append}
 use Rattle.std.proofs.lemmas.List.Elements.{All-weaker}
 use Rattle.ak_words.specs.Prefix.{IsPrefix}
 use Rattle.block_store.specs.Runs as runs
-use Rattle.block_store.specs.Runs.{Pick, own_at, picked, run_from}
+use Rattle.block_store.specs.Runs.{Pick, own_at, picked}
 use Rattle.sub_heaps.specs.SubHeaps.{IsShape}
 use Rattle.struct_ir.specs.Nodes.{Ir}
 use Rattle.struct_ir.specs.Flow.{Flow}
@@ -25,11 +25,11 @@ use Rattle.flat_meaning.specs.Emitted.{AreOne, ComeToTheSame, CallsAreGuarded}
 use Rattle.flat_meaning.specs.Names.{Name}
 use Rattle.flat_meaning.specs.Reaching.{Unbroken, Waits, Broken, StaysInBlocks, reached_in}
 use Rattle.flat_meaning.specs.Stands.{PointStands, WorldStands, StageStands}
-use Rattle.flat_meaning.specs.Simulation as structured_code
-use Rattle.flat_meaning.specs.Simulation.{AllComeOut, IsTrap, UpToABreak, IsChecked, EachTurnTakesAnAnswer}
+use Rattle.flat_meaning.specs.Simulation.{AllComeOut, IsTrap}
 use Rattle.flat_meaning.specs.Start.{ids_of, AreMadeBy}
 use Rattle.flat_meaning.specs.Touched.{touched_at}
-use Rattle.flat_simulation.specs.LinearSteps.{AllocationsFit, PrintsPast, Enters, StepTouches, StepsFollow, HasStack, Follows}
+use Rattle.flat_simulation.specs.Kinds.{IsGuarded, TakesRightKinds, MeetsWrongKind, UpToAKind, UpToAKindFrom, StepFollows, LinearStepFollows, LinearStandsAfter}
+use Rattle.flat_simulation.specs.LinearSteps.{AllocationsFit, PrintsPast, Enters, StepTouches, HasStack}
 use Rattle.flat_simulation.specs.inner.EventRuns.{Leads}
 use Rattle.flat_simulation.specs.inner.Kept.{EventsKeep}
 use Rattle.flat_simulation.specs.inner.Level.{image, StagesMatch, StatesMatch}
@@ -40,18 +40,18 @@ use Rattle.flat_simulation.specs.inner.Threads.{StateStands}
 use Rattle.flat_simulation.proofs.AllEvents.{Stood, all_stand, events_stand}
 use Rattle.flat_simulation.proofs.EventKinds.{stands_begun, stands_at}
 use Rattle.flat_simulation.proofs.First.{names, first_stands, first_ids}
-use Rattle.flat_simulation.proofs.Follow.{TakeAnswers}
-use Rattle.flat_simulation.proofs.Followed.{steps_follow, steps_own}
+use Rattle.flat_simulation.proofs.Followed.{step_follows, steps_own}
 use Rattle.flat_simulation.proofs.Full.{act_enters}
 use Rattle.flat_simulation.proofs.GoingAlike.{before_same}
+use Rattle.flat_simulation.proofs.KindRuns.{up_to}
 use Rattle.flat_simulation.proofs.LinearActs.{MeetsStage, ActAlike, act_alike}
 use Rattle.flat_simulation.proofs.Made.{world_agrees}
 use Rattle.flat_simulation.proofs.Public.{state_stands}
 use Rattle.flat_simulation.proofs.Lying.{stage_lies}
 use Rattle.flat_simulation.proofs.OneProgram.{have_matching}
 use Rattle.flat_simulation.proofs.PastLimit.{act_prints}
-use Rattle.flat_simulation.proofs.Programs.{checked_image}
-use Rattle.flat_simulation.proofs.Whole.{events_keep, up_to}
+use Rattle.flat_simulation.proofs.Programs.{guarded_image}
+use Rattle.flat_simulation.proofs.Whole.{events_keep}
 use Rattle.flat_simulation.proofs.WordsCome.{StateComes, after_comes, first_state_comes}
 
 -- ---- names
@@ -68,7 +68,7 @@ same_names part all first each =
     let none : length first.0 ≡ 0 = omega (arith, each, e, f) in
     first.1 ∙ ap (λ l. part ++ l) (empty first.0 none) ∙ append-nil part
 
-module _ (p : Ir) (limits : Limits) (its : IsImage (structured_image p limits) p) (takes_answers : EachTurnTakesAnAnswer p) (keep : EventsKeep p limits) where
+module _ (p : Ir) (limits : Limits) (its : IsImage (structured_image p limits) p) (keep : EventsKeep p limits) where
   abbrev x : Image Position
   x = structured_image p limits
 
@@ -79,20 +79,20 @@ module _ (p : Ir) (limits : Limits) (its : IsImage (structured_image p limits) p
   all_come [] s come = come
   all_come (e ∷ es) s come = all_come es (after x s e) (after_comes p limits s e come)
 
-  module _ (names : List Name) (order : List Pick) (u : runs.State (Thread Position Own)) (s : State Position) (now : Stood p limits its takes_answers keep names order u s) where
+  module _ (names : List Name) (n : ℕ) (u : runs.State (Thread Position Own)) (s : State Position) (now : Stood p limits its keep names u s) where
     -- events that make no turn leave the source where it is
     no_turn : (later : State Position) (leads : Leads x s later [] [] []) → Next p limits names (ids_of leads.events) later u
     no_turn later leads =
         subst (λ (q : State Position). Next p limits names (ids_of leads.events) q u) leads.ends
-        (subst (λ picks. UpToABreak (run_from P picks (length order) u) (Next p limits names (ids_of leads.events) (after_all x leads.events s))) leads.order
-        (all_stand p limits its takes_answers keep leads.events names order u s now leads.allowed))
+        (subst (λ picks. UpToAKindFrom p picks n u (Next p limits names (ids_of leads.events) (after_all x leads.events s))) leads.order
+        (all_stand p limits its keep leads.events names n u s now leads.allowed))
 
     -- and the same names
     still_stands : (later : State Position) → Leads x s later [] [] [] → StateStands x p names u later
     still_stands later leads =
-        let n = no_turn later leads in
-        let each : length n.all ≡ length names = n.stands.world.blocks.names_stand.each ∙ sym now.stand.world.blocks.names_stand.each in
-        subst (λ l. StateStands x p l u later) (same_names names n.all n.first each) n.stands
+        let next = no_turn later leads in
+        let each : length next.all ≡ length names = next.stands.world.blocks.names_stand.each ∙ sym now.stand.world.blocks.names_stand.each in
+        subst (λ l. StateStands x p l u later) (same_names names next.all next.first each) next.stands
 
     -- ---- beside linear code
 
@@ -100,21 +100,18 @@ module _ (p : Ir) (limits : Limits) (its : IsImage (structured_image p limits) p
       abbrev y : Image Spot
       y = image D code' x.layout
 
-      takes : TakeAnswers p u
-      takes thread main own m o = takes_answers order u now.reached thread main own m o
-
       abbrev Alike : (thread : ℕ) → Choice → Type 0
       Alike thread choice = ActAlike x.layout structured D (start_in p) code' R one guarded s r thread choice
 
       alike : (thread : ℕ) (choice : Choice) → IsAllowed y r (act thread choice) → Alike thread choice
       alike thread choice may = act_alike x.layout structured D (start_in p) code' R one guarded s r match thread choice may
 
-      module _ (thread : ℕ) (choice : Choice) (a : Alike thread choice) where
+      module _ (thread : ℕ) (right : TakesRightKinds p u thread) (choice : Choice) (a : Alike thread choice) where
         stands : StateStands x p names u a.came
         stands = still_stands a.came a.leads
 
-        follow : structured_code.StepsFollow x p names u a.came
-        follow = steps_follow p limits its names u a.came stands takes
+        follow : StepFollows x p names u a.came thread
+        follow = step_follows p limits its names u a.came stands thread right
 
         -- ---- what it touches
 
@@ -144,35 +141,36 @@ module _ (p : Ir) (limits : Limits) (its : IsImage (structured_image p limits) p
               let at : StandsBefore x (own_at a.came.own thread) steps = subst (λ o. StandsBefore x o steps) (sym g.at) (stands_at x g.stage g.begun steps is') in
               let turns = picks_of x a.came (act thread choice) ++ tried_by x a.came (act thread choice) in
               subst (λ l. All Touching l) (λ i. a.picks i ++ a.tried i)
-              (All-weaker Reaching Touching (λ k f unbroken. touches k (f unbroken)) turns (steps_own p limits its names u a.came stands takes thread choice t g.stage i g.at a.allowed at))
+              (All-weaker Reaching Touching (λ k f unbroken. touches k (f unbroken)) turns (steps_own p limits its names u a.came stands thread right choice t g.stage i g.at a.allowed at))
 
-      -- ---- whatever step may come next
+      -- ---- whatever step of a thread may come next
 
-      steps_touch : (thread : ℕ) (choice : Choice) (t : Thread Position Own) (h : Stage Spot) → own_at u.own thread ≡ Some t → own_at r.own thread ≡ Some h → IsAllowed y r (act thread choice) → StandsBefore y (own_at r.own thread) steps
-          → All (λ (k : Pick). Unbroken (picked P u k) → StepTouches y p names u r k t (thread_at y h)) (picks_of y r (act thread choice) ++ tried_by y r (act thread choice))
-      steps_touch thread choice t h i e may at =
-          let b = stands_begun y h steps (subst (λ o. StandsBefore y o steps) e at) in
-          let a = alike thread choice may in
-          all_touch thread choice a t h (a.meets h e b.0) i b.1
+      module _ (thread : ℕ) (right : TakesRightKinds p u thread) where
+        step_touches : (choice : Choice) (t : Thread Position Own) (h : Stage Spot) → own_at u.own thread ≡ Some t → own_at r.own thread ≡ Some h → IsAllowed y r (act thread choice) → StandsBefore y (own_at r.own thread) steps
+            → All (λ (k : Pick). Unbroken (picked P u k) → StepTouches y p names u r k t (thread_at y h)) (picks_of y r (act thread choice) ++ tried_by y r (act thread choice))
+        step_touches choice t h i e may at =
+            let b = stands_begun y h steps (subst (λ o. StandsBefore y o steps) e at) in
+            let a = alike thread choice may in
+            all_touch thread right choice a t h (a.meets h e b.0) i b.1
 
-      linear_steps_follow : StepsFollow y p names u r
-      linear_steps_follow = record {
-        reaches = steps_touch;
-        waits = λ thread choice may end.
-            let a = alike thread choice may in
-            subst (λ l. AllComeOut p u Waits l) a.tried ((follow thread choice a).waits thread choice a.allowed (a.end ∙ end));
-        traps = λ thread choice may trap.
-            let a = alike thread choice may in
-            subst (λ l. AllComeOut p u Broken l) a.tried ((follow thread choice a).traps thread choice a.allowed (subst IsTrap (sym a.end) trap));
-        prints = λ thread choice may end.
-            let a = alike thread choice may in
-            subst (λ l. AllComeOut p u (PrintsPast limits.output) l) a.tried (act_prints p limits its names u a.came (stands thread choice a) takes a.allowed.0 thread choice a.allowed (a.end ∙ end));
-        calls = λ thread number choice t h i e b may end.
-            let a = alike thread choice may in
-            let g = a.meets h e b in
-            subst (λ l. AllComeOut p u (Enters t) l) a.tried
-            (act_enters p limits its names u a.came (stands thread choice a) takes a.allowed.0 thread number choice t g.stage i g.at g.begun a.allowed (a.end ∙ end));
-      }
+        linear_step_follows : LinearStepFollows y p names u r thread
+        linear_step_follows = record {
+          reaches = step_touches;
+          waits = λ choice may end.
+              let a = alike thread choice may in
+              subst (λ l. AllComeOut p u Waits l) a.tried ((follow thread right choice a).waits choice a.allowed (a.end ∙ end));
+          traps = λ choice may trap.
+              let a = alike thread choice may in
+              subst (λ l. AllComeOut p u Broken l) a.tried ((follow thread right choice a).traps choice a.allowed (subst IsTrap (sym a.end) trap));
+          prints = λ choice may end.
+              let a = alike thread choice may in
+              subst (λ l. AllComeOut p u (PrintsPast limits.output) l) a.tried (act_prints p limits its names u a.came (stands thread right choice a) a.allowed.0 thread right choice a.allowed (a.end ∙ end));
+          calls = λ number choice t h i e b may end.
+              let a = alike thread choice may in
+              let g = a.meets h e b in
+              subst (λ l. AllComeOut p u (Enters t) l) a.tried
+              (act_enters p limits its names u a.came (stands thread right choice a) a.allowed.0 thread right number choice t g.stage i g.at g.begun a.allowed (a.end ∙ end));
+        }
 
       lies : r.end ≡ None → (thread : ℕ) (h : Stage Spot) → own_at r.own thread ≡ Some h → HasStack y p thread names u h
       lies open_ thread h f = by (own_at u.own thread) refl (own_at s.own thread) ((state_stands x p its names u s now.stand).threads thread) (subst (λ o. StagesMatch structured D R (own_at s.own thread) o) f ((match.stages open_).each thread))
@@ -182,22 +180,22 @@ module _ (p : Ir) (limits : Limits) (its : IsImage (structured_image p limits) p
           by None e (Some g) there alike_ = absurd there
           by None e None there alike_ = absurd alike_
 
-      linear_follows : (ds : List Event) → AreMadeBy y ds names → Follows y p ds u r
+      linear_follows : (ds : List Event) → AreMadeBy y ds names → LinearStandsAfter y p ds u r
       linear_follows ds made = record {
         names = names;
         made = made;
         stacks = lies;
         world = subst (λ m. WorldStands names u.world m) (sym match.memory) (world_agrees x.layout p names u.world s.memory now.stand.world);
-        steps = linear_steps_follow;
+        steps = λ thread right. linear_step_follows thread right;
       }
 
 -- ---- all events
 
 -- events of structured code that come to the same as linear code's, after which that follows the source
 abbrev pub Found : (p : Ir) → Image Position → Image Spot → List Event → Type 0
-Found p x y ds = (es : List Event) × ComeToTheSame x es y ds × UpToABreak (runs.run (program_of p) (start p) (order_of x es (first_state x))) (λ u. Follows y p ds u (after_all y ds (first_state y)))
+Found p x y ds = (es : List Event) × ComeToTheSame x es y ds × UpToAKind p (order_of x es (first_state x)) (λ u. LinearStandsAfter y p ds u (after_all y ds (first_state y)))
 
-module _ (p : Ir) (c : IsChecked p) (output heaps heap ids : ℕ) (shape : IsShape heaps heap ids) where
+module _ (p : Ir) (c : IsGuarded p) (output heaps heap ids : ℕ) (shape : IsShape heaps heap ids) where
   abbrev its_limits : Limits
   its_limits = limits_for output heaps heap ids
 
@@ -210,18 +208,18 @@ module _ (p : Ir) (c : IsChecked p) (output heaps heap ids : ℕ) (shape : IsSha
       let y = image D code' first.layout in
       let f = have_matching first.layout structured D (start_in p) code' R one guarded ds may in
       let es = f.0 in
-      let its = checked_image p c output heaps heap ids in
+      let its = guarded_image p c output heaps heap ids in
       let keep = events_keep p its_limits its in
       let begin = names p c output heaps heap ids shape in
       let order = order_of first es (first_state first) in
       let s = after_all first es (first_state first) in
       let r = after_all y ds (first_state y) in
-      let come = all_come p its_limits its c.answers keep es (first_state first) (first_state_comes p its_limits) in
-      let all = events_stand p its_limits its c.answers keep begin (first_state first) (first_stands p c output heaps heap ids shape) (first_state_comes p its_limits) es f.1.allowed in (
+      let come = all_come p its_limits its keep es (first_state first) (first_state_comes p its_limits) in
+      let all = events_stand p its_limits its keep begin (first_state first) (first_stands p c output heaps heap ids shape) (first_state_comes p its_limits) es f.1.allowed in (
         es,
         f.1,
-        up_to (runs.run (program_of p) (start p) order) (Next p its_limits begin (ids_of es) s) (λ u. Follows y p ds u r) (λ u reached n.
-            linear_follows p its_limits its c.answers keep n.all order u s (record { stand = n.stands; come = come; reached = reached }) D code' R one guarded r f.2 ds
+        up_to (runs.run (program_of p) (start p) order) (Next p its_limits begin (ids_of es) s) (λ u. LinearStandsAfter y p ds u r) (MeetsWrongKind p order 0 (runs.first_state (program_of p) (start p))) (λ u reached n.
+            linear_follows p its_limits its keep n.all 0 u s (record { stand = n.stands; come = come }) D code' R one guarded r f.2 ds
             (record { loaded = n.first; ids = n.ids ∙ ap (λ l. l ++ ids_of es) (first_ids p c output heaps heap ids shape) ∙ f.3 fit })) all,
       )
 

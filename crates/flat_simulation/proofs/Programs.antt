@@ -1,4 +1,4 @@
--- What is kept of checked code as it is loaded, and where the stack objects of its calls lie.
+-- What is kept of guarded code as it is loaded, and where the stack objects of its calls lie.
 use Rattle.std.proofs.Common.{◌≡◌, ℕ, ◌+◌, ◌<◌, ◌≤◌, List, option_map, Some, refl, sym, ap, subst, ◌∙◌, arith}
 use Rattle.std.specs.Prelude.{slice_get, true}
 use Rattle.std.proofs.lemmas.Option.{slice_get-map}
@@ -15,6 +15,7 @@ use Rattle.struct_ir.specs.meaning.Threads.{start_in}
 use Rattle.flat_meaning.specs.Image.{Image, Frame, func_frame, frame_if, frame_of, limits_for, structured_image, plain_size, objects_bytes}
 use Rattle.flat_meaning.specs.Words.{Words}
 use Rattle.flat_meaning.specs.Simulation.{IsChecked}
+use Rattle.flat_simulation.specs.Kinds.{IsGuarded}
 use Rattle.flat_simulation.specs.inner.Calls.{objects_in}
 use Rattle.flat_simulation.specs.inner.Frames.{FrameLies}
 use Rattle.flat_simulation.specs.inner.Lags.{LieLow}
@@ -22,14 +23,18 @@ use Rattle.flat_simulation.specs.inner.Programs.{IsImage, HasFrame}
 use Rattle.flat_simulation.proofs.Frames.{frame_lies}
 use Rattle.flat_simulation.proofs.Sized.{HereIsSized, sized_is_reached}
 
--- ---- checked code
+-- ---- guarded code
+
+-- checked code is guarded
+pub guarded_of : (p : Ir) → IsChecked p → IsGuarded p
+guarded_of p c = record { valid = c.valid; sized = c.sized; safe = c.safe; main = c.main; params = c.params; inits = c.inits; small = c.small }
 
 -- where a function begins
 begins_there : (p : Ir) (n : ℕ) (f : Func) → slice_get p.funcs n ≡ Some f → start_in p n ≡ then_ f.nodes done
 begins_there p n f at = ap (λ o. then_ (nodes_of o) done) at
 
-pub checked_image : (p : Ir) → IsChecked p → (output heaps heap ids : ℕ) → IsImage (structured_image p (limits_for output heaps heap ids)) p
-checked_image p c output heaps heap ids = record {
+pub guarded_image : (p : Ir) → IsGuarded p → (output heaps heap ids : ℕ) → IsImage (structured_image p (limits_for output heaps heap ids)) p
+guarded_image p c output heaps heap ids = record {
   frames = refl;
   globals = refl;
   literals = refl;

@@ -2,7 +2,6 @@
 use Rattle.std.proofs.Common.{◌≡◌, ℕ, suc, ◌+◌, List, [], ◌∷◌, ◌++◌, length, Option, Some, None, refl, ap, ◌∙◌, arith}
 use Rattle.block_store.specs.Actions.{World}
 use Rattle.block_store.specs.Runs.{Turn, went, ended, blocked, unfit, broke, Program, State, Pick, Run, reaches, breaks, no_run, picked, goes_on, run_from, run, first_state, next_state}
-use Rattle.flat_meaning.specs.Simulation.{UpToABreak}
 
 -- from where a run comes to on
 abbrev pub and_run : {A : Type 0} → Run A → (State A → Run A) → Run A
@@ -34,14 +33,3 @@ module _ {A : Type 0} (P : Program A) where
   reached_then w order picks u v e f =
       let zero_more : 0 + length order ≡ length order = omega arith in
       run_from-append order picks 0 (first_state P w) ∙ (λ i. and_run (e i) (λ v. run_from P picks (zero_more i) v)) ∙ f
-
--- what holds up to a break holds behind it
-pub up_then : {A : Type 0} (w : Run A) (go : State A → Run A) (B D : State A → Type 0) → UpToABreak w B → ((v : State A) → w ≡ reaches v → B v → UpToABreak (go v) D) → UpToABreak (and_run w go) D
-up_then (reaches u) go B D h then_ = then_ u refl h
-up_then (breaks rule k) go B D h then_ = tt
-up_then (no_run k) go B D h then_ = absurd h
-
-pub up_map : {A : Type 0} (w : Run A) (B D : State A → Type 0) → ((v : State A) → B v → D v) → UpToABreak w B → UpToABreak w D
-up_map (reaches u) B D f h = f u h
-up_map (breaks rule k) B D f h = tt
-up_map (no_run k) B D f h = absurd h

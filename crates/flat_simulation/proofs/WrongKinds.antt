@@ -69,8 +69,12 @@ module _ (p : Ir) (thread : ℕ) where
     then_wrong (broke f) e = e
     then_wrong unfit e = absurd cc
 
-  -- a turn that takes some answer meets no value of a wrong kind, whatever its answer
+  -- a turn that meets one does so whatever its answer
+  pub wrong_whatever : (one other : Answer) (k : Thread Position Own) (w : World) → source_turn p thread one k w ≡ broke wrong_kind → source_turn p thread other k w ≡ broke wrong_kind
+  wrong_whatever one other k w e = then_wrong one other (local_event structured (blocks_machine p) (blocks_world p thread) k w) e
+
+  -- so one that takes some answer meets none
   pub right_kind : (one other : Answer) (k : Thread Position Own) (w : World) → (program_of p).turn thread other k w ≢ runs.unfit → source_turn p thread one k w ≢ broke wrong_kind
   right_kind one other k w fits e =
-      let z = then_wrong one other (local_event structured (blocks_machine p) (blocks_world p thread) k w) e in
+      let z = wrong_whatever one other k w e in
       fits (ap (λ o. turned o) z)
