@@ -1,14 +1,20 @@
--- No step of a journal of checked code leaves its object, as long as no rule of C was broken.
-use Rattle.std.proofs.Common.{◌≡◌, ◌==◌, List, [], ◌∷◌, ◌++◌, length, Some, None, sym, ap, subst, ◌∙◌}
+-- No step of a journal of guarded code leaves its object, as long as no rule of C was broken, and no operation was on a value of a kind that it
+-- doesn't take; so none of checked code does.
+use Rattle.std.proofs.Common.{◌≡◌, ◌==◌, List, [], ◌∷◌, ◌++◌, length, replicate, Some, None, sym, ap, subst, ◌∙◌}
 use Rattle.std.specs.Prelude.{option_and_then, if◌then◌else◌}
 use Rattle.std.proofs.lemmas.Option.{option_and_then_some}
 use Rattle.ak_trace.specs.declared.entry.Entry.{Entry}
 use Rattle.ak_trace.specs.Kinds as kind
+use Rattle.block_store.specs.declared.values.Answer.TheVariants as answers_of
 use Rattle.struct_ir.specs.Nodes.{Ir}
 use Rattle.struct_ir.specs.Emitted.{IsEmitted}
 use Rattle.struct_ir.specs.Instrs.{LinearCode}
 use Rattle.struct_ir.specs.Lawful.{AllLawful}
-use Rattle.flat_meaning.specs.Simulation.{IsChecked}
+use Rattle.flat_meaning.specs.Events.{after_serves, served_state}
+use Rattle.flat_meaning.specs.Journals.{journal_picks}
+use Rattle.flat_meaning.specs.Order.{pick, picks_of_serves}
+use Rattle.flat_meaning.specs.Simulation.{EachTurnTakesAnAnswer}
+use Rattle.flat_meaning.specs.Start.{served_ids}
 use Rattle.flat_rules.specs.declared.settings.Settings.{Settings}
 use Rattle.flat_rules.specs.Replays as replays
 use Rattle.flat_rules.specs.Replays.{settled, step}
@@ -21,22 +27,26 @@ use Rattle.world_rules.proofs.Invariant.{none_ends}
 use Rattle.world_rules.proofs.Walks.{at_entry, due_served}
 use Rattle.flat_machine.specs.Machine.{machine_of}
 use Rattle.flat_machine.specs.Replays.{replay}
-use Rattle.flat_machine.specs.Shares.{Shared}
+use Rattle.flat_machine.specs.Shares.{Shared, image_of}
 use Rattle.flat_machine.specs.Start.{first_shared, settings_limits}
-use Rattle.flat_simulation.specs.LinearEvents.{LinearCodeFollowsTurns}
-use Rattle.flat_replay.specs.Accesses.{ServesStay, TurnStays}
-use Rattle.flat_replay.specs.Laws.{AccessesOfJournalsStay}
-use Rattle.flat_replay.proofs.FirstBreak.{checked_fits}
+use Rattle.flat_simulation.specs.Kinds.{IsGuarded, TakesRightKinds, LinearCodeFollowsCode}
+use Rattle.flat_simulation.proofs.Programs.{guarded_of}
+use Rattle.flat_simulation.proofs.Whole.{up_to_a_break}
+use Rattle.flat_replay.specs.Accesses.{ActStays, ServeStays, StandsBy, ServesStay, TurnStays, gone_to, swept_first}
+use Rattle.flat_replay.specs.Ids.{ids_told}
+use Rattle.flat_replay.specs.Kinds.{ServesStayUpToAKind, TurnStaysUpToAKind}
+use Rattle.flat_replay.specs.Laws.{AccessesOfJournalsStay, AccessesOfGuardedJournalsStay}
+use Rattle.flat_replay.proofs.FirstBreak.{guarded_fits}
 use Rattle.flat_replay.proofs.Journal.{Holding, holding, told_now}
 use Rattle.flat_replay.proofs.ServeAccesses.{serves_here}
 use Rattle.flat_replay.proofs.TurnAccesses.{turn_here}
 
-module _ (follow : LinearCodeFollowsTurns) (p : Ir) (checked : IsChecked p) (code : LinearCode) (emitted : IsEmitted p code) (lawful : AllLawful code.funcs) (program : IsProgram code) (s : Settings) where
+module _ (follow : LinearCodeFollowsCode) (p : Ir) (guarded : IsGuarded p) (code : LinearCode) (emitted : IsEmitted p code) (lawful : AllLawful code.funcs) (program : IsProgram code) (s : Settings) where
   -- an entry that begins an event, and the state before it
   module _ (before : List Entry) (e : Entry) (x y : State Shared Context) (ran : replays.run (machine_of code) (rules_of s) before (start (machine_of code) (rules_of s) (first_shared code (settings_limits s))) ≡ Some x)
       (st : step (machine_of code) (rules_of s) x e ≡ Some y) (first : e.kind ≡ kind.served → ⊥) where
     holds : Holding code (rules_of s) program (settings_limits s) before x
-    holds = holding code s program (checked_fits p checked code emitted s) before x ran
+    holds = holding code s program (guarded_fits p guarded code emitted s) before x ran
 
     none_due : x.due ≡ []
     none_due = step_cases (machine_of code) (rules_of s) x e y {R = x.due ≡ []}
@@ -49,14 +59,14 @@ module _ (follow : LinearCodeFollowsTurns) (p : Ir) (checked : IsChecked p) (cod
     leads : replay code s before ≡ Some x
     leads = ap (option_and_then (settled (machine_of code) (rules_of s))) ran ∙ ap (λ (due : List Entry). if length due == 0 then Some x else None) none_due
 
-    turn_stays : e.kind ≡ kind.turn → TurnStays p code s before e
+    turn_stays : e.kind ≡ kind.turn → TurnStaysUpToAKind p code s before e
     turn_stays is =
-        turn_here p code s program (λ es allowed. (follow p checked code emitted lawful program.valid s.output s.subheaps s.subheap s.ids (checked_fits p checked code emitted s).shape es allowed).follows)
+        turn_here p code s program (λ es allowed. (follow p guarded code emitted lawful program.valid s.output s.subheaps s.subheap s.ids (guarded_fits p guarded code emitted s).shape es allowed).follows)
         before x leads holds.good (told_now code (settings_limits s) before x none_due holds.told) going e y is st none_due
 
-    serves_stay : e.kind ≡ kind.barrier → ServesStay p code s before e
+    serves_stay : e.kind ≡ kind.barrier → ServesStayUpToAKind p code s before e
     serves_stay is =
-        serves_here p code s program (λ es allowed. (follow p checked code emitted lawful program.valid s.output s.subheaps s.subheap s.ids (checked_fits p checked code emitted s).shape es allowed).follows)
+        serves_here p code s program (λ es allowed. (follow p guarded code emitted lawful program.valid s.output s.subheaps s.subheap s.ids (guarded_fits p guarded code emitted s).shape es allowed).follows)
         before x leads holds.good (told_now code (settings_limits s) before x none_due holds.told) going e y is st none_due
 
   module _ (log : List Entry) (z : State Shared Context) (replayed : replay code s log ≡ Some z) where
@@ -68,10 +78,68 @@ module _ (follow : LinearCodeFollowsTurns) (p : Ir) (checked : IsChecked p) (cod
         at_entry (machine_of code) (rules_of s) (start (machine_of code) (rules_of s) (first_shared code (settings_limits s))) before e more w (ap (λ (es : List Entry). replays.run (machine_of code) (rules_of s) es (start (machine_of code) (rules_of s) (first_shared code (settings_limits s)))) (sym is) ∙ ran) {R = R before e}
         (λ x y was st after. holds_there before e x y was st))
 
-pub accesses_of_journals_stay : LinearCodeFollowsTurns → AccessesOfJournalsStay
-accesses_of_journals_stay follow p checked code emitted lawful program s log z replayed = record {
-  turns = λ front e more is k. each follow p checked code emitted lawful program s log z replayed (λ before d. d.kind ≡ kind.turn → TurnStays p code s before d)
-      (λ before d x y ran st kind_is. turn_stays follow p checked code emitted lawful program s before d x y ran st (λ served. let bad : kind.turn ≡ kind.served = sym kind_is ∙ served in cc) kind_is) front e more is k;
-  served = λ front e more is k. each follow p checked code emitted lawful program s log z replayed (λ before d. d.kind ≡ kind.barrier → ServesStay p code s before d)
-      (λ before d x y ran st kind_is. serves_stay follow p checked code emitted lawful program s before d x y ran st (λ served. let bad : kind.barrier ≡ kind.served = sym kind_is ∙ served in cc) kind_is) front e more is k;
+pub accesses_of_guarded_journals_stay : LinearCodeFollowsCode → AccessesOfGuardedJournalsStay
+accesses_of_guarded_journals_stay follow p guarded code emitted lawful program s log z replayed = record {
+  turns = λ front e more is k. each follow p guarded code emitted lawful program s log z replayed (λ before d. d.kind ≡ kind.turn → TurnStaysUpToAKind p code s before d)
+      (λ before d x y ran st kind_is. turn_stays follow p guarded code emitted lawful program s before d x y ran st (λ served. let bad : kind.turn ≡ kind.served = sym kind_is ∙ served in cc) kind_is) front e more is k;
+  served = λ front e more is k. each follow p guarded code emitted lawful program s log z replayed (λ before d. d.kind ≡ kind.barrier → ServesStayUpToAKind p code s before d)
+      (λ before d x y ran st kind_is. serves_stay follow p guarded code emitted lawful program s before d x y ran st (λ served. let bad : kind.barrier ≡ kind.served = sym kind_is ∙ served in cc) kind_is) front e more is k;
 }
+
+-- ---- of checked code
+
+module _ (p : Ir) (answers : EachTurnTakesAnAnswer p) (code : LinearCode) (s : Settings) (log : List Entry) (e : Entry) where
+  turn_of : TurnStaysUpToAKind p code s log e → TurnStays p code s log e
+  turn_of t = record {
+    here = t.here;
+    leads = t.leads;
+    context = t.context;
+    count = t.count;
+    mood = t.mood;
+    is_out = t.is_out;
+    stage = t.stage;
+    comes_to = t.comes_to;
+    stop = t.stop;
+    stops = t.stops;
+    alone = t.alone;
+    next = t.next;
+    goes = t.goes;
+    memory = t.memory;
+    ending = t.ending;
+    turns = t.turns;
+    keeps = λ choice is.
+        let y = image_of code t.here.shared in
+        let moved = gone_to t.here e.thread t.stage in
+        up_to_a_break p answers (journal_picks log ++ replicate e.local (pick e.thread answers_of.Plain))
+        (λ u. StandsBy y p (ids_told log) u moved × (TakesRightKinds p u e.thread → ActStays y p (ids_told log) u moved e.thread choice t.stage)) (λ u. ActStays y p (ids_told log) u moved e.thread choice t.stage)
+        (λ u right h. h.1 (right e.thread)) (t.keeps choice is);
+  }
+
+  serves_of : ServesStayUpToAKind p code s log e → ServesStay p code s log e
+  serves_of t = record {
+    here = t.here;
+    leads = t.leads;
+    alone = t.alone;
+    next = t.next;
+    goes = t.goes;
+    memory = t.memory;
+    keeps = λ vs v us is.
+        let y = image_of code t.here.shared in
+        let given = ids_told log ++ served_ids vs in
+        let served = served_state (after_serves y vs (swept_first code t.here)) in
+        let k = t.keeps vs v us is in (
+          k.0,
+          k.1,
+          up_to_a_break p answers (journal_picks log ++ picks_of_serves y vs (swept_first code t.here))
+              (λ u. StandsBy y p given u served × (TakesRightKinds p u v.thread → ServeStays y p given u served v k.0)) (λ u. ServeStays y p given u served v k.0)
+              (λ u right h. h.1 (right v.thread)) k.2,
+        );
+  }
+
+pub accesses_of_journals_stay : AccessesOfGuardedJournalsStay → AccessesOfJournalsStay
+accesses_of_journals_stay stay p checked code emitted lawful program s log z replayed =
+    let all = stay p (guarded_of p checked) code emitted lawful program s log z replayed in
+    record {
+      turns = λ front e more is k. turn_of p checked.answers code s front e (all.turns front e more is k);
+      served = λ front e more is k. serves_of p checked.answers code s front e (all.served front e more is k);
+    }

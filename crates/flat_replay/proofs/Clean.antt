@@ -1,4 +1,5 @@
--- A journal without a broken rule: its order comes to a state that stands for the machine's, and no turn that is tried breaks a rule.
+-- A journal without a broken rule, and without an operation on a value of a kind that it doesn't take: its order comes to a state that stands for
+-- the machine's, and no turn that is tried breaks a rule, or is such an operation.
 use Rattle.std.proofs.Common.{◌≡◌, ℕ, ◌+◌, List, [], ◌∷◌, ◌++◌, length, map, Option, refl, sym, ap, ◌∙◌, subst, arith, append-nil}
 use Rattle.std.specs.Prelude.{Any, take, ◌⊎◌}
 use mathlib.Core.Logic.{inl, inr}
@@ -24,21 +25,18 @@ use Rattle.flat_meaning.specs.Image.{Image}
 use Rattle.flat_meaning.specs.Journals.{journal_picks}
 use Rattle.flat_meaning.specs.Order.{Attempt, attempts_of, order_of, pick, picks_of, tried_by}
 use Rattle.flat_meaning.specs.Reaching.{Broken}
-use Rattle.flat_meaning.specs.Simulation.{UpToABreak}
+use Rattle.flat_simulation.specs.Kinds.{TakesRightKinds, MeetsWrongKind, UpTo, UpToAKind}
 use Rattle.flat_simulation.proofs.EventRuns.{attempts_of-append, order_of-append}
 use Rattle.flat_replay.specs.Attempts.{attempts_from, placed}
-use Rattle.flat_replay.specs.Meaning.{IsClean, by_turn, by_attempt, tried_with}
+use Rattle.flat_replay.specs.Kinds.{NeverStops, in_order, in_attempt}
+use Rattle.flat_replay.specs.Meaning.{by_turn, by_attempt, tried_with}
 use Rattle.flat_replay.proofs.GotBreaks.{got_tried, plain_with}
-
--- how many calls of a thread wait
-abbrev pub depth_of : Thread Position Own → ℕ
-depth_of t = length t.callers
 
 -- what a thread's turn comes to if it is tried
 abbrev pub tries_turn : Ir → runs.State (Thread Position Own) → (thread : ℕ) → Option (runs.Turn (Thread Position Own))
 tries_turn p u thread = tried_with (picked (program_of p) u (pick thread answers.Plain)) (picked (program_of p) u (pick thread answers.Got))
 
-module _ (p : Ir) (log : List Entry) (end : Option End) (clean : IsClean (program_of p) (start p) depth_of log end) where
+module _ (p : Ir) (log : List Entry) (end : Option End) (clean : NeverStops p log end) where
   -- ---- where the order comes to
 
   -- the run of all turns comes to a state of which this holds
@@ -48,15 +46,15 @@ module _ (p : Ir) (log : List Entry) (end : Option End) (clean : IsClean (progra
     pub so : A state
 
   -- no turn breaks a rule, so the run comes to a state
-  pub reached : (order : List Pick) → order ≡ journal_picks log → (A : runs.State (Thread Position Own) → Type 0) → UpToABreak (run (program_of p) (start p) order) A → Reaches A
+  pub reached : (order : List Pick) → order ≡ journal_picks log → (A : runs.State (Thread Position Own) → Type 0) → UpToAKind p order A → Reaches A
   reached order same A up = by (run (program_of p) (start p) order) refl up where
     whole : run (program_of p) (start p) (journal_picks log) ≡ run (program_of p) (start p) order
     whole = ap (run (program_of p) (start p)) (sym same)
 
-    by : (r : Run (Thread Position Own)) → run (program_of p) (start p) order ≡ r → UpToABreak r A → Reaches A
+    by : (r : Run (Thread Position Own)) → run (program_of p) (start p) order ≡ r → UpTo r A (MeetsWrongKind p order 0 (runs.first_state (program_of p) (start p))) → Reaches A
     by (reaches u) is so = record { state = u; is = whole ∙ is; so = so }
-    by (breaks rule k) is so = absurd (clean k (by_turn rule (whole ∙ is)))
-    by (no_run k) is so = absurd so
+    by (breaks rule k) is so = absurd (clean k (inl (by_turn rule (whole ∙ is))))
+    by (no_run k) is so = absurd (clean k (inr (in_order (subst (λ (picks : List Pick). MeetsWrongKind p picks 0 (runs.first_state (program_of p) (start p)) k) same so))))
 
   -- and to one alone
   pub same_state : (u v : runs.State (Thread Position Own)) → run (program_of p) (start p) (journal_picks log) ≡ reaches u → run (program_of p) (start p) (journal_picks log) ≡ reaches v → u ≡ v
@@ -71,7 +69,12 @@ module _ (p : Ir) (log : List Entry) (end : Option End) (clean : IsClean (progra
   -- it breaks no rule
   pub tried_whole : (u : runs.State (Thread Position Own)) → run (program_of p) (start p) (journal_picks log) ≡ reaches u → (thread : ℕ) → Any (λ (a : ℕ × ℕ). a ≡ (thread, length (journal_picks log))) (attempts_from 0 log)
       → Broken (tries_turn p u thread) → ⊥
-  tried_whole u e thread any broken = clean (length (journal_picks log)) (by_attempt thread u any (all_turns u e) broken)
+  tried_whole u e thread any broken = clean (length (journal_picks log)) (inl (by_attempt thread u any (all_turns u e) broken))
+
+  -- and takes the kinds that it is given
+  pub tried_right : (u : runs.State (Thread Position Own)) → run (program_of p) (start p) (journal_picks log) ≡ reaches u → (thread : ℕ) → Any (λ (a : ℕ × ℕ). a ≡ (thread, length (journal_picks log))) (attempts_from 0 log)
+      → TakesRightKinds p u thread
+  tried_right u e thread any answer wrong = clean (length (journal_picks log)) (inr (in_attempt thread answer u any (all_turns u e) wrong))
 
   -- told Plain or Got
   pub told_broken : (u : runs.State (Thread Position Own)) (thread : ℕ) (answer : Answer) → (answer ≡ answers.Plain) ⊎ (answer ≡ answers.Got) → Broken (picked (program_of p) u (pick thread answer)) → Broken (tries_turn p u thread)

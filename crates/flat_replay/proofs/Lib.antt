@@ -37,6 +37,7 @@ pub mod TurnAccesses
 pub mod ServeAccesses
 pub mod Accesses
 pub mod AccessRows
+pub mod KindRows
 pub mod Whole
 pub mod Transport
 pub mod Source

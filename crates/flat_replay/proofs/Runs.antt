@@ -1,17 +1,16 @@
 -- Runs of an order's first turns.
-use Rattle.std.proofs.Common.{◌≡◌, ℕ, suc, ◌+◌, ◌<◌, List, [], ◌∷◌, length, take, drop, Option, Some, None, sym, ap, ◌∙◌, arith}
-use Rattle.std.specs.Prelude.{◌≢◌}
+use Rattle.std.proofs.Common.{◌≡◌, ℕ, suc, ◌+◌, ◌<◌, List, [], ◌∷◌, length, take, drop, Option, Some, None, sym, ap, subst, ◌∙◌, arith}
 use Rattle.std.proofs.lemmas.List.{length-take, take-append-drop}
 use Rattle.ak_words.specs.declared.rule.Rule.{Rule}
 use Rattle.block_store.specs.Runs.{Turn, went, ended, blocked, unfit, broke, Program, State, Pick, Run, reaches, breaks, no_run, picked, goes_on, run_from, next_state}
-use Rattle.flat_meaning.specs.Simulation.{UpToABreak}
+use Rattle.flat_simulation.specs.Kinds.{UpTo}
 use Rattle.flat_simulation.proofs.SourceRuns.{and_run, run_from-append}
 
--- a run of which something holds up to a break is one
-pub runs_up_to : {A : Type 0} (r : Run A) (R : State A → Type 0) → UpToABreak r R → (k : ℕ) → r ≢ no_run k
-runs_up_to (reaches u) R h k e = cc
-runs_up_to (breaks rule j) R h k e = cc
-runs_up_to (no_run j) R h k e = absurd h
+-- a run of which something holds up to where W does is one up to there
+pub runs_up_to : {A : Type 0} (r : Run A) (R : State A → Type 0) (W : ℕ → Type 0) → UpTo r R W → (k : ℕ) → r ≡ no_run k → W k
+runs_up_to (reaches u) R W h k e = absurd cc
+runs_up_to (breaks rule j) R W h k e = absurd cc
+runs_up_to (no_run j) R W h k e = let same : j ≡ k = cc in subst W same h
 
 module _ {A : Type 0} (P : Program A) where
   -- what breaks a rule is one of its turns

@@ -3,13 +3,11 @@ use Rattle.std.proofs.Common.{◌≡◌, List, [], ◌∷◌, ◌++◌, Some, No
 use Rattle.std.specs.Prelude.{count_by}
 use Rattle.ak_trace.specs.declared.entry.Entry.{Entry}
 use Rattle.ak_trace.specs.Kinds as kind
-use Rattle.block_store.specs.Runs.{Pick, own_at, run}
+use Rattle.block_store.specs.Runs.{Pick, own_at}
 use Rattle.struct_ir.specs.Nodes.{Ir}
 use Rattle.struct_ir.specs.Instrs.{LinearCode}
 use Rattle.struct_ir.specs.Linear.{Spot}
 use Rattle.struct_ir.specs.Threads.{Thread}
-use Rattle.struct_ir.specs.meaning.Start.{start}
-use Rattle.struct_ir.specs.meaning.Threads.{program_of}
 use Rattle.defrag_move.proofs.Kept.{IsConsistent-after_plan}
 use Rattle.flat_meaning.specs.Allowed.{AreAllowed, MayServe, MayServeAll, pinned}
 use Rattle.flat_meaning.specs.Events as events
@@ -17,7 +15,6 @@ use Rattle.flat_meaning.specs.Events.{Serve, after_all, after_serves, barrier, f
 use Rattle.flat_meaning.specs.Image.{Image, Limits, linear_image}
 use Rattle.flat_meaning.specs.Journals.{journal_picks}
 use Rattle.flat_meaning.specs.Order.{order_of, picks_of_serves}
-use Rattle.flat_meaning.specs.Simulation.{UpToABreak}
 use Rattle.flat_meaning.specs.Stages.{waiting}
 use Rattle.flat_meaning.specs.Start.{served_ids}
 use Rattle.flat_meaning.specs.Words.{Words}
@@ -36,10 +33,11 @@ use Rattle.flat_machine.specs.Shares.{Shared, image_of}
 use Rattle.flat_machine.specs.Start.{settings_limits}
 use Rattle.flat_machine.specs.Sweeping.{at_home, stages_home, sweep_moves, sweep_serves}
 use Rattle.flat_machine.specs.lemmas.Homes.{after_serves-append}
-use Rattle.flat_simulation.specs.LinearSteps.{Follows}
+use Rattle.flat_simulation.specs.Kinds.{TakesRightKinds, UpToAKind, LinearStandsAfter}
 use Rattle.flat_simulation.proofs.AllocationsFit.{allocations_fit}
 use Rattle.flat_simulation.proofs.ServedSteps.{IsServing}
-use Rattle.flat_replay.specs.Accesses.{ServeStays, ServesStay, swept_first}
+use Rattle.flat_replay.specs.Accesses.{ServeStays, StandsBy, swept_first}
+use Rattle.flat_replay.specs.Kinds.{ServesStayUpToAKind}
 use Rattle.flat_replay.specs.Ids.{ids_told}
 use Rattle.flat_replay.specs.Journals.{image_for}
 use Rattle.flat_replay.proofs.Barriers.{Sweeps, SweepsIf, sweeps_if}
@@ -51,7 +49,7 @@ use Rattle.flat_replay.proofs.Told.{Told}
 
 module _ (p : Ir) (code : LinearCode) (s : Settings) (program : IsProgram code)
     (follows : (es : List events.Event) → AreAllowed (image_for code s) es (first_state (image_for code s))
-    → UpToABreak (run (program_of p) (start p) (order_of (image_for code s) es (first_state (image_for code s)))) (λ u. Follows (image_for code s) p es u (after_all (image_for code s) es (first_state (image_for code s)))))
+    → UpToAKind p (order_of (image_for code s) es (first_state (image_for code s))) (λ u. LinearStandsAfter (image_for code s) p es u (after_all (image_for code s) es (first_state (image_for code s)))))
     (log : List Entry) (x : State Shared Context) (leads : replay code s log ≡ Some x) (good : Good code (rules_of s) x) (told : Told code (settings_limits s) log x) (going : x.ending ≡ None) where
   abbrev loaded : Image Spot
   loaded = image_for code s
@@ -109,7 +107,7 @@ module _ (p : Ir) (code : LinearCode) (s : Settings) (program : IsProgram code)
       }
 
       stays : (q : Thread Spot Words) × (own_at r.own v.thread ≡ Some (waiting q))
-          × UpToABreak (run (program_of p) (start p) (journal_picks log ++ picks_of_serves (image_of code x.shared) vs (swept_first code x))) (λ u. ServeStays (image_of code x.shared) p (ids_told log ++ served_ids vs) u (served_state r) v q)
+          × UpToAKind p (journal_picks log ++ picks_of_serves (image_of code x.shared) vs (swept_first code x)) (λ u. StandsBy (image_of code x.shared) p (ids_told log ++ served_ids vs) u (served_state r) × (TakesRightKinds p u v.thread → ServeStays (image_of code x.shared) p (ids_told log ++ served_ids vs) u (served_state r) v q))
       stays =
           let at_loaded : Comes loaded here (served_state r) (picks_of_serves (image_of code x.shared) vs (swept_first code x)) (λ turns. []) (served_ids vs) =
           subst (λ (limits : Limits). Comes (linear_image code limits) here (served_state r) (picks_of_serves (image_of code x.shared) vs (swept_first code x)) (λ turns. []) (served_ids vs)) told.same first_part in
@@ -118,13 +116,13 @@ module _ (p : Ir) (code : LinearCode) (s : Settings) (program : IsProgram code)
           (subst (λ (z : events.State Spot). Comes loaded z (served_state r) (picks_of_serves (image_of code x.shared) vs (swept_first code x)) (λ turns. []) (served_ids vs)) (sym here_is) at_loaded) in (
             who.thread,
             who.is,
-            subst (λ (limits : Limits). UpToABreak (run (program_of p) (start p) (journal_picks log ++ picks_of_serves (image_of code x.shared) vs (swept_first code x))) (λ u. ServeStays (linear_image code limits) p (ids_told log ++ served_ids vs) u (served_state r) v who.thread)) (sym told.same)
+            subst (λ (limits : Limits). UpToAKind p (journal_picks log ++ picks_of_serves (image_of code x.shared) vs (swept_first code x)) (λ u. StandsBy (linear_image code limits) p (ids_told log ++ served_ids vs) u (served_state r) × (TakesRightKinds p u v.thread → ServeStays (linear_image code limits) p (ids_told log ++ served_ids vs) u (served_state r) v who.thread))) (sym told.same)
                 (run_serve_stays loaded p follows (allocations_fit code program.valid) r (serving_all (image_of code x.shared) vs slid begins may.0) _ _ _ all v who.thread on who.is may_loaded),
           )
 
   -- an entry of a barrier
-  pub serves_here : (e : Entry) (next : State Shared Context) → e.kind ≡ kind.barrier → step (machine_of code) (rules_of s) x e ≡ Some next → x.due ≡ [] → ServesStay p code s log e
-  serves_here e next is st none = step_cases (machine_of code) (rules_of s) x e next {R = ServesStay p code s log e}
+  pub serves_here : (e : Entry) (next : State Shared Context) → e.kind ≡ kind.barrier → step (machine_of code) (rules_of s) x e ≡ Some next → x.due ≡ [] → ServesStayUpToAKind p code s log e
+  serves_here e next is st none = step_cases (machine_of code) (rules_of s) x e next {R = ServesStayUpToAKind p code s log e}
       (λ n. absurd (let z : [] ≡ n.d ∷ n.ds = sym none ∙ n.due in cc z))
       (λ f.
       let sweep : Sweeps (machine_of code) (rules_of s) x e.worker f.v = subst (Holds (machine_of code) (rules_of s) x e.worker (SweepsIf (machine_of code) (rules_of s) x e.worker)) f.event (event_holds (machine_of code) (rules_of s) x e.worker (SweepsIf (machine_of code) (rules_of s) x e.worker) (sweeps_if (machine_of code) (rules_of s) x e.worker) e.kind e.thread) f.d f.ds f.entries (sym (same_kind e f.d f.same) ∙ is) in

@@ -26,15 +26,15 @@ use Rattle.flat_meaning.specs.Memory.{Memory, words_leaving}
 use Rattle.flat_meaning.specs.Order.{act_picks, answer_here, order_of, pick_if, picks_of, picks_of_act, picks_of_serve, tried_by}
 use Rattle.flat_meaning.specs.Ready.{is_allocation, takes_room}
 use Rattle.flat_meaning.specs.Reaching.{Unbroken}
-use Rattle.flat_meaning.specs.Simulation.{UpToABreak}
 use Rattle.flat_meaning.specs.Stages.{Stage, before, going, landed, starts, steps, thread_at, waiting}
 use Rattle.flat_meaning.specs.Start.{ids_of}
 use Rattle.flat_meaning.specs.Words.{Words, word_at}
-use Rattle.flat_simulation.specs.LinearSteps.{AllocationsFit, Follows, StepTouches}
+use Rattle.flat_simulation.specs.Kinds.{TakesRightKinds, MeetsWrongKind, UpToAKind, LinearStandsAfter}
+use Rattle.flat_simulation.specs.LinearSteps.{AllocationsFit, StepTouches}
+use Rattle.flat_simulation.proofs.KindRuns.{up_to}
 use Rattle.flat_simulation.proofs.ServedOn.{IsGone, gone_traps, kept_or_gone, may_act_left, serving_on}
 use Rattle.flat_simulation.proofs.ServedSteps.{IsServing, KeepsOldAt}
 use Rattle.flat_simulation.proofs.StepKinds.{malloc_before}
-use Rattle.flat_simulation.proofs.Whole.{up_to}
 use Rattle.flat_replay.specs.Accesses.{ActStays, ServeStays, StandsBy, TurnsTouch}
 use Rattle.flat_replay.proofs.Segments.{Comes}
 
@@ -85,32 +85,32 @@ module _ (y : Image Spot) where
       let who = waits_there s.memory v.choice (own_at s.own v.thread) may.0 in
       serving_all vs (after_serve y s v) (serving_on y s serving v who.thread who.is who.may.0 who.may.2) may.1
 
-  module _ (p : Ir) (ds : List Event) (given : List ℕ) (u : runs.State (Thread Position Own)) (s : State Spot) (f : Follows y p ds u s) (ids : ids_of ds ≡ given) where
+  module _ (p : Ir) (ds : List Event) (given : List ℕ) (u : runs.State (Thread Position Own)) (s : State Spot) (f : LinearStandsAfter y p ds u s) (ids : ids_of ds ≡ given) where
     abbrev stands_by : s.end ≡ None → StandsBy y p given u s
     stands_by open_ = record { names = f.names; loaded = f.made.loaded; ids = f.made.ids ∙ ids; world = f.world; stacks = f.stacks open_ }
 
-    touch_in : (thread : ℕ) (choice : Choice) (stage : Stage Spot) (at : own_at s.own thread ≡ Some stage) (may : IsAllowed y s (act thread choice)) → StandsBefore y (Some stage) steps
+    touch_in : (thread : ℕ) (right : TakesRightKinds p u thread) (choice : Choice) (stage : Stage Spot) (at : own_at s.own thread ≡ Some stage) (may : IsAllowed y s (act thread choice)) → StandsBefore y (Some stage) steps
         → TurnsTouch y p f.names u s (f.stacks may.0 thread stage at).own (thread_at y stage) (picks_of y s (act thread choice) ++ tried_by y s (act thread choice))
-    touch_in thread choice stage at may is =
+    touch_in thread right choice stage at may is =
         let h = f.stacks may.0 thread stage at in
-        f.steps.reaches thread choice h.own stage h.at at may (subst (λ o. StandsBefore y o steps) (sym at) is)
+        (f.steps thread right).reaches choice h.own stage h.at at may (subst (λ o. StandsBefore y o steps) (sym at) is)
 
     -- a step that may come next
-    act_stays : (thread : ℕ) (choice : Choice) (stage : Stage Spot) → own_at s.own thread ≡ Some stage → IsAllowed y s (act thread choice) → ActStays y p given u s thread choice stage
-    act_stays thread choice stage at may = let h = f.stacks may.0 thread stage at in record {
+    act_stays : (thread : ℕ) (right : TakesRightKinds p u thread) (choice : Choice) (stage : Stage Spot) → own_at s.own thread ≡ Some stage → IsAllowed y s (act thread choice) → ActStays y p given u s thread choice stage
+    act_stays thread right choice stage at may = let h = f.stacks may.0 thread stage at in record {
       stands = stands_by may.0;
       own = h.own;
       at = h.at;
-      touches = touch_in thread choice stage at may;
-      waits = f.steps.waits thread choice may;
-      traps = f.steps.traps thread choice may;
-      prints = f.steps.prints thread choice may;
-      calls = λ number begun end. f.steps.calls thread number choice h.own stage h.at at begun may end;
+      touches = touch_in thread right choice stage at may;
+      waits = (f.steps thread right).waits choice may;
+      traps = (f.steps thread right).traps choice may;
+      prints = (f.steps thread right).prints choice may;
+      calls = λ number begun end. (f.steps thread right).calls number choice h.own stage h.at at begun may end;
     }
 
   -- an allocation that may be served next, in the state that the barrier leaves where it serves those before alone
-  module _ (p : Ir) (ds : List Event) (given : List ℕ) (u : runs.State (Thread Position Own)) (r : State Spot) (f : Follows y p ds u (served_state r)) (ids : ids_of ds ≡ given) (fits : AllocationsFit y.flow) (serving : IsServing r)
-      (v : Serve) (q : Thread Spot Words) (open_ : r.end ≡ None) (at : own_at r.own v.thread ≡ Some (waiting q)) (may : MayServe y r.memory v.choice (Some (waiting q))) where
+  module _ (p : Ir) (ds : List Event) (given : List ℕ) (u : runs.State (Thread Position Own)) (r : State Spot) (f : LinearStandsAfter y p ds u (served_state r)) (ids : ids_of ds ≡ given) (fits : AllocationsFit y.flow) (serving : IsServing r)
+      (v : Serve) (q : Thread Spot Words) (open_ : r.end ≡ None) (at : own_at r.own v.thread ≡ Some (waiting q)) (may : MayServe y r.memory v.choice (Some (waiting q))) (right : TakesRightKinds p u v.thread) where
     abbrev s : State Spot
     s = served_state r
 
@@ -137,7 +137,7 @@ module _ (y : Image Spot) where
         subst (λ (words : Option (List ℕ)). MayAct (without_words (words_leaving words) r.memory.storage) q.top.own v.choice (y.flow.here q.top.at)) (sym serving.leaving) act_left in
         let step_may : MayStepAt y s.memory v.choice (Some (waiting q)) = subst (MayStep y s.memory v.choice q) (sym steps_there) act_there in
         let acts : IsAllowed y s (act v.thread v.choice) = (open_, subst (MayStepAt y s.memory v.choice) (sym at) step_may) in
-        let all = touch_in p ds given u s f ids v.thread v.choice (waiting q) at acts steps_there in
+        let all = touch_in p ds given u s f ids v.thread right v.choice (waiting q) at acts steps_there in
         let first : Touch (picks_of y s (act v.thread v.choice)) = all_first (λ (k : Pick). Unbroken (picked (program_of p) u k) → StepTouches y p f.names u s k own q) (picks_of y s (act v.thread v.choice)) (tried_by y s (act v.thread v.choice)) all in
         let same : picks_of y s (act v.thread v.choice) ≡ picks_of_serve y s.memory v (Some (waiting q)) = ap (picks_of_act y s.memory v.thread v.choice) at ∙ ap (act_picks y s.memory v.thread v.choice q) steps_there in
         subst Touch same first
@@ -178,21 +178,29 @@ module _ (y : Image Spot) where
       touches = by_here (y.flow.here q.top.at) refl may.0;
     }
 
-  module _ (p : Ir) (follows : (es : List Event) → AreAllowed y es (first_state y) → UpToABreak (run (program_of p) (start p) (order_of y es (first_state y))) (λ u. Follows y p es u (after_all y es (first_state y))))
+  module _ (p : Ir) (follows : (es : List Event) → AreAllowed y es (first_state y) → UpToAKind p (order_of y es (first_state y)) (λ u. LinearStandsAfter y p es u (after_all y es (first_state y))))
       (r : State Spot) (picks : List Pick) (tries : ℕ → List (ℕ × ℕ)) (given : List ℕ) (c : Comes y (first_state y) r picks tries given) where
-    there : UpToABreak (run (program_of p) (start p) picks) (λ u. Follows y p c.events u r)
+    there : UpToAKind p picks (λ u. LinearStandsAfter y p c.events u r)
     there =
-        subst (λ (o : List Pick). UpToABreak (run (program_of p) (start p) o) (λ u. Follows y p c.events u r)) c.order
-        (subst (λ (z : State Spot). UpToABreak (run (program_of p) (start p) (order_of y c.events (first_state y))) (λ u. Follows y p c.events u z)) c.after (follows c.events c.allowed))
+        subst (λ (o : List Pick). UpToAKind p o (λ u. LinearStandsAfter y p c.events u r)) c.order
+        (subst (λ (z : State Spot). UpToAKind p (order_of y c.events (first_state y)) (λ u. LinearStandsAfter y p c.events u z)) c.after (follows c.events c.allowed))
 
-    -- in the run of these turns, unless one breaks a rule
-    pub run_act_stays : (thread : ℕ) (choice : Choice) (stage : Stage Spot) → own_at r.own thread ≡ Some stage → IsAllowed y r (act thread choice) → UpToABreak (run (program_of p) (start p) picks) (λ u. ActStays y p given u r thread choice stage)
+    -- what holds so of a state that follows
+    there_so : (A : runs.State (Thread Position Own) → Type 0) → ((u : runs.State (Thread Position Own)) → LinearStandsAfter y p c.events u r → A u) → UpToAKind p picks A
+    there_so A so =
+        up_to (run (program_of p) (start p) picks) (λ u. LinearStandsAfter y p c.events u r) A (MeetsWrongKind p picks 0 (runs.first_state (program_of p) (start p))) (λ u reached f. so u f) there
+
+    -- in the run of these turns, up to a broken rule or an operation on a value of a kind that it doesn't take
+    pub run_act_stays : (thread : ℕ) (choice : Choice) (stage : Stage Spot) → own_at r.own thread ≡ Some stage → IsAllowed y r (act thread choice)
+        → UpToAKind p picks (λ u. StandsBy y p given u r × (TakesRightKinds p u thread → ActStays y p given u r thread choice stage))
     run_act_stays thread choice stage at may =
-        up_to (run (program_of p) (start p) picks) (λ u. Follows y p c.events u r) (λ u. ActStays y p given u r thread choice stage) (λ u reached f. act_stays p c.events given u r f c.ids thread choice stage at may) there
+        there_so (λ u. StandsBy y p given u r × (TakesRightKinds p u thread → ActStays y p given u r thread choice stage))
+        (λ u f. (stands_by p c.events given u r f c.ids may.0, λ right. act_stays p c.events given u r f c.ids thread right choice stage at may))
 
-  module _ (p : Ir) (follows : (es : List Event) → AreAllowed y es (first_state y) → UpToABreak (run (program_of p) (start p) (order_of y es (first_state y))) (λ u. Follows y p es u (after_all y es (first_state y)))) (fits : AllocationsFit y.flow)
+  module _ (p : Ir) (follows : (es : List Event) → AreAllowed y es (first_state y) → UpToAKind p (order_of y es (first_state y)) (λ u. LinearStandsAfter y p es u (after_all y es (first_state y)))) (fits : AllocationsFit y.flow)
       (r : State Spot) (serving : IsServing r) (picks : List Pick) (tries : ℕ → List (ℕ × ℕ)) (given : List ℕ) (c : Comes y (first_state y) (served_state r) picks tries given) where
-    pub run_serve_stays : (v : Serve) (q : Thread Spot Words) → r.end ≡ None → own_at r.own v.thread ≡ Some (waiting q) → MayServe y r.memory v.choice (Some (waiting q)) → UpToABreak (run (program_of p) (start p) picks) (λ u. ServeStays y p given u (served_state r) v q)
+    pub run_serve_stays : (v : Serve) (q : Thread Spot Words) → r.end ≡ None → own_at r.own v.thread ≡ Some (waiting q) → MayServe y r.memory v.choice (Some (waiting q))
+        → UpToAKind p picks (λ u. StandsBy y p given u (served_state r) × (TakesRightKinds p u v.thread → ServeStays y p given u (served_state r) v q))
     run_serve_stays v q open_ at may =
-        up_to (run (program_of p) (start p) picks) (λ u. Follows y p c.events u (served_state r)) (λ u. ServeStays y p given u (served_state r) v q) (λ u reached f. serve_stays p c.events given u r f c.ids fits serving v q open_ at may)
-        (there p follows (served_state r) picks tries given c)
+        there_so p follows (served_state r) picks tries given c (λ u. StandsBy y p given u (served_state r) × (TakesRightKinds p u v.thread → ServeStays y p given u (served_state r) v q))
+        (λ u f. (stands_by p c.events given u (served_state r) f c.ids open_, λ right. serve_stays p c.events given u r f c.ids fits serving v q open_ at may right))

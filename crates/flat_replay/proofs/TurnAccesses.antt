@@ -3,13 +3,11 @@ use Rattle.std.proofs.Common.{◌≡◌, ℕ, ◌+◌, ◌-◌, List, [], ◌∷
 use Rattle.std.specs.Prelude.{◌⊎◌}
 use Rattle.ak_trace.specs.declared.entry.Entry.{Entry}
 use Rattle.ak_trace.specs.Kinds as kind
-use Rattle.block_store.specs.Runs.{Pick, own_at, run}
+use Rattle.block_store.specs.Runs.{Pick, own_at}
 use Rattle.block_store.specs.declared.values.Answer.TheVariants as answers
 use Rattle.struct_ir.specs.Nodes.{Ir}
 use Rattle.struct_ir.specs.Instrs.{LinearCode}
 use Rattle.struct_ir.specs.Linear.{Spot}
-use Rattle.struct_ir.specs.meaning.Start.{start}
-use Rattle.struct_ir.specs.meaning.Threads.{program_of}
 use Rattle.flat_meaning.specs.Accesses.{Choice}
 use Rattle.flat_meaning.specs.Allowed.{AreAllowed, IsAllowed}
 use Rattle.flat_meaning.specs.Events as events
@@ -18,7 +16,6 @@ use Rattle.flat_meaning.specs.Image.{Image, Limits, linear_image}
 use Rattle.flat_meaning.specs.Journals.{journal_picks}
 use Rattle.flat_meaning.specs.Local.{Came}
 use Rattle.flat_meaning.specs.Order.{order_of, pick}
-use Rattle.flat_meaning.specs.Simulation.{UpToABreak}
 use Rattle.flat_rules.specs.declared.settings.Settings.{Settings}
 use Rattle.flat_rules.specs.Entries.{turn_entry}
 use Rattle.flat_rules.specs.Events.{Event, most_local, goes, turn_event, turned_by}
@@ -37,9 +34,10 @@ use Rattle.flat_machine.specs.Replays.{replay}
 use Rattle.flat_machine.specs.Shares.{Shared, image_of}
 use Rattle.flat_machine.specs.Start.{settings_limits}
 use Rattle.flat_machine.specs.Turns.{turned_of}
-use Rattle.flat_simulation.specs.LinearSteps.{Follows}
+use Rattle.flat_simulation.specs.Kinds.{TakesRightKinds, UpToAKind, LinearStandsAfter}
 use Rattle.flat_replay.specs.Attempts.{attempts_from}
-use Rattle.flat_replay.specs.Accesses.{ActStays, TurnStays, bound_of, gone_to}
+use Rattle.flat_replay.specs.Accesses.{ActStays, StandsBy, bound_of, gone_to}
+use Rattle.flat_replay.specs.Kinds.{TurnStaysUpToAKind}
 use Rattle.flat_replay.specs.Ids.{ids_told}
 use Rattle.flat_replay.specs.Journals.{image_for}
 use Rattle.flat_replay.proofs.Consistent.{Good}
@@ -83,7 +81,7 @@ module _ (code : LinearCode) (rules : Rules) (x : State Shared Context) (w : ℕ
 
 module _ (p : Ir) (code : LinearCode) (s : Settings) (program : IsProgram code)
     (follows : (es : List events.Event) → AreAllowed (image_for code s) es (first_state (image_for code s))
-    → UpToABreak (run (program_of p) (start p) (order_of (image_for code s) es (first_state (image_for code s)))) (λ u. Follows (image_for code s) p es u (after_all (image_for code s) es (first_state (image_for code s)))))
+    → UpToAKind p (order_of (image_for code s) es (first_state (image_for code s))) (λ u. LinearStandsAfter (image_for code s) p es u (after_all (image_for code s) es (first_state (image_for code s)))))
     (log : List Entry) (x : State Shared Context) (leads : replay code s log ≡ Some x) (good : Good code (rules_of s) x) (told : Told code (settings_limits s) log x) (going : x.ending ≡ None) where
   abbrev loaded : Image Spot
   loaded = image_for code s
@@ -134,11 +132,11 @@ module _ (p : Ir) (code : LinearCode) (s : Settings) (program : IsProgram code)
         (joins loaded (first_state loaded) told.state moved _ _ (λ turns. attempts_from turns log) (λ turns. []) (ids_told log) [] told.comes two)
 
     act_keeps : (choice : Choice) → its_events ≡ act c.number choice ∷ []
-        → UpToABreak (run (program_of p) (start p) its_picks) (λ u. ActStays (image_of code x.shared) p (ids_told log) u moved c.number choice g.came.stage)
+        → UpToAKind p its_picks (λ u. StandsBy (image_of code x.shared) p (ids_told log) u moved × (TakesRightKinds p u c.number → ActStays (image_of code x.shared) p (ids_told log) u moved c.number choice g.came.stage))
     act_keeps choice is =
         let may : IsAllowed (image_of code x.shared) moved (act c.number choice) = (subst (λ (es : List events.Event). AreAllowed (image_of code x.shared) es moved) is its.allowed).0 in
         let may_loaded : IsAllowed loaded moved (act c.number choice) = subst (λ (limits : Limits). IsAllowed (linear_image code limits) moved (act c.number choice)) told.same may in
-        subst (λ (limits : Limits). UpToABreak (run (program_of p) (start p) its_picks) (λ u. ActStays (linear_image code limits) p (ids_told log) u moved c.number choice g.came.stage)) (sym told.same)
+        subst (λ (limits : Limits). UpToAKind p its_picks (λ u. StandsBy (linear_image code limits) p (ids_told log) u moved × (TakesRightKinds p u c.number → ActStays (linear_image code limits) p (ids_told log) u moved c.number choice g.came.stage))) (sym told.same)
         (run_act_stays loaded p follows moved its_picks _ (ids_told log) so_far c.number choice g.came.stage own may_loaded)
 
     -- the state behind it
@@ -148,7 +146,7 @@ module _ (p : Ir) (code : LinearCode) (s : Settings) (program : IsProgram code)
     stands : StandsIn (events.put moved c.number (effect_if (image_of code x.shared) c.number x.shared.memory (Some g.came.stage) (Some g.came.stop))) behind
     stands = stands_by code program (rules_of s) x going good.held.few good.held.places (sits code (rules_of s) program x good going w) c.number g.came.turns g.came.stage g.came.stop c.wait w n c mood g.there g.lives (n + 1) _ refl
 
-    pub turn_stays : (next : State Shared Context) (ds : List Entry) (spare : ℕ) → next ≡ record behind { due = ds; spare = spare } → step (machine_of code) (rules_of s) x entry ≡ Some next → TurnStays p code s log entry
+    pub turn_stays : (next : State Shared Context) (ds : List Entry) (spare : ℕ) → next ≡ record behind { due = ds; spare = spare } → step (machine_of code) (rules_of s) x entry ≡ Some next → TurnStaysUpToAKind p code s log entry
     turn_stays next ds spare is st = record {
       here = x;
       leads = leads;
@@ -170,8 +168,8 @@ module _ (p : Ir) (code : LinearCode) (s : Settings) (program : IsProgram code)
     }
 
   -- an entry of a turn
-  pub turn_here : (e : Entry) (next : State Shared Context) → e.kind ≡ kind.turn → step (machine_of code) (rules_of s) x e ≡ Some next → x.due ≡ [] → TurnStays p code s log e
-  turn_here e next is st none = step_cases (machine_of code) (rules_of s) x e next {R = TurnStays p code s log e}
+  pub turn_here : (e : Entry) (next : State Shared Context) → e.kind ≡ kind.turn → step (machine_of code) (rules_of s) x e ≡ Some next → x.due ≡ [] → TurnStaysUpToAKind p code s log e
+  turn_here e next is st none = step_cases (machine_of code) (rules_of s) x e next {R = TurnStaysUpToAKind p code s log e}
       (λ n. absurd (let z : [] ≡ n.d ∷ n.ds = sym none ∙ n.due in cc z))
       (λ f.
       let w = e.worker in
@@ -182,7 +180,7 @@ module _ (p : Ir) (code : LinearCode) (s : Settings) (program : IsProgram code)
       let entries : entry w turn.thread turn.count turn.mood turn.context g ∷ [] ≡ f.d ∷ f.ds = sym (ap (λ (v : Event Shared Context). v.entries) v_is) ∙ f.entries in
       let d_is : entry w turn.thread turn.count turn.mood turn.context g ≡ f.d = cc entries in
       let e_is : entry w turn.thread turn.count turn.mood turn.context g ≡ e = d_is ∙ sym (same_is e f.d f.same) in
-      subst (TurnStays p code s log) e_is
+      subst (TurnStaysUpToAKind p code s log) e_is
       (turn_stays w turn.thread turn.count turn.mood turn.context g next f.ds (f.v.after.spare - length f.v.entries)
       (f.is ∙ (λ i. record (v_is i).after { due = f.ds; spare = f.v.after.spare - length f.v.entries }))
       (subst (λ (z : Entry). step (machine_of code) (rules_of s) x z ≡ Some next) (sym e_is) st)))

@@ -101,9 +101,9 @@ pub record ServeStays (y : Image Spot) (p : Ir) (given : List ℕ) (u : runs.Sta
 -- ---- an entry of a turn
 
 -- what the journal leads to, where the entry's thread is out with the entry's worker; where that goes to alone, in as many turns as the
--- entry tells; the machine's event there, if it has one, which does what the entry does and whose turn is the entry's; and unless a turn
--- broke a rule, of the journal so far or of the thread's own, how its step stays in the run of these turns
-pub record TurnStays (p : Ir) (code : LinearCode) (s : Settings) (log : List Entry) (e : Entry) : Type 0 where
+-- entry tells; the machine's event there, if it has one, which does what the entry does and whose turn is the entry's; and what is claimed
+-- of its step, behind the turns of the journal so far and the thread's own
+pub record TurnOf (code : LinearCode) (s : Settings) (log : List Entry) (e : Entry) (Claim : List Pick → Image Spot → events.State Spot → Choice → Stage Spot → Type 0) : Type 0 where
   pub here : State Shared Context
   pub leads : replay code s log ≡ Some here
   pub context : Context
@@ -122,13 +122,17 @@ pub record TurnStays (p : Ir) (code : LinearCode) (s : Settings) (log : List Ent
   pub turns : let y = image_of code here.shared in
       journal_picks (e ∷ []) ≡ replicate e.local (pick e.thread answers.Plain) ++ order_of y (events_of y e.thread here.shared.memory stage stop) (gone_to here e.thread stage)
   pub keeps : let y = image_of code here.shared in (choice : Choice) → events_of y e.thread here.shared.memory stage stop ≡ act e.thread choice ∷ []
-      → UpToABreak (run (program_of p) (start p) (journal_picks log ++ replicate e.local (pick e.thread answers.Plain))) (λ u. ActStays y p (ids_told log) u (gone_to here e.thread stage) e.thread choice stage)
+      → Claim (journal_picks log ++ replicate e.local (pick e.thread answers.Plain)) y (gone_to here e.thread stage) choice stage
+
+-- unless a turn broke a rule, of the journal so far or of the thread's own, its step stays in the run of these turns
+abbrev pub TurnStays : Ir → LinearCode → Settings → List Entry → Entry → Type 0
+TurnStays p code s log e = TurnOf code s log e (λ picks y moved choice stage. UpToABreak (run (program_of p) (start p) picks) (λ u. ActStays y p (ids_told log) u moved e.thread choice stage))
 
 -- ---- an entry of a barrier
 
 -- what the journal leads to, where no thread is out; and of each allocation that is then served, behind the moves and the allocations before
--- it, by which thread it waits, and unless a turn so far broke a rule, how it stays
-pub record ServesStay (p : Ir) (code : LinearCode) (s : Settings) (log : List Entry) (e : Entry) : Type 0 where
+-- it, by which thread it waits, and what is claimed of it, behind the turns so far
+pub record ServesOf (code : LinearCode) (s : Settings) (log : List Entry) (e : Entry) (Claim : List Pick → (given : List ℕ) → Image Spot → events.State Spot → Serve → Thread Spot Words → Type 0) : Type 0 where
   pub here : State Shared Context
   pub leads : replay code s log ≡ Some here
   pub alone : none_out (machine_of code) (rules_of s) here ≡ true
@@ -137,7 +141,11 @@ pub record ServesStay (p : Ir) (code : LinearCode) (s : Settings) (log : List En
   pub memory : let y = image_of code here.shared in next.shared.memory ≡ (served_state (after_serves y (sweep_serves y (at_home here.shared (homes_of here.places))) (swept_first code here))).memory
   pub keeps : let y = image_of code here.shared in (vs : List Serve) (v : Serve) (us : List Serve) → sweep_serves y (at_home here.shared (homes_of here.places)) ≡ vs ++ v ∷ us
       → (q : Thread Spot Words) × (own_at (after_serves y vs (swept_first code here)).own v.thread ≡ Some (waiting q))
-      × UpToABreak (run (program_of p) (start p) (journal_picks log ++ picks_of_serves y vs (swept_first code here))) (λ u. ServeStays y p (ids_told log ++ served_ids vs) u (served_state (after_serves y vs (swept_first code here))) v q)
+      × Claim (journal_picks log ++ picks_of_serves y vs (swept_first code here)) (ids_told log ++ served_ids vs) y (served_state (after_serves y vs (swept_first code here))) v q
+
+-- unless a turn so far broke a rule, each stays
+abbrev pub ServesStay : Ir → LinearCode → Settings → List Entry → Entry → Type 0
+ServesStay p code s log e = ServesOf code s log e (λ picks given y served v q. UpToABreak (run (program_of p) (start p) picks) (λ u. ServeStays y p given u served v q))
 
 -- ---- a journal
 

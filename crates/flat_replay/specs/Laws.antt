@@ -20,9 +20,11 @@ use Rattle.flat_threads.specs.Contexts.{Context, IsProgram}
 use Rattle.flat_machine.specs.Replays.{replay, final_at}
 use Rattle.flat_machine.specs.Shares.{Shared}
 use Rattle.flat_machine.specs.Start.{settings_limits}
+use Rattle.flat_simulation.specs.Kinds.{IsGuarded}
 use Rattle.flat_replay.specs.Barriers.{BarriersKeep}
 use Rattle.flat_replay.specs.Accesses.{AccessesKeep}
 use Rattle.flat_replay.specs.Journals.{IsOfEvents}
+use Rattle.flat_replay.specs.Kinds.{IsMeaningUpToAKind, AccessesKeepUpToAKind}
 use Rattle.flat_replay.specs.Meaning.{IsMeaning}
 
 -- whatever the program, the settings and the rules of C that it broke
@@ -40,6 +42,13 @@ AJournalIsOfEvents =
     (code : LinearCode) (s : Settings) → IsProgram code → IsLoadable (linear_image code (settings_limits s)).layout → (log : List Entry) (x : State Shared Context) → replay code s log ≡ Some x → IsOfEvents code s log x
 
 -- ---- what a journal means
+
+-- a journal of guarded code, which may be made by hand, has the code's own meaning over named blocks, up to the first operation on a value of a
+-- kind that it doesn't take
+abbrev pub JournalsOfGuardedCodeAreMeant : Type 0
+JournalsOfGuardedCodeAreMeant =
+    (p : Ir) → IsGuarded p → (code : LinearCode) → IsEmitted p code → AllLawful code.funcs → IsProgram code → (s : Settings) (log : List Entry) (x : State Shared Context) → replay code s log ≡ Some x
+    → IsMeaningUpToAKind p log s (final_at code s log x)
 
 -- a journal of checked code has the code's own meaning over named blocks
 abbrev pub JournalsOfCheckedCodeAreMeant : Type 0
@@ -60,3 +69,8 @@ JournalsMeanTheSource =
 abbrev pub AccessesOfJournalsStay : Type 0
 AccessesOfJournalsStay =
     (p : Ir) → IsChecked p → (code : LinearCode) → IsEmitted p code → AllLawful code.funcs → IsProgram code → (s : Settings) (log : List Entry) (x : State Shared Context) → replay code s log ≡ Some x → AccessesKeep p code s log
+
+-- and of guarded code, up to the first operation on a value of a kind that it doesn't take, too
+abbrev pub AccessesOfGuardedJournalsStay : Type 0
+AccessesOfGuardedJournalsStay =
+    (p : Ir) → IsGuarded p → (code : LinearCode) → IsEmitted p code → AllLawful code.funcs → IsProgram code → (s : Settings) (log : List Entry) (x : State Shared Context) → replay code s log ≡ Some x → AccessesKeepUpToAKind p code s log

@@ -5,7 +5,9 @@ pub mod Ids
 pub mod Meaning
 pub mod Journals
 pub mod Accesses
+pub mod Kinds
 pub mod Rows
 pub mod Finals
 pub mod inner
 pub mod AccessRows
+pub mod KindRows

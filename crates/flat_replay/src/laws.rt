@@ -4,7 +4,8 @@ ghost use Rattle.std.specs.Prelude.{◌≡◌};
 ghost use Rattle.ak_trace.specs.Rows.{full_journal};
 ghost use Rattle.flat_replay.specs.AccessRows.{OtherNamesDontStand};
 ghost use Rattle.flat_replay.specs.Attempts.{attempts_from};
-ghost use Rattle.flat_replay.specs.Laws.{AJournalIsOfEvents, AccessesOfJournalsStay, BarriersOfARunKeepObjects, JournalsMeanTheSource, JournalsOfCheckedCodeAreMeant, SmallProgramsFit};
+ghost use Rattle.flat_replay.specs.KindRows.{FirstStopsAreTold};
+ghost use Rattle.flat_replay.specs.Laws.{AJournalIsOfEvents, AccessesOfGuardedJournalsStay, AccessesOfJournalsStay, BarriersOfARunKeepObjects, JournalsMeanTheSource, JournalsOfCheckedCodeAreMeant, JournalsOfGuardedCodeAreMeant, SmallProgramsFit};
 ghost use Rattle.flat_replay.specs.Rows.{full_attempts, BreaksStand, EndsStand, LastsStand, MeaningsStand, TriesStand};
 
 /// At each barrier of a journal that replays, whatever rules of C were broken before: no object moves that a listed slot names, the others
@@ -30,7 +31,15 @@ pub fn a_journal_is_of_events()
 pub fn accesses_of_journals_stay()
     ensures { AccessesOfJournalsStay }
 {
-    flat_simulation::laws::events_of_linear_code();
+    accesses_of_guarded_journals_stay();
+}
+
+/// And of code of which it isn't known that each turn takes some answer, as it is made by hand: so it is unless a turn so far broke a rule, or was
+/// an operation on a value of a kind that it doesn't take; and of a thread whose own turn is no such operation.
+pub fn accesses_of_guarded_journals_stay()
+    ensures { AccessesOfGuardedJournalsStay }
+{
+    flat_simulation::laws::events_follow_code();
 }
 
 /// Behind a store to an array, with a name for the array at an address where nothing lies, a state of the machine doesn't stand for the
@@ -47,7 +56,16 @@ pub fn other_names_do_not_stand()
 pub fn journals_of_checked_code_are_meant()
     ensures { JournalsOfCheckedCodeAreMeant }
 {
-    flat_simulation::laws::events_of_linear_code();
+    journals_of_guarded_code_are_meant();
+}
+
+/// And one of code of which it isn't known that each turn takes some answer has that meaning up to the first broken rule, or the first operation on a
+/// value of a kind that it doesn't take: if there is neither, in the order, among the turns that were tried, or where all threads wait, output and
+/// end are those of its run; and else what the run of the turns before the first prints is what the journal printed first.
+pub fn journals_of_guarded_code_are_meant()
+    ensures { JournalsOfGuardedCodeAreMeant }
+{
+    flat_simulation::laws::events_follow_code();
 }
 
 /// And so it has the meaning of each program of which that code keeps every turn, as it does of the one from which it was lowered.
@@ -73,3 +91,11 @@ pub fn small_journals_have_their_meaning()
     ensures ends { EndsStand }
     ensures breaks { BreaksStand }
 {}
+
+/// A journal of a small code made by hand, which adds a pointer to a number before its second print: its first stop, behind one turn, is that
+/// operation, though the journal tells of both prints.
+pub fn first_stops_are_told()
+    ensures { FirstStopsAreTold }
+{
+    flat_simulation::laws::a_wrong_kind_is_told();
+}
