@@ -22,17 +22,19 @@ MAP_HEAD = ["| Crate | Holds | Promises upward | Stands on |", "|---|---|---|---
 READ_HEAD = ["| Step | In | Files | Lines |", "|---|---|---|---|"]
 ROOTS = ["crates/alaska_run/specs/Headline.antt", "crates/alaska_run/specs/Answers.antt"]
 
-# The steps in which the definitions are read: what a step is about, and the crates whose definitions it takes.
+# The steps in which the definitions are read: what a step is about, and the crates whose definitions it takes. Behind the first, which says what
+# is claimed, each step uses definitions of its own and of those before it alone.
 STEPS = [
     ("what a call promises", "alaska_run"),
-    ("what the words want, what is read, and what is written", "run_words run_churn ak_io run_edges run_notes"),
+    ("C's numbers and rules, and the entries of a journal", "ak_words ak_trace"),
     ("which typed tree a text has, or why it is refused", "c_lex c_tree c_grammar c_typing"),
-    ("what the typed tree does, turn by turn, over named blocks", "ak_words block_store c_meaning"),
+    ("what the typed tree does, turn by turn, over named blocks", "block_store c_meaning"),
     ("what code is, and that it keeps the turns", "struct_ir lower_forms lower_turns pin_flow pin_checker compile_passes"),
     ("the machine, whose objects move",
      "handle_words handle_table flat_words flat_store sub_heaps move_plan arena_meaning flat_meaning"),
-    ("which journals a run may have", "ak_trace flat_rules flat_threads flat_machine"),
+    ("which journals a run may have", "flat_rules flat_threads flat_machine"),
     ("what a journal stands for", "flat_simulation flat_replay"),
+    ("what the words want, what is read, and what is written", "run_words run_churn ak_io run_edges run_notes"),
     ("what mode check finds", "source_tree source_state block_meaning rule_check"),
 ]
 
@@ -88,15 +90,18 @@ def file_of(crate, name):
     paths = (f"crates/{crate}/specs/{'/'.join(parts[:n])}.antt" for n in range(len(parts), 0, -1))
     return next((path for path in paths if os.path.exists(path)), None)
 
+# The files that a file of definitions uses.
+def used_by(path):
+    for line in lines_of(path):
+        use = re.match(r"use Rattle\.(\w+)\.specs\.([\w.]+)", line)
+        if use and os.path.isdir(f"crates/{use[1]}"):
+            yield file_of(use[1], use[2]) or sys.exit(f"{path}: no file for: {line}")
+
 # The files that the roots lead to, in the order in which they are come to.
 def reached():
     found, waiting = dict.fromkeys(ROOTS), collections.deque(ROOTS)
     while waiting:
-        for line in lines_of(waiting.popleft()):
-            use = re.match(r"use Rattle\.(\w+)\.specs\.([\w.]+)", line)
-            if not use or not os.path.isdir(f"crates/{use[1]}"):
-                continue
-            path = file_of(use[1], use[2]) or sys.exit(f"no file for: {line}")
+        for path in used_by(waiting.popleft()):
             if path not in found:
                 found[path] = None
                 if path.endswith(".antt"):
@@ -107,14 +112,26 @@ def reached():
 def length(path):
     return sum(1 for line in lines_of(path) if line.strip())
 
-# The files of definitions of each step, and the files of types.
+# The step of each crate.
+def step_of():
+    return {crate: at for at, (_, crates) in enumerate(STEPS) for crate in crates.split()}
+
+# The files of definitions of each step, and the files of types. A file that uses a later step than its own is a fault.
 def by_steps():
-    files = reached()
-    definitions = [path for path in files if path.endswith(".antt")]
-    steps = [[path for crate in crates.split() for path in definitions if path.split("/")[1] == crate] for _, crates in STEPS]
-    missing = set(definitions) - {path for step in steps for path in step}
-    if missing:
-        sys.exit(f"in no step of scripts/map.sh: {' '.join(sorted(missing))}")
+    files, at = reached(), step_of()
+    steps = [[] for _ in STEPS]
+    for path in files:
+        crate = path.split("/")[1]
+        if not path.endswith(".antt"):
+            continue
+        if crate not in at:
+            sys.exit(f"{path}: its crate is in no step of scripts/map.sh")
+        steps[at[crate]].append(path)
+        later = [used for used in used_by(path) if at[crate] > 0 and at.get(used.split("/")[1], 0) > at[crate]]
+        if later:
+            sys.exit(f"{path}: uses {later[0]}, which is in a later step of scripts/map.sh")
+    for step in steps:
+        step.sort(key=lambda path: list(at).index(path.split("/")[1]))
     return steps, [path for path in files if path.endswith(".rt")]
 
 def read_rows():
