@@ -6,8 +6,8 @@
 #     which they are best read: by the steps of the table, and in a crate as they are come to.
 # A crate is described in the `//!` lines at the head of its src/lib.rt or src/main.rt: what it holds, then `Promises upward: ..` or
 # `Promises nothing upward: ..`, then `Stands on ..`. Of the crates that crates.txt names for it, the table has those that no other of them stands on.
-# Files of definitions are come to by the lines `use Rattle.CRATE.specs...` of others, those of this repository alone; a type that stands in src/ (a
-# use of `specs.declared`) is counted by its file.
+# Files of definitions are come to by the lines `use Rattle.CRATE.specs...` of others, those of this repository alone; of a type that
+# stands in src/ (a use of `specs.declared`) --read names the file.
 set -eu
 case "$#${1:-}" in
   0 | 1--check | 1--read) ;;
