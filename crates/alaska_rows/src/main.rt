@@ -31,7 +31,7 @@ use std::io;
 #[derive(Clone, Copy)]
 struct Row(&'static str, &'static str);
 
-const ROWS: [Row; 66] = [
+const ROWS: [Row; 69] = [
     Row("alaska nothing.c", "all"),
     Row("alaska answer.c", "all"),
     Row("alaska heap.c", "ended live"),
@@ -99,6 +99,18 @@ const ROWS: [Row; 66] = [
     Row("alaska double_label.c", "all"),
     Row("alaska fragmented.c", "all"),
     Row("alaska fragmented.c --every 100", "all"),
+    Row(
+        "alaska cache.c --workers 4 --every 50",
+        "ended threads live",
+    ),
+    Row(
+        "alaska index.c --workers 2 --every 100",
+        "ended threads live",
+    ),
+    Row(
+        "alaska queue.c --workers 4 --every 50 --schedule 3",
+        "ended threads live",
+    ),
     Row("alaska null_load.c --mode check", "all"),
     Row("alaska answer.c --mode check", "all"),
     Row("alaska lock_twice.c --mode check", "all"),
