@@ -1,0 +1,4 @@
+pub mod Numbers
+pub mod Calcs
+pub mod Actions
+pub mod Files

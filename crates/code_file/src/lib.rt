@@ -1,0 +1,6 @@
+//! Code files: which bytes spell the code of a program.
+//! Promises upward: each code has one spelling, and bytes that are none say where the longest front ends that begins one.
+//! Stands on struct_ir's code and the formats of bytes.
+#![tactic(auto)]
+
+pub mod laws;
