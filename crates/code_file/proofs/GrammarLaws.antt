@@ -16,7 +16,7 @@ use Rattle.formats.specs.Laws.{Lawful}
 use Rattle.formats.proofs.Ways.{one_byte_lawful, nothing_lawful, behind_lawful, seen_lawful}
 use Rattle.formats.proofs.Made.{byte_lawful, both_lawful, number_lawful, number_below, u32_lawful, u64_lawful, exactly_lawful, list_lawful, one_of_lawful}
 use Rattle.code_file.specs.Numbers as numbers
-use Rattle.code_file.specs.Numbers.{option_at, number_of, u32_or_none, flag, flag_number, type, type_number, other_types, access, access_number, other_accesses, value, zeros, piece_bits}
+use Rattle.code_file.specs.Numbers.{option_at, number_of, u32_or_none, flag, flag_number, int_type, type_number, other_types, access, access_number, other_accesses, value, zeros, piece_bits}
 use Rattle.code_file.specs.Calcs as calcs
 use Rattle.code_file.specs.Calcs.{operation, op_number, other_ops, CalcTag, calc_number, other_calcs, calc_tag, CalcFields, calc_fields, make_calc, calc_parts, calc}
 use Rattle.code_file.specs.Actions as actions
@@ -38,8 +38,8 @@ pub flag_lawful : Lawful flag
 unfolding flag
 flag_lawful = one_of_lawful false (true ∷ []) flag_number (refl, refl)
 
-pub type_lawful : Lawful type
-unfolding type
+pub type_lawful : Lawful int_type
+unfolding int_type
 type_lawful = one_of_lawful char other_types type_number (refl, (refl, (refl, (refl, (refl, (refl, (refl, refl)))))))
 
 pub access_lawful : Lawful access
@@ -81,13 +81,13 @@ three_lawful : Lawful (u32 ▸ u32 ▸ u32)
 three_lawful = both_lawful u32 (u32 ▸ u32) u32_lawful (both_lawful u32 u32 u32_lawful u32_lawful)
 
 calc_fields_lawful : (t : CalcTag) → Lawful (calc_fields t)
-calc_fields_lawful calcs.constant = behind_lawful type value type_lawful (λ t is. value_lawful t)
+calc_fields_lawful calcs.constant = behind_lawful int_type value type_lawful (λ t is. value_lawful t)
 calc_fields_lawful calcs.global = u32_lawful
 calc_fields_lawful calcs.literal = u32_lawful
 calc_fields_lawful calcs.object = u32_lawful
 calc_fields_lawful calcs.copy = u32_lawful
-calc_fields_lawful calcs.convert = both_lawful type u32 type_lawful u32_lawful
-calc_fields_lawful calcs.apply = both_lawful operation (type ▸ u32 ▸ u32) operation_lawful (both_lawful type (u32 ▸ u32) type_lawful (both_lawful u32 u32 u32_lawful u32_lawful))
+calc_fields_lawful calcs.convert = both_lawful int_type u32 type_lawful u32_lawful
+calc_fields_lawful calcs.apply = both_lawful operation (int_type ▸ u32 ▸ u32) operation_lawful (both_lawful int_type (u32 ▸ u32) type_lawful (both_lawful u32 u32 u32_lawful u32_lawful))
 calc_fields_lawful calcs.pointer_add = three_lawful
 calc_fields_lawful calcs.pointer_diff = three_lawful
 calc_fields_lawful calcs.pointer_compare = both_lawful operation (u32 ▸ u32) operation_lawful (both_lawful u32 u32 u32_lawful u32_lawful)
@@ -167,7 +167,7 @@ action_fields_lawful actions.start = u32_lawful
 action_fields_lawful actions.join = nothing_lawful
 action_fields_lawful actions.calloc = nothing_lawful
 action_fields_lawful actions.realloc = nothing_lawful
-action_fields_lawful actions.change = both_lawful change_way type change_lawful type_lawful
+action_fields_lawful actions.change = both_lawful change_way int_type change_lawful type_lawful
 action_fields_lawful actions.compare = type_lawful
 
 action_again : (t : ActionTag) (x : ActionFields t) → action_parts (make_action t x) ≡ (t, x)
@@ -277,7 +277,7 @@ func_lawful depth =
 
 init_fields_lawful : (t : InitTag) → Lawful (init_fields t)
 init_fields_lawful files.zero_bytes = nothing_lawful
-init_fields_lawful files.number = behind_lawful type value type_lawful (λ t is. value_lawful t)
+init_fields_lawful files.number = behind_lawful int_type value type_lawful (λ t is. value_lawful t)
 init_fields_lawful files.literal_at = u32_lawful
 
 init_again : (t : InitTag) (x : InitFields t) → init_parts (make_init t x) ≡ (t, x)

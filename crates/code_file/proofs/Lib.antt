@@ -1,1 +1,4 @@
 pub mod GrammarLaws
+pub mod Zeros
+pub mod Fails
+pub mod Accesses

@@ -9,7 +9,7 @@ use Rattle.c_tree.specs.Typed.{Piece}
 use Rattle.struct_ir.specs.Nodes as ir
 use Rattle.struct_ir.specs.Nodes.{Action, Place, Step}
 use Rattle.formats.specs.Formats.{Format, nothing, seen, ◌▸◌, byte, one_of, u32, u64, list, tagged}
-use Rattle.code_file.specs.Numbers.{u32_or_none, flag, type, access, piece_bits}
+use Rattle.code_file.specs.Numbers.{u32_or_none, flag, int_type, access, piece_bits}
 
 -- ---- where an access goes: base:u32, index:u32 or none, scale:u32, offset:u64, slot:u32
 
@@ -170,8 +170,8 @@ action_fields start = u32
 action_fields join = nothing
 action_fields calloc = nothing
 action_fields realloc = nothing
-action_fields change = change_way ▸ type
-action_fields compare = type
+action_fields change = change_way ▸ int_type
+action_fields compare = int_type
 
 -- the action of a tag and its fields
 abbrev pub make_action : (t : ActionTag) → ActionFields t → Action

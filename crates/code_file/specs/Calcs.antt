@@ -6,7 +6,7 @@ use Rattle.ak_words.specs.declared.operation.Op.TheVariants as ops
 use Rattle.struct_ir.specs.Nodes as ir
 use Rattle.struct_ir.specs.Nodes.{Calc}
 use Rattle.formats.specs.Formats.{Format, nothing, behind, ◌▸◌, one_of, u32, tagged}
-use Rattle.code_file.specs.Numbers.{type, value}
+use Rattle.code_file.specs.Numbers.{int_type, value}
 
 -- ---- the number of an operation: its place among the operations
 
@@ -88,13 +88,13 @@ CalcFields pointer_sub = ℕ × (ℕ × ℕ)
 -- a type and its value; the number of a global, a literal, an object or a register; a type and a register; an operation, a type and two
 -- registers; two registers and the bytes of an element; an operation and two registers; a register; nothing; nothing; as pointer_add
 abbrev pub calc_fields : (t : CalcTag) → Format (CalcFields t)
-calc_fields constant = behind type value
+calc_fields constant = behind int_type value
 calc_fields global = u32
 calc_fields literal = u32
 calc_fields object = u32
 calc_fields copy = u32
-calc_fields convert = type ▸ u32
-calc_fields apply = operation ▸ type ▸ u32 ▸ u32
+calc_fields convert = int_type ▸ u32
+calc_fields apply = operation ▸ int_type ▸ u32 ▸ u32
 calc_fields pointer_add = u32 ▸ u32 ▸ u32
 calc_fields pointer_diff = u32 ▸ u32 ▸ u32
 calc_fields pointer_compare = operation ▸ u32 ▸ u32

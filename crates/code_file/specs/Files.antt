@@ -6,7 +6,7 @@ use Rattle.c_tree.specs.Typed.{Init}
 use Rattle.struct_ir.specs.Nodes as ir
 use Rattle.struct_ir.specs.Nodes.{Calc, Step, Call, Node, Nodes, no_nodes, more_nodes, StackObject, Global, Func, Ir}
 use Rattle.formats.specs.Formats.{Format, nothing, behind, seen, ◌▸◌, byte, one_of, u32, exactly, list, tagged}
-use Rattle.code_file.specs.Numbers.{u32_or_none, type, value, zeros}
+use Rattle.code_file.specs.Numbers.{u32_or_none, int_type, value, zeros}
 use Rattle.code_file.specs.Calcs.{calc}
 use Rattle.code_file.specs.Actions.{step}
 
@@ -176,7 +176,7 @@ InitFields literal_at = ℕ
 -- nothing; a type and its value; the number of a literal
 abbrev pub init_fields : (t : InitTag) → Format (InitFields t)
 init_fields zero_bytes = nothing
-init_fields number = behind type value
+init_fields number = behind int_type value
 init_fields literal_at = u32
 
 -- what a tag and its fields say

@@ -2,3 +2,4 @@ pub mod Numbers
 pub mod Calcs
 pub mod Actions
 pub mod Files
+pub mod inner

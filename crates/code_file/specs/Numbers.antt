@@ -60,8 +60,8 @@ abbrev pub other_types : List IntType
 other_types = short ∷ int ∷ long ∷ unsigned_char ∷ unsigned_short ∷ unsigned_int ∷ unsigned_long ∷ []
 
 -- one byte
-unfoldable pub type : Format IntType
-type = one_of char other_types type_number
+unfoldable pub int_type : Format IntType
+int_type = one_of char other_types type_number
 
 -- ---- a type of an access: that of a number, or 8 for a pointer
 
