@@ -3,3 +3,5 @@ pub mod Calcs
 pub mod Actions
 pub mod Files
 pub mod inner
+pub mod RawViews
+pub mod Reads

@@ -3,8 +3,15 @@
 //! Stands on struct_ir's code and the formats of bytes.
 #![tactic(auto)]
 
+pub mod actions;
+pub mod calcs;
 mod fault;
 pub mod laws;
+pub mod nodes;
 pub mod numbers;
+mod raw;
+mod reading;
 
 pub use fault::Fault;
+pub use raw::{RawCode, RawFunc};
+pub use reading::{read_code, ReadFault};
