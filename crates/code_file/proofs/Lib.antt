@@ -1,0 +1,7 @@
+pub mod GrammarLaws
+pub mod Zeros
+pub mod Fails
+pub mod Accesses
+pub mod Tagged
+pub mod Rows
+pub mod Loaded

@@ -1,0 +1,44 @@
+use Rattle.std.proofs.Common.{◌≡◌, refl, arith}
+use Rattle.code_file.proofs.calcs.calc_of.Goals as goal
+
+pub returns-in-0 : goal.returns-in-0
+returns-in-0 c = rw c.in-0.is c.constant_at.ensures
+
+pub returns-in-1 : goal.returns-in-1
+returns-in-1 c = rw c.in-1.is c.global_at.ensures
+
+pub returns-in-2 : goal.returns-in-2
+returns-in-2 c = rw c.in-2.is c.literal_at.ensures
+
+pub returns-in-3 : goal.returns-in-3
+returns-in-3 c = rw c.in-3.is c.object_at.ensures
+
+pub returns-in-4 : goal.returns-in-4
+returns-in-4 c = rw c.in-4.is c.copy_at.ensures
+
+pub returns-in-5 : goal.returns-in-5
+returns-in-5 c = rw c.in-5.is c.convert_at.ensures
+
+pub returns-in-6 : goal.returns-in-6
+returns-in-6 c = rw c.in-6.is c.apply_at.ensures
+
+pub returns-in-7 : goal.returns-in-7
+returns-in-7 c = rw c.in-7.is c.pointer_add_at.ensures
+
+pub returns-in-8 : goal.returns-in-8
+returns-in-8 c = rw c.in-8.is c.pointer_diff_at.ensures
+
+pub returns-in-9 : goal.returns-in-9
+returns-in-9 c = rw c.in-9.is c.pointer_compare_at.ensures
+
+pub returns-in-10 : goal.returns-in-10
+returns-in-10 c = rw c.in-10.is c.pointer_test_at.ensures
+
+pub returns-in-11 : goal.returns-in-11
+returns-in-11 c = rw c.in-11.is refl
+
+pub returns-in-12 : goal.returns-in-12
+returns-in-12 c = rw c.in-12.is refl
+
+pub returns-in_default : goal.returns-in_default
+returns-in_default c = let e : c.args.tag ≡ 13 = omega arith in rw e c.pointer_sub_at.ensures

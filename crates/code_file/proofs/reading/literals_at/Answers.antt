@@ -1,0 +1,31 @@
+use Rattle.std.proofs.Common.{◌≡◌, ◌++◌, ◌∷◌, [], map}
+use Rattle.std.proofs.lemmas.Result.{err_from_is_err_and}
+use Rattle.std.proofs.lemmas.List.{map_push}
+use Rattle.formats.specs.Formats.{byte, u32, list}
+use Rattle.formats.proofs.Loops.{with_front, goes_on, ends, is_done, begins, begins_not}
+use Rattle.c_tree.specs.TypedViews.{literal_view}
+use Rattle.code_file.proofs.Fails.{passes}
+use Rattle.code_file.proofs.reading.literals_at.Goals as goal
+
+pub returns-in_err-count : goal.returns-in_err-count
+returns-in_err-count c =
+    let p = err_from_is_err_and c.from_residual.result c.from_residual.ensures.1 in
+    rw (p.1, p.2) (passes c.in_err-count.field-0.0 (u32.read c.args.bytes.now) ((list (list byte)).read c.args.bytes.now) (begins_not (list byte) c.args.bytes.now) c.in_err-count.ensures)
+
+pub loop-init : goal.loop-init
+loop-init c = rw c.new-all.ensures.items (begins (list byte) c.in_ok-count.count c.args.bytes.now c.in_ok-count.begin.now c.in_ok-count.ensures)
+
+pub returns-in_err-one : goal.returns-in_err-one
+returns-in_err-one c =
+    let p = err_from_is_err_and c.from_residual-in_err-one.result c.from_residual-in_err-one.ensures.1 in
+    rw (p.1, p.2) (passes c.in_err-one.field-0.0 ((list byte).read c.loop.rest.now) ((list (list byte)).read c.args.bytes.now)
+      (λ n e. ends (list byte) (map literal_view c.loop.all.items) c.in_ok-count.count c.loop.counter c.loop.rest.now n ((list (list byte)).read c.args.bytes.now) c.loop-test.true e c.loop.invariant) c.in_err-one.ensures)
+
+pub loop-preserved : goal.loop-preserved
+loop-preserved c =
+    let n = c.in_ok-one.one in
+    let e : map literal_view c.push.new.self.items ≡ map literal_view c.loop.all.items ++ literal_view n ∷ [] = rw c.in_ok-push.ensures.items (map_push literal_view c.loop.all.items n) in
+    rw e (goes_on (list byte) (map literal_view c.loop.all.items) c.in_ok-count.count c.loop.counter c.loop.rest.now (literal_view c.in_ok-one.one) c.in_ok-one.after.now ((list (list byte)).read c.args.bytes.now) c.loop-test.true c.in_ok-one.ensures c.loop.invariant)
+
+pub returns : goal.returns
+returns c = is_done (list byte) (map literal_view c.loop.all.items) c.in_ok-count.count c.loop.counter c.loop.rest.now ((list (list byte)).read c.args.bytes.now) c.loop-test.false c.loop.invariant
