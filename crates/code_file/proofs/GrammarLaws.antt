@@ -60,8 +60,8 @@ pub value_lawful : (t : IntType) → Lawful (value t)
 unfolding value
 value_lawful t =
     seen_lawful (λ (x : ℕ × Unit {0}). wrapped_value t (pos x.0)) (λ z. (bit_pattern t z, tt)) (number (t.bits / 8) ▸ exactly (zeros (8 - t.bits / 8)))
-      (both_lawful (number (t.bits / 8)) (exactly (zeros (8 - t.bits / 8))) (number_lawful (t.bits / 8)) (exactly_lawful (zeros (8 - t.bits / 8))))
-      (λ a is. let e = bits-wrapped_value t a.0 (below_bits t.bits a.0 (widths t) (number_below (t.bits / 8) a.0 is.0)) in λ i. (e i, a.1))
+    (both_lawful (number (t.bits / 8)) (exactly (zeros (8 - t.bits / 8))) (number_lawful (t.bits / 8)) (exactly_lawful (zeros (8 - t.bits / 8))))
+    (λ a is. let e = bits-wrapped_value t a.0 (below_bits t.bits a.0 (widths t) (number_below (t.bits / 8) a.0 is.0)) in λ i. (e i, a.1))
 
 pub bits_lawful : Lawful piece_bits
 unfolding piece_bits
@@ -116,7 +116,7 @@ pub calc_lawful : Lawful calc
 unfolding calc
 calc_lawful =
     seen_lawful (λ (x : (t : CalcTag) × CalcFields t). make_calc x.0 x.1) calc_parts (behind calc_tag calc_fields)
-      (behind_lawful calc_tag calc_fields calc_tag_lawful (λ t is. calc_fields_lawful t)) (λ a is. calc_again a.0 a.1)
+    (behind_lawful calc_tag calc_fields calc_tag_lawful (λ t is. calc_fields_lawful t)) (λ a is. calc_again a.0 a.1)
 
 -- ---- places, pieces and actions
 
@@ -124,8 +124,8 @@ pub place_lawful : Lawful place
 unfolding place
 place_lawful =
     seen_lawful make_place place_parts (u32 ▸ u32_or_none ▸ u32 ▸ u64 ▸ u32)
-      (both_lawful u32 (u32_or_none ▸ u32 ▸ u64 ▸ u32) u32_lawful (both_lawful u32_or_none (u32 ▸ u64 ▸ u32) option_lawful (both_lawful u32 (u64 ▸ u32) u32_lawful (both_lawful u64 u32 u64_lawful u32_lawful))))
-      (λ a is. refl)
+    (both_lawful u32 (u32_or_none ▸ u32 ▸ u64 ▸ u32) u32_lawful (both_lawful u32_or_none (u32 ▸ u64 ▸ u32) option_lawful (both_lawful u32 (u64 ▸ u32) u32_lawful (both_lawful u64 u32 u64_lawful u32_lawful))))
+    (λ a is. refl)
 
 piece_fields_lawful : (t : PieceTag) → Lawful (piece_fields t)
 piece_fields_lawful actions.bytes = list_lawful byte byte_lawful
@@ -147,7 +147,7 @@ pub piece_lawful : Lawful piece
 unfolding piece
 piece_lawful =
     seen_lawful (λ (x : (t : PieceTag) × PieceFields t). make_piece x.0 x.1) piece_parts (behind piece_tag piece_fields)
-      (behind_lawful piece_tag piece_fields (one_of_lawful actions.bytes other_pieces piece_number (refl, (refl, (refl, (refl, (refl, refl)))))) (λ t is. piece_fields_lawful t)) (λ a is. piece_again a.0 a.1)
+    (behind_lawful piece_tag piece_fields (one_of_lawful actions.bytes other_pieces piece_number (refl, (refl, (refl, (refl, (refl, refl)))))) (λ t is. piece_fields_lawful t)) (λ a is. piece_again a.0 a.1)
 
 pub change_lawful : Lawful change_way
 unfolding change_way
@@ -194,7 +194,7 @@ pub action_lawful : Lawful action
 unfolding action
 action_lawful =
     seen_lawful (λ (x : (t : ActionTag) × ActionFields t). make_action x.0 x.1) action_parts (behind action_tag action_fields)
-      (behind_lawful action_tag action_fields action_tag_lawful (λ t is. action_fields_lawful t)) (λ a is. action_again a.0 a.1)
+    (behind_lawful action_tag action_fields action_tag_lawful (λ t is. action_fields_lawful t)) (λ a is. action_again a.0 a.1)
 
 numbers_lawful : Lawful (list u32)
 numbers_lawful = list_lawful u32 u32_lawful
@@ -203,9 +203,9 @@ pub step_lawful : Lawful step
 unfolding step
 step_lawful =
     seen_lawful make_step step_parts (action ▸ list place ▸ u32_or_none ▸ list u32 ▸ list u32)
-      (both_lawful action (list place ▸ u32_or_none ▸ list u32 ▸ list u32) action_lawful (both_lawful (list place) (u32_or_none ▸ list u32 ▸ list u32) (list_lawful place place_lawful)
-        (both_lawful u32_or_none (list u32 ▸ list u32) option_lawful (both_lawful (list u32) (list u32) numbers_lawful numbers_lawful))))
-      (λ a is. refl)
+    (both_lawful action (list place ▸ u32_or_none ▸ list u32 ▸ list u32) action_lawful (both_lawful (list place) (u32_or_none ▸ list u32 ▸ list u32) (list_lawful place place_lawful)
+    (both_lawful u32_or_none (list u32 ▸ list u32) option_lawful (both_lawful (list u32) (list u32) numbers_lawful numbers_lawful))))
+    (λ a is. refl)
 
 -- ---- nodes
 
@@ -213,7 +213,7 @@ pub call_lawful : Lawful call
 unfolding call
 call_lawful =
     seen_lawful make_call call_parts (u32_or_none ▸ u32 ▸ list u32)
-      (both_lawful u32_or_none (u32 ▸ list u32) option_lawful (both_lawful u32 (list u32) u32_lawful numbers_lawful)) (λ a is. refl)
+    (both_lawful u32_or_none (u32 ▸ list u32) option_lawful (both_lawful u32 (list u32) u32_lawful numbers_lawful)) (λ a is. refl)
 
 node_tag_lawful : Lawful node_tag
 node_tag_lawful = one_of_lawful files.set other_nodes node_number (refl, (refl, (refl, (refl, (refl, (refl, (refl, (refl, (refl, (refl, (refl, refl)))))))))))
@@ -251,7 +251,7 @@ module _ (N : Format Nodes) (n : Lawful N) where
   unfolding node
   node_lawful =
       seen_lawful (λ (x : ℕ × ((t : NodeTag) × NodeFields t)). make_node x.0 x.1.0 x.1.1) node_parts (u32 ▸ behind node_tag (node_fields N))
-        (both_lawful u32 (behind node_tag (node_fields N)) u32_lawful (behind_lawful node_tag (node_fields N) node_tag_lawful (λ t is. node_fields_lawful t))) (λ a is. node_again a.0 a.1.0 a.1.1)
+      (both_lawful u32 (behind node_tag (node_fields N)) u32_lawful (behind_lawful node_tag (node_fields N) node_tag_lawful (λ t is. node_fields_lawful t))) (λ a is. node_again a.0 a.1.0 a.1.1)
 
 list_again : (ns : List Node) → list_of (nodes_of ns) ≡ ns
 list_again [] = refl
@@ -266,14 +266,14 @@ nodes_lawful (suc depth) = seen_lawful nodes_of list_of (list (node (nodes depth
 
 pub object_lawful : Lawful object
 unfolding object
-object_lawful = seen_lawful (λ (x : ℕ × ℕ). record {size = x.0; align = x.1}) (λ (o : StackObject). (o.size, o.align)) (u32 ▸ byte) (both_lawful u32 byte u32_lawful byte_lawful) (λ a is. refl)
+object_lawful = seen_lawful (λ (x : ℕ × ℕ). record { size = x.0; align = x.1 }) (λ (o : StackObject). (o.size, o.align)) (u32 ▸ byte) (both_lawful u32 byte u32_lawful byte_lawful) (λ a is. refl)
 
 pub func_lawful : (depth : ℕ) → Lawful (func depth)
 unfolding func
 func_lawful depth =
     seen_lawful make_func func_parts (u32 ▸ u32 ▸ u32 ▸ list object ▸ nodes depth)
-      (both_lawful u32 (u32 ▸ u32 ▸ list object ▸ nodes depth) u32_lawful (both_lawful u32 (u32 ▸ list object ▸ nodes depth) u32_lawful
-        (both_lawful u32 (list object ▸ nodes depth) u32_lawful (both_lawful (list object) (nodes depth) (list_lawful object object_lawful) (nodes_lawful depth))))) (λ a is. refl)
+    (both_lawful u32 (u32 ▸ u32 ▸ list object ▸ nodes depth) u32_lawful (both_lawful u32 (u32 ▸ list object ▸ nodes depth) u32_lawful
+    (both_lawful u32 (list object ▸ nodes depth) u32_lawful (both_lawful (list object) (nodes depth) (list_lawful object object_lawful) (nodes_lawful depth))))) (λ a is. refl)
 
 init_fields_lawful : (t : InitTag) → Lawful (init_fields t)
 init_fields_lawful files.zero_bytes = nothing_lawful
@@ -289,13 +289,13 @@ pub init_lawful : Lawful init
 unfolding init
 init_lawful =
     seen_lawful (λ (x : (t : InitTag) × InitFields t). make_init x.0 x.1) init_parts (behind init_tag init_fields)
-      (behind_lawful init_tag init_fields (one_of_lawful files.zero_bytes (files.number ∷ files.literal_at ∷ []) init_number (refl, (refl, refl))) (λ t is. init_fields_lawful t)) (λ a is. init_again a.0 a.1)
+    (behind_lawful init_tag init_fields (one_of_lawful files.zero_bytes (files.number ∷ files.literal_at ∷ []) init_number (refl, (refl, refl))) (λ t is. init_fields_lawful t)) (λ a is. init_again a.0 a.1)
 
 pub global_lawful : Lawful global
 unfolding global
 global_lawful =
-    seen_lawful (λ (x : ℕ × (ℕ × Init)). record {size = x.0; align = x.1.0; init = x.1.1}) (λ (g : Global). (g.size, (g.align, g.init))) (u32 ▸ byte ▸ init)
-      (both_lawful u32 (byte ▸ init) u32_lawful (both_lawful byte init byte_lawful init_lawful)) (λ a is. refl)
+    seen_lawful (λ (x : ℕ × (ℕ × Init)). record { size = x.0; align = x.1.0; init = x.1.1 }) (λ (g : Global). (g.size, (g.align, g.init))) (u32 ▸ byte ▸ init)
+    (both_lawful u32 (byte ▸ init) u32_lawful (both_lawful byte init byte_lawful init_lawful)) (λ a is. refl)
 
 pub file_lawful : (depth : ℕ) → Lawful (file depth)
 unfolding file
@@ -303,6 +303,6 @@ file_lawful depth =
     let texts = list_lawful (list byte) (list_lawful byte byte_lawful) in
     let funcs = list_lawful (func depth) (func_lawful depth) in
     seen_lawful make_file file_parts (exactly begins_file ▸ u32 ▸ list global ▸ list (list byte) ▸ list (func depth))
-      (both_lawful (exactly begins_file) (u32 ▸ list global ▸ list (list byte) ▸ list (func depth)) (exactly_lawful begins_file)
-        (both_lawful u32 (list global ▸ list (list byte) ▸ list (func depth)) u32_lawful
-          (both_lawful (list global) (list (list byte) ▸ list (func depth)) (list_lawful global global_lawful) (both_lawful (list (list byte)) (list (func depth)) texts funcs)))) (λ a is. refl)
+    (both_lawful (exactly begins_file) (u32 ▸ list global ▸ list (list byte) ▸ list (func depth)) (exactly_lawful begins_file)
+    (both_lawful u32 (list global ▸ list (list byte) ▸ list (func depth)) u32_lawful
+    (both_lawful (list global) (list (list byte) ▸ list (func depth)) (list_lawful global global_lawful) (both_lawful (list (list byte)) (list (func depth)) texts funcs)))) (λ a is. refl)

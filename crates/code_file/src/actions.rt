@@ -9,15 +9,15 @@ ghost use Rattle.code_file.specs.inner.Gives.{Gives};
 ghost use Rattle.code_file.specs.Actions as actions;
 ghost use Rattle.code_file.specs.Actions.{place, other_pieces, piece_fields, make_piece, piece, change_way, other_actions, action_fields, make_action, action, step};
 
-use std::alloc::Global;
-
+use crate::fault::Fault;
+use crate::numbers::{
+    access_at, flag_at, option_at, piece_bits_at, tag_at, type_at, u32_at, u64_at,
+};
 use block_store::Change;
 use c_tree::typed::Piece;
 use smallvec::SmallVec;
+use std::alloc::Global;
 use struct_ir::code::{Action, Numbers, Place, Places, StepNode};
-
-use crate::fault::Fault;
-use crate::numbers::{access_at, flag_at, option_at, piece_bits_at, tag_at, type_at, u32_at, u64_at};
 
 /// Where an access goes.
 #[tactic(auto, unfolding(crate::specs::Actions::place))]

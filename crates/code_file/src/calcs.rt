@@ -8,11 +8,10 @@ ghost use Rattle.code_file.specs.inner.Gives.{Gives};
 ghost use Rattle.code_file.specs.Calcs as calcs;
 ghost use Rattle.code_file.specs.Calcs.{other_ops, operation, other_calcs, calc_fields, make_calc, calc};
 
-use ak_words::Op;
-use struct_ir::code::Calc;
-
 use crate::fault::Fault;
 use crate::numbers::{tag_at, type_at, u32_at, value_at};
+use ak_words::Op;
+use struct_ir::code::Calc;
 
 /// The operation that has this number.
 fn op_of(number: u8) -> Op

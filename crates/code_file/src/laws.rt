@@ -11,5 +11,4 @@ ghost use Rattle.code_file.specs.Files.{file};
 pub fn files_are_exact()
     ensures one { (depth : ℕ) → OneSpelling (file depth) }
     ensures exact { (depth : ℕ) (bytes : List ℕ) → WholeAt (file depth) bytes (whole (file depth) bytes) }
-{
-}
+{}

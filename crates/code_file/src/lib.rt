@@ -1,5 +1,5 @@
-//! Code files: which bytes spell the code of a program, and how they are read.
-//! Promises upward: each code has one spelling, and bytes that are none say where the longest front ends that begins one.
+//! Code files: which bytes spell the code of a program, and how they are read. What is read isn't judged yet, and no mode of the program uses it.
+//! Promises upward: each code has one spelling; `read_code` gives the code that bytes spell, or where the longest front ends that begins one.
 //! Stands on struct_ir's code and the formats of bytes.
 #![tactic(auto)]
 
@@ -14,4 +14,4 @@ mod reading;
 
 pub use fault::Fault;
 pub use raw::{RawCode, RawFunc};
-pub use reading::{read_code, ReadFault};
+pub use reading::{ReadFault, read_code};

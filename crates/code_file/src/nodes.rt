@@ -8,14 +8,12 @@ ghost use Rattle.code_file.specs.inner.Gives.{Gives};
 ghost use Rattle.code_file.specs.Files as files;
 ghost use Rattle.code_file.specs.Files.{call, other_nodes, node_fields, make_node, node, nodes};
 
-use std::alloc::Global;
-
-use struct_ir::code::{CallNode, Node, NodeKind};
-
 use crate::actions::{numbers_at, step_at};
 use crate::calcs::calc_at;
 use crate::fault::Fault;
 use crate::numbers::{exactly_at, option_at, tag_at, u32_at, zeros};
+use std::alloc::Global;
+use struct_ir::code::{CallNode, Node, NodeKind};
 
 /// A node.
 fn node(place: u32, kind: NodeKind) -> Node
@@ -165,7 +163,13 @@ fn node_at(alloc: Global, depth: u32, bytes: &[u8]) -> Result<(Node, &[u8]), Fau
 }
 
 #[cycle(reads)]
-fn kind_at(alloc: Global, depth: u32, place: u32, tag: u8, bytes: &[u8]) -> Result<(Node, &[u8]), Fault>
+fn kind_at(
+    alloc: Global,
+    depth: u32,
+    place: u32,
+    tag: u8,
+    bytes: &[u8],
+) -> Result<(Node, &[u8]), Fault>
     requires { tag < 12 }
     ensures { Gives (λ x. (node_view x.0, x.1.now)) result (behind_tag (node_fields (nodes depth)) (make_node place) (at_number files.set other_nodes tag) bytes.now) }
 {

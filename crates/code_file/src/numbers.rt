@@ -7,10 +7,9 @@ ghost use Rattle.formats.specs.Formats.{byte, byte_below, at_number, number, u32
 ghost use Rattle.code_file.specs.inner.Gives.{Gives};
 ghost use Rattle.code_file.specs.Numbers.{u32_or_none, flag, short, unsigned_char, unsigned_short, other_types, int_type, other_accesses, access, value, zeros, piece_bits};
 
+use crate::fault::Fault;
 use ak_words::{IntType, Num};
 use block_store::Access;
-
-use crate::fault::Fault;
 
 /// A byte.
 pub fn byte_at(bytes: &[u8]) -> Result<(u8, &[u8]), Fault>
@@ -97,21 +96,30 @@ pub fn flag_at(bytes: &[u8]) -> Result<(bool, &[u8]), Fault>
 fn short() -> IntType
     ensures { result ≡ short }
 {
-    IntType { signed: true, bits: 16 }
+    IntType {
+        signed: true,
+        bits: 16,
+    }
 }
 
 /// `unsigned char`.
 fn unsigned_char() -> IntType
     ensures { result ≡ unsigned_char }
 {
-    IntType { signed: false, bits: 8 }
+    IntType {
+        signed: false,
+        bits: 8,
+    }
 }
 
 /// `unsigned short`.
 fn unsigned_short() -> IntType
     ensures { result ≡ unsigned_short }
 {
-    IntType { signed: false, bits: 16 }
+    IntType {
+        signed: false,
+        bits: 16,
+    }
 }
 
 /// The type of a number that has this number.

@@ -12,16 +12,14 @@ ghost use Rattle.code_file.specs.Files.{object, func, init_fields, make_init, in
 ghost use Rattle.code_file.specs.RawViews.{raw_func_view, raw_view};
 ghost use Rattle.code_file.specs.Reads.{Reads};
 
-use std::alloc::Global;
-
-use c_tree::typed::{Init, Literal};
-use struct_ir::code::{IrGlobal, StackObject};
-
 use crate::actions::text_at;
 use crate::fault::Fault;
 use crate::nodes::nodes_at;
 use crate::numbers::{byte_at, exactly_at, tag_at, type_at, u32_at, value_at};
 use crate::raw::{RawCode, RawFunc};
+use c_tree::typed::{Init, Literal};
+use std::alloc::Global;
+use struct_ir::code::{IrGlobal, StackObject};
 
 /// Why a file was not read.
 #[derive(Clone, Copy, Debug, PartialEq, Eq)]

@@ -28,7 +28,7 @@ at_its_number number_of n first (second ∷ more) h (suc k) lt = at_its_number n
 pub one_of_lawful : {A : Type 0} (first : A) (more : List A) (number_of : A → ℕ) → AreNumbered number_of 0 first more → Lawful (one_of first more number_of)
 one_of_lawful first more number_of h =
     seen_lawful (at_number first more) number_of (byte_below (suc (length more))) (below_lawful (suc (length more)) (omega arith))
-      (λ k is. at_its_number number_of 0 first more h k (ltb-true k (suc (length more)) is) ∙ omega arith)
+    (λ k is. at_its_number number_of 0 first more h k (ltb-true k (suc (length more)) is) ∙ omega arith)
 
 split_number : (b n : ℕ) → ltb b 256 ≡ true → ((b + 256 * n) % 256 ≡ b) × ((b + 256 * n) / 256 ≡ n)
 split_number b n h = let lt : b < 256 = ltb-true b 256 h in (omega arith, omega arith)
@@ -37,14 +37,14 @@ pub number_lawful : (k : ℕ) → Lawful (number k)
 number_lawful zero = seen_lawful (λ x. 0) (λ n. tt) nothing nothing_lawful (λ a is. refl)
 number_lawful (suc k) =
     seen_lawful (λ (x : ℕ × ℕ). x.0 + 256 * x.1) (λ n. (n % 256, n / 256)) (byte ▸ number k) (both_lawful byte (number k) byte_lawful (number_lawful k))
-      (λ a is. let s = split_number a.0 a.1 is.0 in λ i. (s.0 i, s.1 i))
+    (λ a is. let s = split_number a.0 a.1 is.0 in λ i. (s.0 i, s.1 i))
 
 pub exactly_lawful : (bs : List ℕ) → Lawful (exactly bs)
 exactly_lawful [] = nothing_lawful
 exactly_lawful (b ∷ bs) =
     seen_lawful (λ (x : ℕ × Unit {0}). tt) (λ x. (b, tt)) (one_byte (λ c. eqb c b) b ▸ exactly bs)
-      (both_lawful (one_byte (λ c. eqb c b) b) (exactly bs) (one_byte_lawful (λ c. eqb c b) b (eq-eqb b b refl)) (exactly_lawful bs))
-      (λ a is. let e = eqb-true a.0 b is.0 in λ i. (sym e i, tt))
+    (both_lawful (one_byte (λ c. eqb c b) b) (exactly bs) (one_byte_lawful (λ c. eqb c b) b (eq-eqb b b refl)) (exactly_lawful bs))
+    (λ a is. let e = eqb-true a.0 b is.0 in λ i. (sym e i, tt))
 
 pub rows_lawful : {A : Type 0} (F : Format A) → Lawful F → (n : ℕ) → Lawful (rows F n)
 rows_lawful F f zero = seen_lawful (λ x. []) (λ xs. tt) nothing nothing_lawful (λ a is. refl)
@@ -67,7 +67,7 @@ pub list_lawful : {A : Type 0} (F : Format A) → Lawful F → Lawful (list F)
 unfolding list
 list_lawful {A = A} F f =
     seen_lawful (λ (x : ℕ × List A). x.1) (λ xs. (length xs, xs)) (behind u32 (rows F)) (behind_lawful u32 (rows F) u32_lawful (λ n is. rows_lawful F f n))
-      (λ a is. let e = rows_count F a.0 a.1 is.1 in λ i. (e i, a.1))
+    (λ a is. let e = rows_count F a.0 a.1 is.1 in λ i. (e i, a.1))
 
 -- ---- which numbers are spelled
 

@@ -17,7 +17,7 @@ pub returns-in_err-number : goal.returns-in_err-number
 returns-in_err-number c =
     let p = err_from_is_err_and c.from_residual-in_err-number.result c.from_residual-in_err-number.ensures.1 in
     rw (p.1, p.2) (passes c.in_err-number.field-0.0 (u32.read c.loop.rest.now) ((list u32).read c.args.bytes.now)
-      (λ n e. ends u32 c.loop.numbers.items c.in_ok-count.count c.loop.counter c.loop.rest.now n ((list u32).read c.args.bytes.now) c.loop-test.true e c.loop.invariant) c.in_err-number.ensures)
+    (λ n e. ends u32 c.loop.numbers.items c.in_ok-count.count c.loop.counter c.loop.rest.now n ((list u32).read c.args.bytes.now) c.loop-test.true e c.loop.invariant) c.in_err-number.ensures)
 
 pub loop-preserved : goal.loop-preserved
 loop-preserved c =

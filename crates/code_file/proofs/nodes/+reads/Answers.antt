@@ -23,7 +23,7 @@ nodes_at-returns-in_err-one t c =
     let p = err_from_is_err_and c.from_residual-in_err-one.result c.from_residual-in_err-one.ensures.1 in
     let pos : 0 < c.args.depth = omega arith in
     rw (p.1, p.2) (passes c.in_err-one.field-0.0 ((node (nodes (c.args.depth - 1))).read c.loop.rest.now) ((nodes c.args.depth).read c.args.bytes.now)
-      (λ n e. nodes_not_read c.args.depth pos c.args.bytes.now n (ends (node (nodes (c.args.depth - 1))) (map node_view c.loop.out.items) c.in_ok-count.count c.loop.counter c.loop.rest.now n ((list (node (nodes (c.args.depth - 1)))).read c.args.bytes.now) c.loop-test.true e c.loop.invariant)) c.in_err-one.ensures)
+    (λ n e. nodes_not_read c.args.depth pos c.args.bytes.now n (ends (node (nodes (c.args.depth - 1))) (map node_view c.loop.out.items) c.in_ok-count.count c.loop.counter c.loop.rest.now n ((list (node (nodes (c.args.depth - 1)))).read c.args.bytes.now) c.loop-test.true e c.loop.invariant)) c.in_err-one.ensures)
 
 pub nodes_at-loop-preserved : goal.nodes_at-loop-preserved
 nodes_at-loop-preserved t c =
@@ -45,7 +45,7 @@ pub node_at-returns-in_err-tag : goal.node_at-returns-in_err-tag
 node_at-returns-in_err-tag t c =
     let p = err_from_is_err_and c.from_residual-in_err-tag.result c.from_residual-in_err-tag.ensures.1 in
     rw (p.1, p.2) (passes c.in_err-tag.field-0.0 ((byte_below 12).read c.in_ok-place.rest.now) ((node (nodes c.args.depth)).read c.args.bytes.now)
-      (λ k e. no_tag (nodes c.args.depth) c.args.bytes.now c.in_ok-place.rest.now c.in_ok-place.place k c.in_ok-place.ensures e) c.in_err-tag.ensures.value)
+    (λ k e. no_tag (nodes c.args.depth) c.args.bytes.now c.in_ok-place.rest.now c.in_ok-place.place k c.in_ok-place.ensures e) c.in_err-tag.ensures.value)
 
 pub node_at-returns : goal.node_at-returns
 node_at-returns t c = rw (node_read (nodes c.args.depth) c.args.bytes.now c.in_ok-place.rest.now c.in_ok-tag.rest.now c.in_ok-place.place c.in_ok-tag.tag c.in_ok-place.ensures c.in_ok-tag.ensures.value) c.kind_at.ensures

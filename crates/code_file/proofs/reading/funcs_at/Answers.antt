@@ -20,7 +20,7 @@ pub returns-in_err-one : goal.returns-in_err-one
 returns-in_err-one c =
     let p = err_from_is_err_and c.from_residual-in_err-one.result c.from_residual-in_err-one.ensures.1 in
     rw (p.1, p.2) (passes c.in_err-one.field-0.0 ((func c.args.depth).read c.loop.rest.now) ((list (func c.args.depth)).read c.args.bytes.now)
-      (λ n e. ends (func c.args.depth) (map raw_func_view c.loop.all.items) c.in_ok-count.count c.loop.counter c.loop.rest.now n ((list (func c.args.depth)).read c.args.bytes.now) c.loop-test.true e c.loop.invariant) c.in_err-one.ensures)
+    (λ n e. ends (func c.args.depth) (map raw_func_view c.loop.all.items) c.in_ok-count.count c.loop.counter c.loop.rest.now n ((list (func c.args.depth)).read c.args.bytes.now) c.loop-test.true e c.loop.invariant) c.in_err-one.ensures)
 
 pub loop-preserved : goal.loop-preserved
 loop-preserved c =
