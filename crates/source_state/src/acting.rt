@@ -142,13 +142,13 @@ impl World {
     fn kept_cells(&self, at: Ptr, size: u32) -> u32
         ensures { result ≡ kept_cells (world_of self.now).blocks at size }
     {
-        match at {
-            Ptr::Null => 0,
-            Ptr::To { block, offset: _ } => match self.store.store().live_size(block) {
-                Some(old) => old.min(size),
-                None => 0,
-            },
-        }
+        let Ptr::To { block, offset: _ } = at else {
+            return 0;
+        };
+        let Some(old) = self.store.store().live_size(block) else {
+            return 0;
+        };
+        old.min(size)
     }
 
     // A new thread.
