@@ -97,6 +97,7 @@ impl World {
     }
 
     // A block in place of another, or of null; what free wouldn't take breaks a rule, whatever the answer is.
+    #[tactic(auto, using(crate::proofs::Renewals::realloc_broken, crate::proofs::Renewals::realloc_plain, crate::proofs::Renewals::realloc_none, crate::proofs::Renewals::realloc_large))]
     fn reallocate(
         &mut self,
         thread: u32,
@@ -123,6 +124,7 @@ impl World {
     }
 
     // A block that is made in place of another, or of null: the cells that both have are read, and written.
+    #[tactic(auto, using(crate::proofs::Renewals::renewal_broke, crate::proofs::Renewals::renewal_went))]
     fn renew(&mut self, at: Ptr, size: u32) -> Result<Done, NoMemory>
         ensures done { IfOk result (λ done. done_of done (world_of self.new) ≡ telling (renew_reaches (world_of self.old) answers.Got at size) (renews (world_of self.old) size (renewed (world_of self.old).blocks at size)).got) }
         ensures untouched { IfOk result (λ done. Untouched done self.old self.new) }
