@@ -24,10 +24,13 @@ abs_below : (n : Num) → unsigned_abs n.value < 2 ^ 64
 abs_below n =
     let most : n.ty.bits ≤ 64 = width_most n.ty.bits n.ty.known_width in
     let all : 2 ^ n.ty.bits ≤ 2 ^ 64 = pow_mono most in
-    let half : 2 ^ (n.ty.bits - 1) ≤ 2 ^ 63 = pow_mono (omega (arith, most)) in
+    let half : 2 ^ (n.ty.bits - 1) ≤ 2 ^ 63 = pow_mono {j = 63} (omega (arith, most)) in
     within n.ty.signed (2 ^ n.ty.bits) (2 ^ (n.ty.bits - 1)) all (omega (arith, half)) n.value n.in_range.0 n.in_range.1
 
-pub product_fits : (n m : Num) → unsigned_abs n.value * unsigned_abs m.value < 2 ^ 128
+product_fits : (n m : Num) → unsigned_abs n.value * unsigned_abs m.value < 2 ^ 128
 product_fits n m =
     let all : unsigned_abs n.value * unsigned_abs m.value ≤ (2 ^ 64 - 1) * (2 ^ 64 - 1) = mul-le (unsigned_abs n.value) (unsigned_abs m.value) (2 ^ 64 - 1) (2 ^ 64 - 1) (omega (arith, abs_below n)) (omega (arith, abs_below m)) in
     omega (arith, all)
+
+pub product_of : (n m : Num) (a b : ℕ) → a ≡ unsigned_abs n.value → b ≡ unsigned_abs m.value → a * b < 2 ^ 128
+product_of n m a b e f = rw (e, f) (product_fits n m)
