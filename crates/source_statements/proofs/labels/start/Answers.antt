@@ -1,4 +1,4 @@
-use Rattle.std.proofs.Common.{◌≡◌, ◌∙◌, ap, map, length, refl}
+use Rattle.std.proofs.Common.{◌∙◌, ap, map, length, refl}
 use Rattle.std.proofs.lemmas.Option.{slice_get_past, slice_get_read}
 use Rattle.c_tree.specs.TypedViews.{label_view}
 use Rattle.c_meaning.specs.Switches.{starts_at}

@@ -223,8 +223,8 @@ switch-returns-in-Ends-clause-exits t c =
     value_ended c.args.program.now c.args.function _ _ _ (expr_of c.args.e.now.value) _ _ _ c.in-Ends.q (λ h w. turns.switch_test_way labels body (turns.run_from h body) w) (todo_of c.args.k.now.value)
     c.in_ok-flow.ensures c.store.ensures (search rules) c.in-Ends.is (λ h w n. ap (control.switch_test labels body) n ∙ sym c.in_ok-after.ensures)
 
-pub switch-returns-in-Gives-clause-exits : goal.switch-returns-in-Gives-clause-exits
-switch-returns-in-Gives-clause-exits t c =
+pub switch-returns-clause-exits : goal.switch-returns-clause-exits
+switch-returns-clause-exits t c =
     let labels = labels_of c.args.labels.now.value in
     let body = row_of c.args.body.now.value in
     IfOk-weaker c.enter_switch.result _ _ (λ g a. gives_exit c.args.program.now c.args.function _ _ _ (expr_of c.args.e.now.value) _ _ _ c.in-Gives.v (λ h w. turns.switch_test_way labels body (turns.run_from h body) w) (todo_of c.args.k.now.value) _ _ g
