@@ -96,7 +96,10 @@ const ROWS: [Row; 76] = [
     Row("alaska grown.c", "ended live"),
     Row("alaska grown.c --every 1", "ended live"),
     Row("alaska grown.c --mode check", "all"),
-    Row("alaska no_room.c --subheap 4096 --subheaps 1", "ended barriers live"),
+    Row(
+        "alaska no_room.c --subheap 4096 --subheaps 1",
+        "ended barriers live",
+    ),
     Row("alaska zeroed.c --ids 1", "ended live"),
     Row("alaska too_large.c", "ended barriers"),
     Row("alaska too_large.c --mode check", "all"),

@@ -35,14 +35,14 @@ fn a_block_in_place_of_another(rt: HostRuntime) -> Result<(), Fail> {
     let byte = Access::Number(IntType::char());
     for (answer, done) in [
         (Answer::Plain, Done::Unfit),
-        (
-            Answer::None,
-            Done::Went(Some(Value::Pointer(Ptr::Null))),
-        ),
+        (Answer::None, Done::Went(Some(Value::Pointer(Ptr::Null)))),
     ] {
         let action = SharedAction::Reallocate(at, 6);
         assert_eq!(rt; world.act(alloc, 0, answer, action)?, done);
-        assert_eq!(rt; world.act(alloc, 0, Answer::Plain, SharedAction::Load(at, byte))?, seven);
+        assert_eq!(rt;
+            world.act(alloc, 0, Answer::Plain, SharedAction::Load(at, byte))?,
+            seven
+        );
     }
     let new = Ptr::To {
         block: 1,
@@ -53,7 +53,10 @@ fn a_block_in_place_of_another(rt: HostRuntime) -> Result<(), Fail> {
         Done::Went(Some(Value::Pointer(new)))
     );
     assert_eq!(rt; world.reached.len(), 2);
-    assert_eq!(rt; world.act(alloc, 0, Answer::Plain, SharedAction::Load(new, byte))?, seven);
+    assert_eq!(rt;
+        world.act(alloc, 0, Answer::Plain, SharedAction::Load(new, byte))?,
+        seven
+    );
     for answer in [Answer::Plain, Answer::Got, Answer::None] {
         assert_eq!(rt;
             world.act(alloc, 0, answer, SharedAction::Reallocate(at, 6))?,
