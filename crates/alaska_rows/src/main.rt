@@ -31,7 +31,7 @@ use std::io;
 #[derive(Clone, Copy)]
 struct Row(&'static str, &'static str);
 
-const ROWS: [Row; 69] = [
+const ROWS: [Row; 79] = [
     Row("alaska nothing.c", "all"),
     Row("alaska answer.c", "all"),
     Row("alaska heap.c", "ended live"),
@@ -93,6 +93,22 @@ const ROWS: [Row; 69] = [
     Row("alaska states.c", "ended"),
     Row("alaska states.c --mode check", "all"),
     Row("alaska aliases.c --every 1", "ended live"),
+    Row("alaska grown.c", "ended live"),
+    Row("alaska grown.c --every 1", "ended live"),
+    Row("alaska grown.c --mode check", "all"),
+    Row(
+        "alaska no_room.c --subheap 4096 --subheaps 1",
+        "ended barriers live",
+    ),
+    Row("alaska zeroed.c --ids 1", "ended live"),
+    Row("alaska too_large.c", "ended barriers"),
+    Row("alaska too_large.c --mode check", "all"),
+    Row("alaska dead_realloc.c --ids 1", "ended"),
+    Row("alaska dead_realloc.c --mode check", "all"),
+    Row(
+        "alaska vector.c --workers 4 --every 7 --schedule 3",
+        "ended threads live",
+    ),
     Row("alaska unset_by_label.c --mode check", "all"),
     Row("alaska do_by_zero.c --mode check", "all"),
     Row("alaska hidden_type.c", "all"),

@@ -55,6 +55,8 @@ sum_sized false t u size = tt
 lib_sized : (place : ℕ) (which : tree.Lib) (es : tree.Exprs) (t : ℕ) (rest : Nodes) → AreSized rest → AreSized (lib_nodes place which es t rest)
 lib_sized place (tree.print pieces) es t rest g = (tt, g)
 lib_sized place tree.malloc es t rest g = (tt, g)
+lib_sized place tree.calloc es t rest g = (tt, g)
+lib_sized place tree.realloc es t rest g = (tt, g)
 lib_sized place tree.free es t rest g = (tt, g)
 lib_sized place tree.copy es t rest g = (tt, g)
 lib_sized place (tree.start function) es t rest g = (tt, g)

@@ -1,6 +1,6 @@
 -- What a turn asks for, by what ends it.
-use Rattle.std.proofs.Common.{◌≡◌, ◌≤◌, ◌==◌, ◌+◌, ◌-◌, ◌^◌, Bool, true, false, if◌then◌else◌, ℕ, min, List, [], ◌∷◌, ◌++◌, length, map, replicate, Option, Some, None, Result, Ok, Err, IsSome, refl, sym, ap, subst, ◌∙◌, arith}
-use Rattle.std.proofs.lemmas.List.{length-replicate, length_push}
+use Rattle.std.proofs.Common.{◌≡◌, ◌≤◌, ◌==◌, ◌+◌, ◌-◌, ◌^◌, Bool, true, false, if◌then◌else◌, ℕ, min, List, [], ◌∷◌, ◌++◌, length, map, Option, Some, None, Result, Ok, Err, IsSome, refl, sym, ap, subst, ◌∙◌, arith}
+use Rattle.std.proofs.lemmas.List.{length_push}
 use Rattle.std.specs.List.{slice_get}
 use Rattle.std.specs.Prelude.{nat_lt}
 use Rattle.ak_words.specs.declared.rule.Rule.{Rule}
@@ -13,7 +13,7 @@ use Rattle.block_store.specs.declared.values.Ptr.TheVariants.{To}
 use Rattle.block_store.specs.declared.values.Value.{Value}
 use Rattle.block_store.specs.declared.values.Value.TheVariants as values
 use Rattle.block_store.specs.Actions as actions
-use Rattle.block_store.specs.Blocks.{Block, Blocks, made, loaded, stored, copied, freed}
+use Rattle.block_store.specs.Blocks.{Blocks, made, loaded, stored, copied, freed, renewed}
 use Rattle.block_store.specs.Mutexes.{locked, unlocked, destroyed}
 use Rattle.block_store.specs.Runs.{Turn, Program, State, Pick, went, unfit, turn_if, picked, own_at}
 use Rattle.c_tree.specs.Typed as tree
@@ -30,17 +30,12 @@ use Rattle.source_state.specs.declared.control.Pending.{Pending}
 use Rattle.source_state.specs.declared.control.Pending.TheVariants as pendings
 use Rattle.source_expressions.specs.Ends.{here_at, point_of, ends}
 use Rattle.source_expressions.specs.Progress.{now_in}
-use Rattle.block_meaning.specs.Asking.{some_bytes, a_thread, size_of_block, size_of_last, wish_by, wish_by_got, AreAsked, AreAskedOf, told, wish}
+use Rattle.block_meaning.specs.Asking.{some_bytes, a_thread, size_of_last, wish_by, wish_by_got, AreAsked, AreAskedOf, told, wish}
 use Rattle.block_meaning.specs.declared.thread.Own.{Own}
 use Rattle.block_meaning.specs.Threads.{callers_of, control_of}
-use Rattle.block_meaning.specs.inner.Turns.{bytes_asked, asked_under, Reaches}
+use Rattle.block_meaning.specs.inner.Turns.{unless_broken, bytes_asked, asked_under, Reaches}
 use Rattle.block_meaning.proofs.Reaching.{turn_taken}
-
--- the block that was made last is the last one
-pub last_made : (blocks : Blocks) (b : Option Block) → size_of_last (blocks ++ b ∷ []) ≡ size_of_block b
-last_made [] b = refl
-last_made (x ∷ []) b = refl
-last_made (x ∷ y ∷ more) b = last_made (y ∷ more) b
+use Rattle.block_meaning.proofs.Renewing.{last_is, Renewal, renewal}
 
 -- where a thread goes on behind an action
 abbrev Goes : Type 0
@@ -65,9 +60,9 @@ longer : (n m : ℕ) → m ≡ n + 1 → (m == n) ≡ false
 longer n m e = grind arith
 
 -- an allocation that gets what it asks for, where that fits, and else takes no block
-abbrev got_block : turns.TurnContext → List control.Variable → (Option Value → control.TurnStart) → (place : ℕ) → actions.World → (size : ℕ) → Cell → Bool → Turn control.Control
-got_block h locals point place w size first fits =
-    turns.on_done place (goes_on h locals point) (actions.telling [] (if fits then actions.went (Some (values.Pointer (To (length w.blocks) 0))) (actions.with_blocks w (made w.blocks size kinds.Heap first)) else actions.unfit))
+abbrev got_block : turns.TurnContext → List control.Variable → (Option Value → control.TurnStart) → (place : ℕ) → actions.World → List actions.Reached → Blocks → Bool → Turn control.Control
+got_block h locals point place w reached blocks fits =
+    turns.on_done place (goes_on h locals point) (actions.telling reached (if fits then actions.went (Some (values.Pointer (To (length w.blocks) 0))) (actions.with_blocks w blocks) else actions.unfit))
 
 min_fits : (n : ℕ) → nat_lt n (2 ^ 32) ≡ true → min n (2 ^ 64 - 1) ≡ n
 min_fits n e = grind arith
@@ -76,13 +71,28 @@ min_large : (n : ℕ) → nat_lt n (2 ^ 32) ≡ false → 2 ^ 32 ≤ min n (2 ^ 
 min_large n e = grind arith
 
 -- it asks for its bytes
-allocation_asks : (h : turns.TurnContext) (locals : List control.Variable) (point : Option Value → control.TurnStart) (place : ℕ) (w : actions.World) (blocks : Blocks) (size : ℕ) (first : Cell) (fits : Bool) (own : control.Control) (after : actions.World)
-    → nat_lt size (2 ^ 32) ≡ fits
-    → AreAsked (wish_by_got w (Some (got_block h locals point place (actions.with_blocks w blocks) size first fits)) (Some (went own after))) (Some (min size (2 ^ 64 - 1)))
-allocation_asks h locals point place w blocks size first true own after e =
-    subst (λ (b : Bool). AreAsked (if b then some_bytes (size_of_last (made blocks size kinds.Heap first)) else a_thread) (Some (min size (2 ^ 64 - 1)))) (sym (same_length (length w.threads)))
-    (ap Some (min_fits size e ∙ sym (last_made blocks (Some (record { kind = kinds.Heap; cells = replicate size first })) ∙ length-replicate size first)))
-allocation_asks h locals point place w blocks size first false own after e = min_large size e
+allocation_asks : (h : turns.TurnContext) (locals : List control.Variable) (point : Option Value → control.TurnStart) (place : ℕ) (w : actions.World) (blocks : Blocks) (reached : List actions.Reached) (new : Blocks) (size : ℕ) (fits : Bool) (own : control.Control) (after : actions.World)
+    → nat_lt size (2 ^ 32) ≡ fits → size_of_last new ≡ size
+    → AreAsked (wish_by_got w (Some (got_block h locals point place (actions.with_blocks w blocks) reached new fits)) (Some (went own after))) (Some (min size (2 ^ 64 - 1)))
+allocation_asks h locals point place w blocks reached new size true own after e f =
+    subst (λ (b : Bool). AreAsked (if b then some_bytes (size_of_last new) else a_thread) (Some (min size (2 ^ 64 - 1)))) (sym (same_length (length w.threads)))
+    (ap Some (min_fits size e ∙ sym f))
+allocation_asks h locals point place w blocks reached new size false own after e f = min_large size e
+
+-- what comes of a realloc that is told an answer
+abbrev renewing : turns.TurnContext → List control.Variable → (Option Value → control.TurnStart) → (place : ℕ) → actions.World → List actions.Reached → Answer → (size : ℕ) → Result Blocks Rule → Turn control.Control
+renewing h locals point place w reached answer size r = turns.on_done place (goes_on h locals point) (actions.telling reached (actions.under answer (actions.renews w size r)))
+
+-- a realloc asks for its bytes, unless it breaks a rule
+renewal_asks : (told : Answer → turns.TurnContext) (locals : List control.Variable) (point : Option Value → control.TurnStart) (place : ℕ) (w : actions.World) (blocks : Blocks) (reached : Answer → List actions.Reached) (size : ℕ) (r f : Result Blocks Rule) → Renewal size r f
+    → AreAsked (wish_by w (Some (renewing (told answers.Plain) locals point place (actions.with_blocks w blocks) (reached answers.Plain) answers.Plain size r))
+    (Some (renewing (told answers.Got) locals point place (actions.with_blocks w blocks) (reached answers.Got) answers.Got size r))
+    (Some (renewing (told answers.None) locals point place (actions.with_blocks w blocks) (reached answers.None) answers.None size r))) (unless_broken f size)
+renewal_asks told locals point place w blocks reached size (Err rule) (Err other) e = refl
+renewal_asks told locals point place w blocks reached size (Ok new) (Err other) e = absurd e
+renewal_asks told locals point place w blocks reached size (Err rule) (Ok left) e = absurd e
+renewal_asks told locals point place w blocks reached size (Ok new) (Ok left) e =
+    allocation_asks (told answers.Got) locals point place w blocks (reached answers.Got) new size (nat_lt size (2 ^ 32)) _ _ refl e
 
 -- a new thread asks for no bytes
 start_asks : (h : turns.TurnContext) (locals : List control.Variable) (point : Option Value → control.TurnStart) (place : ℕ) (w : actions.World) (before : Blocks) (function : ℕ) (argument : Ptr) (reached : List actions.Reached) (r : Result Blocks Rule) (refused : Option (Turn control.Control))
@@ -113,7 +123,7 @@ leave_asks h w v value (c ∷ calls) granted refused e = rw e refl
 
 -- what ends a turn asks for the bytes that the code tells
 asks : (p : SharedProgram) (thread function : ℕ) (callers : List control.Caller) (q : Pending) (locals : List control.Variable) (blocks : Blocks) (w : actions.World)
-    → AreAsked (wish_by w (Some (ended_under p thread function callers q locals blocks w answers.Plain)) (Some (ended_under p thread function callers q locals blocks w answers.Got)) (Some (ended_under p thread function callers q locals blocks w answers.None))) (bytes_asked q)
+    → AreAsked (wish_by w (Some (ended_under p thread function callers q locals blocks w answers.Plain)) (Some (ended_under p thread function callers q locals blocks w answers.Got)) (Some (ended_under p thread function callers q locals blocks w answers.None))) (bytes_asked blocks q)
 asks p thread function callers (pendings.Broke rule place) locals blocks w = refl
 asks p thread function callers (pendings.Round l k) locals blocks w = refl
 asks p thread function callers (pendings.Enter number args k) locals blocks w =
@@ -125,7 +135,9 @@ asks p thread function callers (pendings.Act place (acts.Load at how) next) loca
 asks p thread function callers (pendings.Act place (acts.Store at v) next) locals blocks w = settled_asks w place (told_in p thread function callers answers.Plain) locals (point_of next) _ (actions.changes (actions.with_blocks w blocks) (stored blocks at v))
 asks p thread function callers (pendings.Act place (acts.Copy to from n align same) next) locals blocks w = settled_asks w place (told_in p thread function callers answers.Plain) locals (point_of next) _ (actions.changes (actions.with_blocks w blocks) (copied blocks to from n align same))
 asks p thread function callers (pendings.Act place (acts.Allocate size first) next) locals blocks w =
-    allocation_asks (told_in p thread function callers answers.Got) locals (point_of next) place w blocks size first (nat_lt size (2 ^ 32)) _ _ refl
+    allocation_asks (told_in p thread function callers answers.Got) locals (point_of next) place w blocks [] (made blocks size kinds.Heap first) size (nat_lt size (2 ^ 32)) _ _ refl (last_is blocks size first)
+asks p thread function callers (pendings.Act place (acts.Reallocate at size) next) locals blocks w =
+    renewal_asks (told_in p thread function callers) locals (point_of next) place w blocks (λ answer. actions.renew_reaches (actions.with_blocks w blocks) answer at size) size (renewed blocks at size) (freed blocks at) (renewal blocks at size)
 asks p thread function callers (pendings.Act place (acts.Free at) next) locals blocks w = settled_asks w place (told_in p thread function callers answers.Plain) locals (point_of next) _ (actions.changes (actions.with_blocks w blocks) (freed blocks at))
 asks p thread function callers (pendings.Act place (acts.Print all) next) locals blocks w = settled_asks w place (told_in p thread function callers answers.Plain) locals (point_of next) _ (actions.prints (actions.with_blocks w blocks) (actions.all_bytes blocks (map printed_of all.items)))
 asks p thread function callers (pendings.Act place (acts.Lock at) next) locals blocks w = settled_asks w place (told_in p thread function callers answers.Plain) locals (point_of next) _ (actions.changes_or_waits (actions.with_blocks w blocks) (locked blocks at thread))
@@ -143,10 +155,10 @@ same_asks w a b c a' b' c' n m e f g h k = rw (h, ← e, ← f, ← g) k
 
 -- a turn asks for the bytes that the code tells, as the code takes it
 pub turn_asks : (p : SharedProgram) (thread : ℕ) (answer : Answer) (own : Own) (w : World) (locals : List control.Variable) (blocks : Blocks) (new_locals : List control.Variable) (new_blocks : Blocks) (q : Pending) (asked : Option ℕ)
-    → Reaches p own.at own.function locals blocks new_locals new_blocks q → locals ≡ own.locals.now → blocks ≡ w.store.now → asked ≡ asked_under answer q
+    → Reaches p own.at own.function locals blocks new_locals new_blocks q → locals ≡ own.locals.now → blocks ≡ w.store.now → asked ≡ asked_under answer new_blocks q
     → AreAskedOf answer (wish_by (world_of w) (Some (turn (program_of p) thread answers.Plain (control_of own) (world_of w))) (Some (turn (program_of p) thread answers.Got (control_of own) (world_of w))) (Some (turn (program_of p) thread answers.None (control_of own) (world_of w)))) asked
 turn_asks p thread answers.Plain own w locals blocks new_locals new_blocks q asked reaches e f is =
-    same_asks (world_of w) _ _ _ _ _ _ (bytes_asked q) asked
+    same_asks (world_of w) _ _ _ _ _ _ (bytes_asked new_blocks q) asked
     (turn_taken p thread answers.Plain own w locals blocks new_locals new_blocks q _ reaches e f refl)
     (turn_taken p thread answers.Got own w locals blocks new_locals new_blocks q _ reaches e f refl)
     (turn_taken p thread answers.None own w locals blocks new_locals new_blocks q _ reaches e f refl)

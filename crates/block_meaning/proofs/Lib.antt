@@ -9,5 +9,6 @@ pub mod Fitting
 pub mod Lists
 pub mod Picks
 pub mod Reaching
+pub mod Renewing
 pub mod Small
 pub mod Starts

@@ -70,6 +70,8 @@ fn value_of_call(
         Lib::MutexUnlock => Ok(Some(Value::Num(Num::int(0)))),
         Lib::Print(_) => Ok(v),
         Lib::Malloc => Ok(v),
+        Lib::Calloc => Ok(v),
+        Lib::Realloc => Ok(v),
         Lib::Free => Ok(v),
         Lib::Start(_) => Ok(v),
         Lib::Join => Ok(v),

@@ -162,7 +162,9 @@ impl SourceRun {
 
     /// One turn of a thread that runs, under an answer. Where no function has more than n declarations, it makes at most
     /// n blocks, and one. A turn that waits, that doesn't take its answer or that breaks a rule leaves all as it was: each
-    /// call answers as before it.
+    /// call answers as before it. Where it breaks no rule before its action, an allocation and a new thread don't take
+    /// Plain, everything else takes nothing else, and an allocation of 2^32 bytes or more doesn't take Got. What free
+    /// wouldn't take breaks C10 in a realloc, too, before its answer counts.
     ///
     /// # Errors
     ///

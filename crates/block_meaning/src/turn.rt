@@ -7,7 +7,7 @@ ghost use Rattle.source_tree.specs.SharedViews.{program_of};
 ghost use Rattle.source_state.specs.Worlds.{world_of};
 ghost use Rattle.block_meaning.specs.Threads.{control_of};
 ghost use Rattle.block_meaning.specs.Asking.{wish_by, AreAskedOf};
-ghost use Rattle.block_meaning.specs.inner.Turns.{turn_of, asked_under, Reaches, Stays};
+ghost use Rattle.block_meaning.specs.inner.Turns.{turn_of, bytes_of, asked_under, Reaches, Stays};
 
 use crate::perform::perform;
 use crate::thread::{At, Outcome, Own};
@@ -74,12 +74,26 @@ fn capped(n: u128) -> u64
     }
 }
 
+// The bytes that an action asks for, if it is an allocation; a realloc that breaks a rule asks for none.
+fn bytes_of(action: &SharedAction, store: &KeptStore) -> Option<u64>
+    ensures { result ≡ bytes_of store.now.now action.now }
+{
+    match action {
+        SharedAction::Allocate(size, _) => Some(capped(*size)),
+        SharedAction::Reallocate(at, size) => match store.store().may_end(*at) {
+            Ok(()) => Some(capped(*size)),
+            Err(_) => None,
+        },
+        _ => None,
+    }
+}
+
 // The bytes that a turn asks for which is told this answer, by what ends it.
-fn asked_under(answer: Answer, q: &Pending) -> Option<u64>
-    ensures { result ≡ asked_under answer q.now }
+fn asked_under(answer: Answer, q: &Pending, store: &KeptStore) -> Option<u64>
+    ensures { result ≡ asked_under answer store.now.now q.now }
 {
     match (answer, q) {
-        (Answer::Plain, Pending::Act(_, SharedAction::Allocate(size, _), _)) => Some(capped(*size)),
+        (Answer::Plain, Pending::Act(_, action, _)) => bytes_of(action, store),
         (_, _) => None,
     }
 }
@@ -109,7 +123,7 @@ pub fn take_turn(
         &mut own.locals,
         &mut world.store,
     )?;
-    *asked = asked_under(answer, &q);
+    *asked = asked_under(answer, &q, &world.store);
     let o = perform(own, world, alloc, program, thread, answer, q)?;
     match o {
         Outcome::Went => Ok(Outcome::Went),

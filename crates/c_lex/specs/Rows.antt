@@ -83,6 +83,8 @@ pub record Rows : Type 0 where
   pub define_twice : IsRefused "#define A 1\n#define A 1" 12 kinds.DoubleName
   pub define_word : IsRefused "#define int 1" 0 kinds.UnexpectedToken
   pub define_library : IsRefused "#define thrd_error 1" 0 kinds.UnexpectedToken
+  pub define_calloc : IsRefused "#define calloc 1" 0 kinds.UnexpectedToken
+  pub define_realloc : IsRefused "#define realloc 1" 0 kinds.UnexpectedToken
   pub define_wide : IsRefused "#define A 18446744073709551616" 10 kinds.NumberTooWide
   pub define_float : IsRefused "#define A 1." 0 (kinds.OutsideSubset 1)
   pub directive_other : IsRefused "#if 1" 0 (kinds.OutsideSubset 1)
@@ -139,6 +141,8 @@ rows = record {
   define_twice = refl;
   define_word = refl;
   define_library = refl;
+  define_calloc = refl;
+  define_realloc = refl;
   define_wide = refl;
   define_float = refl;
   directive_other = refl;

@@ -150,7 +150,8 @@ mark_of bytes = find (λ mark. starts_with nat_eq bytes (mark_text mark)) longes
 
 -- the names of the library that the language has, which #define may not take
 unfoldable pub library_names : List (List ℕ)
-library_names = codes "printf" ∷ codes "malloc" ∷ codes "free" ∷ codes "memcpy" ∷ codes "thrd_create" ∷ codes "thrd_join"
+library_names = codes "printf" ∷ codes "malloc" ∷ codes "calloc" ∷ codes "realloc" ∷ codes "free" ∷ codes "memcpy"
+    ∷ codes "thrd_create" ∷ codes "thrd_join"
     ∷ codes "mtx_init" ∷ codes "mtx_lock" ∷ codes "mtx_unlock" ∷ codes "mtx_destroy"
     ∷ codes "mtx_plain" ∷ codes "thrd_success" ∷ codes "thrd_error" ∷ []
 

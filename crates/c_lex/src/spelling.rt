@@ -106,9 +106,11 @@ const MARKS: [Mark; 46] = [
 ];
 
 /// The names of the library, which `#define` may not take.
-const LIBRARY_NAMES: [&[u8]; 13] = [
+const LIBRARY_NAMES: [&[u8]; 15] = [
     b"printf",
     b"malloc",
+    b"calloc",
+    b"realloc",
     b"free",
     b"memcpy",
     b"thrd_create",

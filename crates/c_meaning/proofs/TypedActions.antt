@@ -1,5 +1,5 @@
 -- What an action gives is of the type that it should be, and which answers it takes.
-use Rattle.std.proofs.Common.{◌≡◌, ℕ, zero, suc, ◌==◌, Bool, true, false, List, [], ◌∷◌, ◌++◌, set, Option, Some, None, Ok, Err, ℤ, pos, refl, subst}
+use Rattle.std.proofs.Common.{◌≡◌, ℕ, zero, suc, ◌==◌, ◌^◌, nat_lt, Bool, true, false, List, [], ◌∷◌, ◌++◌, set, Option, Some, None, Ok, Err, ℤ, pos, refl, subst}
 use Rattle.std.specs.Prelude.{Result, if◌then◌else◌, slice_get}
 use Rattle.std.specs.Option.{option_map, ok_or}
 use Rattle.std.specs.List.{AllByRecursion}
@@ -16,7 +16,7 @@ use Rattle.block_store.specs.declared.values.Value.{Value}
 use Rattle.block_store.specs.declared.values.Value.TheVariants as values
 use Rattle.block_store.specs.Actions as actions
 use Rattle.block_store.specs.Actions.{World, ThreadRecord, Stage, SharedAction, Done, Reached, acted, under, outcomes, telling, at_stage, staged_if, staged}
-use Rattle.block_store.specs.Blocks.{Blocks, Range, loaded, read_at, spot_at, cells_at, stored, copied}
+use Rattle.block_store.specs.Blocks.{Blocks, Range, loaded, read_at, spot_at, cells_at, stored, copied, renewed}
 use Rattle.block_store.specs.Cells.{size_of, value_of, read, has_unknown, number_of, pointer_of}
 use Rattle.c_tree.specs.Typed as tree
 use Rattle.c_tree.specs.TypedForm.{IsScalar}
@@ -47,6 +47,10 @@ pub acted_done : (t : tree.Typed) (P : Option Value → Type 0) (w : World) (thr
     → DoneWith t P (outcomes w thread action).plain → DoneWith t P (outcomes w thread action).got → DoneWith t P (outcomes w thread action).none → DoneWith t P (acted w thread answer action)
 acted_done t P w thread answer action p g n =
     telling_done t P (actions.reads_of w action ++ actions.writes_of w answer action) (under answer (outcomes w thread action)) (under_done t P answer (outcomes w thread action) p g n)
+
+pub done_if : (t : tree.Typed) (P : Option Value → Type 0) (b : Bool) (d e : Done) → DoneWith t P d → DoneWith t P e → DoneWith t P (if b then d else e)
+done_if t P true d e p q = p
+done_if t P false d e p q = q
 
 -- no value
 abbrev pub IsNoValue : Option Value → Type 0
@@ -122,6 +126,20 @@ store_done t w thread answer at v h = acted_done t IsNoValue w thread answer (ac
 pub copy_done : (t : tree.Typed) (w : World) (thread : ℕ) (answer : Answer) (to from : Ptr) (n align : ℕ) (same : Bool) → IsTypedWorld t w → DoneWith t IsNoValue (acted w thread answer (actions.copy to from n align same))
 copy_done t w thread answer to from n align same h = acted_done t IsNoValue w thread answer (actions.copy to from n align same) (changes_done t w (copied w.blocks to from n align same) h) tt tt
 
+-- ---- allocations
+
+renews_done : (t : tree.Typed) (to : tree.Ty) (w : World) (size : ℕ) (r : Result Blocks Rule) (answer : Answer) → IsTypedWorld t w → DoneWith t (HasTypeIf (tree.pointer to)) (under answer (actions.renews w size r))
+renews_done t to w size (Err rule) answers.Plain h = tt
+renews_done t to w size (Err rule) answers.Got h = tt
+renews_done t to w size (Err rule) answers.None h = tt
+renews_done t to w size (Ok blocks) answers.Plain h = tt
+renews_done t to w size (Ok blocks) answers.Got h = done_if t (HasTypeIf (tree.pointer to)) (nat_lt size (2 ^ 32)) _ actions.unfit (tt, h) tt
+renews_done t to w size (Ok blocks) answers.None h = (tt, h)
+
+pub realloc_done : (t : tree.Typed) (to : tree.Ty) (w : World) (thread : ℕ) (answer : Answer) (at : Ptr) (size : ℕ) → IsTypedWorld t w → DoneWith t (HasTypeIf (tree.pointer to)) (acted w thread answer (actions.reallocate at size))
+realloc_done t to w thread answer at size h =
+    telling_done t (HasTypeIf (tree.pointer to)) (actions.writes_of w answer (actions.reallocate at size)) (under answer (actions.renews w size (renewed w.blocks at size))) (renews_done t to w size (renewed w.blocks at size) answer h)
+
 -- ---- threads
 
 staged_threads : (t : tree.Typed) (all : List ThreadRecord) (n : ℕ) (stage : Stage) (h : ThreadRecord) → slice_get all n ≡ Some h → AllByRecursion (λ (x : ThreadRecord). CanBegin t x.function) all → AllByRecursion (λ (x : ThreadRecord). CanBegin t x.function) (set all n (at_stage stage h))
@@ -159,10 +177,6 @@ joins_at_done t w thread to (actions.joined z) h = tt
 joins_if_done : (t : tree.Typed) (w : World) (thread : ℕ) (to : Ptr) (o : Option ThreadRecord) → IsTypedWorld t w → DoneWith t (HasTypeIf (tree.integer int)) (actions.joins_if w thread to o)
 joins_if_done t w thread to None h = tt
 joins_if_done t w thread to (Some x) h = joins_at_done t w thread to x.stage h
-
-pub done_if : (t : tree.Typed) (P : Option Value → Type 0) (b : Bool) (d e : Done) → DoneWith t P d → DoneWith t P e → DoneWith t P (if b then d else e)
-done_if t P true d e p q = p
-done_if t P false d e p q = q
 
 pub joined_done : (t : tree.Typed) (w : World) (self thread : ℕ) (to : Ptr) → IsTypedWorld t w → DoneWith t (HasTypeIf (tree.integer int)) (actions.joined_by w self thread to)
 joined_done t w self thread to h =

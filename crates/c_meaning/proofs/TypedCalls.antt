@@ -1,13 +1,14 @@
 -- What a well formed call does: its arguments have the types of the parameters, and a library's call is an action whose value has the
 -- call's type.
-use Rattle.std.proofs.Common.{◌≡◌, ℕ, zero, suc, ◌^◌, false, List, [], ◌∷◌, ◌++◌, map, Option, Some, None, refl, sym, subst, inr, nat_lt, unsigned_abs}
+use Rattle.std.proofs.Common.{◌≡◌, ℕ, zero, suc, ◌*◌, ◌^◌, false, List, [], ◌∷◌, ◌++◌, map, Option, Some, None, refl, sym, subst, inr, nat_lt, unsigned_abs}
 use Rattle.std.specs.Prelude.{slice_get}
 use Rattle.std.specs.List.{AllByRecursion}
 use Rattle.ak_words.specs.declared.int_type.IntType.{IntType}
 use Rattle.ak_words.specs.declared.number.Num.{Num}
 use Rattle.ak_words.specs.IntType.{int, unsigned_long}
 use Rattle.block_store.specs.declared.values.Answer.{Answer}
-use Rattle.block_store.specs.declared.values.Cell.TheVariants.{Unknown}
+use Rattle.block_store.specs.declared.values.Cell.{Cell}
+use Rattle.block_store.specs.declared.values.Cell.TheVariants.{Unknown, Byte}
 use Rattle.block_store.specs.declared.values.Ptr.{Ptr}
 use Rattle.block_store.specs.declared.values.Value.{Value}
 use Rattle.block_store.specs.declared.values.Value.TheVariants as values
@@ -23,7 +24,7 @@ use Rattle.c_meaning.specs.Library.{numbers_of, pointers_of, free_mutex, action_
 use Rattle.c_meaning.specs.Kinds.{HasType, HasTypeIf, IsCalled, StandBefore, CanBegin, IsTypedWorld}
 use Rattle.c_meaning.proofs.TypedValues.{fits_type, pointer_scalar}
 use Rattle.c_meaning.proofs.TypedLocals.{at_number, ArgumentsHold, arguments_hold, params_scalar}
-use Rattle.c_meaning.proofs.TypedActions.{DoneWith, acted_done, IsNoValue, changes_done, waits_done, passes_done, done_if, store_done, copy_done, starts_done, joined_done, prints_done}
+use Rattle.c_meaning.proofs.TypedActions.{DoneWith, acted_done, IsNoValue, changes_done, waits_done, passes_done, done_if, store_done, copy_done, realloc_done, starts_done, joined_done, prints_done}
 
 -- ---- arguments
 
@@ -62,6 +63,8 @@ arguments_scalar (t ∷ ts) (tree.more_exprs e all) s h = (fits_scalar (tree.typ
 lib_scalar : (c : InScope) (which : tree.Lib) (all : tree.Exprs) (ty : tree.Ty) → IsLibCall c which all ty → AreScalar all
 lib_scalar c (tree.print pieces) all ty h = printed_scalar pieces all h.0
 lib_scalar c tree.malloc all ty h = arguments_scalar (tree.integer unsigned_long ∷ []) all (tt, tt) h.0
+lib_scalar c tree.calloc all ty h = arguments_scalar (tree.integer unsigned_long ∷ tree.integer unsigned_long ∷ []) all (tt, (tt, tt)) h.0
+lib_scalar c tree.realloc all ty h = arguments_scalar (tree.pointer tree.void ∷ tree.integer unsigned_long ∷ []) all (tt, (tt, tt)) h.0
 lib_scalar c tree.free all ty h = arguments_scalar (tree.pointer tree.void ∷ []) all (tt, tt) h.0
 lib_scalar c tree.copy all ty h = arguments_scalar (tree.pointer tree.void ∷ tree.pointer tree.void ∷ tree.integer unsigned_long ∷ []) all (tt, (tt, (tt, tt))) h.0
 lib_scalar c (tree.start f) all ty h = arguments_scalar (tree.pointer (tree.integer unsigned_long) ∷ tree.pointer tree.void ∷ []) all (tt, (tt, tt)) h.1
@@ -183,14 +186,34 @@ print_does t pieces args w thread answer h =
     let all = parts actions.bytes actions.text pieces (numbers_of args) (pointers_of args) in
     acted_done t (HasTypeIf (tree.integer int)) w thread answer (actions.print all) (prints_done t w (actions.all_bytes w.blocks all) h) tt tt
 
-allocation_does : (t : tree.Typed) (n : Num) → DoesOn t tree.malloc (tree.pointer tree.void) (values.Num n ∷ [])
-allocation_does t n w thread answer h =
-    let size = unsigned_abs n.value in
-    acted_done t (HasTypeIf (tree.pointer tree.void)) w thread answer (actions.allocate size Unknown) tt
+allocation_done : (t : tree.Typed) (w : World) (thread : ℕ) (answer : Answer) (size : ℕ) (first : Cell) → IsTypedWorld t w → DoneWith t (HasTypeIf (tree.pointer tree.void)) (acted w thread answer (actions.allocate size first))
+allocation_done t w thread answer size first h =
+    acted_done t (HasTypeIf (tree.pointer tree.void)) w thread answer (actions.allocate size first) tt
     (done_if t (HasTypeIf (tree.pointer tree.void)) (nat_lt size (2 ^ 32)) _ actions.unfit (tt, h) tt) (tt, h)
+
+allocation_does : (t : tree.Typed) (n : Num) → DoesOn t tree.malloc (tree.pointer tree.void) (values.Num n ∷ [])
+allocation_does t n w thread answer h = allocation_done t w thread answer (unsigned_abs n.value) Unknown h
 
 malloc_does : (t : tree.Typed) (args : List Value) → HasTypes (tree.integer unsigned_long ∷ []) args → DoesOn t tree.malloc (tree.pointer tree.void) args
 malloc_does t = number_first unsigned_long [] (DoesOn t tree.malloc (tree.pointer tree.void)) (λ n. none_left (λ vs. DoesOn t tree.malloc (tree.pointer tree.void) (values.Num n ∷ vs)) (allocation_does t n))
+
+zeroed_does : (t : tree.Typed) (n m : Num) → DoesOn t tree.calloc (tree.pointer tree.void) (values.Num n ∷ values.Num m ∷ [])
+zeroed_does t n m w thread answer h = allocation_done t w thread answer (unsigned_abs n.value * unsigned_abs m.value) (Byte 0) h
+
+calloc_does : (t : tree.Typed) (args : List Value) → HasTypes (tree.integer unsigned_long ∷ tree.integer unsigned_long ∷ []) args → DoesOn t tree.calloc (tree.pointer tree.void) args
+calloc_does t =
+    let P : List Value → Type 0 = DoesOn t tree.calloc (tree.pointer tree.void) in
+    number_first unsigned_long (tree.integer unsigned_long ∷ []) P
+    (λ n. number_first unsigned_long [] (λ vs. P (values.Num n ∷ vs)) (λ m. none_left (λ vs. P (values.Num n ∷ values.Num m ∷ vs)) (zeroed_does t n m)))
+
+renewing_does : (t : tree.Typed) (p : Ptr) (n : Num) → DoesOn t tree.realloc (tree.pointer tree.void) (values.Pointer p ∷ values.Num n ∷ [])
+renewing_does t p n w thread answer h = realloc_done t tree.void w thread answer p (unsigned_abs n.value) h
+
+realloc_does : (t : tree.Typed) (args : List Value) → HasTypes (tree.pointer tree.void ∷ tree.integer unsigned_long ∷ []) args → DoesOn t tree.realloc (tree.pointer tree.void) args
+realloc_does t =
+    let P : List Value → Type 0 = DoesOn t tree.realloc (tree.pointer tree.void) in
+    pointer_first tree.void (tree.integer unsigned_long ∷ []) P
+    (λ p. number_first unsigned_long [] (λ vs. P (values.Pointer p ∷ vs)) (λ n. none_left (λ vs. P (values.Pointer p ∷ values.Num n ∷ vs)) (renewing_does t p n)))
 
 freeing_does : (t : tree.Typed) (p : Ptr) → DoesOn t tree.free tree.void (values.Pointer p ∷ [])
 freeing_does t p w thread answer h =
@@ -255,6 +278,10 @@ pub lib_does : (t : tree.Typed) (g : tree.Func) (which : tree.Lib) (all : tree.E
     → LibDoes t which args ty (action_of which args)
 lib_does t g (tree.print pieces) all ty args h l = of_type t (tree.print pieces) args (tree.integer int) ty h.1 (print_does t pieces args)
 lib_does t g tree.malloc all ty args h l = of_type t tree.malloc args (tree.pointer tree.void) ty h.1 (malloc_does t args (argument_types (tree.integer unsigned_long ∷ []) all args h.0 l))
+lib_does t g tree.calloc all ty args h l =
+    of_type t tree.calloc args (tree.pointer tree.void) ty h.1 (calloc_does t args (argument_types (tree.integer unsigned_long ∷ tree.integer unsigned_long ∷ []) all args h.0 l))
+lib_does t g tree.realloc all ty args h l =
+    of_type t tree.realloc args (tree.pointer tree.void) ty h.1 (realloc_does t args (argument_types (tree.pointer tree.void ∷ tree.integer unsigned_long ∷ []) all args h.0 l))
 lib_does t g tree.free all ty args h l =
     of_type t tree.free args tree.void ty h.1 (one_pointer tree.void (DoesOn t tree.free tree.void) (freeing_does t) args (argument_types (tree.pointer tree.void ∷ []) all args h.0 l))
 lib_does t g tree.copy all ty args h l =

@@ -72,6 +72,8 @@ same_struct ty t e n = ap is_struct e ∙ n
 lib_no_struct : (c : InScope) (which : tree.Lib) (all : tree.Exprs) (ty : tree.Ty) → IsLibCall c which all ty → is_struct ty ≡ false
 lib_no_struct c (tree.print pieces) all ty h = ap is_struct h.1
 lib_no_struct c tree.malloc all ty h = ap is_struct h.1
+lib_no_struct c tree.calloc all ty h = ap is_struct h.1
+lib_no_struct c tree.realloc all ty h = ap is_struct h.1
 lib_no_struct c tree.free all ty h = ap is_struct h.1
 lib_no_struct c tree.copy all ty h = ap is_struct h.1
 lib_no_struct c (tree.start f) all ty h = ap is_struct h.2

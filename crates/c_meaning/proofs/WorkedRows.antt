@@ -5,6 +5,7 @@ use Rattle.ak_words.specs.Op.{exact_result, rule_of}
 use Rattle.ak_words.specs.Wrapped.{residue, wrapped_value}
 use Rattle.c_meaning.specs.Rows.{RowsStand, RulesStand, OrdersStand}
 use Rattle.c_meaning.specs.SwitchRows.{SwitchesStand}
+use Rattle.c_meaning.specs.AllocationRows.{AllocationsStand}
 
 pub rows_stand : RowsStand
 unfolding digits residue wrapped_value exact_result rule_of
@@ -84,4 +85,28 @@ switches_stand = record {
   rounds = refl;
   two_rounds = refl;
   break_in_do = refl;
+}
+
+pub allocations_stand : AllocationsStand
+unfolding digits residue wrapped_value exact_result rule_of
+allocations_stand = record {
+  grows_is = refl;
+  new_holds = refl;
+  old_is_gone = refl;
+  old_is_kept = refl;
+  null_is_given = refl;
+  of_no_byte = refl;
+  of_no_byte_kept = refl;
+  no_byte_there = refl;
+  dead_plain = refl;
+  dead_got = refl;
+  dead_none = refl;
+  null_is_malloc = refl;
+  calloc_wants_answer = refl;
+  realloc_wants_answer = refl;
+  calloc_refused = refl;
+  calloc_zeroes = refl;
+  too_many = refl;
+  far_too_many = refl;
+  far_too_many_none = refl;
 }

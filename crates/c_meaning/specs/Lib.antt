@@ -9,4 +9,5 @@ pub mod Kinds
 pub mod Sound
 pub mod Rows
 pub mod SwitchRows
+pub mod AllocationRows
 pub mod KindRows

@@ -1,12 +1,12 @@
 -- The library's calls (C11 7.21, 7.22, 7.24, 7.26), as a table: the action that each is, of its arguments, and its value.
-use Rattle.std.specs.Prelude.{List, [], ◌∷◌, Option, Some, None, ℤ, pos, unsigned_abs, false}
+use Rattle.std.specs.Prelude.{◌*◌, List, [], ◌∷◌, Option, Some, None, ℤ, pos, unsigned_abs, false}
 use Rattle.ak_words.specs.IntType.{int, unsigned_long}
 use Rattle.ak_words.specs.Num.{num}
-use Rattle.block_store.specs.declared.values.Cell.TheVariants.{Unknown}
+use Rattle.block_store.specs.declared.values.Cell.TheVariants.{Unknown, Byte}
 use Rattle.block_store.specs.declared.values.Ptr.{Ptr}
 use Rattle.block_store.specs.declared.values.Value.{Value}
 use Rattle.block_store.specs.declared.values.Value.TheVariants as values
-use Rattle.block_store.specs.Actions.{bytes, text, SharedAction, store, copy, allocate, free, print, lock, unlock, destroy, start, join}
+use Rattle.block_store.specs.Actions.{bytes, text, SharedAction, store, copy, allocate, reallocate, free, print, lock, unlock, destroy, start, join}
 use Rattle.c_tree.specs.Typed as tree
 use Rattle.c_tree.specs.TypedPrinting.{parts}
 
@@ -30,6 +30,8 @@ free_mutex = values.Num (num unsigned_long (pos 0))
 abbrev pub action_of : tree.Lib → List Value → Option SharedAction
 action_of (tree.print pieces) args = Some (print (parts bytes text pieces (numbers_of args) (pointers_of args)))
 action_of tree.malloc (values.Num n ∷ []) = Some (allocate (unsigned_abs n.value) Unknown)
+action_of tree.calloc (values.Num n ∷ values.Num size ∷ []) = Some (allocate (unsigned_abs n.value * unsigned_abs size.value) (Byte 0))
+action_of tree.realloc (values.Pointer p ∷ values.Num n ∷ []) = Some (reallocate p (unsigned_abs n.value))
 action_of tree.free (values.Pointer p ∷ []) = Some (free p)
 action_of tree.copy (values.Pointer to ∷ values.Pointer from ∷ values.Num n ∷ []) = Some (copy to from (unsigned_abs n.value) 1 false)
 action_of (tree.start function) (values.Pointer to ∷ values.Pointer argument ∷ []) = Some (start to function argument)

@@ -33,10 +33,12 @@ pub data Piece : Type 0 where
   character : Piece
   text : Piece
 
--- printf with the pieces of its format, malloc, free, memcpy, thrd_create of a function, thrd_join, and the calls of a mutex
+-- printf with the pieces of its format, malloc, calloc, realloc, free, memcpy, thrd_create of a function, thrd_join, and the calls of a mutex
 pub data Lib : Type 0 where
   print : (pieces : List Piece) → Lib
   malloc : Lib
+  calloc : Lib
+  realloc : Lib
   free : Lib
   copy : Lib
   start : (function : ℕ) → Lib

@@ -7,7 +7,7 @@ use Rattle.ak_words.specs.declared.operation.Op.TheVariants as ops
 use Rattle.ak_words.specs.IntType.{char, int, long, unsigned_long, promoted_type, IsInRange}
 use Rattle.ak_words.specs.Op.{result_type}
 use Rattle.c_tree.specs.Typed.{Ty, void, integer, mutex, pointer, array, structure, Layout, Piece, bytes, signed, unsigned, hexadecimal, character, text}
-use Rattle.c_tree.specs.Typed.{Lib, print, malloc, free, copy, start, join, mutex_init, mutex_lock, mutex_unlock, mutex_destroy}
+use Rattle.c_tree.specs.Typed.{Lib, print, malloc, calloc, realloc, free, copy, start, join, mutex_init, mutex_lock, mutex_unlock, mutex_destroy}
 use Rattle.c_tree.specs.Typed.{Expr, at, ExprNode, num, null, literal, global, local, deref, member, address_of, decay, convert, not_, binary, and_also, or_else, choose}
 use Rattle.c_tree.specs.Typed.{pointer_add, pointer_sub, pointer_diff, pointer_compare, pointer_test, call, lib, Exprs, no_exprs, more_exprs, type_of, node_of}
 use Rattle.c_tree.specs.Typed.{Stmt, at_stmt, StmtNode, block, declare, if_, if_else, while_, for_, break_, continue_, return_, assign, update, evaluate, empty, do_while, switch, Label, case_at, default_at, Stmts, no_stmts, more_stmts}
@@ -177,6 +177,8 @@ AreArguments (t ∷ ts) no_exprs = ⊥
 abbrev pub IsLibCall : InScope → Lib → Exprs → Ty → Type 0
 IsLibCall c (print pieces) es t = ArePrinted pieces es × (t ≡ integer int)
 IsLibCall c malloc es t = AreArguments (integer unsigned_long ∷ []) es × (t ≡ pointer void)
+IsLibCall c calloc es t = AreArguments (integer unsigned_long ∷ integer unsigned_long ∷ []) es × (t ≡ pointer void)
+IsLibCall c realloc es t = AreArguments (pointer void ∷ integer unsigned_long ∷ []) es × (t ≡ pointer void)
 IsLibCall c free es t = AreArguments (pointer void ∷ []) es × (t ≡ void)
 IsLibCall c copy es t = AreArguments (pointer void ∷ pointer void ∷ integer unsigned_long ∷ []) es × (t ≡ pointer void)
 IsLibCall c (start f) es t = IsNth c.funcs f CanStart × AreArguments (pointer (integer unsigned_long) ∷ pointer void ∷ []) es × (t ≡ integer int)

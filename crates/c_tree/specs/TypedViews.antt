@@ -52,6 +52,8 @@ piece_view pieces.Text = trees.text
 abbrev pub lib_view : CodeLib → trees.Lib
 lib_view (libs.Print all) = trees.print (map piece_view all.items)
 lib_view libs.Malloc = trees.malloc
+lib_view libs.Calloc = trees.calloc
+lib_view libs.Realloc = trees.realloc
 lib_view libs.Free = trees.free
 lib_view libs.Copy = trees.copy
 lib_view (libs.Start function) = trees.start function

@@ -216,6 +216,10 @@ pub enum Lib {
     Print(Vec<Piece>),
     /// `malloc`
     Malloc,
+    /// `calloc`
+    Calloc,
+    /// `realloc`
+    Realloc,
     /// `free`
     Free,
     /// `memcpy`

@@ -14,7 +14,7 @@ use Rattle.c_tree.specs.Typed as trees
 use Rattle.c_tree.specs.TypedForm.{IsPointer, IsNth, HasBits, ArePrinted, CanStart, AreArguments, IsLibCall, IsTyped, AreTyped}
 use Rattle.c_tree.specs.TypedForm as form
 use Rattle.c_typing.specs.Faults.{Judged, typed, faulty, both}
-use Rattle.c_typing.specs.Scope.{Library, printf, malloc, free, memcpy, thrd_create, thrd_join, mtx_init, mtx_lock, mtx_unlock, mtx_destroy, constant, library}
+use Rattle.c_typing.specs.Scope.{Library, printf, malloc, calloc, realloc, free, memcpy, thrd_create, thrd_join, mtx_init, mtx_lock, mtx_unlock, mtx_destroy, constant, library}
 use Rattle.c_typing.specs.Scope.{Binding, global_name, local_name, function_name, enumerator_name, type_name, library_name, Context, bytes_of, meaning_of, or_else, found, of_library}
 use Rattle.c_typing.specs.Rules.{converted, fitted, or_mismatch}
 use Rattle.c_typing.specs.Formats.{number_for, text_for, before_argument, arguments_for}
@@ -35,7 +35,7 @@ find_all {X} P q (x ∷ es) h = by (q x.0) (find_all P q es h.1)
 
 library_fine : AllByRecursion (λ (x : List ℕ × Library). InLibrary x.1) library
 unfolding library
-library_fine = (tt, (tt, (tt, (tt, (tt, (tt, (tt, (tt, (tt, (tt, ((omega (arith, ints), omega (arith, ints)), ((omega (arith, ints), omega (arith, ints)), ((omega (arith, ints), omega (arith, ints)), tt)))))))))))))
+library_fine = (tt, (tt, (tt, (tt, (tt, (tt, (tt, (tt, (tt, (tt, (tt, (tt, ((omega (arith, ints), omega (arith, ints)), ((omega (arith, ints), omega (arith, ints)), ((omega (arith, ints), omega (arith, ints)), tt)))))))))))))))
 
 -- what a name means is as it must be
 pub meaning_named : (w : World) (c : Context) → Good w c → (n : Name) → OnSome (IsNamed w c) (meaning_of c n)
@@ -61,6 +61,8 @@ named_made w d e o place (Some (type_name t)) h = tt
 named_made w d e o place (Some (library_name (constant value))) h = ((refl, h), tt)
 named_made w d e o place (Some (library_name printf)) h = tt
 named_made w d e o place (Some (library_name malloc)) h = tt
+named_made w d e o place (Some (library_name calloc)) h = tt
+named_made w d e o place (Some (library_name realloc)) h = tt
 named_made w d e o place (Some (library_name free)) h = tt
 named_made w d e o place (Some (library_name memcpy)) h = tt
 named_made w d e o place (Some (library_name thrd_create)) h = tt
@@ -119,6 +121,8 @@ init_made e place (m ∷ kind ∷ other ∷ rest) h = tt
 
 pub library_made : (e : form.InScope) (place : ℕ) (which : Library) (args : List Expr) → AreFine e args → OnTyped (Made e) (called_library place which args)
 library_made e place malloc args h = lib_made e place trees.malloc (integer unsigned_long ∷ []) (pointer void) args (λ es p. (p, refl)) tt h
+library_made e place calloc args h = lib_made e place trees.calloc (integer unsigned_long ∷ integer unsigned_long ∷ []) (pointer void) args (λ es p. (p, refl)) tt h
+library_made e place realloc args h = lib_made e place trees.realloc (pointer void ∷ integer unsigned_long ∷ []) (pointer void) args (λ es p. (p, refl)) tt h
 library_made e place free args h = lib_made e place trees.free (pointer void ∷ []) void args (λ es p. (p, refl)) tt h
 library_made e place memcpy args h = lib_made e place trees.copy (pointer void ∷ pointer void ∷ integer unsigned_long ∷ []) (pointer void) args (λ es p. (p, refl)) tt h
 library_made e place thrd_join args h = lib_made e place trees.join (integer unsigned_long ∷ pointer (integer int) ∷ []) (integer int) args (λ es p. (p, refl)) tt h

@@ -18,7 +18,7 @@ use Rattle.c_tree.specs.TypedForm.{IsMember, IsLvalue, IsInMemory, Signature}
 use Rattle.c_tree.specs.TypedForm as form
 use Rattle.c_typing.specs.Faults.{Judged, typed, faulty, refuse, both, ◌>>=◌}
 use Rattle.c_typing.specs.Types.{same_type, same_types, behind_pointers}
-use Rattle.c_typing.specs.Scope.{Library, printf, malloc, free, memcpy, thrd_create, thrd_join, mtx_init, mtx_lock, mtx_unlock, mtx_destroy, constant}
+use Rattle.c_typing.specs.Scope.{Library, printf, malloc, calloc, realloc, free, memcpy, thrd_create, thrd_join, mtx_init, mtx_lock, mtx_unlock, mtx_destroy, constant}
 use Rattle.c_typing.specs.Scope.{Binding, global_name, local_name, function_name, enumerator_name, type_name, library_name, Context, bytes_of, meaning_of, is_struct_tag, tag_number, with_tag, is_listed, with_enum, with_listed, with_enumerator, member_typed, member_numbered, member_in, member_of}
 use Rattle.c_typing.specs.Rules.{value_of, tested, is_lvalue, target, address, member_found, selected_by, selected, pointed, minus_by, plus_by, not_by, complement_by, element, chosen, cast, size_number}
 use Rattle.c_typing.specs.Constants.{constant_value}
@@ -86,6 +86,8 @@ addressed_name w c g place from (Some (type_name t)) h = tt
 addressed_name w c g place from (Some (library_name (constant value))) h = tt
 addressed_name w c g place from (Some (library_name printf)) h = tt
 addressed_name w c g place from (Some (library_name malloc)) h = tt
+addressed_name w c g place from (Some (library_name calloc)) h = tt
+addressed_name w c g place from (Some (library_name realloc)) h = tt
 addressed_name w c g place from (Some (library_name free)) h = tt
 addressed_name w c g place from (Some (library_name memcpy)) h = tt
 addressed_name w c g place from (Some (library_name thrd_create)) h = tt
@@ -208,6 +210,8 @@ called_after w c g (Some (function_name n params result)) h place args print sta
 called_after w c g (Some (library_name printf)) h place args print start ka kp ks = kp.keeps c g
 called_after w c g (Some (library_name thrd_create)) h place args print start ka kp ks = ks.keeps c g
 called_after w c g (Some (library_name malloc)) h place args print start ka kp ks = (library_keeps w place malloc args ka).keeps c g
+called_after w c g (Some (library_name calloc)) h place args print start ka kp ks = (library_keeps w place calloc args ka).keeps c g
+called_after w c g (Some (library_name realloc)) h place args print start ka kp ks = (library_keeps w place realloc args ka).keeps c g
 called_after w c g (Some (library_name free)) h place args print start ka kp ks = (library_keeps w place free args ka).keeps c g
 called_after w c g (Some (library_name memcpy)) h place args print start ka kp ks = (library_keeps w place memcpy args ka).keeps c g
 called_after w c g (Some (library_name thrd_join)) h place args print start ka kp ks = (library_keeps w place thrd_join args ka).keeps c g
@@ -247,6 +251,8 @@ starting_keeps w c (Some (function_name n params result)) h m j kj = record {
 starting_keeps w c (Some (library_name (constant value))) h m j kj = keeps_ruled w true j (λ d x. typed None) (FineFor m) Starting kj (λ d e x g v k. tt)
 starting_keeps w c (Some (library_name printf)) h m j kj = keeps_lone w true (typed None) Starting (λ e. tt)
 starting_keeps w c (Some (library_name malloc)) h m j kj = keeps_lone w true (typed None) Starting (λ e. tt)
+starting_keeps w c (Some (library_name calloc)) h m j kj = keeps_lone w true (typed None) Starting (λ e. tt)
+starting_keeps w c (Some (library_name realloc)) h m j kj = keeps_lone w true (typed None) Starting (λ e. tt)
 starting_keeps w c (Some (library_name free)) h m j kj = keeps_lone w true (typed None) Starting (λ e. tt)
 starting_keeps w c (Some (library_name memcpy)) h m j kj = keeps_lone w true (typed None) Starting (λ e. tt)
 starting_keeps w c (Some (library_name thrd_create)) h m j kj = keeps_lone w true (typed None) Starting (λ e. tt)

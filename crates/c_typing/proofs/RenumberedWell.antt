@@ -2,7 +2,7 @@
 use Rattle.std.proofs.Common.{◌≡◌, ℕ, ◌+◌, ◌≤◌, true, refl, sym, ap, ◌∙◌, subst, List, [], ◌∷◌, Option, Some, None, slice_get}
 use Rattle.std.specs.List.{AllByRecursion}
 use Rattle.ak_words.specs.IntType.{int, unsigned_long}
-use Rattle.c_tree.specs.Typed.{Ty, void, integer, mutex, pointer, Local, Piece, bytes, signed, unsigned, hexadecimal, character, text, Lib, print, malloc, free, copy, start, join, mutex_init, mutex_lock, mutex_unlock, mutex_destroy}
+use Rattle.c_tree.specs.Typed.{Ty, void, integer, mutex, pointer, Local, Piece, bytes, signed, unsigned, hexadecimal, character, text, Lib, print, malloc, calloc, realloc, free, copy, start, join, mutex_init, mutex_lock, mutex_unlock, mutex_destroy}
 use Rattle.c_tree.specs.Typed.{Expr, at, ExprNode, num, null, literal, global, local, deref, member, address_of, decay, convert, not_, binary, and_also, or_else, choose, pointer_add, pointer_sub, pointer_diff, pointer_compare, pointer_test, call, lib, Exprs, no_exprs, more_exprs, type_of}
 use Rattle.c_tree.specs.Typed.{Stmt, at_stmt, StmtNode, block, declare, if_, if_else, while_, for_, do_while, switch, break_, continue_, return_, assign, update, evaluate, empty, Stmts, no_stmts, more_stmts}
 use Rattle.c_tree.specs.TypedForm.{Jumps, in_loop, in_switch, stmts_count, AreNoDeclarations, IsLabel, IsScalar, Fits, IsNth, IsLvalue, IsInMemory, ArePrinted, AreArguments, IsLibCall, IsTyped, IsTypedNode, AreTyped, IfTyped, IsNoDeclaration, IsStep, IsFirst, IsReturned, Inside, IsWellNode, AreWell}
@@ -52,6 +52,8 @@ printed_too f (text ∷ ps) no_exprs h = absurd h
 lib_too : (f : ℕ → ℕ) (e : form.InScope) (ls : List Local) (which : Lib) (es : Exprs) (t : Ty) → IsLibCall e which es t → IsLibCall (with_locals e ls) which (renumbered_all f es) t
 lib_too f e ls (print pieces) es t h = (printed_too f pieces es h.0, h.1)
 lib_too f e ls malloc es t h = (arguments_too f (integer unsigned_long ∷ []) es h.0, h.1)
+lib_too f e ls calloc es t h = (arguments_too f (integer unsigned_long ∷ integer unsigned_long ∷ []) es h.0, h.1)
+lib_too f e ls realloc es t h = (arguments_too f (pointer void ∷ integer unsigned_long ∷ []) es h.0, h.1)
 lib_too f e ls free es t h = (arguments_too f (pointer void ∷ []) es h.0, h.1)
 lib_too f e ls copy es t h = (arguments_too f (pointer void ∷ pointer void ∷ integer unsigned_long ∷ []) es h.0, h.1)
 lib_too f e ls (start n) es t h = (h.0, arguments_too f (pointer (integer unsigned_long) ∷ pointer void ∷ []) es h.1, h.2)

@@ -11,7 +11,7 @@ use Rattle.ak_words.specs.Op.{result_type}
 use Rattle.ak_words.specs.Wrapped.{wrapped_value}
 use Rattle.ak_words.specs.inner.InRange.{wrapped_value-in_range}
 use Rattle.ak_words.proofs.Types.{int_type_is, half_twice}
-use Rattle.c_tree.specs.Typed.{Ty, void, integer, mutex, pointer, array, structure, Layout, Lib, print, malloc, free, copy, start, join, mutex_init, mutex_lock, mutex_unlock, mutex_destroy}
+use Rattle.c_tree.specs.Typed.{Ty, void, integer, mutex, pointer, array, structure, Layout, Lib, print, malloc, calloc, realloc, free, copy, start, join, mutex_init, mutex_lock, mutex_unlock, mutex_destroy}
 use Rattle.c_tree.specs.Typed.{Expr, at, ExprNode, num, null, literal, global, local, deref, member, address_of, decay, convert, not_, binary, and_also, or_else, choose}
 use Rattle.c_tree.specs.Typed.{pointer_add, pointer_sub, pointer_diff, pointer_compare, pointer_test, call, lib, Exprs, type_of, node_of, place_of}
 use Rattle.c_tree.specs.TypedForm.{IsInteger, IsPointer, IsScalar, IsResult, Fits, PointsToSized, MovesPointer, IsPromoted, AreOperands, type_of_result, is_comparison, Converts, IsLvalue, IsInMemory, IsLibCall, IsTyped, IsTypedNode}
@@ -176,6 +176,8 @@ operand_is op (structure n) t h = absurd h
 no_lib : (e : form.InScope) (which : Lib) (es : Exprs) (t : Ty) → IsLibCall e which es t → IsAggregate t → ⊥
 no_lib e (print pieces) es t h a = absurd (subst IsAggregate h.1 a)
 no_lib e malloc es t h a = absurd (subst IsAggregate h.1 a)
+no_lib e calloc es t h a = absurd (subst IsAggregate h.1 a)
+no_lib e realloc es t h a = absurd (subst IsAggregate h.1 a)
 no_lib e free es t h a = absurd (subst IsAggregate h.1 a)
 no_lib e copy es t h a = absurd (subst IsAggregate h.1 a)
 no_lib e (start f) es t h a = absurd (subst IsAggregate h.2 a)

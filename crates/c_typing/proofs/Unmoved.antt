@@ -10,7 +10,7 @@ use Rattle.c_tree.specs.Syntax as source
 use Rattle.c_tree.specs.Typed.{Ty, Expr, Stmt}
 use Rattle.c_tree.specs.TypedForm.{Jumps, in_loop, in_switch}
 use Rattle.c_typing.specs.Faults.{Judged, typed, faulty, ◌>>=◌}
-use Rattle.c_typing.specs.Scope.{printf, malloc, free, memcpy, thrd_create, thrd_join, mtx_init, mtx_lock, mtx_unlock, mtx_destroy, constant}
+use Rattle.c_typing.specs.Scope.{printf, malloc, calloc, realloc, free, memcpy, thrd_create, thrd_join, mtx_init, mtx_lock, mtx_unlock, mtx_destroy, constant}
 use Rattle.c_typing.specs.Scope.{Binding, global_name, local_name, function_name, enumerator_name, type_name, library_name, Frame, Context, bytes_of, meaning_of, is_double, is_struct_tag, with_new_struct, with_tag, tag_number, is_begun, with_begun, with_struct, with_enum, with_listed, with_enumerator, inside, declared}
 use Rattle.c_typing.specs.Judgement.{Judging, lone, in_turn, ruled, member_by, name_in, text_in, node_place, with_addressed, meaning_in, valued, prefixed, format_or, starting_or, called_by, struct_fits, closed, braces_fit, opened, closing, braced, braced_alone, enumerator_value, whole_value, or_zero, enumerated, enum_braced, specs_by}
 use Rattle.c_typing.specs.Judgement.{judged, judged_all, judged_print, judged_start, judged_started, judged_type, judged_parts, judged_spec, judged_enumerator, judged_enumerators, judged_members, judged_member, judged_declarators, judged_dims, judged_specs}
@@ -63,6 +63,8 @@ called_still (Some (function_name n params result)) place args print start f g h
 called_still (Some (library_name printf)) place args print start f g h c = g c
 called_still (Some (library_name thrd_create)) place args print start f g h c = h c
 called_still (Some (library_name malloc)) place args print start f g h c = f c
+called_still (Some (library_name calloc)) place args print start f g h c = f c
+called_still (Some (library_name realloc)) place args print start f g h c = f c
 called_still (Some (library_name free)) place args print start f g h c = f c
 called_still (Some (library_name memcpy)) place args print start f g h c = f c
 called_still (Some (library_name thrd_join)) place args print start f g h c = f c
@@ -86,6 +88,8 @@ starting_still (Some (function_name n params result)) j f c = keeping_itself c
 starting_still (Some (library_name (constant value))) j f c = f c
 starting_still (Some (library_name printf)) j f c = keeping_itself c
 starting_still (Some (library_name malloc)) j f c = keeping_itself c
+starting_still (Some (library_name calloc)) j f c = keeping_itself c
+starting_still (Some (library_name realloc)) j f c = keeping_itself c
 starting_still (Some (library_name free)) j f c = keeping_itself c
 starting_still (Some (library_name memcpy)) j f c = keeping_itself c
 starting_still (Some (library_name thrd_create)) j f c = keeping_itself c

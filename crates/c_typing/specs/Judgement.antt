@@ -20,7 +20,7 @@ use Rattle.c_tree.specs.Typed as trees
 use Rattle.c_tree.specs.TypedLayout.{laid_out, greatest_object}
 use Rattle.c_typing.specs.Faults.{Judged, typed, faulty, refuse, unless, both, mapped, ◌>>=◌}
 use Rattle.c_typing.specs.Types.{same_type, same_types, has_size, is_small, says_nothing, named_by, behind_pointers, arrays_of, depth_of, most_depth}
-use Rattle.c_typing.specs.Scope.{Library, printf, malloc, free, memcpy, thrd_create, thrd_join, mtx_init, mtx_lock, mtx_unlock, mtx_destroy, constant}
+use Rattle.c_typing.specs.Scope.{Library, printf, malloc, calloc, realloc, free, memcpy, thrd_create, thrd_join, mtx_init, mtx_lock, mtx_unlock, mtx_destroy, constant}
 use Rattle.c_typing.specs.Scope.{Binding, global_name, local_name, function_name, enumerator_name, type_name, library_name, Context, bytes_of, meaning_of, fresh, within, fits_plain, tag_number, is_struct_tag, with_new_struct, with_tag, is_begun, with_begun, is_enum_tag, is_listed, with_enum, with_listed, with_enumerator, with_struct}
 use Rattle.c_typing.specs.Rules.{value_of, is_zero, fitted, or_mismatch, tested, target, address, selected, pointed, minus_by, plus_by, not_by, complement_by, operated, element, chosen, cast, size_number}
 use Rattle.c_typing.specs.Constants.{constant_value}
@@ -245,6 +245,8 @@ init_by place args = refuse place TypeMismatch
 -- a name of the library, called with typed arguments
 abbrev pub called_library : (place : ℕ) → Library → List Expr → Judged Expr
 called_library place malloc args = called_lib place trees.malloc (integer unsigned_long ∷ []) (pointer void) args
+called_library place calloc args = called_lib place trees.calloc (integer unsigned_long ∷ integer unsigned_long ∷ []) (pointer void) args
+called_library place realloc args = called_lib place trees.realloc (pointer void ∷ integer unsigned_long ∷ []) (pointer void) args
 called_library place free args = called_lib place trees.free (pointer void ∷ []) void args
 called_library place memcpy args = called_lib place trees.copy (pointer void ∷ pointer void ∷ integer unsigned_long ∷ []) (pointer void) args
 called_library place thrd_join args = called_lib place trees.join (integer unsigned_long ∷ pointer (integer int) ∷ []) (integer int) args

@@ -228,6 +228,22 @@ switch_of_a_pointer_tree = record { externals = ((source.external_of [] ((source
 abbrev label_not_constant_tree : source.File
 label_not_constant_tree = record { externals = ((source.external_of [] ((source.word 0 words.Int) ∷ []) (source.function [] (name 4 8) ((record { specs = ((source.word 9 words.Void) ∷ []); pointers = []; name = None; dims = [] }) ∷ []) (Some (record { place = 14; items = ((source.declare (record { specs = ((source.word 15 words.Int) ∷ []); declarators = ((record { declarator = (source.declarator [] (name 19 20) source.no_exprs); value = (Some (source.int 21 (num int (pos 0)))) }) ∷ []) })) ∷ (source.switch 23 (source.name (name 30 31)) (source.more_stmts (source.case_label 33 (source.name (name 38 39))) (source.more_stmts (source.empty 40) source.no_stmts))) ∷ (source.return 42 (Some (source.int 49 (num int (pos 0))))) ∷ []) })))) ∷ []) }
 
+-- int main(void){int *p=calloc(2,4);p=realloc(p,8);return 0;}
+abbrev calloc_and_realloc_tree : source.File
+calloc_and_realloc_tree = record { externals = ((source.external_of [] ((source.word 0 words.Int) ∷ []) (source.function [] (name 4 8) ((record { specs = ((source.word 9 words.Void) ∷ []); pointers = []; name = None; dims = [] }) ∷ []) (Some (record { place = 14; items = ((source.declare (record { specs = ((source.word 15 words.Int) ∷ []); declarators = ((record { declarator = (source.declarator (pointers.Star ∷ []) (name 20 21) source.no_exprs); value = (Some (source.call (name 22 28) (source.more_exprs (source.int 29 (num int (pos 2))) (source.more_exprs (source.int 31 (num int (pos 4))) source.no_exprs)))) }) ∷ []) })) ∷ (source.simple (source.assign 35 assigns.Plain (source.name (name 34 35)) (source.call (name 36 43) (source.more_exprs (source.name (name 44 45)) (source.more_exprs (source.int 46 (num int (pos 8))) source.no_exprs))))) ∷ (source.return 49 (Some (source.int 56 (num int (pos 0))))) ∷ []) })))) ∷ []) }
+
+-- int main(void){void *p=calloc(4);return 0;}
+abbrev calloc_of_one_tree : source.File
+calloc_of_one_tree = record { externals = ((source.external_of [] ((source.word 0 words.Int) ∷ []) (source.function [] (name 4 8) ((record { specs = ((source.word 9 words.Void) ∷ []); pointers = []; name = None; dims = [] }) ∷ []) (Some (record { place = 14; items = ((source.declare (record { specs = ((source.word 15 words.Void) ∷ []); declarators = ((record { declarator = (source.declarator (pointers.Star ∷ []) (name 21 22) source.no_exprs); value = (Some (source.call (name 23 29) (source.more_exprs (source.int 30 (num int (pos 4))) source.no_exprs))) }) ∷ []) })) ∷ (source.return 33 (Some (source.int 40 (num int (pos 0))))) ∷ []) })))) ∷ []) }
+
+-- int main(void){void *p=realloc(8,8);return 0;}
+abbrev realloc_of_a_number_tree : source.File
+realloc_of_a_number_tree = record { externals = ((source.external_of [] ((source.word 0 words.Int) ∷ []) (source.function [] (name 4 8) ((record { specs = ((source.word 9 words.Void) ∷ []); pointers = []; name = None; dims = [] }) ∷ []) (Some (record { place = 14; items = ((source.declare (record { specs = ((source.word 15 words.Void) ∷ []); declarators = ((record { declarator = (source.declarator (pointers.Star ∷ []) (name 21 22) source.no_exprs); value = (Some (source.call (name 23 30) (source.more_exprs (source.int 31 (num int (pos 8))) (source.more_exprs (source.int 33 (num int (pos 8))) source.no_exprs)))) }) ∷ []) })) ∷ (source.return 36 (Some (source.int 43 (num int (pos 0))))) ∷ []) })))) ∷ []) }
+
+-- int realloc;int main(void){return 0;}
+abbrev realloc_declared_tree : source.File
+realloc_declared_tree = record { externals = ((source.external_of [] ((source.word 0 words.Int) ∷ []) (source.variables ((record { declarator = (source.declarator [] (name 4 11) source.no_exprs); value = None }) ∷ []))) ∷ (source.external_of [] ((source.word 12 words.Int) ∷ []) (source.function [] (name 16 20) ((record { specs = ((source.word 21 words.Void) ∷ []); pointers = []; name = None; dims = [] }) ∷ []) (Some (record { place = 26; items = ((source.return 27 (Some (source.int 34 (num int (pos 0))))) ∷ []) })))) ∷ []) }
+
 -- the rows: a text with its tree, and the fault that is named, at its place, or none where the program is accepted
 pub record Rows : Type 0 where
   pub unknown_name : refusal_of (codes "int main(void){return b;}") unknown_name_tree ≡ at 22 kinds.UnknownName
@@ -278,5 +294,9 @@ pub record Rows : Type 0 where
   pub two_defaults : refusal_of (codes "int main(void){switch(1){default:default:;}return 0;}") two_defaults_tree ≡ at 33 kinds.DoubleName
   pub switch_of_a_pointer : refusal_of (codes "int main(void){switch(NULL){}return 0;}") switch_of_a_pointer_tree ≡ at 15 kinds.TypeMismatch
   pub label_not_constant : refusal_of (codes "int main(void){int i=0;switch(i){case i:;}return 0;}") label_not_constant_tree ≡ at 33 kinds.TypeMismatch
+  pub calloc_and_realloc : refusal_of (codes "int main(void){int *p=calloc(2,4);p=realloc(p,8);return 0;}") calloc_and_realloc_tree ≡ None
+  pub calloc_of_one : refusal_of (codes "int main(void){void *p=calloc(4);return 0;}") calloc_of_one_tree ≡ at 23 kinds.TypeMismatch
+  pub realloc_of_a_number : refusal_of (codes "int main(void){void *p=realloc(8,8);return 0;}") realloc_of_a_number_tree ≡ at 23 kinds.TypeMismatch
+  pub realloc_declared : refusal_of (codes "int realloc;int main(void){return 0;}") realloc_declared_tree ≡ at 4 kinds.DoubleName
   -- the block of a header holds each local that it declares, and the loop with the last of them
   pub one_block : (place : ℕ) (a b c : Stmt) (loop : Stmt → Stmt) → headed place (a ∷ b ∷ c ∷ []) loop ≡ at_stmt place (block (more_stmts a (more_stmts b (more_stmts (loop c) no_stmts))))

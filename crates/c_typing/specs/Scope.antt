@@ -17,6 +17,8 @@ use Rattle.c_tree.specs.TypedForm.{taken}
 pub data Library : Type 0 where
   printf : Library
   malloc : Library
+  calloc : Library
+  realloc : Library
   free : Library
   memcpy : Library
   thrd_create : Library
@@ -29,7 +31,8 @@ pub data Library : Type 0 where
 
 -- the names of the library that the language has (7.21, 7.22, 7.24, 7.26)
 unfoldable pub library : List (List ℕ × Library)
-library = (codes "printf", printf) ∷ (codes "malloc", malloc) ∷ (codes "free", free) ∷ (codes "memcpy", memcpy)
+library = (codes "printf", printf) ∷ (codes "malloc", malloc) ∷ (codes "calloc", calloc) ∷ (codes "realloc", realloc)
+    ∷ (codes "free", free) ∷ (codes "memcpy", memcpy)
     ∷ (codes "thrd_create", thrd_create) ∷ (codes "thrd_join", thrd_join)
     ∷ (codes "mtx_init", mtx_init) ∷ (codes "mtx_lock", mtx_lock) ∷ (codes "mtx_unlock", mtx_unlock) ∷ (codes "mtx_destroy", mtx_destroy)
     ∷ (codes "mtx_plain", constant (pos 0)) ∷ (codes "thrd_success", constant (pos 0)) ∷ (codes "thrd_error", constant (pos 1)) ∷ []

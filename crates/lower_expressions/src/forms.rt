@@ -210,6 +210,8 @@ pub fn lib_nodes(
     match lib {
         Lib::Print(pieces) => print_nodes(alloc, out, place, pieces, args, t),
         Lib::Malloc => word_nodes(alloc, out, place, Action::Malloc, Some(t), t),
+        Lib::Calloc => two_word_nodes(alloc, out, place, Action::Calloc, t),
+        Lib::Realloc => two_word_nodes(alloc, out, place, Action::Realloc, t),
         Lib::Free => word_nodes(alloc, out, place, Action::Free, None, t),
         Lib::Copy => copying(alloc, out, place, t),
         Lib::Start(function) => {
@@ -265,6 +267,21 @@ fn word_nodes(
 {
     let temps = vec![in alloc; t]?;
     acts(alloc, out, place, action, Vec::new(alloc), to, temps)
+}
+
+// An action that reads two registers, and whose value comes to the first.
+fn two_word_nodes(
+    alloc: Global,
+    out: &mut Vec<Node>,
+    place: u32,
+    action: Action,
+    t: u32,
+) -> Result<(), NoMemory>
+    ensures { OnOk result ((rest : Nodes) → followed out.new.items rest ≡ followed out.old.items (forms.acts place (action_view action) [] (Some t) (t ∷ suc t ∷ []) rest)) }
+{
+    let u = after(t)?;
+    let temps = vec![in alloc; t, u]?;
+    acts(alloc, out, place, action, Vec::new(alloc), Some(t), temps)
 }
 
 // An action at one place, to which the pointer is in `at`, that reads one register.

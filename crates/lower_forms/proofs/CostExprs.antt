@@ -49,6 +49,8 @@ module _ (f : Frame) where
   cost_lib : (place : ℕ) (which : tree.Lib) (es : tree.Exprs) (t : ℕ) (rest : Nodes) → AtMost (lib_nodes place which es t rest) (3) rest
   cost_lib place (tree.print pieces) es t rest = cost_weak _ _ _ _ (cost_step _ _ _ _ _ (cost_one _ _ _) (cost_same _)) (omega arith)
   cost_lib place tree.malloc es t rest = cost_weak _ _ _ _ (cost_step _ _ _ _ _ (cost_one _ _ _) (cost_same _)) (omega arith)
+  cost_lib place tree.calloc es t rest = cost_weak _ _ _ _ (cost_step _ _ _ _ _ (cost_one _ _ _) (cost_same _)) (omega arith)
+  cost_lib place tree.realloc es t rest = cost_weak _ _ _ _ (cost_step _ _ _ _ _ (cost_one _ _ _) (cost_same _)) (omega arith)
   cost_lib place tree.free es t rest = cost_weak _ _ _ _ (cost_step _ _ _ _ _ (cost_one _ _ _) (cost_same _)) (omega arith)
   cost_lib place tree.copy es t rest = cost_weak _ _ _ _ (cost_step _ _ _ _ _ (cost_one _ _ _) (cost_same _)) (omega arith)
   cost_lib place (tree.start function) es t rest = cost_weak _ _ _ _ (cost_step _ _ _ _ _ (cost_one _ _ _) (cost_same _)) (omega arith)

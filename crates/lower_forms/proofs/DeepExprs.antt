@@ -50,6 +50,8 @@ module _ (f : Frame) where
   deep_lib : (place : ℕ) (which : tree.Lib) (es : tree.Exprs) (t : ℕ) (rest : Nodes) → NoDeeper (lib_nodes place which es t rest) (1) rest
   deep_lib place (tree.print pieces) es t rest = deep_weak _ _ _ _ (deep_step _ _ _ _ _ (deep_one _ _ _) (deep_same _)) (omega arith)
   deep_lib place tree.malloc es t rest = deep_weak _ _ _ _ (deep_step _ _ _ _ _ (deep_one _ _ _) (deep_same _)) (omega arith)
+  deep_lib place tree.calloc es t rest = deep_weak _ _ _ _ (deep_step _ _ _ _ _ (deep_one _ _ _) (deep_same _)) (omega arith)
+  deep_lib place tree.realloc es t rest = deep_weak _ _ _ _ (deep_step _ _ _ _ _ (deep_one _ _ _) (deep_same _)) (omega arith)
   deep_lib place tree.free es t rest = deep_weak _ _ _ _ (deep_step _ _ _ _ _ (deep_one _ _ _) (deep_same _)) (omega arith)
   deep_lib place tree.copy es t rest = deep_weak _ _ _ _ (deep_step _ _ _ _ _ (deep_one _ _ _) (deep_same _)) (omega arith)
   deep_lib place (tree.start function) es t rest = deep_weak _ _ _ _ (deep_step _ _ _ _ _ (deep_one _ _ _) (deep_same _)) (omega arith)

@@ -192,6 +192,18 @@ module _ (x : Scope) (c : InScope) (f : Frame) (s : Suits x c f) where
     valid = and_from _ _ (and_from _ _ refl (and_from _ _ (and_from _ _ (below x t (omega (arith, k))) refl) (below x t (omega (arith, k))))) refl;
     bare = refl;
   }) g
+  good_lib a place tree.calloc es ty t rest h k g =
+      let m : 2 ≤ count_all es = args_many (tree.integer unsigned_long ∷ tree.integer unsigned_long ∷ []) es h.0 in
+      good_step x a place _ rest (record {
+        valid = and_from _ _ (and_from _ _ refl (and_from _ _ (and_from _ _ (below x t (omega (arith, k))) (and_from _ _ (below x (suc t) (omega (arith, k, m))) refl)) (below x t (omega (arith, k))))) refl;
+        bare = refl;
+      }) g
+  good_lib a place tree.realloc es ty t rest h k g =
+      let m : 2 ≤ count_all es = args_many (tree.pointer tree.void ∷ tree.integer unsigned_long ∷ []) es h.0 in
+      good_step x a place _ rest (record {
+        valid = and_from _ _ (and_from _ _ refl (and_from _ _ (and_from _ _ (below x t (omega (arith, k))) (and_from _ _ (below x (suc t) (omega (arith, k, m))) refl)) (below x t (omega (arith, k))))) refl;
+        bare = refl;
+      }) g
   good_lib a place tree.free es ty t rest h k g = good_step x a place _ rest (record {
     valid = and_from _ _ (and_from _ _ refl (and_from _ _ (and_from _ _ (below x t (omega (arith, k))) refl) refl)) refl;
     bare = refl;

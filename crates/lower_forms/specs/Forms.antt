@@ -238,6 +238,8 @@ text_places (tree.more_exprs e rest) t = with_if (not (is_number (tree.type_of e
 abbrev pub lib_nodes : (place : ℕ) → tree.Lib → tree.Exprs → (t : ℕ) → Nodes → Nodes
 lib_nodes place (tree.print pieces) args t rest = acts place (ir.print pieces) (text_places args t) (Some t) (number_temps args t) rest
 lib_nodes place tree.malloc args t rest = acts place ir.malloc [] (Some t) (t ∷ []) rest
+lib_nodes place tree.calloc args t rest = acts place ir.calloc [] (Some t) (t ∷ suc t ∷ []) rest
+lib_nodes place tree.realloc args t rest = acts place ir.realloc [] (Some t) (t ∷ suc t ∷ []) rest
 lib_nodes place tree.free args t rest = acts place ir.free [] None (t ∷ []) rest
 lib_nodes place tree.copy args t rest = acts place (ir.copy_bytes 1 false) (at_temp t ∷ at_temp (suc t) ∷ []) None (suc (suc t) ∷ []) rest
 lib_nodes place (tree.start function) args t rest = acts place (ir.start function) (at_temp t ∷ []) (Some t) (suc t ∷ []) rest

@@ -68,6 +68,33 @@ churn_code = record {
       ∷ sets 42 1 (ir.copy 0) ∷ acts 37 ir.free [] None (1 ∷ []) ∷ []);
 }
 
+-- the number n, an int that is converted to a size_t
+abbrev pub size : (place n : ℕ) → tree.Expr
+size place n = tree.at place (tree.integer unsigned_long) (tree.convert (tree.at place (tree.integer int) (tree.num int (pos n))))
+
+-- a call of the library at this place, whose void * is converted to a char *
+abbrev pub as_text : (place : ℕ) → tree.Lib → tree.Exprs → tree.Expr
+as_text place which args = tree.at place (tree.pointer (tree.integer char)) (tree.convert (tree.at place (tree.pointer tree.void) (tree.lib which args)))
+
+-- void grow(void){char *c=calloc(2,4);c=realloc(c,100);}
+abbrev pub grow : tree.Func
+grow = func tree.void (kept (tree.pointer (tree.integer char)) ∷ [])
+    (tree.at_stmt 22 (tree.declare 0 (Some (as_text 24 tree.calloc (tree.more_exprs (size 31 2) (tree.more_exprs (size 33 4) tree.no_exprs)))))
+    ∷ tree.at_stmt 37 (tree.assign (tree.at 36 (tree.pointer (tree.integer char)) (tree.local 0))
+    (as_text 38 tree.realloc (tree.more_exprs (tree.at 46 (tree.pointer tree.void) (tree.convert (tree.at 46 (tree.pointer (tree.integer char)) (tree.local 0)))) (tree.more_exprs (size 48 100) tree.no_exprs)))) ∷ [])
+
+-- its code: each of the two reads two registers, and none has a place
+abbrev pub grow_code : ir.Func
+grow_code = record {
+  params = 0;
+  temps = 9;
+  slots = 0;
+  objects = [];
+  nodes = row (sets 22 0 ir.unset ∷ sets 31 1 (ir.constant int (pos 2)) ∷ sets 31 1 (ir.convert unsigned_long 1) ∷ sets 33 2 (ir.constant int (pos 4)) ∷ sets 33 2 (ir.convert unsigned_long 2)
+      ∷ acts 24 ir.calloc [] (Some 1) (1 ∷ 2 ∷ []) ∷ sets 22 0 (ir.copy 1)
+      ∷ sets 46 1 (ir.copy 0) ∷ sets 48 2 (ir.constant int (pos 100)) ∷ sets 48 2 (ir.convert unsigned_long 2) ∷ acts 38 ir.realloc [] (Some 1) (1 ∷ 2 ∷ []) ∷ sets 37 0 (ir.copy 1) ∷ []);
+}
+
 -- the value of a local of type int, by the place and its number
 abbrev pub number : (place local : ℕ) → tree.Expr
 number place local = tree.at place (tree.integer int) (tree.local local)
@@ -104,3 +131,4 @@ main_code = record {
 -- the rows: what these functions are lowered to
 pub record RowsHold : Type 0 where
   pub lowered_program : lowered (program main churn) ≡ record { globals = []; literals = []; funcs = churn_code ∷ main_code ∷ []; main = 1 }
+  pub lowered_allocations : lowered (program main grow) ≡ record { globals = []; literals = []; funcs = grow_code ∷ main_code ∷ []; main = 1 }

@@ -14,9 +14,9 @@ use Rattle.block_store.specs.declared.values.Ptr.{Ptr}
 use Rattle.block_store.specs.declared.values.Ptr.TheVariants.{To}
 use Rattle.block_store.specs.declared.values.Value.{Value}
 use Rattle.block_store.specs.declared.values.Value.TheVariants as values
-use Rattle.block_store.specs.Actions.{World, ThreadRecord, Stage, running, returned, joined, at_stage, staged, staged_if, with_blocks, Done, went, blocked, unfit, broke, under, settled, chosen, gives, changes, changes_or_waits, passes, all_bytes, prints, starts, next_number, stored_unless_null, joins, joins_at, joins_if, result_of, acted, beginning}
+use Rattle.block_store.specs.Actions.{World, ThreadRecord, Stage, running, returned, joined, at_stage, staged, staged_if, with_blocks, Done, went, blocked, unfit, broke, under, settled, chosen, gives, changes, changes_or_waits, passes, all_bytes, prints, renews, starts, next_number, stored_unless_null, joins, joins_at, joins_if, result_of, acted, beginning}
 use Rattle.block_store.specs.Actions as actions
-use Rattle.block_store.specs.Blocks.{Blocks, made, loaded, stored, copied, freed}
+use Rattle.block_store.specs.Blocks.{Blocks, made, loaded, stored, copied, freed, renewed}
 use Rattle.block_store.specs.Mutexes.{locked, unlocked, destroyed}
 use Rattle.block_store.specs.Actions.{Printed, Reached, telling}
 use Rattle.c_tree.specs.Typed as tree
@@ -75,6 +75,18 @@ module _ (t : tree.Typed) where
       → IfWent (GivesKind accesses.Pointer) (if b then went (Some (values.Pointer (To (length w.blocks) 0))) (with_blocks w (made w.blocks size Heap first)) else unfit)
   allocated_so w size first true a = (tt, a)
   allocated_so w size first false a = tt
+
+  renews_so : (w : World) (size : ℕ) (r : Result Blocks Rule) → AllBegin t w → (answer : Answer) → IfWent (GivesKind accesses.Pointer) (under answer (renews w size r))
+  renews_so w size (Err rule) a answers.Plain = tt
+  renews_so w size (Err rule) a answers.Got = tt
+  renews_so w size (Err rule) a answers.None = tt
+  renews_so w size (Ok b) a answers.Plain = tt
+  renews_so w size (Ok b) a answers.Got = got (nat_lt size (2 ^ 32))
+    where
+      got : (fits : Bool) → IfWent (GivesKind accesses.Pointer) (if fits then went (Some (values.Pointer (To (length w.blocks) 0))) (with_blocks w b) else unfit)
+      got true = (tt, a)
+      got false = tt
+  renews_so w size (Ok b) a answers.None = (tt, a)
 
   prints_so : (w : World) (r : Result (List ℕ) Rule) → AllBegin t w → IfWent (GivesKind (accesses.Number int)) (prints w r)
   prints_so w (Ok all) a = (refl, a)
@@ -142,6 +154,9 @@ module _ (t : tree.Typed) where
 
     pub allocate_so : (size : ℕ) (first : Cell) → IfWent (GivesKind accesses.Pointer) (acted w thread answer (actions.allocate size first))
     allocate_so size first = telling_so _ _ _ (chosen_so _ answer _ _ (allocated_so w size first (nat_lt size (2 ^ 32)) all) (tt, all))
+
+    pub reallocate_so : (at : Ptr) (size : ℕ) → IfWent (GivesKind accesses.Pointer) (acted w thread answer (actions.reallocate at size))
+    reallocate_so at size = telling_so _ _ _ (renews_so w size (renewed w.blocks at size) all answer)
 
     pub free_so : (at : Ptr) → IfWent GivesNone (acted w thread answer (actions.free at))
     free_so at = telling_so _ _ _ (settled_so _ answer _ (changes_so w (freed w.blocks at) all))

@@ -120,6 +120,8 @@ struct_lvalue g s (tree.lib which args) h = no_lib which h.1
     no_lib : (which : tree.Lib) → IsLibCall (ctx g.t g.n g.f) which args (tree.structure s) → IsLvalue (tree.lib which args)
     no_lib (tree.print pieces) k = absurd (let d = k.1 in cc)
     no_lib tree.malloc k = absurd (let d = k.1 in cc)
+    no_lib tree.calloc k = absurd (let d = k.1 in cc)
+    no_lib tree.realloc k = absurd (let d = k.1 in cc)
     no_lib tree.free k = absurd (let d = k.1 in cc)
     no_lib tree.copy k = absurd (let d = k.1 in cc)
     no_lib (tree.start m) k = absurd (let d = k.2 in cc)

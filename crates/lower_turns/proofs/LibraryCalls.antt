@@ -1,10 +1,10 @@
 -- Each call of the library does the same on both sides.
 use Rattle.ak_words.specs.declared.number.Num.{Num}
-use Rattle.std.proofs.Common.{◌≡◌, ◌≢◌, ℕ, suc, pos, false, List, [], ◌∷◌, map, Option, Some, None, Ok, Err, inr, refl, sym, ap, subst, ◌∙◌, arith, unsigned_abs, if◌then◌else◌}
+use Rattle.std.proofs.Common.{◌≡◌, ◌≢◌, ℕ, suc, ◌*◌, pos, false, List, [], ◌∷◌, map, Option, Some, None, Ok, Err, inr, refl, sym, ap, subst, ◌∙◌, arith, unsigned_abs, if◌then◌else◌}
 use Rattle.ak_words.specs.IntType.{int, unsigned_long}
 use Rattle.block_store.specs.declared.values.Access.{Access}
 use Rattle.block_store.specs.declared.values.Access.TheVariants as accesses
-use Rattle.block_store.specs.declared.values.Cell.TheVariants.{Unknown}
+use Rattle.block_store.specs.declared.values.Cell.TheVariants.{Unknown, Byte}
 use Rattle.block_store.specs.declared.values.Ptr.{Ptr}
 use Rattle.block_store.specs.declared.values.Value.{Value}
 use Rattle.block_store.specs.declared.values.Value.TheVariants as values
@@ -23,7 +23,7 @@ use Rattle.struct_ir.specs.Nodes as ir
 use Rattle.struct_ir.specs.Nodes.{Nodes, Step, more_nodes, plain}
 use Rattle.struct_ir.specs.Structured.{Position, then_}
 use Rattle.struct_ir.specs.meaning.Blocks.{Held, value, set_at, wrong_kind, same_type}
-use Rattle.struct_ir.specs.meaning.Threads.{action_of, set_if, action_with, if_count}
+use Rattle.struct_ir.specs.meaning.Threads.{action_of, set_if, action_with, on_ok, if_count}
 use Rattle.lower_forms.specs.Forms.{sets_int, at_temp, number_temps, text_places, lib_nodes}
 use Rattle.lower_forms.specs.Programs.{lowered}
 use Rattle.lower_turns.proofs.Relation.{ctx, HasKind, Stand, AreScalars, Calls, AllBegin}
@@ -32,7 +32,7 @@ use Rattle.lower_turns.proofs.Values.{kind_fits}
 use Rattle.lower_turns.proofs.Operands.{fits_access}
 use Rattle.lower_turns.proofs.Steps.{set_then, step_alike}
 use Rattle.lower_turns.proofs.Setting.{Stands, Setting, here, now, own, Alike}
-use Rattle.lower_turns.proofs.Actions.{GivesKind, GivesNone, IfWent, if_went, copy_so, store_so, allocate_so, free_so, print_so, lock_so, unlock_so, destroy_so, start_so, join_so}
+use Rattle.lower_turns.proofs.Actions.{GivesKind, GivesNone, IfWent, if_went, copy_so, store_so, allocate_so, reallocate_so, free_so, print_so, lock_so, unlock_so, destroy_so, start_so, join_so}
 use Rattle.lower_turns.proofs.Calls.{WaitIs, nth_mapped}
 use Rattle.lower_turns.proofs.Library.{action_is, one_more_place, one_more_read, at_register, print_is, Lands, lands_value, lands_zero, lands_none}
 
@@ -93,6 +93,36 @@ module _ (g : Setting) (busy : Calls g.t) (vs : List Variable) (ob : ℕ → Opt
       (actions.allocate (unsigned_abs n.value) Unknown)
       (action_is place (own g ob tm b) (record { action = ir.malloc; places = []; to = Some u; temps = u ∷ []; slots = [] }) [] (values.Num n ∷ []) refl (one_more_read place (own g ob tm b) u [] (values.Num n) [] h.1 refl) ∙ count_is n (actions.allocate (unsigned_abs n.value) Unknown) h.0)
       (allocate_so g.t world_now g.begun g.thread g.answer (unsigned_abs n.value) Unknown)
+
+  pub calloc_alike : (es : tree.Exprs) (args : List Value) → ty ≡ tree.pointer tree.void → StandAs tm (accesses.Number unsigned_long ∷ accesses.Number unsigned_long ∷ []) args u → Ends tree.calloc args (lib_nodes place tree.calloc es u r)
+  calloc_alike es [] e h = elim h [ ]
+  calloc_alike es (values.Pointer p ∷ args) e h = elim (h.0) [ ]
+  calloc_alike es (values.Num n ∷ []) e h = elim (h.2) [ ]
+  calloc_alike es (values.Num n ∷ values.Pointer p ∷ args) e h = elim (h.2.0) [ ]
+  calloc_alike es (values.Num n ∷ values.Num m ∷ x ∷ args) e h = elim (h.2.2) [ ]
+  calloc_alike es (values.Num n ∷ values.Num m ∷ []) e h =
+      let act : SharedAction = actions.allocate (unsigned_abs n.value * unsigned_abs m.value) (Byte 0) in
+      kind_alike accesses.Pointer (sym (ap access_of_type e)) (record { action = ir.calloc; places = []; to = Some u; temps = u ∷ suc u ∷ []; slots = [] }) refl act
+      (action_is place (own g ob tm b) (record { action = ir.calloc; places = []; to = Some u; temps = u ∷ suc u ∷ []; slots = [] }) [] (values.Num n ∷ values.Num m ∷ []) refl
+      (one_more_read place (own g ob tm b) u (suc u ∷ []) (values.Num n) (values.Num m ∷ []) h.1
+      (one_more_read place (own g ob tm b) (suc u) [] (values.Num m) [] h.2.1 refl))
+      ∙ ap (λ o. on_ok o (if_count m)) (count_is n act h.0) ∙ count_is m act h.2.0)
+      (allocate_so g.t world_now g.begun g.thread g.answer (unsigned_abs n.value * unsigned_abs m.value) (Byte 0))
+
+  pub realloc_alike : (es : tree.Exprs) (args : List Value) → ty ≡ tree.pointer tree.void → StandAs tm (accesses.Pointer ∷ accesses.Number unsigned_long ∷ []) args u → Ends tree.realloc args (lib_nodes place tree.realloc es u r)
+  realloc_alike es [] e h = elim h [ ]
+  realloc_alike es (values.Num n ∷ args) e h = elim (h.0) [ ]
+  realloc_alike es (values.Pointer p ∷ []) e h = elim (h.2) [ ]
+  realloc_alike es (values.Pointer p ∷ values.Pointer o ∷ args) e h = elim (h.2.0) [ ]
+  realloc_alike es (values.Pointer p ∷ values.Num n ∷ x ∷ args) e h = elim (h.2.2) [ ]
+  realloc_alike es (values.Pointer p ∷ values.Num n ∷ []) e h =
+      kind_alike accesses.Pointer (sym (ap access_of_type e)) (record { action = ir.realloc; places = []; to = Some u; temps = u ∷ suc u ∷ []; slots = [] }) refl
+      (actions.reallocate p (unsigned_abs n.value))
+      (action_is place (own g ob tm b) (record { action = ir.realloc; places = []; to = Some u; temps = u ∷ suc u ∷ []; slots = [] }) [] (values.Pointer p ∷ values.Num n ∷ []) refl
+      (one_more_read place (own g ob tm b) u (suc u ∷ []) (values.Pointer p) (values.Num n ∷ []) h.1
+      (one_more_read place (own g ob tm b) (suc u) [] (values.Num n) [] h.2.1 refl))
+      ∙ count_is n (actions.reallocate p (unsigned_abs n.value)) h.2.0)
+      (reallocate_so g.t world_now g.begun g.thread g.answer p (unsigned_abs n.value))
 
   pub start_alike : (m : ℕ) (es : tree.Exprs) (args : List Value) → ty ≡ tree.integer int → IsNth (ctx g.t g.n g.f).funcs m CanStart → StandAs tm (accesses.Pointer ∷ accesses.Pointer ∷ []) args u
       → Ends (tree.start m) args (lib_nodes place (tree.start m) es u r)
@@ -216,6 +246,8 @@ module _ (g : Setting) (busy : Calls g.t) (vs : List Variable) (ob : ℕ → Opt
   pub library_alike : (which : tree.Lib) (es : tree.Exprs) (args : List Value) → IsLibCall (ctx g.t g.n g.f) which es ty → AreScalars es → Stand tm es args u → Ends which args (lib_nodes place which es u r)
   library_alike (tree.print pieces) es args h s a = print_alike pieces es args h.1 s a
   library_alike tree.malloc es args h s a = malloc_alike es args h.1 (stand_as tm (tree.integer unsigned_long ∷ []) es args u h.0 a)
+  library_alike tree.calloc es args h s a = calloc_alike es args h.1 (stand_as tm (tree.integer unsigned_long ∷ tree.integer unsigned_long ∷ []) es args u h.0 a)
+  library_alike tree.realloc es args h s a = realloc_alike es args h.1 (stand_as tm (tree.pointer tree.void ∷ tree.integer unsigned_long ∷ []) es args u h.0 a)
   library_alike tree.free es args h s a = free_alike es args h.1 (stand_as tm (tree.pointer tree.void ∷ []) es args u h.0 a)
   library_alike tree.copy es args h s a = copy_alike es args h.1 (stand_as tm (tree.pointer tree.void ∷ tree.pointer tree.void ∷ tree.integer unsigned_long ∷ []) es args u h.0 a)
   library_alike (tree.start m) es args h s a = start_alike m es args h.2 h.0 (stand_as tm (tree.pointer (tree.integer unsigned_long) ∷ tree.pointer tree.void ∷ []) es args u h.1 a)

@@ -235,6 +235,8 @@ argument_scalars (t ∷ ts) (tree.more_exprs e es) s h = (fits_scalar (tree.type
 pub lib_scalars : (c : InScope) (which : tree.Lib) (es : tree.Exprs) (ty : tree.Ty) → IsLibCall c which es ty → AreScalars es
 lib_scalars c (tree.print pieces) es ty h = printed_scalars pieces es h.0
 lib_scalars c tree.malloc es ty h = argument_scalars (tree.integer unsigned_long ∷ []) es (tt, tt) h.0
+lib_scalars c tree.calloc es ty h = argument_scalars (tree.integer unsigned_long ∷ tree.integer unsigned_long ∷ []) es (tt, (tt, tt)) h.0
+lib_scalars c tree.realloc es ty h = argument_scalars (tree.pointer tree.void ∷ tree.integer unsigned_long ∷ []) es (tt, (tt, tt)) h.0
 lib_scalars c tree.free es ty h = argument_scalars (tree.pointer tree.void ∷ []) es (tt, tt) h.0
 lib_scalars c tree.copy es ty h = argument_scalars (tree.pointer tree.void ∷ tree.pointer tree.void ∷ tree.integer unsigned_long ∷ []) es (tt, (tt, (tt, tt))) h.0
 lib_scalars c (tree.start f) es ty h = argument_scalars (tree.pointer (tree.integer unsigned_long) ∷ tree.pointer tree.void ∷ []) es (tt, (tt, tt)) h.1

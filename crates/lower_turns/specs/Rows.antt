@@ -1,6 +1,6 @@
 -- Small programs, and the code that they are lowered to: what both show, turn by turn. They are those by which the meaning of the source is
 -- put to the test, and a few more, where the code could have kept what the source has no longer.
-use Rattle.std.specs.Prelude.{◌≡◌, ℕ, List, [], ◌∷◌, ◌++◌, codes, None, Some, pos}
+use Rattle.std.specs.Prelude.{◌≡◌, ◌^◌, ℕ, List, [], ◌∷◌, ◌++◌, codes, None, Some, pos}
 use Rattle.ak_words.specs.declared.operation.Op.TheVariants as ops
 use Rattle.ak_words.specs.IntType.{char, int, unsigned_int, long}
 use Rattle.block_store.specs.Runs.{Pick}
@@ -11,6 +11,7 @@ use Rattle.c_tree.specs.Typed.{null, literal, global, local, deref, member, addr
 use Rattle.c_tree.specs.Typed.{block, declare, if_, if_else, for_, while_, break_, continue_, return_, assign, update, evaluate, StmtNode, Expr, zero_bytes, number}
 use Rattle.c_meaning.specs.Meaning.{start, shown}
 use Rattle.c_meaning.specs.Rows.{int_ty, int_star, k, v, of_type, row, one, lib_call, printf_int, op_of, at_star, in_register, in_memory, func, whole, main_only, turns, got, none, p0, malloc_of, free_of, call_of, recursion, shared_block, first_turns, ints, returns, char_star, decayed, at_index, as_void_star, size, mutex_call, joined_twice, prints_and_gives, x0, pair, struct_local, unsigned_char, u, minus, counted, one_waits, g0, thread_ty}
+use Rattle.c_meaning.specs.AllocationRows.{grows, renews, of_the_dead, zeroed}
 use Rattle.struct_ir.specs.meaning.Threads.{program_of}
 use Rattle.lower_forms.specs.Programs.{lowered}
 
@@ -175,7 +176,7 @@ at_once locals body = Keeps (main_only locals body) (turns 0 1)
 
 -- ---- what they show
 
--- a product, a loop, a block of malloc, a recursion, elements of arrays, and a block of two threads
+-- a product, a loop, a block of malloc, blocks of calloc and realloc, a recursion, elements of arrays, and a block of two threads
 pub record RowsStand : Type 0 where
   pub product_is : Keeps product (turns 0 3)
   pub product_unfit : Keeps product (got 0)
@@ -183,6 +184,11 @@ pub record RowsStand : Type 0 where
   pub heap_is : Keeps heap (got 0 ++ turns 0 7)
   pub heap_refused : Keeps heap (none 0 ++ turns 0 1)
   pub heap_wants_answer : Keeps heap (turns 0 1)
+  pub grows_is : Keeps grows (got 0 ++ turns 0 3 ++ got 0 ++ turns 0 6)
+  pub renewal_refused : Keeps (renews 8 p0) (got 0 ++ turns 0 1 ++ none 0 ++ turns 0 3)
+  pub renewal_wants_answer : Keeps (renews 8 p0) (got 0 ++ turns 0 2)
+  pub dead_renewed : Keeps of_the_dead (got 0 ++ turns 0 1 ++ none 0)
+  pub product_too_large : Keeps (zeroed (2 ^ 32) (2 ^ 32)) (got 0)
   pub recursion_is : Keeps recursion (turns 0 7)
   pub elements_are : Keeps elements (got 0 ++ turns 0 14)
   pub members_are : Keeps members (got 0 ++ turns 0 7)

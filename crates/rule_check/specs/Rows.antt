@@ -10,7 +10,7 @@ use Rattle.block_store.specs.declared.values.BlockKind.TheVariants as kinds
 use Rattle.block_store.specs.declared.values.Cell.TheVariants.{Unknown, Byte}
 use Rattle.block_store.specs.declared.values.Ptr.TheVariants.{Null, To}
 use Rattle.block_store.specs.Actions as actions
-use Rattle.block_store.specs.Actions.{World, SharedAction, load, allocate, print, bytes, start, join, finish, acted, first_world}
+use Rattle.block_store.specs.Actions.{World, SharedAction, load, allocate, reallocate, print, bytes, start, join, finish, acted, first_world}
 use Rattle.block_store.specs.Runs.{Program, Pick, Turn, went, ended, blocked, unfit, broke, first_state}
 use Rattle.block_meaning.specs.Asking.{Wish, nothing, some_bytes, too_many_bytes, a_thread, wish}
 use Rattle.flat_rules.specs.Draws.{draws}
@@ -113,6 +113,10 @@ pub record AnswersStand : Type 0 where
   pub a_load : wish_of (load Null accesses.Pointer) ≡ nothing
   pub four_bytes : wish_of (allocate 4 Unknown) ≡ some_bytes 4
   pub too_many : wish_of (allocate (2 ^ 32) Unknown) ≡ too_many_bytes
+  -- a realloc asks for the new block's bytes, and for nothing where free would break a rule
+  pub eight_anew : wish_of (reallocate Null 8) ≡ some_bytes 8
+  pub too_many_anew : wish_of (reallocate Null (2 ^ 32)) ≡ too_many_bytes
+  pub none_of_the_dead : wish_of (reallocate (To 9 0) 8) ≡ nothing
   pub a_new_thread : wish_of starts ≡ a_thread
   pub one_without_place : wish_of (start Null 1 Null) ≡ a_thread
   pub most_bytes : answer_to 1 (some_bytes 16777216) ≡ answers.Got

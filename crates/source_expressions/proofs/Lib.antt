@@ -3,4 +3,5 @@ pub mod Forms
 pub mod Parts
 pub mod Gather
 pub mod Pieces
+pub mod Products
 pub mod LibraryCalls

@@ -1,6 +1,6 @@
 //! What a call does once its arguments are there.
 
-ghost use Rattle.std.specs.Prelude.{◌≡◌, IfOk};
+ghost use Rattle.std.specs.Prelude.{◌≡◌, ◌*◌, unsigned_abs, IfOk};
 ghost use Rattle.std.specs.Option.{option_map};
 ghost use Rattle.c_tree.specs.Typed as tree;
 ghost use Rattle.c_tree.specs.TypedViews.{lib_view};
@@ -42,6 +42,43 @@ fn allocation(args: &[Value]) -> Option<SharedAction>
         [size] => match *size {
             Value::Num(n) => Some(SharedAction::Allocate(n.value.unsigned_abs(), Cell::Unknown)),
             Value::Pointer(_) => None,
+        },
+        _ => None,
+    }
+}
+
+// `calloc`
+fn zeroed_allocation(args: &[Value]) -> Option<SharedAction>
+    ensures { option_map action_of result ≡ library.action_of tree.calloc args.now }
+{
+    match args {
+        [count, size] => match (*count, *size) {
+            (Value::Num(count), Value::Num(size)) => {
+                Some(SharedAction::Allocate(product(count, size), Cell::Byte(0)))
+            }
+            (_, _) => None,
+        },
+        _ => None,
+    }
+}
+
+// The product of two numbers' absolute values.
+fn product(count: Num, size: Num) -> u128
+    ensures { result ≡ unsigned_abs count.value * unsigned_abs size.value }
+{
+    count.value.unsigned_abs() * size.value.unsigned_abs()
+}
+
+// `realloc`
+fn reallocation(args: &[Value]) -> Option<SharedAction>
+    ensures { option_map action_of result ≡ library.action_of tree.realloc args.now }
+{
+    match args {
+        [block, size] => match (*block, *size) {
+            (Value::Pointer(p), Value::Num(n)) => {
+                Some(SharedAction::Reallocate(p, n.value.unsigned_abs()))
+            }
+            (_, _) => None,
         },
         _ => None,
     }
@@ -153,6 +190,8 @@ fn action(alloc: Global, lib: &Lib, args: &[Value]) -> Result<Option<SharedActio
     match lib {
         Lib::Print(pieces) => Ok(Some(SharedAction::Print(printed(alloc, pieces, args)?))),
         Lib::Malloc => Ok(allocation(args)),
+        Lib::Calloc => Ok(zeroed_allocation(args)),
+        Lib::Realloc => Ok(reallocation(args)),
         Lib::Free => Ok(freeing(args)),
         Lib::Copy => Ok(copying(args)),
         Lib::Start(function) => Ok(starting(*function, args)),

@@ -1,4 +1,5 @@
 pub mod Back
 pub mod Broken
+pub mod Renewals
 pub mod Texts
 pub mod LocalsBack

@@ -42,6 +42,7 @@ action_of (acts.Load at how) = actions.load at how
 action_of (acts.Store at v) = actions.store at v
 action_of (acts.Copy to from n align same) = actions.copy to from n align same
 action_of (acts.Allocate size first) = actions.allocate size first
+action_of (acts.Reallocate at size) = actions.reallocate at size
 action_of (acts.Free at) = actions.free at
 action_of (acts.Print all) = actions.print (map printed_of all.items)
 action_of (acts.Lock at) = actions.lock at

@@ -6,15 +6,15 @@ ghost use Rattle.ak_words.specs.IntType.{int};
 ghost use Rattle.ak_words.specs.Num.{num};
 ghost use Rattle.block_store.specs.declared.values.Value.TheVariants as values;
 ghost use Rattle.block_store.specs.declared.values.Answer.TheVariants as answers;
-ghost use Rattle.block_store.specs.Actions.{acted, allocate, start, starts, telling, writing, next_number, staged, joined_by, stored_unless_null};
+ghost use Rattle.block_store.specs.Actions.{acted, allocate, reallocate, renews, renew_reaches, start, starts, telling, writing, next_number, staged, joined_by, stored_unless_null};
 ghost use Rattle.block_store.specs.Actions as actions;
-ghost use Rattle.block_store.specs.Blocks.{answer_of, store_after, stored};
+ghost use Rattle.block_store.specs.Blocks.{answer_of, store_after, stored, renewed, kept_cells};
 ghost use Rattle.source_state.specs.Worlds.{world_of, done_of, action_of, stage_of, Untouched};
 
 use crate::plain::number_of_type;
 use crate::world::{Done, SharedAction, Stage, ThreadRecord, World};
 use ak_words::{IntType, NoMemory, Num, Rule};
-use block_store::{Answer, BlockKind, Cell, Ptr, Value};
+use block_store::{Answer, BlockKind, Cell, Ptr, StoreFault, Value};
 use std::alloc::Global;
 
 impl World {
@@ -33,6 +33,9 @@ impl World {
         match (action, answer) {
             (SharedAction::Allocate(size, first), answer) => self.allocate(
                 thread, size, first, answer,
+            ),
+            (SharedAction::Reallocate(at, size), answer) => self.reallocate(
+                thread, at, size, answer,
             ),
             (SharedAction::Start(to, function, argument), answer) => {
                 self.start(thread, to, function, argument, answer)
@@ -57,6 +60,7 @@ impl World {
             SharedAction::Store(at, v) => self.store_value(at, v),
             SharedAction::Copy(to, from, n, align, same) => self.copy(to, from, n, align, same),
             SharedAction::Allocate(_, _) => Ok(Done::Unfit),
+            SharedAction::Reallocate(at, size) => self.reallocate(thread, at, size, Answer::Plain),
             SharedAction::Free(at) => Ok(self.free(at)),
             SharedAction::Print(parts) => self.print(alloc, &parts),
             SharedAction::Lock(at) => self.lock(at, thread),
@@ -90,6 +94,63 @@ impl World {
                 Ok(self.went(Some(Value::Pointer(Ptr::To { block, offset: 0 }))))
             }
         }
+    }
+
+    // A block in place of another, or of null; what free wouldn't take breaks a rule, whatever the answer is.
+    #[tactic(auto, using(crate::proofs::Renewals::realloc_broken, crate::proofs::Renewals::realloc_plain, crate::proofs::Renewals::realloc_none, crate::proofs::Renewals::realloc_large))]
+    fn reallocate(
+        &mut self,
+        thread: u32,
+        at: Ptr,
+        size: u128,
+        answer: Answer,
+    ) -> Result<Done, NoMemory>
+        ensures done { IfOk result (λ done. done_of done (world_of self.new) ≡ acted (world_of self.old) thread answer (reallocate at size)) }
+        ensures untouched { IfOk result (λ done. Untouched done self.old self.new) }
+    {
+        if let Err(rule) = self.store.store().may_end(at) {
+            return Ok(Done::Broke(rule));
+        }
+        match answer {
+            Answer::Plain => Ok(Done::Unfit),
+            Answer::None => Ok(self.went(Some(Value::Pointer(Ptr::Null)))),
+            Answer::Got => {
+                let Ok(size) = u32::try_from(size) else {
+                    return Ok(Done::Unfit);
+                };
+                self.renew(at, size)
+            }
+        }
+    }
+
+    // A block that is made in place of another, or of null: the cells that both have are read, and written.
+    #[tactic(auto, using(crate::proofs::Renewals::renewal_broke, crate::proofs::Renewals::renewal_went))]
+    fn renew(&mut self, at: Ptr, size: u32) -> Result<Done, NoMemory>
+        ensures done { IfOk result (λ done. done_of done (world_of self.new) ≡ telling (renew_reaches (world_of self.old) answers.Got at size) (renews (world_of self.old) size (renewed (world_of self.old).blocks at size)).got) }
+        ensures untouched { IfOk result (λ done. Untouched done self.old self.new) }
+    {
+        let kept = self.kept_cells(at, size);
+        match self.store.renew(at, size) {
+            Err(StoreFault::NoMemory) => Err(NoMemory),
+            Err(StoreFault::Broke(rule)) => Ok(Done::Broke(rule)),
+            Ok(block) => {
+                let new = Ptr::To { block, offset: 0 };
+                self.went_both(Some(Value::Pointer(new)), at, new, u64::from(kept))
+            }
+        }
+    }
+
+    // How many cells a block that is made in place of another has of it.
+    fn kept_cells(&self, at: Ptr, size: u32) -> u32
+        ensures { result ≡ kept_cells (world_of self.now).blocks at size }
+    {
+        let Ptr::To { block, offset: _ } = at else {
+            return 0;
+        };
+        let Some(old) = self.store.store().live_size(block) else {
+            return 0;
+        };
+        old.min(size)
     }
 
     // A new thread.

@@ -1,12 +1,14 @@
-ghost use Rattle.std.specs.Prelude.{◌≡◌, ◌<◌, length, IfOk, OnOk, OnErr};
-ghost use Rattle.block_store.specs.Blocks.{made, ended, freed, stored, copied, answer_of, store_after};
+ghost use Rattle.std.specs.Prelude.{◌≡◌, ◌<◌, length, Ok, Err, IfOk, OnOk, OnErr};
+ghost use Rattle.ak_words.specs.declared.rule.Rule.{Rule};
+ghost use Rattle.block_store.specs.declared.fault.StoreFault.TheVariants.{Broke};
+ghost use Rattle.block_store.specs.Blocks.{made, ended, freed, renewed, stored, copied, answer_of, store_after};
 ghost use Rattle.block_store.specs.Cells.{access_of};
 ghost use Rattle.block_store.specs.Mutexes.{locked, unlocked, lock_end, store_after_lock};
 ghost use Rattle.source_state.specs.inner.Back.{back_by};
 ghost use Rattle.source_state.specs.inner.Locks.{unkept};
 
 use ak_words::{NoMemory, Rule};
-use block_store::{BlockKind, Cell, EndedBlock, LockEnd, Ptr, Store, Value};
+use block_store::{BlockKind, Cell, EndedBlock, LockEnd, Ptr, Store, StoreFault, Value};
 use std::alloc::Global;
 use std::marker::Model;
 
@@ -112,6 +114,19 @@ impl KeptStore {
         ensures unchanged { OnErr result (self.new ≡ self.old) }
     {
         self.store.free(at)
+    }
+
+    /// Makes a block in place of the one that starts at `at`, as `Store::renew` does; after that nothing leads back.
+    pub(crate) fn renew(&mut self, at: Ptr, size: u32) -> Result<u64, StoreFault>
+        ensures name { IfOk result (λ name. name ≡ length self.old.now) }
+        ensures renewed { OnOk result (renewed self.old.now at size ≡ Ok self.new.now) }
+        ensures broke { (rule : Rule) → result ≡ Err (Broke rule) → renewed self.old.now at size ≡ Err rule }
+        ensures unchanged { OnErr result (self.new ≡ self.old) }
+    {
+        if self.store.names() == u64::MAX {
+            return Err(StoreFault::NoMemory);
+        }
+        self.store.renew(at, size)
     }
 
     /// Writes a value, as `Store::store` does; after that nothing leads back.

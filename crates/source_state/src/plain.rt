@@ -61,7 +61,7 @@ impl World {
             return Ok(self.copy_beyond(to));
         }
         match self.store.copy(to, from, n as u32, align, same) {
-            Ok(()) => self.went_both(from, to, n as u64),
+            Ok(()) => self.went_both(None, from, to, n as u64),
             Err(rule) => Ok(Done::Broke(rule)),
         }
     }
@@ -83,7 +83,7 @@ impl World {
         ensures untouched { IfOk result (λ done. Untouched done self.old self.new) }
     {
         match self.store.lock(at, thread) {
-            Ok(LockEnd::Got) => self.went_both(at, at, 8),
+            Ok(LockEnd::Got) => self.went_both(None, at, at, 8),
             Ok(LockEnd::Held) => Ok(Done::Blocked),
             Err(rule) => Ok(Done::Broke(rule)),
         }
@@ -95,7 +95,7 @@ impl World {
         ensures untouched { IfOk result (λ done. Untouched done self.old self.new) }
     {
         match self.store.unlock(at, thread) {
-            Ok(()) => self.went_both(at, at, 8),
+            Ok(()) => self.went_both(None, at, at, 8),
             Err(rule) => Ok(Done::Broke(rule)),
         }
     }

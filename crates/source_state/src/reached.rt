@@ -1,6 +1,6 @@
 //! Which bytes the last action reached that was done.
 
-ghost use Rattle.std.specs.Prelude.{◌≡◌, ◌++◌, [], None, IfOk, OnOk, map};
+ghost use Rattle.std.specs.Prelude.{◌≡◌, ◌++◌, [], IfOk, OnOk, map};
 ghost use Rattle.block_store.specs.Actions.{went, with_reached, bytes_at, reading, writing};
 ghost use Rattle.source_state.specs.Worlds.{world_of, done_of, reached_of, Untouched};
 
@@ -48,14 +48,20 @@ impl World {
     }
 
     // What is done, and reads bytes and then writes as many, there or elsewhere.
-    pub(crate) fn went_both(&mut self, from: Ptr, to: Ptr, bytes: u64) -> Result<Done, NoMemory>
-        ensures done { IfOk result (λ done. done_of done (world_of self.new) ≡ went None (with_reached (world_of self.old) (reading bytes from ++ writing bytes to))) }
+    pub(crate) fn went_both(
+        &mut self,
+        value: Option<Value>,
+        from: Ptr,
+        to: Ptr,
+        bytes: u64,
+    ) -> Result<Done, NoMemory>
+        ensures done { IfOk result (λ done. done_of done (world_of self.new) ≡ went value (with_reached (world_of self.old) (reading bytes from ++ writing bytes to))) }
         ensures untouched { IfOk result (λ done. Untouched done self.old self.new) }
     {
         self.reached.clear();
         note(&mut self.reached, from, bytes, false)?;
         note(&mut self.reached, to, bytes, true)?;
-        Ok(Done::Went(None))
+        Ok(Done::Went(value))
     }
 }
 

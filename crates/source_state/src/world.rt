@@ -70,6 +70,8 @@ pub enum SharedAction {
     Copy(Ptr, Ptr, u128, u32, bool),
     /// An allocation of so many bytes, each of which starts as this cell.
     Allocate(u128, Cell),
+    /// A block of so many bytes in place of another, or of null (C11 7.22.3.5).
+    Reallocate(Ptr, u128),
     /// `free`
     Free(Ptr),
     /// `printf`

@@ -15,6 +15,8 @@ pub fn copy_lib(alloc: Global, lib: &Lib) -> Result<Lib, NoMemory>
     match lib {
         Lib::Print(pieces) => Ok(Lib::Print(copy_pieces(alloc, pieces)?)),
         Lib::Malloc => Ok(Lib::Malloc),
+        Lib::Calloc => Ok(Lib::Calloc),
+        Lib::Realloc => Ok(Lib::Realloc),
         Lib::Free => Ok(Lib::Free),
         Lib::Copy => Ok(Lib::Copy),
         Lib::Start(function) => Ok(Lib::Start(*function)),

@@ -10,7 +10,7 @@ use Rattle.type_context.specs.declared.names.Library.{Library as CodeLibrary}
 use Rattle.type_context.specs.declared.names.Library.TheVariants as codes
 use Rattle.type_context.specs.declared.names.Binding.{Binding as CodeMeaning}
 use Rattle.type_context.specs.declared.names.Binding.TheVariants as meanings
-use Rattle.c_typing.specs.Scope.{Library, printf, malloc, free, memcpy, thrd_create, thrd_join, mtx_init, mtx_lock, mtx_unlock, mtx_destroy, constant}
+use Rattle.c_typing.specs.Scope.{Library, printf, malloc, calloc, realloc, free, memcpy, thrd_create, thrd_join, mtx_init, mtx_lock, mtx_unlock, mtx_destroy, constant}
 use Rattle.c_typing.specs.Scope.{Binding, global_name, local_name, function_name, enumerator_name, type_name, library_name, Frame, Context}
 
 -- the types that those of the code stand for
@@ -21,6 +21,8 @@ types_view ts = map type_view ts
 abbrev pub library_view : CodeLibrary → Library
 library_view codes.Printf = printf
 library_view codes.Malloc = malloc
+library_view codes.Calloc = calloc
+library_view codes.Realloc = realloc
 library_view codes.Free = free
 library_view codes.Memcpy = memcpy
 library_view codes.ThrdCreate = thrd_create

@@ -16,6 +16,8 @@ use std::alloc::{AllocError, Global};
 pub enum Library {
     Printf,
     Malloc,
+    Calloc,
+    Realloc,
     Free,
     Memcpy,
     ThrdCreate,
@@ -83,9 +85,11 @@ pub fn copy_meaning(alloc: Global, meaning: &Binding) -> Result<Binding, AllocEr
 }
 
 /// The names of the library.
-const LIBRARY: [(&[u8], Library); 13] = [
+const LIBRARY: [(&[u8], Library); 15] = [
     (b"printf", Library::Printf),
     (b"malloc", Library::Malloc),
+    (b"calloc", Library::Calloc),
+    (b"realloc", Library::Realloc),
     (b"free", Library::Free),
     (b"memcpy", Library::Memcpy),
     (b"thrd_create", Library::ThrdCreate),

@@ -13,7 +13,7 @@ use Rattle.c_tree.specs.Typed.{Ty, Expr}
 use Rattle.c_tree.specs.TypedViews.{expr_view, boxed_expr_view}
 use Rattle.c_typing.specs.Faults.{Judged, typed, Gives, ◌>>=◌}
 use Rattle.c_typing.specs.Rules.{address}
-use Rattle.c_typing.specs.Scope.{Context, with_tag, tag_number, is_begun, with_begun, Binding, global_name, local_name, function_name, enumerator_name, type_name, library_name, printf, malloc, free, memcpy, thrd_create, thrd_join, mtx_init, mtx_lock, mtx_unlock, mtx_destroy, constant}
+use Rattle.c_typing.specs.Scope.{Context, with_tag, tag_number, is_begun, with_begun, Binding, global_name, local_name, function_name, enumerator_name, type_name, library_name, printf, malloc, calloc, realloc, free, memcpy, thrd_create, thrd_join, mtx_init, mtx_lock, mtx_unlock, mtx_destroy, constant}
 use Rattle.c_typing.specs.Judgement.{Judging, in_turn, ruled, valued, Part, begun_by, begun_or, starting_or, called_as, called_by, prefixed_by, prefixed, addressing, with_addressed, meaning_in, opened, closing, braced}
 use Rattle.type_context.specs.declared.context.Context.{Context as CodeContext}
 use Rattle.type_context.specs.ContextViews.{context_view}
@@ -95,6 +95,8 @@ call_printf (Some (type_name t)) place args print start c h = cc
 call_printf (Some (function_name n ps r)) place args print start c h = cc
 call_printf (Some (library_name printf)) place args print start c h = refl
 call_printf (Some (library_name malloc)) place args print start c h = cc
+call_printf (Some (library_name calloc)) place args print start c h = cc
+call_printf (Some (library_name realloc)) place args print start c h = cc
 call_printf (Some (library_name free)) place args print start c h = cc
 call_printf (Some (library_name memcpy)) place args print start c h = cc
 call_printf (Some (library_name thrd_create)) place args print start c h = cc
@@ -114,6 +116,8 @@ call_thrd_create (Some (type_name t)) place args print start c h = cc
 call_thrd_create (Some (function_name n ps r)) place args print start c h = cc
 call_thrd_create (Some (library_name printf)) place args print start c h = cc
 call_thrd_create (Some (library_name malloc)) place args print start c h = cc
+call_thrd_create (Some (library_name calloc)) place args print start c h = cc
+call_thrd_create (Some (library_name realloc)) place args print start c h = cc
 call_thrd_create (Some (library_name free)) place args print start c h = cc
 call_thrd_create (Some (library_name memcpy)) place args print start c h = cc
 call_thrd_create (Some (library_name thrd_create)) place args print start c h = refl
@@ -134,6 +138,8 @@ call_other (Some (type_name t)) place args print start c h k = refl
 call_other (Some (function_name n ps r)) place args print start c h k = refl
 call_other (Some (library_name printf)) place args print start c h k = cc
 call_other (Some (library_name malloc)) place args print start c h k = refl
+call_other (Some (library_name calloc)) place args print start c h k = refl
+call_other (Some (library_name realloc)) place args print start c h k = refl
 call_other (Some (library_name free)) place args print start c h k = refl
 call_other (Some (library_name memcpy)) place args print start c h k = refl
 call_other (Some (library_name thrd_create)) place args print start c h k = cc

@@ -120,6 +120,28 @@ fn malloc(alloc: Global, place: u32, args: Vec<Expr>) -> Result<Box<Expr>, Compi
     called_lib(alloc, place, Lib::Malloc, &[size], returned, args)
 }
 
+// `calloc`, at its name (C11 7.22.3.2).
+#[tactic(auto, using(type_context::proofs::Judging::fails_part))]
+fn calloc(alloc: Global, place: u32, args: Vec<Expr>) -> Result<Box<Expr>, CompileFault>
+    ensures { Gives boxed_expr_view result (called_library place library.calloc (exprs_view args)) }
+{
+    let count = CType::Int(IntType::unsigned_long());
+    let size = CType::Int(IntType::unsigned_long());
+    let returned = pointer(alloc, CType::Void)?;
+    called_lib(alloc, place, Lib::Calloc, &[count, size], returned, args)
+}
+
+// `realloc`, at its name (C11 7.22.3.5).
+#[tactic(auto, using(type_context::proofs::Judging::fails_part))]
+fn realloc(alloc: Global, place: u32, args: Vec<Expr>) -> Result<Box<Expr>, CompileFault>
+    ensures { Gives boxed_expr_view result (called_library place library.realloc (exprs_view args)) }
+{
+    let block = pointer(alloc, CType::Void)?;
+    let size = CType::Int(IntType::unsigned_long());
+    let returned = pointer(alloc, CType::Void)?;
+    called_lib(alloc, place, Lib::Realloc, &[block, size], returned, args)
+}
+
 // `free`, at its name (C11 7.22.3.3).
 #[tactic(auto, using(type_context::proofs::Judging::fails_part))]
 fn free(alloc: Global, place: u32, args: Vec<Expr>) -> Result<Box<Expr>, CompileFault>
@@ -164,6 +186,8 @@ pub fn called_library(
     let int = CType::Int(IntType::int());
     match which {
         Library::Malloc => malloc(alloc, place, args),
+        Library::Calloc => calloc(alloc, place, args),
+        Library::Realloc => realloc(alloc, place, args),
         Library::Free => free(alloc, place, args),
         Library::Memcpy => memcpy(alloc, place, args),
         Library::ThrdJoin => thrd_join(alloc, place, args),

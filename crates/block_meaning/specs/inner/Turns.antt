@@ -1,9 +1,10 @@
 -- What the code's turns come to.
-use Rattle.std.specs.Prelude.{ℕ, ◌-◌, ◌^◌, ◌≡◌, min, List, Option, Some, None}
+use Rattle.std.specs.Prelude.{ℕ, ◌-◌, ◌^◌, ◌≡◌, min, List, Option, Some, None, Result, Ok, Err}
+use Rattle.ak_words.specs.declared.rule.Rule.{Rule}
 use Rattle.block_store.specs.declared.values.Answer.{Answer}
 use Rattle.block_store.specs.declared.values.Answer.TheVariants as answers
 use Rattle.block_store.specs.Actions as actions
-use Rattle.block_store.specs.Blocks.{Blocks}
+use Rattle.block_store.specs.Blocks.{Blocks, freed}
 use Rattle.block_store.specs.Runs as runs
 use Rattle.c_meaning.specs.Control as control
 use Rattle.c_meaning.specs.Turns as turns
@@ -68,18 +69,28 @@ Stays outcomes.Blocked own new_own w new_w = (new_own ≡ own) × (new_w ≡ w)
 Stays outcomes.Unfit own new_own w new_w = (new_own ≡ own) × (new_w ≡ w)
 Stays (outcomes.Broke rule place) own new_own w new_w = (new_own ≡ own) × (new_w ≡ w)
 
--- the bytes that an action asks for, if it's an allocation: what is greater than a u64 can hold is told as the greatest that it can
-abbrev pub bytes_of : SharedAction → Option ℕ
-bytes_of (acts.Allocate size first) = Some (min size (2 ^ 64 - 1))
-bytes_of action = None
+-- the bytes of an allocation: what is greater than a u64 can hold is told as the greatest that it can
+abbrev pub told_bytes : (size : ℕ) → Option ℕ
+told_bytes size = Some (min size (2 ^ 64 - 1))
+
+-- those of a realloc, by what free would come to: one that breaks a rule asks for none
+abbrev pub unless_broken : Result Blocks Rule → (size : ℕ) → Option ℕ
+unless_broken (Ok blocks) size = told_bytes size
+unless_broken (Err rule) size = None
+
+-- the bytes that an action asks for, if it's an allocation
+abbrev pub bytes_of : Blocks → SharedAction → Option ℕ
+bytes_of blocks (acts.Allocate size first) = told_bytes size
+bytes_of blocks (acts.Reallocate at size) = unless_broken (freed blocks at) size
+bytes_of blocks action = None
 
 -- the same of what ends a turn
-abbrev pub bytes_asked : Pending → Option ℕ
-bytes_asked (pendings.Act place action next) = bytes_of action
-bytes_asked q = None
+abbrev pub bytes_asked : Blocks → Pending → Option ℕ
+bytes_asked blocks (pendings.Act place action next) = bytes_of blocks action
+bytes_asked blocks q = None
 
 -- and of a turn that is told this answer
-abbrev pub asked_under : Answer → Pending → Option ℕ
-asked_under answers.Plain q = bytes_asked q
-asked_under answers.Got q = None
-asked_under answers.None q = None
+abbrev pub asked_under : Answer → Blocks → Pending → Option ℕ
+asked_under answers.Plain blocks q = bytes_asked blocks q
+asked_under answers.Got blocks q = None
+asked_under answers.None blocks q = None

@@ -85,6 +85,8 @@ fn write_lib(out: &mut String, which: &Lib) -> Result<(), AllocError> {
     match which {
         Lib::Print(pieces) => write_pieces(out, pieces),
         Lib::Malloc => out.push_str("malloc"),
+        Lib::Calloc => out.push_str("calloc"),
+        Lib::Realloc => out.push_str("realloc"),
         Lib::Free => out.push_str("free"),
         Lib::Copy => out.push_str("copy"),
         Lib::Start(function) => write!(out, "start {function}"),

@@ -52,6 +52,16 @@ fn rules_of_lifetimes_and_calls_are_broken(rt: HostRuntime) -> Result<(), Fail> 
             41,
         ),
         (
+            b"int main(void){char *p=malloc(8);free(p);p=realloc(p,16);return 0;}",
+            Rule::C10,
+            43,
+        ),
+        (
+            b"int main(void){char *p=malloc(8);char *q=realloc(p,16);*p=1;return q!=NULL;}",
+            Rule::C5,
+            55,
+        ),
+        (
             b"char a[4];int main(void){memcpy(a,a+1,2);return 0;}",
             Rule::C11,
             25,

@@ -1,7 +1,7 @@
 ghost use Rattle.std.specs.Prelude.{◌≡◌, IfOk, IsTrue};
 
-use ak_words::{NoMemory, Num, Rule};
-use block_store::{Answer, BlockKind, Cell, Ptr, Store, Value};
+use ak_words::{IntType, NoMemory, Num, Rule};
+use block_store::{Access, Answer, BlockKind, Cell, Ptr, Store, Value};
 use source_state::{Done, KeptStore, Printed, SharedAction, World};
 use std::alloc::Global;
 use std::test::Fail;
@@ -14,16 +14,63 @@ fn must_wait(world: &mut World, alloc: Global, thread: u32, at: Ptr) -> Result<b
     Ok(matches!(done, Done::Blocked))
 }
 
-// Thread 1 takes the mutex and thread 0 waits; what is printed is counted, and a refused allocation gives null.
-#[test]
-fn two_threads(rt: HostRuntime) -> Result<(), Fail> {
-    let alloc = rt.alloc();
-    let mut world = World {
+// A world in which nothing was done.
+fn empty_world(alloc: Global) -> World {
+    World {
         store: KeptStore::new(alloc, Store::new(alloc)),
         output: Vec::new(alloc),
         threads: Vec::new(alloc),
         reached: Vec::new(alloc),
+    }
+}
+
+// A block in place of another takes what both have, and the old one is gone; where there is none the old one is as it was.
+#[test]
+fn a_block_in_place_of_another(rt: HostRuntime) -> Result<(), Fail> {
+    let alloc = rt.alloc();
+    let mut world = empty_world(alloc);
+    let block = world.store.make(4, BlockKind::Heap, Cell::Byte(7))?;
+    let at = Ptr::To { block, offset: 0 };
+    let seven = Done::Went(Some(Value::Num(Num::wrapping(IntType::char(), 7))));
+    let byte = Access::Number(IntType::char());
+    for (answer, done) in [
+        (Answer::Plain, Done::Unfit),
+        (Answer::None, Done::Went(Some(Value::Pointer(Ptr::Null)))),
+    ] {
+        let action = SharedAction::Reallocate(at, 6);
+        assert_eq!(rt; world.act(alloc, 0, answer, action)?, done);
+        assert_eq!(rt;
+            world.act(alloc, 0, Answer::Plain, SharedAction::Load(at, byte))?,
+            seven
+        );
+    }
+    let new = Ptr::To {
+        block: 1,
+        offset: 0,
     };
+    assert_eq!(rt;
+        world.act(alloc, 0, Answer::Got, SharedAction::Reallocate(at, 6))?,
+        Done::Went(Some(Value::Pointer(new)))
+    );
+    assert_eq!(rt; world.reached.len(), 2);
+    assert_eq!(rt;
+        world.act(alloc, 0, Answer::Plain, SharedAction::Load(new, byte))?,
+        seven
+    );
+    for answer in [Answer::Plain, Answer::Got, Answer::None] {
+        assert_eq!(rt;
+            world.act(alloc, 0, answer, SharedAction::Reallocate(at, 6))?,
+            Done::Broke(Rule::C10)
+        );
+    }
+    Ok(())
+}
+
+// Thread 1 takes the mutex and thread 0 waits; what is printed is counted, and a refused allocation gives null.
+#[test]
+fn two_threads(rt: HostRuntime) -> Result<(), Fail> {
+    let alloc = rt.alloc();
+    let mut world = empty_world(alloc);
     let block = world.store.make(8, BlockKind::Global, Cell::Byte(0))?;
     let mutex = Ptr::To { block, offset: 0 };
     assert!(rt; !must_wait(&mut world, alloc, 1, mutex)?);

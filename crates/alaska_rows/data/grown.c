@@ -1,0 +1,1 @@
+int main(void){int *p=calloc(4,4);printf("%d\n",p[0]+p[3]);p=realloc(p,32);p[4]=2;printf("%d\n",p[0]+p[4]);free(p);return 0;}

@@ -1,0 +1,1 @@
+int main(void){char *p=malloc(2048);char *q=realloc(p,2064);printf("%d\n",q==NULL);free(p);return 0;}

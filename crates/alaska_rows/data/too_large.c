@@ -1,0 +1,1 @@
+int main(void){char *p=calloc(8589934592,8589934592);char *q=calloc(2,16777216);printf("%d %d\n",p==NULL,q==NULL);return 0;}

@@ -1,0 +1,1 @@
+int main(void){int *p=malloc(16);for(int i=0;i<4;i++)p[i]=7;free(p);p=calloc(4,4);printf("%d\n",p[0]+p[1]+p[2]+p[3]);free(p);return 0;}
