@@ -115,4 +115,7 @@ pointers_stand = record {
   no_whole_ints = refl;
   of_nulls = refl;
   across_blocks = refl;
+  of_no_size = refl;
+  of_no_size_back = refl;
+  nothing_of_no_size = refl;
 }

@@ -1,6 +1,6 @@
 -- Arithmetic and comparison of pointers (C11 6.5.6, 6.5.8, 6.5.9). A pointer to a dead block may be copied, and nothing else (C9).
-use Rattle.std.specs.Prelude.{ℕ, ◌==◌, ◌&&◌, not, nat_le, Bool, true, false, if◌then◌else◌, length, Option, Some, None, Result, Ok, Err, ℤ, pos, negsuc, ◌+ℤ◌, ◌-ℤ◌, ◌*ℤ◌}
-use Rattle.std.specs.Int.{int_div_euclid, int_rem_euclid}
+use Rattle.std.specs.Prelude.{ℕ, ◌==◌, ◌&&◌, not, nat_le, Bool, true, false, if◌then◌else◌, length, Option, Some, None, Result, Ok, Err, ℤ, pos, negsuc, ◌+ℤ◌, ◌-ℤ◌, ◌*ℤ◌, unsigned_abs, ◌%◌}
+use Rattle.std.specs.Int.{int_div_euclid}
 use Rattle.ak_words.specs.declared.operation.Op.{Op}
 use Rattle.ak_words.specs.declared.operation.Op.TheVariants as ops
 use Rattle.ak_words.specs.declared.rule.Rule.{Rule}
@@ -86,11 +86,6 @@ abbrev pub is_below_0 : ℤ → Bool
 is_below_0 (pos n) = false
 is_below_0 (negsuc n) = true
 
--- the number is 0
-abbrev pub is_0 : ℤ → Bool
-is_0 (pos n) = n == 0
-is_0 (negsuc n) = false
-
 -- what a comparison of two usable pointers answers; an operation that compares nothing has none (C8)
 abbrev pub related : Op → (p q : Ptr) → Result Bool Rule
 related ops.Eq p q = Ok (is_same p q)
@@ -105,10 +100,10 @@ related _ p q = Err C8
 abbrev pub compared : Blocks → Op → (p q : Ptr) → Result Bool Rule
 compared blocks op p q = both_usable blocks p q (related op p q)
 
--- the distance in elements of this size, or C8 where it's no multiple of it
+-- the distance in elements of this size, or C8 where it's no multiple of it (of 0, only 0 is one)
 abbrev pub in_elements : (size : ℕ) → Result ℤ Rule → Result ℤ Rule
 in_elements size (Err rule) = Err rule
-in_elements size (Ok z) = if is_0 (int_rem_euclid z (pos size)) then Ok (int_div_euclid z (pos size)) else Err C8
+in_elements size (Ok z) = if unsigned_abs z % size == 0 then Ok (int_div_euclid z (pos size)) else Err C8
 
 -- a difference (C11 6.5.6 p9): C9 of a dead block, then C8
 abbrev pub difference : Blocks → (p q : Ptr) → (size : ℕ) → Result ℤ Rule

@@ -230,3 +230,6 @@ pub record PointersStand : Type 0 where
   pub no_whole_ints : difference here (To 4 6) (To 4 0) 4 ≡ Err rules.C8
   pub of_nulls : difference here Null Null 4 ≡ Ok (pos 0)
   pub across_blocks : difference here (To 1 0) (To 2 0) 1 ≡ Err rules.C8
+  pub of_no_size : difference here (To 4 6) (To 4 0) 0 ≡ Err rules.C8
+  pub of_no_size_back : difference here (To 4 0) (To 4 6) 0 ≡ Err rules.C8
+  pub nothing_of_no_size : difference here (To 4 6) (To 4 6) 0 ≡ Ok (pos 0)

@@ -1,7 +1,7 @@
 -- Operators give values of the types that they should, and break no rule of cells.
 use Rattle.std.proofs.Common.{◌≡◌, ℕ, ◌==◌, Bool, true, false, List, Option, Some, None, Ok, Err, ℤ, pos, negsuc, ◌⊎◌, inl, inr, refl, sym, ap, subst, ◌∙◌}
-use Rattle.std.specs.Prelude.{Result, if◌then◌else◌, nat_le, length, ◌+ℤ◌, ◌-ℤ◌, ◌*ℤ◌, ◌&&◌, not, neg_ℤ}
-use Rattle.std.specs.Int.{int_div_euclid, int_rem_euclid}
+use Rattle.std.specs.Prelude.{Result, if◌then◌else◌, nat_le, length, ◌+ℤ◌, ◌-ℤ◌, ◌*ℤ◌, ◌&&◌, not, neg_ℤ, unsigned_abs, ◌%◌}
+use Rattle.std.specs.Int.{int_div_euclid}
 use Rattle.ak_words.specs.declared.int_type.IntType.{IntType}
 use Rattle.ak_words.specs.declared.number.Num.{Num}
 use Rattle.ak_words.specs.declared.operation.Op.{Op}
@@ -19,7 +19,7 @@ use Rattle.block_store.specs.declared.values.Value.{Value}
 use Rattle.block_store.specs.declared.values.Value.TheVariants as values
 use Rattle.block_store.specs.Blocks.{Block, Blocks, live}
 use Rattle.block_store.specs.Pointers as pointers
-use Rattle.block_store.specs.Pointers.{within, moved_in, moved, indexed, is_usable, is_other_than_null, tested, by_distance, is_below_0, is_0, related, compared, in_elements, difference}
+use Rattle.block_store.specs.Pointers.{within, moved_in, moved, indexed, is_usable, is_other_than_null, tested, by_distance, is_below_0, related, compared, in_elements, difference}
 use Rattle.c_tree.specs.Typed as tree
 use Rattle.c_tree.specs.TypedForm.{IsInteger, IsPointer, IsScalar, Fits, PointsToSized, MovesPointer, AreOperands, type_of_result, CanUpdate, Converts}
 use Rattle.c_meaning.specs.Values.{Unary, converts, negates, tests, selects, Binary, on_numbers, forward, backward, distance, on_pointers, access_of_type, element_size, int_of, value_of, pointer_of, int_result, long_result, truth_of, opposite, selected, of_one, of_two, operand_types, computed, converted_result, updated}
@@ -192,7 +192,7 @@ compared_ok blocks op p q = ok_if Anything (is_usable blocks p && is_usable bloc
 
 in_elements_ok : (size : ℕ) (r : Result ℤ Rule) → OkWith Anything r → OkWith Anything (in_elements size r)
 in_elements_ok size (Err rule) h = h
-in_elements_ok size (Ok z) h = ok_if Anything (is_0 (int_rem_euclid z (pos size))) (Ok (int_div_euclid z (pos size))) C8 tt not_c8
+in_elements_ok size (Ok z) h = ok_if Anything (unsigned_abs z % size == 0) (Ok (int_div_euclid z (pos size))) C8 tt not_c8
 
 difference_ok : (blocks : Blocks) (p q : Ptr) (size : ℕ) → OkWith Anything (difference blocks p q size)
 difference_ok blocks p q size = ok_if Anything (is_usable blocks p && is_usable blocks q) (in_elements size (pointers.distance p q)) C9 (in_elements_ok size (pointers.distance p q) (apart_ok p q)) not_c9

@@ -215,7 +215,7 @@ fn in_elements(distance: Result<i64, Rule>, size: u32) -> Result<i64, Rule>
 {
     match distance {
         Ok(z) => {
-            if z.rem_euclid(i64::from(size)) == 0 {
+            if z.unsigned_abs() % u64::from(size) == 0 {
                 Ok(z.div_euclid(i64::from(size)))
             } else {
                 Err(Rule::C8)
