@@ -5,3 +5,5 @@ pub mod Files
 pub mod inner
 pub mod RawViews
 pub mod Reads
+pub mod Calls
+pub mod Conditions
