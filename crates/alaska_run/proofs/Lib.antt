@@ -8,3 +8,10 @@ pub mod FewTokens
 pub mod SameTurns
 pub mod SomeAnswers
 pub mod Checked
+pub mod AlignedExprs
+pub mod AlignedPrograms
+pub mod AlignedRows
+pub mod AlignedStmts
+pub mod AlignedTypes
+pub mod Saving
+pub mod Seated
