@@ -19,10 +19,10 @@ seam_of len into buffer same = subst (λ m. take m (into ++ buffer) ≡ into) sa
 most_of : (most n : ℕ) (into text : List ℕ) → text ≡ take n into → length into ≡ most → length text ≤ most
 most_of most n into text is len = omega (arith, ap length is, length-take n into)
 
-pub returns-in-Ok-Whole : goal.returns-in-Ok-Whole
-returns-in-Ok-Whole g c =
+pub returns-in-Ok-Whole-clause-read : goal.returns-in-Ok-Whole-clause-read
+returns-in-Ok-Whole-clause-read g c =
     let same : length c.read.new.into ≡ c.in_ok-text.text.len = omega (arith, c.in_ok-text.ensures.len) in
-    let len : length c.read.new.into ≡ g.most = omega (arith, c.in_ok-text.ensures.len) in
+    let len : length c.read.new.into ≡ c.args.most = omega (arith, c.in_ok-text.ensures.len) in
     let is : c.truncate.new.self.items ≡ take c.in-Ok-Whole.count c.read.new.into = c.truncate.ensures.items ∙ ap (take c.in-Ok-Whole.count) (seam_of _ _ _ same) in
     record {
       short = most_of _ _ _ _ is len;
@@ -33,10 +33,10 @@ returns-in-Ok-Whole g c =
 front_of : (most : ℕ) (text into bytes : List ℕ) → text ≡ into → length into ≡ most → (length into < length bytes) × (into ≡ take (length into) bytes) → (most < length bytes) × (text ≡ take most bytes)
 front_of most text into bytes is len read = (omega (arith, read.0), is ∙ read.1 ∙ ap (λ m. take m bytes) len)
 
-pub returns-in-Ok-TooLong : goal.returns-in-Ok-TooLong
-returns-in-Ok-TooLong g c =
+pub returns-in-Ok-TooLong-clause-read : goal.returns-in-Ok-TooLong-clause-read
+returns-in-Ok-TooLong-clause-read g c =
     let same : length c.read.new.into ≡ c.in_ok-text.text.len = omega (arith, c.in_ok-text.ensures.len) in
-    let len : length c.read.new.into ≡ g.most = omega (arith, c.in_ok-text.ensures.len) in
+    let len : length c.read.new.into ≡ c.args.most = omega (arith, c.in_ok-text.ensures.len) in
     let told = told_of _ _ _ _ c.in-Ok-TooLong.field-0-is c.in-Ok-TooLong.ensures.told in
     let is = seam_of _ _ (drop (length c.read.new.into) c.in_ok-text.text.items) same in
     record {
@@ -45,5 +45,5 @@ returns-in-Ok-TooLong g c =
       first = λ bytes here. (front_of _ _ _ bytes is len (told bytes here)).1;
     }
 
-pub returns-in-Err : goal.returns-in-Err
-returns-in-Err g c = c.in-Err.ensures.cause
+pub returns-in-Err-clause-read : goal.returns-in-Err-clause-read
+returns-in-Err-clause-read g c = c.in-Err.ensures.cause
