@@ -7,7 +7,7 @@ ghost use Rattle.struct_ir.specs.Valid.{is_piece};
 ghost use Rattle.struct_ir.specs.Views.{place_view, action_view, step_view};
 ghost use Rattle.formats.specs.Formats.{◌▸◌, byte, list, u32};
 ghost use Rattle.code_file.specs.Numbers.{flag, int_type};
-ghost use Rattle.code_file.specs.Actions.{place, piece_number, piece_fields, piece_parts, piece, change_number, change_way, action_number, action_fields, action_parts, action, step};
+ghost use Rattle.code_file.specs.Actions.{slot_of, place, piece_number, piece_fields, piece_parts, piece, change_number, change_way, action_number, action_fields, action_parts, action, step};
 ghost use Rattle.code_save.specs.inner.Fits.{place_fits, action_fits, step_fits};
 ghost use Rattle.code_save.specs.inner.Written.{Wrote};
 
@@ -20,6 +20,13 @@ use block_store::Change;
 use c_tree::typed::Piece;
 use struct_ir::code::{Action, Place, StepNode};
 
+/// The slot of a place, which has one.
+fn slot_of(slot: Option<u32>) -> u32
+    ensures { result ≡ slot_of slot }
+{
+    slot.unwrap_or(0)
+}
+
 /// Where an access goes.
 fn put_place(out: &mut Output, place: &Place) -> Result<(), NoMemory>
     ensures { OnOk result (Wrote place (place_view place.now) (place_fits (place_view place.now)) out.old out.new) }
@@ -28,7 +35,7 @@ fn put_place(out: &mut Output, place: &Place) -> Result<(), NoMemory>
     put_option(out, place.index)?;
     put_u32(out, place.scale)?;
     put_u64(out, place.offset)?;
-    put_u32(out, place.slot.unwrap_or(0))
+    put_u32(out, slot_of(place.slot))
 }
 
 /// A list of bytes.

@@ -112,16 +112,19 @@ fn put_fields(out: &mut Output, calc: &Calc) -> Result<(), NoMemory>
 {
     match calc {
         Calc::Num(number) => put_number(out, *number),
-        Calc::Global(n) | Calc::Literal(n) | Calc::Object(n) | Calc::Copy(n) | Calc::PtrTest(n) => {
-            put_u32(out, *n)
-        }
+        Calc::Global(n) => put_u32(out, *n),
+        Calc::Literal(n) => put_u32(out, *n),
+        Calc::Object(n) => put_u32(out, *n),
+        Calc::Copy(n) => put_u32(out, *n),
         Calc::Convert(ty, temp) => put_convert(out, *ty, *temp),
         Calc::Apply(op, ty, a, b) => put_apply(out, *op, *ty, *a, *b),
-        Calc::PtrAdd(a, b, scale) | Calc::PtrDiff(a, b, scale) | Calc::PtrSub(a, b, scale) => {
-            put_three(out, *a, *b, *scale)
-        }
-        Calc::PtrCompare(op, a, b) => put_compare(out, *op, *a, *b),
-        Calc::Null | Calc::Unset => Ok(()),
+        Calc::PtrAdd(p, n, scale) => put_three(out, *p, *n, *scale),
+        Calc::PtrSub(p, n, scale) => put_three(out, *p, *n, *scale),
+        Calc::PtrDiff(p, q, scale) => put_three(out, *p, *q, *scale),
+        Calc::PtrCompare(op, p, q) => put_compare(out, *op, *p, *q),
+        Calc::PtrTest(n) => put_u32(out, *n),
+        Calc::Null => Ok(()),
+        Calc::Unset => Ok(()),
     }
 }
 

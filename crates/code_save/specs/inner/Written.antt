@@ -17,12 +17,13 @@ abbrev pub Holds : Output → List ℕ → Type 0
 Holds out written = HoldsIf out.too_long out.bytes.items written
 
 -- these bytes were written behind those that were
-abbrev pub Gains : Output → List ℕ → Output → Type 0
-Gains before bytes after = (written : List ℕ) → Holds before written → Holds after (written ++ bytes)
+pub record Gains (before : Output) (bytes : List ℕ) (after : Output) : Type 0 where
+  pub holds : (written : List ℕ) → Holds before written → Holds after (written ++ bytes)
 
--- the value was written, and where it fits this is its spelling
-abbrev pub Wrote : {A : Type 0} → Format A → A → (fits : Bool) → Output → Output → Type 0
-Wrote F a fits before after = (fits ≡ true → F.Is a) × Gains before (F.spell a) after
+-- the value's spelling was written, and where the value fits it has one
+pub record Wrote {A : Type 0} (F : Format A) (a : A) (fits : Bool) (before after : Output) : Type 0 where
+  pub is : fits ≡ true → F.Is a
+  pub gains : Gains before (F.spell a) after
 
 -- all that was written, or it is longer than a file may be
 abbrev pub Finished : List ℕ → Result (Vec ℕ) SaveFault → Type 0
