@@ -4,3 +4,6 @@ pub mod Tags
 pub mod Parts
 pub mod Nodes
 pub mod WholeFiles
+pub mod Fitting
+pub mod Depths
+pub mod Saved

@@ -1,6 +1,6 @@
 //! How deep nodes are nested.
 
-ghost use Rattle.std.specs.Prelude.{◌≡◌, nat_le, max};
+ghost use Rattle.std.specs.Prelude.{◌≡◌, ◌&&◌, nat_le};
 ghost use Rattle.struct_ir.specs.Views.{node_view, nodes_view};
 ghost use Rattle.struct_ir.specs.WholeViews.{ir_view};
 ghost use Rattle.code_save.specs.Saves.{node_depth, depth, deepest};
@@ -48,7 +48,10 @@ fn node_is_within(levels: u32, n: &Node) -> bool
 
 #[cycle(within)]
 fn both_within(levels: u32, one: &[Node], other: &[Node]) -> bool
-    ensures { result ≡ nat_le (max (depth (nodes_view one.now)) (depth (nodes_view other.now))) levels }
+    ensures { result ≡ (nat_le (depth (nodes_view one.now)) levels && nat_le (depth (nodes_view other.now)) levels) }
 {
-    are_within(levels, one) && are_within(levels, other)
+    if !are_within(levels, one) {
+        return false;
+    }
+    are_within(levels, other)
 }

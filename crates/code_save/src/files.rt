@@ -8,7 +8,7 @@ ghost use Rattle.struct_ir.specs.WholeViews.{ir_view};
 ghost use Rattle.formats.specs.Formats.{byte, list};
 ghost use Rattle.code_file.specs.Files.{object, func, init_number, init_fields, init_parts, init, global, file};
 ghost use Rattle.code_file.specs.Calls.{func_bare, ir_bare};
-ghost use Rattle.code_save.specs.inner.Fits.{fits};
+ghost use Rattle.code_save.specs.inner.Fits.{func_fits};
 ghost use Rattle.code_save.specs.inner.Written.{Wrote};
 
 use crate::actions::put_text;
@@ -41,7 +41,7 @@ fn put_objects(out: &mut Output, objects: &[StackObject]) -> Result<(), NoMemory
 
 /// A function, of nodes that are nested at most so deep.
 fn put_func(out: &mut Output, levels: u32, f: &IrFunc) -> Result<(), NoMemory>
-    ensures { OnOk result (Wrote (func levels) (func_bare (func_view f.now)) (fits levels (func_view f.now).nodes) out.old out.new) }
+    ensures { OnOk result (Wrote (func levels) (func_bare (func_view f.now)) (func_fits levels (func_view f.now)) out.old out.new) }
 {
     put_u32(out, f.params)?;
     put_u32(out, f.temps)?;
@@ -52,7 +52,7 @@ fn put_func(out: &mut Output, levels: u32, f: &IrFunc) -> Result<(), NoMemory>
 
 /// A list of functions.
 fn put_funcs(out: &mut Output, levels: u32, funcs: &[IrFunc]) -> Result<(), NoMemory>
-    ensures { OnOk result (Wrote (list (func levels)) (map func_bare (map func_view funcs.now)) (list_all (λ f. fits levels f.nodes) (map func_view funcs.now)) out.old out.new) }
+    ensures { OnOk result (Wrote (list (func levels)) (map func_bare (map func_view funcs.now)) (list_all (func_fits levels) (map func_view funcs.now)) out.old out.new) }
 {
     put_count(out, funcs.len())?;
     for f in funcs {
@@ -126,7 +126,7 @@ const HEAD: [u8; 8] = [65, 76, 83, 75, 1, 0, 0, 0];
 
 /// A file, of nodes that are nested at most so deep.
 pub fn put_file(out: &mut Output, levels: u32, ir: &Ir) -> Result<(), NoMemory>
-    ensures { OnOk result (Wrote (file levels) (ir_bare (ir_view ir.now)) (list_all (λ f. fits levels f.nodes) (ir_view ir.now).funcs) out.old out.new) }
+    ensures { OnOk result (Wrote (file levels) (ir_bare (ir_view ir.now)) (list_all (func_fits levels) (ir_view ir.now).funcs) out.old out.new) }
 {
     out.put(&HEAD)?;
     put_u32(out, ir.main)?;

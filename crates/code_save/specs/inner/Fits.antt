@@ -1,5 +1,5 @@
 -- Which parts of code have a spelling, where their numbers are those of four bytes and lists are not too long.
-use Rattle.std.specs.Prelude.{ℕ, zero, suc, Bool, true, false, ◌&&◌, nat_lt, List, Option, Some, None, is_some}
+use Rattle.std.specs.Prelude.{ℕ, zero, suc, Bool, true, false, not, ◌&&◌, ◌||◌, nat_lt, List, Option, Some, None, is_some}
 use Rattle.std.specs.List.{list_all}
 use Rattle.struct_ir.specs.Nodes.{Action, print, Place, Step, Call, Act, set, call, step, look, safepoint, begin_object, end_object, Node, plain, if_, loop, break_, next_, ret, Nodes, no_nodes, more_nodes, Func}
 use Rattle.struct_ir.specs.Valid.{is_piece}
@@ -47,3 +47,7 @@ abbrev mutual
   fits levels no_nodes = true
   fits zero (more_nodes n rest) = false
   fits (suc levels) (more_nodes n rest) = node_fits levels n && fits (suc levels) rest
+
+-- a function, if it has so many registers as four bytes can say
+abbrev pub func_fits : (levels : ℕ) → Func → Bool
+func_fits levels f = not (nat_lt f.temps 4294967296) || fits levels f.nodes
