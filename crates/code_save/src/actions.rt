@@ -7,7 +7,8 @@ ghost use Rattle.struct_ir.specs.Valid.{is_piece};
 ghost use Rattle.struct_ir.specs.Views.{place_view, action_view, step_view};
 ghost use Rattle.formats.specs.Formats.{◌▸◌, byte, list, u32};
 ghost use Rattle.code_file.specs.Numbers.{flag, int_type};
-ghost use Rattle.code_file.specs.Actions.{slot_of, place, piece_number, piece_fields, piece_parts, piece, change_number, change_way, action_number, action_fields, action_parts, action, step};
+ghost use Rattle.code_file.specs.Actions as formats;
+ghost use Rattle.code_file.specs.Actions.{slot_of, piece_number, piece_fields, piece_parts, change_number, change_way, action_number, action_fields, action_parts};
 ghost use Rattle.code_save.specs.inner.Fits.{place_fits, action_fits, step_fits};
 ghost use Rattle.code_save.specs.inner.Written.{Wrote};
 
@@ -29,7 +30,7 @@ fn slot_of(slot: Option<u32>) -> u32
 
 /// Where an access goes.
 fn put_place(out: &mut Output, place: &Place) -> Result<(), NoMemory>
-    ensures { OnOk result (Wrote place (place_view place.now) (place_fits (place_view place.now)) out.old out.new) }
+    ensures { OnOk result (Wrote formats.place (place_view place.now) (place_fits (place_view place.now)) out.old out.new) }
 {
     put_u32(out, place.base)?;
     put_option(out, place.index)?;
@@ -59,7 +60,7 @@ pub fn put_numbers(out: &mut Output, numbers: &[u32]) -> Result<(), NoMemory>
 
 /// A list of places.
 fn put_places(out: &mut Output, places: &[Place]) -> Result<(), NoMemory>
-    ensures { OnOk result (Wrote (list place) (map place_view places.now) (list_all place_fits (map place_view places.now)) out.old out.new) }
+    ensures { OnOk result (Wrote (list formats.place) (map place_view places.now) (list_all place_fits (map place_view places.now)) out.old out.new) }
 {
     put_count(out, places.len())?;
     for place in places {
@@ -98,7 +99,7 @@ fn put_piece_fields(out: &mut Output, piece: &Piece) -> Result<(), NoMemory>
 
 /// A piece of a format.
 fn put_piece(out: &mut Output, piece: &Piece) -> Result<(), NoMemory>
-    ensures { OnOk result (Wrote piece (piece_view piece.now) (is_piece (piece_view piece.now)) out.old out.new) }
+    ensures { OnOk result (Wrote formats.piece (piece_view piece.now) (is_piece (piece_view piece.now)) out.old out.new) }
 {
     out.put(&[piece_tag(piece)])?;
     put_piece_fields(out, piece)
@@ -106,7 +107,7 @@ fn put_piece(out: &mut Output, piece: &Piece) -> Result<(), NoMemory>
 
 /// A list of pieces.
 fn put_pieces(out: &mut Output, pieces: &[Piece]) -> Result<(), NoMemory>
-    ensures { OnOk result (Wrote (list piece) (map piece_view pieces.now) (list_all is_piece (map piece_view pieces.now)) out.old out.new) }
+    ensures { OnOk result (Wrote (list formats.piece) (map piece_view pieces.now) (list_all is_piece (map piece_view pieces.now)) out.old out.new) }
 {
     put_count(out, pieces.len())?;
     for piece in pieces {
@@ -196,7 +197,7 @@ fn put_action_fields(out: &mut Output, action: &Action) -> Result<(), NoMemory>
 
 /// An action.
 fn put_action(out: &mut Output, action: &Action) -> Result<(), NoMemory>
-    ensures { OnOk result (Wrote action (action_view action.now) (action_fits (action_view action.now)) out.old out.new) }
+    ensures { OnOk result (Wrote formats.action (action_view action.now) (action_fits (action_view action.now)) out.old out.new) }
 {
     out.put(&[action_tag(action)])?;
     put_action_fields(out, action)
@@ -204,7 +205,7 @@ fn put_action(out: &mut Output, action: &Action) -> Result<(), NoMemory>
 
 /// One action, with what it reads and sets.
 pub fn put_step(out: &mut Output, step: &StepNode) -> Result<(), NoMemory>
-    ensures { OnOk result (Wrote step (step_view step.now) (step_fits (step_view step.now)) out.old out.new) }
+    ensures { OnOk result (Wrote formats.step (step_view step.now) (step_fits (step_view step.now)) out.old out.new) }
 {
     put_action(out, &step.action)?;
     put_places(out, &step.places)?;

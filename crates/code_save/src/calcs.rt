@@ -4,7 +4,8 @@ ghost use Rattle.std.specs.Prelude.{◌≡◌, true, OnOk};
 ghost use Rattle.struct_ir.specs.Views.{calc_view};
 ghost use Rattle.formats.specs.Formats.{◌▸◌, u32};
 ghost use Rattle.code_file.specs.Numbers.{int_type};
-ghost use Rattle.code_file.specs.Calcs.{op_number, operation, calc_number, calc_fields, calc_parts, calc};
+ghost use Rattle.code_file.specs.Calcs as formats;
+ghost use Rattle.code_file.specs.Calcs.{op_number, operation, calc_number, calc_fields, calc_parts};
 ghost use Rattle.code_save.specs.inner.Written.{Wrote};
 
 use crate::numbers::{put_number, put_type, put_u32};
@@ -130,7 +131,7 @@ fn put_fields(out: &mut Output, calc: &Calc) -> Result<(), NoMemory>
 
 /// What a register is set to.
 pub fn put_calc(out: &mut Output, calc: &Calc) -> Result<(), NoMemory>
-    ensures { OnOk result (Wrote calc (calc_view calc.now) true out.old out.new) }
+    ensures { OnOk result (Wrote formats.calc (calc_view calc.now) true out.old out.new) }
 {
     out.put(&[tag_of(calc)])?;
     put_fields(out, calc)

@@ -6,7 +6,8 @@ ghost use Rattle.c_tree.specs.TypedViews.{init_view, literal_view};
 ghost use Rattle.struct_ir.specs.Views.{object_view, global_view, func_view};
 ghost use Rattle.struct_ir.specs.WholeViews.{ir_view};
 ghost use Rattle.formats.specs.Formats.{byte, list};
-ghost use Rattle.code_file.specs.Files.{object, func, init_number, init_fields, init_parts, init, global, file};
+ghost use Rattle.code_file.specs.Files as formats;
+ghost use Rattle.code_file.specs.Files.{func, init_number, init_fields, init_parts, file};
 ghost use Rattle.code_file.specs.Calls.{func_bare, ir_bare};
 ghost use Rattle.code_save.specs.inner.Fits.{func_fits};
 ghost use Rattle.code_save.specs.inner.Written.{Wrote};
@@ -22,7 +23,7 @@ use struct_ir::code::{IrFunc, IrGlobal, StackObject};
 
 /// A stack object.
 fn put_object(out: &mut Output, object: &StackObject) -> Result<(), NoMemory>
-    ensures { OnOk result (Wrote object (object_view object.now) true out.old out.new) }
+    ensures { OnOk result (Wrote formats.object (object_view object.now) true out.old out.new) }
 {
     put_u32(out, object.size)?;
     put_byte(out, object.align)
@@ -30,7 +31,7 @@ fn put_object(out: &mut Output, object: &StackObject) -> Result<(), NoMemory>
 
 /// A list of stack objects.
 fn put_objects(out: &mut Output, objects: &[StackObject]) -> Result<(), NoMemory>
-    ensures { OnOk result (Wrote (list object) (map object_view objects.now) true out.old out.new) }
+    ensures { OnOk result (Wrote (list formats.object) (map object_view objects.now) true out.old out.new) }
 {
     put_count(out, objects.len())?;
     for object in objects {
@@ -85,7 +86,7 @@ fn put_fields(out: &mut Output, init: Init) -> Result<(), NoMemory>
 
 /// What a global holds at the start.
 fn put_init(out: &mut Output, init: Init) -> Result<(), NoMemory>
-    ensures { OnOk result (Wrote init (init_view init) true out.old out.new) }
+    ensures { OnOk result (Wrote formats.init (init_view init) true out.old out.new) }
 {
     out.put(&[tag_of(init)])?;
     put_fields(out, init)
@@ -93,7 +94,7 @@ fn put_init(out: &mut Output, init: Init) -> Result<(), NoMemory>
 
 /// A global.
 fn put_global(out: &mut Output, global: &IrGlobal) -> Result<(), NoMemory>
-    ensures { OnOk result (Wrote global (global_view global.now) true out.old out.new) }
+    ensures { OnOk result (Wrote formats.global (global_view global.now) true out.old out.new) }
 {
     put_u32(out, global.size)?;
     put_byte(out, global.align)?;
@@ -102,7 +103,7 @@ fn put_global(out: &mut Output, global: &IrGlobal) -> Result<(), NoMemory>
 
 /// A list of globals.
 fn put_globals(out: &mut Output, globals: &[IrGlobal]) -> Result<(), NoMemory>
-    ensures { OnOk result (Wrote (list global) (map global_view globals.now) true out.old out.new) }
+    ensures { OnOk result (Wrote (list formats.global) (map global_view globals.now) true out.old out.new) }
 {
     put_count(out, globals.len())?;
     for global in globals {

@@ -3,8 +3,9 @@
 ghost use Rattle.std.specs.Prelude.{◌≡◌, ◌&&◌, true, OnOk};
 ghost use Rattle.struct_ir.specs.Views.{calc_view, call_view, node_view, nodes_view};
 ghost use Rattle.formats.specs.Formats.{◌▸◌, u32};
-ghost use Rattle.code_file.specs.Calcs.{calc};
-ghost use Rattle.code_file.specs.Files.{call_parts, make_call, call, node_number, node_fields, node_parts, node, nodes};
+ghost use Rattle.code_file.specs.Calcs as calcs;
+ghost use Rattle.code_file.specs.Files as formats;
+ghost use Rattle.code_file.specs.Files.{call_parts, make_call, node_number, node_fields, node_parts, node, nodes};
 ghost use Rattle.code_file.specs.Calls.{node_bare, bare};
 ghost use Rattle.code_save.specs.inner.Fits.{option_fits, node_fits, fits};
 ghost use Rattle.code_save.specs.inner.Written.{Wrote};
@@ -18,7 +19,7 @@ use struct_ir::code::{Calc, CallNode, Node, NodeKind};
 
 /// A call, without its list.
 fn put_call(out: &mut Output, call: &CallNode) -> Result<(), NoMemory>
-    ensures { OnOk result (Wrote call (make_call (call_parts (call_view call.now))) (option_fits (call_view call.now).to) out.old out.new) }
+    ensures { OnOk result (Wrote formats.call (make_call (call_parts (call_view call.now))) (option_fits (call_view call.now).to) out.old out.new) }
 {
     put_option(out, call.to)?;
     put_u32(out, call.function)?;
@@ -27,7 +28,7 @@ fn put_call(out: &mut Output, call: &CallNode) -> Result<(), NoMemory>
 
 /// A register and what it is set to.
 fn put_set(out: &mut Output, to: u32, calc: &Calc) -> Result<(), NoMemory>
-    ensures { OnOk result (Wrote (u32 ▸ calc) (to, calc_view calc.now) true out.old out.new) }
+    ensures { OnOk result (Wrote (u32 ▸ calcs.calc) (to, calc_view calc.now) true out.old out.new) }
 {
     put_u32(out, to)?;
     put_calc(out, calc)
