@@ -53,7 +53,7 @@ none_within xs b levels z e = e ∙ same xs ∙ ap (nat_le (depth (nodes_view xs
 
 -- ---- functions
 
-most_left : List IrFunc → ℕ
+abbrev pub most_left : List IrFunc → ℕ
 most_left fs = most_of (map (λ (f : Func). depth f.nodes) (map func_view fs))
 
 func_step : (levels : ℕ) (fs : List IrFunc) (i : ℕ) (d : IrFunc) → i < length fs → nat_le (most_left (drop i fs)) levels ≡ (nat_le (depth (nodes_view (get_or fs i d).nodes.items)) levels && nat_le (most_left (drop (i + 1) fs)) levels)

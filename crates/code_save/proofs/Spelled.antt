@@ -9,7 +9,8 @@ use Rattle.formats.proofs.Made.{number_fits}
 use Rattle.ak_words.specs.declared.int_type.IntType.{IntType}
 use Rattle.ak_words.specs.declared.number.Num.{Num}
 use Rattle.ak_words.specs.Wrapped.{residue, bit_pattern, wrapped_value}
-use Rattle.code_file.specs.Numbers.{option_at, number_of, u32_or_none, value, zeros}
+use Rattle.struct_ir.specs.Valid.{has_width}
+use Rattle.code_file.specs.Numbers.{option_at, number_of, u32_or_none, value, zeros, piece_bits}
 use Rattle.code_save.specs.declared.output.Output.{Output}
 use Rattle.code_save.specs.inner.Fits.{option_fits}
 use Rattle.code_save.specs.inner.Written.{Gains, Wrote}
@@ -110,3 +111,9 @@ value_wrote t z n bytes is again e g =
       is = λ h. ((number_fits k m b.0, exactly_is (zeros (8 - k))), ap (λ (x : ℕ). wrapped_value t (pos x)) (sym is) ∙ again);
       gains = gains_are bytes ((number k).spell m ++ (exactly (zeros (8 - k))).spell tt) spelled g;
     }
+
+-- ---- how many bits a piece writes
+
+pub bits_wrote : (n : ℕ) {a b : Output} → Gains a (n ∷ []) b → Wrote piece_bits n (has_width n) a b
+unfolding piece_bits
+bits_wrote n g = record { is = λ h. h; gains = g }
