@@ -70,10 +70,12 @@ module _ (x : Scope) (small : x.temps < 4294967296) where
     node_in : (levels : ℕ) (a : Around) (n : Node) → is_node x a n ≡ true → node_is_seated n ≡ true → node_depth n ≤ levels → node_fits levels n ≡ true
     node_in levels a (plain place act) h s d = act_in act h s
     node_in levels a (if_ place temp one other) h s d =
+        let d : max (depth one) (depth other) ≤ levels = d in
         let v = and_parts (are_nodes x a one) (are_nodes x a other) (and_parts (nat_lt temp x.temps) (are_nodes x a one && are_nodes x a other) h).1 in
         let t = and_parts (are_seated one) (are_seated other) s in
         and_from (fits levels one) (fits levels other) (row_in levels a one v.0 t.0 (omega (arith, d))) (row_in levels a other v.1 t.1 (omega (arith, d)))
     node_in levels a (loop place body latch) h s d =
+        let d : max (depth body) (depth latch) ≤ levels = d in
         let v = and_parts (are_nodes x body_of body) (are_nodes x latch_of latch) h in
         let t = and_parts (are_seated body) (are_seated latch) s in
         and_from (fits levels body) (fits levels latch) (row_in levels body_of body v.0 t.0 (omega (arith, d))) (row_in levels latch_of latch v.1 t.1 (omega (arith, d)))
@@ -83,8 +85,9 @@ module _ (x : Scope) (small : x.temps < 4294967296) where
 
     pub row_in : (levels : ℕ) (a : Around) (ns : Nodes) → are_nodes x a ns ≡ true → are_seated ns ≡ true → depth ns ≤ levels → fits levels ns ≡ true
     row_in levels a no_nodes h s d = refl
-    row_in zero a (more_nodes n rest) h s d = absurd (omega (arith, d))
+    row_in zero a (more_nodes n rest) h s d = absurd (let d : max (suc (node_depth n)) (depth rest) ≤ 0 = d in omega (arith, d))
     row_in (suc levels) a (more_nodes n rest) h s d =
+        let d : max (suc (node_depth n)) (depth rest) ≤ suc levels = d in
         let v = and_parts (is_node x a n) (are_nodes x a rest) h in
         let t = and_parts (node_is_seated n) (are_seated rest) s in
         and_from (node_fits levels n) (fits (suc levels) rest) (node_in levels a n v.0 t.0 (omega (arith, d))) (row_in (suc levels) a rest v.1 t.1 (omega (arith, d)))
@@ -102,6 +105,7 @@ funcs_in : (p : Ir) (levels : ℕ) (fs : List Func) → list_all (λ f. are_node
     → most_of (map (λ (f : Func). depth f.nodes) fs) ≤ levels → list_all (func_fits levels) fs ≡ true
 funcs_in p levels [] h s d = refl
 funcs_in p levels (f ∷ fs) h s d =
+    let d : max (depth f.nodes) (most_of (map (λ (f : Func). depth f.nodes) fs)) ≤ levels = d in
     let v = and_parts (are_nodes (scope_of p f) outside f.nodes) (list_all (λ f. are_nodes (scope_of p f) outside f.nodes) fs) h in
     let t = and_parts (are_seated f.nodes) (list_all (λ (f : Func). are_seated f.nodes) fs) s in
     and_from (func_fits levels f) (list_all (func_fits levels) fs) (func_in p levels f v.0 t.0 (omega (arith, d))) (funcs_in p levels fs v.1 t.1 (omega (arith, d)))

@@ -82,12 +82,12 @@ none_fits : (ns : Nodes) → fits 0 ns ≡ true → no_nodes ≡ bare ns
 none_fits no_nodes h = refl
 none_fits (more_nodes n rest) h = absurd cc
 
+level_none : (ns : Nodes) {a b : Output} → Gains a (0 ∷ 0 ∷ 0 ∷ 0 ∷ []) b → RowWrote 0 ns a b
+unfolding nodes
+level_none ns g = record { is = λ h. (exactly_is (zeros 4), none_fits ns h); gains = g }
+
 pub none_wrote : (levels : ℕ) (ns : Nodes) {a b : Output} → levels ≡ 0 → Gains a (0 ∷ 0 ∷ 0 ∷ 0 ∷ []) b → RowWrote levels ns a b
 none_wrote levels ns {a = a} {b = b} e g = subst (λ k. RowWrote k ns a b) (sym e) (level_none ns g)
-  where
-    level_none : (ns : Nodes) {a b : Output} → Gains a (0 ∷ 0 ∷ 0 ∷ 0 ∷ []) b → RowWrote 0 ns a b
-    unfolding nodes
-    level_none ns g = record { is = λ h. (exactly_is (zeros 4), none_fits ns h); gains = g }
 
 bare_list : (all : List CodeNode) → list_of (bare (nodes_view all)) ≡ map (λ n. node_bare (node_view n)) all
 bare_list [] = refl

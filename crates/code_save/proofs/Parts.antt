@@ -11,9 +11,9 @@ use Rattle.struct_ir.specs.declared.code.Place.{Place as CodePlace}
 use Rattle.struct_ir.specs.declared.code.StepNode.{StepNode}
 use Rattle.formats.specs.Formats.{Format, behind, seen, ◌▸◌, byte, u32, u64, list}
 use Rattle.code_file.specs.Numbers.{u32_or_none}
-use Rattle.code_file.specs.Calcs.{CalcFields, calc_tag, calc_number, calc_fields, make_calc, calc_parts, calc}
-use Rattle.code_file.specs.Actions.{slot_of, make_place, place_parts, place, PieceFields, piece_tag, piece_number, piece_fields, make_piece, piece_parts, piece, ActionFields, action_tag, action_number, action_fields, make_action, action_parts, action, make_step, step_parts, step}
-use Rattle.code_file.specs.Files.{InitFields, init_tag, init_number, init_fields, make_init, init_parts, init}
+use Rattle.code_file.specs.Calcs.{CalcTag, CalcFields, calc_tag, calc_number, calc_fields, make_calc, calc_parts, calc}
+use Rattle.code_file.specs.Actions.{slot_of, make_place, place_parts, place, PieceTag, PieceFields, piece_tag, piece_number, piece_fields, make_piece, piece_parts, piece, ActionTag, ActionFields, action_tag, action_number, action_fields, make_action, action_parts, action, make_step, step_parts, step}
+use Rattle.code_file.specs.Files.{InitTag, InitFields, init_tag, init_number, init_fields, make_init, init_parts, init}
 use Rattle.code_save.specs.declared.output.Output.{Output}
 use Rattle.code_save.specs.inner.Fits.{option_fits, place_fits, action_fits, step_fits}
 use Rattle.code_save.specs.inner.Written.{Gains, Wrote}
@@ -25,25 +25,25 @@ use Rattle.code_save.proofs.Tags.{one_calc_tag, calc_again, one_piece_tag, piece
 pub calc_wrote : (x : Calc) (n : ℕ) {a b c : Output} → n ≡ calc_number (calc_parts x).0 → Gains a (n ∷ []) b → Wrote (calc_fields (calc_parts x).0) (calc_parts x).1 true b c → Wrote calc x true a c
 unfolding calc
 calc_wrote x n e g w =
-    seen_wrote (λ (y : (t : _) × CalcFields t). make_calc y.0 y.1) calc_parts (behind calc_tag calc_fields) x (λ h. calc_again x)
+    seen_wrote (λ (y : (t : CalcTag) × CalcFields t). make_calc y.0 y.1) calc_parts (behind calc_tag calc_fields) x (λ h. calc_again x)
       (behind_wrote {B = CalcFields} calc_tag calc_fields (calc_parts x).0 (calc_parts x).1 (tag_wrote calc_tag (calc_parts x).0 n (one_calc_tag (calc_parts x).0) (ap (λ (k : ℕ). k ∷ []) (sym e)) g) w)
 
 pub piece_wrote : (x : Piece) (n : ℕ) {p : Bool} {a b c : Output} → n ≡ piece_number (piece_parts x).0 → Gains a (n ∷ []) b → Wrote (piece_fields (piece_parts x).0) (piece_parts x).1 p b c → Wrote piece x p a c
 unfolding piece
 piece_wrote x n e g w =
-    seen_wrote (λ (y : (t : _) × PieceFields t). make_piece y.0 y.1) piece_parts (behind piece_tag piece_fields) x (λ h. piece_again x)
+    seen_wrote (λ (y : (t : PieceTag) × PieceFields t). make_piece y.0 y.1) piece_parts (behind piece_tag piece_fields) x (λ h. piece_again x)
       (behind_wrote {B = PieceFields} piece_tag piece_fields (piece_parts x).0 (piece_parts x).1 (tag_wrote piece_tag (piece_parts x).0 n (one_piece_tag (piece_parts x).0) (ap (λ (k : ℕ). k ∷ []) (sym e)) g) w)
 
 pub action_wrote : (x : Action) (n : ℕ) {p : Bool} {a b c : Output} → n ≡ action_number (action_parts x).0 → Gains a (n ∷ []) b → Wrote (action_fields (action_parts x).0) (action_parts x).1 p b c → Wrote action x p a c
 unfolding action
 action_wrote x n e g w =
-    seen_wrote (λ (y : (t : _) × ActionFields t). make_action y.0 y.1) action_parts (behind action_tag action_fields) x (λ h. action_again x)
+    seen_wrote (λ (y : (t : ActionTag) × ActionFields t). make_action y.0 y.1) action_parts (behind action_tag action_fields) x (λ h. action_again x)
       (behind_wrote {B = ActionFields} action_tag action_fields (action_parts x).0 (action_parts x).1 (tag_wrote action_tag (action_parts x).0 n (one_action_tag (action_parts x).0) (ap (λ (k : ℕ). k ∷ []) (sym e)) g) w)
 
 pub init_wrote : (x : Init) (n : ℕ) {a b c : Output} → n ≡ init_number (init_parts x).0 → Gains a (n ∷ []) b → Wrote (init_fields (init_parts x).0) (init_parts x).1 true b c → Wrote init x true a c
 unfolding init
 init_wrote x n e g w =
-    seen_wrote (λ (y : (t : _) × InitFields t). make_init y.0 y.1) init_parts (behind init_tag init_fields) x (λ h. init_again x)
+    seen_wrote (λ (y : (t : InitTag) × InitFields t). make_init y.0 y.1) init_parts (behind init_tag init_fields) x (λ h. init_again x)
       (behind_wrote {B = InitFields} init_tag init_fields (init_parts x).0 (init_parts x).1 (tag_wrote init_tag (init_parts x).0 n (one_init_tag (init_parts x).0) (ap (λ (k : ℕ). k ∷ []) (sym e)) g) w)
 
 -- ---- places

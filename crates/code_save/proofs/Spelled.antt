@@ -78,11 +78,15 @@ number_zeros : (j : ℕ) → (number j).spell 0 ≡ zeros j
 number_zeros zero = refl
 number_zeros (suc j) = ap (λ (l : List ℕ). 0 ∷ l) (number_zeros j)
 
-low_bytes : (k j n : ℕ) → n < 256 ^ k → (number (k + j)).spell n ≡ (number k).spell n ++ zeros j
-low_bytes zero j n h = let e : n ≡ 0 = omega (arith, h) in ap (λ m. (number j).spell m) e ∙ number_zeros j
-low_bytes (suc k) j n h = let below : n / 256 < 256 ^ k = omega (arith, h) in ap (λ (l : List ℕ). n % 256 ∷ l) (low_bytes k j (n / 256) below)
+low_bytes : (k m j n : ℕ) → m ≡ k + j → n < 256 ^ k → (number m).spell n ≡ (number k).spell n ++ zeros j
+low_bytes zero m j n e h = let none : n ≡ 0 = omega (arith, h) in ap (λ (x : ℕ). (number m).spell x) none ∙ number_zeros m ∙ ap zeros e
+low_bytes (suc k) zero j n e h = absurd (omega (arith, e))
+low_bytes (suc k) (suc m) j n e h =
+    let below : n / 256 < 256 ^ k = omega (arith, h) in
+    let less : m ≡ k + j = omega (arith, e) in
+    ap (λ (l : List ℕ). n % 256 ∷ l) (low_bytes k m j (n / 256) less below)
 
-widths : (t : IntType) → (t.bits ≡ 8) ⊎ (t.bits ≡ 16) ⊎ (t.bits ≡ 32) ⊎ (t.bits ≡ 64)
+pub widths : (t : IntType) → (t.bits ≡ 8) ⊎ (t.bits ≡ 16) ⊎ (t.bits ≡ 32) ⊎ (t.bits ≡ 64)
 widths t = let h = t.known_width in grind (arith, nat_tests)
 
 -- a width is so many bytes
@@ -106,7 +110,7 @@ value_wrote t z n bytes is again e g =
     let small : m < 2 ^ t.bits = residue_below (2 ^ t.bits) z (pow_pos t.bits) in
     let b = below_bytes t.bits m (widths t) small in
     let spelled : bytes ≡ (number k).spell m ++ (exactly (zeros (8 - k))).spell tt =
-      e ∙ eight_spelled n ∙ ap (λ (x : ℕ). (number 8).spell x) is ∙ ap (λ (x : ℕ). (number x).spell m) (sym b.1) ∙ low_bytes k (8 - k) m b.0 ∙ ap (λ (l : List ℕ). (number k).spell m ++ l) (sym (exactly_spelled (zeros (8 - k)))) in
+      e ∙ eight_spelled n ∙ ap (λ (x : ℕ). (number 8).spell x) is ∙ low_bytes k 8 (8 - k) m (sym b.1) b.0 ∙ ap (λ (l : List ℕ). (number k).spell m ++ l) (sym (exactly_spelled (zeros (8 - k)))) in
     record {
       is = λ h. ((number_fits k m b.0, exactly_is (zeros (8 - k))), ap (λ (x : ℕ). wrapped_value t (pos x)) (sym is) ∙ again);
       gains = gains_are bytes ((number k).spell m ++ (exactly (zeros (8 - k))).spell tt) spelled g;

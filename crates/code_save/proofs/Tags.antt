@@ -1,6 +1,5 @@
 -- The bytes that say what follows.
 use Rattle.std.proofs.Common.{◌≡◌, ℕ, Bool, true, false, List, [], ◌∷◌, Option, Some, None, ◌⊎◌, inl, inr, refl, sym, ap, subst, ◌∙◌}
-use Rattle.std.proofs.lemmas.Bool.Decides.{nat_tests}
 use Rattle.ak_words.specs.declared.int_type.IntType.{IntType}
 use Rattle.ak_words.specs.declared.operation.Op.{Op}
 use Rattle.ak_words.specs.declared.operation.Op.TheVariants as ops
@@ -24,6 +23,7 @@ use Rattle.code_file.specs.Files.{NodeTag, node_tag, make_node, node_parts, Init
 use Rattle.code_save.specs.declared.output.Output.{Output}
 use Rattle.code_save.specs.inner.Written.{Gains, Wrote}
 use Rattle.code_save.proofs.Writing.{tag_wrote}
+use Rattle.code_save.proofs.Spelled.{widths}
 
 -- ---- numbers
 
@@ -43,9 +43,6 @@ one_type t false s (inl w) = subst int_type.Is (int_type_is unsigned_char t (sym
 one_type t false s (inr (inl w)) = subst int_type.Is (int_type_is unsigned_short t (sym s) (sym w)) (refl, refl)
 one_type t false s (inr (inr (inl w))) = subst int_type.Is (int_type_is unsigned_int t (sym s) (sym w)) (refl, refl)
 one_type t false s (inr (inr (inr w))) = subst int_type.Is (int_type_is unsigned_long t (sym s) (sym w)) (refl, refl)
-
-pub widths : (t : IntType) → (t.bits ≡ 8) ⊎ (t.bits ≡ 16) ⊎ (t.bits ≡ 32) ⊎ (t.bits ≡ 64)
-widths t = let h = t.known_width in grind (Rattle.std.proofs.Common.arith, nat_tests)
 
 pub type_wrote : (t : IntType) (n : ℕ) {x y : Output} → n ≡ type_number t → Gains x (n ∷ []) y → Wrote int_type t true x y
 unfolding int_type
