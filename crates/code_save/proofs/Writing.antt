@@ -124,6 +124,10 @@ module _ {X A : Type 0} (F : Format A) (view : X → A) (fits : X → Bool) wher
       let left : Rest F (map view (x ∷ drop (i + 1) xs)) (list_all fits (x ∷ drop (i + 1) xs)) b after = rest_more F (view x) (map view (drop (i + 1) xs)) (fits x) (list_all fits (drop (i + 1) xs)) w r in
       so_far after (subst (λ (l : List X). Rest F (map view l) (list_all fits l) b after) (sym (drop_more xs i d lt)) left)
 
+  -- the item at this index is the one that a loop took
+  pub item_writes : (xs : List X) (i : ℕ) (x : X) {a b c : Output} → i < length xs → x ≡ get_or xs i x → Wrote F (view x) (fits x) b c → WritesAll (drop i xs) xs a b → WritesAll (drop (i + 1) xs) xs a c
+  item_writes xs i x {b = b} {c = c} lt e w so_far = next_writes xs i x lt (subst (λ y. Wrote F (view y) (fits y) b c) e w) so_far
+
   pub all_wrote : (xs : List X) (i : ℕ) {a b : Output} → length xs ≤ i → WritesAll (drop i xs) xs a b → Wrote (list F) (map view xs) (list_all fits xs) a b
   all_wrote xs i {a = a} {b = b} le so_far = so_far b (subst (λ (l : List X). Rest F (map view l) (list_all fits l) b b) (sym (drop_all i xs le)) (rest_none F true))
 
