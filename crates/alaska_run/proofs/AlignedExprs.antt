@@ -1,5 +1,5 @@
 -- In the code of expressions each copy is aligned to 1, 2, 4 or 8 bytes.
-use Rattle.std.proofs.Common.{◌≡◌, ℕ, suc, Option, Some, None, refl}
+use Rattle.std.proofs.Common.{ℕ, suc, Option, Some, None, refl}
 use Rattle.c_tree.specs.Typed as tree
 use Rattle.struct_ir.specs.Nodes.{Nodes, no_nodes}
 use Rattle.lower_forms.specs.Forms.{Frame, home, local_value, local_place, converts, lib_nodes, expr_nodes, value_nodes, place_nodes, object_place, args_nodes}

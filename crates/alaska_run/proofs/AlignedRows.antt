@@ -1,5 +1,5 @@
 -- Rows of nodes in which each copy is aligned to 1, 2, 4 or 8 bytes, also with their Looks, safepoints, slots and lists.
-use Rattle.std.proofs.Common.{◌≡◌, ℕ, true, List, [], ◌∷◌, map, refl}
+use Rattle.std.proofs.Common.{◌≡◌, ℕ, true, refl}
 use Rattle.std.proofs.lemmas.Bool.{and_from}
 use Rattle.struct_ir.specs.Nodes.{Action, copy_bytes, Act, set, call, step, look, safepoint, begin_object, end_object, Node, plain, if_, loop, break_, next_, ret, Nodes, no_nodes, more_nodes}
 use Rattle.struct_ir.specs.Lists.{bare_act}

@@ -1,5 +1,5 @@
 -- In the code of statements each copy is aligned to 1, 2, 4 or 8 bytes, where types are.
-use Rattle.std.proofs.Common.{◌≡◌, ℕ, suc, ◌==◌, Bool, true, false, if◌then◌else◌, List, [], ◌∷◌, ◌++◌, Option, Some, None}
+use Rattle.std.proofs.Common.{ℕ, suc, ◌==◌, Bool, true, false, if◌then◌else◌, List, [], ◌∷◌, ◌++◌, Option, Some, None}
 use Rattle.ak_words.specs.declared.operation.Op.{Op}
 use Rattle.c_tree.specs.Typed as tree
 use Rattle.c_meaning.specs.Values.{is_scalar}

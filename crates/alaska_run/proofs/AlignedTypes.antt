@@ -1,5 +1,5 @@
 -- Each type over the structs of a well formed program is aligned to 1, 2, 4 or 8 bytes.
-use Rattle.std.proofs.Common.{◌≡◌, ℕ, zero, suc, ◌+◌, ◌/◌, ◌<◌, ◌≤◌, max, ◌==◌, Bool, true, false, ◌||◌, List, [], ◌∷◌, length, Option, Some, None, inl, inr, refl, sym, ap, subst, ◌∙◌, arith}
+use Rattle.std.proofs.Common.{◌≡◌, ℕ, zero, suc, ◌+◌, ◌/◌, ◌<◌, ◌≤◌, max, ◌==◌, true, false, List, [], ◌∷◌, length, Option, Some, None, inl, inr, refl, sym, subst, arith}
 use Rattle.std.proofs.lemmas.Bool.{cases_lt, eqb-true, or_cases, ne_eqb}
 use Rattle.std.proofs.lemmas.Bool.Decides.{nat_tests}
 use Rattle.std.proofs.lemmas.Map.Steps.{length-le_from_distinct_below}
@@ -9,7 +9,7 @@ use Rattle.std.specs.List.{AllByRecursion, IsDistinct, list_any}
 use Rattle.ak_words.specs.Width.{is_width}
 use Rattle.c_tree.specs.Typed as tree
 use Rattle.c_tree.specs.TypedForm.{IsLayout, HoldsStruct, IsPart, LiesIn, as_part, deeper}
-use Rattle.c_tree.specs.TypedLayout.{layout_align, align_in, greatest_align, laid_out}
+use Rattle.c_tree.specs.TypedLayout.{layout_align, align_in, greatest_align}
 use Rattle.code_file.specs.Conditions.{is_alignment}
 
 -- an alignment is one of the four
