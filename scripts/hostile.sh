@@ -1,7 +1,7 @@
 #!/usr/bin/env bash
 # Runs the program over what may harm it: C texts that break rules and pass limits, files that can't be read, outputs that can't be written,
-# texts that are none, code files that are cut, deep, long or none, words that are wrong, and little memory. Each run is of one worker with 1000 entries, and has 20 seconds, or 120
-# where the program is built with checks.
+# texts that are none, code files that are cut, deep, long or none, words that are wrong, and little memory. Each run is of one worker with 1000
+# entries, and has 20 seconds, or 120 where the program is built with checks.
 # Use: scripts/hostile.sh      prints a line for each case that went another way, and how many there were; ends with 0 where none did.
 # It runs $ALASKA, or else bin/alaska, or else the program that ./alaska builds once without a proof. A program that is built with checks takes no
 # `ulimit -v`; that part is then left out, and a line says so.
