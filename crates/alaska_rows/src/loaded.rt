@@ -82,10 +82,8 @@ fn are_lines_alike(one: &[u8], other: &[u8], words: &str) -> bool {
     let one = str::from_utf8(one).unwrap_or("?");
     let other = str::from_utf8(other).unwrap_or("!");
     one.lines().count() == other.lines().count()
-        && one
-            .lines()
-            .zip(other.lines())
-            .all(|(a, b)| a == b || (!is_shown(a, words) && !is_shown(b, words)))
+        && one.lines().zip(other.lines()).all(|(a, b)| a == b
+            || (!is_shown(a, words) && !is_shown(b, words)))
 }
 
 // Whether two calls wrote the same and ended so.
