@@ -7,7 +7,7 @@ use Rattle.code_file.specs.Files.{node, nodes}
 use Rattle.code_file.specs.Calls.{node_bare}
 use Rattle.code_save.specs.inner.Fits.{node_fits}
 use Rattle.code_save.proofs.Writing.{on_ok, nothing_wrote, wrote_as, pair_wrote, first_writes, item_writes, all_wrote}
-use Rattle.code_save.proofs.Nodes.{fields_of, if_wrote, loop_wrote, node_wrote, place_is, none_wrote, nodes_wrote}
+use Rattle.code_save.proofs.Rows.{fields_of, if_wrote, loop_wrote, node_wrote, place_is, none_wrote, nodes_wrote}
 use Rattle.code_save.proofs.nodes.+puts.Goals as goal
 
 pub put_nodes-returns-then-levels-eq0 : goal.put_nodes-returns-then-levels-eq0
