@@ -7,6 +7,8 @@ use Rattle.c_tree.specs.Typed.{Piece, Init}
 use Rattle.c_tree.specs.TypedViews.{piece_view, init_view}
 use Rattle.struct_ir.specs.Nodes.{Calc, Action, Place, Step}
 use Rattle.struct_ir.specs.Views.{place_view, action_view, step_view}
+use Rattle.c_tree.specs.declared.typed.Piece.{Piece as CodePiece}
+use Rattle.struct_ir.specs.Valid.{is_piece}
 use Rattle.struct_ir.specs.declared.code.Place.{Place as CodePlace}
 use Rattle.struct_ir.specs.declared.code.StepNode.{StepNode}
 use Rattle.formats.specs.Formats.{Format, behind, seen, ◌▸◌, byte, u32, u64, list}
@@ -45,6 +47,9 @@ unfolding init
 init_wrote x n e g w =
     seen_wrote (λ (y : (t : InitTag) × InitFields t). make_init y.0 y.1) init_parts (behind init_tag init_fields) x (λ h. init_again x)
       (behind_wrote {B = InitFields} init_tag init_fields (init_parts x).0 (init_parts x).1 (tag_wrote init_tag (init_parts x).0 n (one_init_tag (init_parts x).0) (ap (λ (k : ℕ). k ∷ []) (sym e)) g) w)
+
+pub pieces_as : (xs ys : List CodePiece) {a b : Output} → xs ≡ ys → Wrote (list piece) (map piece_view xs) (list_all is_piece (map piece_view xs)) a b → Wrote (list piece) (map piece_view ys) (list_all is_piece (map piece_view ys)) a b
+pieces_as xs ys {a = a} {b = b} e w = subst (λ l. Wrote (list piece) (map piece_view l) (list_all is_piece (map piece_view l)) a b) e w
 
 -- ---- places
 

@@ -79,7 +79,7 @@ number_zeros zero = refl
 number_zeros (suc j) = ap (λ (l : List ℕ). 0 ∷ l) (number_zeros j)
 
 low_bytes : (k m j n : ℕ) → m ≡ k + j → n < 256 ^ k → (number m).spell n ≡ (number k).spell n ++ zeros j
-low_bytes zero m j n e h = let none : n ≡ 0 = omega (arith, h) in ap (λ (x : ℕ). (number m).spell x) none ∙ number_zeros m ∙ ap zeros e
+low_bytes zero m j n e h = let none : n ≡ 0 = omega (arith, h) in ap (λ (x : ℕ). (number m).spell x) none ∙ number_zeros m ∙ ap zeros (omega (arith, e))
 low_bytes (suc k) zero j n e h = absurd (omega (arith, e))
 low_bytes (suc k) (suc m) j n e h =
     let below : n / 256 < 256 ^ k = omega (arith, h) in

@@ -17,7 +17,7 @@ pub put_nodes-loop-n-init : goal.put_nodes-loop-n-init
 put_nodes-loop-n-init t c = first_writes (node (nodes (c.args.levels - 1))) (λ n. node_bare (node_view n)) (λ n. node_fits (c.args.levels - 1) (node_view n)) c.args.all.now c.in_ok-put_count.ensures
 
 pub put_nodes-loop-n-preserved : goal.put_nodes-loop-n-preserved
-put_nodes-loop-n-preserved t c = item_writes (node (nodes (c.args.levels - 1))) (λ n. node_bare (node_view n)) (λ n. node_fits (c.args.levels - 1) (node_view n)) c.args.all.now c.loop-n.n-index c.loop-n-item.result c.loop-n-test.true c.loop-n-item.is c.in_ok-put_node.ensures c.loop-n.invariant
+put_nodes-loop-n-preserved t c = item_writes (node (nodes (c.args.levels - 1))) (λ n. node_bare (node_view n)) (λ n. node_fits (c.args.levels - 1) (node_view n)) c.args.all.now c.loop-n.n-index c.n-item.result c.loop-n-test.true c.n-item.is c.in_ok-put_node.ensures c.loop-n.invariant
 
 pub put_nodes-returns : goal.put_nodes-returns
 put_nodes-returns t c = let pos : 0 < c.args.levels = omega arith in nodes_wrote c.args.levels pos c.args.all.now (all_wrote (node (nodes (c.args.levels - 1))) (λ n. node_bare (node_view n)) (λ n. node_fits (c.args.levels - 1) (node_view n)) c.args.all.now c.loop-n.n-index c.loop-n-test.false c.loop-n.invariant)
