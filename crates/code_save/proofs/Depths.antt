@@ -1,12 +1,12 @@
 -- How deep rows of nodes are.
-use Rattle.std.proofs.Common.{◌≡◌, ℕ, zero, suc, ◌-◌, ◌+◌, ◌<◌, ◌≤◌, max, Bool, true, false, ◌&&◌, leb, List, [], ◌∷◌, length, map, drop, get_or, refl, sym, ap, subst, ◌∙◌, arith}
+use Rattle.std.proofs.Common.{◌≡◌, ℕ, suc, ◌-◌, ◌+◌, ◌<◌, ◌≤◌, max, Bool, true, false, ◌&&◌, leb, List, [], ◌∷◌, length, map, drop, get_or, refl, sym, ap, ◌∙◌, arith}
 use Rattle.std.proofs.lemmas.Bool.{le-leb, lt-leb, leb-true, leb-false}
 use Rattle.std.proofs.lemmas.List.{drop_all, drop_more}
 use Rattle.std.proofs.Math.Dec.{eqb-suc-zero}
 use Rattle.std.specs.Prelude.{nat_le, ◌==◌}
 use Rattle.struct_ir.specs.declared.code.Node.{Node as CodeNode}
 use Rattle.struct_ir.specs.declared.code.IrFunc.{IrFunc}
-use Rattle.struct_ir.specs.Nodes.{Node, Nodes, no_nodes, more_nodes, Func}
+use Rattle.struct_ir.specs.Nodes.{Node, Nodes, more_nodes, Func}
 use Rattle.struct_ir.specs.Views.{node_view, nodes_view, func_view}
 use Rattle.code_save.specs.Saves.{node_depth, depth, most_of}
 

@@ -1,4 +1,3 @@
-use Rattle.std.proofs.Common.{◌≡◌, arith, refl, sym, ap, ◌∙◌}
 use Rattle.std.proofs.Common.{true}
 use Rattle.code_save.proofs.Writing.{on_ok, nothing_wrote}
 use Rattle.code_save.proofs.Parts.{pieces_as}

@@ -1,6 +1,4 @@
-use Rattle.std.proofs.Common.{◌≡◌, arith, refl, sym, ap, ◌∙◌}
 use Rattle.std.proofs.Common.{true}
-use Rattle.struct_ir.specs.Valid.{has_width}
 use Rattle.formats.specs.Formats.{byte, list}
 use Rattle.code_save.proofs.Writing.{on_ok, nothing_wrote, wrote_as}
 use Rattle.code_save.proofs.actions.put_piece_fields.Goals as goal

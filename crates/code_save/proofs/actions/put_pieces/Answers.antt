@@ -1,4 +1,3 @@
-use Rattle.std.proofs.Common.{◌≡◌, arith, refl, sym, ap, ◌∙◌}
 use Rattle.c_tree.specs.TypedViews.{piece_view}
 use Rattle.code_file.specs.Actions.{piece}
 use Rattle.struct_ir.specs.Valid.{is_piece}

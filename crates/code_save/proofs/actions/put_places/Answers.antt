@@ -1,4 +1,3 @@
-use Rattle.std.proofs.Common.{◌≡◌, arith, refl, sym, ap, ◌∙◌}
 use Rattle.struct_ir.specs.Views.{place_view}
 use Rattle.code_file.specs.Actions.{place}
 use Rattle.code_save.specs.inner.Fits.{place_fits}

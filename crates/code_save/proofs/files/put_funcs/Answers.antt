@@ -1,4 +1,3 @@
-use Rattle.std.proofs.Common.{◌≡◌, arith, refl, sym, ap, ◌∙◌}
 use Rattle.struct_ir.specs.Views.{func_view}
 use Rattle.code_file.specs.Files.{func}
 use Rattle.code_file.specs.Calls.{func_bare}

@@ -1,4 +1,3 @@
-use Rattle.std.proofs.Common.{◌≡◌, arith, refl, sym, ap, ◌∙◌}
 use Rattle.c_tree.specs.TypedViews.{literal_view}
 use Rattle.formats.specs.Formats.{list, byte}
 use Rattle.std.proofs.Common.{true}

@@ -1,4 +1,3 @@
-use Rattle.std.proofs.Common.{◌≡◌, arith, refl, sym, ap, ◌∙◌}
 use Rattle.struct_ir.specs.Views.{object_view}
 use Rattle.code_file.specs.Files.{object}
 use Rattle.std.proofs.Common.{true}

@@ -1,4 +1,4 @@
-use Rattle.std.proofs.Common.{◌≡◌, true, false, refl}
+use Rattle.std.proofs.Common.{true, false, refl}
 use Rattle.code_save.proofs.Writing.{on_ok}
 use Rattle.code_save.proofs.Tags.{flag_wrote}
 use Rattle.code_save.proofs.numbers.put_flag.Goals as goal
