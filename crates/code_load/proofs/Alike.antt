@@ -62,7 +62,7 @@ one_end bytes n m (inl x) (inr y) = absurd (x.none y.code y.spells)
 one_end bytes n m (inr x) (inl y) = absurd (y.none x.code x.spells)
 one_end bytes n m (inr x) (inr y) = x.end ∙ sym y.end
 
-of_rank : ℕ → Why
+abbrev of_rank : ℕ → Why
 of_rank zero = BadTemp
 of_rank (suc zero) = NoLook
 of_rank (suc (suc zero)) = StaleLook
