@@ -168,11 +168,11 @@ def judge(program, text, words, more, each):
 
 
 def main(what, program, examples, seconds, seed, each):
-    draw, end, counts, kept = random.Random(int(seed)), time.time() + float(seconds), collections.Counter(), []
+    draw, counts, kept = random.Random(int(seed)), collections.Counter(), []
     names = sorted(glob.glob(f"{examples}/*.c"))
     texts = built(program, names) if what == "code" else [open(it).read() for it in names]
     change, more = (code_of, ["--mode=load"]) if what == "code" else (text_of, [])
-    folder = None
+    folder, end = None, time.time() + float(seconds)
     while time.time() < end:
         text, words = change(draw, texts), words_of(draw)
         status, out, note, good = judge(program, text, words, more, float(each))
