@@ -6,8 +6,8 @@
 # With --code it runs the program over code files that are changed at random: those that it builds of examples/ first, in which bytes are changed,
 # deleted and doubled, and cut ones.
 # Use: scripts/fuzz.sh [--code] SECONDS [SEED [EACH]]      prints how many runs had each status and how many texts were compiled, or code files
-#   loaded. It ends with 0 where each run was as it must be and a tenth or more of them were. The texts or code files, words and outputs of the runs
-#   at fault lie in a folder that it names.
+#   loaded. It ends with 0 where each run was as it must be and a tenth or more of the texts were, or a twentieth of the code files. The texts or
+#   code files, words and outputs of the runs at fault lie in a folder that it names.
 # SEED is 1 and EACH 20 where they are left out. The same seed gives the same texts in the same order.
 # It runs $ALASKA, or else bin/alaska, or else the program that ./alaska builds once without a proof.
 set -eu
@@ -168,11 +168,11 @@ def judge(program, text, words, more, each):
 
 
 def main(what, program, examples, seconds, seed, each):
-    draw, end, counts, kept = random.Random(int(seed)), time.time() + float(seconds), collections.Counter(), []
+    draw, counts, kept = random.Random(int(seed)), collections.Counter(), []
     names = sorted(glob.glob(f"{examples}/*.c"))
     texts = built(program, names) if what == "code" else [open(it).read() for it in names]
     change, more = (code_of, ["--mode=load"]) if what == "code" else (text_of, [])
-    folder = None
+    folder, end = None, time.time() + float(seconds)
     while time.time() < end:
         text, words = change(draw, texts), words_of(draw)
         status, out, note, good = judge(program, text, words, more, float(each))
@@ -190,9 +190,10 @@ def main(what, program, examples, seconds, seed, each):
     print(f"{whole} runs with seed {seed}, {ran} of {done} ({100 * ran / max(whole, 1):.1f} %), {len(kept)} at fault")
     if kept:
         print(f"what they ran is kept in {folder}")
-    if ran * 10 < whole:
-        print("fewer than a tenth were " + ("loaded" if what == "code" else "compiled"))
-    return 1 if kept or ran * 10 < whole or not whole else 0
+    few = ran * (20 if what == "code" else 10) < whole
+    if few:
+        print("fewer than a twentieth were loaded" if what == "code" else "fewer than a tenth were compiled")
+    return 1 if kept or few or not whole else 0
 
 
 sys.exit(main(*sys.argv[1:]))

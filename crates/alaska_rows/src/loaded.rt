@@ -24,6 +24,7 @@ const MOVES: Row = Row("alaska moves.c --every 1", "ended live moves.c:");
 const SAFEPOINT: [u8; 5] = [9, 1, 0, 0, 0];
 
 // How many rows came to what.
+#[derive(Clone, Copy)]
 struct Counts {
     alike: u32,
     refused: u32,
