@@ -1,12 +1,11 @@
 -- What the answers of loading are among each other.
-use Rattle.std.proofs.Common.{◌≡◌, ℕ, zero, suc, ◌<◌, ◌≤◌, ◌⊎◌, inl, inr, List, length, Result, Ok, Err, refl, sym, ap, subst, ◌∙◌, arith}
+use Rattle.std.proofs.Common.{◌≡◌, ℕ, zero, suc, ◌<◌, ◌⊎◌, inl, inr, List, length, Ok, Err, refl, sym, ap, subst, ◌∙◌, arith}
 use Rattle.std.proofs.lemmas.Bool.{false≢true}
 use Rattle.formats.specs.Laws.{Longest, Spells}
 use Rattle.formats.proofs.Whole.{one_spelling}
 use Rattle.struct_ir.specs.Nodes.{Ir}
 use Rattle.pin_checker.specs.declared.fault.Why.{Why}
 use Rattle.pin_checker.specs.declared.fault.Why.TheVariants.{BadTemp, NoLook, StaleLook, NotPinned}
-use Rattle.pin_checker.specs.Answers.{IsRefused}
 use Rattle.pin_checker.specs.CheckedViews.{program_in}
 use Rattle.pin_checker.specs.Faults.{rank, NoLater, IsFirst}
 use Rattle.pin_checker.specs.Safe.{IsSafe}
@@ -18,8 +17,8 @@ use Rattle.code_file.specs.Conditions.{meets, IsFile}
 use Rattle.code_file.proofs.GrammarLaws.{file_lawful}
 use Rattle.code_file.proofs.Fillings.{program_back}
 use Rattle.code_load.specs.declared.loading.LoadFault.TheVariants.{BadCode, Unsafe, NoMemory}
-use Rattle.code_load.specs.Loads.{IsLoaded, IsUnmet, IsUnsafeFile, Loads}
-use Rattle.code_load.specs.Laws.{LoadsWhatWasSaved, AreAlike, LoadingHasOneAnswer}
+use Rattle.code_load.specs.Loads.{IsUnmet, IsUnsafeFile}
+use Rattle.code_load.specs.Laws.{LoadsWhatWasSaved, LoadingHasOneAnswer}
 
 same_in : (depth : ℕ) (bytes : List ℕ) (x y : Ir) → Spells (file depth) x bytes → Spells (file depth) y bytes → x ≡ y
 same_in depth bytes x y s t = (one_spelling (file depth) (file_lawful depth)).one_value x y s.0 t.0 (sym s.1 ∙ t.1)

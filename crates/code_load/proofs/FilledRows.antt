@@ -5,13 +5,13 @@ use Rattle.std.specs.Prelude.{slice_get}
 use Rattle.std.specs.List.{list_all}
 use Rattle.struct_ir.specs.declared.code.Node.{Node as CodeNode}
 use Rattle.struct_ir.specs.declared.code.NodeKind.TheViews as views
-use Rattle.struct_ir.specs.Nodes.{Act, set, call, step, look, safepoint, begin_object, end_object, Node, plain, if_, loop, break_, next_, ret, Nodes, no_nodes, more_nodes}
+use Rattle.struct_ir.specs.Nodes.{set, call, step, look, safepoint, begin_object, end_object, Node, plain, if_, loop, break_, next_, ret, Nodes, more_nodes}
 use Rattle.struct_ir.specs.Valid.{list_at, last_list}
 use Rattle.struct_ir.specs.Views.{node_view, nodes_view, followed}
 use Rattle.struct_ir.proofs.Views.{if_is, loop_is, put_view, followed_none}
 use Rattle.code_file.specs.declared.raw.RawFunc.{RawFunc}
 use Rattle.code_file.specs.RawViews.{raw_func_view}
-use Rattle.code_file.specs.Calls.{act_with, slots_in, node_filled, filled}
+use Rattle.code_file.specs.Calls.{node_filled, filled}
 use Rattle.code_file.specs.Conditions.{has_parameters}
 use Rattle.code_load.specs.declared.refusal.Refusal.{Refusal}
 use Rattle.code_load.specs.declared.refusal.Refusal.TheVariants.{NoMemory, Unmet}

@@ -1,5 +1,5 @@
 -- From judging what bytes spell to loading them.
-use Rattle.std.proofs.Common.{◌≡◌, ℕ, List, length, Result, Ok, Err, inr, sym}
+use Rattle.std.proofs.Common.{ℕ, List, length, Result, Ok, Err, inr, sym}
 use Rattle.formats.specs.Laws.{Spells}
 use Rattle.struct_ir.specs.Nodes.{Ir}
 use Rattle.pin_checker.specs.declared.checked.Checked.{Checked}
