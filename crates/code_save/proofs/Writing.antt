@@ -1,5 +1,5 @@
 -- What writers do, one behind the other.
-use Rattle.std.proofs.Common.{◌≡◌, ℕ, suc, ◌+◌, ◌<◌, ◌≤◌, Bool, true, ◌&&◌, List, [], ◌∷◌, ◌++◌, length, map, get_or, drop, Result, Ok, Err, refl, sym, ap, subst, append_assoc}
+use Rattle.std.proofs.Common.{◌≡◌, ℕ, suc, ◌+◌, ◌<◌, ◌≤◌, Bool, true, ◌&&◌, List, [], ◌∷◌, ◌++◌, length, map, get_or, drop, Result, Ok, Err, refl, sym, ap, subst, ◌∙◌, append_assoc}
 use Rattle.std.proofs.lemmas.Bool.{and_parts, eq-eqb, lt-ltb}
 use Rattle.std.proofs.lemmas.List.{append-nil, drop_all, drop_more}
 use Rattle.std.specs.Prelude.{OnOk}
@@ -16,10 +16,10 @@ on_ok (Err e) f p = tt
 -- ---- bytes
 
 pub gains_none : {a : Output} → Gains a [] a
-gains_none {a = a} = record { holds = λ written h. subst (Holds a) (sym (append-nil written)) h }
+gains_none {a = a} = record { holds = λ written h. subst (Holds a) (sym (append-nil written)) h; keeps = refl }
 
 pub gains_both : {a b c : Output} (xs ys : List ℕ) → Gains a xs b → Gains b ys c → Gains a (xs ++ ys) c
-gains_both {c = c} xs ys f g = record { holds = λ written h. subst (Holds c) (append_assoc written xs ys) (g.holds (written ++ xs) (f.holds written h)) }
+gains_both {c = c} xs ys f g = record { holds = λ written h. subst (Holds c) (append_assoc written xs ys) (g.holds (written ++ xs) (f.holds written h)); keeps = g.keeps ∙ f.keeps }
 
 pub gains_are : {a b : Output} (xs ys : List ℕ) → xs ≡ ys → Gains a xs b → Gains a ys b
 gains_are {a = a} {b = b} xs ys e g = subst (λ zs. Gains a zs b) e g

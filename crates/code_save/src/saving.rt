@@ -21,6 +21,7 @@ const LEVELS: u32 = 1024;
 ///
 /// `TooDeep` exactly where nodes are nested deeper than 1,024, else `TooLong` exactly where the spelling is longer than 67,108,864
 /// bytes, unless memory runs out first.
+/// The length is found before anything is written, and memory for the bytes is taken once.
 pub fn save(alloc: Global, checked: &Checked) -> Result<Vec<u8>, SaveFault>
     requires { can_be_saved (program_in checked.now) ≡ true }
     ensures { Saves (program_in checked.now) (saved_view result) }
@@ -29,7 +30,12 @@ pub fn save(alloc: Global, checked: &Checked) -> Result<Vec<u8>, SaveFault>
     if !is_within(LEVELS, ir) {
         return Err(SaveFault::TooDeep);
     }
-    let mut out = Output::new(alloc);
+    let mut counted = Output::counting(alloc);
+    put_file(&mut counted, LEVELS, ir)?;
+    let Some(length) = counted.length() else {
+        return Err(SaveFault::TooLong);
+    };
+    let mut out = Output::keeping(alloc, length)?;
     put_file(&mut out, LEVELS, ir)?;
     out.finish()
 }

@@ -18,4 +18,4 @@ returns c =
     let e = c.if-not-is_within.ensures ∙ ap (λ p. nat_le (deepest p) 1024) c.ir-ir.ensures.same in
     let deep : deepest p ≤ 1024 = leb-true (deepest p) 1024 (sym e) in
     let h = and_parts (is_seated p) (is_lawful p) c.requires in
-    is_saved p (ir_view c.ir-ir.result.now) c.finish.result c.new-out.result c.put_file.new.out c.ir-ir.ensures.same deep h.1 c.ir-ir.ensures.safe.placed (all_fit p 1024 c.ir-ir.ensures.safe.valid h.0 deep) c.in_ok-put_file.ensures c.new-out.ensures c.finish.ensures
+    is_saved p (ir_view c.ir-ir.result.now) c.finish.result c.in_ok-out.out c.put_file-2.new.out c.ir-ir.ensures.same deep h.1 c.ir-ir.ensures.safe.placed (all_fit p 1024 c.ir-ir.ensures.safe.valid h.0 deep) c.in_ok-put_file-2.ensures c.in_ok-out.ensures.empty c.finish.ensures
