@@ -32,8 +32,8 @@ pub record IsUnsafeFile (bytes : List ℕ) (place : ℕ) (why : Why) : Type 0 wh
   pub is_file : IsFile bytes code
   pub refused : IsRefused (ir_filled code) place why
 
--- the code of the file; or where bytes are bad that are no file of the productions or fail a condition; or which node the checker refuses;
--- want of memory is free
+-- the code of the file; or where the longest front ends that begins a file, where the bytes spell no code, and their length where they do
+-- and it fails a condition; or which node the checker refuses; want of memory is free
 abbrev pub Loads : List ℕ → Result Checked LoadFault → Type 0
 Loads bytes (Ok c) = IsLoaded bytes (program_in c)
 Loads bytes (Err (BadCode at)) = IsBad bytes at ⊎ IsUnmet bytes at

@@ -1,12 +1,12 @@
 //! Code of what a file spells: each call gets the list of the safepoint directly before it.
 
-ghost use Rattle.std.specs.Prelude.{◌≡◌, ◌&&◌, None, true, IfOk, map, length, nat_le, option_map, slice_get};
+ghost use Rattle.std.specs.Prelude.{◌≡◌, ◌&&◌, None, true, IfOk, map, option_map, slice_get};
 ghost use Rattle.std.specs.List.{list_all};
 ghost use Rattle.c_tree.specs.TypedViews.{init_view, literal_view};
 ghost use Rattle.struct_ir.specs.Nodes.{call};
 ghost use Rattle.struct_ir.specs.Valid.{last_list};
 ghost use Rattle.struct_ir.specs.Views.{call_view, node_view, nodes_view, global_view, func_view};
-ghost use Rattle.struct_ir.specs.Whole.{takes_nothing, is_init_in, plain_bytes};
+ghost use Rattle.struct_ir.specs.Whole.{takes_nothing, is_init_in};
 ghost use Rattle.struct_ir.specs.WholeViews.{ir_view};
 ghost use Rattle.code_file.specs.RawViews.{raw_func_view, raw_view};
 ghost use Rattle.code_file.specs.Calls.{act_with, slots_in, node_filled, filled, func_filled, ir_filled};
@@ -84,6 +84,7 @@ fn fill_node(alloc: Global, before: Option<&[u32]>, n: Node) -> Result<Node, NoM
     }
 }
 
+// The function, where it has a register for each parameter.
 fn fill_func(alloc: Global, f: RawFunc) -> Result<IrFunc, Refusal>
     ensures { Fills (λ x. func_view x ≡ func_filled (raw_func_view f)) (has_parameters (raw_func_view f)) result }
 {
@@ -149,6 +150,7 @@ fn is_whole(globals: &[IrGlobal], literals: &[Literal], funcs: &[IrFunc], main: 
         && (literals_are_there(globals, literals.len()) && fits(globals, literals))
 }
 
+// The code of what a file spells, where its parts are such as code has by its type.
 fn fill_code(alloc: Global, raw: RawCode) -> Result<Ir, Refusal>
     ensures { Fills (λ x. ir_view x ≡ ir_filled (raw_view raw)) (is_lawful (ir_filled (raw_view raw))) result }
 {

@@ -1,6 +1,6 @@
 //! Loading a code file.
 
-ghost use Rattle.std.specs.Prelude.{◌≡◌, ◌<◌, ◌^◌, length};
+ghost use Rattle.std.specs.Prelude.{◌<◌, ◌^◌, length};
 ghost use Rattle.code_file.specs.RawViews.{raw_view};
 ghost use Rattle.code_load.specs.Loads.{Loads};
 ghost use Rattle.code_load.specs.inner.Judged.{Judged};
