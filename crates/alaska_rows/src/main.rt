@@ -1,6 +1,6 @@
 //! Takes the call `alaska` through worked programs under their words, and prints what each wrote and how it ended; through sixteen checks, each of
 //! a program that breaks a rule of C; through programs that leave their objects, a shelf and sinks that fail, and a text that is cut before each of
-//! its bytes; then has two workers on two threads run one program many times, and once where each worker is held until the other has come and worked.
+//! its bytes; builds and loads the rows that run a text; then has two workers on two threads run one program many times, and once where each worker is held until the other has come and worked.
 //! Promises nothing upward: it is a program, whose output is held against what was worked out by hand, and is the same whatever the workers do.
 //! Stands on alaska_run and ak_crew, over real files, a shelf in memory and sinks in memory.
 #![tactic(auto)]
@@ -11,6 +11,7 @@ mod crews;
 mod cuts;
 mod faults;
 mod in_memory;
+mod loaded;
 mod meeting;
 mod replays;
 mod wild;
@@ -20,6 +21,7 @@ use crate::calls::{Shown, call};
 use crate::crews::show_crews;
 use crate::cuts::show_cuts;
 use crate::faults::show_faults;
+use crate::loaded::show_loads;
 use crate::replays::{show_replays, show_thinned};
 use crate::wild::show_wild;
 use ak_crew::NoGate;
@@ -208,5 +210,6 @@ fn main(rt: HostRuntime) -> io::Result<()> {
     show_wild(&rt, rt.alloc())?;
     show_faults(&rt, rt.alloc())?;
     show_cuts(&rt, rt.alloc())?;
+    show_loads(&rt, rt.alloc())?;
     show_crews(&rt, rt.alloc())
 }
