@@ -1,6 +1,7 @@
 //! Takes the call `alaska` through worked programs under their words, and prints what each wrote and how it ended; through sixteen checks, each of
 //! a program that breaks a rule of C; through programs that leave their objects, a shelf and sinks that fail, and a text that is cut before each of
-//! its bytes; builds and loads the rows that run a text; then has two workers on two threads run one program many times, and once where each worker is held until the other has come and worked.
+//! its bytes; builds and loads each row that runs a text; then has two workers on two threads run one program many times, and once where each worker
+//! is held until the other has come and worked.
 //! Promises nothing upward: it is a program, whose output is held against what was worked out by hand, and is the same whatever the workers do.
 //! Stands on alaska_run and ak_crew, over real files, a shelf in memory and sinks in memory.
 #![tactic(auto)]
