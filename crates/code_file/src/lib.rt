@@ -1,5 +1,6 @@
-//! Code files: which bytes spell the code of a program, and how they are read. What is read isn't judged yet, and no mode of the program uses it.
-//! Promises upward: each code has one spelling; `read_code` gives the code that bytes spell, or where the longest front ends that begins one.
+//! Code files: which bytes spell the code of a program, which conditions that has to meet, and how they are read.
+//! Promises upward: each code has one spelling; `read_code` gives the code that bytes spell, or where the longest front ends that begins one; code
+//! that was placed is told without the lists of its calls.
 //! Stands on struct_ir's code and the formats of bytes.
 #![tactic(auto)]
 

@@ -1,4 +1,4 @@
-//! Saving checked code as a code file. No mode of the program uses it yet.
+//! Saving checked code as a code file: its length is found, and then its bytes are written.
 //! Promises upward: `save` gives the bytes that spell the code, or says that its nodes are nested too deep, or else that the file is too long.
 //! Stands on code_file's formats, pin_checker's checked code and struct_ir.
 #![tactic(auto)]
