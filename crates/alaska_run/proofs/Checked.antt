@@ -19,7 +19,6 @@ use Rattle.lower_turns.specs.Turns.{KeepsEveryTurn}
 use Rattle.compile_passes.specs.Compiled.{IsPrepared}
 use Rattle.flat_meaning.specs.Simulation.{IsChecked}
 use Rattle.alaska_run.proofs.SomeAnswers.{takes_some}
-use Rattle.alaska_run.proofs.SizedPrograms.{code_sized}
 
 -- ---- parameters
 
@@ -54,7 +53,6 @@ is_checked t well ready prepared whole keeps types ends =
     let params : AllByRecursion HasParams (map func_erased ready.funcs) = subst (λ (p : Ir). AllByRecursion HasParams p.funcs) (sym prepared.erased) (params_there t 0 t.funcs well.funcs) in
     record {
       valid = prepared.safe.valid;
-      sized = code_sized t well ready prepared.erased;
       safe = each_start ready.funcs prepared.safe.pinned;
       answers = takes_some t well types ends (program_of ready) (code.start ready) keeps;
       main = sym (bare_takes ready.funcs ready.main) ∙ bare.main;

@@ -7,7 +7,4 @@ mod Reasons
 pub mod FewTokens
 pub mod SameTurns
 pub mod SomeAnswers
-pub mod SizedExprs
-pub mod SizedStmts
-pub mod SizedPrograms
 pub mod Checked

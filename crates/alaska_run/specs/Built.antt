@@ -37,8 +37,7 @@ pub record IsBuilt (text : List ℕ) (typed : Typed) (checked : Ir) (code : Line
   -- and which rule of C a turn breaks, and where
   pub turns : KeepsEveryTurn typed checked
   pub erased_turns : KeepsEveryTurn typed (ir_erased checked)
-  -- it has all that the machine asks of code: no difference of pointers is in elements of 0 bytes, each turn takes some answer, main takes
-  -- nothing, and its plain data is small
+  -- it has all that the machine asks of code: each turn takes some answer, main takes nothing, and its plain data is small
   pub sound : IsChecked checked
   -- the machine's code does the same act by act, test by test, round by round, call by call, and has the same registers, slots and objects
   pub emitted : IsEmitted checked code

@@ -28,7 +28,6 @@ use Rattle.flat_meaning.specs.Allowed.{StandsBefore, pinned, IsAllowed, AreAllow
 use Rattle.flat_meaning.specs.Names.{Name}
 use Rattle.flat_meaning.specs.Stands.{StandsFor}
 use Rattle.flat_meaning.specs.Start.{AreMadeBy}
-use Rattle.flat_meaning.specs.Sized.{IsSized}
 use Rattle.flat_meaning.specs.Reaching.{Unbroken, Waits, Broken, StepReaches}
 
 -- ---- the step that may come next
@@ -77,12 +76,10 @@ EachTurnTakesAnAnswer p =
     → (thread : ℕ) (main own : Thread Position Own) → own_at u.own 0 ≡ Some main → own_at u.own thread ≡ Some own
     → (answer : Answer) × ((program_of p).turn thread answer own u.world ≢ runs.unfit)
 
--- what is asked of a program: it is valid; no difference of pointers is in elements of 0 bytes; on every path each access goes through
--- its base's slot, which no list since lacks; each turn takes some answer, as it does in code that keeps every turn of a well formed
--- program; and its plain data is small
+-- what is asked of a program: it is valid; on every path each access goes through its base's slot, which no list since lacks; each turn
+-- takes some answer, as it does in code that keeps every turn of a well formed program; and its plain data is small
 pub record IsChecked (p : Ir) : Type 0 where
   pub valid : is_valid p ≡ true
-  pub sized : IsSized p
   pub safe : (function : ℕ) → PinSafe structured (start_in p function)
   pub answers : EachTurnTakesAnAnswer p
   pub main : takes_nothing (slice_get p.funcs p.main) ≡ true

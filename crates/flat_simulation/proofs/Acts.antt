@@ -19,7 +19,6 @@ use Rattle.flat_meaning.specs.Image.{Layout}
 use Rattle.flat_meaning.specs.Words as words
 use Rattle.flat_meaning.specs.Words.{Words, word_at}
 use Rattle.flat_meaning.specs.Names.{Name, SlotAgrees}
-use Rattle.flat_meaning.specs.Sized.{HasSize}
 use Rattle.flat_simulation.specs.inner.Values.{Sees, Stands}
 use Rattle.flat_simulation.specs.inner.Calls.{DataStands, CallStands}
 use Rattle.flat_simulation.proofs.Numbers.{zero_word}
@@ -54,12 +53,12 @@ module _ (y : Layout) (p : Ir) (thread : ℕ) (names : List Name) (K : ℕ → T
     was_assigned to (Ok h) later e = (h, refl, cc)
     was_assigned to (Err f) later e = absurd cc
 
-    pub set_stands : (to : ℕ) (calc : Calc) (later : Own) → is_calc x calc ≡ true → HasSize calc → assigned l to (calculated p place l calc) ≡ Ok later
+    pub set_stands : (to : ℕ) (calc : Calc) (later : Own) → is_calc x calc ≡ true → assigned l to (calculated p place l calc) ≡ Ok later
         → CallStands y p thread names K later (words.with_temps q (slice_set q.temps to (words.calculated y thread q calc)))
-    set_stands to calc later ok some e =
+    set_stands to calc later ok e =
         let h = was_assigned to (calculated p place l calc) later e in
         subst (λ (k : Own). CallStands y p thread names K k (words.with_temps q (slice_set q.temps to (words.calculated y thread q calc)))) h.2
-        (taken_stands to h.0 (words.calculated y thread q calc) (calculated_stands y p x thread place names K l q stands sees data_stands temps globals literals calc h.0 ok some h.1))
+        (taken_stands to h.0 (words.calculated y thread q calc) (calculated_stands y p x thread place names K l q stands sees data_stands temps globals literals calc h.0 ok h.1))
 
     -- ---- an If
 

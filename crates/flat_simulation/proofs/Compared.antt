@@ -3,9 +3,10 @@ use Rattle.std.proofs.Common.{◌≡◌, ℕ, zero, suc, ◌+◌, ◌-◌, ◌*�
 use Rattle.std.specs.Prelude.{neg_ℤ, if◌then◌else◌, int_lt, int_le, int_div}
 use Rattle.std.specs.Bool.{one_answer}
 use Rattle.std.specs.Ordering.{int_eq}
-use Rattle.std.proofs.Math.Nat.{zero-div, mod-eq_of_lt, mod-lt, div-add-mod', mul-div_cancel}
+use Rattle.std.proofs.Math.Nat.{zero-div, div-add-mod'}
 use Rattle.std.proofs.lemmas.Int.{ints}
-use Rattle.std.proofs.lemmas.Bool.{cases_eq, cases_lt, eq-eqb, ne_eqb, eqb-true}
+use Rattle.std.proofs.lemmas.Nat.{div-mul-add}
+use Rattle.std.proofs.lemmas.Bool.{cases_eq, eq-eqb, ne_eqb, eqb-true}
 use Rattle.std.proofs.lemmas.Bool.Decides.{Decides-eqb, Decides-int_eq, nat_tests}
 use Rattle.ak_words.specs.declared.number.Num.{Num}
 use Rattle.ak_words.specs.declared.operation.Op.{Op}
@@ -104,29 +105,50 @@ zero_over (negsuc b) = nothing_if (int_eq (negsuc b) (pos 0)) _ (ap (λ n. neg_�
 some_over : (x : ℤ) (size : ℕ) → 0 < size → quotient x (pos size) ≡ int_div x (pos size)
 some_over x size some = let fails : int_eq (pos size) (pos 0) ≡ false = same_naturals size 0 ∙ ne_eqb size 0 (λ e. omega (arith, e)) in rw fails refl
 
--- a distance in elements is the quotient of the words' distance
-quotient_is : (d z : ℤ) (size : ℕ) → 0 < size → neg_ℤ (pos (2 ^ 34)) ≤ℤ d → d ≤ℤ pos (2 ^ 34) → in_elements size (Ok d) ≡ Ok z → quotient (wrapped_value long d) (wrapped_value long (pos size)) ≡ z
-quotient_is (pos zero) z size some low high e =
+-- where a whole number of elements lies below a place, one of them is the last
+fewer_by_one : (n size : ℕ) → 0 < size → suc n % size ≡ 0 → (size ≤ suc n) × (suc n / size ≡ suc (n / size))
+fewer_by_one n size some none = counted (suc n / size) (sym (omega (arith, none, div-add-mod' (suc n) size)))
+  where
+    counted : (k : ℕ) → suc n ≡ k * size → (size ≤ suc n) × (k ≡ suc (n / size))
+    counted zero whole = absurd (omega (arith, whole))
+    counted (suc k) whole =
+        let below : size - 1 < size = omega (arith, some) in
+        let is : n ≡ k * size + (size - 1) = omega (arith, whole, some) in
+        (omega (arith, whole), ap suc (sym (ap (λ m. m / size) is ∙ div-mul-add k size (size - 1) below)))
+
+-- a distance in elements of some size is the quotient of the words' distance
+sized_quotient : (d z : ℤ) (size : ℕ) → 0 < size → neg_ℤ (pos (2 ^ 34)) ≤ℤ d → d ≤ℤ pos (2 ^ 34) → in_elements size (Ok d) ≡ Ok z → quotient (wrapped_value long d) (wrapped_value long (pos size)) ≡ z
+sized_quotient (pos zero) z size some low high e =
     let fits = if_ok (0 % size == 0) (pos (0 / size)) z C8 e in
     ap (λ x. quotient x (wrapped_value long (pos size))) (long_value (pos 0) low high) ∙ zero_over (wrapped_value long (pos size)) ∙ sym (ap pos (zero-div size)) ∙ fits.1
-quotient_is (pos (suc n)) z size some low high e =
+sized_quotient (pos (suc n)) z size some low high e =
     let fits = if_ok (suc n % size == 0) (pos (suc n / size)) z C8 e in
     let none : suc n % size ≡ 0 = eqb-true (suc n % size) 0 fits.0 in
-    let few : size ≤ suc n = elim (cases_lt (suc n) size) [ inl h ↦ absurd (omega (arith, none, mod-eq_of_lt h)) | inr h ↦ h ] in
+    let few : size ≤ suc n = (fewer_by_one n size some none).0 in
     let of : wrapped_value long (pos (suc n)) ≡ pos (suc n) = long_value (pos (suc n)) low high in
     let by : wrapped_value long (pos size) ≡ pos size = long_value (pos size) (omega (arith, ints)) (omega (arith, ints, high, few)) in
     (λ i. quotient (of i) (by i)) ∙ some_over (pos (suc n)) size some ∙ fits.1
-quotient_is (negsuc n) z size some low high e =
-    let fits = if_ok (size - 1 - n % size == 0) (negsuc (n / size)) z C8 e in
-    let none : size - 1 - n % size ≡ 0 = eqb-true (size - 1 - n % size) 0 fits.0 in
-    let rest : n % size < size = mod-lt n some in
-    let parts : n / size * size + n % size ≡ n = div-add-mod' n size in
-    let few : size ≤ suc n = omega (arith, none, rest, parts) in
-    let whole : suc n ≡ suc (n / size) * size = omega (arith, none, rest, parts) in
-    let count : suc n / size ≡ suc (n / size) = ap (λ k. k / size) whole ∙ mul-div_cancel (suc (n / size)) some in
+sized_quotient (negsuc n) z size some low high e =
+    let fits = if_ok (suc n % size == 0) (negsuc (n / size)) z C8 e in
+    let none : suc n % size ≡ 0 = eqb-true (suc n % size) 0 fits.0 in
+    let counts = fewer_by_one n size some none in
+    let few : size ≤ suc n = counts.0 in
     let of : wrapped_value long (negsuc n) ≡ negsuc n = long_value (negsuc n) low high in
     let by : wrapped_value long (pos size) ≡ pos size = long_value (pos size) (omega (arith, ints)) (omega (arith, ints, low, few)) in
-    (λ i. quotient (of i) (by i)) ∙ some_over (negsuc n) size some ∙ ap (λ k. neg_ℤ (pos k)) count ∙ fits.1
+    (λ i. quotient (of i) (by i)) ∙ some_over (negsuc n) size some ∙ ap (λ k. neg_ℤ (pos k)) counts.1 ∙ fits.1
+
+-- of elements of size 0 only no distance is a multiple
+no_multiple : (n : ℕ) → (suc n % 0 == 0) ≡ true → ⊥
+no_multiple n e = let none : suc n % 0 ≡ 0 = eqb-true (suc n % 0) 0 e in omega (arith, none, div-add-mod' (suc n) 0)
+
+-- a distance in elements is the quotient of the words' distance
+quotient_is : (d z : ℤ) (size : ℕ) → neg_ℤ (pos (2 ^ 34)) ≤ℤ d → d ≤ℤ pos (2 ^ 34) → in_elements size (Ok d) ≡ Ok z → quotient (wrapped_value long d) (wrapped_value long (pos size)) ≡ z
+quotient_is d z (suc size) low high e = sized_quotient d z (suc size) (omega arith) low high e
+quotient_is (pos zero) z zero low high e =
+    let fits = if_ok (0 % 0 == 0) (pos (0 / 0)) z C8 e in
+    ap (λ x. quotient x (wrapped_value long (pos 0))) (long_value (pos 0) low high) ∙ zero_over (wrapped_value long (pos 0)) ∙ sym (ap pos (zero-div 0)) ∙ fits.1
+quotient_is (pos (suc n)) z zero low high e = absurd (no_multiple n (if_ok (suc n % 0 == 0) (pos (suc n / 0)) z C8 e).0)
+quotient_is (negsuc n) z zero low high e = absurd (no_multiple n (if_ok (suc n % 0 == 0) (negsuc (n / 0)) z C8 e).0)
 
 module _ (names : List Name) (K : ℕ → Type 0) (blocks : Blocks) (sees : Sees names K blocks) where
   abbrev There : (block offset word : ℕ) → Type 0
@@ -267,12 +289,12 @@ module _ (names : List Name) (K : ℕ → Type 0) (blocks : Blocks) (sees : Sees
   distance_in size (Err rule) z e = absurd cc
 
   -- the elements between two pointers, and between their words
-  pub difference_stands : (p q : Ptr) (a c size : ℕ) (z : ℤ) → 0 < size → PStands p a → PStands q c → difference blocks p q size ≡ Ok z
+  pub difference_stands : (p q : Ptr) (a c size : ℕ) (z : ℤ) → PStands p a → PStands q c → difference blocks p q size ≡ Ok z
       → number_word (wrapped_result ops.Div (num long (pos a -ℤ pos c)) (num long (pos size))) ≡ number_word (num long z)
-  difference_stands p q a c size z some s t e =
+  difference_stands p q a c size z s t e =
       let used = usable_both (is_usable blocks p) (is_usable blocks q) (in_elements size (distance p q)) z e in
       let d = distance_in size (distance p q) z used.2 in
       let bounds = near p q a c d.0 s t used.0 used.1 d.1 in
       ap (λ x. number_word (wrapped_result ops.Div (num long x) (num long (pos size)))) (distance_words p q a c d.0 s t used.0 used.1 d.1)
       ∙ ap number_word (wrapped_quotient d.0 (pos size))
-      ∙ ap (λ x. number_word (num long x)) (quotient_is d.0 z size some bounds.0 bounds.1 d.2)
+      ∙ ap (λ x. number_word (num long x)) (quotient_is d.0 z size bounds.0 bounds.1 d.2)

@@ -19,7 +19,7 @@ use Rattle.flat_meaning.specs.Names.{Name}
 use Rattle.flat_simulation.specs.inner.Values.{PointerStands, Stands}
 use Rattle.flat_simulation.specs.inner.Calls.{CallStands}
 use Rattle.flat_simulation.specs.inner.Programs.{IsImage, HasFrame}
-use Rattle.flat_simulation.proofs.Sized.{one_of}
+use Rattle.flat_simulation.proofs.Each.{one_of}
 
 -- ---- registers
 

@@ -16,7 +16,6 @@ use Rattle.struct_ir.specs.meaning.Blocks.{Own, wrong_kind}
 use Rattle.struct_ir.specs.meaning.Threads.{start_in}
 use Rattle.flat_meaning.specs.Local.{local_within}
 use Rattle.flat_meaning.specs.Order.{pick}
-use Rattle.flat_meaning.specs.Sized.{AreSized}
 use Rattle.flat_meaning.specs.SmallCodes.{row}
 use Rattle.flat_simulation.specs.Kinds.{IsGuarded, outcome, TakesWrongKind}
 use Rattle.flat_simulation.specs.KindRows.{adding_a_pointer, by_hand, begins, KindRowsHold}
@@ -82,13 +81,9 @@ starts_bare (suc n) = (tt, tt)
 abbrev main_func : Func
 main_func = record { params = 0; temps = 8; slots = 2; objects = []; nodes = row adding_a_pointer (Some 0) }
 
-sized : AreSized (row adding_a_pointer (Some 0))
-sized = (tt, (tt, (tt, (tt, (tt, (tt, tt))))))
-
 guarded : IsGuarded by_hand
 guarded = record {
   valid = refl;
-  sized = one_all (λ (f : Func). AreSized f.nodes) main_func sized;
   safe = λ function. bare_safe (start_in by_hand function) (starts_bare function);
   main = refl;
   params = one_all (λ (f : Func). f.params ≤ f.temps) main_func (omega arith);

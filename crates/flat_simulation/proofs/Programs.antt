@@ -21,13 +21,12 @@ use Rattle.flat_simulation.specs.inner.Frames.{FrameLies}
 use Rattle.flat_simulation.specs.inner.Lags.{LieLow}
 use Rattle.flat_simulation.specs.inner.Programs.{IsImage, HasFrame}
 use Rattle.flat_simulation.proofs.Frames.{frame_lies}
-use Rattle.flat_simulation.proofs.Sized.{HereIsSized, sized_is_reached}
 
 -- ---- guarded code
 
 -- checked code is guarded
 pub guarded_of : (p : Ir) → IsChecked p → IsGuarded p
-guarded_of p c = record { valid = c.valid; sized = c.sized; safe = c.safe; main = c.main; params = c.params; inits = c.inits; small = c.small }
+guarded_of p c = record { valid = c.valid; safe = c.safe; main = c.main; params = c.params; inits = c.inits; small = c.small }
 
 -- where a function begins
 begins_there : (p : Ir) (n : ℕ) (f : Func) → slice_get p.funcs n ≡ Some f → start_in p n ≡ then_ f.nodes done
@@ -40,7 +39,6 @@ guarded_image p c output heaps heap ids = record {
   literals = refl;
   shrinks = structured_shrinks;
   valid = λ n f w k at path. valid_is_reached p c.valid n f at w k (subst (λ start. Path structured start w k) (begins_there p n f at) path);
-  sized = λ n f w k here path place to calc at. subst HereIsSized at (sized_is_reached p c.sized n f here w k (subst (λ start. Path structured start w k) (begins_there p n f here) path));
   safe = c.safe;
   params = c.params;
   small = omega (arith, c.small);

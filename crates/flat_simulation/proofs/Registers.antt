@@ -26,7 +26,6 @@ use Rattle.flat_meaning.specs.Image.{Layout, global_address, literal_address}
 use Rattle.flat_meaning.specs.Words as words
 use Rattle.flat_meaning.specs.Words.{Words, word_at}
 use Rattle.flat_meaning.specs.Names.{Name, word_for}
-use Rattle.flat_meaning.specs.Sized.{HasSize}
 use Rattle.flat_simulation.specs.inner.Values.{Sees, PointerStands, Stands}
 use Rattle.flat_simulation.specs.inner.Calls.{LiesThere, DataStands, CallStands}
 use Rattle.flat_simulation.proofs.Numbers.{word_apart, word_same, converted_word, applied_word}
@@ -114,30 +113,30 @@ module _ (y : Layout) (p : Ir) (x : Scope) (thread place : ℕ) (names : List Na
   object_stands i (Some block) e = start_stands block (words.object_address y thread q i) (stands.objects i block e).there
 
   -- a register takes over words what it takes over named blocks
-  pub calculated_stands : (calc : Calc) (h : Held) → is_calc x calc ≡ true → HasSize calc → calculated p place l calc ≡ Ok h → Stands names K l.blocks h (words.calculated y thread q calc)
-  calculated_stands (constant t z) h ok some e = let is : number (num t z) ≡ h = cc in subst (λ u. Stands names K l.blocks u (number_word (num t z))) is refl
-  calculated_stands calcs.unset h ok some e = let is : unset ≡ h = cc in subst (λ u. Stands names K l.blocks u 0) is tt
-  calculated_stands null h ok some e = let is : pointer Null ≡ h = cc in subst (λ u. Stands names K l.blocks u 0) is refl
-  calculated_stands (global n) h ok some e =
+  pub calculated_stands : (calc : Calc) (h : Held) → is_calc x calc ≡ true → calculated p place l calc ≡ Ok h → Stands names K l.blocks h (words.calculated y thread q calc)
+  calculated_stands (constant t z) h ok e = let is : number (num t z) ≡ h = cc in subst (λ u. Stands names K l.blocks u (number_word (num t z))) is refl
+  calculated_stands calcs.unset h ok e = let is : unset ≡ h = cc in subst (λ u. Stands names K l.blocks u 0) is tt
+  calculated_stands null h ok e = let is : pointer Null ≡ h = cc in subst (λ u. Stands names K l.blocks u 0) is refl
+  calculated_stands (global n) h ok e =
       let is : pointer (To n 0) ≡ h = cc in
       subst (λ u. Stands names K l.blocks u (global_address y n)) is (start_stands n (global_address y n) (data_stands.globals n (subst (λ k. n < k) (sym globals) (ltb-true n x.globals ok))))
-  calculated_stands (literal n) h ok some e =
+  calculated_stands (literal n) h ok e =
       let is : pointer (To (length p.globals + n) 0) ≡ h = cc in
       subst (λ u. Stands names K l.blocks u (literal_address y n)) is
       (start_stands (length p.globals + n) (literal_address y n) (data_stands.literals n (subst (λ k. n < k) (sym literals) (ltb-true n x.literals ok))))
-  calculated_stands (object i) h ok some e =
+  calculated_stands (object i) h ok e =
       let is : start_of (l.objects i) ≡ h = cc in
       subst (λ u. Stands names K l.blocks u (words.object_address y thread q i)) is (object_stands i (l.objects i) refl)
-  calculated_stands (copy t) h ok some e =
+  calculated_stands (copy t) h ok e =
       let v = was_value place (l.temps t) (λ v. Ok (value v)) h e in
       let is : value v.0 ≡ h = let f = v.2 in cc in
       subst (λ u. Stands names K l.blocks u (word_at q t)) is (read_stands t v.0 ok v.1)
-  calculated_stands (convert to t) h ok some e =
+  calculated_stands (convert to t) h ok e =
       let v = was_value place (l.temps t) (on_number (λ n. Ok (number (num to n.value)))) h e in
       let n = was_number (λ n. Ok (number (num to n.value))) v.0 h v.2 in
       let is : number (num to n.0.value) ≡ h = let f = n.2 in cc in
       subst (λ u. Stands names K l.blocks u (word_in to (word_at q t))) is (ap (word_in to) (read_number t n.0 v.0 ok v.1 n.1) ∙ converted_word to n.0)
-  calculated_stands (apply op t a b) h ok some e =
+  calculated_stands (apply op t a b) h ok e =
       let below = both (nat_lt a x.temps) (nat_lt b x.temps) (both (is_promoted t) _ ok).1 in
       let v = was_value place (l.temps a) _ h e in
       let m = was_number _ v.0 h v.2 in
@@ -147,7 +146,7 @@ module _ (y : Layout) (p : Ir) (x : Scope) (thread place : ℕ) (names : List Na
       let r = unbroken place number (result_of op m.0 n.0) h taken.1 in
       subst (λ z. Stands names K l.blocks z (applied op t (word_at q a) (word_at q b))) r.2
       ((λ i. applied op t (read_number a m.0 v.0 below.0 v.1 m.1 i) (read_number b n.0 u.0 below.1 u.1 n.1 i)) ∙ applied_word op t m.0 n.0 r.0 taken.0 r.1)
-  calculated_stands (pointer_add a b scale) h ok some e =
+  calculated_stands (pointer_add a b scale) h ok e =
       let below = both (nat_lt a x.temps) (nat_lt b x.temps) ok in
       let v = was_value place (l.temps a) _ h e in
       let m = was_pointer _ v.0 h v.2 in
@@ -157,7 +156,7 @@ module _ (y : Layout) (p : Ir) (x : Scope) (thread place : ℕ) (names : List Na
       subst (λ z. Stands names K l.blocks z (added (word_at q a) (word_of (pos (word_at q b * scale))))) r.2
       (subst (λ k. PointerStands names K l.blocks r.0 (added (word_at q a) k)) (sym (ap (λ w. word_of (pos (w * scale))) (read_number b n.0 u.0 below.1 u.1 n.1) ∙ scaled_word n.0.value scale))
       (moved_stands names K l.blocks sees m.0 r.0 (n.0.value *ℤ pos scale) (word_at q a) (read_pointer a m.0 v.0 below.0 v.1 m.1) r.1))
-  calculated_stands (pointer_sub a b scale) h ok some e =
+  calculated_stands (pointer_sub a b scale) h ok e =
       let below = both (nat_lt a x.temps) (nat_lt b x.temps) ok in
       let v = was_value place (l.temps a) _ h e in
       let m = was_pointer _ v.0 h v.2 in
@@ -167,7 +166,7 @@ module _ (y : Layout) (p : Ir) (x : Scope) (thread place : ℕ) (names : List Na
       subst (λ z. Stands names K l.blocks z (added (word_at q a) (word_of (neg_ℤ (pos (word_at q b * scale)))))) r.2
       (subst (λ k. PointerStands names K l.blocks r.0 (added (word_at q a) k)) (sym (ap (λ w. word_of (neg_ℤ (pos (w * scale)))) (read_number b n.0 u.0 below.1 u.1 n.1) ∙ scaled_back n.0.value scale))
       (moved_stands names K l.blocks sees m.0 r.0 (neg_ℤ n.0.value *ℤ pos scale) (word_at q a) (read_pointer a m.0 v.0 below.0 v.1 m.1) r.1))
-  calculated_stands (pointer_diff a b scale) h ok some e =
+  calculated_stands (pointer_diff a b scale) h ok e =
       let below = both (nat_lt a x.temps) (nat_lt b x.temps) ok in
       let v = was_value place (l.temps a) _ h e in
       let m = was_pointer _ v.0 h v.2 in
@@ -175,8 +174,8 @@ module _ (y : Layout) (p : Ir) (x : Scope) (thread place : ℕ) (names : List Na
       let n = was_pointer _ u.0 h u.2 in
       let r = unbroken place (λ z. number (num long z)) (difference l.blocks m.0 n.0 scale) h n.2 in
       subst (λ z. Stands names K l.blocks z (words.calculated y thread q (pointer_diff a b scale))) r.2
-      (difference_stands names K l.blocks sees m.0 n.0 (word_at q a) (word_at q b) scale r.0 some (read_pointer a m.0 v.0 below.0 v.1 m.1) (read_pointer b n.0 u.0 below.1 u.1 n.1) r.1)
-  calculated_stands (pointer_compare op a b) h ok some e =
+      (difference_stands names K l.blocks sees m.0 n.0 (word_at q a) (word_at q b) scale r.0 (read_pointer a m.0 v.0 below.0 v.1 m.1) (read_pointer b n.0 u.0 below.1 u.1 n.1) r.1)
+  calculated_stands (pointer_compare op a b) h ok e =
       let below = both (nat_lt a x.temps) (nat_lt b x.temps) (both (is_comparison op) _ ok).1 in
       let v = was_value place (l.temps a) _ h e in
       let m = was_pointer _ v.0 h v.2 in
@@ -185,7 +184,7 @@ module _ (y : Layout) (p : Ir) (x : Scope) (thread place : ℕ) (names : List Na
       let r = unbroken place truth (compared l.blocks op m.0 n.0) h n.2 in
       subst (λ z. Stands names K l.blocks z (words.calculated y thread q (pointer_compare op a b))) r.2
       (compared_stands names K l.blocks sees op m.0 n.0 (word_at q a) (word_at q b) r.0 (read_pointer a m.0 v.0 below.0 v.1 m.1) (read_pointer b n.0 u.0 below.1 u.1 n.1) r.1)
-  calculated_stands (pointer_test a) h ok some e =
+  calculated_stands (pointer_test a) h ok e =
       let v = was_value place (l.temps a) _ h e in
       let m = was_pointer _ v.0 h v.2 in
       let r = unbroken place truth (tested l.blocks m.0) h m.2 in

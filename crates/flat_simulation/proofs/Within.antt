@@ -75,9 +75,8 @@ module _ {P : Type 0} (x : Image P) (p : Ir) (image : IsImage x p) (thread befor
         → Does (set to calc) later (machine.own_act x.layout thread (set to calc) q.own)
     does_set place to calc later ok e done =
         let valid = and_parts (nat_lt to frame.func.temps) (is_calc (scope_of p frame.func) calc) ok in
-        let some = image.sized q.own.function frame.func at.way q.at frame.there at.path place to calc e in
         let h = was_assigned x.layout p thread names K k.own q.own at.call (scope_of p frame.func) place sees data_stands frame.temps refl refl to (calculated p place k.own calc) later done in
-        let new = set_stands x.layout p thread names K k.own q.own at.call (scope_of p frame.func) place sees data_stands frame.temps refl refl to calc later valid.1 some done in
+        let new = set_stands x.layout p thread names K k.own q.own at.call (scope_of p frame.func) place sees data_stands frame.temps refl refl to calc later valid.1 done in
         record {
           all = names;
           goes = record {

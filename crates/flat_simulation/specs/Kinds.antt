@@ -30,17 +30,15 @@ use Rattle.flat_meaning.specs.Allowed.{StandsBefore, IsAllowed, AreAllowed}
 use Rattle.flat_meaning.specs.Names.{Name}
 use Rattle.flat_meaning.specs.Stands.{StandsFor, WorldStands}
 use Rattle.flat_meaning.specs.Start.{AreMadeBy}
-use Rattle.flat_meaning.specs.Sized.{IsSized}
 use Rattle.flat_meaning.specs.Reaching.{Unbroken, Waits, Broken, StepReaches}
 use Rattle.flat_meaning.specs.Emitted.{ComeToTheSame}
 use Rattle.flat_meaning.specs.Simulation.{AllComeOut, IsTrap, turns_at}
 use Rattle.flat_simulation.specs.LinearSteps.{PrintsPast, Enters, HasBegun, HasStack, StepTouches}
 
--- what is asked of such code: it is valid; no difference of pointers is in elements of 0 bytes; on every path each access goes through its
--- base's slot, which no list since lacks; and its plain data is small
+-- what is asked of such code: it is valid; on every path each access goes through its base's slot, which no list since lacks; and its
+-- plain data is small
 pub record IsGuarded (p : Ir) : Type 0 where
   pub valid : is_valid p ≡ true
-  pub sized : IsSized p
   pub safe : (function : ℕ) → PinSafe structured (start_in p function)
   pub main : takes_nothing (slice_get p.funcs p.main) ≡ true
   pub params : All (λ (f : Func). f.params ≤ f.temps) p.funcs
