@@ -8,9 +8,11 @@ mod checking;
 pub mod compiling;
 mod ending;
 pub mod laws;
+mod loading;
 mod preparing;
 mod reading;
 mod running;
+mod saving;
 
 pub use call::alaska;
 pub use compiling::{Built, compile};

@@ -1,0 +1,27 @@
+-- What mode load makes of files, and of those that mode build wrote.
+use Rattle.std.specs.Prelude.{◌≡◌, ℕ, List}
+use Rattle.c_tree.specs.Typed.{Typed}
+use Rattle.struct_ir.specs.Nodes.{Ir}
+use Rattle.struct_ir.specs.Erased.{ir_erased}
+use Rattle.struct_ir.specs.Instrs.{LinearCode}
+use Rattle.lower_turns.specs.Turns.{KeepsEveryTurn}
+use Rattle.flat_rules.specs.declared.settings.Mode.TheVariants.{Load}
+use Rattle.pin_checker.specs.Safe.{IsSafe}
+use Rattle.code_file.specs.Calls.{ir_bare}
+use Rattle.code_file.specs.Conditions.{IsFile}
+use Rattle.code_load.specs.Loads.{IsLoaded}
+use Rattle.alaska_run.specs.Built.{IsBuilt}
+use Rattle.alaska_run.specs.Modes.{SpeaksOf}
+
+-- loading the bytes gives this checked code of this tree again, and no other
+pub record IsLoadedAgain (typed : Typed) (checked : Ir) (bytes : List ℕ) : Type 0 where
+  pub loaded : IsLoaded bytes checked
+  pub safe : IsSafe checked
+  pub only : (other : Ir) → IsLoaded bytes other → other ≡ checked
+  -- and what a run of it means to this tree is told, as that of the text is
+  pub speaks : SpeaksOf Load typed
+  pub keeps : KeepsEveryTurn typed (ir_erased checked)
+
+-- so it is with the bytes that mode build writes of a text
+abbrev pub WhatIsBuiltIsLoaded : Type 0
+WhatIsBuiltIsLoaded = (text : List ℕ) (typed : Typed) (checked : Ir) (code : LinearCode) → IsBuilt text typed checked code → (bytes : List ℕ) → IsFile bytes (ir_bare checked) → IsLoadedAgain typed checked bytes
