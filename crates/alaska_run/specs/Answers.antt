@@ -9,14 +9,14 @@ use Rattle.alaska_run.specs.Built.{IsTreeOf}
 use Rattle.struct_ir.specs.Nodes.{Ir}
 use Rattle.pin_checker.specs.Safe.{IsSafe}
 use Rattle.pin_checker.specs.declared.fault.Why.{Why}
-use Rattle.code_file.specs.Conditions.{most_file_bytes}
-use Rattle.code_load.specs.Loads.{IsLoaded, IsBad, IsUnmet, IsUnsafeFile}
+use Rattle.code_file.specs.Reads.{IsBad}
+use Rattle.code_load.specs.Loads.{IsLoaded, IsUnmet, IsUnsafeFile}
 use Rattle.flat_rules.specs.declared.settings.Mode.{Mode}
 use Rattle.flat_rules.specs.declared.settings.Mode.TheVariants.{Load}
 use Rattle.run_words.specs.Wanted.{Wanted, settings_of}
 use Rattle.run_notes.specs.declared.status.Status.{Status}
 use Rattle.run_notes.specs.declared.status.Status.TheVariants as statuses
-use Rattle.run_edges.specs.Files.{Shelved, most_bytes}
+use Rattle.run_edges.specs.Files.{Shelved, most_bytes, most_code_bytes}
 use Rattle.run_edges.specs.Sinks.{Channel, WriteFailed}
 use Rattle.alaska_run.specs.Ending.{Ending, WantedMemory}
 use Rattle.alaska_run.specs.Sources.{Source, source_of, source_in, Tells, Failed}
@@ -62,11 +62,11 @@ pub record AnswersToCode (bytes : List ℕ) (e : Ending) : Type 0 where
   -- code that is safe for moves is run
   pub complete : (checked : Ir) → IsLoaded bytes checked → IsSafe checked → IsDoneBy Load e ⊎ WantedMemory e
   -- bytes that are no code file are bad, from the one place on that they have
-  pub bad : (place : ℕ) → length bytes ≤ most_file_bytes → IsBad bytes place ⊎ IsUnmet bytes place → IsUnlessMemory e (statuses.BadCode place)
+  pub bad : (place : ℕ) → length bytes ≤ most_code_bytes → IsBad bytes place ⊎ IsUnmet bytes place → IsUnlessMemory e (statuses.BadCode place)
   -- code that isn't safe is refused, for its first fault
   pub unsafe : (place : ℕ) (why : Why) → IsUnsafeFile bytes place why → IsUnlessMemory e (statuses.UnsafeCode place why)
   -- a file that is too long is so
-  pub too_long : most_file_bytes < length bytes → IsUnlessMemory e statuses.FileTooLong
+  pub too_long : most_code_bytes < length bytes → IsUnlessMemory e statuses.FileTooLong
 
 -- the words name a file of which the shelf tells these bytes, or want a text to be made that is these; and nothing failed
 pub record IsTold (words : List (List ℕ)) (file : List ℕ → Shelved) (out note : Channel) (bytes : List ℕ) : Type 0 where

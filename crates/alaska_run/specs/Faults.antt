@@ -9,7 +9,8 @@ use Rattle.run_notes.specs.declared.status.Status.{Status}
 use Rattle.run_notes.specs.declared.status.Status.TheVariants as statuses
 use Rattle.run_edges.specs.Files.{Shelved, most_bytes}
 use Rattle.pin_checker.specs.declared.fault.Why.{Why}
-use Rattle.code_load.specs.Loads.{IsBad, IsUnmet, IsUnsafeFile}
+use Rattle.code_file.specs.Reads.{IsBad}
+use Rattle.code_load.specs.Loads.{IsUnmet, IsUnsafeFile}
 use Rattle.alaska_run.specs.Sources.{Source, Saved, source_in, IsAll, IsFirst, Failed}
 
 -- the text is all of its source, and none of the subset; or the source has more bytes than a text may have, of which the text is the first.

@@ -10,7 +10,8 @@ use Rattle.alaska_run.specs.Loaded.{IsLoadedTo}
 use Rattle.struct_ir.specs.Instrs.{LinearCode}
 use Rattle.struct_ir.specs.Whole.{plain_bytes}
 use Rattle.pin_checker.specs.CheckedViews.{program_in}
-use Rattle.code_load.specs.Loads.{IsBad, IsUnmet, IsUnsafeFile}
+use Rattle.code_file.specs.Reads.{IsBad}
+use Rattle.code_load.specs.Loads.{IsUnmet, IsUnsafeFile}
 use Rattle.turn_lock.specs.Locks.{AllPasses, first_of, passes_of}
 use Rattle.ak_trace.specs.declared.endings.End.{End}
 use Rattle.flat_rules.specs.declared.settings.Mode.{Mode}
