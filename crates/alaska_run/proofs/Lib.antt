@@ -8,3 +8,5 @@ pub mod FewTokens
 pub mod SameTurns
 pub mod SomeAnswers
 pub mod Checked
+pub mod LoadedCode
+pub mod LoadedOnce

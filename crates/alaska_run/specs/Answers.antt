@@ -9,8 +9,7 @@ use Rattle.alaska_run.specs.Built.{IsTreeOf}
 use Rattle.struct_ir.specs.Nodes.{Ir}
 use Rattle.pin_checker.specs.Safe.{IsSafe}
 use Rattle.pin_checker.specs.declared.fault.Why.{Why}
-use Rattle.code_file.specs.Reads.{IsBad}
-use Rattle.code_load.specs.Loads.{IsLoaded, IsUnmet, IsUnsafeFile}
+use Rattle.code_load.specs.Loads.{IsLoaded}
 use Rattle.flat_rules.specs.declared.settings.Mode.{Mode}
 use Rattle.flat_rules.specs.declared.settings.Mode.TheVariants.{Load}
 use Rattle.run_words.specs.Wanted.{Wanted, settings_of}
@@ -20,7 +19,7 @@ use Rattle.run_edges.specs.Files.{Shelved, most_bytes, most_code_bytes}
 use Rattle.run_edges.specs.Sinks.{Channel, WriteFailed}
 use Rattle.alaska_run.specs.Ending.{Ending, WantedMemory}
 use Rattle.alaska_run.specs.Sources.{Source, source_of, source_in, Tells, Failed}
-use Rattle.alaska_run.specs.Faults.{IsRefused, IsBadCode, IsUnsafeCode, IsLongFile}
+use Rattle.alaska_run.specs.Faults.{IsRefused, RefusesCode, IsUnloaded}
 use Rattle.alaska_run.specs.Modes.{IsDoneBy}
 
 -- no read of the source failed, and no write
@@ -35,10 +34,10 @@ pub record Causes (words : List (List ℕ)) (file : List ℕ → Shelved) (out n
   pub usage : e.status ≡ statuses.Usage → settings_of words ≡ None
   -- a refusal only where the text is none of the subset, or too long
   pub refused : (place : ℕ) (kind : Kind) → e.status ≡ statuses.Refused place kind → (source : Source) × (source_in file e.settings ≡ Some source) × IsRefused source e.text place kind
-  -- bad code only where the file is no code file, unsafe code only where its code isn't safe for moves, and a file is too long only where it is
-  pub bad_code : (place : ℕ) → e.status ≡ statuses.BadCode place → (source : Source) × (source_in file e.settings ≡ Some source) × IsBadCode source e.text place
-  pub unsafe_code : (place : ℕ) (why : Why) → e.status ≡ statuses.UnsafeCode place why → (source : Source) × (source_in file e.settings ≡ Some source) × IsUnsafeCode source e.text place why
-  pub file_too_long : e.status ≡ statuses.FileTooLong → (source : Source) × (source_in file e.settings ≡ Some source) × IsLongFile source e.text
+  -- bad or unsafe code, or a file that is too long, only where the file isn't loaded for just that
+  pub bad_code : (place : ℕ) → e.status ≡ statuses.BadCode place → (source : Source) × (source_in file e.settings ≡ Some source) × IsUnloaded source e.text (statuses.BadCode place)
+  pub unsafe_code : (place : ℕ) (why : Why) → e.status ≡ statuses.UnsafeCode place why → (source : Source) × (source_in file e.settings ≡ Some source) × IsUnloaded source e.text (statuses.UnsafeCode place why)
+  pub file_too_long : e.status ≡ statuses.FileTooLong → (source : Source) × (source_in file e.settings ≡ Some source) × IsUnloaded source e.text statuses.FileTooLong
   -- a fault of reading only where the count of FILE rose
   pub read_fault : e.status ≡ statuses.ReadFault → (source : Source) × (source_in file e.settings ≡ Some source) × Failed source
   -- a fault of writing only where the count of a sink rose
@@ -61,10 +60,8 @@ pub record AnswersToAText (mode : Mode) (bytes : List ℕ) (e : Ending) : Type 0
 pub record AnswersToCode (bytes : List ℕ) (e : Ending) : Type 0 where
   -- code that is safe for moves is run
   pub complete : (checked : Ir) → IsLoaded bytes checked → IsSafe checked → IsDoneBy Load e ⊎ WantedMemory e
-  -- bytes that are no code file are bad, from the one place on that they have
-  pub bad : (place : ℕ) → length bytes ≤ most_code_bytes → IsBad bytes place ⊎ IsUnmet bytes place → IsUnlessMemory e (statuses.BadCode place)
-  -- code that isn't safe is refused, for its first fault
-  pub unsafe : (place : ℕ) (why : Why) → IsUnsafeFile bytes place why → IsUnlessMemory e (statuses.UnsafeCode place why)
+  -- other bytes are bad, or their code is unsafe, for the one reason that they have
+  pub refused : (status : Status) → length bytes ≤ most_code_bytes → RefusesCode bytes status → IsUnlessMemory e status
   -- a file that is too long is so
   pub too_long : most_code_bytes < length bytes → IsUnlessMemory e statuses.FileTooLong
 

@@ -8,7 +8,6 @@ use Rattle.run_words.specs.Wanted.{settings_of}
 use Rattle.run_notes.specs.declared.status.Status.{Status}
 use Rattle.run_notes.specs.declared.status.Status.TheVariants as statuses
 use Rattle.run_edges.specs.Files.{Shelved, most_bytes}
-use Rattle.pin_checker.specs.declared.fault.Why.{Why}
 use Rattle.code_file.specs.Reads.{IsBad}
 use Rattle.code_load.specs.Loads.{IsUnmet, IsUnsafeFile}
 use Rattle.alaska_run.specs.Sources.{Source, Saved, source_in, IsAll, IsFirst, Failed}
@@ -22,21 +21,18 @@ IsRefused source text place kind =
 
 -- ---- code that was saved
 
--- the text is all of its source, and no code file: from this place on nothing makes one of it; or it is one of the grammar and breaks a further
--- condition, and the place is its end
-abbrev pub IsBadCode : Source → (text : List ℕ) → (place : ℕ) → Type 0
-IsBadCode (Saved file) text place = IsAll (Saved file) text × (IsBad text place ⊎ IsUnmet text place)
-IsBadCode source text place = ⊥
+-- why bytes aren't loaded: they are no code file, since they don't spell code from this place on, or spell code that breaks a condition of code
+-- files, and then the place is their end; or they are one, whose code isn't safe for moves, at this node first, for this reason
+abbrev pub RefusesCode : (bytes : List ℕ) → Status → Type 0
+RefusesCode bytes (statuses.BadCode place) = IsBad bytes place ⊎ IsUnmet bytes place
+RefusesCode bytes (statuses.UnsafeCode place why) = IsUnsafeFile bytes place why
+RefusesCode bytes status = ⊥
 
--- the text is all of its source, and a code file whose code isn't safe for moves: at this node first, for this reason
-abbrev pub IsUnsafeCode : Source → (text : List ℕ) → (place : ℕ) → Why → Type 0
-IsUnsafeCode (Saved file) text place why = IsAll (Saved file) text × IsUnsafeFile text place why
-IsUnsafeCode source text place why = ⊥
-
--- the source has more bytes than a code file may have, of which the text is the first
-abbrev pub IsLongFile : Source → (text : List ℕ) → Type 0
-IsLongFile (Saved file) text = IsFirst (Saved file) text
-IsLongFile source text = ⊥
+-- why a file is not loaded: it has more bytes than a code file may have, of which the text is the first; or the text is all of it, and such bytes
+abbrev pub IsUnloaded : Source → (text : List ℕ) → Status → Type 0
+IsUnloaded (Saved file) text statuses.FileTooLong = IsFirst (Saved file) text
+IsUnloaded (Saved file) text status = IsAll (Saved file) text × RefusesCode text status
+IsUnloaded source text status = ⊥
 
 -- ---- each status
 
@@ -50,8 +46,8 @@ module _ (words : List (List ℕ)) (file : List ℕ → Shelved) (settings : Opt
   IsFault statuses.Usage = settings_of words ≡ None
   IsFault statuses.ReadFault = OfSource Failed
   IsFault (statuses.Refused place kind) = OfSource (λ source. IsRefused source text place kind)
-  IsFault (statuses.BadCode place) = OfSource (λ source. IsBadCode source text place)
-  IsFault (statuses.UnsafeCode place why) = OfSource (λ source. IsUnsafeCode source text place why)
-  IsFault statuses.FileTooLong = OfSource (λ source. IsLongFile source text)
+  IsFault (statuses.BadCode place) = OfSource (λ source. IsUnloaded source text (statuses.BadCode place))
+  IsFault (statuses.UnsafeCode place why) = OfSource (λ source. IsUnloaded source text (statuses.UnsafeCode place why))
+  IsFault statuses.FileTooLong = OfSource (λ source. IsUnloaded source text statuses.FileTooLong)
   IsFault statuses.NoMemory = Unit {0}
   IsFault status = ⊥

@@ -1,4 +1,4 @@
--- What mode load makes of files, and of those that mode build wrote.
+-- What holds of each code file, and of those that mode build writes.
 use Rattle.std.specs.Prelude.{◌≡◌, ℕ, List}
 use Rattle.c_tree.specs.Typed.{Typed}
 use Rattle.struct_ir.specs.Nodes.{Ir}
@@ -10,8 +10,24 @@ use Rattle.pin_checker.specs.Safe.{IsSafe}
 use Rattle.code_file.specs.Calls.{ir_bare}
 use Rattle.code_file.specs.Conditions.{IsFile}
 use Rattle.code_load.specs.Loads.{IsLoaded}
+use Rattle.run_notes.specs.declared.status.Status.{Status}
 use Rattle.alaska_run.specs.Built.{IsBuilt}
+use Rattle.alaska_run.specs.Faults.{RefusesCode}
 use Rattle.alaska_run.specs.Modes.{SpeaksOf}
+
+-- bytes are loaded to one checked code at most
+abbrev pub OneLoaded : Type 0
+OneLoaded = (bytes : List ℕ) (p q : Ir) → IsLoaded bytes p → IsLoaded bytes q → q ≡ p
+
+-- where that is safe, they aren't refused
+abbrev pub LoadedOrRefused : Type 0
+LoadedOrRefused = (bytes : List ℕ) (p : Ir) (status : Status) → IsLoaded bytes p → IsSafe p → RefusesCode bytes status → ⊥
+
+-- they are refused for one reason at most
+abbrev pub OneRefusal : Type 0
+OneRefusal = (bytes : List ℕ) (one other : Status) → RefusesCode bytes one → RefusesCode bytes other → one ≡ other
+
+-- ---- what mode build writes
 
 -- loading the bytes gives this checked code of this tree again, and no other
 pub record IsLoadedAgain (typed : Typed) (checked : Ir) (bytes : List ℕ) : Type 0 where

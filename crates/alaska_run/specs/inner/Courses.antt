@@ -1,5 +1,5 @@
 -- What comes of words and text before anything is written, and what a run comes to.
-use Rattle.std.specs.Prelude.{◌≡◌, ◌≢◌, ℕ, ◌≤◌, ◌⊎◌, List, [], Option, Some, None, unwrap_or, vec_len, vec_capacity}
+use Rattle.std.specs.Prelude.{◌≡◌, ◌≢◌, ℕ, ◌≤◌, List, [], Option, Some, None, unwrap_or, vec_len, vec_capacity}
 use Rattle.std.specs.Option.{option_map}
 use Rattle.std.specs.Arc.{arc_value}
 use Rattle.c_lex.specs.declared.refusal.Refusal.{Refusal}
@@ -10,8 +10,6 @@ use Rattle.alaska_run.specs.Loaded.{IsLoadedTo}
 use Rattle.struct_ir.specs.Instrs.{LinearCode}
 use Rattle.struct_ir.specs.Whole.{plain_bytes}
 use Rattle.pin_checker.specs.CheckedViews.{program_in}
-use Rattle.code_file.specs.Reads.{IsBad}
-use Rattle.code_load.specs.Loads.{IsUnmet, IsUnsafeFile}
 use Rattle.turn_lock.specs.Locks.{AllPasses, first_of, passes_of}
 use Rattle.ak_trace.specs.declared.endings.End.{End}
 use Rattle.flat_rules.specs.declared.settings.Mode.{Mode}
@@ -37,7 +35,7 @@ use Rattle.alaska_run.specs.declared.running.Ran.{Ran}
 use Rattle.run_notes.specs.declared.status.Status.{Status}
 use Rattle.run_notes.specs.declared.status.Status.TheVariants as statuses
 use Rattle.alaska_run.specs.Sources.{Source, source_of, source_in, name_in, IsAll}
-use Rattle.alaska_run.specs.Faults.{IsFault}
+use Rattle.alaska_run.specs.Faults.{IsFault, RefusesCode}
 use Rattle.alaska_run.specs.Modes.{IsCodeBy, IsSavedAs}
 use Rattle.alaska_run.specs.Headline.{IsTextOf}
 use Rattle.run_notes.specs.Checks.{check_line}
@@ -151,12 +149,6 @@ abbrev pub IsCourseOf : Settings → List ℕ → Course → Type 0
 IsCourseOf settings text (courses.Stopped x) = IsRefusedOf settings text x
 IsCourseOf settings text (courses.Opened x) = IsOpenedOf settings text x
 IsCourseOf settings text (courses.Worked x) = IsWorkedOf settings text x
-
--- the status of bytes that aren't loaded: that of bytes that are no code file, or of code that isn't safe for moves
-abbrev pub RefusesCode : (text : List ℕ) → Status → Type 0
-RefusesCode text (statuses.BadCode place) = IsBad text place ⊎ IsUnmet text place
-RefusesCode text (statuses.UnsafeCode place why) = IsUnsafeFile text place why
-RefusesCode text status = ⊥
 
 -- the bytes are no code file, or one whose code isn't safe for moves
 pub record IsUnloadedOf (settings : Settings) (text : List ℕ) (x : Stopped) : Type 0 where
