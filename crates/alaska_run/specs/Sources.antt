@@ -50,12 +50,6 @@ Tells (Read file) bytes = file.told ≡ Some bytes
 Tells (Made made) bytes = made ≡ bytes
 Tells (Saved file) bytes = file.told ≡ Some bytes
 
--- the most bytes that are taken of it: as many as a text may have, or a code file
-abbrev pub most_of : Source → ℕ
-most_of (Read file) = most_bytes
-most_of (Made made) = most_bytes
-most_of (Saved file) = most_code_bytes
-
 -- the text is all of it
 abbrev pub IsAll : Source → List ℕ → Type 0
 IsAll (Read file) text = IsWhole most_bytes file text
