@@ -26,7 +26,7 @@ use Rattle.code_load.specs.Loads.{IsLoaded}
 use Rattle.run_notes.specs.declared.status.Status.{Status}
 use Rattle.run_notes.specs.declared.status.Status.TheVariants as statuses
 use Rattle.run_notes.specs.Statuses.{status_of}
-use Rattle.run_edges.specs.Files.{Shelved, most_bytes, most_code_bytes}
+use Rattle.run_edges.specs.Files.{Shelved, most_bytes, most_file_bytes}
 use Rattle.run_edges.specs.Sinks.{Channel, WriteFailed}
 use Rattle.run_edges.specs.Writing.{after_note_fault}
 use Rattle.alaska_run.specs.Ending.{Ending, WantedMemory}
@@ -278,8 +278,8 @@ unloaded_so file text (statuses.UnsafeCode place why) u = inr u
 unloaded_so file text statuses.FileTooLong u = inl (refl, u)
 
 -- a code file is no longer than one may be
-loaded_short : (bytes : List ℕ) (p : Ir) → IsLoaded bytes p → length bytes ≤ most_code_bytes
-loaded_short bytes p l = leb-true (length bytes) most_code_bytes (and_parts (is_lawful (ir_filled l.code)) (nat_le (length bytes) most_code_bytes) l.is_file.lawful).1
+loaded_short : (bytes : List ℕ) (p : Ir) → IsLoaded bytes p → length bytes ≤ most_file_bytes
+loaded_short bytes p l = leb-true (length bytes) most_file_bytes (and_parts (is_lawful (ir_filled l.code)) (nat_le (length bytes) most_file_bytes) l.is_file.lawful).1
 
 -- ---- the source of a mode
 
@@ -572,9 +572,9 @@ module _ (words : List (List ℕ)) (file : List ℕ → Shelved) (out note : Cha
 
       -- the bytes are too many, or refused
       abbrev UnloadedSo : Status → Type 0
-      UnloadedSo s = ((s ≡ statuses.FileTooLong) × (most_code_bytes < length bytes)) ⊎ (RefusesCode bytes s × (length bytes ≤ most_code_bytes))
+      UnloadedSo s = ((s ≡ statuses.FileTooLong) × (most_file_bytes < length bytes)) ⊎ (RefusesCode bytes s × (length bytes ≤ most_file_bytes))
 
-      code_short : IsAll t.source e.text → length bytes ≤ most_code_bytes
+      code_short : IsAll t.source e.text → length bytes ≤ most_file_bytes
       code_short all = let same = ap length (all_bytes all) in let short = (as_file (λ (z : Source). IsAll z e.text) all).short in omega (arith, same, short)
 
       unloaded_bytes : (s : Status) → IsUnloaded t.source e.text s → UnloadedSo s

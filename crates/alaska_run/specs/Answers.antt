@@ -15,7 +15,7 @@ use Rattle.flat_rules.specs.declared.settings.Mode.TheVariants.{Load}
 use Rattle.run_words.specs.Wanted.{Wanted, settings_of}
 use Rattle.run_notes.specs.declared.status.Status.{Status}
 use Rattle.run_notes.specs.declared.status.Status.TheVariants as statuses
-use Rattle.run_edges.specs.Files.{Shelved, most_bytes, most_code_bytes}
+use Rattle.run_edges.specs.Files.{Shelved, most_bytes, most_file_bytes}
 use Rattle.run_edges.specs.Sinks.{Channel, WriteFailed}
 use Rattle.alaska_run.specs.Ending.{Ending, WantedMemory}
 use Rattle.alaska_run.specs.Sources.{Source, source_of, source_in, Tells, Failed}
@@ -61,9 +61,9 @@ pub record AnswersToCode (bytes : List ℕ) (e : Ending) : Type 0 where
   -- code that is safe for moves is run
   pub complete : (checked : Ir) → IsLoaded bytes checked → IsSafe checked → IsDoneBy Load e ⊎ WantedMemory e
   -- other bytes are bad, or their code is unsafe, for the one reason that they have
-  pub refused : (status : Status) → length bytes ≤ most_code_bytes → RefusesCode bytes status → IsUnlessMemory e status
+  pub refused : (status : Status) → length bytes ≤ most_file_bytes → RefusesCode bytes status → IsUnlessMemory e status
   -- a file that is too long is so
-  pub too_long : most_code_bytes < length bytes → IsUnlessMemory e statuses.FileTooLong
+  pub too_long : most_file_bytes < length bytes → IsUnlessMemory e statuses.FileTooLong
 
 -- the words name a file of which the shelf tells these bytes, or want a text to be made that is these; and nothing failed
 pub record IsTold (words : List (List ℕ)) (file : List ℕ → Shelved) (out note : Channel) (bytes : List ℕ) : Type 0 where

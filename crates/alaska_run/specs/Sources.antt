@@ -7,7 +7,7 @@ use Rattle.flat_rules.specs.declared.settings.Mode.TheVariants.{Churn, Load}
 use Rattle.flat_rules.specs.declared.settings.Settings.{Settings}
 use Rattle.run_words.specs.Wanted.{Wanted, wanted_of}
 use Rattle.run_churn.specs.Text as churn
-use Rattle.run_edges.specs.Files.{Shelved, ReadFailed, IsWhole, IsFront, most_bytes, most_code_bytes}
+use Rattle.run_edges.specs.Files.{Shelved, ReadFailed, IsWhole, IsFront, most_bytes, most_file_bytes}
 
 -- a file that is read as a text of C, a text that is made, or a file that is read as code that was saved
 pub data Source : Type 0 where
@@ -54,13 +54,13 @@ Tells (Saved file) bytes = file.told ≡ Some bytes
 abbrev pub IsAll : Source → List ℕ → Type 0
 IsAll (Read file) text = IsWhole most_bytes file text
 IsAll (Made made) text = (length text ≤ most_bytes) × (text ≡ made)
-IsAll (Saved file) text = IsWhole most_code_bytes file text
+IsAll (Saved file) text = IsWhole most_file_bytes file text
 
 -- it has more bytes than are taken of it, of which the text is the first
 abbrev pub IsFirst : Source → List ℕ → Type 0
 IsFirst (Read file) text = IsFront most_bytes file text
 IsFirst (Made made) text = ⊥
-IsFirst (Saved file) text = IsFront most_code_bytes file text
+IsFirst (Saved file) text = IsFront most_file_bytes file text
 
 -- a read of it failed
 abbrev pub Failed : Source → Type 0

@@ -46,7 +46,7 @@ pub(crate) fn load_text(
             stop_with(alloc, settings, text, Status::BadCode(place))
         }
         Err(LoadFault::Unsafe { place, why }) => {
-            stop_with(alloc, settings, text, Status::UnsafeCode(place, why))
+            stop_with(alloc, settings, text, Status::UnsafeCode { place, why })
         }
         Err(LoadFault::NoMemory) => Err(NoMemory),
     }

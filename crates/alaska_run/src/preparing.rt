@@ -26,7 +26,7 @@ use c_lex::{CompileFault, Kind};
 use flat_machine::{Context, Mode, Program, Settings, Shared};
 use pin_checker::Checked;
 use run_churn::churn_text;
-use run_edges::{MOST_BYTES, MOST_CODE_BYTES, TextRead, read_text};
+use run_edges::{MOST_BYTES, MOST_FILE_BYTES, TextRead, read_text};
 use run_notes::{Status, fault_line};
 use run_words::read_settings;
 use std::alloc::Global;
@@ -227,7 +227,7 @@ fn prepare_load<F: Shelf>(
     requires { settings.mode ≡ Mode.Load }
     ensures { (words : List (List ℕ)) → settings_of words ≡ Some (wanted_of settings) → IfOk result (IsCourse words (shelved F.contents F.faults shelf.old shelf.new)) }
 {
-    match read_text(alloc, shelf, file_name(&settings), MOST_CODE_BYTES)? {
+    match read_text(alloc, shelf, file_name(&settings), MOST_FILE_BYTES)? {
         TextRead::Whole(text) => load_text(alloc, settings, text),
         TextRead::Front(text) => stop_with(alloc, settings, text, Status::FileTooLong),
         TextRead::Fault => stop_with(alloc, settings, Vec::new(alloc), Status::ReadFault),
