@@ -1,15 +1,16 @@
 -- What bytes are loaded to, or why they aren't: one thing alone.
-use Rattle.std.proofs.Common.{◌≡◌, ℕ, List, ◌&&◌, true, false, length, refl, sym, ap, ap₂, subst, ◌∙◌, ◌⊎◌, inl, inr}
-use Rattle.std.proofs.lemmas.Bool.{and_parts}
+use Rattle.std.proofs.Common.{◌≡◌, ℕ, ◌-◌, List, Option, Some, None, Bool, true, false, Result, length, refl, sym, ap, ap₂, subst, ◌∙◌, ◌⊎◌, inl, inr}
 use Rattle.std.specs.Prelude.{Ok, Err}
-use Rattle.c_tree.specs.Typed.{Typed}
 use Rattle.struct_ir.specs.Nodes.{Ir}
 use Rattle.struct_ir.specs.Placed.{all_placed}
-use Rattle.struct_ir.specs.Instrs.{LinearCode}
-use Rattle.formats.specs.Laws.{OneSpelling, Spells}
+use Rattle.formats.specs.Formats.{whole}
+use Rattle.formats.specs.Laws.{OneSpelling, Spells, WholeAt}
 use Rattle.pin_checker.specs.Safe.{IsSafe}
 use Rattle.pin_checker.specs.Answers.{IsRefused}
+use Rattle.pin_checker.specs.declared.fault.Fault.{Fault}
 use Rattle.pin_checker.specs.declared.fault.Why.{Why}
+use Rattle.pin_checker.specs.inner.Reports.{first_fault}
+use Rattle.pin_checker.proofs.Main.{accepted_is, refused_is}
 use Rattle.run_notes.specs.declared.status.Status.{Status}
 use Rattle.run_notes.specs.declared.status.Status.TheVariants as statuses
 use Rattle.code_file.specs.Files.{file}
@@ -18,9 +19,8 @@ use Rattle.code_file.specs.Conditions.{meets, IsFile}
 use Rattle.code_load.specs.declared.loading.LoadFault.TheVariants as faults
 use Rattle.code_load.specs.Loads.{IsLoaded, IsUnmet, IsUnsafeFile}
 use Rattle.code_load.specs.Laws.{LoadingHasOneAnswer}
-use Rattle.alaska_run.specs.Built.{IsBuilt}
 use Rattle.alaska_run.specs.Faults.{RefusesCode}
-use Rattle.alaska_run.specs.Loading.{IsLoadedAgain, WhatIsBuiltIsLoaded}
+use Rattle.alaska_run.specs.Loading.{EachIsLoaded, WhatIsBuiltIsLoaded}
 
 -- bytes spell one code
 one_code : OneSpelling (file 1024) → (bytes : List ℕ) (c d : Ir) → Spells (file 1024) c bytes → Spells (file 1024) d bytes → c ≡ d
@@ -127,6 +127,30 @@ module _ (answer : LoadingHasOneAnswer) (bytes : List ℕ) where
   one_refusal (statuses.BadCode place) status a b = bad_too place status a b
   one_refusal (statuses.UnsafeCode place why) status a b = unsafe_too place why status a b
   one_refusal statuses.FileTooLong status a b = absurd a
+
+-- ---- each file
+
+module _ (bytes : List ℕ) where
+  -- it is loaded to safe code, or refused
+  abbrev Judged : Type 0
+  Judged = ((p : Ir) × IsLoaded bytes p × IsSafe p) ⊎ ((status : Status) × RefusesCode bytes status)
+
+  checked_so : (code : Ir) → IsFile bytes code → (o : Option Fault) → first_fault (ir_filled code) ≡ o → Judged
+  checked_so code is_file None e = inl (ir_filled code, record { code = code; is_file = is_file; filled = refl }, accepted_is (ir_filled code) e)
+  checked_so code is_file (Some f) e = inr (statuses.UnsafeCode f.place f.why, record { code = code; is_file = is_file; refused = refused_is (ir_filled code) f e })
+
+  met_so : (code : Ir) → Spells (file 1024) code bytes → (met : Bool) → meets (length bytes) code ≡ met → Judged
+  met_so code spells true e = checked_so code (record { spells = spells; lawful = e }) (first_fault (ir_filled code)) refl
+  met_so code spells false e = inr (statuses.BadCode (length bytes), inr (record { code = code; spells = spells; fails = e; end = refl }))
+
+  read_so : (r : Result Ir ℕ) → WholeAt (file 1024) bytes r → Judged
+  read_so (Ok code) spells = met_so code spells (meets (length bytes) code) refl
+  read_so (Err n) bad = inr (statuses.BadCode (length bytes - n), inl (record { none = bad.2; longest = bad.0 }))
+
+pub each_loaded : ((depth : ℕ) (bytes : List ℕ) → WholeAt (file depth) bytes (whole (file depth) bytes)) → EachIsLoaded
+each_loaded exact bytes = read_so bytes (whole (file 1024) bytes) (exact 1024 bytes)
+
+-- ---- what mode build writes
 
 -- what mode build writes of a text is loaded to the text's own checked code
 pub loaded_again : OneSpelling (file 1024) → ((p : Ir) → all_placed p ≡ true → ir_filled (ir_bare p) ≡ p) → WhatIsBuiltIsLoaded

@@ -1,5 +1,5 @@
 -- What holds of each code file, and of those that mode build writes.
-use Rattle.std.specs.Prelude.{◌≡◌, ℕ, List}
+use Rattle.std.specs.Prelude.{◌≡◌, ℕ, ◌⊎◌, List}
 use Rattle.c_tree.specs.Typed.{Typed}
 use Rattle.struct_ir.specs.Nodes.{Ir}
 use Rattle.struct_ir.specs.Erased.{ir_erased}
@@ -15,11 +15,15 @@ use Rattle.alaska_run.specs.Built.{IsBuilt}
 use Rattle.alaska_run.specs.Faults.{RefusesCode}
 use Rattle.alaska_run.specs.Modes.{SpeaksOf}
 
--- bytes are loaded to one checked code at most
+-- bytes are loaded to code that is safe for moves, or are refused
+abbrev pub EachIsLoaded : Type 0
+EachIsLoaded = (bytes : List ℕ) → ((p : Ir) × IsLoaded bytes p × IsSafe p) ⊎ ((status : Status) × RefusesCode bytes status)
+
+-- they are loaded to one checked code at most
 abbrev pub OneLoaded : Type 0
 OneLoaded = (bytes : List ℕ) (p q : Ir) → IsLoaded bytes p → IsLoaded bytes q → q ≡ p
 
--- where that is safe, they aren't refused
+-- not both
 abbrev pub LoadedOrRefused : Type 0
 LoadedOrRefused = (bytes : List ℕ) (p : Ir) (status : Status) → IsLoaded bytes p → IsSafe p → RefusesCode bytes status → ⊥
 

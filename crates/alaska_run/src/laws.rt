@@ -1,6 +1,6 @@
 //! The laws of texts and of code files, as contracts of functions that do nothing.
 ghost use Rattle.alaska_run.specs.Reading.{EachIsRead, NotBoth, OneTree, OneReason};
-ghost use Rattle.alaska_run.specs.Loading.{LoadedOrRefused, OneLoaded, OneRefusal, WhatIsBuiltIsLoaded};
+ghost use Rattle.alaska_run.specs.Loading.{EachIsLoaded, LoadedOrRefused, OneLoaded, OneRefusal, WhatIsBuiltIsLoaded};
 
 /// Each text has a typed tree, and one only, or is refused, for one reason only.
 pub fn read_each_text_once()
@@ -19,10 +19,11 @@ pub fn read_each_text_once()
     c_grammar::laws::each_is_judged();
 }
 
-/// Bytes are loaded to one checked code at most, or are refused, for one reason at most; and safe code that they are loaded to is not refused.
+/// Bytes are loaded to safe code, one only, or are refused, for one reason only.
 pub fn load_each_file_once()
-    ensures one_code { OneLoaded }
+    ensures either { EachIsLoaded }
     ensures not_both { LoadedOrRefused }
+    ensures one_code { OneLoaded }
     ensures one_reason { OneRefusal }
 {
     code_file::laws::files_are_exact();

@@ -25,7 +25,7 @@ use std::sync::Arc;
 
 // What came of saving: its status, and what out and note are to take.
 #[derive(Drop)]
-struct Saved {
+struct Saving {
     status: Status,
     output: Vec<u8>,
     line: Vec<u8>,
@@ -37,11 +37,11 @@ fn unsaved(
     settings: &Settings,
     text: &[u8],
     status: Status,
-) -> Result<Saved, NoMemory>
+) -> Result<Saving, NoMemory>
     ensures { IfOk result (λ s. (s.status ≡ status) × (s.output.items ≡ []) × (s.line.items ≡ fault_line (name_in (Some settings.now)) text.now status)) }
 {
     let line = fault_line(alloc, text_name(settings), text, status)?;
-    Ok(Saved {
+    Ok(Saving {
         status,
         output: Vec::new(alloc),
         line,
@@ -49,19 +49,19 @@ fn unsaved(
 }
 
 // The code file of checked code.
-fn saved(
+fn save_code(
     alloc: Global,
     settings: &Settings,
     text: &[u8],
     checked: &Checked,
-) -> Result<Saved, NoMemory>
+) -> Result<Saving, NoMemory>
     requires { can_be_saved (program_in checked.now) ≡ true }
     ensures { IfOk result (λ s. IsSavedAs (Some settings.now) text.now (program_in checked.now) s.status s.output.items s.line.items) }
 {
     match save(alloc, checked) {
         Ok(output) => {
             let line = built_line(alloc, output.len())?;
-            Ok(Saved {
+            Ok(Saving {
                 status: Status::Built,
                 output,
                 line,
@@ -90,11 +90,11 @@ pub(crate) fn save_text(
         code,
     } = built;
     let code = Arc::new(alloc, Program::load(alloc, code)?)?;
-    let Saved {
+    let Saving {
         status,
         output,
         line,
-    } = saved(alloc, &settings, &text, &checked)?;
+    } = save_code(alloc, &settings, &text, &checked)?;
     Ok(Worked {
         status,
         settings,
