@@ -1,7 +1,7 @@
-//! A call of `alaska` under words, over real files and sinks in memory.
+//! A call of `alaska` under words, over real files or another shelf, and sinks in memory.
 
 use ak_crew::Gate;
-use ak_io::{FileShelf, MemSink};
+use ak_io::{FileShelf, MemSink, Shelf};
 use ak_words::NoMemory;
 use alaska_run::{Ending, alaska};
 use std::alloc::{AllocError, Global};
@@ -30,7 +30,21 @@ pub struct Shown {
     pub ending: Ending,
 }
 
-/// Makes the call.
+/// Makes the call of these words over this shelf.
+pub fn call_on<R: Threads + Wait + Sync, F: Shelf, G: Gate>(
+    rt: &R,
+    alloc: Global,
+    words: &[String],
+    shelf: &mut F,
+    gate: &G,
+) -> Result<Shown, NoMemory> {
+    let mut out = MemSink::new(alloc, ROOM, Vec::new(alloc))?;
+    let mut note = MemSink::new(alloc, ROOM, Vec::new(alloc))?;
+    let ending = alaska(rt, alloc, words, shelf, &mut out, &mut note, gate);
+    Ok(Shown { out, note, ending })
+}
+
+/// Makes the call of a row over real files.
 pub fn call<R: Threads + Wait + Sync + Files, G: Gate>(
     rt: &R,
     alloc: Global,
@@ -38,9 +52,5 @@ pub fn call<R: Threads + Wait + Sync + Files, G: Gate>(
     gate: &G,
 ) -> Result<Shown, NoMemory> {
     let words = words_of(alloc, row)?;
-    let mut shelf = FileShelf::new(rt);
-    let mut out = MemSink::new(alloc, ROOM, Vec::new(alloc))?;
-    let mut note = MemSink::new(alloc, ROOM, Vec::new(alloc))?;
-    let ending = alaska(rt, alloc, &words, &mut shelf, &mut out, &mut note, gate);
-    Ok(Shown { out, note, ending })
+    call_on(rt, alloc, &words, &mut FileShelf::new(rt), gate)
 }

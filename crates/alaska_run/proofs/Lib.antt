@@ -10,3 +10,10 @@ pub mod SomeAnswers
 pub mod Checked
 pub mod LoadedCode
 pub mod LoadedOnce
+pub mod AlignedExprs
+pub mod AlignedPrograms
+pub mod AlignedRows
+pub mod AlignedStmts
+pub mod AlignedTypes
+pub mod Saving
+pub mod Seated

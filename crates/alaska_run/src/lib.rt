@@ -3,6 +3,7 @@
 //! Stands on c_lex, c_parse and c_types for reading, on ir_lower, lower_turns and compile_passes for the code, on run_words for the words, on run_edges for the text, the statuses and the sinks, on ak_crew over ak_world and flat_machine, on rule_check, and on code_save and code_load.
 #![tactic(auto)]
 
+mod building;
 mod call;
 mod checking;
 pub mod compiling;
@@ -12,7 +13,6 @@ mod loading;
 mod preparing;
 mod reading;
 mod running;
-mod saving;
 
 pub use call::alaska;
 pub use compiling::{Built, compile};

@@ -15,9 +15,9 @@ ghost use Rattle.alaska_run.specs.Headline.{IsTextOf};
 ghost use Rattle.run_edges.specs.Files.{Shelved, shelved};
 ghost use Rattle.alaska_run.specs.inner.Courses.{IsCourse, IsCourseOf, IsOpenedOf, IsReady, IsStoppedAs};
 
+use crate::building::save_text;
 use crate::checking::{Worked, check_text};
 use crate::loading::load_text;
-use crate::saving::save_text;
 use crate::{Built, compile};
 use ak_io::Shelf;
 use ak_words::NoMemory;

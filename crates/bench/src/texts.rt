@@ -28,7 +28,7 @@ pub(crate) fn no_memory(_: NoMemory) -> io::Error {
 
 // The bytes of a file.
 fn load(rt: &HostRuntime, name: &str) -> io::Result<Vec<u8>> {
-    match read_text(rt.alloc(), &mut FileShelf::new(rt), name).map_err(no_memory)? {
+    match read_text(rt.alloc(), &mut FileShelf::new(rt), name, MOST_BYTES).map_err(no_memory)? {
         TextRead::Whole(text) => Ok(text),
         _ => Err(io::Error::from(io::ErrorKind::InvalidData)),
     }

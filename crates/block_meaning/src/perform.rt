@@ -1,9 +1,8 @@
 //! What ends a turn, carried out.
 
-ghost use Rattle.std.specs.Prelude.{◌≡◌, ◌∷◌, [], ℕ, IfOk, OnOk, MatchOption, map};
+ghost use Rattle.std.specs.Prelude.{◌≡◌, ◌∷◌, [], IfOk, OnOk, MatchOption, map};
 ghost use Rattle.block_store.specs.Actions as actions;
 ghost use Rattle.block_store.specs.declared.values.Answer.TheVariants as answers;
-ghost use Rattle.c_meaning.specs.Control as control;
 ghost use Rattle.c_meaning.specs.Library as library;
 ghost use Rattle.c_meaning.specs.Turns as turns;
 ghost use Rattle.c_tree.specs.TypedViews.{lib_view};

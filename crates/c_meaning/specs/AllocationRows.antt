@@ -1,5 +1,5 @@
 -- Small programs with calloc and realloc, worked out by hand.
-use Rattle.std.specs.Prelude.{◌≡◌, ℕ, ◌^◌, List, [], ◌∷◌, ◌++◌, codes, Some, None, pos}
+use Rattle.std.specs.Prelude.{◌≡◌, ℕ, ◌^◌, List, [], ◌∷◌, ◌++◌, codes, Some, pos}
 use Rattle.ak_words.specs.declared.operation.Op.TheVariants as ops
 use Rattle.ak_words.specs.declared.rule.Rule.TheVariants as rules
 use Rattle.block_store.specs.Actions.{running, returned}

@@ -5,3 +5,4 @@ pub mod Accesses
 pub mod Tagged
 pub mod Rows
 pub mod Loaded
+pub mod Fillings

@@ -5,8 +5,8 @@ use Rattle.struct_ir.specs.Nodes.{Place, Act, places_of, Node, plain, if_, loop,
 use Rattle.code_file.specs.Files.{file}
 use Rattle.code_file.specs.Calls.{ir_bare}
 use Rattle.code_file.specs.Conditions.{is_lawful, most_file_bytes, IsFile}
-use Rattle.code_save.specs.declared.save.SaveFault.{SaveFault}
-use Rattle.code_save.specs.declared.save.SaveFault.TheVariants.{TooDeep, TooLong, NoMemory}
+use Rattle.code_save.specs.declared.fault.SaveFault.{SaveFault}
+use Rattle.code_save.specs.declared.fault.SaveFault.TheVariants.{TooDeep, TooLong, NoMemory}
 
 -- ---- which code can be saved
 

@@ -16,17 +16,21 @@ shelved contents faults old new name = record { told = contents old name; faults
 abbrev pub ReadFailed : Shelved → Type 0
 ReadFailed file = Rose file.faults_before file.faults_after
 
--- the most bytes that a text may have
+-- the most bytes that a C text may have
 abbrev pub most_bytes : ℕ
 most_bytes = 1048576
 
--- the file was read to its end, and this is all of it
-pub record IsWhole (file : Shelved) (text : List ℕ) : Type 0 where
-  pub short : length text ≤ most_bytes
+-- the most bytes that a code file may have
+abbrev pub most_file_bytes : ℕ
+most_file_bytes = 67108864
+
+-- the file, which may have so many bytes at most, was read to its end, and this is all of it
+pub record IsWhole (most : ℕ) (file : Shelved) (text : List ℕ) : Type 0 where
+  pub short : length text ≤ most
   pub whole : (bytes : List ℕ) → file.told ≡ Some bytes → text ≡ bytes
 
--- the file has more bytes than a text may have, and these are the first of them
-pub record IsFront (file : Shelved) (text : List ℕ) : Type 0 where
-  pub full : length text ≡ most_bytes
-  pub longer : (bytes : List ℕ) → file.told ≡ Some bytes → most_bytes < length bytes
-  pub first : (bytes : List ℕ) → file.told ≡ Some bytes → text ≡ take most_bytes bytes
+-- the file has more bytes than it may have, and these are the first of them
+pub record IsFront (most : ℕ) (file : Shelved) (text : List ℕ) : Type 0 where
+  pub full : length text ≡ most
+  pub longer : (bytes : List ℕ) → file.told ≡ Some bytes → most < length bytes
+  pub first : (bytes : List ℕ) → file.told ≡ Some bytes → text ≡ take most bytes

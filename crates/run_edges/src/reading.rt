@@ -1,4 +1,4 @@
-ghost use Rattle.std.specs.Prelude.{IfOk};
+ghost use Rattle.std.specs.Prelude.{◌≡◌, ◌≤◌, IfOk};
 ghost use Rattle.run_edges.specs.Files.{shelved};
 ghost use Rattle.run_edges.specs.Reading.{IsReadFrom};
 
@@ -6,25 +6,35 @@ use ak_io::{ReadEnd, ReadFault, Shelf};
 use ak_words::NoMemory;
 use std::alloc::Global;
 
-/// The most bytes that a text may have.
+/// The most bytes that a C text may have.
 pub const MOST_BYTES: usize = 1_048_576;
 
-/// What came of reading a text.
+/// The most bytes that a code file may have.
+pub const MOST_FILE_BYTES: usize = 67_108_864;
+
+/// What came of reading a file.
 #[derive(Drop)]
 pub enum TextRead {
     /// All of the file.
     Whole(Vec<u8>),
-    /// The first bytes of a file that has more than a text may have.
+    /// The first bytes of a file that has more than were wanted.
     Front(Vec<u8>),
     /// The read failed.
     Fault,
 }
 
-/// Reads a text from the shelf.
-pub fn read_text<F: Shelf>(alloc: Global, shelf: &mut F, name: &str) -> Result<TextRead, NoMemory>
-    ensures { IfOk result (IsReadFrom (shelved F.contents F.faults shelf.old shelf.new name.now)) }
+// Reads a file from the shelf by one call, into memory for as many bytes as are wanted.
+fn read_once<F: Shelf>(
+    alloc: Global,
+    shelf: &mut F,
+    name: &str,
+    most: usize,
+) -> Result<TextRead, NoMemory>
+    ensures read { IfOk result (IsReadFrom most (shelved F.contents F.faults shelf.old shelf.new name.now)) }
+    ensures counts { F.faults shelf.old name.now ≤ F.faults shelf.new name.now }
+    ensures contents { F.contents shelf.new name.now ≡ F.contents shelf.old name.now }
 {
-    let mut text = vec![in alloc; 0u8; MOST_BYTES]?;
+    let mut text = vec![in alloc; 0u8; most]?;
     match shelf.read(name, &mut text) {
         Ok(ReadEnd::Whole(count)) => {
             text.truncate(count);
@@ -32,5 +42,21 @@ pub fn read_text<F: Shelf>(alloc: Global, shelf: &mut F, name: &str) -> Result<T
         }
         Ok(ReadEnd::TooLong) => Ok(TextRead::Front(text)),
         Err(ReadFault) => Ok(TextRead::Fault),
+    }
+}
+
+/// Reads the file of that name from the shelf, or its first `most` bytes where it has more. Memory for more than a C text is taken only where
+/// the file is longer than one may be.
+pub fn read_text<F: Shelf>(
+    alloc: Global,
+    shelf: &mut F,
+    name: &str,
+    most: usize,
+) -> Result<TextRead, NoMemory>
+    ensures { IfOk result (IsReadFrom most (shelved F.contents F.faults shelf.old shelf.new name.now)) }
+{
+    match read_once(alloc, shelf, name, most.min(MOST_BYTES))? {
+        TextRead::Front(_) if MOST_BYTES < most => read_once(alloc, shelf, name, most),
+        read => Ok(read),
     }
 }

@@ -7,11 +7,12 @@ use Rattle.ak_trace.specs.declared.endings.TrapKind.TheVariants.{Store, Free}
 use Rattle.run_notes.specs.declared.status.Status.TheVariants as statuses
 use Rattle.run_report.specs.declared.report.Report.{Report}
 use Rattle.run_notes.specs.Reports.{report_text, end_text}
-use Rattle.run_notes.specs.Lines.{fault_line}
+use Rattle.run_notes.specs.Lines.{built_line, fault_line}
 use Rattle.ak_words.specs.declared.rule.Rule.TheVariants.{C5, C13}
 use Rattle.ak_trace.specs.declared.endings.Verdict.TheVariants as verdicts
 use Rattle.run_notes.specs.Checks.{check_line}
 use Rattle.run_notes.specs.Statuses.{number_of}
+use Rattle.pin_checker.specs.declared.fault.Why.TheVariants as reasons
 
 -- the report of a main that ends at once
 abbrev pub short_run : Report
@@ -92,3 +93,30 @@ checked_lines = refl
 pub numbers_of_checks : map number_of (statuses.Checked (verdicts.Broke C5 34 0) ∷ statuses.Checked (verdicts.Ended (pos 6) 2) ∷ statuses.Checked (verdicts.AllBlocked 3)
     ∷ statuses.Checked (verdicts.TurnsSpent 1000) ∷ []) ≡ 12 ∷ 0 ∷ 0 ∷ 0 ∷ []
 numbers_of_checks = refl
+
+-- code that was built, code that is none, and code that isn't safe for moves
+pub built_lines : built_line 0 ++ built_line 1234 ≡ codes "built: 0 bytes\nbuilt: 1234 bytes\n"
+unfolding digits
+built_lines = refl
+
+pub code_lines : fault_line (codes "a.c") [] statuses.CodeTooDeep ++ fault_line (codes "a.c") [] statuses.CodeTooLong ++ fault_line (codes "a.alsk") [] statuses.FileTooLong
+    ≡ codes "alaska: code too deep\nalaska: code too long\na.alsk: too long\n"
+code_lines = refl
+
+pub bad_code_lines : fault_line (codes "a.alsk") (codes "ALSX") (statuses.BadCode 3) ++ fault_line (codes "no.alsk") [] (statuses.BadCode 0)
+    ≡ codes "a.alsk: bad code at 3\nno.alsk: bad code at 0\n"
+unfolding digits
+bad_code_lines = refl
+
+pub unsafe_code_lines : fault_line (codes "a.alsk") [] (statuses.UnsafeCode 27 reasons.NotPinned) ++ fault_line (codes "a.alsk") [] (statuses.UnsafeCode 0 reasons.NoLook)
+    ++ fault_line (codes "b") [] (statuses.UnsafeCode 5 reasons.StaleLook) ++ fault_line (codes "b") [] (statuses.UnsafeCode 4294967295 reasons.BadTemp)
+    ≡ codes "a.alsk: unsafe code at 27: NotPinned\na.alsk: unsafe code at 0: NoLook\nb: unsafe code at 5: StaleLook\nb: unsafe code at 4294967295: BadTemp\n"
+unfolding digits
+unsafe_code_lines = refl
+
+pub no_line_of_built : fault_line (codes "a.c") [] statuses.Built ≡ []
+no_line_of_built = refl
+
+pub numbers_of_codes : map number_of (statuses.Built ∷ statuses.CodeTooDeep ∷ statuses.BadCode 4 ∷ statuses.UnsafeCode 27 reasons.NotPinned ∷ statuses.CodeTooLong
+    ∷ statuses.FileTooLong ∷ []) ≡ 0 ∷ 14 ∷ 15 ∷ 16 ∷ 17 ∷ 18 ∷ []
+numbers_of_codes = refl

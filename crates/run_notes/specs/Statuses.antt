@@ -28,6 +28,12 @@ number_of statuses.OutputLimit = 9
 number_of (statuses.StackLimit thread) = 10
 number_of statuses.NoMemory = 11
 number_of (statuses.Checked verdict) = number_of_check verdict
+number_of statuses.Built = 0
+number_of statuses.CodeTooDeep = 14
+number_of (statuses.BadCode at) = 15
+number_of (statuses.UnsafeCode place why) = 16
+number_of statuses.CodeTooLong = 17
+number_of statuses.FileTooLong = 18
 
 -- the status of a run that ended so, where all was written
 abbrev pub status_of : End → Status

@@ -1,6 +1,7 @@
 ghost use Rattle.std.specs.Prelude.{◌≡◌, ◌++◌, ◌==◌, [], length, not, reverse, take_while, IfOk, OnOk};
 ghost use Rattle.run_notes.specs.Lines.{column_at, fault_line, kind_name, kind_number, line_at, place_text, refusal_line};
 
+use crate::codes::{line_of_bad_code, line_of_unsafe_code};
 use crate::status::Status;
 use ak_words::NoMemory;
 use c_lex::Kind;
@@ -122,8 +123,17 @@ fn line_of_read_fault(alloc: Global, name: &str) -> Result<Vec<u8>, NoMemory>
     Ok(line)
 }
 
+// The line of a file that has more bytes than a code file may have.
+fn line_of_long_file(alloc: Global, name: &str) -> Result<Vec<u8>, NoMemory>
+    ensures { IfOk result (λ line. line.items ≡ fault_line name.now [] Status.FileTooLong) }
+{
+    let mut line = Vec::from_slice(alloc, name.as_bytes())?;
+    line.extend_from_slice(b": too long\n")?;
+    Ok(line)
+}
+
 /// The line that is written to note where no run began, by the status, and by the name and the text of the file. A run that ended has a report in its
-/// place, and a fault of writing has no line.
+/// place, a check and code that was built have a line of their own, and a fault of writing has none.
 pub fn fault_line(
     alloc: Global,
     name: &str,
@@ -137,6 +147,11 @@ pub fn fault_line(
         Status::Refused(place, kind) => line_of_refusal(alloc, name, text, place, kind),
         Status::ReadFault => line_of_read_fault(alloc, name),
         Status::NoMemory => Ok(Vec::from_slice(alloc, b"alaska: out of memory\n")?),
+        Status::CodeTooDeep => Ok(Vec::from_slice(alloc, b"alaska: code too deep\n")?),
+        Status::CodeTooLong => Ok(Vec::from_slice(alloc, b"alaska: code too long\n")?),
+        Status::BadCode(at) => line_of_bad_code(alloc, name, at),
+        Status::UnsafeCode { place, why } => line_of_unsafe_code(alloc, name, place, why),
+        Status::FileTooLong => line_of_long_file(alloc, name),
         _ => Ok(Vec::new(alloc)),
     }
 }

@@ -3,6 +3,7 @@ ghost use Rattle.run_notes.specs.Statuses.{number_of_check};
 
 use ak_trace::{TrapKind, Verdict};
 use c_lex::Kind;
+use pin_checker::Why;
 
 /// How a call of `alaska` ended.
 #[derive(Clone, Copy, Debug, PartialEq, Eq)]
@@ -31,6 +32,23 @@ pub enum Status {
     NoMemory,
     /// The text was checked against the rules of C, and this was found.
     Checked(Verdict),
+    /// The code of the text was written.
+    Built,
+    /// The code of the text has nodes that are nested deeper than a code file may have them.
+    CodeTooDeep,
+    /// The code of the text takes more bytes than a code file may have.
+    CodeTooLong,
+    /// The bytes are no code file: how many bytes at their front may begin one, or all of them where it is a condition that fails.
+    BadCode(u32),
+    /// The code of the file isn't safe for moves.
+    UnsafeCode {
+        /// The place that the first node tells that fails, as a byte offset from 0.
+        place: u32,
+        /// Its reason.
+        why: Why,
+    },
+    /// The file has more bytes than a code file may have.
+    FileTooLong,
 }
 
 // The number that the program ends with after a check.
@@ -47,8 +65,8 @@ impl Status {
     ghost use Rattle.std.specs.Prelude.{◌≡◌};
     ghost use Rattle.run_notes.specs.Statuses.{number_of};
 
-    /// The number that the program ends with: 0 exactly where `main` of the C program ended, or a check found no broken rule, and all was
-    /// written.
+    /// The number that the program ends with: 0 exactly where `main` of the C program ended, or a check found no broken rule, or its code was
+    /// built, and all was written.
     pub fn number(self) -> u8
         ensures { result ≡ number_of self }
     {
@@ -65,6 +83,12 @@ impl Status {
             Status::StackLimit(_) => 10,
             Status::NoMemory => 11,
             Status::Checked(verdict) => number_of_check(verdict),
+            Status::Built => 0,
+            Status::CodeTooDeep => 14,
+            Status::BadCode(_) => 15,
+            Status::UnsafeCode { .. } => 16,
+            Status::CodeTooLong => 17,
+            Status::FileTooLong => 18,
         }
     }
 }

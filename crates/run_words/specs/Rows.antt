@@ -1,7 +1,7 @@
 -- Words worked by hand.
 use Rattle.std.specs.Prelude.{◌≡◌, ℕ, List, [], ◌∷◌, codes, map, Some, None, replicate, refl}
 use Rattle.clap.proofs.OnLiterals.{clap_on_literals}
-use Rattle.flat_rules.specs.declared.settings.Mode.TheVariants.{Run, Churn, Check}
+use Rattle.flat_rules.specs.declared.settings.Mode.TheVariants.{Run, Churn, Check, Build, Load}
 use Rattle.run_words.specs.Numbers.{number_in}
 use Rattle.run_words.specs.Command.{alaska, are_taken, value_in}
 use Rattle.run_words.specs.Wanted.{Wanted, settings_of, wanted_by}
@@ -64,6 +64,16 @@ pub check : settings_of (called (codes "a.c" ∷ codes "--mode" ∷ codes "check
 unfolding settings_of are_taken alaska value_in wanted_by number_in clap_on_literals
 check = refl
 
+-- modes build and load have a file, and may have the same options
+pub build : settings_of (called (codes "--mode=build" ∷ codes "a.c" ∷ [])) ≡ Some (record plain { mode = Build })
+unfolding settings_of are_taken alaska value_in wanted_by number_in clap_on_literals
+build = refl
+
+pub load : settings_of (called (codes "--mode" ∷ codes "load" ∷ codes "a.alsk" ∷ codes "--workers" ∷ codes "2" ∷ codes "--every=8" ∷ []))
+    ≡ Some (record plain { file = Some (codes "a.alsk"); workers = 2; every = Some 8; mode = Load })
+unfolding settings_of are_taken alaska value_in wanted_by number_in clap_on_literals
+load = refl
+
 -- wrong words: no file, a number out of its range, no power of two, a mode without its options
 abbrev pub wrong_words : List (List (List ℕ))
 wrong_words = map called ([]
@@ -100,16 +110,20 @@ pub more_wrong_words_want_nothing : map settings_of more_wrong_words ≡ replica
 unfolding settings_of are_taken alaska value_in wanted_by number_in clap_on_literals
 more_wrong_words_want_nothing = refl
 
--- and of modes: a check without a file, or with a seed or a size, and the modes that have no word yet
+-- and of modes: a check, a build or a load without a file, or with a seed or a size, a mode of another spelling, and mode race, which has no
+-- word yet
 abbrev pub wrong_modes : List (List (List ℕ))
 wrong_modes = map called ((codes "--mode" ∷ codes "check" ∷ [])
     ∷ (codes "a.c" ∷ codes "--mode" ∷ codes "check" ∷ codes "--seed" ∷ codes "1" ∷ [])
     ∷ (codes "a.c" ∷ codes "--mode" ∷ codes "check" ∷ codes "--size" ∷ codes "3" ∷ [])
+    ∷ (codes "--mode" ∷ codes "build" ∷ [])
+    ∷ (codes "a.c" ∷ codes "--mode" ∷ codes "build" ∷ codes "--seed" ∷ codes "1" ∷ [])
+    ∷ (codes "--mode" ∷ codes "load" ∷ [])
+    ∷ (codes "a.c" ∷ codes "--mode" ∷ codes "load" ∷ codes "--size" ∷ codes "3" ∷ [])
+    ∷ (codes "a.c" ∷ codes "--mode" ∷ codes "Load" ∷ [])
     ∷ (codes "a.c" ∷ codes "--mode" ∷ codes "race" ∷ [])
-    ∷ (codes "a.c" ∷ codes "--mode" ∷ codes "build" ∷ [])
-    ∷ (codes "a.c" ∷ codes "--mode" ∷ codes "load" ∷ [])
     ∷ [])
 
-pub wrong_modes_want_nothing : map settings_of wrong_modes ≡ replicate 6 None
+pub wrong_modes_want_nothing : map settings_of wrong_modes ≡ replicate 9 None
 unfolding settings_of are_taken alaska value_in wanted_by number_in clap_on_literals
 wrong_modes_want_nothing = refl

@@ -40,11 +40,13 @@ wanted_of s = record {
   size = s.size;
 }
 
--- the mode of that name; modes race, build and load have none yet
+-- the mode of that name; mode race has none yet
 abbrev pub mode_named : List ℕ → Option Mode
 mode_named name = if bytes_eq name (codes "run") then Some Run
     else (if bytes_eq name (codes "churn") then Some Churn
-    else (if bytes_eq name (codes "check") then Some Check else None))
+    else (if bytes_eq name (codes "check") then Some Check
+    else (if bytes_eq name (codes "build") then Some Build
+    else (if bytes_eq name (codes "load") then Some Load else None))))
 
 -- the mode, which is run where the words name none
 abbrev pub mode_or_run : Option (List ℕ) → Option Mode
@@ -97,14 +99,14 @@ has_a_file w = is_some w.file && (is_none w.seed && is_none w.size)
 abbrev pub has_a_size : Wanted → Bool
 has_a_size w = is_none w.file && (is_some w.seed && is_some w.size)
 
--- modes run and check have a file; mode churn has none, but a seed and a size; nothing can be wanted of the others yet
+-- modes run, check, build and load have a file; mode churn has none, but a seed and a size; nothing can be wanted of mode race yet
 abbrev pub fits_mode_of : Mode → Wanted → Bool
 fits_mode_of Run w = has_a_file w
 fits_mode_of Churn w = has_a_size w
 fits_mode_of Check w = has_a_file w
 fits_mode_of Race w = false
-fits_mode_of Build w = false
-fits_mode_of Load w = false
+fits_mode_of Build w = has_a_file w
+fits_mode_of Load w = has_a_file w
 
 -- FILE, the seed and the size are there as the mode wants them
 abbrev pub fits_mode : Wanted → Bool

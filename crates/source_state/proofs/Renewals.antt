@@ -1,5 +1,5 @@
 -- What a realloc comes to, by what a free would come to.
-use Rattle.std.proofs.Common.{◌≡◌, ◌<◌, ◌^◌, ℕ, Bool, true, false, if◌then◌else◌, nat_lt, List, [], length, Option, Some, None, Result, Ok, Err, refl, sym, ap, subst, ◌∙◌, arith}
+use Rattle.std.proofs.Common.{◌≡◌, ◌^◌, ℕ, Bool, true, false, if◌then◌else◌, nat_lt, List, [], length, Some, Result, Ok, Err, refl}
 use Rattle.ak_words.specs.declared.rule.Rule.{Rule}
 use Rattle.ak_words.specs.declared.rule.Rule.TheVariants.{C10}
 use Rattle.block_store.specs.declared.values.Answer.{Answer}
@@ -7,7 +7,7 @@ use Rattle.block_store.specs.declared.values.Answer.TheVariants as answers
 use Rattle.block_store.specs.declared.values.Ptr.{Ptr}
 use Rattle.block_store.specs.declared.values.Ptr.TheVariants.{Null, To}
 use Rattle.block_store.specs.declared.values.Value.TheVariants as values
-use Rattle.block_store.specs.Actions.{World, Reached, Done, went, unfit, broke, under, renews, acted, reallocate, telling, with_blocks, with_reached}
+use Rattle.block_store.specs.Actions.{World, Reached, went, unfit, broke, under, renews, acted, reallocate, telling, with_blocks, with_reached}
 use Rattle.block_store.specs.Blocks.{Blocks, live, is_freeable, freed, renewed, answer_of}
 
 -- a realloc that breaks a rule breaks it under each answer

@@ -2,7 +2,6 @@ ghost use Rattle.std.specs.Prelude.{◌≡◌, ◌<◌, length, Ok, Err, IfOk, O
 ghost use Rattle.ak_words.specs.declared.rule.Rule.{Rule};
 ghost use Rattle.block_store.specs.declared.fault.StoreFault.TheVariants.{Broke};
 ghost use Rattle.block_store.specs.Blocks.{made, ended, freed, renewed, stored, copied, answer_of, store_after};
-ghost use Rattle.block_store.specs.Cells.{access_of};
 ghost use Rattle.block_store.specs.Mutexes.{locked, unlocked, lock_end, store_after_lock};
 ghost use Rattle.source_state.specs.inner.Back.{back_by};
 ghost use Rattle.source_state.specs.inner.Locks.{unkept};

@@ -2,8 +2,9 @@ use ak_io::{MemShelf, MemSink};
 use ak_trace::{End, TrapKind, Verdict};
 use ak_words::{NoMemory, Rule};
 use c_lex::Kind;
-use run_edges::{TextRead, read_text, write_ending};
-use run_notes::{Status, check_line, fault_line, push_report, status_of};
+use pin_checker::Why;
+use run_edges::{MOST_BYTES, MOST_FILE_BYTES, TextRead, read_text, write_ending};
+use run_notes::{Status, built_line, check_line, fault_line, push_report, status_of};
 use run_report::{LastBarrier, Report};
 use std::alloc::Global;
 use std::process::Abort;
@@ -119,24 +120,86 @@ fn lines_of_a_check(rt: HostRuntime) -> Result<(), Fail> {
     Ok(())
 }
 
-// The first byte of the file of this name, where it was read to its end.
-fn first_byte(alloc: Global, shelf: &mut MemShelf, name: &str) -> Result<Option<u8>, NoMemory> {
-    match read_text(alloc, shelf, name)? {
-        TextRead::Whole(text) => Ok(text.first().copied()),
-        TextRead::Front(_) | TextRead::Fault => Ok(None),
+#[test]
+fn lines_of_code(rt: HostRuntime) -> Result<(), Fail> {
+    let alloc = rt.alloc();
+    assert!(rt; built_line(alloc, 1_234)?.as_slice() == b"built: 1234 bytes\n".as_slice());
+    let place = 27;
+    let why = Why::NotPinned;
+    let lines: [(Status, u8, &[u8]); 5] = [
+        (Status::CodeTooDeep, 14, b"alaska: code too deep\n"),
+        (Status::BadCode(3), 15, b"a.c: bad code at 3\n"),
+        (
+            Status::UnsafeCode { place, why },
+            16,
+            b"a.c: unsafe code at 27: NotPinned\n",
+        ),
+        (Status::CodeTooLong, 17, b"alaska: code too long\n"),
+        (Status::FileTooLong, 18, b"a.c: too long\n"),
+    ];
+    for (status, number, line) in lines {
+        has_line(&rt, alloc, b"", status, line)?;
+        assert_eq!(rt; status.number(), number);
     }
+    assert_eq!(rt; Status::Built.number(), 0);
+    Ok(())
+}
+
+// How many bytes were read of the file of this name, of which so many are wanted at most, and whether that is all of it; none where the read
+// failed.
+fn bytes_read(
+    alloc: Global,
+    shelf: &mut MemShelf,
+    name: &str,
+    most: usize,
+) -> Result<Option<(usize, bool)>, NoMemory> {
+    match read_text(alloc, shelf, name, most)? {
+        TextRead::Whole(text) => Ok(Some((text.len(), true))),
+        TextRead::Front(text) => Ok(Some((text.len(), false))),
+        TextRead::Fault => Ok(None),
+    }
+}
+
+// A shelf of one file of so many bytes, of which these reads fail.
+fn shelf_of(alloc: Global, count: usize, failing: &[u32]) -> Result<MemShelf, NoMemory> {
+    let mut files = Vec::new(alloc);
+    let name = String::from_str(alloc, "a.c")?;
+    files.push((name, vec![in alloc; b'i'; count]?))?;
+    Ok(MemShelf::new(alloc, files, failing.to_vec(alloc)?)?)
 }
 
 #[test]
 fn a_file_that_is_read(rt: HostRuntime) -> Result<(), Fail> {
-    let mut files = Vec::new(rt.alloc());
-    let name = String::from_str(rt.alloc(), "a.c")?;
-    files.push((name, b"int".to_vec(rt.alloc())?))?;
-    let mut shelf = MemShelf::new(rt.alloc(), files, Vec::new(rt.alloc()))?;
-    let told = first_byte(rt.alloc(), &mut shelf, "a.c")?;
-    assert_eq!(rt; told, Some(b'i'));
-    let untold = first_byte(rt.alloc(), &mut shelf, "b.c")?;
-    assert_eq!(rt; untold, None);
+    let alloc = rt.alloc();
+    let mut shelf = shelf_of(alloc, 3, &[])?;
+    let whole = bytes_read(alloc, &mut shelf, "a.c", MOST_BYTES)?;
+    assert_eq!(rt; whole, Some((3, true)));
+    let front = bytes_read(alloc, &mut shelf, "a.c", 2)?;
+    assert_eq!(rt; front, Some((2, false)));
+    let none = bytes_read(alloc, &mut shelf, "b.c", MOST_BYTES)?;
+    assert_eq!(rt; none, None);
+    Ok(())
+}
+
+#[test]
+fn a_file_longer_than_a_text(rt: HostRuntime) -> Result<(), Fail> {
+    let alloc = rt.alloc();
+    let count = MOST_BYTES + 1;
+    let mut shelf = shelf_of(alloc, count, &[])?;
+    let front = bytes_read(alloc, &mut shelf, "a.c", MOST_BYTES)?;
+    assert_eq!(rt; front, Some((MOST_BYTES, false)));
+    let whole = bytes_read(alloc, &mut shelf, "a.c", MOST_FILE_BYTES)?;
+    assert_eq!(rt; whole, Some((count, true)));
+    Ok(())
+}
+
+// The second step of reading a long file may fail as the first may.
+#[test]
+fn a_second_read_that_fails(rt: HostRuntime) -> Result<(), Fail> {
+    let alloc = rt.alloc();
+    let mut shelf = shelf_of(alloc, MOST_BYTES + 1, &[2])?;
+    let none = bytes_read(alloc, &mut shelf, "a.c", MOST_FILE_BYTES)?;
+    assert_eq!(rt; none, None);
     Ok(())
 }
 

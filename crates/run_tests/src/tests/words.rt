@@ -84,3 +84,17 @@ fn mode_check(rt: HostRuntime) -> Result<(), Fail> {
     are_wrong(&rt, rt.alloc(), "a.c --mode race")?;
     Ok(())
 }
+
+#[test]
+fn modes_of_code_files(rt: HostRuntime) -> Result<(), Fail> {
+    let built = wanted(rt.alloc(), "a.c --mode build")?.ok_or("wrong words")?;
+    assert!(rt; built.mode == Mode::Build);
+    let loaded = wanted(rt.alloc(), "--mode=load a.alsk --workers 2")?.ok_or("wrong words")?;
+    assert!(rt; loaded.mode == Mode::Load);
+    assert_eq!(rt; loaded.workers, 2);
+    are_wrong(&rt, rt.alloc(), "--mode build")?;
+    are_wrong(&rt, rt.alloc(), "a.c --mode build --size 3")?;
+    are_wrong(&rt, rt.alloc(), "--mode load")?;
+    are_wrong(&rt, rt.alloc(), "a.c --mode load --seed 1")?;
+    Ok(())
+}

@@ -1,0 +1,9 @@
+pub mod Writing
+pub mod Spelled
+pub mod Tags
+pub mod Parts
+pub mod Nodes
+pub mod WholeFiles
+pub mod Fitting
+pub mod Depths
+pub mod Saved

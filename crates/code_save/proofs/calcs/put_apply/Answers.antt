@@ -1,0 +1,6 @@
+use Rattle.std.proofs.Common.{◌≡◌, arith, refl, sym, ap, ◌∙◌}
+use Rattle.code_save.proofs.Writing.{on_ok, pair_wrote}
+use Rattle.code_save.proofs.calcs.put_apply.Goals as goal
+
+pub returns : goal.returns
+returns c = on_ok c.put_two.result (λ w. pair_wrote c.in_ok-put_op.ensures (pair_wrote c.in_ok-put_type.ensures (w))) c.put_two.ensures

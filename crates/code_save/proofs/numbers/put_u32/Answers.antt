@@ -1,0 +1,7 @@
+use Rattle.std.proofs.Common.{◌≡◌, arith, refl, sym, ap, ◌∙◌}
+use Rattle.code_save.proofs.Writing.{on_ok}
+use Rattle.code_save.proofs.Spelled.{u32_wrote}
+use Rattle.code_save.proofs.numbers.put_u32.Goals as goal
+
+pub returns : goal.returns
+returns c = on_ok c.put.result (u32_wrote c.args.n c.to_le_bytes.result (omega (arith, c.ranges.n.fits)) c.to_le_bytes.ensures) c.put.ensures
