@@ -15,8 +15,8 @@ use Rattle.rule_check.specs.Reports.{Report}
 use Rattle.code_save.specs.Saves.{Saves}
 use Rattle.code_save.specs.declared.fault.SaveFault.TheVariants.{TooDeep, TooLong}
 use Rattle.run_notes.specs.Checks.{check_line}
-use Rattle.run_notes.specs.Codes.{built_line}
-use Rattle.run_notes.specs.Lines.{fault_line}
+
+use Rattle.run_notes.specs.Lines.{built_line, fault_line}
 use Rattle.run_notes.specs.declared.status.Status.{Status}
 use Rattle.run_notes.specs.declared.status.Status.TheVariants as statuses
 use Rattle.run_notes.specs.Statuses.{status_of}
