@@ -15,7 +15,6 @@ use Rattle.rule_check.specs.Reports.{Report}
 use Rattle.code_save.specs.Saves.{Saves}
 use Rattle.code_save.specs.declared.fault.SaveFault.TheVariants.{TooDeep, TooLong}
 use Rattle.run_notes.specs.Checks.{check_line}
-
 use Rattle.run_notes.specs.Lines.{built_line, fault_line}
 use Rattle.run_notes.specs.declared.status.Status.{Status}
 use Rattle.run_notes.specs.declared.status.Status.TheVariants as statuses

@@ -36,6 +36,9 @@ returns-in-Ok-Opened-clause-headline g c =
       stay = c.accesses_of_journals_stay.ensures;
     })
 
+pub returns-in-Ok-Opened-clause-causes : goal.returns-in-Ok-Opened-clause-causes
+returns-in-Ok-Opened-clause-causes g c = causes _ _ _ _ _ (returns-in-Ok-Opened-clause-headline g c)
+
 pub returns-in-Ok-Opened-clause-answers : goal.returns-in-Ok-Opened-clause-answers
 returns-in-Ok-Opened-clause-answers g c = answers _ _ _ _ _ (returns-in-Ok-Opened-clause-headline g c) c.read_each_text_once.ensures.not_both c.read_each_text_once.ensures.one_reason c.load_each_file_once.ensures.not_both c.load_each_file_once.ensures.one_reason
 
