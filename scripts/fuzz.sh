@@ -3,32 +3,39 @@
 # one run of four words of the command line too. One text of three gets names of types, an enum, and a function of drawn switches and dos, before
 # it is changed. Each run is of one worker with 1000 entries, and must end in EACH seconds, by no signal, with a status of README's table and what
 # that table says of standard error.
-# Use: scripts/fuzz.sh SECONDS [SEED [EACH]]      prints how many runs had each status and how many texts were compiled. It ends with 0 where each run
-#   was as it must be and a tenth or more of the texts were compiled. The texts, words and outputs of the runs at fault lie in a folder that it names.
+# With --code it runs the program over code files that are changed at random: those that it builds of examples/ first, in which bytes are changed,
+# deleted and doubled, and cut ones.
+# Use: scripts/fuzz.sh [--code] SECONDS [SEED [EACH]]      prints how many runs had each status and how many texts were compiled, or code files
+#   loaded. It ends with 0 where each run was as it must be and a tenth or more of the texts were, or a twentieth of the code files. The texts or
+#   code files, words and outputs of the runs at fault lie in a folder that it names.
 # SEED is 1 and EACH 20 where they are left out. The same seed gives the same texts in the same order.
 # It runs $ALASKA, or else bin/alaska, or else the program that ./alaska builds once without a proof.
 set -eu
-[ $# -gt 0 ] || { echo "use: scripts/fuzz.sh SECONDS [SEED [EACH]]" >&2; exit 2; }
+what=text
+[ "${1:-}" != --code ] || { what=code; shift; }
+[ $# -gt 0 ] || { echo "use: scripts/fuzz.sh [--code] SECONDS [SEED [EACH]]" >&2; exit 2; }
 here=$(cd "$(dirname "$0")/.." && pwd)
 . "$here/scripts/built.sh"
 find_program take_unproved
-python3 /dev/fd/3 "$program" "$here/examples" "$1" "${2:-1}" "${3:-20}" 3<<'END'
+python3 /dev/fd/3 $what "$program" "$here/examples" "$1" "${2:-1}" "${3:-20}" 3<<'END'
 import collections, glob, os, random, re, subprocess, sys, tempfile, time
 
 # What stands on standard error, by status: README's table. Those of a text that was compiled are in RAN.
 NOTES = {
-    0: rb"ended: done \d+\n", 2: rb"usage: alaska FILE \[options\]\n", 3: rb".*:\d+:\d+: refused: .*\n", 4: rb"alaska: can't read .*\n",
+    0: rb"ended: done -?\d+\n", 2: rb"usage: alaska FILE \[options\]\n", 3: rb".*:\d+:\d+: refused: .*\n", 4: rb"alaska: can't read .*\n",
     5: rb"", 6: rb"ended: trap \w+ \d+\n", 7: rb"ended: all blocked\n", 8: rb"ended: turn limit\n", 9: rb"ended: output limit\n",
     10: rb"ended: stack limit \d+\n", 11: rb"alaska: out of memory\n", 12: rb".*:\d+:\d+: broke C\d+ after \d+ turns\n",
+    15: rb"text.c: bad code at \d+\n", 16: rb"text.c: unsafe code at \d+: (NoLook|StaleLook|NotPinned|BadTemp)\n",
 }
 CHECKED = rb"checked: (done -?\d+|all blocked|turns spent) after \d+ turns\n"
+BUILT = rb"built: \d+ bytes\n"
 RAN = 0, 6, 7, 8, 9, 10
 REPORT = rb"threads: \d+\nentries: \d+\nbarriers: \d+\nmoved: .*\nlive: .*\nextent: .*\nlast barrier: .*\n"
 TOKEN = re.compile(r'[A-Za-z_]\w*|\d+|"(?:\\.|[^"\\\n])*"|//[^\n]*|/\*.*?\*/|\s+|[-+<>=!&|]{2}|.', re.S)
 OPTIONS = {
     "workers": "1 2 4 16 0 17", "schedule": "0 7 18446744073709551615 18446744073709551616", "every": "1 3 100 0 1000000",
     "subheap": "4096 65536 16777216 5000", "subheaps": "1 2 16 256 257", "ids": "1 2 1000 1048576 0", "output": "1 3 1000 16777216",
-    "mode": "run check check churn walk", "seed": "0 1 99", "size": "1 3 40 4000",
+    "mode": "run check check build load churn walk", "seed": "0 1 99", "size": "1 3 40 4000",
 }
 
 # What the drawn statements are made of.
@@ -108,6 +115,28 @@ def text_of(draw, texts):
     return bytes(text)
 
 
+def code_of(draw, codes):
+    """Returns a changed code file: in one of eight cut, else with some bytes changed, deleted or doubled."""
+    code = bytearray(draw.choice(codes))
+    if draw.random() < 0.125:
+        return bytes(code[: draw.randrange(len(code))])
+    for _ in range(draw.choice((1, 1, 1, 2, 4))):
+        at = draw.randrange(len(code))
+        how = draw.choice(("flip", "small", "any", "delete", "double"))
+        if how == "delete":
+            del code[at : at + draw.choice((1, 4))]
+        elif how == "double":
+            code[at:at] = code[at : at + draw.choice((1, 4))]
+        else:
+            code[at] = {"flip": code[at] ^ 1 << draw.randrange(8), "small": draw.randrange(4), "any": draw.randrange(256)}[how]
+    return bytes(code)
+
+
+def built(program, names):
+    """Returns the code files of these C files."""
+    return [subprocess.run([program, it, "--mode", "build"], stdin=subprocess.DEVNULL, capture_output=True, check=True).stdout for it in names]
+
+
 def words_of(draw):
     """Returns further words: none in three of four, else options with values, some of them changed by bytes."""
     words = []
@@ -121,11 +150,11 @@ def words_of(draw):
     return [os.fsencode(it) for it in words]
 
 
-def judge(program, text, words, each):
+def judge(program, text, words, more, each):
     """Runs the program; returns its status, or None where it gave no answer, its outputs, and whether all is as it must be."""
     with open("text.c", "wb") as it:
         it.write(text)
-    command = [program, "text.c", *words, "--workers=1", "--entries=1000"]
+    command = [program, "text.c", *words, *(() if b"--mode" in words else more), "--workers=1", "--entries=1000"]
     try:
         ran = subprocess.run(command, stdin=subprocess.DEVNULL, capture_output=True, timeout=each)
     except subprocess.TimeoutExpired:
@@ -133,16 +162,20 @@ def judge(program, text, words, each):
     note = NOTES.get(ran.returncode, rb"(?!)") + REPORT * (ran.returncode in RAN)
     if ran.returncode == 0 and re.search(rb"check", b" ".join(words)):
         note += b"|" + CHECKED
+    if ran.returncode == 0 and re.search(rb"build", b" ".join(words)):
+        note += b"|" + BUILT
     return ran.returncode, ran.stdout, ran.stderr, re.fullmatch(note, ran.stderr) is not None
 
 
-def main(program, examples, seconds, seed, each):
-    draw, end, counts, kept = random.Random(int(seed)), time.time() + float(seconds), collections.Counter(), []
-    texts = [open(it).read() for it in sorted(glob.glob(f"{examples}/*.c"))]
-    folder = None
+def main(what, program, examples, seconds, seed, each):
+    draw, counts, kept = random.Random(int(seed)), collections.Counter(), []
+    names = sorted(glob.glob(f"{examples}/*.c"))
+    texts = built(program, names) if what == "code" else [open(it).read() for it in names]
+    change, more = (code_of, ["--mode=load"]) if what == "code" else (text_of, [])
+    folder, end = None, time.time() + float(seconds)
     while time.time() < end:
-        text, words = text_of(draw, texts), words_of(draw)
-        status, out, note, good = judge(program, text, words, float(each))
+        text, words = change(draw, texts), words_of(draw)
+        status, out, note, good = judge(program, text, words, more, float(each))
         counts[status] += 1
         if not good:
             folder = folder or tempfile.mkdtemp(prefix="alaska-fuzz-", dir="/tmp")
@@ -153,12 +186,14 @@ def main(program, examples, seconds, seed, each):
     whole, ran = sum(counts.values()), sum(counts[it] for it in (*RAN, 12))
     for status in sorted(counts, key=lambda it: (it is None, it)):
         print(f"{'no answer' if status is None else f'status {status}':<12}{counts[status]:>8}")
-    print(f"{whole} runs with seed {seed}, {ran} of texts that were compiled ({100 * ran / max(whole, 1):.1f} %), {len(kept)} at fault")
+    done = "code files that were loaded" if what == "code" else "texts that were compiled"
+    print(f"{whole} runs with seed {seed}, {ran} of {done} ({100 * ran / max(whole, 1):.1f} %), {len(kept)} at fault")
     if kept:
         print(f"what they ran is kept in {folder}")
-    if ran * 10 < whole:
-        print("fewer than a tenth were compiled")
-    return 1 if kept or ran * 10 < whole or not whole else 0
+    few = ran * (20 if what == "code" else 10) < whole
+    if few:
+        print("fewer than a twentieth were loaded" if what == "code" else "fewer than a tenth were compiled")
+    return 1 if kept or few or not whole else 0
 
 
 sys.exit(main(*sys.argv[1:]))

@@ -1,6 +1,7 @@
 #!/usr/bin/env bash
 # Runs the program over what may harm it: C texts that break rules and pass limits, files that can't be read, outputs that can't be written,
-# texts that are none, words that are wrong, and little memory. Each run is of one worker with 1000 entries, and has 20 seconds.
+# texts that are none, code files that are cut, deep, long or none, words that are wrong, and little memory. Each run is of one worker with 1000
+# entries, and has 20 seconds, or 120 where the program is built with checks.
 # Use: scripts/hostile.sh      prints a line for each case that went another way, and how many there were; ends with 0 where none did.
 # It runs $ALASKA, or else bin/alaska, or else the program that ./alaska builds once without a proof. A program that is built with checks takes no
 # `ulimit -v`; that part is then left out, and a line says so.
@@ -11,7 +12,8 @@ find_program take_unproved
 cases=0
 wrong=0
 small=(--workers 1 --entries 1000)
-alaska=(timeout -k 1 20 "$program")
+[ "$checked" = yes ] && seconds=120 || seconds=20
+alaska=(timeout -k 1 $seconds "$program")
 
 # Compares the run that just ended, of which out and note were written.
 judge() { # name status-that-is-wanted status-that-came what-out-is what-note-has
@@ -85,6 +87,11 @@ file 4 "alaska: can't read /proc/self/mem" /proc/self/mem
 file 4 "alaska: can't read folder" folder --mode check
 file 4 "alaska: can't read missing.c" missing.c --mode check
 file 4 "alaska: can't read " '' --mode check
+for mode in build load; do
+  file 4 "alaska: can't read folder" folder --mode $mode
+  file 4 "alaska: can't read missing.c" missing.c --mode $mode
+  file 4 "alaska: can't read " '' --mode $mode
+done
 cp "$program" readable
 echo 'int main(void) { return 0; }' >hidden.c
 chmod 000 hidden.c
@@ -129,6 +136,95 @@ awk 'BEGIN { printf "int main(void){return "; for (i = 0; i < 50000; i++) printf
 file 3 'refused: TooDeep' deep.c
 file 3 'refused: TooDeep' deep.c --mode check
 
+# Code that is built, and loaded: it ends as its text does. A text that is refused is refused here too.
+build() { # text code
+  printf '%s\n' "$1" >text.c
+  "${alaska[@]}" text.c --mode build >"$2" 2>note
+  judge "build $1" 0 $? - "built: $(stat -c %s "$2") bytes"
+}
+
+code() { # status what-is-printed what-the-report-has file words..
+  "${alaska[@]}" "$4" --mode load "${small[@]}" "${@:5}" >out 2>note
+  judge "code $4" "$1" $? "$2" "$3"
+}
+
+build 'int main(void){int *p=malloc(4);*p=41;*p=*p+1;printf("%d\n",*p);free(p);return 0;}' heap.alsk
+code 0 42 'ended: done 0' heap.alsk
+build 'int main(void){char *p=malloc(16);p[100000000]=1;return 0;}' trap.alsk
+code 6 '' 'ended: trap store 104198400' trap.alsk
+build 'mtx_t m;int main(void){mtx_init(&m,mtx_plain);mtx_lock(&m);mtx_lock(&m);return 0;}' blocked.alsk
+code 7 '' 'ended: all blocked' blocked.alsk
+build 'int f(int n){return f(n+1);}int main(void){return f(0);}' calls.alsk
+code 10 '' 'ended: stack limit 0' calls.alsk
+text 3 '' 'text.c:1:23: refused: OutsideSubset 2' 'int main(void){return 1.5;}' --mode build
+file 3 'refused: TooDeep' deep.c --mode build
+build=("${alaska[@]}" prints.c --mode build)
+"${build[@]}" >/dev/full 2>note; judge 'a full standard output of code' 5 $? - ''
+"${build[@]}" >&- 2>note; judge 'a closed standard output of code' 5 $? - ''
+"${build[@]}" >out 2>/dev/full; judge 'a full standard error of code' 5 $? - -
+"${alaska[@]}" heap.alsk --mode load >/dev/full 2>note; judge 'a full standard output of what was loaded' 5 $? - ''
+"${alaska[@]}" heap.alsk --mode load >out 2>/dev/full; judge 'a full standard error of what was loaded' 5 $? 42 -
+
+# Code files that are cut (a program that is built with checks takes every 40th cut), that go on, and that are none.
+whole=$(stat -c %s heap.alsk)
+[ "$checked" = yes ] && step=40 || step=1
+for ((cut = 0; cut < whole; cut += step)); do
+  head -c $cut heap.alsk >cut.alsk
+  code 15 '' "cut.alsk: bad code at $cut" cut.alsk
+done
+{ cat heap.alsk; printf '\0'; } >more.alsk
+code 15 '' "more.alsk: bad code at $whole" more.alsk
+printf ALSX >other.alsk
+code 15 '' 'other.alsk: bad code at 3' other.alsk
+printf 'ALSK\2\0\0\0' >second.alsk
+code 15 '' 'second.alsk: bad code at 4' second.alsk
+code 15 '' 'prints.c: bad code at 0' prints.c
+code 15 '' '/dev/null: bad code at 0' /dev/null
+code 18 '' '/dev/zero: too long' /dev/zero
+code 18 '' '/dev/full: too long' /dev/full
+head -c 104857600 /dev/zero >big.alsk
+code 18 '' 'big.alsk: too long' big.alsk
+head -c 67108865 /dev/zero >big.alsk
+code 18 '' 'big.alsk: too long' big.alsk
+head -c 67108864 /dev/zero >big.alsk
+code 15 '' 'big.alsk: bad code at 0' big.alsk
+rm big.alsk
+
+# Counts of 2^32 - 1 items, of each list from the front on, alone and with a million zero bytes behind them.
+start='ALSK\1\0\0\0\0\0\0\0' none='\0\0\0\0' one='\1\0\0\0' all='\377\377\377\377'
+count() { # the bytes before the count
+  printf "$start$1$all" >count.alsk
+  code 15 '' "count.alsk: bad code at $(stat -c %s count.alsk)" count.alsk
+  head -c 1000000 /dev/zero >>count.alsk
+  code 15 '' 'count.alsk: bad code at ' count.alsk
+}
+count ''                                              # globals
+count "$none"                                         # literals
+count "$none$one"                                     # bytes of a literal
+count "$none$none"                                    # functions
+count "$none$none$one$none$none$none"                 # stack objects
+count "$none$none$one$none$none$none$none"            # nodes
+# (so many registers, slots and bytes of an object no thread has)
+for function in "$none$all$none$none" "$none$none$all$none" "$none$none$none$one$all\1"; do
+  printf "$start$none$none$one$function$none" >large.alsk
+  code 10 '' 'ended: stack limit 0' large.alsk
+done
+printf "ALSK$one$all$none$none$one$none$none$none$none$none" >main.alsk
+code 15 '' "main.alsk: bad code at $(stat -c %s main.alsk)" main.alsk
+
+# Ifs in each other: a main of one register. A program that is built with checks needs more stack for them.
+levels() { # how many
+  printf "$start$none$none$one$none$one$none$none"
+  for ((k = 0; k < $1; k++)); do printf "$one$none\1$none"; done
+  head -c $((4 + 4 * $1)) /dev/zero
+}
+levels 1024 >deep.alsk
+levels 1025 >deeper.alsk
+[ "$checked" = yes ] && soft=$(ulimit -S -s) && ulimit -S -s 65536
+code 0 '' 'ended: done 0' deep.alsk
+code 15 '' 'deeper.alsk: bad code at 13352' deeper.alsk
+[ "$checked" = yes ] && ulimit -S -s "$soft"
+
 # Words that are no settings.
 words
 words text.c prints.c
@@ -154,6 +250,15 @@ words text.c --mode check --size 3
 words text.c --mode check --entries 999
 words text.c --mode check --entries 16000001
 words text.c --mode check --mode check
+for mode in build load; do
+  words --mode $mode
+  words text.c prints.c --mode $mode
+  words text.c --mode $mode --seed 1
+  words text.c --mode $mode --size 3
+  words text.c --mode $mode --entries 999
+done
+words text.c --mode Build
+words text.c --mode race
 words --mode churn --size 3
 words --mode churn --seed 1 --size 0
 words text.c --mode churn --seed 1 --size 3

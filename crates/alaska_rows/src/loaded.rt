@@ -15,16 +15,16 @@ use std::marker::Sync;
 use std::sync::Wait;
 use std::thread::Threads;
 
-// The row whose code file is changed.
+// The rows whose code files are changed.
 const HEAP: Row = Row("alaska heap.c", "ended live heap.c:");
 
-// The front of a step that stores an int through a pointer: the tag of a step, that of a store, the type, and a list of one access.
-const STORE: [u8; 7] = [7, 1, 2, 1, 0, 0, 0];
+const MOVES: Row = Row("alaska moves.c --every 1", "ended live moves.c:");
 
-// How many bytes stand between that front and the step's list: an access, no register for a result, and a list of one register.
-const BEFORE_LIST: usize = 36;
+// The tag of a safepoint, and the count of a list of one slot.
+const SAFEPOINT: [u8; 5] = [9, 1, 0, 0, 0];
 
 // How many rows came to what.
+#[derive(Clone, Copy)]
 struct Counts {
     alike: u32,
     refused: u32,
@@ -83,10 +83,8 @@ fn are_lines_alike(one: &[u8], other: &[u8], words: &str) -> bool {
     let one = str::from_utf8(one).unwrap_or("?");
     let other = str::from_utf8(other).unwrap_or("!");
     one.lines().count() == other.lines().count()
-        && one
-            .lines()
-            .zip(other.lines())
-            .all(|(a, b)| a == b || (!is_shown(a, words) && !is_shown(b, words)))
+        && one.lines().zip(other.lines()).all(|(a, b)| a == b
+            || (!is_shown(a, words) && !is_shown(b, words)))
 }
 
 // Whether two calls wrote the same and ended so.
@@ -149,21 +147,16 @@ fn with_a_byte(alloc: Global, bytes: &[u8]) -> Result<Vec<u8>, NoMemory> {
     Ok(longer)
 }
 
-// Where the first store of an int stands in a code file.
-fn store_in(bytes: &[u8]) -> usize {
-    bytes
-        .windows(STORE.len())
-        .position(|front| front == STORE.as_slice())
-        .unwrap_or(0)
-}
-
-// The bytes, where the first store of an int lists no slot in place of its one.
+// The bytes, where the first safepoint that lists one slot lists none.
 fn without_a_slot(alloc: Global, bytes: &[u8]) -> Result<Vec<u8>, NoMemory> {
-    let list = store_in(bytes).saturating_add(STORE.len() + BEFORE_LIST);
-    let behind = list.saturating_add(8).min(bytes.len());
-    let mut fewer = bytes[..list.min(bytes.len())].to_vec(alloc)?;
-    fewer.extend_from_slice(&[0; 4])?;
-    fewer.extend_from_slice(&bytes[behind..])?;
+    let place = bytes
+        .windows(SAFEPOINT.len())
+        .position(|front| front == SAFEPOINT.as_slice())
+        .unwrap_or(0);
+    let (before, list) = bytes.split_at(place.min(bytes.len()));
+    let mut fewer = before.to_vec(alloc)?;
+    fewer.extend_from_slice(&[9, 0, 0, 0, 0])?;
+    fewer.extend_from_slice(&list[list.len().min(9)..])?;
     Ok(fewer)
 }
 
@@ -171,28 +164,46 @@ fn without_a_slot(alloc: Global, bytes: &[u8]) -> Result<Vec<u8>, NoMemory> {
 fn show_loaded<R: Threads + Wait + Sync + Print>(
     rt: &R,
     alloc: Global,
+    row: &Row,
     what: &'static str,
     bytes: &[u8],
 ) -> io::Result<()> {
-    match load(rt, alloc, &HEAP, bytes) {
-        Ok(shown) => show(rt, &Row(what, HEAP.1), &shown),
+    match load(rt, alloc, row, bytes) {
+        Ok(shown) => show(rt, &Row(what, row.1), &shown),
         Err(NoMemory) => println!(rt; "no memory"),
     }
 }
 
-// What was built of a text, whole and changed.
-fn show_changed<R: Threads + Wait + Sync + Files + Print>(rt: &R, alloc: Global) -> io::Result<()> {
-    let Ok(built) = build(rt, alloc, &HEAP) else {
+// How a code file is changed.
+#[derive(Clone, Copy)]
+enum Change {
+    MoreBytes,
+    FewerSlots,
+}
+
+fn changed(alloc: Global, bytes: &[u8], change: Change) -> Result<Vec<u8>, NoMemory> {
+    match change {
+        Change::MoreBytes => with_a_byte(alloc, bytes),
+        Change::FewerSlots => without_a_slot(alloc, bytes),
+    }
+}
+
+// What was built of a row's text, loaded as it is and changed.
+fn show_changed<R: Threads + Wait + Sync + Files + Print>(
+    rt: &R,
+    alloc: Global,
+    row: &Row,
+    change: Change,
+) -> io::Result<()> {
+    let Ok(built) = build(rt, alloc, row) else {
         return println!(rt; "no memory");
     };
     let bytes = built.out.bytes();
-    show_loaded(rt, alloc, "what was built of heap.c", bytes)?;
-    let (Ok(longer), Ok(fewer)) = (with_a_byte(alloc, bytes), without_a_slot(alloc, bytes)) else {
-        return println!(rt; "no memory");
-    };
-    show_loaded(rt, alloc, "the same and a zero byte", &longer)?;
-    println!(rt; "of {} bytes", longer.len())?;
-    show_loaded(rt, alloc, "the same without the slot of its first store", &fewer)
+    show_loaded(rt, alloc, row, "as it was built", bytes)?;
+    match changed(alloc, bytes, change) {
+        Ok(bytes) => show_loaded(rt, alloc, row, "changed", &bytes),
+        Err(NoMemory) => println!(rt; "no memory"),
+    }
 }
 
 /// Makes each call.
@@ -201,8 +212,9 @@ pub fn show_loads<R: Threads + Wait + Sync + Files + Print>(
     alloc: Global,
 ) -> io::Result<()> {
     show_rows(rt, alloc)?;
-    show_loaded(rt, alloc, "no bytes", b"")?;
-    show_loaded(rt, alloc, "ALSK", b"ALSK")?;
-    show_loaded(rt, alloc, "ALSX", b"ALSX")?;
-    show_changed(rt, alloc)
+    show_loaded(rt, alloc, &HEAP, "no bytes", b"")?;
+    show_loaded(rt, alloc, &HEAP, "ALSK", b"ALSK")?;
+    show_loaded(rt, alloc, &HEAP, "ALSX", b"ALSX")?;
+    show_changed(rt, alloc, &HEAP, Change::MoreBytes)?;
+    show_changed(rt, alloc, &MOVES, Change::FewerSlots)
 }

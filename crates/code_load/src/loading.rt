@@ -32,6 +32,7 @@ pub enum LoadFault {
 const MOST_FILE_BYTES: u32 = 67_108_864;
 
 // Judges and checks the code that a file of so many bytes spells.
+#[tactic(auto, using(crate::proofs::Lawful::too_long, crate::proofs::Lawful::unlawful, crate::proofs::Lawful::lawful))]
 fn judge(alloc: Global, bytes: u32, raw: RawCode) -> Result<Checked, LoadFault>
     ensures { Judged bytes (raw_view raw) result }
 {

@@ -1,11 +1,12 @@
 -- How deep rows of nodes are.
-use Rattle.std.proofs.Common.{◌≡◌, ℕ, zero, suc, ◌-◌, ◌+◌, ◌<◌, ◌≤◌, max, Bool, true, false, ◌&&◌, leb, List, [], ◌∷◌, length, map, drop, get_or, refl, sym, ap, subst, ◌∙◌, arith}
+use Rattle.std.proofs.Common.{◌≡◌, ℕ, suc, ◌-◌, ◌+◌, ◌<◌, ◌≤◌, max, Bool, true, false, ◌&&◌, leb, List, [], ◌∷◌, length, map, drop, get_or, refl, sym, ap, ◌∙◌, arith}
 use Rattle.std.proofs.lemmas.Bool.{le-leb, lt-leb, leb-true, leb-false}
 use Rattle.std.proofs.lemmas.List.{drop_all, drop_more}
-use Rattle.std.specs.Prelude.{nat_le}
+use Rattle.std.proofs.Math.Dec.{eqb-suc-zero}
+use Rattle.std.specs.Prelude.{nat_le, ◌==◌}
 use Rattle.struct_ir.specs.declared.code.Node.{Node as CodeNode}
 use Rattle.struct_ir.specs.declared.code.IrFunc.{IrFunc}
-use Rattle.struct_ir.specs.Nodes.{Node, Nodes, no_nodes, more_nodes, Func}
+use Rattle.struct_ir.specs.Nodes.{Node, Nodes, more_nodes, Func}
 use Rattle.struct_ir.specs.Views.{node_view, nodes_view, func_view}
 use Rattle.code_save.specs.Saves.{node_depth, depth, most_of}
 
@@ -44,12 +45,12 @@ stops levels h xs i d whole lt e so_far = ap (λ b. b && nat_le (depth (nodes_vi
 pub ends : (levels : ℕ) (xs : List CodeNode) (i : ℕ) (whole : Bool) → length xs ≤ i → nat_le (depth (nodes_view (drop i xs))) levels ≡ whole → true ≡ whole
 ends levels xs i whole le so_far = sym (le-leb 0 levels (omega arith)) ∙ ap (λ (l : List CodeNode). nat_le (depth (nodes_view l)) levels) (sym (drop_all i xs le)) ∙ so_far
 
-pub none_within : (xs : List CodeNode) (b : Bool) (levels : ℕ) → levels ≡ 0 → b ≡ nat_le (length xs) 0 → b ≡ nat_le (depth (nodes_view xs)) levels
+pub none_within : (xs : List CodeNode) (b : Bool) (levels : ℕ) → levels ≡ 0 → b ≡ (length xs == 0) → b ≡ nat_le (depth (nodes_view xs)) levels
 none_within xs b levels z e = e ∙ same xs ∙ ap (nat_le (depth (nodes_view xs))) (sym z)
   where
-    same : (xs : List CodeNode) → nat_le (length xs) 0 ≡ nat_le (depth (nodes_view xs)) 0
+    same : (xs : List CodeNode) → (length xs == 0) ≡ nat_le (depth (nodes_view xs)) 0
     same [] = refl
-    same (n ∷ xs) = lt-leb (suc (length xs)) 0 (omega arith) ∙ sym (lt-leb (max (suc (node_depth (node_view n))) (depth (nodes_view xs))) 0 (omega arith))
+    same (n ∷ xs) = eqb-suc-zero (length xs) ∙ sym (lt-leb (max (suc (node_depth (node_view n))) (depth (nodes_view xs))) 0 (omega arith))
 
 -- ---- functions
 

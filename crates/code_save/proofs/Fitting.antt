@@ -1,7 +1,7 @@
 -- Code that can be saved fits.
-use Rattle.std.proofs.Common.{◌≡◌, ℕ, zero, suc, ◌<◌, ◌≤◌, max, Bool, true, false, ◌&&◌, ◌||◌, not, ltb, List, [], ◌∷◌, map, Option, Some, None, refl, sym, ap, subst, ◌∙◌, arith}
+use Rattle.std.proofs.Common.{◌≡◌, ℕ, zero, suc, ◌<◌, ◌≤◌, max, Bool, true, false, ◌&&◌, ◌||◌, not, ltb, List, [], ◌∷◌, map, Option, Some, None, refl, arith}
 use Rattle.std.proofs.lemmas.Bool.{and_parts, and_from, lt-ltb, ltb-true}
-use Rattle.std.specs.Prelude.{is_some, nat_lt}
+use Rattle.std.specs.Prelude.{is_some, length, nat_lt, slice_get}
 use Rattle.std.specs.List.{list_all}
 use Rattle.struct_ir.specs.Nodes.{Action, load, store, copy_bytes, malloc, calloc, realloc, free, change, compare, print, lock, unlock, destroy, start, join, Place, Step, Call, Act, set, call, step, look, safepoint, begin_object, end_object}
 use Rattle.struct_ir.specs.Nodes.{Node, plain, if_, loop, break_, next_, ret, Nodes, no_nodes, more_nodes, Func, Ir}
@@ -50,11 +50,11 @@ module _ (x : Scope) (small : x.temps < 4294967296) where
       let to = (and_parts (are_below x.temps s.temps) (is_below_if x.temps s.to) places.1).1 in
       let action = (and_parts (is_action x s.action) (is_own_list x s.action s.slots) (and_parts (has_counts (counts_of s.action) s) (is_action x s.action && is_own_list x s.action s.slots) b.1).1).0 in
       and_from (action_fits s.action) (list_all place_fits s.places && option_fits s.to) (action_in x s.action action)
-        (and_from (list_all place_fits s.places) (option_fits s.to) (places_in s.places places.0 seated) (option_in x.temps small s.to to))
+      (and_from (list_all place_fits s.places) (option_fits s.to) (places_in s.places places.0 seated) (option_in x.temps small s.to to))
 
   call_in : (c : Call) → is_call x c ≡ true → option_fits c.to ≡ true
   call_in c h =
-      let a = (and_parts (is_below_if x.temps c.to && are_below x.temps c.temps) (has_params (Rattle.std.specs.Prelude.slice_get x.params c.function) (Rattle.std.specs.Prelude.length c.temps) && is_list x c.slots) h).0 in
+      let a = (and_parts (is_below_if x.temps c.to && are_below x.temps c.temps) (has_params (slice_get x.params c.function) (length c.temps) && is_list x c.slots) h).0 in
       option_in x.temps small c.to (and_parts (is_below_if x.temps c.to) (are_below x.temps c.temps) a).0
 
   act_in : (a : Act) → is_act x a ≡ true → act_is_seated a ≡ true → act_fits a ≡ true

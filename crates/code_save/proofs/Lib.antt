@@ -2,7 +2,7 @@ pub mod Writing
 pub mod Spelled
 pub mod Tags
 pub mod Parts
-pub mod Nodes
+pub mod Rows
 pub mod WholeFiles
 pub mod Fitting
 pub mod Depths

@@ -1,5 +1,5 @@
 -- What was written is the file.
-use Rattle.std.proofs.Common.{◌≡◌, ℕ, ◌<◌, ◌≤◌, Bool, true, false, ◌&&◌, List, [], ◌∷◌, ◌++◌, length, map, Result, Ok, Err, refl, sym, ap, subst, ◌∙◌, arith}
+use Rattle.std.proofs.Common.{◌≡◌, ℕ, ◌≤◌, true, List, [], length, Result, Ok, Err, sym, subst}
 use Rattle.std.proofs.lemmas.Bool.{and_from, le-leb}
 use Rattle.std.specs.Prelude.{nat_le}
 use Rattle.std.specs.Global.{Vec}
@@ -14,7 +14,7 @@ use Rattle.code_save.specs.declared.fault.SaveFault.{SaveFault}
 use Rattle.code_save.specs.declared.fault.SaveFault.TheVariants.{TooDeep, TooLong, NoMemory}
 use Rattle.code_save.specs.declared.output.Output.{Output}
 use Rattle.code_save.specs.inner.Fits.{func_fits}
-use Rattle.code_save.specs.inner.Written.{Holds, Gains, Wrote, Finished}
+use Rattle.code_save.specs.inner.Written.{Holds, Wrote, Finished}
 use Rattle.code_save.specs.Saves.{deepest, spelling, Saves}
 use Rattle.code_save.specs.SavedViews.{saved_view}
 
@@ -23,7 +23,7 @@ module _ (p : Ir) (deep : deepest p ≤ 1024) (lawful : is_lawful p ≡ true) (p
   is_file bytes e short = record {
     spells = (is, e);
     lawful = and_from (is_lawful (ir_filled (ir_bare p))) (nat_le (length bytes) most_file_bytes) (subst (λ q. is_lawful q ≡ true) (sym (program_back p placed)) lawful)
-      (le-leb (length bytes) most_file_bytes (subst (λ (l : List ℕ). length l ≤ most_file_bytes) (sym e) short));
+        (le-leb (length bytes) most_file_bytes (subst (λ (l : List ℕ). length l ≤ most_file_bytes) (sym e) short));
   }
 
   finished : (r : Result (Vec ℕ) SaveFault) → Finished (spelling p) r → Saves p (saved_view r)

@@ -1,13 +1,12 @@
 -- How numbers are spelled.
-use Rattle.std.proofs.Common.{◌≡◌, ℕ, zero, suc, ◌+◌, ◌*◌, ◌/◌, ◌%◌, ◌-◌, ◌^◌, ◌<◌, ◌≤◌, Bool, true, false, cond, ltb, eqb, List, [], ◌∷◌, ◌++◌, Option, Some, None, ℤ, pos, negsuc, ◌⊎◌, inl, inr, refl, sym, ap, subst, ◌∙◌, arith}
+use Rattle.std.proofs.Common.{◌≡◌, ℕ, zero, suc, ◌+◌, ◌/◌, ◌%◌, ◌-◌, ◌^◌, ◌<◌, Bool, true, false, cond, ltb, eqb, List, [], ◌∷◌, ◌++◌, Option, Some, None, ℤ, pos, negsuc, ◌⊎◌, inl, inr, refl, sym, ap, subst, ◌∙◌, arith}
 use Rattle.std.proofs.lemmas.Bool.{lt-ltb, ltb-true, eqb-true}
 use Rattle.std.proofs.Math.Pow.{pow_pos}
 use Rattle.std.proofs.lemmas.Bool.Decides.{nat_tests}
 use Rattle.std.specs.Int.{w32, w64, to_le_bytes}
-use Rattle.formats.specs.Formats.{Format, byte, number, u32, u64, exactly, behind, seen, ◌▸◌}
+use Rattle.formats.specs.Formats.{byte, number, u32, u64, exactly}
 use Rattle.formats.proofs.Made.{number_fits}
 use Rattle.ak_words.specs.declared.int_type.IntType.{IntType}
-use Rattle.ak_words.specs.declared.number.Num.{Num}
 use Rattle.ak_words.specs.Wrapped.{residue, bit_pattern, wrapped_value}
 use Rattle.struct_ir.specs.Valid.{has_width}
 use Rattle.code_file.specs.Numbers.{option_at, number_of, u32_or_none, value, zeros, piece_bits}
@@ -79,7 +78,7 @@ number_zeros zero = refl
 number_zeros (suc j) = ap (λ (l : List ℕ). 0 ∷ l) (number_zeros j)
 
 low_bytes : (k m j n : ℕ) → m ≡ k + j → n < 256 ^ k → (number m).spell n ≡ (number k).spell n ++ zeros j
-low_bytes zero m j n e h = let none : n ≡ 0 = omega (arith, h) in ap (λ (x : ℕ). (number m).spell x) none ∙ number_zeros m ∙ ap zeros e
+low_bytes zero m j n e h = let none : n ≡ 0 = omega (arith, h) in ap (λ (x : ℕ). (number m).spell x) none ∙ number_zeros m ∙ ap zeros (omega (arith, e))
 low_bytes (suc k) zero j n e h = absurd (omega (arith, e))
 low_bytes (suc k) (suc m) j n e h =
     let below : n / 256 < 256 ^ k = omega (arith, h) in
@@ -110,7 +109,7 @@ value_wrote t z n bytes is again e g =
     let small : m < 2 ^ t.bits = residue_below (2 ^ t.bits) z (pow_pos t.bits) in
     let b = below_bytes t.bits m (widths t) small in
     let spelled : bytes ≡ (number k).spell m ++ (exactly (zeros (8 - k))).spell tt =
-      e ∙ eight_spelled n ∙ ap (λ (x : ℕ). (number 8).spell x) is ∙ low_bytes k 8 (8 - k) m (sym b.1) b.0 ∙ ap (λ (l : List ℕ). (number k).spell m ++ l) (sym (exactly_spelled (zeros (8 - k)))) in
+    e ∙ eight_spelled n ∙ ap (λ (x : ℕ). (number 8).spell x) is ∙ low_bytes k 8 (8 - k) m (sym b.1) b.0 ∙ ap (λ (l : List ℕ). (number k).spell m ++ l) (sym (exactly_spelled (zeros (8 - k)))) in
     record {
       is = λ h. ((number_fits k m b.0, exactly_is (zeros (8 - k))), ap (λ (x : ℕ). wrapped_value t (pos x)) (sym is) ∙ again);
       gains = gains_are bytes ((number k).spell m ++ (exactly (zeros (8 - k))).spell tt) spelled g;

@@ -1,5 +1,5 @@
 -- The bytes that say what follows.
-use Rattle.std.proofs.Common.{◌≡◌, ℕ, Bool, true, false, List, [], ◌∷◌, Option, Some, None, ◌⊎◌, inl, inr, refl, sym, ap, subst, ◌∙◌}
+use Rattle.std.proofs.Common.{◌≡◌, ℕ, Bool, true, false, [], ◌∷◌, ◌⊎◌, inl, inr, refl, sym, ap, subst}
 use Rattle.ak_words.specs.declared.int_type.IntType.{IntType}
 use Rattle.ak_words.specs.declared.operation.Op.{Op}
 use Rattle.ak_words.specs.declared.operation.Op.TheVariants as ops
@@ -13,7 +13,7 @@ use Rattle.c_tree.specs.Typed as tree
 use Rattle.c_tree.specs.Typed.{Piece, Init}
 use Rattle.struct_ir.specs.Nodes as ir
 use Rattle.struct_ir.specs.Nodes.{Calc, Action, Node}
-use Rattle.code_file.specs.Numbers.{flag, flag_number, short, unsigned_char, unsigned_short, other_types, type_number, int_type, access_number, access}
+use Rattle.code_file.specs.Numbers.{flag, flag_number, short, unsigned_char, unsigned_short, type_number, int_type, access_number, access}
 use Rattle.code_file.specs.Calcs as calcs
 use Rattle.code_file.specs.Calcs.{op_number, operation, CalcTag, calc_tag, calc_number, make_calc, calc_parts}
 use Rattle.code_file.specs.Actions as actions

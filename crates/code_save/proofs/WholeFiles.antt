@@ -1,5 +1,5 @@
 -- Functions, globals and files as they are written.
-use Rattle.std.proofs.Common.{◌≡◌, ℕ, ◌<◌, ◌^◌, Bool, true, false, not, ◌&&◌, ◌||◌, ltb, List, [], ◌∷◌, map, refl, sym, ap, subst, ◌∙◌, arith}
+use Rattle.std.proofs.Common.{◌≡◌, ℕ, ◌<◌, ◌^◌, Bool, true, false, not, ◌||◌, ltb, List, map, refl, subst, arith}
 use Rattle.std.proofs.lemmas.Bool.{lt-ltb}
 use Rattle.std.specs.List.{list_all}
 use Rattle.c_tree.specs.Typed.{Init}
@@ -10,10 +10,10 @@ use Rattle.struct_ir.specs.declared.code.StackObject.{StackObject as CodeObject}
 use Rattle.struct_ir.specs.declared.code.IrGlobal.{IrGlobal}
 use Rattle.struct_ir.specs.declared.code.IrFunc.{IrFunc}
 use Rattle.struct_ir.specs.declared.ir.Ir.{Ir as CodeIr}
-use Rattle.struct_ir.specs.Nodes.{StackObject, Global, Func, Ir}
+use Rattle.struct_ir.specs.Nodes.{StackObject, Global, Func}
 use Rattle.struct_ir.specs.Views.{nodes_view, object_view, global_view, func_view}
 use Rattle.struct_ir.specs.WholeViews.{ir_view}
-use Rattle.formats.specs.Formats.{Format, seen, ◌▸◌, byte, u32, exactly, list}
+use Rattle.formats.specs.Formats.{◌▸◌, byte, u32, exactly, list}
 use Rattle.formats.proofs.Made.{number_below}
 use Rattle.code_file.specs.Files.{nodes, object, make_func, func_parts, func, init, global, make_file, file_parts, begins_file, file}
 use Rattle.code_file.specs.Calls.{bare, func_bare, ir_bare}
@@ -50,7 +50,7 @@ func_wrote levels f os ns {d = d} {e = e} {g = g} o n w1 w2 w3 w4 w5 =
     let v4 : Wrote (list object) (map object_view f.objects.items) true d e = subst (λ xs. Wrote (list object) (map object_view xs) true d e) o w4 in
     let v5 : Wrote (nodes levels) (bare (nodes_view f.nodes.items)) (fits levels (nodes_view f.nodes.items)) e g = subst (λ xs. Wrote (nodes levels) (bare (nodes_view xs)) (fits levels (nodes_view xs)) e g) n w5 in
     seen_wrote make_func func_parts (u32 ▸ u32 ▸ u32 ▸ list object ▸ nodes levels) (func_bare (func_view f)) (λ h. refl)
-      (weaker (nodes_fit levels (func_view f) (w2.is refl)) (pair_wrote w1 (pair_wrote w2 (pair_wrote w3 (pair_wrote v4 v5)))))
+    (weaker (nodes_fit levels (func_view f) (w2.is refl)) (pair_wrote w1 (pair_wrote w2 (pair_wrote w3 (pair_wrote v4 v5)))))
 
 pub file_wrote : (levels : ℕ) (x : CodeIr) (gs : List IrGlobal) (ls : List Literal) (fs : List IrFunc) {a b c d e g : Output} → gs ≡ x.globals.items → ls ≡ x.literals.items → fs ≡ x.funcs.items
     → Gains a begins_file b → Wrote u32 x.main true b c → Wrote (list global) (map global_view gs) true c d → Wrote (list (list byte)) (map literal_view ls) true d e
@@ -61,6 +61,6 @@ file_wrote levels x gs ls fs {c = c} {d = d} {e = e} {g = g} p q r w1 w2 w3 w4 w
     let v3 : Wrote (list global) (map global_view x.globals.items) true c d = subst (λ xs. Wrote (list global) (map global_view xs) true c d) p w3 in
     let v4 : Wrote (list (list byte)) (map literal_view x.literals.items) true d e = subst (λ xs. Wrote (list (list byte)) (map literal_view xs) true d e) q w4 in
     let v5 : Wrote (list (func levels)) (map func_bare (map func_view x.funcs.items)) (list_all (func_fits levels) (map func_view x.funcs.items)) e g =
-      subst (λ xs. Wrote (list (func levels)) (map func_bare (map func_view xs)) (list_all (func_fits levels) (map func_view xs)) e g) r w5 in
+    subst (λ xs. Wrote (list (func levels)) (map func_bare (map func_view xs)) (list_all (func_fits levels) (map func_view xs)) e g) r w5 in
     seen_wrote make_file file_parts (exactly begins_file ▸ u32 ▸ list global ▸ list (list byte) ▸ list (func levels)) (ir_bare (ir_view x)) (λ h. refl)
-      (pair_wrote (exactly_wrote begins_file w1) (pair_wrote w2 (pair_wrote v3 (pair_wrote v4 v5))))
+    (pair_wrote (exactly_wrote begins_file w1) (pair_wrote w2 (pair_wrote v3 (pair_wrote v4 v5))))

@@ -1,11 +1,11 @@
 -- What writers do, one behind the other.
-use Rattle.std.proofs.Common.{◌≡◌, ℕ, zero, suc, ◌+◌, ◌<◌, ◌≤◌, Bool, true, false, ◌&&◌, List, [], ◌∷◌, ◌++◌, length, map, get_or, drop, Result, Ok, Err, refl, sym, ap, subst, ◌∙◌, append_assoc, arith}
+use Rattle.std.proofs.Common.{◌≡◌, ℕ, suc, ◌+◌, ◌<◌, ◌≤◌, Bool, true, ◌&&◌, List, [], ◌∷◌, ◌++◌, length, map, get_or, drop, Result, Ok, Err, refl, sym, ap, subst, append_assoc}
 use Rattle.std.proofs.lemmas.Bool.{and_parts, eq-eqb, lt-ltb}
 use Rattle.std.proofs.lemmas.List.{append-nil, drop_all, drop_more}
 use Rattle.std.specs.Prelude.{OnOk}
 use Rattle.std.specs.List.{flat_map, list_all}
 use Rattle.ak_words.specs.declared.memory.NoMemory.{NoMemory}
-use Rattle.formats.specs.Formats.{Format, exactly, byte, nothing, behind, ◌▸◌, seen, u32, first_or, rows, list, tagged}
+use Rattle.formats.specs.Formats.{Format, exactly, byte, nothing, behind, ◌▸◌, seen, u32, rows, list}
 use Rattle.code_save.specs.declared.output.Output.{Output}
 use Rattle.code_save.specs.inner.Written.{Holds, Gains, Wrote}
 

@@ -1,5 +1,5 @@
 -- What saving gives, and which code can be saved.
-use Rattle.std.specs.Prelude.{ℕ, zero, suc, ◌<◌, ◌≤◌, max, Bool, true, false, ◌&&◌, List, [], ◌∷◌, length, map, is_some, Result, Ok, Err}
+use Rattle.std.specs.Prelude.{ℕ, suc, ◌<◌, ◌≤◌, max, Bool, true, ◌&&◌, List, [], ◌∷◌, length, map, is_some, Result, Ok, Err}
 use Rattle.std.specs.List.{list_all}
 use Rattle.struct_ir.specs.Nodes.{Place, Act, places_of, Node, plain, if_, loop, break_, next_, ret, Nodes, no_nodes, more_nodes, Ir}
 use Rattle.code_file.specs.Files.{file}

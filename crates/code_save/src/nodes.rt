@@ -115,12 +115,7 @@ fn put_if(
 }
 
 #[cycle(puts)]
-fn put_loop(
-    out: &mut Output,
-    levels: u32,
-    body: &[Node],
-    latch: &[Node],
-) -> Result<(), NoMemory>
+fn put_loop(out: &mut Output, levels: u32, body: &[Node], latch: &[Node]) -> Result<(), NoMemory>
     ensures { OnOk result (Wrote (nodes levels ▸ nodes levels) (bare (nodes_view body.now), bare (nodes_view latch.now)) (fits levels (nodes_view body.now) && fits levels (nodes_view latch.now)) out.old out.new) }
 {
     put_nodes(out, levels, body)?;

@@ -1,6 +1,6 @@
 //! Writing numbers.
 
-ghost use Rattle.std.specs.Prelude.{◌≡◌, true, OnOk};
+ghost use Rattle.std.specs.Prelude.{◌≡◌, ◌<◌, true, OnOk};
 ghost use Rattle.formats.specs.Formats.{byte, u32, u64, behind};
 ghost use Rattle.code_file.specs.Numbers.{u32_or_none, flag, width_number, type_number, int_type, access_number, access, value, piece_bits};
 ghost use Rattle.struct_ir.specs.Valid.{has_width};
@@ -56,19 +56,27 @@ pub fn put_option(out: &mut Output, n: Option<u32>) -> Result<(), NoMemory>
 pub fn put_flag(out: &mut Output, b: bool) -> Result<(), NoMemory>
     ensures { OnOk result (Wrote flag b true out.old out.new) }
 {
-    out.put(&[u8::from(b)])
+    if b { out.put(&[1]) } else { out.put(&[0]) }
+}
+
+/// The place of a width among the four.
+fn width_number(bits: u8) -> u8
+    ensures value { result ≡ width_number bits }
+    ensures below { result < 4 }
+{
+    match bits {
+        8 => 0,
+        16 => 1,
+        32 => 2,
+        _ => 3,
+    }
 }
 
 /// The number of a type.
 fn type_number(ty: IntType) -> u8
     ensures { result ≡ type_number ty }
 {
-    let width = match ty.bits {
-        8 => 0,
-        16 => 1,
-        32 => 2,
-        _ => 3,
-    };
+    let width = width_number(ty.bits);
     if ty.signed { width } else { 4 + width }
 }
 

@@ -6,11 +6,15 @@ use Rattle.struct_ir.specs.Whole.{takes_nothing, is_init_in, plain_bytes}
 use Rattle.code_load.specs.declared.refusal.Refusal.{Refusal}
 use Rattle.code_load.specs.declared.refusal.Refusal.TheVariants.{NoMemory, Unmet}
 
--- it is so; or the condition fails; want of memory is free
+-- the condition fails; want of memory is free
+abbrev pub Fails : Refusal → (condition : Bool) → Type 0
+Fails NoMemory condition = Unit {0}
+Fails Unmet condition = condition ≡ false
+
+-- it is so, or the condition fails
 abbrev pub Fills : {A : Type 0} → (A → Type 0) → (condition : Bool) → Result A Refusal → Type 0
 Fills P condition (Ok x) = P x
-Fills P condition (Err NoMemory) = Unit {0}
-Fills P condition (Err Unmet) = condition ≡ false
+Fills P condition (Err e) = Fails e condition
 
 -- what code has by its type
 abbrev pub is_whole : List Global → List (List ℕ) → List Func → (main : ℕ) → Bool

@@ -3,7 +3,7 @@ use ak_trace::{End, TrapKind, Verdict};
 use ak_words::{NoMemory, Rule};
 use c_lex::Kind;
 use pin_checker::Why;
-use run_edges::{MOST_BYTES, MOST_FILE_BYTES, TextRead, read_text, write_ending};
+use run_edges::{MOST_BYTES, TextRead, read_text, write_ending};
 use run_notes::{Status, built_line, check_line, fault_line, push_report, status_of};
 use run_report::{LastBarrier, Report};
 use std::alloc::Global;
@@ -188,7 +188,7 @@ fn a_file_longer_than_a_text(rt: HostRuntime) -> Result<(), Fail> {
     let mut shelf = shelf_of(alloc, count, &[])?;
     let front = bytes_read(alloc, &mut shelf, "a.c", MOST_BYTES)?;
     assert_eq!(rt; front, Some((MOST_BYTES, false)));
-    let whole = bytes_read(alloc, &mut shelf, "a.c", MOST_FILE_BYTES)?;
+    let whole = bytes_read(alloc, &mut shelf, "a.c", count)?;
     assert_eq!(rt; whole, Some((count, true)));
     Ok(())
 }
@@ -198,7 +198,7 @@ fn a_file_longer_than_a_text(rt: HostRuntime) -> Result<(), Fail> {
 fn a_second_read_that_fails(rt: HostRuntime) -> Result<(), Fail> {
     let alloc = rt.alloc();
     let mut shelf = shelf_of(alloc, MOST_BYTES + 1, &[2])?;
-    let none = bytes_read(alloc, &mut shelf, "a.c", MOST_FILE_BYTES)?;
+    let none = bytes_read(alloc, &mut shelf, "a.c", MOST_BYTES + 1)?;
     assert_eq!(rt; none, None);
     Ok(())
 }

@@ -1,4 +1,3 @@
-use Rattle.std.proofs.Common.{◌≡◌, arith, refl, sym, ap, ◌∙◌}
 use Rattle.struct_ir.specs.Views.{action_view}
 use Rattle.code_save.proofs.Writing.{on_ok}
 use Rattle.code_save.proofs.Parts.{action_wrote}

@@ -1,6 +1,6 @@
-use Rattle.std.proofs.Common.{◌≡◌, arith, refl, sym, ap, ◌∙◌}
 use Rattle.std.proofs.Common.{true}
-use Rattle.code_save.proofs.Writing.{nothing_wrote}
+use Rattle.code_save.proofs.Writing.{on_ok, nothing_wrote}
+use Rattle.code_save.proofs.Parts.{pieces_as}
 use Rattle.code_save.proofs.actions.put_action_fields.Goals as goal
 
 pub returns-in-Load : goal.returns-in-Load
@@ -44,3 +44,6 @@ returns-in-Calloc c = rw c.in-Calloc.is (nothing_wrote true)
 
 pub returns-in-Realloc : goal.returns-in-Realloc
 returns-in-Realloc c = rw c.in-Realloc.is (nothing_wrote true)
+
+pub returns-in-Print : goal.returns-in-Print
+returns-in-Print c = rw c.in-Print.is (on_ok c.put_pieces.result (pieces_as c.deref.result.now c.in-Print.pieces.items c.deref.ensures.value) c.put_pieces.ensures)

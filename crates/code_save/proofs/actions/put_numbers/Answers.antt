@@ -1,4 +1,3 @@
-use Rattle.std.proofs.Common.{◌≡◌, arith, refl, sym, ap, ◌∙◌}
 use Rattle.std.proofs.Common.{ℕ, true}
 use Rattle.formats.specs.Formats.{u32}
 use Rattle.code_save.proofs.Writing.{first_writes, next_writes, all_wrote, numbers_wrote}

@@ -1,4 +1,3 @@
-use Rattle.std.proofs.Common.{◌≡◌, arith, refl, sym, ap, ◌∙◌}
 use Rattle.c_tree.specs.TypedViews.{piece_view}
 use Rattle.code_save.proofs.Writing.{on_ok}
 use Rattle.code_save.proofs.Parts.{piece_wrote}

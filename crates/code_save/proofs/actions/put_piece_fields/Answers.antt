@@ -1,7 +1,6 @@
-use Rattle.std.proofs.Common.{◌≡◌, arith, refl, sym, ap, ◌∙◌}
 use Rattle.std.proofs.Common.{true}
-use Rattle.struct_ir.specs.Valid.{has_width}
-use Rattle.code_save.proofs.Writing.{nothing_wrote}
+use Rattle.formats.specs.Formats.{byte, list}
+use Rattle.code_save.proofs.Writing.{on_ok, nothing_wrote, wrote_as}
 use Rattle.code_save.proofs.actions.put_piece_fields.Goals as goal
 
 pub returns-in-Signed : goal.returns-in-Signed
@@ -18,3 +17,6 @@ returns-in-Char c = rw c.in-Char.is (nothing_wrote true)
 
 pub returns-in-Text : goal.returns-in-Text
 returns-in-Text c = rw c.in-Text.is (nothing_wrote true)
+
+pub returns-in-Bytes : goal.returns-in-Bytes
+returns-in-Bytes c = rw c.in-Bytes.is (on_ok c.put_text.result (wrote_as (list byte) c.deref.ensures.value) c.put_text.ensures)

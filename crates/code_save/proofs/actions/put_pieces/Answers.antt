@@ -1,4 +1,3 @@
-use Rattle.std.proofs.Common.{◌≡◌, arith, refl, sym, ap, ◌∙◌}
 use Rattle.c_tree.specs.TypedViews.{piece_view}
 use Rattle.code_file.specs.Actions.{piece}
 use Rattle.struct_ir.specs.Valid.{is_piece}
@@ -9,7 +8,7 @@ pub loop-piece-init : goal.loop-piece-init
 loop-piece-init c = first_writes (piece) (piece_view) (λ x. is_piece (piece_view x)) c.args.pieces.now c.in_ok-put_count.ensures
 
 pub loop-piece-preserved : goal.loop-piece-preserved
-loop-piece-preserved c = item_writes (piece) (piece_view) (λ x. is_piece (piece_view x)) c.args.pieces.now c.loop-piece.piece-index c.loop-piece-item.result c.loop-piece-test.true c.loop-piece-item.is (c.in_ok-put_piece.ensures) c.loop-piece.invariant
+loop-piece-preserved c = item_writes (piece) (piece_view) (λ x. is_piece (piece_view x)) c.args.pieces.now c.loop-piece.piece-index c.piece-item.result c.loop-piece-test.true c.piece-item.is (c.in_ok-put_piece.ensures) c.loop-piece.invariant
 
 pub returns : goal.returns
 returns c = tested_wrote piece piece_view is_piece c.args.pieces.now (all_wrote (piece) (piece_view) (λ x. is_piece (piece_view x)) c.args.pieces.now c.loop-piece.piece-index c.loop-piece-test.false c.loop-piece.invariant)

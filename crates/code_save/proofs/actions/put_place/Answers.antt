@@ -1,4 +1,3 @@
-use Rattle.std.proofs.Common.{◌≡◌, arith, refl, sym, ap, ◌∙◌}
 use Rattle.struct_ir.specs.Views.{place_view}
 use Rattle.code_save.proofs.Writing.{on_ok, wrote_as}
 use Rattle.formats.specs.Formats.{u32}

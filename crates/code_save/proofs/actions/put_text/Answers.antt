@@ -1,4 +1,4 @@
-use Rattle.std.proofs.Common.{◌≡◌, arith, refl, sym, ap, ◌∙◌}
+use Rattle.std.proofs.Common.{arith}
 use Rattle.code_save.proofs.Writing.{on_ok, text_wrote}
 use Rattle.code_save.proofs.actions.put_text.Goals as goal
 

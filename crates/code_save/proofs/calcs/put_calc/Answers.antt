@@ -1,4 +1,3 @@
-use Rattle.std.proofs.Common.{◌≡◌, arith, refl, sym, ap, ◌∙◌}
 use Rattle.struct_ir.specs.Views.{calc_view}
 use Rattle.code_save.proofs.Writing.{on_ok}
 use Rattle.code_save.proofs.Parts.{calc_wrote}

@@ -1,4 +1,3 @@
-use Rattle.std.proofs.Common.{◌≡◌, arith, refl, sym, ap, ◌∙◌}
 use Rattle.code_save.proofs.Writing.{on_ok}
 use Rattle.code_save.proofs.Tags.{operation_wrote}
 use Rattle.code_save.proofs.calcs.put_op.Goals as goal

@@ -1,4 +1,4 @@
-use Rattle.std.proofs.Common.{◌≡◌, ◌<◌, ◌-◌, ◌&&◌, true, refl, sym, ap, ◌∙◌, arith}
+use Rattle.std.proofs.Common.{◌<◌, ◌-◌, ◌&&◌, sym, ap, ◌∙◌, arith}
 use Rattle.std.specs.Prelude.{nat_le}
 use Rattle.struct_ir.specs.Views.{node_view, nodes_view}
 use Rattle.struct_ir.proofs.Views.{if_is, loop_is}
@@ -10,10 +10,10 @@ pub are_within-returns-then-levels-eq0 : goal.are_within-returns-then-levels-eq0
 are_within-returns-then-levels-eq0 t c = none_within c.args.nodes.now c.is_empty.result c.args.levels c.if-levels-eq0.true c.is_empty.ensures
 
 pub are_within-loop-n-preserved : goal.are_within-loop-n-preserved
-are_within-loop-n-preserved t c = let pos : 0 < c.args.levels = omega arith in goes_on c.args.levels pos c.args.nodes.now c.loop-n.n-index c.loop-n-item.result (nat_le (depth (nodes_view c.args.nodes.now)) c.args.levels) c.loop-n-test.true (sym c.if-node_is_within.true ∙ c.node_is_within.ensures ∙ ap (λ n. nat_le (node_depth (node_view n)) (c.args.levels - 1)) c.loop-n-item.is) c.loop-n.invariant
+are_within-loop-n-preserved t c = let pos : 0 < c.args.levels = omega arith in goes_on c.args.levels pos c.args.nodes.now c.loop-n.n-index c.n-item.result (nat_le (depth (nodes_view c.args.nodes.now)) c.args.levels) c.loop-n-test.true (c.if-not-node_is_within.ensures ∙ ap (λ n. nat_le (node_depth (node_view n)) (c.args.levels - 1)) c.n-item.is) c.loop-n.invariant
 
-pub are_within-returns-then-node_is_within : goal.are_within-returns-then-node_is_within
-are_within-returns-then-node_is_within t c = let pos : 0 < c.args.levels = omega arith in stops c.args.levels pos c.args.nodes.now c.loop-n.n-index c.loop-n-item.result (nat_le (depth (nodes_view c.args.nodes.now)) c.args.levels) c.loop-n-test.true (sym c.if-node_is_within.false ∙ c.node_is_within.ensures ∙ ap (λ n. nat_le (node_depth (node_view n)) (c.args.levels - 1)) c.loop-n-item.is) c.loop-n.invariant
+pub are_within-returns-then-not-node_is_within : goal.are_within-returns-then-not-node_is_within
+are_within-returns-then-not-node_is_within t c = let pos : 0 < c.args.levels = omega arith in stops c.args.levels pos c.args.nodes.now c.loop-n.n-index c.n-item.result (nat_le (depth (nodes_view c.args.nodes.now)) c.args.levels) c.loop-n-test.true (c.if-not-node_is_within.ensures ∙ ap (λ n. nat_le (node_depth (node_view n)) (c.args.levels - 1)) c.n-item.is) c.loop-n.invariant
 
 pub are_within-returns : goal.are_within-returns
 are_within-returns t c = ends c.args.levels c.args.nodes.now c.loop-n.n-index (nat_le (depth (nodes_view c.args.nodes.now)) c.args.levels) c.loop-n-test.false c.loop-n.invariant

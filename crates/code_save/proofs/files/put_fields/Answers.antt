@@ -1,4 +1,3 @@
-use Rattle.std.proofs.Common.{◌≡◌, arith, refl, sym, ap, ◌∙◌}
 use Rattle.std.proofs.Common.{true}
 use Rattle.code_save.proofs.Writing.{nothing_wrote}
 use Rattle.code_save.proofs.files.put_fields.Goals as goal

@@ -1,4 +1,4 @@
-use Rattle.std.proofs.Common.{◌≡◌, ◌<◌, ◌-◌, true, Ok, refl, sym, ap, arith}
+use Rattle.std.proofs.Common.{◌<◌, ◌-◌, true, Ok, sym, ap, arith}
 use Rattle.formats.specs.Formats.{u32, list}
 use Rattle.struct_ir.specs.Nodes.{set, call, step, look, safepoint, begin_object, end_object, plain, if_, loop, break_, next_, ret}
 use Rattle.struct_ir.specs.Views.{calc_view, call_view, step_view, kind_view, node_view, nodes_view}
@@ -7,7 +7,7 @@ use Rattle.code_file.specs.Files.{node, nodes}
 use Rattle.code_file.specs.Calls.{node_bare}
 use Rattle.code_save.specs.inner.Fits.{node_fits}
 use Rattle.code_save.proofs.Writing.{on_ok, nothing_wrote, wrote_as, pair_wrote, first_writes, item_writes, all_wrote}
-use Rattle.code_save.proofs.Nodes.{fields_of, if_wrote, loop_wrote, node_wrote, place_is, none_wrote, nodes_wrote}
+use Rattle.code_save.proofs.Rows.{fields_of, if_wrote, loop_wrote, node_wrote, place_is, none_wrote, nodes_wrote}
 use Rattle.code_save.proofs.nodes.+puts.Goals as goal
 
 pub put_nodes-returns-then-levels-eq0 : goal.put_nodes-returns-then-levels-eq0
@@ -17,7 +17,7 @@ pub put_nodes-loop-n-init : goal.put_nodes-loop-n-init
 put_nodes-loop-n-init t c = first_writes (node (nodes (c.args.levels - 1))) (λ n. node_bare (node_view n)) (λ n. node_fits (c.args.levels - 1) (node_view n)) c.args.all.now c.in_ok-put_count.ensures
 
 pub put_nodes-loop-n-preserved : goal.put_nodes-loop-n-preserved
-put_nodes-loop-n-preserved t c = item_writes (node (nodes (c.args.levels - 1))) (λ n. node_bare (node_view n)) (λ n. node_fits (c.args.levels - 1) (node_view n)) c.args.all.now c.loop-n.n-index c.loop-n-item.result c.loop-n-test.true c.loop-n-item.is c.in_ok-put_node.ensures c.loop-n.invariant
+put_nodes-loop-n-preserved t c = item_writes (node (nodes (c.args.levels - 1))) (λ n. node_bare (node_view n)) (λ n. node_fits (c.args.levels - 1) (node_view n)) c.args.all.now c.loop-n.n-index c.n-item.result c.loop-n-test.true c.n-item.is c.in_ok-put_node.ensures c.loop-n.invariant
 
 pub put_nodes-returns : goal.put_nodes-returns
 put_nodes-returns t c = let pos : 0 < c.args.levels = omega arith in nodes_wrote c.args.levels pos c.args.all.now (all_wrote (node (nodes (c.args.levels - 1))) (λ n. node_bare (node_view n)) (λ n. node_fits (c.args.levels - 1) (node_view n)) c.args.all.now c.loop-n.n-index c.loop-n-test.false c.loop-n.invariant)
@@ -26,14 +26,14 @@ pub put_node-returns : goal.put_node-returns
 put_node-returns t c = on_ok c.put_fields.result (node_wrote c.args.levels (node_view c.args.n.now) c.tag_of.result c.tag_of.ensures (wrote_as u32 (sym (place_is c.args.n.now)) c.in_ok-put_u32.ensures) c.in_ok-put.ensures) c.put_fields.ensures
 
 pub put_fields-returns-in-If : goal.put_fields-returns-in-If
-put_fields-returns-in-If t c = 
+put_fields-returns-in-If t c =
     fields_of c.args.levels (node_view c.args.n.now) (if_ c.args.n.now.place c.in-If.temp (nodes_view c.in-If.one.items) (nodes_view c.in-If.other.items)) c.put_if.result c.args.out.now c.put_if.new.out (if_is c.args.n.now c.in-If.temp c.in-If.one c.in-If.other c.in-If.is)
-      (on_ok c.put_if.result (if_wrote c.args.levels c.in-If.temp c.deref.result.now c.deref-in-If.result.now c.in-If.one.items c.in-If.other.items c.deref.ensures.value c.deref-in-If.ensures.value) c.put_if.ensures)
+    (on_ok c.put_if.result (if_wrote c.args.levels c.in-If.temp c.deref.result.now c.deref-in-If.result.now c.in-If.one.items c.in-If.other.items c.deref.ensures.value c.deref-in-If.ensures.value) c.put_if.ensures)
 
 pub put_fields-returns-in-Loop : goal.put_fields-returns-in-Loop
-put_fields-returns-in-Loop t c = 
+put_fields-returns-in-Loop t c =
     fields_of c.args.levels (node_view c.args.n.now) (loop c.args.n.now.place (nodes_view c.in-Loop.body.items) (nodes_view c.in-Loop.latch.items)) c.put_loop.result c.args.out.now c.put_loop.new.out (loop_is c.args.n.now c.in-Loop.body c.in-Loop.latch c.in-Loop.is)
-      (on_ok c.put_loop.result (loop_wrote c.args.levels c.deref-in-Loop.result.now c.deref-in-Loop-2.result.now c.in-Loop.body.items c.in-Loop.latch.items c.deref-in-Loop.ensures.value c.deref-in-Loop-2.ensures.value) c.put_loop.ensures)
+    (on_ok c.put_loop.result (loop_wrote c.args.levels c.deref-in-Loop.result.now c.deref-in-Loop-2.result.now c.in-Loop.body.items c.in-Loop.latch.items c.deref-in-Loop.ensures.value c.deref-in-Loop-2.ensures.value) c.put_loop.ensures)
 
 pub put_fields-returns-in-Set : goal.put_fields-returns-in-Set
 put_fields-returns-in-Set t c = fields_of c.args.levels (node_view c.args.n.now) (plain c.args.n.now.place (set c.in-Set.to (calc_view c.in-Set.calc))) c.put_set.result c.args.out.now c.put_set.new.out (ap (λ k. kind_view c.args.n.now.place k) c.in-Set.is) c.put_set.ensures

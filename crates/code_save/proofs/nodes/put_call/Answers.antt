@@ -1,6 +1,5 @@
-use Rattle.std.proofs.Common.{◌≡◌, arith, refl, sym, ap, ◌∙◌}
 use Rattle.code_save.proofs.Writing.{on_ok}
-use Rattle.code_save.proofs.Nodes.{call_wrote}
+use Rattle.code_save.proofs.Rows.{call_wrote}
 use Rattle.code_save.proofs.nodes.put_call.Goals as goal
 
 pub returns : goal.returns

@@ -1,4 +1,4 @@
-use Rattle.std.proofs.Common.{◌≡◌, arith, refl, sym, ap, ◌∙◌}
+use Rattle.std.proofs.Common.{arith}
 use Rattle.code_save.proofs.Writing.{on_ok}
 use Rattle.code_save.proofs.Spelled.{byte_wrote}
 use Rattle.code_save.proofs.numbers.put_byte.Goals as goal

@@ -1,4 +1,3 @@
-use Rattle.std.proofs.Common.{◌≡◌, arith, refl, sym, ap, ◌∙◌}
 use Rattle.std.proofs.Common.{ℤ}
 use Rattle.code_file.specs.Numbers.{int_type, value}
 use Rattle.code_save.proofs.Writing.{on_ok, behind_wrote}

@@ -1,5 +1,4 @@
-use Rattle.std.proofs.Common.{◌≡◌, arith, refl, sym, ap, ◌∙◌}
-use Rattle.std.proofs.Common.{Option, Some, None}
+use Rattle.std.proofs.Common.{Some, None}
 use Rattle.code_save.proofs.Writing.{on_ok}
 use Rattle.code_save.proofs.Spelled.{option_wrote}
 use Rattle.code_save.proofs.numbers.put_option.Goals as goal

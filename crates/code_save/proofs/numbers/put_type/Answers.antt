@@ -1,4 +1,3 @@
-use Rattle.std.proofs.Common.{◌≡◌, arith, refl, sym, ap, ◌∙◌}
 use Rattle.code_save.proofs.Writing.{on_ok}
 use Rattle.code_save.proofs.Tags.{type_wrote}
 use Rattle.code_save.proofs.numbers.put_type.Goals as goal

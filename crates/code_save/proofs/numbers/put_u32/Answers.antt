@@ -1,4 +1,4 @@
-use Rattle.std.proofs.Common.{◌≡◌, arith, refl, sym, ap, ◌∙◌}
+use Rattle.std.proofs.Common.{arith}
 use Rattle.code_save.proofs.Writing.{on_ok}
 use Rattle.code_save.proofs.Spelled.{u32_wrote}
 use Rattle.code_save.proofs.numbers.put_u32.Goals as goal

@@ -1,4 +1,4 @@
-use Rattle.std.proofs.Common.{◌≡◌, arith, refl, sym, ap, ◌∙◌}
+use Rattle.std.proofs.Common.{ap}
 use Rattle.ak_words.specs.declared.number.Num.{Num}
 use Rattle.code_save.proofs.Writing.{on_ok}
 use Rattle.code_save.proofs.Spelled.{value_wrote}

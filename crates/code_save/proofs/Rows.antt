@@ -1,6 +1,6 @@
 -- Nodes as they are written.
-use Rattle.std.proofs.Common.{◌≡◌, ℕ, zero, suc, ◌-◌, ◌<◌, Bool, true, false, ◌&&◌, List, [], ◌∷◌, map, Option, Result, refl, sym, ap, subst, ◌∙◌, arith}
-use Rattle.std.proofs.lemmas.Bool.{and_parts, and_from}
+use Rattle.std.proofs.Common.{◌≡◌, ℕ, suc, ◌-◌, ◌<◌, true, ◌&&◌, List, [], ◌∷◌, map, Result, refl, sym, ap, subst, arith}
+use Rattle.std.proofs.lemmas.Bool.{and_from}
 use Rattle.std.specs.Prelude.{OnOk}
 use Rattle.std.specs.List.{list_all}
 use Rattle.ak_words.specs.declared.memory.NoMemory.{NoMemory}
@@ -8,9 +8,9 @@ use Rattle.struct_ir.specs.declared.code.Node.{Node as CodeNode}
 use Rattle.struct_ir.specs.declared.code.CallNode.{CallNode}
 use Rattle.struct_ir.specs.declared.code.NodeKind.{NodeKind}
 use Rattle.struct_ir.specs.declared.code.NodeKind.TheVariants as kinds
-use Rattle.struct_ir.specs.Nodes.{Call, Node, if_, loop, Nodes, no_nodes, more_nodes}
+use Rattle.struct_ir.specs.Nodes.{Node, Nodes, no_nodes, more_nodes}
 use Rattle.struct_ir.specs.Views.{call_view, kind_view, node_view, nodes_view}
-use Rattle.formats.specs.Formats.{Format, behind, seen, ◌▸◌, u32, exactly, list}
+use Rattle.formats.specs.Formats.{behind, ◌▸◌, u32, list}
 use Rattle.code_file.specs.Numbers.{u32_or_none, zeros}
 use Rattle.code_file.specs.Files.{make_call, call_parts, call, NodeTag, NodeFields, node_number, node_tag, node_fields, make_node, node_parts, node, list_of, nodes_of, nodes}
 use Rattle.code_file.specs.Calls.{node_bare, bare}
@@ -41,7 +41,7 @@ node_wrote levels m n e w g f =
     let x = node_bare m in
     let t = (node_parts x).1.0 in
     seen_wrote (λ (y : ℕ × ((t : NodeTag) × NodeFields t)). make_node y.0 y.1.0 y.1.1) node_parts (u32 ▸ behind node_tag (node_fields (nodes levels))) x (λ h. node_again x)
-      (pair_wrote w (behind_wrote {B = NodeFields} node_tag (node_fields (nodes levels)) t (node_parts x).1.1 (tag_wrote node_tag t n (one_node_tag t) (ap (λ (k : ℕ). k ∷ []) (sym e)) g) f))
+    (pair_wrote w (behind_wrote {B = NodeFields} node_tag (node_fields (nodes levels)) t (node_parts x).1.1 (tag_wrote node_tag t n (one_node_tag t) (ap (λ (k : ℕ). k ∷ []) (sym e)) g) f))
 
 -- the place of a node of the code
 pub place_is : (n : CodeNode) → (node_parts (node_bare (node_view n))).0 ≡ n.place
@@ -70,13 +70,13 @@ pub if_wrote : (levels temp : ℕ) (one other ones others : List CodeNode) {a b 
     → Wrote (u32 ▸ nodes levels ▸ nodes levels) (temp, (bare (nodes_view ones), bare (nodes_view others))) (fits levels (nodes_view ones) && fits levels (nodes_view others)) a b
 if_wrote levels temp one other ones others {a = a} {b = b} e f w =
     subst (λ ys. Wrote (u32 ▸ nodes levels ▸ nodes levels) (temp, (bare (nodes_view ones), bare (nodes_view ys))) (fits levels (nodes_view ones) && fits levels (nodes_view ys)) a b) f
-      (subst (λ xs. Wrote (u32 ▸ nodes levels ▸ nodes levels) (temp, (bare (nodes_view xs), bare (nodes_view other))) (fits levels (nodes_view xs) && fits levels (nodes_view other)) a b) e w)
+    (subst (λ xs. Wrote (u32 ▸ nodes levels ▸ nodes levels) (temp, (bare (nodes_view xs), bare (nodes_view other))) (fits levels (nodes_view xs) && fits levels (nodes_view other)) a b) e w)
 
 pub loop_wrote : (levels : ℕ) (one other ones others : List CodeNode) {a b : Output} → one ≡ ones → other ≡ others → Wrote (nodes levels ▸ nodes levels) (bare (nodes_view one), bare (nodes_view other)) (fits levels (nodes_view one) && fits levels (nodes_view other)) a b
     → Wrote (nodes levels ▸ nodes levels) (bare (nodes_view ones), bare (nodes_view others)) (fits levels (nodes_view ones) && fits levels (nodes_view others)) a b
 loop_wrote levels one other ones others {a = a} {b = b} e f w =
     subst (λ ys. Wrote (nodes levels ▸ nodes levels) (bare (nodes_view ones), bare (nodes_view ys)) (fits levels (nodes_view ones) && fits levels (nodes_view ys)) a b) f
-      (subst (λ xs. Wrote (nodes levels ▸ nodes levels) (bare (nodes_view xs), bare (nodes_view other)) (fits levels (nodes_view xs) && fits levels (nodes_view other)) a b) e w)
+    (subst (λ xs. Wrote (nodes levels ▸ nodes levels) (bare (nodes_view xs), bare (nodes_view other)) (fits levels (nodes_view xs) && fits levels (nodes_view other)) a b) e w)
 
 none_fits : (ns : Nodes) → fits 0 ns ≡ true → no_nodes ≡ bare ns
 none_fits no_nodes h = refl
@@ -106,8 +106,8 @@ row_wrote : (levels : ℕ) (all : List CodeNode) {a b : Output} → Wrote (list 
 unfolding nodes
 row_wrote levels all {a = a} {b = b} w =
     let v : Wrote (list (node (nodes levels))) (list_of (bare (nodes_view all))) (fits (suc levels) (nodes_view all)) a b =
-      subst (λ xs. Wrote (list (node (nodes levels))) xs (fits (suc levels) (nodes_view all)) a b) (sym (bare_list all))
-        (subst (λ p. Wrote (list (node (nodes levels))) (map (λ n. node_bare (node_view n)) all) p a b) (sym (all_fit levels all)) w) in
+    subst (λ xs. Wrote (list (node (nodes levels))) xs (fits (suc levels) (nodes_view all)) a b) (sym (bare_list all))
+    (subst (λ p. Wrote (list (node (nodes levels))) (map (λ n. node_bare (node_view n)) all) p a b) (sym (all_fit levels all)) w) in
     seen_wrote nodes_of list_of (list (node (nodes levels))) (bare (nodes_view all)) (λ h. list_again (bare (nodes_view all))) v
 
 pub nodes_wrote : (levels : ℕ) → 0 < levels → (all : List CodeNode) {a b : Output} → Wrote (list (node (nodes (levels - 1)))) (map (λ n. node_bare (node_view n)) all) (list_all (λ n. node_fits (levels - 1) (node_view n)) all) a b
