@@ -14,7 +14,6 @@ use Rattle.struct_ir.specs.Nodes.{Ir}
 use Rattle.struct_ir.specs.Instrs.{LinearCode}
 use Rattle.ak_trace.specs.declared.endings.End.{End}
 use Rattle.ak_trace.specs.declared.endings.End.TheVariants as ends
-use Rattle.ak_trace.specs.declared.endings.Verdict.{Verdict}
 use Rattle.flat_rules.specs.declared.settings.Mode.{Mode}
 use Rattle.flat_rules.specs.declared.settings.Mode.TheVariants.{Run, Churn, Check, Race, Build, Load}
 use Rattle.flat_rules.specs.declared.settings.Settings.{Settings}

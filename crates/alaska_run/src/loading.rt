@@ -24,6 +24,7 @@ fn open_code(
     requires { IsLoaded text.items (program_in checked) }
     ensures { IfOk result (IsLoadedOf settings text.items) }
 {
+    // By its type the code is safe for moves; so is the machine's.
     let _ = checked.ir();
     let code = emit(alloc, &checked)?;
     code.keeps_lawful();

@@ -1,17 +1,14 @@
 //! What comes before anything is written, but for a run: the words, the text, its code, and the world that the workers share, or what a check
 //! finds or saving gives.
 
-ghost use Rattle.std.specs.Prelude.{◌≡◌, ◌≢◌, ◌≤◌, ℕ, List, [], map, string_bytes, length, unwrap_or, option_map, IfOk, Some, None};
+ghost use Rattle.std.specs.Prelude.{◌≡◌, ◌≢◌, ◌≤◌, ℕ, List, [], map, string_bytes, length, unwrap_or, IfOk, Some, None};
 ghost use Rattle.std.specs.Arc.{arc_value};
-ghost use Rattle.alaska_run.specs.Reading.{Refuses};
 ghost use Rattle.c_tree.specs.TypedViews.{typed_view};
 ghost use Rattle.struct_ir.specs.LinearViews.{code_view};
 ghost use Rattle.pin_checker.specs.CheckedViews.{program_in};
 ghost use Rattle.alaska_run.specs.Built.{IsBuilt};
 ghost use Rattle.run_words.specs.Wanted.{Wanted, settings_of, wanted_of};
 ghost use Rattle.alaska_run.specs.Sources.{name_in};
-ghost use Rattle.alaska_run.specs.Faults.{IsFault};
-ghost use Rattle.alaska_run.specs.Headline.{IsTextOf};
 ghost use Rattle.run_edges.specs.Files.{Shelved, shelved};
 ghost use Rattle.alaska_run.specs.inner.Courses.{IsCourse, IsCourseOf, IsOpenedOf, IsReady, IsStoppedAs};
 
