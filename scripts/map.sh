@@ -36,6 +36,7 @@ STEPS = [
     ("what a journal stands for", "flat_simulation flat_replay"),
     ("what the words want, what is read, and what is written", "run_words run_churn ak_io run_edges run_notes"),
     ("what mode check finds", "source_tree source_state block_meaning rule_check"),
+    ("what a code file is, as modes build and load have it", "formats code_file code_save code_load"),
 ]
 
 def lines_of(path):

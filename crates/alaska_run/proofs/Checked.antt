@@ -23,7 +23,7 @@ use Rattle.alaska_run.proofs.SomeAnswers.{takes_some}
 -- ---- parameters
 
 -- a register for each parameter
-abbrev HasParams : Func → Type 0
+abbrev pub HasParams : Func → Type 0
 HasParams f = f.params ≤ f.temps
 
 -- as lowered code has: its locals have one each

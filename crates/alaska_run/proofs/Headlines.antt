@@ -1,5 +1,5 @@
 -- The headline, of each course that a call takes.
-use Rattle.std.proofs.Common.{◌≡◌, ◌≢◌, ℕ, true, List, [], ◌++◌, Option, Some, None, refl, sym, ap, subst, ap₂, ◌∙◌, ◌⊎◌, inl, inr, codes}
+use Rattle.std.proofs.Common.{◌≡◌, ℕ, List, [], ◌++◌, Option, Some, None, refl, sym, ap, subst, ap₂, ◌∙◌, inl, inr, codes}
 use Rattle.std.proofs.lemmas.List.{append-nil}
 use Rattle.std.specs.Option.{option_map}
 use Rattle.std.specs.Arc.{arc_value}
@@ -10,7 +10,11 @@ use Rattle.alaska_run.specs.Built.{IsBuilt}
 use Rattle.struct_ir.specs.Nodes.{Ir}
 use Rattle.struct_ir.specs.Instrs.{LinearCode}
 use Rattle.struct_ir.specs.Erased.{ir_erased}
-use Rattle.lower_turns.specs.Turns.{KeepsEveryTurn}
+use Rattle.struct_ir.specs.Emitted.{IsEmitted}
+use Rattle.struct_ir.specs.Lawful.{AllLawful}
+use Rattle.c_meaning.specs.Sound.{TurnsGoOn, RunsKeepTypes}
+use Rattle.flat_meaning.specs.Simulation.{IsChecked}
+use Rattle.lower_turns.specs.Turns.{ErasedKeepsEveryTurn, KeepsEveryTurn}
 use Rattle.pin_checker.specs.CheckedViews.{program_in}
 use Rattle.ak_trace.specs.declared.endings.End.{End}
 use Rattle.ak_trace.specs.declared.endings.End.TheVariants as ends
@@ -21,7 +25,8 @@ use Rattle.flat_machine.specs.Replays.{final_at}
 use Rattle.flat_machine.proofs.Limits.{journals_fit}
 use Rattle.flat_replay.specs.Laws.{AccessesOfJournalsStay, JournalsMeanTheSource}
 use Rattle.flat_replay.specs.Meaning.{IsMeaning}
-use Rattle.run_words.specs.Wanted.{Wanted, fits_mode_of, wanted_of}
+use Rattle.run_words.specs.Wanted.{wanted_of}
+use Rattle.rule_check.specs.Reports.{Report}
 use Rattle.run_notes.specs.Checks.{check_line}
 use Rattle.run_notes.specs.declared.status.Status.{Status}
 use Rattle.run_notes.specs.declared.status.Status.TheVariants as statuses
@@ -38,29 +43,53 @@ use Rattle.alaska_run.specs.declared.running.Ran.{Ran}
 use Rattle.alaska_run.specs.Ending.{Ending}
 use Rattle.alaska_run.specs.Sources.{Source, source_in, name_in, IsAll}
 use Rattle.alaska_run.specs.Faults.{IsFault}
-use Rattle.alaska_run.specs.Modes.{IsCompiledTo, IsCodeBy, IsTheEnd, IsAnswerBy, IsACheck, IsWorkBy, IsWorkIn}
+use Rattle.alaska_run.specs.Modes.{IsCodeBy, SpeaksOf, IsTheEnd, IsAnswerBy, IsACheck, IsSavedAs, IsASave, IsWorkBy, IsWorkIn}
 use Rattle.alaska_run.specs.Headline.{Headline, IsOrUnwritten, IsTextOf, OfATree, OfARun, WithARun, depth}
-use Rattle.alaska_run.specs.inner.Courses.{IsStopped, IsOpened, IsWorked, HasRun}
-use Rattle.alaska_run.proofs.Words.{fits}
+use Rattle.alaska_run.specs.inner.Courses.{IsStopped, IsOpened, IsFound, WorkedBy, IsWorked, HasRun}
+use Rattle.alaska_run.proofs.LoadedCode.{loaded_is_checked}
 
 -- ---- the rows of the modes
 
--- words want a run of modes run and churn alone, where they don't want a check
-runs_by : (mode : Mode) (w : Wanted) → fits_mode_of mode w ≡ true → mode ≢ Check → (mode ≡ Run) ⊎ (mode ≡ Churn)
-runs_by Run w f n = inl refl
-runs_by Churn w f n = inr refl
-runs_by Check w f n = absurd (n refl)
-runs_by Race w f n = cc f
-runs_by Build w f n = cc f
-runs_by Load w f n = cc f
+-- where code ran, its end is the answer
+answer_by : (mode : Mode) (text : List ℕ) (checked : Ir) (code : LinearCode) (e : Ending) (end : End) (judged : Status) (behind : List ℕ) → IsCodeBy mode text checked code → IsTheEnd end judged behind
+    → IsAnswerBy mode e end judged behind
+answer_by Run text checked code e end judged behind by h = h
+answer_by Churn text checked code e end judged behind by h = h
+answer_by Load text checked code e end judged behind by h = h
+answer_by Check text checked code e end judged behind by h = absurd by
+answer_by Race text checked code e end judged behind by h = absurd by
+answer_by Build text checked code e end judged behind by h = absurd by
 
-compiled_by : (mode : Mode) (text : List ℕ) (checked : Ir) (code : LinearCode) → (mode ≡ Run) ⊎ (mode ≡ Churn) → IsCompiledTo text checked code → IsCodeBy mode text checked code
-compiled_by mode text checked code (inl m) h = subst (λ (z : Mode). IsCodeBy z text checked code) (sym m) h
-compiled_by mode text checked code (inr m) h = subst (λ (z : Mode). IsCodeBy z text checked code) (sym m) h
+-- the machine's code is that of the checked code
+record IsMachines (checked : Ir) (code : LinearCode) : Type 0 where
+  emitted : IsEmitted checked code
+  lawful : AllLawful code.funcs
 
-answer_by : (mode : Mode) (e : Ending) (end : End) (judged : Status) (behind : List ℕ) → (mode ≡ Run) ⊎ (mode ≡ Churn) → IsTheEnd end judged behind → IsAnswerBy mode e end judged behind
-answer_by mode e end judged behind (inl m) h = subst (λ (z : Mode). IsAnswerBy z e end judged behind) (sym m) h
-answer_by mode e end judged behind (inr m) h = subst (λ (z : Mode). IsAnswerBy z e end judged behind) (sym m) h
+machines_by : (mode : Mode) (text : List ℕ) (checked : Ir) (code : LinearCode) → IsCodeBy mode text checked code → IsMachines checked code
+machines_by Run text checked code h = record { emitted = h.1.emitted; lawful = h.1.lawful }
+machines_by Churn text checked code h = record { emitted = h.1.emitted; lawful = h.1.lawful }
+machines_by Load text checked code h = record { emitted = h.emitted; lawful = h.lawful }
+machines_by Check text checked code h = absurd h
+machines_by Race text checked code h = absurd h
+machines_by Build text checked code h = absurd h
+
+-- what is known of trees, of turns and of journals
+pub record AreLaws : Type 0 where
+  pub erased : ErasedKeepsEveryTurn
+  pub types : RunsKeepTypes
+  pub ends : TurnsGoOn
+  pub meant : JournalsMeanTheSource
+  pub stay : AccessesOfJournalsStay
+
+-- and that has all that the machine asks of code, where it keeps every turn of a tree that is spoken of
+checked_by : AreLaws → (mode : Mode) (text : List ℕ) (checked : Ir) (code : LinearCode) → IsCodeBy mode text checked code → (typed : Typed) → SpeaksOf mode typed → KeepsEveryTurn typed (ir_erased checked)
+    → IsChecked checked
+checked_by laws Run text checked code h typed speaks keeps = h.1.sound
+checked_by laws Churn text checked code h typed speaks keeps = h.1.sound
+checked_by laws Load text checked code h typed speaks keeps = loaded_is_checked text checked code h typed speaks.1.well_formed keeps laws.erased laws.types laws.ends
+checked_by laws Check text checked code h typed speaks keeps = absurd h
+checked_by laws Race text checked code h typed speaks keeps = absurd h
+checked_by laws Build text checked code h typed speaks keeps = absurd h
 
 -- ---- what a sink's fault makes of a status
 
@@ -102,7 +131,7 @@ memory_then status line out note (inr (inr w)) = w.status_is
 module _ (words : List (List ℕ)) (file : List ℕ → Shelved) (out note : Channel) (x : Opened) (r : Ran) (e : Ending) (o : IsOpened words file x) (h : HasRun x r)
     (es : e.settings ≡ Some x.settings) (et : e.text ≡ x.text.items) (ec : e.checked ≡ Some (program_in x.checked)) (ek : e.code ≡ Some (arc_value x.code)) (ej : e.journal ≡ Some r.journal.entries)
     (w : Written r.status e.status r.output.items r.line.items out note)
-    (meant : JournalsMeanTheSource) (stay : AccessesOfJournalsStay) where
+    (laws : AreLaws) where
   abbrev checked : Ir
   checked = program_in x.checked
 
@@ -123,24 +152,30 @@ module _ (words : List (List ℕ)) (file : List ℕ → Shelved) (out note : Cha
   text_of : (source : Source) → source_in file e.settings ≡ Some source → IsTextOf source e.text e.status
   text_of source n = let same : o.source ≡ source = cc (sym from ∙ n) in subst (λ (z : Source). IsTextOf z e.text e.status) same (inl whole)
 
-  compiled : IsCompiledTo e.text checked code
-  compiled = (o.typed, subst (λ (t : List ℕ). IsBuilt t o.typed checked code) (sym et) o.built)
+  of_text : IsCodeBy x.settings.mode e.text checked code
+  of_text = subst (λ (t : List ℕ). IsCodeBy x.settings.mode t checked code) (sym et) o.of_text
+
+  machines : IsMachines checked code
+  machines = machines_by x.settings.mode e.text checked code of_text
 
   -- ---- the run
 
-  -- what it means to each tree of which the code keeps every turn
-  meaning : (typed : Typed) → KeepsEveryTurn typed (ir_erased checked) → IsMeaning (program typed) (start typed) depth log x.settings h.final
-  meaning typed keeps =
+  -- what it means to each tree that is spoken of, of which the code keeps every turn
+  meaning : (typed : Typed) → IsChecked checked → KeepsEveryTurn typed (ir_erased checked) → IsMeaning (program typed) (start typed) depth log x.settings h.final
+  meaning typed sound keeps =
       subst (IsMeaning (program typed) (start typed) depth log x.settings) h.final_is
-      (meant typed checked keeps o.built.sound code o.built.emitted o.built.lawful o.ready.program x.settings log h.last h.leads)
+      (laws.meant typed checked keeps sound code machines.emitted machines.lawful o.ready.program x.settings log h.last h.leads)
 
-  of_each_tree : (typed : Typed) → KeepsEveryTurn typed (ir_erased checked) → OfATree typed checked code x.settings log h.final
-  of_each_tree typed keeps = let m = meaning typed keeps in record {
-    a_run = m.a_run;
-    what_the_text_means = m.clean;
-    up_to_the_first_rule = m.broken;
-    no_access_leaves_its_object = stay checked o.built.sound code o.built.emitted o.built.lawful o.ready.program x.settings log h.last h.leads;
-  }
+  of_each_tree : (typed : Typed) → SpeaksOf x.settings.mode typed → KeepsEveryTurn typed (ir_erased checked) → OfATree typed checked code x.settings log h.final
+  of_each_tree typed speaks keeps =
+      let sound = checked_by laws x.settings.mode e.text checked code of_text typed speaks keeps in
+      let m = meaning typed sound keeps in
+      record {
+        a_run = m.a_run;
+        what_the_text_means = m.clean;
+        up_to_the_first_rule = m.broken;
+        no_access_leaves_its_object = laws.stay checked sound code machines.emitted machines.lawful o.ready.program x.settings log h.last h.leads;
+      }
 
   of_the_run : OfARun checked code x.settings log
   of_the_run = record {
@@ -161,9 +196,6 @@ module _ (words : List (List ℕ)) (file : List ℕ → Shelved) (out note : Cha
 
   -- ---- the whole
 
-  runs : (x.settings.mode ≡ Run) ⊎ (x.settings.mode ≡ Churn)
-  runs = runs_by x.settings.mode (wanted_of x.settings) (fits words (wanted_of x.settings) o.settings) o.mode
-
   with_it : WithARun file out note e log
   unfolding of_the_run
   with_it = record {
@@ -173,11 +205,11 @@ module _ (words : List (List ℕ)) (file : List ℕ → Shelved) (out note : Cha
     has_settings = es;
     has_checked = ec;
     has_code = ek;
-    the_code = record { source = o.source; from = from; whole = whole; of_text = compiled_by x.settings.mode e.text checked code runs compiled };
+    the_code = record { source = o.source; from = from; whole = whole; of_text = of_text };
     the_run = of_the_run;
     judged = status_of h.end;
     behind = [];
-    answer = answer_by x.settings.mode e h.end (status_of h.end) [] runs (refl, refl);
+    answer = answer_by x.settings.mode e.text checked code e h.end (status_of h.end) [] of_text (refl, refl);
     what_it_wrote = wrote;
     how_it_ended = judged_then (status_of h.end) e.status h.final.output (report_text h.end h.final.report ++ []) out note (run_fault h.end) wrote;
   }
@@ -189,7 +221,7 @@ module _ (words : List (List ℕ)) (file : List ℕ → Shelved) (out note : Cha
     without_a_run = λ none. absurd (let z : Some log ≡ None = sym ej ∙ none in cc z);
   }
 
--- ---- a check
+-- ---- a check, or saving
 
 module _ (words : List (List ℕ)) (file : List ℕ → Shelved) (out note : Channel) (x : Worked) (e : Ending) (o : IsWorked words file x)
     (es : e.settings ≡ Some x.settings) (et : e.text ≡ x.text.items) (ec : e.checked ≡ Some (program_in x.checked)) (ek : e.code ≡ Some (arc_value x.code)) (ej : e.journal ≡ None)
@@ -203,28 +235,50 @@ module _ (words : List (List ℕ)) (file : List ℕ → Shelved) (out note : Cha
   its_text : (source : Source) → source_in file e.settings ≡ Some source → IsTextOf source e.text e.status
   its_text source n = let same : o.source ≡ source = cc (sym its_source ∙ n) in subst (λ (z : Source). IsTextOf z e.text e.status) same (inl all_of_it)
 
-  its_line : x.line.items ≡ check_line (name_in e.settings) e.text o.report.verdict
-  its_line = o.found.line ∙ ap₂ (λ (name text : List ℕ). check_line name text o.report.verdict) (ap name_in (sym es)) (sym et)
+  its_line : (report : Report) → IsFound o.typed report x → x.line.items ≡ check_line (name_in e.settings) e.text report.verdict
+  its_line report found = found.line ∙ ap₂ (λ (name text : List ℕ). check_line name text report.verdict) (ap name_in (sym es)) (sym et)
 
-  a_check : IsACheck x.settings e x.status x.output.items x.line.items
-  a_check = record {
+  its_code : IsBuilt e.text o.typed (program_in x.checked) (arc_value x.code)
+  its_code = subst (λ (t : List ℕ). IsBuilt t o.typed (program_in x.checked) (arc_value x.code)) (sym et) o.built
+
+  a_check : (report : Report) → IsFound o.typed report x → IsACheck x.settings e x.status x.output.items x.line.items
+  a_check report found = record {
     typed = o.typed;
     checked = program_in x.checked;
     code = arc_value x.code;
     has_checked = ec;
     has_code = ek;
-    built = subst (λ (t : List ℕ). IsBuilt t o.typed (program_in x.checked) (arc_value x.code)) (sym et) o.built;
-    report = o.report;
-    found = o.found.found;
-    judged_is = o.found.status;
-    output_is = o.found.output;
-    line_is = its_line;
+    built = its_code;
+    report = report;
+    found = found.found;
+    judged_is = found.status;
+    output_is = found.output;
+    line_is = its_line report found;
   }
 
+  a_save : IsSavedAs (Some x.settings) x.text.items (program_in x.checked) x.status x.output.items x.line.items → IsASave e x.status x.output.items x.line.items
+  a_save saved =
+      let P : Option Settings → List ℕ → Type 0 = λ s t. IsSavedAs s t (program_in x.checked) x.status x.output.items x.line.items in
+      record {
+        typed = o.typed;
+        checked = program_in x.checked;
+        code = arc_value x.code;
+        has_checked = ec;
+        has_code = ek;
+        built = its_code;
+        saved = subst (λ (t : List ℕ). P e.settings t) (sym et) (subst (λ (s : Option Settings). P s x.text.items) (sym es) saved);
+      }
+
+  work_by : (mode : Mode) → WorkedBy mode o.typed x → IsWorkBy mode x.settings e x.status x.output.items x.line.items
+  work_by Check w = a_check w.0 w.1
+  work_by Build w = a_save w
+  work_by Run w = absurd w
+  work_by Churn w = absurd w
+  work_by Race w = absurd w
+  work_by Load w = absurd w
+
   work : IsWorkIn e.settings e x.status x.output.items x.line.items
-  work =
-      let a : IsWorkBy x.settings.mode x.settings e x.status x.output.items x.line.items = subst (λ (m : Mode). IsWorkBy m x.settings e x.status x.output.items x.line.items) (sym o.mode) a_check in
-      subst (λ (z : Option Settings). IsWorkIn z e x.status x.output.items x.line.items) (sym es) a
+  work = subst (λ (z : Option Settings). IsWorkIn z e x.status x.output.items x.line.items) (sym es) (work_by x.settings.mode o.work)
 
   pub of_worked : Headline words file out note e
   of_worked = record {

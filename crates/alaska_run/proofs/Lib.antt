@@ -8,6 +8,8 @@ pub mod FewTokens
 pub mod SameTurns
 pub mod SomeAnswers
 pub mod Checked
+pub mod LoadedCode
+pub mod LoadedOnce
 pub mod AlignedExprs
 pub mod AlignedPrograms
 pub mod AlignedRows

@@ -1,5 +1,5 @@
 -- Where words that are settings have the text come from.
-use Rattle.std.proofs.Common.{◌≡◌, ◌≢◌, ℕ, Bool, true, false, ◌&&◌, List, [], Option, Some, None, refl, ap, subst, ◌∙◌}
+use Rattle.std.proofs.Common.{◌≡◌, ◌≢◌, ℕ, Bool, true, false, ◌&&◌, List, [], Option, Some, None, refl, ap, subst, ◌∙◌, ◌⊎◌, inl, inr}
 use Rattle.std.specs.Prelude.{if◌then◌else◌, is_none, is_some, unwrap_or}
 use Rattle.std.specs.Option.{option_map}
 use Rattle.flat_rules.specs.declared.settings.Mode.{Mode}
@@ -8,7 +8,7 @@ use Rattle.run_words.specs.Command.{are_taken, value_in}
 use Rattle.run_words.specs.Wanted.{Wanted, wanted_by, has_bounded_heap, fits_mode, fits_mode_of, only_if, settings_of}
 use Rattle.run_churn.specs.Text as churn
 use Rattle.run_edges.specs.Files.{Shelved}
-use Rattle.alaska_run.specs.Sources.{Read, Made, churned, source_by, source_of}
+use Rattle.alaska_run.specs.Sources.{Source, Read, Made, Saved, churned, source_by, source_of}
 
 -- a test that lets something through holds of it
 if_some : (b : Bool) (v w : Wanted) → (if b then Some v else None) ≡ Some w → (v ≡ w) × (b ≡ true)
@@ -23,7 +23,7 @@ taken : (b : Bool) (o : Option Wanted) (w : Wanted) → (if b then o else None) 
 taken true o w e = e
 taken false o w e = absurd cc
 
-both : (a b : Bool) → (a && b) ≡ true → (a ≡ true) × (b ≡ true)
+pub both : (a b : Bool) → (a && b) ≡ true → (a ≡ true) × (b ≡ true)
 both true b e = (refl, e)
 both false b e = absurd cc
 
@@ -36,21 +36,24 @@ fits_as : (words : List (List ℕ)) (w : Wanted) (mode : Mode) → settings_of w
 fits_as words w mode e m = subst (λ (z : Mode). fits_mode_of z w ≡ true) m (fits words w e)
 
 module _ (file : List ℕ → Shelved) where
-  a_file : (o : Option (List ℕ)) → is_some o ≡ true → option_map (λ name. Read (file name)) o ≡ Some (Read (file (unwrap_or o [])))
-  a_file None e = absurd cc
-  a_file (Some name) e = refl
+  a_file : (read : Shelved → Source) (o : Option (List ℕ)) → is_some o ≡ true → option_map (λ name. read (file name)) o ≡ Some (read (file (unwrap_or o [])))
+  a_file read None e = absurd cc
+  a_file read (Some name) e = refl
 
-  a_file_by : (mode : Mode) (w : Wanted) → fits_mode_of mode w ≡ true → mode ≢ Churn → source_by mode file w ≡ Some (Read (file (unwrap_or w.file [])))
-  a_file_by Run w f n = a_file w.file (both (is_some w.file) _ f).0
-  a_file_by Churn w f n = absurd (n refl)
-  a_file_by Check w f n = a_file w.file (both (is_some w.file) _ f).0
-  a_file_by Race w f n = cc f
-  a_file_by Build w f n = cc f
-  a_file_by Load w f n = cc f
+  a_text_by : (mode : Mode) (w : Wanted) → fits_mode_of mode w ≡ true → mode ≢ Churn → mode ≢ Load → source_by mode file w ≡ Some (Read (file (unwrap_or w.file [])))
+  a_text_by Run w f n l = a_file Read w.file (both (is_some w.file) _ f).0
+  a_text_by Churn w f n l = absurd (n refl)
+  a_text_by Check w f n l = a_file Read w.file (both (is_some w.file) _ f).0
+  a_text_by Race w f n l = cc f
+  a_text_by Build w f n l = a_file Read w.file (both (is_some w.file) _ f).0
+  a_text_by Load w f n l = absurd (l refl)
 
-  -- those of each mode but churn name a file
-  pub source_read : (words : List (List ℕ)) (w : Wanted) → settings_of words ≡ Some w → w.mode ≢ Churn → source_of file w ≡ Some (Read (file (unwrap_or w.file [])))
-  source_read words w e m = a_file_by w.mode w (fits words w e) m
+  -- those of each mode but churn name a file, of a text but for those of mode load
+  pub source_read : (words : List (List ℕ)) (w : Wanted) → settings_of words ≡ Some w → w.mode ≢ Churn → w.mode ≢ Load → source_of file w ≡ Some (Read (file (unwrap_or w.file [])))
+  source_read words w e m l = a_text_by w.mode w (fits words w e) m l
+
+  pub source_saved : (words : List (List ℕ)) (w : Wanted) → settings_of words ≡ Some w → w.mode ≡ Load → source_of file w ≡ Some (Saved (file (unwrap_or w.file [])))
+  source_saved words w e m = ap (λ (z : Mode). source_by z file w) m ∙ a_file Saved w.file (both (is_some w.file) _ (fits_as words w Load e m)).0
 
   a_text : (seed size : Option ℕ) → is_some seed ≡ true → is_some size ≡ true → churned seed size ≡ Some (Made (churn.text (unwrap_or seed 0) (unwrap_or size 1)))
   a_text None size d z = absurd cc
@@ -63,3 +66,14 @@ module _ (file : List ℕ → Shelved) where
       let h = both (is_none w.file) _ (fits_as words w Churn e m) in
       let g = both (is_some w.seed) (is_some w.size) h.1 in
       ap (λ (z : Mode). source_by z file w) m ∙ a_text w.seed w.size g.0 g.1
+
+-- ---- modes that run
+
+-- words want a run of modes run and churn alone, where they want no check, no saving and no loading
+pub runs_by : (mode : Mode) (w : Wanted) → fits_mode_of mode w ≡ true → mode ≢ Check → mode ≢ Build → mode ≢ Load → (mode ≡ Run) ⊎ (mode ≡ Churn)
+runs_by Run w f c b l = inl refl
+runs_by Churn w f c b l = inr refl
+runs_by Check w f c b l = absurd (c refl)
+runs_by Race w f c b l = cc f
+runs_by Build w f c b l = absurd (b refl)
+runs_by Load w f c b l = absurd (l refl)

@@ -11,7 +11,8 @@ use Rattle.run_notes.specs.declared.status.Status.{Status}
 use Rattle.run_notes.specs.declared.status.Status.TheVariants.{NoMemory}
 use Rattle.alaska_run.specs.declared.ending.Ending as code
 
--- how it ended; what the words said; the text; its code, checked and as it was run; and the journal of the run
+-- how it ended; what the words said; the text, in mode load the bytes of the code file; its code, checked and as it was run; and the journal of
+-- the run
 pub record Ending : Type 0 where
   pub status : Status
   pub settings : Option Settings

@@ -1,5 +1,5 @@
--- What a call of `alaska` promises, part by part: what it wrote and how it ended is what its journal replays to, on the text's own code and
--- under the settings of its words. What only one mode says stands in Modes.antt.
+-- What a call of `alaska` promises, part by part: what it wrote and how it ended is what its journal replays to, on the text's own code or, in
+-- mode load, the code file's, and under the settings of its words. What only one mode says stands in Modes.antt.
 use Rattle.std.specs.Prelude.{◌≡◌, ◌≢◌, ℕ, ◌≤◌, ◌⊎◌, List, [], ◌++◌, length, Some, None}
 use Rattle.std.specs.Option.{option_map}
 use Rattle.ak_trace.specs.declared.entry.Entry.{Entry}
@@ -28,7 +28,7 @@ use Rattle.run_edges.specs.Writing.{Written}
 use Rattle.alaska_run.specs.Ending.{Ending, WantedMemory}
 use Rattle.alaska_run.specs.Sources.{Source, source_in, name_in, IsAll, IsFirst, Failed}
 use Rattle.alaska_run.specs.Faults.{IsFault}
-use Rattle.alaska_run.specs.Modes.{IsCodeBy, IsAnswerBy, IsWorkIn}
+use Rattle.alaska_run.specs.Modes.{IsCodeBy, SpeaksOf, IsAnswerBy, IsWorkIn}
 
 -- ---- the status
 
@@ -44,11 +44,12 @@ pub record IsUnread (source : Source) (text : List ℕ) (status : Status) : Type
   pub none : text ≡ []
   pub told : IsOrUnwritten statuses.ReadFault status
 
--- the text is all of its source; or its first bytes, where it has more than a text may have; or none, where it couldn't be read
+-- the text is all of its source; or its first bytes, where it has more than a text or a code file may have; or none, where it couldn't be read
 abbrev pub IsTextOf : Source → List ℕ → Status → Type 0
 IsTextOf source text status = IsAll source text ⊎ IsFirst source text ⊎ IsUnread source text status
 
--- the settings are those of the words, and the text is that of the file that they name or, in mode churn, of their seed and their size
+-- the settings are those of the words, and the text is that of the file that they name, in mode load a code file, or, in mode churn, that of
+-- their seed and their size
 pub record TheText (words : List (List ℕ)) (file : List ℕ → Shelved) (e : Ending) : Type 0 where
   pub settings : (option_map wanted_of e.settings ≡ settings_of words) ⊎ WantedMemory e
   pub text : (source : Source) → source_in file e.settings ≡ Some source → IsTextOf source e.text e.status
@@ -84,8 +85,9 @@ pub record OfARun (checked : Ir) (code : LinearCode) (settings : Settings) (log 
   pub final : Final
   -- the journal is that of a run, and this is its last state
   pub the_same_order : IsRun code settings log end final
-  -- what it means to each typed tree of which the checked code, without its Looks, safepoints, slots and lists, keeps every turn
-  pub of_each_tree : (typed : Typed) → KeepsEveryTurn typed (ir_erased checked) → OfATree typed checked code settings log final
+  -- what it means to each typed tree of which the checked code, without its Looks, safepoints, slots and lists, keeps every turn; in mode load,
+  -- where the code may be of no text, to each such tree that some text has
+  pub of_each_tree : (typed : Typed) → SpeaksOf settings.mode typed → KeepsEveryTurn typed (ir_erased checked) → OfATree typed checked code settings log final
   -- at each barrier no pinned object moves, and the object of every id in use keeps its bytes, at the address that the table then has
   pub no_pinned_object_every_handle : BarriersKeep code settings log
 
@@ -107,7 +109,7 @@ pub record WithARun (file : List ℕ → Shelved) (out note : Channel) (e : Endi
   pub has_settings : e.settings ≡ Some settings
   pub has_checked : e.checked ≡ Some checked
   pub has_code : e.code ≡ Some code
-  -- the code is the text's
+  -- the code is the text's, or the code file's
   pub the_code : TheCode file e settings checked code
   -- the journal is that of its run
   pub the_run : OfARun checked code settings log

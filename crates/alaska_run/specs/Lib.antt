@@ -2,8 +2,10 @@ pub mod Ending
 pub mod Sources
 pub mod Faults
 pub mod Modes
+pub mod Loading
 pub mod Headline
 pub mod Answers
 pub mod inner
 pub mod Reading
 pub mod Built
+pub mod Loaded

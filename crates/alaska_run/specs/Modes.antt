@@ -1,22 +1,26 @@
 -- What each mode says of a call, a line a mode: whose the code is that ran, what is answered beside a run, what is done without one, and what
--- a text of the subset comes to. Modes race, build and load do nothing yet, since no words want them.
+-- a text of the subset comes to. Mode race does nothing yet, since no words want it.
 -- Where a mode has its text from is told in Sources.antt.
-use Rattle.std.specs.Prelude.{◌≡◌, ℕ, List, [], Option, Some, None, IsSome, unwrap_or}
+use Rattle.std.specs.Prelude.{◌≡◌, ℕ, ◌⊎◌, List, [], length, Option, Some, None, Ok, Err, IsSome, unwrap_or}
 use Rattle.c_tree.specs.Typed.{Typed}
 use Rattle.struct_ir.specs.Nodes.{Ir}
 use Rattle.struct_ir.specs.Instrs.{LinearCode}
 use Rattle.ak_trace.specs.declared.endings.End.{End}
 use Rattle.ak_trace.specs.declared.endings.Verdict.{Verdict}
 use Rattle.flat_rules.specs.declared.settings.Mode.{Mode}
-use Rattle.flat_rules.specs.declared.settings.Mode.TheVariants.{Run, Churn, Check}
+use Rattle.flat_rules.specs.declared.settings.Mode.TheVariants.{Run, Churn, Check, Build, Load}
 use Rattle.flat_rules.specs.declared.settings.Settings.{Settings}
 use Rattle.rule_check.specs.Checks.{IsCheckOf}
 use Rattle.rule_check.specs.Reports.{Report}
+use Rattle.code_save.specs.Saves.{Saves}
+use Rattle.code_save.specs.declared.fault.SaveFault.TheVariants.{TooDeep, TooLong}
 use Rattle.run_notes.specs.Checks.{check_line}
+use Rattle.run_notes.specs.Lines.{built_line, fault_line}
 use Rattle.run_notes.specs.declared.status.Status.{Status}
 use Rattle.run_notes.specs.declared.status.Status.TheVariants as statuses
 use Rattle.run_notes.specs.Statuses.{status_of}
-use Rattle.alaska_run.specs.Built.{IsBuilt}
+use Rattle.alaska_run.specs.Built.{IsTreeOf, IsBuilt}
+use Rattle.alaska_run.specs.Loaded.{IsLoadedTo}
 use Rattle.alaska_run.specs.Ending.{Ending}
 use Rattle.alaska_run.specs.Sources.{name_in}
 
@@ -26,11 +30,19 @@ use Rattle.alaska_run.specs.Sources.{name_in}
 abbrev pub IsCompiledTo : (text : List ℕ) → Ir → LinearCode → Type 0
 IsCompiledTo text checked code = (typed : Typed) × IsBuilt text typed checked code
 
--- what a text and the code that ran have to do with each other; in the other modes no code runs
+-- what a text and the code that ran have to do with each other; in mode load the text is a code file, and the code is its; in the other modes
+-- no code runs
 abbrev pub IsCodeBy : Mode → (text : List ℕ) → Ir → LinearCode → Type 0
 IsCodeBy Run text checked code = IsCompiledTo text checked code
 IsCodeBy Churn text checked code = IsCompiledTo text checked code
+IsCodeBy Load text checked code = IsLoadedTo text checked code
 IsCodeBy mode text checked code = ⊥
+
+-- of which typed trees a run is said to mean something, where its code keeps their every turn: of each; in mode load of those that some text of
+-- the subset has
+abbrev pub SpeaksOf : Mode → Typed → Type 0
+SpeaksOf Load typed = (text : List ℕ) × IsTreeOf text typed
+SpeaksOf mode typed = Unit {0}
 
 -- ---- with a run
 
@@ -42,6 +54,7 @@ IsTheEnd end judged behind = (judged ≡ status_of end) × (behind ≡ [])
 abbrev pub IsAnswerBy : Mode → Ending → End → (judged : Status) → (behind : List ℕ) → Type 0
 IsAnswerBy Run e end judged behind = IsTheEnd end judged behind
 IsAnswerBy Churn e end judged behind = IsTheEnd end judged behind
+IsAnswerBy Load e end judged behind = IsTheEnd end judged behind
 IsAnswerBy mode e end judged behind = ⊥
 
 -- ---- without one
@@ -63,9 +76,31 @@ pub record IsACheck (settings : Settings) (e : Ending) (judged : Status) (output
   pub output_is : output ≡ report.output
   pub line_is : line ≡ check_line (name_in e.settings) e.text report.verdict
 
--- what a mode does that runs nothing: the status before anything is written, and what out and note are to take. Modes run and churn do nothing but run
+-- how the saving of checked code is answered: the status before anything is written, and what out and note are to take. The bytes are the one
+-- spelling of the code; or its nodes are nested deeper than in a code file; or they aren't, and the spelling is longer than one
+abbrev pub IsSavedAs : Option Settings → (text : List ℕ) → (checked : Ir) → (judged : Status) → (output line : List ℕ) → Type 0
+IsSavedAs settings text checked statuses.Built output line = Saves checked (Ok output) × (line ≡ built_line (length output))
+IsSavedAs settings text checked statuses.CodeTooDeep output line = Saves checked (Err TooDeep) × (output ≡ []) × (line ≡ fault_line (name_in settings) text statuses.CodeTooDeep)
+IsSavedAs settings text checked statuses.CodeTooLong output line = Saves checked (Err TooLong) × (output ≡ []) × (line ≡ fault_line (name_in settings) text statuses.CodeTooLong)
+IsSavedAs settings text checked judged output line = ⊥
+
+-- what mode build does: the text is compiled, its checked code is saved, and no code runs
+pub record IsASave (e : Ending) (judged : Status) (output line : List ℕ) : Type 0 where
+  -- checked and code are what the text's own tree is compiled to
+  pub typed : Typed
+  pub checked : Ir
+  pub code : LinearCode
+  pub has_checked : e.checked ≡ Some checked
+  pub has_code : e.code ≡ Some code
+  pub built : IsBuilt e.text typed checked code
+  -- and this came of saving it
+  pub saved : IsSavedAs e.settings e.text checked judged output line
+
+-- what a mode does that runs nothing: the status before anything is written, and what out and note are to take. Modes run, churn and load do
+-- nothing but run
 abbrev pub IsWorkBy : Mode → Settings → Ending → (judged : Status) → (output line : List ℕ) → Type 0
 IsWorkBy Check settings e judged output line = IsACheck settings e judged output line
+IsWorkBy Build settings e judged output line = IsASave e judged output line
 IsWorkBy mode settings e judged output line = ⊥
 
 -- the mode is that of the settings, where there are any
@@ -73,11 +108,14 @@ abbrev pub IsWorkIn : Option Settings → Ending → (judged : Status) → (outp
 IsWorkIn None e judged output line = ⊥
 IsWorkIn (Some settings) e judged output line = IsWorkBy settings.mode settings e judged output line
 
--- ---- a text of the subset
+-- ---- a text of the subset, or a code file
 
--- what a mode makes of it, where nothing failed and memory sufficed: a run, of which there is a journal, or what a check found
+-- what a mode makes of it, where nothing failed and memory sufficed: a run, of which there is a journal; what a check found; or what came of
+-- saving
 abbrev pub IsDoneBy : Mode → Ending → Type 0
 IsDoneBy Run e = IsSome e.journal
 IsDoneBy Churn e = IsSome e.journal
 IsDoneBy Check e = (found : Verdict) × (e.status ≡ statuses.Checked found)
+IsDoneBy Build e = (e.status ≡ statuses.Built) ⊎ (e.status ≡ statuses.CodeTooDeep) ⊎ (e.status ≡ statuses.CodeTooLong)
+IsDoneBy Load e = IsSome e.journal
 IsDoneBy mode e = ⊥

@@ -124,7 +124,10 @@ fn end_without_memory<O: Sink, N: Sink>(alloc: Global, out: &mut O, note: &mut N
 /// In mode check no code runs: the source's run of the text's own typed tree is checked, in the order of the schedule's seed, and `note` takes
 /// the line of the first rule that it breaks, or of how it ends.
 ///
-/// Where `out` fails, `note` is not written. Once the world was opened no memory is taken; a check may come to want of memory.
+/// In mode build no code runs either: `out` takes the code file of the text's checked code, and `note` the line of its length, or of what it has too
+/// much of. In mode load FILE is such a file: its code is checked again, and runs as that of a text does.
+///
+/// Where `out` fails, `note` is not written. Once the world was opened no memory is taken; a check or saving may come to want of memory.
 pub fn alaska<R: Threads + Wait + Sync, F: Shelf, O: Sink, N: Sink, G: Gate>(
     rt: &R,
     alloc: Global,
@@ -153,6 +156,10 @@ pub fn alaska<R: Threads + Wait + Sync, F: Shelf, O: Sink, N: Sink, G: Gate>(
     ensures unread { (wanted : Wanted) → settings_of (map string_bytes words.now) ≡ Some wanted → wanted.mode ≡ Churn → shelf.new ≡ shelf.old }
 {
     crate::laws::read_each_text_once();
+    crate::laws::load_each_file_once();
+    c_meaning::laws::turns_go_on();
+    c_meaning::laws::runs_go_on();
+    lower_turns::laws::code_with_looks_keeps_every_turn();
     flat_replay::laws::journals_mean_the_source();
     flat_replay::laws::accesses_of_journals_stay();
     match prepare(alloc, words, shelf) {

@@ -14,12 +14,12 @@ pub struct Ending {
     pub status: Status,
     /// What the words said.
     pub settings: Option<Settings>,
-    /// The text that was read, or made in mode churn.
+    /// The text that was read, in mode load the bytes of the code file, or made in mode churn.
     pub text: Vec<u8>,
     /// Its code with translations, safepoints and pin lists, safe for moves.
     pub checked: Option<Checked>,
     /// The machine's code of it, which ran where there is a journal.
     pub code: Option<Arc<Program, Global>>,
-    /// The journal of the run, as it stood under the workers' lock; none in mode check, which runs nothing.
+    /// The journal of the run, as it stood under the workers' lock; none in modes check and build, which run nothing.
     pub journal: Option<Kept>,
 }

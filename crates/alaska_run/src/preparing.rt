@@ -1,21 +1,20 @@
-//! What comes before anything is written, but for a run: the words, the text, its code, and the world that the workers share or what a check
-//! finds.
+//! What comes before anything is written, but for a run: the words, the text, its code, and the world that the workers share, or what a check
+//! finds or saving gives.
 
-ghost use Rattle.std.specs.Prelude.{◌≡◌, ◌≢◌, ◌≤◌, ℕ, List, [], map, string_bytes, length, unwrap_or, option_map, IfOk, Some, None};
+ghost use Rattle.std.specs.Prelude.{◌≡◌, ◌≢◌, ◌≤◌, ℕ, List, [], map, string_bytes, length, unwrap_or, IfOk, Some, None};
 ghost use Rattle.std.specs.Arc.{arc_value};
-ghost use Rattle.alaska_run.specs.Reading.{Refuses};
 ghost use Rattle.c_tree.specs.TypedViews.{typed_view};
 ghost use Rattle.struct_ir.specs.LinearViews.{code_view};
 ghost use Rattle.pin_checker.specs.CheckedViews.{program_in};
 ghost use Rattle.alaska_run.specs.Built.{IsBuilt};
 ghost use Rattle.run_words.specs.Wanted.{Wanted, settings_of, wanted_of};
 ghost use Rattle.alaska_run.specs.Sources.{name_in};
-ghost use Rattle.alaska_run.specs.Faults.{IsFault};
-ghost use Rattle.alaska_run.specs.Headline.{IsTextOf};
 ghost use Rattle.run_edges.specs.Files.{Shelved, shelved};
-ghost use Rattle.alaska_run.specs.inner.Courses.{IsCourse, IsCourseOf, IsReady, IsStoppedAs};
+ghost use Rattle.alaska_run.specs.inner.Courses.{IsCourse, IsCourseOf, IsOpenedOf, IsReady, IsStoppedAs};
 
+use crate::building::save_text;
 use crate::checking::{Worked, check_text};
+use crate::loading::load_text;
 use crate::{Built, compile};
 use ak_io::Shelf;
 use ak_words::NoMemory;
@@ -24,11 +23,12 @@ use c_lex::{CompileFault, Kind};
 use flat_machine::{Context, Mode, Program, Settings, Shared};
 use pin_checker::Checked;
 use run_churn::churn_text;
-use run_edges::{MOST_BYTES, TextRead, read_text};
+use run_edges::{MOST_BYTES, MOST_FILE_BYTES, TextRead, read_text};
 use run_notes::{Status, fault_line};
 use run_words::read_settings;
 use std::alloc::Global;
 use std::sync::Arc;
+use struct_ir::linear::Code;
 use turn_lock::Pass;
 
 // How many bytes a report has at most.
@@ -97,8 +97,8 @@ fn stopped_by_words(alloc: Global) -> Result<Course, NoMemory>
     }))
 }
 
-// A text that was not read, or is none of the subset.
-fn stop_with(
+/// A text that was not read, or is none of the subset, or no code file that may run.
+pub(crate) fn stop_with(
     alloc: Global,
     settings: Settings,
     text: Vec<u8>,
@@ -115,21 +115,17 @@ fn stop_with(
     }))
 }
 
-// The world for the code of a text.
-fn open_world(
+/// The world for the code of a text.
+pub(crate) fn open_world(
     alloc: Global,
     settings: Settings,
     text: Vec<u8>,
-    built: Built,
+    checked: Checked,
+    code: Code,
 ) -> Result<Opened, NoMemory>
     ensures ready { IfOk result IsReady }
-    ensures kept { IfOk result (λ x. (x.settings ≡ settings) × (x.text ≡ text) × (x.checked ≡ built.checked) × (arc_value x.code ≡ code_view built.code)) }
+    ensures kept { IfOk result (λ x. (x.settings ≡ settings) × (x.text ≡ text) × (x.checked ≡ checked) × (arc_value x.code ≡ code_view code)) }
 {
-    let Built {
-        typed: _,
-        checked,
-        code,
-    } = built;
     let code = Arc::new(alloc, Program::load(alloc, code)?)?;
     let (world, passes) = SharedWorld::open(alloc, Arc::clone(&code)?, &settings)?;
     let line = Vec::with_capacity(alloc, REPORT_BYTES)?;
@@ -144,14 +140,35 @@ fn open_world(
     })
 }
 
-// What the mode does with a text that is compiled: it is checked, or the world is opened in which it is to run.
+// A text that is compiled and is to run.
+fn open_text(
+    alloc: Global,
+    settings: Settings,
+    text: Vec<u8>,
+    built: Built,
+) -> Result<Opened, NoMemory>
+    requires not_checked { settings.mode ≢ Mode.Check }
+    requires not_built { settings.mode ≢ Mode.Build }
+    requires built { IsBuilt text.items (typed_view built.typed) (program_in built.checked) (code_view built.code) }
+    ensures { IfOk result (IsOpenedOf settings text.items) }
+{
+    let Built {
+        typed: _,
+        checked,
+        code,
+    } = built;
+    open_world(alloc, settings, text, checked, code)
+}
+
+// What the mode does with a text that is compiled: it is checked, or its code is saved, or the world is opened in which it is to run.
 fn begin(alloc: Global, settings: Settings, text: Vec<u8>, built: Built) -> Result<Course, NoMemory>
     requires { IsBuilt text.items (typed_view built.typed) (program_in built.checked) (code_view built.code) }
     ensures { IfOk result (IsCourseOf settings text.items) }
 {
     match settings.mode {
         Mode::Check => Ok(Course::Worked(check_text(alloc, settings, text, built)?)),
-        _ => Ok(Course::Opened(open_world(alloc, settings, text, built)?)),
+        Mode::Build => Ok(Course::Worked(save_text(alloc, settings, text, built)?)),
+        _ => Ok(Course::Opened(open_text(alloc, settings, text, built)?)),
     }
 }
 
@@ -180,10 +197,11 @@ fn prepare_file<F: Shelf>(
     settings: Settings,
     shelf: &mut F,
 ) -> Result<Course, NoMemory>
-    requires { settings.mode ≢ Mode.Churn }
+    requires not_churned { settings.mode ≢ Mode.Churn }
+    requires not_loaded { settings.mode ≢ Mode.Load }
     ensures { (words : List (List ℕ)) → settings_of words ≡ Some (wanted_of settings) → IfOk result (IsCourse words (shelved F.contents F.faults shelf.old shelf.new)) }
 {
-    match read_text(alloc, shelf, file_name(&settings))? {
+    match read_text(alloc, shelf, file_name(&settings), MOST_BYTES)? {
         TextRead::Whole(text) => compile_text(alloc, settings, text),
         TextRead::Front(text) => {
             stop_with(
@@ -193,6 +211,22 @@ fn prepare_file<F: Shelf>(
                 Status::Refused(MOST_BYTES as u32, Kind::TooLong),
             )
         }
+        TextRead::Fault => stop_with(alloc, settings, Vec::new(alloc), Status::ReadFault),
+    }
+}
+
+// The code file that the settings name, loaded, and the world opened.
+fn prepare_load<F: Shelf>(
+    alloc: Global,
+    settings: Settings,
+    shelf: &mut F,
+) -> Result<Course, NoMemory>
+    requires { settings.mode ≡ Mode.Load }
+    ensures { (words : List (List ℕ)) → settings_of words ≡ Some (wanted_of settings) → IfOk result (IsCourse words (shelved F.contents F.faults shelf.old shelf.new)) }
+{
+    match read_text(alloc, shelf, file_name(&settings), MOST_FILE_BYTES)? {
+        TextRead::Whole(text) => load_text(alloc, settings, text),
+        TextRead::Front(text) => stop_with(alloc, settings, text, Status::FileTooLong),
         TextRead::Fault => stop_with(alloc, settings, Vec::new(alloc), Status::ReadFault),
     }
 }
@@ -210,7 +244,8 @@ fn prepare_churn(alloc: Global, settings: Settings) -> Result<Course, NoMemory>
     compile_text(alloc, settings, text)
 }
 
-/// Reads the words, then reads the file or, in mode churn, makes the text; compiles it, and opens the world or, in mode check, checks it.
+/// Reads the words, then reads the file or, in mode churn, makes the text; compiles it, and opens the world or, in mode check, checks it, or, in mode
+/// build, saves its code. In mode load the file's code is loaded, and the world opened.
 pub(crate) fn prepare<F: Shelf>(
     alloc: Global,
     words: &[String],
@@ -225,6 +260,7 @@ pub(crate) fn prepare<F: Shelf>(
     };
     match settings.mode {
         Mode::Churn => prepare_churn(alloc, settings),
+        Mode::Load => prepare_load(alloc, settings, shelf),
         _ => prepare_file(alloc, settings, shelf),
     }
 }

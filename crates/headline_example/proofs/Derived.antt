@@ -10,6 +10,7 @@ use Rattle.alaska_run.specs.Reading.{OneTree, NotBoth}
 use Rattle.alaska_run.specs.Built.{IsTreeOf}
 use Rattle.lower_forms.specs.Programs.{lowered}
 use Rattle.lower_turns.specs.Turns.{KeepsEveryTurn}
+use Rattle.struct_ir.specs.Nodes.{Ir}
 use Rattle.struct_ir.specs.Erased.{ir_erased}
 use Rattle.ak_trace.specs.declared.endings.End.{End}
 use Rattle.ak_trace.specs.declared.endings.Verdict.{Verdict}
@@ -25,13 +26,13 @@ use Rattle.run_notes.specs.declared.status.Status.{Status}
 use Rattle.run_notes.specs.declared.status.Status.TheVariants as statuses
 use Rattle.run_notes.specs.Statuses.{status_of}
 use Rattle.run_notes.specs.Reports.{report_text}
-use Rattle.run_edges.specs.Files.{Shelved, IsWhole}
+use Rattle.run_edges.specs.Files.{Shelved, IsWhole, most_bytes}
 use Rattle.run_edges.specs.Sinks.{Channel, Gained, GainedFront}
 use Rattle.run_edges.specs.Writing.{after_note_fault, Written}
 use Rattle.alaska_run.specs.Ending.{Ending, WantedMemory}
 use Rattle.alaska_run.specs.Sources.{Read, Failed, IsAll, source_of, source_in}
-use Rattle.alaska_run.specs.Faults.{IsRefused, IsFault}
-use Rattle.alaska_run.specs.Modes.{IsCompiledTo, IsCodeBy, IsTheEnd, IsAnswerBy, IsWorkBy, IsWorkIn}
+use Rattle.alaska_run.specs.Faults.{IsRefused, IsUnloaded, OfSource, IsFault}
+use Rattle.alaska_run.specs.Modes.{IsCompiledTo, IsCodeBy, SpeaksOf, IsTheEnd, IsAnswerBy, IsSavedAs, IsWorkBy, IsWorkIn}
 use Rattle.alaska_run.specs.Headline.{Headline, OfATree, WithARun, WithoutARun, CameToNoRun, DidItsWork, depth}
 use Rattle.headline_example.specs.Text.{text, tree}
 use Rattle.headline_example.specs.Read.{IsTheTree}
@@ -84,25 +85,49 @@ no_work (Some s) e judged output line is h =
     let same : wanted_of s ≡ heap_wanted = same_some (wanted_of s) heap_wanted is in
     subst (λ (mode : Mode). IsWorkBy mode s e judged output line) (ap (λ (w : Wanted). w.mode) same) h
 
--- what a mode does that runs nothing is a check
-a_check : (mode : Mode) (s : Settings) (e : Ending) (judged : Status) (output line : List ℕ) → IsWorkBy mode s e judged output line → (found : Verdict) × (judged ≡ statuses.Checked found)
-a_check Run s e judged output line h = absurd h
-a_check Churn s e judged output line h = absurd h
-a_check Check s e judged output line h = (h.report.verdict, h.judged_is)
-a_check Race s e judged output line h = absurd h
-a_check Build s e judged output line h = absurd h
-a_check Load s e judged output line h = absurd h
+-- what is done without a run has a status that is no want of memory, also where note failed
+abbrev IsNoWant : Status → Type 0
+IsNoWant judged = (judged ≡ statuses.NoMemory → ⊥) × (after_note_fault judged ≡ statuses.NoMemory → ⊥)
 
-a_check_in : (o : Option Settings) (e : Ending) (judged : Status) (output line : List ℕ) → IsWorkIn o e judged output line → (found : Verdict) × (judged ≡ statuses.Checked found)
-a_check_in None e judged output line h = absurd h
-a_check_in (Some s) e judged output line h = a_check s.mode s e judged output line h
+saved_status : (o : Option Settings) (source : List ℕ) (checked : Ir) (judged : Status) (output line : List ℕ) → IsSavedAs o source checked judged output line → IsNoWant judged
+saved_status o source checked (statuses.Done exit) output line h = absurd h
+saved_status o source checked statuses.Usage output line h = absurd h
+saved_status o source checked (statuses.Refused place kind) output line h = absurd h
+saved_status o source checked statuses.ReadFault output line h = absurd h
+saved_status o source checked statuses.WriteFault output line h = absurd h
+saved_status o source checked (statuses.Trap word kind) output line h = absurd h
+saved_status o source checked statuses.AllBlocked output line h = absurd h
+saved_status o source checked statuses.TurnLimit output line h = absurd h
+saved_status o source checked statuses.OutputLimit output line h = absurd h
+saved_status o source checked (statuses.StackLimit thread) output line h = absurd h
+saved_status o source checked statuses.NoMemory output line h = absurd h
+saved_status o source checked (statuses.Checked found) output line h = absurd h
+saved_status o source checked statuses.Built output line h = ((λ z. cc z), (λ z. cc z))
+saved_status o source checked statuses.CodeTooDeep output line h = ((λ z. cc z), (λ z. cc z))
+saved_status o source checked statuses.CodeTooLong output line h = ((λ z. cc z), (λ z. cc z))
+saved_status o source checked (statuses.BadCode place) output line h = absurd h
+saved_status o source checked (statuses.UnsafeCode place why) output line h = absurd h
+saved_status o source checked statuses.FileTooLong output line h = absurd h
 
--- whose status is no want of memory
-not_wanted : (judged status : Status) (output line : List ℕ) (out note : Channel) (found : Verdict) → judged ≡ statuses.Checked found → Written judged status output line out note → status ≡ statuses.NoMemory → ⊥
-not_wanted judged status output line out note found is (inl w) m = let z : statuses.Checked found ≡ statuses.NoMemory = sym is ∙ (sym w.status_is ∙ m) in absurd (cc z)
-not_wanted judged status output line out note found is (inr (inl w)) m = let z : statuses.WriteFault ≡ statuses.NoMemory = sym w.status_is ∙ m in absurd (cc z)
-not_wanted judged status output line out note found is (inr (inr w)) m =
-    let z : statuses.WriteFault ≡ statuses.NoMemory = sym (ap after_note_fault is) ∙ (sym w.status_is ∙ m) in absurd (cc z)
+checked_status : (found : Verdict) → IsNoWant (statuses.Checked found)
+checked_status found = ((λ z. cc z), (λ z. cc z))
+
+work_status : (mode : Mode) (s : Settings) (e : Ending) (judged : Status) (output line : List ℕ) → IsWorkBy mode s e judged output line → IsNoWant judged
+work_status Run s e judged output line h = absurd h
+work_status Churn s e judged output line h = absurd h
+work_status Check s e judged output line h = subst IsNoWant (sym h.judged_is) (checked_status h.report.verdict)
+work_status Race s e judged output line h = absurd h
+work_status Build s e judged output line h = saved_status e.settings e.text h.checked judged output line h.saved
+work_status Load s e judged output line h = absurd h
+
+work_status_in : (o : Option Settings) (e : Ending) (judged : Status) (output line : List ℕ) → IsWorkIn o e judged output line → IsNoWant judged
+work_status_in None e judged output line h = absurd h
+work_status_in (Some s) e judged output line h = work_status s.mode s e judged output line h
+
+not_wanted : (judged status : Status) (output line : List ℕ) (out note : Channel) → IsNoWant judged → Written judged status output line out note → status ≡ statuses.NoMemory → ⊥
+not_wanted judged status output line out note no (inl w) m = no.0 (sym w.status_is ∙ m)
+not_wanted judged status output line out note no (inr (inl w)) m = let z : statuses.WriteFault ≡ statuses.NoMemory = sym w.status_is ∙ m in cc z
+not_wanted judged status output line out note no (inr (inr w)) m = no.1 (sym w.status_is ∙ m)
 
 -- nothing, and all, are first parts
 nothing_first : (out : Channel) → Gained out [] → GainedFront out answer
@@ -117,7 +142,7 @@ module _ (one_tree : OneTree) (not_both : NotBoth) (the_tree : IsTheTree) (known
   wants = ap settings_of words_are ∙ words_want
 
   -- a file that was read whole is the text
-  whole_is : IsWhole (file heap_name) e.text → e.text ≡ text
+  whole_is : IsWhole most_bytes (file heap_name) e.text → e.text ≡ text
   whole_is w = w.whole text told
 
   of_text : e.text ≡ text → IsTreeOf e.text tree
@@ -190,7 +215,7 @@ module _ (one_tree : OneTree) (not_both : NotBoth) (the_tree : IsTheTree) (known
     keeps = subst (λ (t : Typed). KeepsEveryTurn t (ir_erased run.checked)) typed_is made.1.erased_turns
 
     of_the_tree : OfATree tree run.checked run.code run.settings log f
-    of_the_tree = run.the_run.of_each_tree tree keeps
+    of_the_tree = run.the_run.of_each_tree tree (subst (λ (mode : Mode). SpeaksOf mode tree) (sym mode_is) tt) keeps
 
     meant : IsAsMeant (program tree) (start tree) depth log run.settings f
     meant = of_the_tree.what_the_text_means (clean known log f has_room of_the_tree.a_run)
@@ -228,6 +253,12 @@ module _ (one_tree : OneTree) (not_both : NotBoth) (the_tree : IsTheTree) (known
     not_refused place kind (inl r) = let t = of_text (whole_is r.0) in not_both e.text t.tokens tree (record { place = place; kind = kind }) t.read r.1
     not_refused place kind (inr r) = let long : 1048576 < length text = r.0.longer text told in absurd (omega (arith, long))
 
+    -- the file is no code file
+    no_code : (status : Status) → source_in file e.settings ≡ Some (Read (file heap_name)) → OfSource words file e.settings e.text (λ source. IsUnloaded source e.text status) → ⊥
+    no_code status named fault =
+        let is : fault.0 ≡ Read (file heap_name) = same_some fault.0 (Read (file heap_name)) (sym fault.1 ∙ named) in
+        subst (λ s. IsUnloaded s e.text status) is fault.2
+
     by_judged : (judged : Status) → source_in file e.settings ≡ Some (Read (file heap_name)) → IsFault words file e.settings e.text judged → Written judged e.status [] line out note → CameTo (file heap_name) out note e
     by_judged statuses.Usage named fault w = let no : Some heap_wanted ≡ None = sym wants ∙ fault in absurd (cc no)
     by_judged statuses.ReadFault named fault w =
@@ -245,6 +276,12 @@ module _ (one_tree : OneTree) (not_both : NotBoth) (the_tree : IsTheTree) (known
     by_judged statuses.OutputLimit named fault w = absurd fault
     by_judged (statuses.StackLimit thread) named fault w = absurd fault
     by_judged (statuses.Checked found) named fault w = absurd fault
+    by_judged statuses.Built named fault w = absurd fault
+    by_judged statuses.CodeTooDeep named fault w = absurd fault
+    by_judged statuses.CodeTooLong named fault w = absurd fault
+    by_judged (statuses.BadCode place) named fault w = absurd (no_code (statuses.BadCode place) named fault)
+    by_judged (statuses.UnsafeCode place why) named fault w = absurd (no_code (statuses.UnsafeCode place why) named fault)
+    by_judged statuses.FileTooLong named fault w = absurd (no_code statuses.FileTooLong named fault)
 
     -- memory was wanting before the settings were there
     by_want : (judged : Status) → e.status ≡ statuses.NoMemory → Written judged e.status [] line out note → CameTo (file heap_name) out note e
@@ -263,7 +300,7 @@ module _ (one_tree : OneTree) (not_both : NotBoth) (the_tree : IsTheTree) (known
   did_no_work : (w : WithoutARun words file out note e) → DidItsWork file e w.judged w.output w.line → ⊥
   did_no_work w d = elim h.the_text.settings [
     | inl is ↦ no_work e.settings e w.judged w.output w.line (is ∙ wants) d.work
-    | inr m ↦ (let found = a_check_in e.settings e w.judged w.output w.line d.work in not_wanted w.judged e.status w.output w.line out note found.0 found.1 w.written m.status)
+    | inr m ↦ not_wanted w.judged e.status w.output w.line out note (work_status_in e.settings e w.judged w.output w.line d.work) w.written m.status
   ]
 
   stopped_so : WithoutARun words file out note e → CameTo (file heap_name) out note e

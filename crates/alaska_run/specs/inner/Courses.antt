@@ -6,12 +6,14 @@ use Rattle.c_lex.specs.declared.refusal.Refusal.{Refusal}
 use Rattle.c_tree.specs.Typed.{Typed}
 use Rattle.alaska_run.specs.Reading.{Refuses}
 use Rattle.alaska_run.specs.Built.{IsBuilt}
+use Rattle.alaska_run.specs.Loaded.{IsLoadedTo}
 use Rattle.struct_ir.specs.Instrs.{LinearCode}
 use Rattle.struct_ir.specs.Whole.{plain_bytes}
 use Rattle.pin_checker.specs.CheckedViews.{program_in}
 use Rattle.turn_lock.specs.Locks.{AllPasses, first_of, passes_of}
 use Rattle.ak_trace.specs.declared.endings.End.{End}
-use Rattle.flat_rules.specs.declared.settings.Mode.TheVariants.{Check}
+use Rattle.flat_rules.specs.declared.settings.Mode.{Mode}
+use Rattle.flat_rules.specs.declared.settings.Mode.TheVariants.{Check, Build}
 use Rattle.flat_rules.specs.declared.settings.Settings.{Settings}
 use Rattle.flat_rules.specs.Rules.{rules_of}
 use Rattle.flat_rules.specs.States.{State}
@@ -33,7 +35,8 @@ use Rattle.alaska_run.specs.declared.running.Ran.{Ran}
 use Rattle.run_notes.specs.declared.status.Status.{Status}
 use Rattle.run_notes.specs.declared.status.Status.TheVariants as statuses
 use Rattle.alaska_run.specs.Sources.{Source, source_of, source_in, name_in, IsAll}
-use Rattle.alaska_run.specs.Faults.{IsFault}
+use Rattle.alaska_run.specs.Faults.{IsFault, RefusesCode}
+use Rattle.alaska_run.specs.Modes.{IsCodeBy, IsSavedAs}
 use Rattle.alaska_run.specs.Headline.{IsTextOf}
 use Rattle.run_notes.specs.Checks.{check_line}
 use Rattle.run_notes.specs.Lines.{fault_line}
@@ -65,15 +68,13 @@ pub record IsReady (x : Opened) : Type 0 where
   pub empty : x.line.items ≡ []
   pub room : 1024 ≤ vec_capacity x.line
 
--- the text of a source is compiled, and the world opened
+-- the text of a source is compiled or, in mode load, loaded, and the world opened
 pub record IsOpened (words : List (List ℕ)) (file : List ℕ → Shelved) (x : Opened) : Type 0 where
   pub settings : settings_of words ≡ Some (wanted_of x.settings)
   pub source : Source
   pub from : source_of file (wanted_of x.settings) ≡ Some source
   pub whole : IsAll source x.text.items
-  pub mode : x.settings.mode ≢ Check
-  pub typed : Typed
-  pub built : IsBuilt x.text.items typed (program_in x.checked) (arc_value x.code)
+  pub of_text : IsCodeBy x.settings.mode x.text.items (program_in x.checked) (arc_value x.code)
   pub ready : IsReady x
 
 -- this tree was checked under the settings, and this is what was found of it
@@ -83,17 +84,21 @@ pub record IsFound (typed : Typed) (report : Report) (x : Worked) : Type 0 where
   pub output : x.output.items ≡ report.output
   pub line : x.line.items ≡ check_line (name_in (Some x.settings)) x.text.items report.verdict
 
--- the text of a source is compiled, and its tree is checked
+-- what was done with the tree of a text that is compiled and not run, by the mode: it was checked, or its checked code was saved
+abbrev pub WorkedBy : Mode → Typed → Worked → Type 0
+WorkedBy Check typed x = (report : Report) × IsFound typed report x
+WorkedBy Build typed x = IsSavedAs (Some x.settings) x.text.items (program_in x.checked) x.status x.output.items x.line.items
+WorkedBy mode typed x = ⊥
+
+-- the text of a source is compiled, and its tree is checked, or its code saved
 pub record IsWorked (words : List (List ℕ)) (file : List ℕ → Shelved) (x : Worked) : Type 0 where
   pub settings : settings_of words ≡ Some (wanted_of x.settings)
   pub source : Source
   pub from : source_of file (wanted_of x.settings) ≡ Some source
   pub whole : IsAll source x.text.items
-  pub mode : x.settings.mode ≡ Check
   pub typed : Typed
   pub built : IsBuilt x.text.items typed (program_in x.checked) (arc_value x.code)
-  pub report : Report
-  pub found : IsFound typed report x
+  pub work : WorkedBy x.settings.mode typed x
 
 -- a call that comes to no run, with this status, of these settings and this text
 pub record IsStoppedWith (status : Status) (settings : Option Settings) (text : List ℕ) (x : Stopped) : Type 0 where
@@ -108,24 +113,30 @@ IsStoppedAs status settings text (courses.Stopped x) = IsStoppedWith status sett
 IsStoppedAs status settings text (courses.Opened x) = ⊥
 IsStoppedAs status settings text (courses.Worked x) = ⊥
 
--- the text is compiled and the world is opened, or it is none of the subset
+-- the text is compiled and the world is opened
 pub record IsOpenedOf (settings : Settings) (text : List ℕ) (x : Opened) : Type 0 where
   pub settings_are : x.settings ≡ settings
   pub text_is : x.text.items ≡ text
-  pub mode : settings.mode ≢ Check
+  pub not_checked : settings.mode ≢ Check
+  pub not_built : settings.mode ≢ Build
   pub typed : Typed
   pub built : IsBuilt text typed (program_in x.checked) (arc_value x.code)
   pub ready : IsReady x
 
--- the text is compiled, and its tree is checked
+-- the text is a code file, its code is loaded, and the world is opened
+pub record IsLoadedOf (settings : Settings) (text : List ℕ) (x : Opened) : Type 0 where
+  pub settings_are : x.settings ≡ settings
+  pub text_is : x.text.items ≡ text
+  pub loaded : IsLoadedTo text (program_in x.checked) (arc_value x.code)
+  pub ready : IsReady x
+
+-- the text is compiled, and its tree is checked, or its code saved
 pub record IsWorkedOf (settings : Settings) (text : List ℕ) (x : Worked) : Type 0 where
   pub settings_are : x.settings ≡ settings
   pub text_is : x.text.items ≡ text
-  pub mode : settings.mode ≡ Check
   pub typed : Typed
   pub built : IsBuilt text typed (program_in x.checked) (arc_value x.code)
-  pub report : Report
-  pub found : IsFound typed report x
+  pub work : WorkedBy settings.mode typed x
 
 -- the text is none of the subset, and this is its refusal
 pub record IsRefusedOf (settings : Settings) (text : List ℕ) (x : Stopped) : Type 0 where
@@ -133,11 +144,23 @@ pub record IsRefusedOf (settings : Settings) (text : List ℕ) (x : Stopped) : T
   pub refuses : Refuses text reason
   pub stopped : IsStoppedWith (statuses.Refused reason.place reason.kind) (Some settings) text x
 
--- what a text that was read whole comes to: a run, what a check finds, or its refusal
+-- what a text that was read whole comes to: a run, what a check finds or saving gives, or its refusal
 abbrev pub IsCourseOf : Settings → List ℕ → Course → Type 0
 IsCourseOf settings text (courses.Stopped x) = IsRefusedOf settings text x
 IsCourseOf settings text (courses.Opened x) = IsOpenedOf settings text x
 IsCourseOf settings text (courses.Worked x) = IsWorkedOf settings text x
+
+-- the bytes are no code file, or one whose code isn't safe for moves
+pub record IsUnloadedOf (settings : Settings) (text : List ℕ) (x : Stopped) : Type 0 where
+  pub status : Status
+  pub refuses : RefusesCode text status
+  pub stopped : IsStoppedWith status (Some settings) text x
+
+-- what a file that was read whole comes to in mode load: a run, or why there is none
+abbrev pub IsLoadingOf : Settings → List ℕ → Course → Type 0
+IsLoadingOf settings text (courses.Stopped x) = IsUnloadedOf settings text x
+IsLoadingOf settings text (courses.Opened x) = IsLoadedOf settings text x
+IsLoadingOf settings text (courses.Worked x) = ⊥
 
 -- what words and file come to
 abbrev pub IsCourse : (words : List (List ℕ)) → (List ℕ → Shelved) → Course → Type 0

@@ -27,10 +27,20 @@ returns-in-Ok-Opened-clause-headline g c =
     (ap (option_map program_in) (c.end_run.ensures.code.0 ∙ ap (λ z. Some z) r.checked))
     (ap (option_map arc_value) (c.end_run.ensures.code.1 ∙ ap (λ z. Some z) r.code))
     (ap (option_map (λ k. k.entries)) c.end_run.ensures.journal)
-    c.end_run.ensures.written c.journals_mean_the_source.ensures c.accesses_of_journals_stay.ensures
+    c.end_run.ensures.written
+    (record {
+      erased = c.code_with_looks_keeps_every_turn.ensures.kept;
+      types = c.runs_go_on.ensures.types;
+      ends = c.turns_go_on.ensures.ends;
+      meant = c.journals_mean_the_source.ensures;
+      stay = c.accesses_of_journals_stay.ensures;
+    })
+
+pub returns-in-Ok-Opened-clause-causes : goal.returns-in-Ok-Opened-clause-causes
+returns-in-Ok-Opened-clause-causes g c = causes _ _ _ _ _ (returns-in-Ok-Opened-clause-headline g c)
 
 pub returns-in-Ok-Opened-clause-answers : goal.returns-in-Ok-Opened-clause-answers
-returns-in-Ok-Opened-clause-answers g c = answers _ _ _ _ _ (returns-in-Ok-Opened-clause-headline g c) c.read_each_text_once.ensures.not_both c.read_each_text_once.ensures.one_reason
+returns-in-Ok-Opened-clause-answers g c = answers _ _ _ _ _ (returns-in-Ok-Opened-clause-headline g c) c.read_each_text_once.ensures.not_both c.read_each_text_once.ensures.one_reason c.load_each_file_once.ensures.not_both c.load_each_file_once.ensures.one_reason
 
 pub returns-in-Ok-Worked-clause-headline : goal.returns-in-Ok-Worked-clause-headline
 returns-in-Ok-Worked-clause-headline g c =
@@ -49,7 +59,7 @@ pub returns-in-Ok-Worked-clause-causes : goal.returns-in-Ok-Worked-clause-causes
 returns-in-Ok-Worked-clause-causes g c = causes _ _ _ _ _ (returns-in-Ok-Worked-clause-headline g c)
 
 pub returns-in-Ok-Worked-clause-answers : goal.returns-in-Ok-Worked-clause-answers
-returns-in-Ok-Worked-clause-answers g c = answers _ _ _ _ _ (returns-in-Ok-Worked-clause-headline g c) c.read_each_text_once.ensures.not_both c.read_each_text_once.ensures.one_reason
+returns-in-Ok-Worked-clause-answers g c = answers _ _ _ _ _ (returns-in-Ok-Worked-clause-headline g c) c.read_each_text_once.ensures.not_both c.read_each_text_once.ensures.one_reason c.load_each_file_once.ensures.not_both c.load_each_file_once.ensures.one_reason
 
 pub returns-in-Ok-Stopped-clause-headline : goal.returns-in-Ok-Stopped-clause-headline
 returns-in-Ok-Stopped-clause-headline g c =
@@ -67,4 +77,4 @@ pub returns-in-Ok-Stopped-clause-causes : goal.returns-in-Ok-Stopped-clause-caus
 returns-in-Ok-Stopped-clause-causes g c = causes _ _ _ _ _ (returns-in-Ok-Stopped-clause-headline g c)
 
 pub returns-in-Ok-Stopped-clause-answers : goal.returns-in-Ok-Stopped-clause-answers
-returns-in-Ok-Stopped-clause-answers g c = answers _ _ _ _ _ (returns-in-Ok-Stopped-clause-headline g c) c.read_each_text_once.ensures.not_both c.read_each_text_once.ensures.one_reason
+returns-in-Ok-Stopped-clause-answers g c = answers _ _ _ _ _ (returns-in-Ok-Stopped-clause-headline g c) c.read_each_text_once.ensures.not_both c.read_each_text_once.ensures.one_reason c.load_each_file_once.ensures.not_both c.load_each_file_once.ensures.one_reason

@@ -13,16 +13,16 @@ pub returns-in-Whole : goal.returns-in-Whole
 returns-in-Whole g c = λ words said.
     let file = shelved g.F.Shelf.contents g.F.Shelf.faults c.args.shelf.now c.read_text.new.shelf in
     let name = c.file_name.result.now in
-    let from : source_of file (wanted_of c.args.settings) ≡ Some (Read (file name)) = source_read file words (wanted_of c.args.settings) said c.requires ∙ ap (λ n. Some (Read (file n))) (sym c.file_name.ensures) in
-    let whole : IsWhole (file name) c.in-Whole.text.items = subst (IsReadFrom (file name)) c.in-Whole.is c.in_ok-text.ensures in
-    where_ok _ _ c.compile_text.result (is_all words file c.args.settings (Read (file name)) c.in-Whole.text.items said from whole) c.compile_text.ensures
+    let from : source_of file (wanted_of c.args.settings) ≡ Some (Read (file name)) = source_read file words (wanted_of c.args.settings) said c.requires.not_churned c.requires.not_loaded ∙ ap (λ n. Some (Read (file n))) (sym c.file_name.ensures) in
+    let whole : IsWhole most_bytes (file name) c.in-Whole.text.items = subst (IsReadFrom most_bytes (file name)) c.in-Whole.is c.in_ok-text.ensures in
+    where_ok _ _ c.compile_text.result (is_all words file c.args.settings (Read (file name)) c.in-Whole.text.items said from tt c.requires.not_loaded whole) c.compile_text.ensures
 
 pub returns-in-Front : goal.returns-in-Front
 returns-in-Front g c = λ words said.
     let file = shelved g.F.Shelf.contents g.F.Shelf.faults c.args.shelf.now c.read_text.new.shelf in
     let name = c.file_name.result.now in
-    let from : source_of file (wanted_of c.args.settings) ≡ Some (Read (file name)) = source_read file words (wanted_of c.args.settings) said c.requires ∙ ap (λ n. Some (Read (file n))) (sym c.file_name.ensures) in
-    let front : IsFront (file name) c.in-Front.text.items = subst (IsReadFrom (file name)) c.in-Front.is c.in_ok-text.ensures in
+    let from : source_of file (wanted_of c.args.settings) ≡ Some (Read (file name)) = source_read file words (wanted_of c.args.settings) said c.requires.not_churned c.requires.not_loaded ∙ ap (λ n. Some (Read (file n))) (sym c.file_name.ensures) in
+    let front : IsFront most_bytes (file name) c.in-Front.text.items = subst (IsReadFrom most_bytes (file name)) c.in-Front.is c.in_ok-text.ensures in
     where_ok _ _ c.stop_with.result
     (not_run words file c.args.settings (Read (file name)) c.in-Front.text.items said from (statuses.Refused most_bytes TooLong) (inr (inl front)) (Read (file name), from, inr (front, refl, refl))) c.stop_with.ensures
 
@@ -30,7 +30,7 @@ pub returns-in-Fault : goal.returns-in-Fault
 returns-in-Fault g c = λ words said.
     let file = shelved g.F.Shelf.contents g.F.Shelf.faults c.args.shelf.now c.read_text.new.shelf in
     let name = c.file_name.result.now in
-    let from : source_of file (wanted_of c.args.settings) ≡ Some (Read (file name)) = source_read file words (wanted_of c.args.settings) said c.requires ∙ ap (λ n. Some (Read (file n))) (sym c.file_name.ensures) in
-    let failed : ReadFailed (file name) = subst (IsReadFrom (file name)) c.in-Fault.is c.in_ok-text.ensures in
+    let from : source_of file (wanted_of c.args.settings) ≡ Some (Read (file name)) = source_read file words (wanted_of c.args.settings) said c.requires.not_churned c.requires.not_loaded ∙ ap (λ n. Some (Read (file n))) (sym c.file_name.ensures) in
+    let failed : ReadFailed (file name) = subst (IsReadFrom most_bytes (file name)) c.in-Fault.is c.in_ok-text.ensures in
     where_ok _ _ c.stop_with-in-Fault.result
     (not_run words file c.args.settings (Read (file name)) c.new.result.items said from statuses.ReadFault (inr (inr (record { failed = failed; none = c.new.ensures.items; told = inl refl }))) (Read (file name), from, failed)) c.stop_with-in-Fault.ensures
