@@ -2,8 +2,9 @@ ghost use Rattle.std.specs.Prelude.{◌≡◌};
 ghost use Rattle.race_rules.specs.Kinds.{clash, is_access, is_atomic, is_write, outdoes};
 
 /// What a touch is.
-#[derive(Clone, Copy, Debug, PartialEq, Eq)]
+#[derive(Clone, Copy, Debug, Default, PartialEq, Eq)]
 pub enum TouchKind {
+    #[default]
     Read,
     Write,
     AtomicRead,
@@ -81,7 +82,7 @@ pub struct Touch {
 }
 
 /// A touch of one cell: its turn, that one's thread, and its kind.
-#[derive(Clone, Copy, Debug, PartialEq, Eq)]
+#[derive(Clone, Copy, Debug, Default, PartialEq, Eq)]
 pub struct Seen {
     pub turn: u64,
     pub thread: u32,
