@@ -1,15 +1,23 @@
 -- The worked rows hold.
-use Rattle.std.proofs.Common.{◌≡◌, ℕ, ◌<◌, refl, subst, arith}
+use Rattle.std.proofs.Common.{◌≡◌, ℕ, ◌<◌, true, refl, subst, arith}
 use Rattle.race_rules.specs.declared.touch.Touch.{Touch}
-use Rattle.race_rules.specs.declared.touch.TouchKind.TheVariants.{Write}
-use Rattle.race_rules.specs.Turns.{Has, Pair, Meet}
+use Rattle.race_rules.specs.declared.touch.TouchKind.{TouchKind}
+use Rattle.race_rules.specs.declared.touch.TouchKind.TheVariants.{Read, Write, AtomicWrite, Lock, Unlock}
+use Rattle.race_rules.specs.Kinds.{clash}
+use Rattle.race_rules.specs.Turns.{Turn, Has, Pair, Meet}
 use Rattle.race_rules.specs.Turns.Has.{here, later}
+use Rattle.race_rules.specs.Order.{Directly}
+use Rattle.race_rules.specs.Order.Orders.{same_thread, hands}
+use Rattle.race_rules.specs.Order.Before.{at_once, through}
 use Rattle.race_rules.specs.Races.{Clash, Race}
 use Rattle.race_rules.specs.Shown.FirstOf.{first_here}
 use Rattle.race_rules.specs.Clocks.{Clocks, clock_of, after, first_clocks}
+use Rattle.race_rules.specs.Sound.{Sound}
 use Rattle.race_rules.specs.Histories.{History, Caught, After, first_history, saw_all}
-use Rattle.race_rules.specs.Rows.{touch, start_turn, main_turn, idle_turn, other_turn, racing, RacingRow, ShownRow}
+use Rattle.race_rules.specs.Rows.{touch, start_turn, main_turn, idle_turn, other_turn, racing, RacingRow, ShownRow, turn, handed, both, HandedRow, ApartRow, AtomicsRow, MixedRow}
+use Rattle.race_rules.proofs.Knowing.{some_one}
 use Rattle.race_rules.proofs.Touching.{no_has}
+use Rattle.race_rules.proofs.Walking.{after_is_sound, first_clocks_are_sound}
 use Rattle.race_rules.proofs.Remembering.{after_nothing, after_turn}
 use Rattle.race_rules.proofs.Walks.{firsts_are_found}
 use Rattle.race_rules.proofs.Clashing.{turned}
@@ -81,3 +89,76 @@ racing_row = record { race = they_race; no_sooner = after_3.clean; none_below = 
 
 pub shown_row : ShownRow
 shown_row = record { first = first_here (here their_clash); second = first_here (here (turned _ _ their_clash)) }
+
+-- ---- mutexes and atomic touches
+
+first_second : Directly (handed 2) 0 1
+first_second = record { first = turn 0 Write 0; second = turn 0 Unlock 2; first_is = refl; second_is = refl; earlier = omega arith; orders = same_thread refl }
+
+second_third : Directly (handed 2) 1 2
+second_third = record {
+  first = turn 0 Unlock 2;
+  second = turn 1 Lock 2;
+  first_is = refl;
+  second_is = refl;
+  earlier = omega arith;
+  orders = hands (here (here (record { gave = refl; got = refl; same_block = refl; same_from = refl; same_to = refl })));
+}
+
+third_fourth : Directly (handed 2) 2 3
+third_fourth = record { first = turn 1 Lock 2; second = turn 1 Write 0; first_is = refl; second_is = refl; earlier = omega arith; orders = same_thread refl }
+
+pub handed_row : HandedRow
+handed_row = through (through (at_once first_second) second_third) third_fourth
+
+-- what two touches of one block have in common
+first_cell : (κ μ : TouchKind) (block : ℕ) → clash κ μ ≡ true → Clash (touch κ block 8 0) (touch μ block 8 0)
+first_cell κ μ block e = record {
+  kinds = e;
+  cell = record {
+    block = block;
+    cell = 0;
+    first = record { in_block = refl; from_here = omega arith; up_to = omega arith };
+    second = record { in_block = refl; from_here = omega arith; up_to = omega arith };
+  };
+}
+
+a1 : Clocks
+a1 = after first_clocks 0 (turn 0 Write 0)
+
+a2 : Clocks
+a2 = after a1 1 (turn 0 Unlock 2)
+
+a3 : Clocks
+a3 = after a2 2 (turn 1 Lock 3)
+
+sound_3 : Sound (handed 3) 3 a3
+unfolding a1 a2 a3
+sound_3 =
+    after_is_sound (handed 3) 2 a2 (after_is_sound (handed 3) 1 a1 (after_is_sound (handed 3) 0 first_clocks (first_clocks_are_sound (handed 3)) (turn 0 Write 0) refl) (turn 0 Unlock 2) refl) (turn 1 Lock 3) refl
+
+pub apart_row : ApartRow
+unfolding a1 a2 a3
+apart_row = (firsts_are_found (handed 3) 3 a3 (turn 1 Write 0) sound_3 refl 0 (turn 0 Write 0) refl (omega arith)).1 (here (here (first_cell Write Write 0 refl)), omega arith)
+
+m1 : Clocks
+m1 = after first_clocks 0 (turn 0 AtomicWrite 4)
+
+mixed_sound : Sound (both AtomicWrite Read) 1 m1
+unfolding m1
+mixed_sound = after_is_sound (both AtomicWrite Read) 0 first_clocks (first_clocks_are_sound (both AtomicWrite Read)) (turn 0 AtomicWrite 4) refl
+
+pub mixed_row : MixedRow
+unfolding m1
+mixed_row = (firsts_are_found (both AtomicWrite Read) 1 m1 (turn 1 Read 4) mixed_sound refl 0 (turn 0 AtomicWrite 4) refl (omega arith)).1 (here (here (first_cell AtomicWrite Read 4 refl)), omega arith)
+
+never_clash : Pair Clash (turn 0 AtomicWrite 4) (turn 1 AtomicWrite 4) → ⊥
+never_clash (here (here c)) = (let e = c.kinds in cc)
+never_clash (here (later m)) = no_has m
+never_clash (later m) = no_has m
+
+pub atomics_row : AtomicsRow
+atomics_row r =
+    let F : Turn → Type 0 = λ z. Pair Clash z r.second in
+    let G : Turn → Type 0 = λ z. Pair Clash (turn 0 AtomicWrite 4) z in
+    never_clash (subst G (some_one r.second_is refl) (subst F (some_one r.first_is refl) r.conflict.touches))

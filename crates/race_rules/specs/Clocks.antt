@@ -6,6 +6,7 @@ use Rattle.race_rules.specs.declared.touch.TouchKind.TheVariants.{Read, Write, A
 use Rattle.race_rules.specs.Turns.{Turn}
 use Rattle.race_rules.specs.Order.{Before}
 
+-- for each thread, one more than the number of its last turn that is known, or 0
 abbrev pub Clock : Type 0
 Clock = ℕ → ℕ
 
@@ -63,6 +64,7 @@ gained_by c block from to Unlock = nothing
 gained_by c block from to (Start t) = nothing
 gained_by c block from to (Join t) = c.threads t
 
+-- the same of the touch as a whole
 abbrev pub gained : Clocks → Touch → Clock
 gained c a = gained_by c a.block a.from a.to a.kind
 
@@ -75,15 +77,17 @@ gained_all c (a ∷ more) = joined (gained c a) (gained_all c more)
 abbrev pub clock_of : Clocks → (k : ℕ) → Turn → Clock
 clock_of c k x = own k x.thread (joined (joined (c.threads x.thread) (c.started x.thread)) (gained_all c x.touches))
 
--- what a touch tells of a clock
+-- a thread of this number is made: its clock is told
 abbrev pub is_start : (thread : ℕ) → TouchKind → Bool
 is_start t (Start u) = t == u
 is_start t other = false
 
+-- a mutex is given back: its clock is told
 abbrev pub is_unlock : TouchKind → Bool
 is_unlock Unlock = true
 is_unlock other = false
 
+-- cells are written atomically: their clocks are told
 abbrev pub is_atomic_write : TouchKind → Bool
 is_atomic_write AtomicWrite = true
 is_atomic_write other = false

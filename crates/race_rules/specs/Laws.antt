@@ -11,10 +11,11 @@ abbrev pub ClocksKnow : Type 0
 ClocksKnow = (ts : List Turn) (k : ℕ) (c : Clocks) (x : Turn) → Sound ts k c → slice_get ts k ≡ Some x →
     (i : ℕ) (y : Turn) → slice_get ts i ≡ Some y → (i < clock_of c k x y.thread) ↔ AtOrBefore ts i k
 
--- the first clocks are sound, and stay so
+-- before the first turn the clocks are sound
 abbrev pub ClocksBegin : Type 0
 ClocksBegin = (ts : List Turn) → Sound ts 0 first_clocks
 
+-- and from turn to turn they stay so
 abbrev pub ClocksGoOn : Type 0
 ClocksGoOn = (ts : List Turn) (k : ℕ) (c : Clocks) (x : Turn) → Sound ts k c → slice_get ts k ≡ Some x → Sound ts (suc k) (after c k x)
 

@@ -4,7 +4,7 @@ ghost use Rattle.race_rules.specs.declared.touch.TouchKind.TheVariants.{Read, Wr
 ghost use Rattle.race_rules.specs.Kinds.{clash, outdoes};
 ghost use Rattle.race_rules.specs.Clocks.{nothing};
 ghost use Rattle.race_rules.specs.Histories.{noted};
-ghost use Rattle.race_rules.specs.Rows.{RacingRow, ShownRow, turn, guarded, made, known_after, seen};
+ghost use Rattle.race_rules.specs.Rows.{RacingRow, ShownRow, HandedRow, ApartRow, AtomicsRow, MixedRow, turn, guarded, made, known_after, seen};
 
 /// A law: a turn's clock knows just the turn and what is before it.
 pub fn clocks_know_what_is_before()
@@ -46,10 +46,14 @@ pub fn firsts_are_found()
     ensures { FirstsAreFound }
 {}
 
-/// A law: turns worked by hand race as they should.
+/// Turns by hand race, or are one before the other, as they should.
 pub fn worked_turns_race()
     ensures race { RacingRow }
     ensures shown { ShownRow }
+    ensures handed { HandedRow }
+    ensures apart { ApartRow }
+    ensures atomics { AtomicsRow }
+    ensures mixed { MixedRow }
 {}
 
 /// Kinds by hand: reads don't clash, nor do atomic ones; a plain one clashes with an atomic one that writes.

@@ -4,12 +4,18 @@ ghost use Rattle.race_rules.specs.Kinds.{clash, is_access, is_atomic, is_write, 
 /// What a touch is.
 #[derive(Clone, Copy, Debug, Default, PartialEq, Eq)]
 pub enum TouchKind {
+    /// A read of a type that isn't atomic.
     #[default]
     Read,
+    /// A write of a type that isn't atomic.
     Write,
+    /// A read of an atomic type.
     AtomicRead,
+    /// A write of an atomic type.
     AtomicWrite,
+    /// The mutex in these cells was got.
     Lock,
+    /// The mutex in these cells was given back.
     Unlock,
     /// A thread of this number was made.
     Start(u32),
@@ -75,9 +81,13 @@ impl TouchKind {
 #[derive(Clone, Copy, Debug, PartialEq, Eq)]
 pub struct Touch {
     pub kind: TouchKind,
+    /// The number of the block.
     pub block: u64,
+    /// The first cell.
     pub from: u32,
+    /// The cell behind the last.
     pub to: u32,
+    /// The place in the text.
     pub place: u32,
 }
 

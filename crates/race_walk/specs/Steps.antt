@@ -6,9 +6,11 @@ use Rattle.race_rules.specs.Shown.{Shown}
 use Rattle.race_walk.specs.declared.step.Step.{Step}
 use Rattle.race_walk.specs.declared.step.Found.{Found}
 
+-- the turn that a step is
 abbrev pub turn_of : Step → Turn
 turn_of s = record { thread = s.thread; touches = s.touches.items }
 
+-- the turns that steps are
 abbrev pub turns_of : List Step → List Turn
 turns_of all = map turn_of all
 

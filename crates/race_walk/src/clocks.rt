@@ -11,9 +11,13 @@ use std::collections::HashMap;
 /// What is known by each thread, and from what was done to mutexes and atomic cells.
 #[derive(Drop)]
 pub struct Clocks {
+    /// By the last turn of each thread.
     pub threads: HashMap<u32, Vec<u64>>,
+    /// By the turns that made each thread.
     pub started: HashMap<u32, Vec<u64>>,
+    /// By the turns that gave back each mutex: its block, and its first cell and the one behind its last.
     pub released: HashMap<(u64, (u32, u32)), Vec<u64>>,
+    /// By the turns that wrote each cell atomically: its block and its number.
     pub written: HashMap<(u64, u32), Vec<u64>>,
 }
 

@@ -12,6 +12,7 @@ use std::collections::HashMap;
 /// What is kept of each cell of each block.
 #[derive(Drop)]
 pub struct History {
+    /// By the number of the block.
     pub blocks: HashMap<u64, Block>,
 }
 

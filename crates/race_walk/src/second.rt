@@ -11,9 +11,13 @@ use race_rules::Touch;
 /// A turn with its clock, which tells the earlier turns that race with it.
 #[derive(Drop)]
 pub struct SecondTurn {
+    /// Its number.
     pub turn: u64,
+    /// Its thread.
     pub thread: u32,
+    /// What it touched, in order.
     pub touches: Vec<Touch>,
+    /// For each thread, one more than the number of its last turn that is before this one or is this one, or 0.
     pub clock: Vec<u64>,
 }
 

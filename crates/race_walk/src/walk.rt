@@ -13,8 +13,11 @@ use std::collections::HashMap;
 /// A walk over turns, up to the first that is the second of a race.
 #[derive(Drop)]
 pub struct RaceWalk {
+    /// How many turns were walked.
     pub turns: u64,
+    /// What is known.
     pub clocks: Clocks,
+    /// What is kept of the touches.
     pub history: History,
     /// Room for the clock of a turn.
     pub spare: Vec<u64>,
