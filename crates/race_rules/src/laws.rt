@@ -1,6 +1,6 @@
 ghost use Rattle.race_rules.specs.Laws.{ClocksKnow, ClocksBegin, ClocksGoOn, WalksBegin, RacesAreCaught, WalksGoOn, BlocksMayGo, FirstsAreFound};
 ghost use Rattle.std.specs.Prelude.{◌≡◌, true, false, [], ◌∷◌};
-ghost use Rattle.race_rules.specs.declared.touch.TouchKind.TheVariants.{Read, Write, AtomicRead, AtomicWrite, Lock, Unlock, Start, Join};
+ghost use Rattle.race_rules.specs.declared.touch.TouchKind.TheVariants.{Read, Write, AtomicRead, AtomicWrite, Lock, Start, Join};
 ghost use Rattle.race_rules.specs.Kinds.{clash, outdoes};
 ghost use Rattle.race_rules.specs.Clocks.{nothing};
 ghost use Rattle.race_rules.specs.Histories.{noted};

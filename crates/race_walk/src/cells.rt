@@ -1,4 +1,4 @@
-ghost use Rattle.std.specs.Prelude.{◌≡◌, ◌↔◌, ℕ, ◌<◌, ◌≤◌, ◌&&◌, [], nat_le, nat_lt, true, OnOk, IfOk, IsTrue, slice_get, slice_index, length, vec_len, if◌then◌else◌};
+ghost use Rattle.std.specs.Prelude.{◌≡◌, ◌↔◌, ℕ, ◌<◌, ◌≤◌, ◌&&◌, [], nat_le, nat_lt, true, OnOk, IfOk, slice_get, vec_len, if◌then◌else◌};
 ghost use Rattle.std.specs.List.{list_any};
 ghost use Rattle.race_rules.specs.Histories.{noted};
 ghost use Rattle.race_walk.specs.Views.{told_by, cell_of, clashes};

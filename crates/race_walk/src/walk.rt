@@ -1,4 +1,4 @@
-ghost use Rattle.std.specs.Prelude.{◌≡◌, ◌↔◌, ℕ, ◌+◌, ◌<◌, ◌^◌, true, IfOk, OnOk, List, slice_get, Some};
+ghost use Rattle.std.specs.Prelude.{◌≡◌, ◌+◌, ◌<◌, ◌^◌, true, IfOk, List, slice_get, Some};
 ghost use Rattle.race_rules.specs.Turns.{Turn};
 ghost use Rattle.race_rules.specs.Histories.{StillTouched};
 ghost use Rattle.race_walk.specs.Views.{this_turn};
