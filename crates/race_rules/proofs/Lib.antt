@@ -1,0 +1,9 @@
+pub mod Knowing
+pub mod Touching
+pub mod Clashing
+pub mod Telling
+pub mod Gaining
+pub mod Walking
+pub mod Remembering
+pub mod Walks
+pub mod WorkedRows
