@@ -1,14 +1,16 @@
 //! Measures parts of this project: `bench compile FILE` reads a C text, lowers it and makes it the machine's code; `bench run FILE` runs its thread 0
 //! by the interpreter of the source; `bench check FILE` checks it in a seeded order; `bench table IDS` takes and gives ids; `bench heaps OBJECTS` places
-//! and frees objects in sub-heaps; `bench arena OBJECTS` places objects and slides them; `bench filled OBJECTS` takes objects of 1 MiB that are copied,
-//! and such that are cleared; `bench turns TURNS` takes turns under the lock. Without words each is done once, over what is small.
+//! and frees objects in sub-heaps; `bench evacuation OBJECTS` moves objects out of thin sub-heaps; `bench arena OBJECTS` places objects and slides them;
+//! `bench filled OBJECTS` takes objects of 1 MiB that are copied, and such that are cleared; `bench turns TURNS` takes turns under the lock. Without
+//! words each is done once, over what is small.
 //! Promises nothing upward: it is a program. What it prints on standard output is the same at each run of one text or number, and the times go to
 //! standard error.
 //! Stands on alaska_run's `read`, ir_lower, compile_passes, block_meaning and rule_check, on ak_io and run_edges for the file, on handle_table,
-//! sub_heaps, move_plan and defrag_move, with handle_words for words, and on turn_lock and ak_trace.
+//! sub_heaps, move_plan, evacuate and defrag_move, with handle_words for words, and on turn_lock and ak_trace.
 #![tactic(auto)]
 
 mod arena;
+mod evacuation;
 mod filled;
 mod heaps;
 mod table;
@@ -36,6 +38,8 @@ fn run_small(rt: &HostRuntime) -> io::Result<()> {
     table::run(rt, USUAL)?;
     println!(rt; "# heaps")?;
     heaps::run(rt, USUAL)?;
+    println!(rt; "# evacuation")?;
+    evacuation::run(rt, USUAL)?;
     println!(rt; "# arena")?;
     arena::run(rt, USUAL)?;
     println!(rt; "# filled")?;
@@ -59,6 +63,7 @@ fn main(rt: HostRuntime) -> io::Result<()> {
         "check" => texts::check(&rt, word),
         "table" => table::run(&rt, number),
         "heaps" => heaps::run(&rt, number),
+        "evacuation" => evacuation::run(&rt, number),
         "arena" => arena::run(&rt, number),
         "filled" => filled::run(&rt, number),
         "turns" => turns::run(&rt, rt.alloc(), number),

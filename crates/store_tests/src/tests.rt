@@ -2,6 +2,7 @@
 mod arena;
 mod blocks;
 mod bytes;
+mod evacuation;
 mod handles;
 mod heaps;
 mod plans;

@@ -1,0 +1,2 @@
+-- What only the bodies of this crate stand on.
+pub mod Tails
