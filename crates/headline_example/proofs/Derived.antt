@@ -125,9 +125,9 @@ work_status_in None e judged output line h = absurd h
 work_status_in (Some s) e judged output line h = work_status s.mode s e judged output line h
 
 not_wanted : (judged status : Status) (output line : List ℕ) (out note : Channel) → IsNoWant judged → Written judged status output line out note → status ≡ statuses.NoMemory → ⊥
-not_wanted judged status output line out note no (inl w) m = no.0 (sym w.status_is ∙ m)
-not_wanted judged status output line out note no (inr (inl w)) m = let z : statuses.WriteFault ≡ statuses.NoMemory = sym w.status_is ∙ m in cc z
-not_wanted judged status output line out note no (inr (inr w)) m = no.1 (sym w.status_is ∙ m)
+not_wanted judged status output line out note apart (inl w) m = apart.0 (sym w.status_is ∙ m)
+not_wanted judged status output line out note apart (inr (inl w)) m = let z : statuses.WriteFault ≡ statuses.NoMemory = sym w.status_is ∙ m in cc z
+not_wanted judged status output line out note apart (inr (inr w)) m = apart.1 (sym w.status_is ∙ m)
 
 -- nothing, and all, are first parts
 nothing_first : (out : Channel) → Gained out [] → GainedFront out answer
