@@ -12,6 +12,9 @@ pub const MOST_BYTES: usize = 1_048_576;
 /// The most bytes that a code file may have.
 pub const MOST_FILE_BYTES: usize = 67_108_864;
 
+// As many bytes as most code files have at most.
+const USUAL_BYTES: usize = 8_388_608;
+
 /// What came of reading a file.
 #[derive(Drop)]
 pub enum TextRead {
@@ -45,6 +48,21 @@ fn read_once<F: Shelf>(
     }
 }
 
+// Reads a file that is longer than a C text: memory for more than most code files have is taken only where it is longer than these.
+fn read_long<F: Shelf>(
+    alloc: Global,
+    shelf: &mut F,
+    name: &str,
+    most: usize,
+) -> Result<TextRead, NoMemory>
+    ensures { IfOk result (IsReadFrom most (shelved F.contents F.faults shelf.old shelf.new name.now)) }
+{
+    match read_once(alloc, shelf, name, most.min(USUAL_BYTES))? {
+        TextRead::Front(_) if USUAL_BYTES < most => read_once(alloc, shelf, name, most),
+        read => Ok(read),
+    }
+}
+
 /// Reads the file of that name from the shelf, or its first `most` bytes where it has more. Memory for more than a C text is taken only where
 /// the file is longer than one may be.
 pub fn read_text<F: Shelf>(
@@ -56,7 +74,7 @@ pub fn read_text<F: Shelf>(
     ensures { IfOk result (IsReadFrom most (shelved F.contents F.faults shelf.old shelf.new name.now)) }
 {
     match read_once(alloc, shelf, name, most.min(MOST_BYTES))? {
-        TextRead::Front(_) if MOST_BYTES < most => read_once(alloc, shelf, name, most),
+        TextRead::Front(_) if MOST_BYTES < most => read_long(alloc, shelf, name, most),
         read => Ok(read),
     }
 }
