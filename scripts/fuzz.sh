@@ -6,7 +6,8 @@
 # With --code it runs the program over code files that are changed at random: those that it builds of examples/ first, in which bytes are changed,
 # deleted and doubled, and cut ones.
 # Use: scripts/fuzz.sh [--code] SECONDS [SEED [EACH]]      prints how many runs had each status and how many texts were compiled, or code files
-#   loaded. It ends with 0 where each run was as it must be and a tenth or more of the texts were, or a twentieth of the code files. The texts or
+#   loaded. It ends with 0 where each run was as it must be and a tenth or more of the texts were, or a twentieth of the code files,
+#   of which no run took more than 1 GiB. The texts or
 #   code files, words and outputs of the runs at fault lie in a folder that it names.
 # SEED is 1 and EACH 20 where they are left out. The same seed gives the same texts in the same order.
 # It runs $ALASKA, or else bin/alaska, or else the program that ./alaska builds once without a proof.
@@ -18,7 +19,7 @@ here=$(cd "$(dirname "$0")/.." && pwd)
 . "$here/scripts/built.sh"
 find_program take_unproved
 python3 /dev/fd/3 $what "$program" "$here/examples" "$1" "${2:-1}" "${3:-20}" 3<<'END'
-import collections, glob, os, random, re, subprocess, sys, tempfile, time
+import collections, glob, os, random, re, resource, subprocess, sys, tempfile, time
 
 # What stands on standard error, by status: README's table. Those of a text that was compiled are in RAN.
 NOTES = {
@@ -180,9 +181,9 @@ def main(what, program, examples, seconds, seed, each):
         if not good:
             folder = folder or tempfile.mkdtemp(prefix="alaska-fuzz-", dir="/tmp")
             kept.append(f"{folder}/{sum(counts.values())}")
-            for name, what in ("c", text), ("words", b"\n".join(words)), ("out", out), ("note", b"status %s\n" % str(status).encode() + note):
+            for name, whole in ("c", text), ("words", b"\n".join(words)), ("out", out), ("note", b"status %s\n" % str(status).encode() + note):
                 with open(f"{kept[-1]}.{name}", "wb") as it:
-                    it.write(what)
+                    it.write(whole)
     whole, ran = sum(counts.values()), sum(counts[it] for it in (*RAN, 12))
     for status in sorted(counts, key=lambda it: (it is None, it)):
         print(f"{'no answer' if status is None else f'status {status}':<12}{counts[status]:>8}")
@@ -190,10 +191,15 @@ def main(what, program, examples, seconds, seed, each):
     print(f"{whole} runs with seed {seed}, {ran} of {done} ({100 * ran / max(whole, 1):.1f} %), {len(kept)} at fault")
     if kept:
         print(f"what they ran is kept in {folder}")
+    kib = resource.getrusage(resource.RUSAGE_CHILDREN).ru_maxrss
+    print(f"the most memory of a run: {kib} KiB")
     few = ran * (20 if what == "code" else 10) < whole
     if few:
         print("fewer than a twentieth were loaded" if what == "code" else "fewer than a tenth were compiled")
-    return 1 if kept or few or not whole else 0
+    large = what == "code" and kib > 1 << 20
+    if large:
+        print("that is more than 1 GiB")
+    return 1 if kept or few or large or not whole else 0
 
 
 sys.exit(main(*sys.argv[1:]))
