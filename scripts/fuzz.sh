@@ -6,9 +6,8 @@
 # With --code it runs the program over code files that are changed at random: those that it builds of examples/ first, in which bytes are changed,
 # deleted and doubled, and cut ones.
 # Use: scripts/fuzz.sh [--code] SECONDS [SEED [EACH]]      prints how many runs had each status and how many texts were compiled, or code files
-#   loaded. It ends with 0 where each run was as it must be and a tenth or more of the texts were, or a twentieth of the code files,
-#   of which no run took more than 1 GiB. The texts or
-#   code files, words and outputs of the runs at fault lie in a folder that it names.
+#   loaded. It ends with 0 where each run was as it must be and a tenth or more of the texts were, or a twentieth of the code files, of which no run
+#   took more than 1 GiB. The texts or code files, words and outputs of the runs at fault lie in a folder that it names.
 # SEED is 1 and EACH 20 where they are left out. The same seed gives the same texts in the same order.
 # It runs $ALASKA, or else bin/alaska, or else the program that ./alaska builds once without a proof.
 set -eu
