@@ -4,7 +4,7 @@
 #   of the text, of building it and of a run of its code, and how many times the time and the memory of the first the last takes: at most 1.5.
 #   Then, for the code of the largest and for files of 16 MiB and of 64 MiB, the most that a code file has, the MB a second at which they are read:
 #   at least 50. They have one byte more than they should, or end within their last node, so that nothing but reading is done; a run of as many bytes
-#   of which the first four are wrong, which takes them from the file and reads no further, is taken off.
+#   of which the first four are wrong, which takes them from the file and reads no further, is taken off; of each the least of five runs counts.
 #   Then what loading takes of the file of 64 MiB, of counts of 2^32 - 1, of nodes nested 1,024 deep and of code that takes more than 64 MiB. Each run
 #   has 6 GiB of addresses. It ends with 0 where each run ended as it must, and all bars were met.
 # It measures $ALASKA, or else bin/alaska, which ./prove builds. A program that is built with checks is slow and needs more addresses: for it no bar
@@ -25,6 +25,16 @@ run() { # status what-the-report-has words..
   [ "$status" = "$1" ] && grep -qF -e "$2" note && return
   wrong=1
   echo "${*:3}: status $status in place of $1: $(head -n 1 note)" >&2
+}
+
+# Runs the program five times, and sets `seconds` to the least of each.
+best() { # as run
+  local least='' k
+  for k in 1 2 3 4 5; do
+    run "$@"
+    least=$(awk -v a="$least" -v b="$seconds" 'BEGIN { print a == "" || b < a ? b : a }')
+  done
+  seconds=$least
 }
 
 # A bar that isn't met is told.
@@ -65,9 +75,9 @@ done
 printf '\n%-10s %9s %8s %9s %8s\n' read bytes seconds KiB MB/s
 read_all() { # name file where-it-ends
   { printf 'ALSX'; tail -c +5 "$2"; } >other.alsk
-  run 15 'bad code at 3' other.alsk --mode load
+  best 15 'bad code at 3' other.alsk --mode load
   local unread=$seconds
-  run 15 "bad code at $3" "$2" --mode load
+  best 15 "bad code at $3" "$2" --mode load
   speed=$(awk -v b="$3" -v s="$seconds" -v u="$unread" 'BEGIN { s -= u; printf "%.1f", b / 1e6 / (s > 0 ? s : 0.01) }')
   printf '%-10s %9d %8s %9d %8s\n' "$1" "$3" "$seconds" "$kib" "$speed"
   bar "the MB a second of reading" "$speed" least 50
