@@ -7,11 +7,12 @@ ghost use Rattle.c_tree.specs.TypedViews.{type_view};
 ghost use Rattle.c_typing.specs.Scope.{library};
 ghost use Rattle.type_context.specs.ContextViews.{binding_view, library_view, library_entry, types_view};
 
+use ak_words::IntType;
 use c_tree::copies::copy_type;
 use c_tree::typed::CType;
 use std::alloc::{AllocError, Global};
 
-/// A name of the library: a call, or an int (C11 7.21, 7.22, 7.24, 7.26).
+/// A name of the library: a call, an int, or an atomic type (C11 7.17, 7.21, 7.22, 7.24, 7.26).
 #[derive(Clone, Copy, Debug, PartialEq, Eq)]
 pub enum Library {
     Printf,
@@ -26,8 +27,18 @@ pub enum Library {
     MtxLock,
     MtxUnlock,
     MtxDestroy,
+    /// `atomic_store`, and `atomic_init`.
+    AtomicStore,
+    AtomicLoad,
+    AtomicAdd,
+    AtomicSub,
+    AtomicSwap,
+    /// `atomic_compare_exchange_strong`, and the weak one.
+    AtomicCompare,
     /// An integer constant.
     Constant(i32),
+    /// A type: that of atomic numbers of this type.
+    AtomicType(IntType),
 }
 
 /// What a name means (C11 6.2.1).
@@ -85,7 +96,7 @@ pub fn copy_meaning(alloc: Global, meaning: &Binding) -> Result<Binding, AllocEr
 }
 
 /// The names of the library.
-const LIBRARY: [(&[u8], Library); 15] = [
+const LIBRARY: [(&[u8], Library); 27] = [
     (b"printf", Library::Printf),
     (b"malloc", Library::Malloc),
     (b"calloc", Library::Calloc),
@@ -98,9 +109,21 @@ const LIBRARY: [(&[u8], Library); 15] = [
     (b"mtx_lock", Library::MtxLock),
     (b"mtx_unlock", Library::MtxUnlock),
     (b"mtx_destroy", Library::MtxDestroy),
+    (b"atomic_init", Library::AtomicStore),
+    (b"atomic_store", Library::AtomicStore),
+    (b"atomic_load", Library::AtomicLoad),
+    (b"atomic_fetch_add", Library::AtomicAdd),
+    (b"atomic_fetch_sub", Library::AtomicSub),
+    (b"atomic_exchange", Library::AtomicSwap),
+    (b"atomic_compare_exchange_strong", Library::AtomicCompare),
+    (b"atomic_compare_exchange_weak", Library::AtomicCompare),
     (b"mtx_plain", Library::Constant(0)),
     (b"thrd_success", Library::Constant(0)),
     (b"thrd_error", Library::Constant(1)),
+    (b"atomic_int", Library::AtomicType(IntType::INT)),
+    (b"atomic_uint", Library::AtomicType(IntType::UNSIGNED_INT)),
+    (b"atomic_long", Library::AtomicType(IntType::LONG)),
+    (b"atomic_ulong", Library::AtomicType(IntType::UNSIGNED_LONG)),
 ];
 
 // The name among these that the bytes spell.
