@@ -20,7 +20,7 @@ use Rattle.c_tree.specs.Typed.{Ty, void, integer, atomic, mutex, pointer, array,
 use Rattle.c_tree.specs.Typed as trees
 use Rattle.c_tree.specs.TypedLayout.{laid_out, greatest_object}
 use Rattle.c_typing.specs.Faults.{Judged, typed, faulty, refuse, unless, both, mapped, ◌>>=◌}
-use Rattle.c_typing.specs.Types.{same_type, same_types, has_size, is_small, says_nothing, is_atomic_word, is_promoted, atomic_by, named_by, behind_pointers, arrays_of, depth_of, most_depth}
+use Rattle.c_typing.specs.Types.{same_type, same_types, has_size, is_small, says_nothing, is_atomic_word, atomic_by, named_by, behind_pointers, arrays_of, depth_of, most_depth}
 use Rattle.c_typing.specs.Scope.{Library, printf, malloc, calloc, realloc, free, memcpy, thrd_create, thrd_join, mtx_init, mtx_lock, mtx_unlock, mtx_destroy, atomic_store, atomic_load, atomic_add, atomic_sub, atomic_swap, atomic_compare, constant, atomic_type}
 use Rattle.c_typing.specs.Scope.{Binding, global_name, local_name, function_name, enumerator_name, type_name, library_name, Context, bytes_of, meaning_of, fresh, within, fits_plain, tag_number, is_struct_tag, with_new_struct, with_tag, is_begun, with_begun, is_enum_tag, is_listed, with_enum, with_listed, with_enumerator, with_struct}
 use Rattle.c_typing.specs.Rules.{value_of, is_zero, fitted, or_mismatch, tested, target, address, selected, pointed, minus_by, plus_by, not_by, complement_by, operated, element, chosen, cast, size_number}
@@ -243,9 +243,9 @@ abbrev pub init_by : (place : ℕ) → List Expr → Judged Expr
 init_by place (m ∷ kind ∷ []) = both (called_lib place trees.mutex_init (pointer mutex ∷ []) (integer int) (m ∷ [])) (plain_kind kind) >>= λ p. typed p.0
 init_by place args = refuse place TypeMismatch
 
--- the type of the atomic number of 32 or 64 bits to which a pointer leads, if it leads to one
+-- the type of the atomic number to which a pointer leads, if it leads to one
 abbrev pub atomic_at : Ty → Option IntType
-atomic_at (pointer (atomic t)) = if is_promoted t then Some t else None
+atomic_at (pointer (atomic t)) = Some t
 atomic_at t = None
 
 -- the type of the one to which the first of these arguments leads

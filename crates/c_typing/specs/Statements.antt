@@ -1,5 +1,5 @@
 -- Judging declarations and statements where they stand (C11 6.7, 6.8).
-use Rattle.std.specs.Prelude.{ℕ, Bool, true, false, ◌&&◌, ◌||◌, not, if◌then◌else◌, List, [], ◌∷◌, ◌++◌, length, Option, Some, None, ℤ, pos}
+use Rattle.std.specs.Prelude.{ℕ, Bool, true, false, ◌||◌, not, if◌then◌else◌, List, [], ◌∷◌, ◌++◌, length, Option, Some, None, ℤ, pos}
 use Rattle.std.specs.Ordering.{int_eq}
 use Rattle.ak_words.specs.declared.int_type.IntType.{IntType}
 use Rattle.ak_words.specs.declared.number.Num.{Num}
@@ -17,7 +17,7 @@ use Rattle.c_tree.specs.Syntax as source
 use Rattle.c_tree.specs.Typed.{Ty, integer, atomic, pointer, Expr, at, num, type_of, node_of, place_of, Stmt, at_stmt, StmtNode, block, declare, if_, if_else, while_, for_, do_while, switch, Label, case_at, default_at, break_, continue_, return_, assign, update, evaluate, empty, stmts_of}
 use Rattle.c_tree.specs.TypedForm.{Jumps, in_loop, in_switch}
 use Rattle.c_typing.specs.Faults.{Judged, typed, faulty, refuse, unless, both, ◌>>=◌}
-use Rattle.c_typing.specs.Types.{is_void, is_array, is_scalar, is_promoted, has_size, is_declared}
+use Rattle.c_typing.specs.Types.{is_void, is_array, is_scalar, has_size, is_declared}
 use Rattle.c_typing.specs.Scope.{Context, local_name, fresh, declared, inside, back_to, within}
 use Rattle.c_typing.specs.Constants.{constant_value}
 use Rattle.c_typing.specs.Rules.{value_of, converted, fitted, or_mismatch, tested, is_lvalue}
@@ -42,10 +42,10 @@ moves ops.Add = true
 moves ops.Sub = true
 moves op = false
 
--- what a compound assignment takes: two numbers, an atomic number of 32 or 64 bits and a number, or a pointer and a number (6.5.16.2)
+-- what a compound assignment takes: two numbers, an atomic number and a number, or a pointer and a number (6.5.16.2)
 abbrev pub updates : Context → (place : ℕ) → Op → (s t : Ty) → Judged (Unit {0})
 updates c place op (integer s) (integer t) = typed tt
-updates c place op (atomic s) (integer t) = unless place TypeMismatch (moves op && is_promoted s)
+updates c place op (atomic s) (integer t) = unless place TypeMismatch (moves op)
 updates c place op (pointer s) (integer t) = unless place TypeMismatch (moves op) >>= λ u. unless place BadSize (has_size c.structs s)
 updates c place op s t = refuse place TypeMismatch
 

@@ -17,7 +17,6 @@ use c_lex::{CompileFault, Kind, Refusal};
 use c_tree::typed::{CType, Expr, ExprNode, Lib};
 use std::alloc::Global;
 use type_context::faults::{as_fault, both, refused, unless};
-use type_context::kinds::is_promoted;
 use type_context::names::Library;
 use type_rules::calls::{called_lib, fitted_all, library_call};
 use type_rules::conversions::{is_zero, value_of};
@@ -177,7 +176,7 @@ fn thrd_join(alloc: Global, place: u32, args: Vec<Expr>) -> Result<Box<Expr>, Co
     called_lib(alloc, place, Lib::Join, &[thread, outcome], returned, args)
 }
 
-// The type of the atomic number of 32 or 64 bits to which a pointer leads, if it leads to one.
+// The type of the atomic number to which a pointer leads, if it leads to one.
 fn atomic_at(t: &CType) -> Option<IntType>
     ensures { result ≡ atomic_at (type_view t.now) }
 {
@@ -185,7 +184,7 @@ fn atomic_at(t: &CType) -> Option<IntType>
         return None;
     };
     match &**target {
-        CType::Atomic(t) if is_promoted(*t) => Some(*t),
+        CType::Atomic(t) => Some(*t),
         _ => None,
     }
 }

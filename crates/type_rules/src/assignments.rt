@@ -18,7 +18,7 @@ use c_tree::typed::{CType, Expr, ExprNode, Stmt, StmtNode};
 use std::alloc::Global;
 use type_context::context::Context;
 use type_context::faults::{as_fault, unless};
-use type_context::kinds::{has_size, is_array, is_declared, is_promoted, is_scalar, is_void};
+use type_context::kinds::{has_size, is_array, is_declared, is_scalar, is_void};
 
 // Whether it may be assigned: it is an object, no array, and no struct that isn't complete there.
 #[tactic(auto, using(type_context::proofs::Judging::refused_part))]
@@ -64,9 +64,7 @@ fn updates(context: &Context<'_>, place: u32, op: Op, s: &CType, t: &CType) -> R
 {
     match (s, t) {
         (CType::Int(_), CType::Int(_)) => Ok(()),
-        (CType::Atomic(s), CType::Int(_)) => {
-            unless(place, Kind::TypeMismatch, moves(op) && is_promoted(*s))
-        }
+        (CType::Atomic(_), CType::Int(_)) => unless(place, Kind::TypeMismatch, moves(op)),
         (CType::Pointer(target), CType::Int(_)) => {
             unless(place, Kind::TypeMismatch, moves(op))?;
             unless(place, Kind::BadSize, has_size(&context.structs, target))
