@@ -1,11 +1,15 @@
 -- What the code's context is.
 use Rattle.std.specs.Prelude.{ℕ, List, map, Option, Some, None}
 use Rattle.std.specs.Borrow.{Bor}
+use Rattle.ak_words.specs.declared.int_type.IntType.{IntType}
+use Rattle.ak_words.specs.IntType.{int, unsigned_int, long, unsigned_long}
 use Rattle.c_tree.specs.declared.typed.CType.{CType}
 use Rattle.c_tree.specs.Typed.{Ty}
 use Rattle.c_tree.specs.TypedViews.{type_view, layout_view, literal_view}
 use Rattle.type_context.specs.declared.context.Context.{Context as CodeContext}
 use Rattle.type_context.specs.declared.context.MemberType.{MemberType}
+use Rattle.type_context.specs.declared.names.AtomicType.{AtomicType as CodeAtomic}
+use Rattle.type_context.specs.declared.names.AtomicType.TheVariants as atomics
 use Rattle.type_context.specs.declared.names.Library.{Library as CodeLibrary}
 use Rattle.type_context.specs.declared.names.Library.TheVariants as codes
 use Rattle.type_context.specs.declared.names.Binding.{Binding as CodeMeaning}
@@ -16,6 +20,13 @@ use Rattle.c_typing.specs.Scope.{Binding, global_name, local_name, function_name
 -- the types that those of the code stand for
 abbrev pub types_view : List CType → List Ty
 types_view ts = map type_view ts
+
+-- the type of the numbers of an atomic type of the library
+abbrev pub number_view : CodeAtomic → IntType
+number_view atomics.Int = int
+number_view atomics.UnsignedInt = unsigned_int
+number_view atomics.Long = long
+number_view atomics.UnsignedLong = unsigned_long
 
 -- the name of the library that one of the code stands for
 abbrev pub library_view : CodeLibrary → Library
@@ -38,7 +49,7 @@ library_view codes.AtomicSub = atomic_sub
 library_view codes.AtomicSwap = atomic_swap
 library_view codes.AtomicCompare = atomic_compare
 library_view (codes.Constant value) = constant value
-library_view (codes.AtomicType t) = atomic_type t
+library_view (codes.AtomicType t) = atomic_type (number_view t)
 
 -- a name of the library, and what it is
 abbrev pub library_entry : Bor (List ℕ) × CodeLibrary → List ℕ × Library

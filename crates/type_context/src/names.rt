@@ -5,12 +5,35 @@ ghost use Rattle.std.specs.Map.{lookup};
 ghost use Rattle.std.specs.Str.{bytes_eq};
 ghost use Rattle.c_tree.specs.TypedViews.{type_view};
 ghost use Rattle.c_typing.specs.Scope.{library};
-ghost use Rattle.type_context.specs.ContextViews.{binding_view, library_view, library_entry, types_view};
+ghost use Rattle.type_context.specs.ContextViews.{binding_view, number_view, library_view, library_entry, types_view};
 
 use ak_words::IntType;
 use c_tree::copies::copy_type;
 use c_tree::typed::CType;
 use std::alloc::{AllocError, Global};
+
+/// An atomic type of the library (C11 7.17.6).
+#[derive(Clone, Copy, Debug, PartialEq, Eq)]
+pub enum AtomicType {
+    Int,
+    UnsignedInt,
+    Long,
+    UnsignedLong,
+}
+
+impl AtomicType {
+    /// The type of the number.
+    pub fn number(self) -> IntType
+        ensures { result ≡ number_view self }
+    {
+        match self {
+            AtomicType::Int => IntType::int(),
+            AtomicType::UnsignedInt => IntType::unsigned_int(),
+            AtomicType::Long => IntType::long(),
+            AtomicType::UnsignedLong => IntType::unsigned_long(),
+        }
+    }
+}
 
 /// A name of the library: a call, an int, or an atomic type (C11 7.17, 7.21, 7.22, 7.24, 7.26).
 #[derive(Clone, Copy, Debug, PartialEq, Eq)]
@@ -37,8 +60,8 @@ pub enum Library {
     AtomicCompare,
     /// An integer constant.
     Constant(i32),
-    /// A type: that of atomic numbers of this type.
-    AtomicType(IntType),
+    /// An atomic type.
+    AtomicType(AtomicType),
 }
 
 /// What a name means (C11 6.2.1).
@@ -120,10 +143,13 @@ const LIBRARY: [(&[u8], Library); 27] = [
     (b"mtx_plain", Library::Constant(0)),
     (b"thrd_success", Library::Constant(0)),
     (b"thrd_error", Library::Constant(1)),
-    (b"atomic_int", Library::AtomicType(IntType::INT)),
-    (b"atomic_uint", Library::AtomicType(IntType::UNSIGNED_INT)),
-    (b"atomic_long", Library::AtomicType(IntType::LONG)),
-    (b"atomic_ulong", Library::AtomicType(IntType::UNSIGNED_LONG)),
+    (b"atomic_int", Library::AtomicType(AtomicType::Int)),
+    (b"atomic_uint", Library::AtomicType(AtomicType::UnsignedInt)),
+    (b"atomic_long", Library::AtomicType(AtomicType::Long)),
+    (
+        b"atomic_ulong",
+        Library::AtomicType(AtomicType::UnsignedLong),
+    ),
 ];
 
 // The name among these that the bytes spell.

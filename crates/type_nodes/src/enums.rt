@@ -203,7 +203,9 @@ pub fn aliased(context: &Context<'_>, name: Name) -> Result<Part, CompileFault>
 {
     match context.meaning_of(name)? {
         Some(Binding::Type(t)) => Ok(Part::Whole(t)),
-        Some(Binding::Library(Library::AtomicType(t))) => Ok(Part::Whole(CType::Atomic(t))),
+        Some(Binding::Library(Library::AtomicType(t))) => Ok(Part::Whole(CType::Atomic(
+            t.number(),
+        ))),
         _ => refused(name.from, Kind::UnknownName),
     }
 }
