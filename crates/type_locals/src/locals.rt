@@ -1,8 +1,8 @@
 //! Which locals of a function are in memory, and the function once its whole body is known.
-ghost use Rattle.std.specs.Prelude.{◌≡◌, ◌++◌, IfOk, OnOk, map, drop, length};
+ghost use Rattle.std.specs.Prelude.{◌≡◌, ◌||◌, ◌++◌, IfOk, OnOk, map, drop, length};
 ghost use Rattle.c_tree.specs.Typed.{Ty, Stmts, more_stmts, stmts_of};
 ghost use Rattle.c_tree.specs.TypedViews.{type_view, stmt_view, func_view};
-ghost use Rattle.c_typing.specs.Numbering.{passed_type, addressed_params, is_block, locals_from, copies, func_of, renumbered_stmts};
+ghost use Rattle.c_typing.specs.Numbering.{passed_type, is_in, addressed_params, is_block, locals_from, copies, func_of, renumbered_stmts};
 ghost use Rattle.type_locals.specs.LocalViews.{param_view, params_view};
 ghost use Rattle.type_locals.specs.inner.Marking.{marked};
 ghost use Rattle.type_locals.specs.inner.Numbers.{further_view, furthers_view, param_local, further_local, locals_view, table_from, copy_of, followed, new_number, func};
@@ -35,6 +35,13 @@ fn number(length: usize) -> Result<u32, AllocError>
     u32::try_from(length).map_err(|_| AllocError)
 }
 
+// Whether a parameter of this number is in memory: it is atomic, or its address is taken.
+fn is_further(param: &Param, number: u32, addressed: &Marks) -> bool
+    ensures { result ≡ (is_block (param_view param.now).ty || is_in number (marked addressed.now)) }
+{
+    is_block(&param.ty) || addressed.has(number)
+}
+
 // The parameters that are in memory.
 fn further_params<'a>(
     alloc: Global,
@@ -46,7 +53,7 @@ fn further_params<'a>(
     let mut all = Vec::new(alloc);
     for (k, param) in params.iter().enumerate() {
         let number = number(k)?;
-        if is_block(&param.ty) || addressed.has(number) {
+        if is_further(param, number, addressed) {
             all.push(Further { number, param })?;
         }
     }
@@ -61,7 +68,7 @@ fn table(alloc: Global, params: &[Param], addressed: &Marks) -> Result<Vec<u32>,
     let mut next = number(params.len())?;
     for (k, param) in params.iter().enumerate() {
         let number = number(k)?;
-        if is_block(&param.ty) || addressed.has(number) {
+        if is_further(param, number, addressed) {
             all.push(next)?;
             next = next.checked_add(1).ok_or(AllocError)?;
         } else {
