@@ -43,11 +43,15 @@ fn words_of(alloc: Global, parts: &[Part]) -> Result<Vec<TypeWord>, AllocError>
 fn atomics_in(parts: &[Part]) -> usize
     ensures { result ≡ atomics_in (map part_view parts.now) }
 {
-    match parts {
-        [] => 0,
-        [Part::Word(word), rest @ ..] if is_atomic_word(*word) => 1 + atomics_in(rest),
-        [_, rest @ ..] => atomics_in(rest),
+    let mut n = 0;
+    'parts: for part in parts {
+        if let Part::Word(word) = part {
+            if is_atomic_word(*word) {
+                n += 1;
+            }
+        }
     }
+    n
 }
 
 // The types of their own.
