@@ -244,6 +244,7 @@ type_word_stays types.MtxT = refl
 type_word_stays types.Const = refl
 type_word_stays types.Register = refl
 type_word_stays types.Auto = refl
+type_word_stays types.Atomic = refl
 
 -- a word of a type
 pub firm_type_word : (d place : ℕ) (w : TypeWord) → Firm (at d (word_at place (word_of_type w)) ∷ [])

@@ -41,6 +41,7 @@ word_of_type types.MtxT = words.MtxT
 word_of_type types.Const = words.Const
 word_of_type types.Register = words.Register
 word_of_type types.Auto = words.Auto
+word_of_type types.Atomic = words.Atomic
 
 -- how static and inline are written (C11 6.7.1, 6.7.4)
 abbrev pub word_of_storage : Storage → Word
@@ -96,11 +97,12 @@ mark_of_assign assigns.Xor = marks.CaretAssign
 mark_of_assign assigns.Shl = marks.ShiftLeftAssign
 mark_of_assign assigns.Shr = marks.ShiftRightAssign
 
--- the word is of a type: const, register and auto are not
+-- the word is of a type: const, register, auto and _Atomic are not
 abbrev pub is_of_type : TypeWord → Bool
 is_of_type types.Const = false
 is_of_type types.Register = false
 is_of_type types.Auto = false
+is_of_type types.Atomic = false
 is_of_type _ = true
 
 -- whether a type stands before what is behind the specifier

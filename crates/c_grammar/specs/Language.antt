@@ -26,7 +26,6 @@ refusal_of_word words.Imaginary = OutsideSubset 2
 refusal_of_word words.Union = OutsideSubset 3
 refusal_of_word words.Goto = OutsideSubset 4
 refusal_of_word words.Volatile = OutsideSubset 6
-refusal_of_word words.Atomic = OutsideSubset 9
 refusal_of_word words.Extern = OutsideSubset 10
 refusal_of_word words.Static = OutsideSubset 10
 refusal_of_word words.Inline = OutsideSubset 10

@@ -208,6 +208,32 @@ inside_kinds = body (Word words.Enum ∷ Mark marks.OpenBrace ∷ Name ∷ Mark 
 abbrev pub taken_kinds : List TokenKind
 taken_kinds = first (Word words.Enum ∷ Mark marks.OpenBrace ∷ Name ∷ Mark marks.CloseBrace ∷ Mark marks.Semicolon ∷ End ∷ [])
 
+-- ---- atomic_int a;_Atomic int b;
+
+-- the text, byte by byte
+abbrev pub atomic_text : List ℕ
+atomic_text = codes "atomic_int a;_Atomic int b;"
+
+-- its tokens
+abbrev pub atomic_tokens : List Token
+atomic_tokens = token Name 0 10 ∷ token Name 11 12 ∷ token (Mark marks.Semicolon) 12 13 ∷ token (Word words.Atomic) 13 20 ∷ token (Word words.Int) 21 24 ∷ token Name 25 26 ∷ token (Mark marks.Semicolon) 26 27 ∷ token End 27 27 ∷ []
+
+-- a variable of these specifiers, with its name at a place
+abbrev pub variable_at : ℕ → List trees.Spec → trees.External
+variable_at n specs = trees.external_of [] specs (trees.variables (record { declarator = trees.declarator [] (at n) trees.no_exprs; value = None } ∷ []))
+
+-- its tree: the name of a type from the start on, and a word among the specifiers
+abbrev pub atomic_file : trees.File
+atomic_file = file_of (variable_at 11 (trees.alias (record { from = 0; to = 10 }) ∷ []) ∷ variable_at 25 (trees.word 13 types.Atomic ∷ trees.word 21 types.Int ∷ []) ∷ [])
+
+-- int*_Atomic x; and _Atomic(int)x;
+abbrev pub behind_star_kinds : List TokenKind
+behind_star_kinds = Word words.Int ∷ Mark marks.Star ∷ Word words.Atomic ∷ Name ∷ Mark marks.Semicolon ∷ End ∷ []
+
+-- the word stands among specifiers alone
+abbrev pub with_bracket_kinds : List TokenKind
+with_bracket_kinds = Word words.Atomic ∷ Mark marks.OpenParen ∷ Word words.Int ∷ Mark marks.CloseParen ∷ Name ∷ Mark marks.Semicolon ∷ End ∷ []
+
 -- each text's tree or refusal; beside a text of longer tokens they are spelt by one byte each
 pub record TextRows : Type 0 where
   -- a type's name is no name of a variable
@@ -239,3 +265,7 @@ pub record TextRows : Type 0 where
   -- their braces stand at file scope alone, and no enumerator has a type's name
   pub inside : RefusesTokens (codes "if(){e{A}x;}") (bytes 0 inside_kinds) (record { place = 6; kind = UnexpectedToken })
   pub taken : RefusesTokens (codes "tiT;e{T};") (bytes 0 taken_kinds) (record { place = 6; kind = UnexpectedToken })
+  -- atomic types
+  pub atomic : Parses atomic_text atomic_tokens atomic_file
+  pub behind_star : RefusesTokens (codes "i*Ax;") (bytes 0 behind_star_kinds) (record { place = 2; kind = UnexpectedToken })
+  pub with_bracket : RefusesTokens (codes "A(i)x;") (bytes 0 with_bracket_kinds) (record { place = 1; kind = UnexpectedToken })

@@ -85,6 +85,8 @@ pub record Rows : Type 0 where
   pub define_library : IsRefused "#define thrd_error 1" 0 kinds.UnexpectedToken
   pub define_calloc : IsRefused "#define calloc 1" 0 kinds.UnexpectedToken
   pub define_realloc : IsRefused "#define realloc 1" 0 kinds.UnexpectedToken
+  pub define_atomic : IsRefused "#define atomic_compare_exchange_weak 1" 0 kinds.UnexpectedToken
+  pub define_atomic_type : HasTokens "#define atomic_int 1\natomic_int" (token (tokens.Int (num int (pos 1))) 21 31 ∷ [])
   pub define_wide : IsRefused "#define A 18446744073709551616" 10 kinds.NumberTooWide
   pub define_float : IsRefused "#define A 1." 0 (kinds.OutsideSubset 1)
   pub directive_other : IsRefused "#if 1" 0 (kinds.OutsideSubset 1)
@@ -143,6 +145,8 @@ rows = record {
   define_library = refl;
   define_calloc = refl;
   define_realloc = refl;
+  define_atomic = refl;
+  define_atomic_type = refl;
   define_wide = refl;
   define_float = refl;
   directive_other = refl;

@@ -153,6 +153,8 @@ unfoldable pub library_names : List (List ℕ)
 library_names = codes "printf" ∷ codes "malloc" ∷ codes "calloc" ∷ codes "realloc" ∷ codes "free" ∷ codes "memcpy"
     ∷ codes "thrd_create" ∷ codes "thrd_join"
     ∷ codes "mtx_init" ∷ codes "mtx_lock" ∷ codes "mtx_unlock" ∷ codes "mtx_destroy"
+    ∷ codes "atomic_init" ∷ codes "atomic_store" ∷ codes "atomic_load" ∷ codes "atomic_fetch_add" ∷ codes "atomic_fetch_sub"
+    ∷ codes "atomic_exchange" ∷ codes "atomic_compare_exchange_strong" ∷ codes "atomic_compare_exchange_weak"
     ∷ codes "mtx_plain" ∷ codes "thrd_success" ∷ codes "thrd_error" ∷ []
 
 -- whether the bytes are one of these texts

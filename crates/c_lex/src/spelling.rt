@@ -106,7 +106,7 @@ const MARKS: [Mark; 46] = [
 ];
 
 /// The names of the library, which `#define` may not take.
-const LIBRARY_NAMES: [&[u8]; 15] = [
+const LIBRARY_NAMES: [&[u8]; 23] = [
     b"printf",
     b"malloc",
     b"calloc",
@@ -119,6 +119,14 @@ const LIBRARY_NAMES: [&[u8]; 15] = [
     b"mtx_lock",
     b"mtx_unlock",
     b"mtx_destroy",
+    b"atomic_init",
+    b"atomic_store",
+    b"atomic_load",
+    b"atomic_fetch_add",
+    b"atomic_fetch_sub",
+    b"atomic_exchange",
+    b"atomic_compare_exchange_strong",
+    b"atomic_compare_exchange_weak",
     b"mtx_plain",
     b"thrd_success",
     b"thrd_error",

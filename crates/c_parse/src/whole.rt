@@ -27,7 +27,6 @@ fn refusal_of_word(word: Word) -> Kind
         Word::Union => Kind::OutsideSubset(3),
         Word::Goto => Kind::OutsideSubset(4),
         Word::Volatile => Kind::OutsideSubset(6),
-        Word::Atomic => Kind::OutsideSubset(9),
         Word::Extern
         | Word::Static
         | Word::Inline

@@ -1,7 +1,7 @@
 -- No struct lies in itself, once more of them are named or declared.
 use Rattle.std.proofs.Common.{◌≡◌, ◌≢◌, ℕ, zero, suc, ◌<◌, Bool, true, false, refl, subst, arith, List, [], ◌∷◌, Some, slice_get, ◌==◌}
 use Rattle.std.proofs.lemmas.Bool.Decides.{nat_tests}
-use Rattle.c_tree.specs.Typed.{Ty, void, integer, mutex, pointer, array, structure, Layout}
+use Rattle.c_tree.specs.Typed.{Ty, void, integer, atomic, mutex, pointer, array, structure, Layout}
 use Rattle.c_tree.specs.TypedLayout.{layout_size, IsSized}
 use Rattle.c_tree.specs.TypedForm.{HoldsStruct, IsPart, LiesIn, as_part, deeper}
 use Rattle.c_typing.proofs.Extending.{AreSized}
@@ -24,6 +24,7 @@ held_sized s (structure n) m h z = subst (λ k. 0 < layout_size (slice_get s k))
 held_sized s (array t k) m h z = held_sized s t m h z.0
 held_sized s void m h z = absurd h
 held_sized s (integer t) m h z = absurd h
+held_sized s (atomic t) m h z = absurd h
 held_sized s mutex m h z = absurd h
 held_sized s (pointer t) m h z = absurd h
 

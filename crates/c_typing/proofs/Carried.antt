@@ -6,12 +6,12 @@ use Rattle.std.specs.Str.{bytes_eq}
 use Rattle.ak_words.specs.IntType.{int, IsInRange}
 use Rattle.c_lex.specs.declared.refusal.Kind.{Kind}
 use Rattle.c_lex.specs.declared.refusal.Refusal.{Refusal}
-use Rattle.c_tree.specs.Typed.{Ty, pointer, array, Layout, Local}
+use Rattle.c_tree.specs.Typed.{Ty, atomic, pointer, array, Layout, Local}
 use Rattle.c_tree.specs.TypedLayout.{greatest_object, size_in, IsSized}
-use Rattle.c_tree.specs.TypedForm.{IsLayout, LiesIn, Signature, IsNth, IsResult, taken}
+use Rattle.c_tree.specs.TypedForm.{IsLayout, LiesIn, Signature, IsNth, IsResult, IsPromoted, taken}
 use Rattle.c_tree.specs.TypedForm as form
 use Rattle.c_typing.specs.Faults.{Judged, typed, faulty, unless, both, ◌>>=◌}
-use Rattle.c_typing.specs.Scope.{Library, constant, Binding, global_name, local_name, function_name, enumerator_name, type_name, library_name, Context, or_else, found, most_plain, is_begun}
+use Rattle.c_typing.specs.Scope.{Library, constant, atomic_type, Binding, global_name, local_name, function_name, enumerator_name, type_name, library_name, Context, or_else, found, most_plain, is_begun}
 use Rattle.c_typing.specs.Numbering.{is_block, is_in}
 use Rattle.c_typing.specs.Rules.{or_mismatch}
 use Rattle.c_typing.specs.Judgement.{Judging, lone, in_turn, ruled}
@@ -66,6 +66,7 @@ not_given P r rs (faulty s ss) f = tt
 abbrev pub Plain : Ty → Type 0
 Plain (pointer t) = Plain t
 Plain (array t n) = ⊥
+Plain (atomic t) = IsPromoted t
 Plain t = Unit {0}
 
 -- the functions of the whole program, how many parameters the function around has, and the structs that were there at least
@@ -81,6 +82,7 @@ since w s = record { funcs = w.funcs; params = w.params; structs = s }
 -- a number of the library is an int
 abbrev pub InLibrary : Library → Type 0
 InLibrary (constant value) = IsInRange int value
+InLibrary (atomic_type t) = IsPromoted t
 InLibrary which = Unit {0}
 
 abbrev pub IsNamed : World → Context → Binding → Type 0

@@ -3,9 +3,9 @@ use Rattle.std.proofs.Common.{◌≡◌, ℕ, ◌+◌, ◌*◌, ◌<◌, ◌≤�
 use Rattle.std.specs.List.{AllByRecursion}
 use Rattle.std.proofs.lemmas.Option.{slice_get_within}
 use Rattle.std.proofs.lemmas.Bool.Decides.{nat_tests}
-use Rattle.c_tree.specs.Typed.{Ty, void, integer, mutex, pointer, array, structure, Layout}
+use Rattle.c_tree.specs.Typed.{Ty, void, integer, atomic, mutex, pointer, array, structure, Layout}
 use Rattle.c_tree.specs.TypedLayout.{greatest_object, layout_size, layout_align, size_in, align_in, IsSized, rounded_up, offsets_from, end_from, greatest_align, laid_out}
-use Rattle.c_tree.specs.TypedForm.{IsLayout, IsTarget}
+use Rattle.c_tree.specs.TypedForm.{IsLayout, IsTarget, IsPromoted}
 use Rattle.c_typing.specs.Types.{has_size}
 
 pub below : (a b : ℕ) → nat_lt a b ≡ true → a < b
@@ -56,6 +56,7 @@ in_list s n h = by (slice_get s n) refl h
 pub size_kept : (old new : List Layout) → Extends old new → (t : Ty) → IsSized old t → size_in new t ≡ size_in old t
 size_kept old new f void h = absurd h
 size_kept old new f (integer t) h = refl
+size_kept old new f (atomic t) h = refl
 size_kept old new f mutex h = refl
 size_kept old new f (pointer t) h = refl
 size_kept old new f (array t n) h = ap (λ k. k * n) (size_kept old new f t h.0)
@@ -64,6 +65,7 @@ size_kept old new f (structure n) h = ap layout_size (struct_kept old new n f h.
 pub align_kept : (old new : List Layout) → Extends old new → (t : Ty) → IsSized old t → align_in new t ≡ align_in old t
 align_kept old new f void h = absurd h
 align_kept old new f (integer t) h = refl
+align_kept old new f (atomic t) h = refl
 align_kept old new f mutex h = refl
 align_kept old new f (pointer t) h = refl
 align_kept old new f (array t n) h = align_kept old new f t h.0
@@ -72,6 +74,7 @@ align_kept old new f (structure n) h = ap layout_align (struct_kept old new n f 
 pub sized_kept : (old new : List Layout) → Extends old new → (t : Ty) → IsSized old t → IsSized new t
 sized_kept old new f void h = h
 sized_kept old new f (integer t) h = tt
+sized_kept old new f (atomic t) h = tt
 sized_kept old new f mutex h = tt
 sized_kept old new f (pointer t) h = tt
 sized_kept old new f (array t n) h =
@@ -82,11 +85,12 @@ sized_kept old new f (structure n) h =
     let p : 0 < layout_size (slice_get new n) = subst (λ k. 0 < k) (sym e) h.1 in
     (in_list new n p, p, subst (λ k. k ≤ greatest_object) (sym e) h.2)
 
--- ---- arrays in a type have a size, behind pointers too
+-- ---- arrays in a type have a size, and atomic numbers 32 or 64 bits, behind pointers too
 
 abbrev pub Ready : List Layout → Ty → Type 0
 Ready s void = Unit {0}
 Ready s (integer t) = Unit {0}
+Ready s (atomic t) = IsPromoted t
 Ready s mutex = Unit {0}
 Ready s (pointer t) = Ready s t
 Ready s (array t n) = IsSized s (array t n) × Ready s t
@@ -95,6 +99,7 @@ Ready s (structure n) = Unit {0}
 pub ready_kept : (old new : List Layout) → Extends old new → (t : Ty) → Ready old t → Ready new t
 ready_kept old new f void h = tt
 ready_kept old new f (integer t) h = tt
+ready_kept old new f (atomic t) h = h
 ready_kept old new f mutex h = tt
 ready_kept old new f (pointer t) h = ready_kept old new f t h
 ready_kept old new f (array t n) h = (sized_kept old new f (array t n) h.0, ready_kept old new f t h.1)
@@ -114,6 +119,7 @@ small_at s f n = by (slice_get s n) refl
 pub sized_of : (s : List Layout) → AreSmall s → (t : Ty) → Ready s t → has_size s t ≡ true → IsSized s t
 sized_of s f void r h = absurd cc
 sized_of s f (integer t) r h = tt
+sized_of s f (atomic t) r h = tt
 sized_of s f mutex r h = tt
 sized_of s f (pointer t) r h = tt
 sized_of s f (array t n) r h = r.0
@@ -124,6 +130,7 @@ sized_of s f (structure n) r h =
 pub has_size_kept : (old new : List Layout) → Extends old new → (t : Ty) → has_size old t ≡ true → has_size new t ≡ true
 has_size_kept old new f void h = h
 has_size_kept old new f (integer t) h = refl
+has_size_kept old new f (atomic t) h = refl
 has_size_kept old new f mutex h = refl
 has_size_kept old new f (pointer t) h = refl
 has_size_kept old new f (array t n) h = has_size_kept old new f t h
@@ -135,6 +142,7 @@ has_size_kept old new f (structure n) h =
 pub target_of : (s : List Layout) → AreSmall s → (t : Ty) → Ready s t → IsTarget s t
 target_of s f void r = inr tt
 target_of s f (integer t) r = inl tt
+target_of s f (atomic t) r = inl tt
 target_of s f mutex r = inl tt
 target_of s f (pointer t) r = inl tt
 target_of s f (array t n) r = inl r.0

@@ -18,7 +18,7 @@ use Rattle.c_typing.specs.Faults.{Judged, typed, both, ◌>>=◌}
 use Rattle.c_typing.specs.Scope.{Binding, global_name, local_name, function_name, enumerator_name, type_name, library_name, Frame, Context, bytes_of, or_else, found, is_double, declared, back_to}
 use Rattle.c_typing.specs.Judgement.{in_turn, judged_specs}
 use Rattle.c_typing.specs.Statements.{judged_stmts}
-use Rattle.c_typing.specs.Numbering.{Param, is_block, is_in, func_of, locals_from}
+use Rattle.c_typing.specs.Numbering.{Param, passed_type, is_block, is_in, func_of, locals_from}
 use Rattle.c_typing.specs.Programs.{judged_globals, judged_param_list, place_of_name, one_body, with_name, with_function, before_params, in_scope_of, judged_body, body_behind, judged_function, result_of, judged_aliases, no_objects, Made, joined, judged_rest, judged_external, judged_externals}
 use Rattle.c_typing.specs.Laws.{IsBodyWritten, IsExternalWritten}
 use Rattle.c_typing.proofs.Extending.{Extends, extends_itself, extends_further, Ready, AreSmall, ready_kept, sized_kept}
@@ -245,7 +245,7 @@ record IsBehind (fs : List Signature) (names : List (List ℕ)) (around p : Cont
   file : FileGood fs around
   given : Params (W fs 0) (before_params around) p xs
   agrees : Agrees fs (Behind around p x y)
-  entry : WasFunction (back_to around p) n (Behind around p x y) (map (λ (z : Param). z.ty) xs) r ⊎ IsNew (back_to around p) names n (Behind around p x y) (map (λ (z : Param). z.ty) xs) r
+  entry : WasFunction (back_to around p) n (Behind around p x y) (map passed_type xs) r ⊎ IsNew (back_to around p) names n (Behind around p x y) (map passed_type xs) r
   functions : y ≡ functions_with p n
   ready : Ready p.structs r
 
@@ -264,13 +264,13 @@ module _ (fs : List Signature) (names : List (List ℕ)) (around p : Context) (n
   named_here : (q : List ℕ) (m : Binding) → lookup (bytes_eq q) x ≡ Some m → NotLocal m × IsNamed (W fs 0) D m
   named_here q m k = by h.entry
     where
-      new : IsNew (back_to around p) names n D (map (λ (z : Param). z.ty) xs) r → (lookup (bytes_eq q) around.inner ≡ Some m) ⊎ ((bytes_eq q (bytes_of p.text n) ≡ true) × (function_name (place_of_name (bytes_of p.text n) names) (map (λ (z : Param). z.ty) xs) r ≡ m)) → NotLocal m × IsNamed (W fs 0) D m
+      new : IsNew (back_to around p) names n D (map passed_type xs) r → (lookup (bytes_eq q) around.inner ≡ Some m) ⊎ ((bytes_eq q (bytes_of p.text n) ≡ true) × (function_name (place_of_name (bytes_of p.text n) names) (map passed_type xs) r ≡ m)) → NotLocal m × IsNamed (W fs 0) D m
       new i (inl g) = named_before q m g
-      new i (inr g) = subst (λ (z : Binding). NotLocal z × IsNamed (W fs 0) D z) g.1 (tt, (h.agrees q (place_of_name (bytes_of p.text n) names) (map (λ (z : Param). z.ty) xs) r (k ∙ ap Some (sym g.1)), h.ready))
+      new i (inr g) = subst (λ (z : Binding). NotLocal z × IsNamed (W fs 0) D z) g.1 (tt, (h.agrees q (place_of_name (bytes_of p.text n) names) (map passed_type xs) r (k ∙ ap Some (sym g.1)), h.ready))
 
-      by : WasFunction (back_to around p) n D (map (λ (z : Param). z.ty) xs) r ⊎ IsNew (back_to around p) names n D (map (λ (z : Param). z.ty) xs) r → NotLocal m × IsNamed (W fs 0) D m
+      by : WasFunction (back_to around p) n D (map passed_type xs) r ⊎ IsNew (back_to around p) names n D (map passed_type xs) r → NotLocal m × IsNamed (W fs 0) D m
       by (inl i) = named_before q m (ap (lookup (bytes_eq q)) (sym i.2) ∙ k)
-      by (inr i) = new i (new_name around.inner q (bytes_of p.text n) (function_name (place_of_name (bytes_of p.text n) names) (map (λ (z : Param). z.ty) xs) r) m (sym (ap (lookup (bytes_eq q)) i.3) ∙ k))
+      by (inr i) = new i (new_name around.inner q (bytes_of p.text n) (function_name (place_of_name (bytes_of p.text n) names) (map passed_type xs) r) m (sym (ap (lookup (bytes_eq q)) i.3) ∙ k))
 
   named_visible : (q : List ℕ) (m : Binding) → visible D q ≡ Some m → NotLocal m × IsNamed (W fs 0) D m
   named_visible q m k = named_here q m (sym (at_file D h.file.outer q) ∙ k)
@@ -359,22 +359,22 @@ module _ (fs : List Signature) (names : List (List ℕ)) (around p : Context) (n
   known_here : (q : List ℕ) (k : ℕ) (ps : List Ty) (s : Ty) → lookup (bytes_eq q) x ≡ Some (function_name k ps s) → list_any (bytes_eq q) y ≡ true
   known_here q k ps s l = by h.entry
     where
-      new : (lookup (bytes_eq q) around.inner ≡ Some (function_name k ps s)) ⊎ ((bytes_eq q (bytes_of p.text n) ≡ true) × (function_name (place_of_name (bytes_of p.text n) names) (map (λ (z : Param). z.ty) xs) r ≡ function_name k ps s)) → list_any (bytes_eq q) y ≡ true
+      new : (lookup (bytes_eq q) around.inner ≡ Some (function_name k ps s)) ⊎ ((bytes_eq q (bytes_of p.text n) ≡ true) × (function_name (place_of_name (bytes_of p.text n) names) (map passed_type xs) r ≡ function_name k ps s)) → list_any (bytes_eq q) y ≡ true
       new (inl g) = still_here q (h.file.known q k ps s g)
       new (inr g) = ap (λ z. list_any (bytes_eq z) y) (same_bytes_is q (bytes_of p.text n) g.0) ∙ in_here
 
-      by : WasFunction (back_to around p) n D (map (λ (z : Param). z.ty) xs) r ⊎ IsNew (back_to around p) names n D (map (λ (z : Param). z.ty) xs) r → list_any (bytes_eq q) y ≡ true
+      by : WasFunction (back_to around p) n D (map passed_type xs) r ⊎ IsNew (back_to around p) names n D (map passed_type xs) r → list_any (bytes_eq q) y ≡ true
       by (inl i) = still_here q (h.file.known q k ps s (ap (lookup (bytes_eq q)) (sym i.2) ∙ l))
-      by (inr i) = new (new_name around.inner q (bytes_of p.text n) (function_name (place_of_name (bytes_of p.text n) names) (map (λ (z : Param). z.ty) xs) r) (function_name k ps s) (sym (ap (lookup (bytes_eq q)) i.3) ∙ l))
+      by (inr i) = new (new_name around.inner q (bytes_of p.text n) (function_name (place_of_name (bytes_of p.text n) names) (map passed_type xs) r) (function_name k ps s) (sym (ap (lookup (bytes_eq q)) i.3) ∙ l))
 
   few_here : length y ≤ 8192
   few_here = subst (λ (z : List (List ℕ)). length z ≤ 8192) (sym h.functions) (by (list_any (bytes_eq (bytes_of p.text n)) p.functions) refl h.entry)
     where
-      by : (b : Bool) → list_any (bytes_eq (bytes_of p.text n)) p.functions ≡ b → WasFunction (back_to around p) n D (map (λ (z : Param). z.ty) xs) r ⊎ IsNew (back_to around p) names n D (map (λ (z : Param). z.ty) xs) r
+      by : (b : Bool) → list_any (bytes_eq (bytes_of p.text n)) p.functions ≡ b → WasFunction (back_to around p) n D (map passed_type xs) r ⊎ IsNew (back_to around p) names n D (map passed_type xs) r
           → length (if b then p.functions else p.functions ++ bytes_of p.text n ∷ []) ≤ 8192
       by true e i = subst (λ (z : List (List ℕ)). length z ≤ 8192) (sym same_functions) h.file.few_functions
       by false e (inl i) =
-          let k : list_any (bytes_eq (bytes_of p.text n)) p.functions ≡ true = ap (list_any (bytes_eq (bytes_of p.text n))) same_functions ∙ h.file.known (bytes_of p.text n) i.0 (map (λ (z : Param). z.ty) xs) r i.1 in
+          let k : list_any (bytes_eq (bytes_of p.text n)) p.functions ≡ true = ap (list_any (bytes_eq (bytes_of p.text n))) same_functions ∙ h.file.known (bytes_of p.text n) i.0 (map passed_type xs) r i.1 in
           let l : true ≡ false = sym k ∙ e in
           absurd cc
       by false e (inr i) = let k = i.2 in let l = length-append p.functions (bytes_of p.text n ∷ []) in omega (arith, k, l)
@@ -419,9 +419,9 @@ module _ (fs : List Signature) (names : List (List ℕ)) (around p : Context) (n
     within = le;
   }
     where
-      scalars : (zs : List Param) → AllByRecursion (λ (z : Param). IsScalar z.ty) zs → (i : ℕ) (q : Param) → slice_get zs i ≡ Some q → IsScalar q.ty
+      scalars : (zs : List Param) → AllByRecursion (λ (z : Param). IsScalar (passed_type z)) zs → (i : ℕ) (q : Param) → slice_get zs i ≡ Some q → IsScalar (passed_type q)
       scalars [] a i q g = absurd (nothing_at i q g)
-      scalars (z ∷ zs) a zero q g = let e : z ≡ q = cc in subst (λ (u : Param). IsScalar u.ty) e a.0
+      scalars (z ∷ zs) a zero q g = let e : z ≡ q = cc in subst (λ (u : Param). IsScalar (passed_type u)) e a.0
       scalars (z ∷ zs) a (suc i) q g = scalars zs a.1 i q g
 
   few_params : length xs ≤ 16
@@ -597,7 +597,7 @@ function_step : (fs : List Signature) (names : List (List ℕ)) (base : Judged T
 function_step fs names base pointers n params body around hb f a gs e agrees =
     let p : Context = (judged_param_list params (before_params around)).1 in
     let i = is_function names base pointers n params body around gs e in
-    let ts : List Ty = map (λ (z : Param). z.ty) i.xs in
+    let ts : List Ty = map passed_type i.xs in
     let x : Frame = inner_with around p names n ts i.r in
     let y : List (List ℕ) = functions_with p n in
     let same : with_function (back_to around p) names n ts i.r ≡ Behind around p x y = with_function_is around p names n ts i.r in

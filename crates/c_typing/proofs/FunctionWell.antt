@@ -6,11 +6,12 @@ use Rattle.std.specs.Option.{option_map}
 use Rattle.std.proofs.lemmas.Bool.Decides.{nat_tests}
 use Rattle.std.proofs.lemmas.List.{length-append}
 use Rattle.std.proofs.lemmas.Option.{slice_get-map}
-use Rattle.c_tree.specs.Typed.{Ty, void, integer, mutex, pointer, array, structure, Layout, Local, Stmts}
+use Rattle.c_tree.specs.Typed.{Ty, void, integer, atomic, mutex, pointer, array, structure, Layout, Local, Stmts}
 use Rattle.c_tree.specs.TypedLayout.{IsSized}
 use Rattle.c_tree.specs.TypedForm.{in_function, IsScalar, Fits, IsNth, Inside, AreWell, IsLocal, signature_of}
 use Rattle.c_tree.specs.TypedForm as form
-use Rattle.c_typing.specs.Numbering.{renumbered_stmts, Param, is_in, addressed_params, place_among, or_number, number_of, is_block, locals_from, copies, func_of}
+use Rattle.c_typing.specs.Types.{value_type}
+use Rattle.c_typing.specs.Numbering.{renumbered_stmts, Param, passed_type, is_in, addressed_params, place_among, or_number, number_of, is_block, locals_from, copies, func_of}
 use Rattle.c_typing.proofs.Elements.{nothing_at, get_before}
 use Rattle.c_typing.proofs.Own.{as_local, local_at, local_is}
 use Rattle.c_typing.proofs.RenumberedWell.{Carries, with_locals, Rises, stmts_too}
@@ -35,7 +36,7 @@ length_map : {X Y : Type 0} (f : X → Y) (xs : List X) → length (map f xs) �
 length_map f [] = refl
 length_map f (x ∷ xs) = ap suc (length_map f xs)
 
--- ---- the parameters whose address is taken
+-- ---- the parameters that are in memory
 
 same : (n : ℕ) → (n == n) ≡ true
 same n = grind (arith, nat_tests)
@@ -55,16 +56,20 @@ placed_later n k p q all h s =
     let e : 1 + s.0 ≡ suc s.0 = omega arith in
     (suc s.0, ap (λ b. if b then Some 0 else option_map (λ i. 1 + i) (place_among n all)) (other n k h) ∙ ap (option_map (λ i. 1 + i)) s.1 ∙ ap Some e, s.2)
 
-further_at : (k : ℕ) (ps : List Param) (addressed : List ℕ) (i : ℕ) (p : Param) → slice_get ps i ≡ Some p → is_in (k + i) addressed ≡ true → Placed (k + i) p (addressed_params k ps addressed)
+-- a parameter of this number is in memory
+abbrev moved : Param → ℕ → List ℕ → Bool
+moved p n addressed = is_block p.ty || is_in n addressed
+
+further_at : (k : ℕ) (ps : List Param) (addressed : List ℕ) (i : ℕ) (p : Param) → slice_get ps i ≡ Some p → moved p (k + i) addressed ≡ true → Placed (k + i) p (addressed_params k ps addressed)
 further_at k [] addressed i p h a = absurd (nothing_at i p h)
 further_at k (q ∷ ps) addressed zero p h a =
     let e : q ≡ p = cc in
     let f : k ≡ k + 0 = omega arith in
-    let b : is_in k addressed ≡ true = ap (λ m. is_in m addressed) f ∙ a in
+    let b : moved q k addressed ≡ true = ap (λ m. moved q m addressed) f ∙ ap (λ r. moved r (k + 0) addressed) e ∙ a in
     subst (λ m. Placed m p (addressed_params k (q ∷ ps) addressed)) f
     (subst (λ c. Placed k p (if c then (k, q) ∷ addressed_params (1 + k) ps addressed else addressed_params (1 + k) ps addressed)) (sym b)
     (subst (λ r. Placed k p ((k, r) ∷ addressed_params (1 + k) ps addressed)) (sym e) (placed_first k p (addressed_params (1 + k) ps addressed))))
-further_at k (q ∷ ps) addressed (suc i) p h a = by (is_in k addressed) (subst (λ m. Placed m p (addressed_params (1 + k) ps addressed)) f (further_at (1 + k) ps addressed i p h (ap (λ m. is_in m addressed) f ∙ a)))
+further_at k (q ∷ ps) addressed (suc i) p h a = by (moved q k addressed) (subst (λ m. Placed m p (addressed_params (1 + k) ps addressed)) f (further_at (1 + k) ps addressed i p h (ap (λ m. moved p m addressed) f ∙ a)))
   where
     f : (1 + k) + i ≡ k + suc i
     f = omega arith
@@ -76,21 +81,21 @@ further_at k (q ∷ ps) addressed (suc i) p h a = by (is_in k addressed) (subst 
     by true s = placed_later (k + suc i) k p q (addressed_params (1 + k) ps addressed) apart s
     by false s = s
 
-not_among : (k : ℕ) (ps : List Param) (addressed : List ℕ) (n : ℕ) → ((i : ℕ) → i < length ps → n ≡ k + i → is_in n addressed ≡ true → ⊥) → place_among n (addressed_params k ps addressed) ≡ None
+not_among : (k : ℕ) (ps : List Param) (addressed : List ℕ) (n : ℕ) → ((i : ℕ) (p : Param) → i < length ps → slice_get ps i ≡ Some p → n ≡ k + i → moved p n addressed ≡ true → ⊥) → place_among n (addressed_params k ps addressed) ≡ None
 not_among k [] addressed n h = refl
-not_among k (p ∷ ps) addressed n h = by (is_in k addressed) refl (not_among (1 + k) ps addressed n (λ i l e a. h (suc i) (omega (arith, l)) (omega (arith, e)) a))
+not_among k (p ∷ ps) addressed n h = by (moved p k addressed) refl (not_among (1 + k) ps addressed n (λ i q l g e a. h (suc i) q (omega (arith, l)) g (omega (arith, e)) a))
   where
-    differs : is_in k addressed ≡ true → n ≢ k
-    differs a e = h 0 (omega arith) (omega (arith, e)) (ap (λ m. is_in m addressed) e ∙ a)
+    differs : moved p k addressed ≡ true → n ≢ k
+    differs a e = h 0 p (omega arith) refl (omega (arith, e)) (ap (λ m. moved p m addressed) e ∙ a)
 
-    by : (c : Bool) → is_in k addressed ≡ c → place_among n (addressed_params (1 + k) ps addressed) ≡ None
+    by : (c : Bool) → moved p k addressed ≡ c → place_among n (addressed_params (1 + k) ps addressed) ≡ None
         → place_among n (if c then (k, p) ∷ addressed_params (1 + k) ps addressed else addressed_params (1 + k) ps addressed) ≡ None
     by true a s = ap (λ b. if b then Some 0 else option_map (λ i. 1 + i) (place_among n (addressed_params (1 + k) ps addressed))) (other n k (differs a)) ∙ ap (option_map (λ i. 1 + i)) s
     by false a s = s
 
 further_is : (k : ℕ) (ps : List Param) (addressed : List ℕ) (j : ℕ) (x : ℕ × Param) → slice_get (addressed_params k ps addressed) j ≡ Some x → (i : ℕ) × (x.0 ≡ k + i) × (slice_get ps i ≡ Some x.1)
 further_is k [] addressed j x h = absurd (nothing_at j x h)
-further_is k (p ∷ ps) addressed j x h = by (is_in k addressed) j h (λ j h. further_is (1 + k) ps addressed j x h)
+further_is k (p ∷ ps) addressed j x h = by (moved p k addressed) j h (λ j h. further_is (1 + k) ps addressed j x h)
   where
     later : (i : ℕ) × (x.0 ≡ (1 + k) + i) × (slice_get ps i ≡ Some x.1) → (i : ℕ) × (x.0 ≡ k + i) × (slice_get (p ∷ ps) i ≡ Some x.1)
     later r = let e = r.1 in (suc r.0, omega (arith, e), r.2)
@@ -106,7 +111,7 @@ further_is k (p ∷ ps) addressed j x h = by (is_in k addressed) j h (λ j h. fu
 
 few_further : (k : ℕ) (ps : List Param) (addressed : List ℕ) → length (addressed_params k ps addressed) ≤ length ps
 few_further k [] addressed = omega arith
-few_further k (p ∷ ps) addressed = by (is_in k addressed) (few_further (1 + k) ps addressed)
+few_further k (p ∷ ps) addressed = by (moved p k addressed) (few_further (1 + k) ps addressed)
   where
     by : (c : Bool) → length (addressed_params (1 + k) ps addressed) ≤ length ps → length (if c then (k, p) ∷ addressed_params (1 + k) ps addressed else addressed_params (1 + k) ps addressed) ≤ suc (length ps)
     by true h = omega (arith, h)
@@ -115,7 +120,7 @@ few_further k (p ∷ ps) addressed = by (is_in k addressed) (few_further (1 + k)
 -- ---- the locals of a function
 
 abbrev as_param : Param → Local
-as_param p = record { ty = p.ty; in_memory = false }
+as_param p = record { ty = passed_type p; in_memory = false }
 
 abbrev as_further : (ℕ × Param) → Local
 as_further x = record { ty = x.1.ty; in_memory = true }
@@ -123,10 +128,10 @@ as_further x = record { ty = x.1.ty; in_memory = true }
 abbrev pub all_locals : List Param → List Ty → List ℕ → List Local
 all_locals ps ts addressed = map as_param ps ++ (map as_further (addressed_params 0 ps addressed) ++ locals_from (length ps) addressed (drop (length ps) ts))
 
--- the parameters stand first, and are numbers and pointers
+-- the parameters stand first, and numbers and pointers are passed for them
 pub record AreFirst (ps : List Param) (ts : List Ty) : Type 0 where
   pub first : (i : ℕ) (p : Param) → slice_get ps i ≡ Some p → slice_get ts i ≡ Some p.ty
-  pub scalar : (i : ℕ) (p : Param) → slice_get ps i ≡ Some p → IsScalar p.ty
+  pub scalar : (i : ℕ) (p : Param) → slice_get ps i ≡ Some p → IsScalar (passed_type p)
   pub within : length ps ≤ length ts
 
 param_at : (ps : List Param) (ts : List Ty) (addressed : List ℕ) (i : ℕ) (p : Param) → slice_get ps i ≡ Some p → slice_get (all_locals ps ts addressed) i ≡ Some (as_param p)
@@ -151,13 +156,18 @@ rest_local ps ts addressed n t h g =
     ∙ local_at (length ps) addressed (drop (length ps) ts) (n - length ps) t (get_drop (length ps) ts (n - length ps) ∙ ap (slice_get ts) f ∙ g)
     ∙ ap (λ i. Some (as_local addressed i t)) f
 
-scalar_block : (t : Ty) → IsScalar t → is_block t ≡ false
-scalar_block (integer t) h = refl
-scalar_block (pointer t) h = refl
-scalar_block void h = refl
-scalar_block mutex h = absurd h
-scalar_block (array t n) h = absurd h
-scalar_block (structure n) h = absurd h
+passed_itself : (t : Ty) → is_block t ≡ false → value_type t ≡ t
+passed_itself (integer t) h = refl
+passed_itself (pointer t) h = refl
+passed_itself void h = refl
+passed_itself (atomic t) h = absurd cc
+passed_itself mutex h = refl
+passed_itself (array t n) h = refl
+passed_itself (structure n) h = refl
+
+neither : (a b : Bool) → (a || b) ≡ false → (a ≡ false) × (b ≡ false)
+neither true b h = absurd cc
+neither false b h = (refl, h)
 
 -- the new number of a local carries it
 abbrev Carried : List Local → ℕ → Local → Type 0
@@ -166,22 +176,28 @@ Carried ls n l = IsNth ls n (λ (m : Local). (m.ty ≡ l.ty) × (l.in_memory ≡
 pub carries : (ps : List Param) (ts : List Ty) (addressed : List ℕ) → AreFirst ps ts → Carries (number_of (length ps) (addressed_params 0 ps addressed)) (locals_from 0 addressed ts) (all_locals ps ts addressed)
 carries ps ts addressed f n l h = by (local_is 0 addressed ts n l h) (nat_lt n (length ps)) refl
   where
-    small : (t : Ty) (l : Local) → l ≡ as_local addressed (0 + n) t → (p : Param) → slice_get ps n ≡ Some p → t ≡ p.ty → n < length ps → (a : Bool) → is_in n addressed ≡ a
+    small : (t : Ty) (l : Local) → l ≡ as_local addressed (0 + n) t → (p : Param) → slice_get ps n ≡ Some p → t ≡ p.ty → n < length ps → (a : Bool) → moved p n addressed ≡ a
         → Carried (all_locals ps ts addressed) (or_number (length ps) (length (addressed_params 0 ps addressed)) n (place_among n (addressed_params 0 ps addressed))) l
     small t l e p g q lt true a =
         let z : 0 + n ≡ n = omega arith in
-        let s = subst (λ k. Placed k p (addressed_params 0 ps addressed)) z (further_at 0 ps addressed n p g (ap (λ k. is_in k addressed) z ∙ a)) in
+        let s = subst (λ k. Placed k p (addressed_params 0 ps addressed)) z (further_at 0 ps addressed n p g (ap (λ k. moved p k addressed) z ∙ a)) in
         subst (λ o. Carried (all_locals ps ts addressed) (or_number (length ps) (length (addressed_params 0 ps addressed)) n o) l) (sym s.1)
         (as_further (n, p), further_local ps ts addressed s.0 (n, p) s.2, (sym q ∙ sym (ap (λ (x : Local). x.ty) e), λ m. refl))
     small t l e p g q lt false a =
-        let none = not_among 0 ps addressed n (λ i k r b. absurd (apart b)) in
+        let none = not_among 0 ps addressed n (λ i r k s i_is b. absurd (apart i r s i_is b)) in
+        let parts = neither (is_block p.ty) (is_in n addressed) a in
         let b : nat_lt n (length ps) ≡ true = test in
         subst (λ o. Carried (all_locals ps ts addressed) (or_number (length ps) (length (addressed_params 0 ps addressed)) n o) l) (sym none)
         (subst (λ c. Carried (all_locals ps ts addressed) (if c then n else n + length (addressed_params 0 ps addressed)) l) (sym b)
-        (as_param p, param_at ps ts addressed n p g, (sym q ∙ sym (ap (λ (x : Local). x.ty) e), λ m. absurd (in_none m))))
+        (as_param p, param_at ps ts addressed n p g, (passed_itself p.ty parts.0 ∙ sym q ∙ sym (ap (λ (x : Local). x.ty) e), λ m. absurd (in_none m))))
       where
-        apart : is_in n addressed ≡ true → ⊥
-        apart b = cc
+        apart : (i : ℕ) (r : Param) → slice_get ps i ≡ Some r → n ≡ 0 + i → moved r n addressed ≡ true → ⊥
+        apart i r s i_is b =
+            let z : i ≡ n = omega (arith, i_is) in
+            let both : Some r ≡ Some p = sym s ∙ ap (slice_get ps) z ∙ g in
+            let u : p ≡ r = cc in
+            let v : moved p n addressed ≡ true = ap (λ x. moved x n addressed) u ∙ b in
+            absurd cc
 
         test : nat_lt n (length ps) ≡ true
         test = grind (arith, nat_tests, lt)
@@ -190,15 +206,16 @@ carries ps ts addressed f n l h = by (local_is 0 addressed ts n l h) (nat_lt n (
         in_none m =
             let z : 0 + n ≡ n = omega arith in
             let i : l.in_memory ≡ (is_block t || is_in (0 + n) addressed) = ap (λ (x : Local). x.in_memory) e in
-            let j : is_block t ≡ false = ap is_block q ∙ scalar_block p.ty (f.scalar n p g) in
-            let k : is_in (0 + n) addressed ≡ false = ap (λ k. is_in k addressed) z ∙ a in
+            let h = neither (is_block p.ty) (is_in n addressed) a in
+            let j : is_block t ≡ false = ap is_block q ∙ h.0 in
+            let k : is_in (0 + n) addressed ≡ false = ap (λ k. is_in k addressed) z ∙ h.1 in
             let o : (is_block t || is_in (0 + n) addressed) ≡ false = ap (λ b. b || is_in (0 + n) addressed) j ∙ k in
             cc
 
     large : (t : Ty) (l : Local) → l ≡ as_local addressed (0 + n) t → slice_get ts n ≡ Some t → length ps ≤ n
         → Carried (all_locals ps ts addressed) (or_number (length ps) (length (addressed_params 0 ps addressed)) n (place_among n (addressed_params 0 ps addressed))) l
     large t l e g le =
-        let none = not_among 0 ps addressed n (λ i k r b. omega (arith, k, r, le)) in
+        let none = not_among 0 ps addressed n (λ i p k s r b. omega (arith, k, r, le)) in
         let b : nat_lt n (length ps) ≡ false = test in
         let z : 0 + n ≡ n = omega arith in
         subst (λ o. Carried (all_locals ps ts addressed) (or_number (length ps) (length (addressed_params 0 ps addressed)) n o) l) (sym none)
@@ -220,7 +237,7 @@ carries ps ts addressed f n l h = by (local_is 0 addressed ts n l h) (nat_lt n (
         let p = get_of ps n (before b) in
         let e : Some r.0 ≡ Some p.0.ty = sym r.1 ∙ f.first n p.0 p.1 in
         let q : r.0 ≡ p.0.ty = cc in
-        small r.0 l r.2 p.0 p.1 q (before b) (is_in n addressed) refl
+        small r.0 l r.2 p.0 p.1 q (before b) (moved p.0 n addressed) refl
     by r false b = large r.0 l r.2 r.1 (past b)
 
 pub rises : (ps : List Param) (addressed : List ℕ) → Rises (number_of (length ps) (addressed_params 0 ps addressed)) (length ps)
@@ -236,16 +253,17 @@ rises ps addressed n h = by (place_among n (addressed_params 0 ps addressed))
 
 -- ---- the declarations of further locals
 
-fits_itself : (t : Ty) → IsScalar t → Fits t t
-fits_itself (integer t) h = refl
-fits_itself (pointer t) h = tt
-fits_itself void h = absurd h
-fits_itself mutex h = absurd h
-fits_itself (array t n) h = absurd h
-fits_itself (structure n) h = absurd h
+fits_passed : (t : Ty) → IsScalar (value_type t) → Fits (value_type t) t
+fits_passed (integer t) h = refl
+fits_passed (atomic t) h = refl
+fits_passed (pointer t) h = tt
+fits_passed void h = absurd h
+fits_passed mutex h = absurd h
+fits_passed (array t n) h = absurd h
+fits_passed (structure n) h = absurd h
 
 abbrev IsCopied : form.InScope → ℕ → (ℕ × Param) → Type 0
-IsCopied e n x = IsNth e.locals n (λ (l : Local). l.ty ≡ x.1.ty) × IsNth e.locals x.0 (λ (l : Local). l.ty ≡ x.1.ty) × IsScalar x.1.ty
+IsCopied e n x = IsNth e.locals n (λ (l : Local). l.ty ≡ x.1.ty) × IsNth e.locals x.0 (λ (l : Local). l.ty ≡ passed_type x.1) × IsScalar (passed_type x.1)
 
 abbrev Inner : form.InScope → ℕ → Ty → Inside
 Inner e k r = record { context = e; params = k; result = r }
@@ -255,7 +273,7 @@ copies_well e k r i [] body f h = h
 copies_well e k r i (x ∷ xs) body f h =
     let z : k + (i + 0) ≡ k + i = omega arith in
     let c = subst (λ n. IsCopied e n x) z (f 0 x refl) in (
-      (omega arith, (c.0.0, c.0.1, (c.1, (subst (Fits x.1.ty) (sym c.0.2) (fits_itself x.1.ty c.2), c.2)))),
+      (omega arith, (c.0.0, c.0.1, (c.1, (subst (Fits (passed_type x.1)) (sym c.0.2) (fits_passed x.1.ty c.2), c.2)))),
       copies_well e k r (1 + i) xs body (λ j y g. subst (λ n. IsCopied e n y) (shift j) (f (suc j) y g)) h,
     )
   where
@@ -289,9 +307,10 @@ all_map : {X Y : Type 0} (P : Y → Type 0) (f : X → Y) (xs : List X) → ((n 
 all_map P f [] h = tt
 all_map P f (x ∷ xs) h = (h 0 x refl, all_map P f xs (λ n y g. h (suc n) y g))
 
-scalar_sized : (s : List Layout) (t : Ty) → IsScalar t → IsSized s t
-scalar_sized s (integer t) h = tt
-scalar_sized s (pointer t) h = tt
+scalar_sized : (s : List Layout) (t : Ty) → IsScalar (value_type t) → IsSized s t × IsSized s (value_type t)
+scalar_sized s (integer t) h = (tt, tt)
+scalar_sized s (atomic t) h = (tt, tt)
+scalar_sized s (pointer t) h = (tt, tt)
 scalar_sized s void h = absurd h
 scalar_sized s mutex h = absurd h
 scalar_sized s (array t n) h = absurd h
@@ -301,6 +320,7 @@ sized_scalar : (s : List Layout) (t : Ty) → IsSized s t → is_block t ≡ fal
 sized_scalar s (integer t) h k = tt
 sized_scalar s (pointer t) h k = tt
 sized_scalar s void h k = absurd h
+sized_scalar s (atomic t) h k = absurd cc
 sized_scalar s mutex h k = absurd cc
 sized_scalar s (array t n) h k = absurd cc
 sized_scalar s (structure n) h k = absurd cc
@@ -317,9 +337,9 @@ rest_locals s k addressed (t ∷ ts) h =
 pub locals_well : (s : List Layout) (ps : List Param) (ts : List Ty) (addressed : List ℕ) → AreFirst ps ts → ((n : ℕ) (t : Ty) → slice_get ts n ≡ Some t → IsSized s t) → AllByRecursion (IsLocal s) (all_locals ps ts addressed)
 locals_well s ps ts addressed f h =
     all_append (IsLocal s) (map as_param ps) (map as_further (addressed_params 0 ps addressed) ++ locals_from (length ps) addressed (drop (length ps) ts))
-    (all_map (IsLocal s) as_param ps (λ n p g. record { sized = scalar_sized s p.ty (f.scalar n p g); scalar = λ m. f.scalar n p g }))
+    (all_map (IsLocal s) as_param ps (λ n p g. record { sized = (scalar_sized s p.ty (f.scalar n p g)).1; scalar = λ m. f.scalar n p g }))
     (all_append (IsLocal s) (map as_further (addressed_params 0 ps addressed)) (locals_from (length ps) addressed (drop (length ps) ts))
-    (all_map (IsLocal s) as_further (addressed_params 0 ps addressed) (λ n x g. let w = further_is 0 ps addressed n x g in record { sized = scalar_sized s x.1.ty (f.scalar w.0 x.1 w.2); scalar = λ m. f.scalar w.0 x.1 w.2 }))
+    (all_map (IsLocal s) as_further (addressed_params 0 ps addressed) (λ n x g. let w = further_is 0 ps addressed n x g in record { sized = (scalar_sized s x.1.ty (f.scalar w.0 x.1 w.2)).0; scalar = λ m. absurd cc }))
     (rest_locals s (length ps) addressed (drop (length ps) ts) (λ n t g. h (length ps + n) t (sym (get_drop (length ps) ts n) ∙ g))))
 
 length_locals : (k : ℕ) (addressed : List ℕ) (ts : List Ty) → length (locals_from k addressed ts) ≡ length ts
@@ -354,15 +374,15 @@ all_params ps = all_map (λ (l : Local). l.in_memory ≡ false) as_param ps (λ 
 pub in_registers : (ps : List Param) (ts : List Ty) (addressed : List ℕ) → AllByRecursion (λ (l : Local). l.in_memory ≡ false) (take (length ps) (all_locals ps ts addressed))
 in_registers ps ts addressed = subst (AllByRecursion (λ (l : Local). l.in_memory ≡ false)) (sym (params_first ps ts addressed)) (all_params ps)
 
-types_map : (ps : List Param) → map (λ (l : Local). l.ty) (map as_param ps) ≡ map (λ (p : Param). p.ty) ps
+types_map : (ps : List Param) → map (λ (l : Local). l.ty) (map as_param ps) ≡ map passed_type ps
 types_map [] = refl
-types_map (p ∷ ps) = ap (λ ts. p.ty ∷ ts) (types_map ps)
+types_map (p ∷ ps) = ap (λ ts. passed_type p ∷ ts) (types_map ps)
 
 -- ---- the same of the function's own list
 
 pub same_locals : (ps : List Param) (ts : List Ty) (addressed : List ℕ) (r : Ty) (body : Stmts) → all_locals ps ts addressed ≡ (func_of ps ts addressed r body).locals
 same_locals ps ts addressed r body = sym (append_assoc (map as_param ps) (map as_further (addressed_params 0 ps addressed)) (locals_from (length ps) addressed (drop (length ps) ts)))
 
-pub signature_is : (ps : List Param) (ts : List Ty) (addressed : List ℕ) (r : Ty) (body : Stmts) → signature_of (func_of ps ts addressed r body) ≡ record { params = map (λ (p : Param). p.ty) ps; result = r }
+pub signature_is : (ps : List Param) (ts : List Ty) (addressed : List ℕ) (r : Ty) (body : Stmts) → signature_of (func_of ps ts addressed r body) ≡ record { params = map passed_type ps; result = r }
 signature_is ps ts addressed r body =
     ap (λ us. record { params = us; result = r }) (ap (λ ls. map (λ (l : Local). l.ty) (take (length ps) ls)) (sym (same_locals ps ts addressed r body)) ∙ ap (map (λ (l : Local). l.ty)) (params_first ps ts addressed) ∙ types_map ps)

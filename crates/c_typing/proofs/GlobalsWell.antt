@@ -13,7 +13,7 @@ use Rattle.c_lex.specs.declared.refusal.Refusal.{Refusal}
 use Rattle.c_lex.specs.declared.refusal.Kind.TheVariants.{TooMany, DoubleName}
 use Rattle.c_tree.specs.declared.syntax.Name.{Name}
 use Rattle.c_tree.specs.Syntax as source
-use Rattle.c_tree.specs.Typed.{Ty, void, integer, mutex, pointer, array, structure, Layout, Init, zero_bytes, number, literal_at, GlobalVar, Expr, at, ExprNode, literal, decay, node_of}
+use Rattle.c_tree.specs.Typed.{Ty, void, integer, atomic, mutex, pointer, array, structure, Layout, Init, zero_bytes, number, literal_at, GlobalVar, Expr, at, ExprNode, literal, decay, node_of}
 use Rattle.c_tree.specs.TypedLayout.{size_in, IsSized}
 use Rattle.c_tree.specs.TypedForm.{IsInit, IsTyped, IsTypedNode, taken}
 use Rattle.c_tree.specs.TypedForm as form
@@ -53,6 +53,7 @@ string_well ls (integer t) (Some n) h = by (same_int t char) refl
     by false k = tt
 string_well ls (integer t) None h = tt
 string_well ls void o h = tt
+string_well ls (atomic t) o h = tt
 string_well ls mutex o h = tt
 string_well ls (pointer t) o h = tt
 string_well ls (array t n) o h = tt
@@ -69,8 +70,13 @@ number_well : (ls : List (List ℕ)) (t : IntType) (o : Option Num) → OnSome (
 number_well ls t None = tt
 number_well ls t (Some n) = (refl, wrapped_value-in_range t n.value)
 
+atomic_well : (ls : List (List ℕ)) (t : IntType) (o : Option Num) → OnSome (IsInit ls (atomic t)) (number_at t o)
+atomic_well ls t None = tt
+atomic_well ls t (Some n) = (refl, wrapped_value-in_range t n.value)
+
 init_well : (e : form.InScope) (c : Context) (t : Ty) (s : source.Expr) (x : Expr) → IsTyped e x → OnSome (IsInit e.literals t) (init_at c t s x)
 init_well e c (integer t) s x h = number_well e.literals t (constant_value c s x)
+init_well e c (atomic t) s x h = atomic_well e.literals t (constant_value c s x)
 init_well e c (pointer t) s x h = pointer_well e c t s x h
 init_well e c void s x h = tt
 init_well e c mutex s x h = tt

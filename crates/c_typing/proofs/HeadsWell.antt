@@ -10,20 +10,20 @@ use Rattle.c_lex.specs.declared.refusal.Kind.TheVariants.{UnknownName, DoubleNam
 use Rattle.c_tree.specs.declared.syntax.Name.{Name}
 use Rattle.c_tree.specs.declared.syntax.Pointer.{Pointer}
 use Rattle.c_tree.specs.Syntax as source
-use Rattle.c_tree.specs.Typed.{Ty, void, integer, mutex, pointer, array, structure, Layout, Func, Stmt, stmts_of}
+use Rattle.c_tree.specs.Typed.{Ty, void, integer, atomic, mutex, pointer, array, structure, Layout, Func, Stmt, stmts_of}
 use Rattle.c_tree.specs.TypedLayout.{size_in}
 use Rattle.c_tree.specs.TypedForm.{in_function, IsResult, Signature, signature_of, taken}
 use Rattle.c_typing.specs.Faults.{Judged, typed, faulty, unless, both, ◌>>=◌}
-use Rattle.c_typing.specs.Types.{is_array, is_struct_or_mutex, same_type, same_types, behind_pointers}
+use Rattle.c_typing.specs.Types.{is_array, value_type, is_struct_or_mutex, same_type, same_types, behind_pointers}
 use Rattle.c_typing.specs.Scope.{Binding, global_name, local_name, function_name, enumerator_name, type_name, library_name, Frame, Context, bytes_of, library, or_else, is_double, declared, with_alias, back_to, within}
 use Rattle.c_typing.specs.Judgement.{in_turn, judged_specs, plain_type, object_declared}
 use Rattle.c_typing.specs.Statements.{or_int, judged_declarator, name_of, judged_stmts}
-use Rattle.c_typing.specs.Numbering.{Param, func_of}
+use Rattle.c_typing.specs.Numbering.{Param, passed_type, func_of}
 use Rattle.c_typing.specs.Programs.{judged_global_init, with_global, judged_global, judged_globals, judged_param_list, defined_name, defined_by, defined_names, judged_alias, judged_aliases, behind_specs, no_objects, place_of_name, once, agrees, is_new, first_time, one_body, before_name, not_library, result_type, result_of, name_fine, type_fine, types_fine, head_fine, types_or, with_name, with_function, with_body, before_params, in_scope_of, judged_body, body_behind, body_within, judged_function, Made, joined, judged_rest, judged_external, judged_externals}
 use Rattle.c_typing.proofs.Carried.{OnTyped, on_bind, on_unless}
 use Rattle.c_typing.proofs.Extending.{Ready, below}
 use Rattle.c_typing.proofs.Elements.{nothing_at}
-use Rattle.c_typing.proofs.RuledWell.{both_hold}
+use Rattle.c_typing.proofs.RuledWell.{both_hold, value_ready}
 use Rattle.c_typing.proofs.TypesWell.{behind_ready, plain_type_is, same_type_is, same_types_are}
 use Rattle.c_typing.proofs.Lengthened.{meaning_kept, function_before, lookup_last}
 use Rattle.c_typing.proofs.FunctionWell.{signature_is}
@@ -189,9 +189,9 @@ pub record IsFunction (names : List (List ℕ)) (base : Judged Ty) (pointers : L
   pub given : (judged_param_list params (before_params around)).0 ≡ typed xs
   pub name : name_fine (back_to around (judged_param_list params (before_params around)).1) names n body ≡ typed (tt {0})
   pub type : type_fine (back_to around (judged_param_list params (before_params around)).1) n xs r ≡ typed (tt {0})
-  pub made : (judged_body (typed xs) (typed r) body (in_scope_of (judged_param_list params (before_params around)).1.inner (with_function (back_to around (judged_param_list params (before_params around)).1) names n (map (λ (p : Param). p.ty) xs) r))).0 ≡ typed fs
-  pub last : (judged_function names base pointers n params body around).1 ≡ body_behind (with_function (back_to around (judged_param_list params (before_params around)).1) names n (map (λ (p : Param). p.ty) xs) r) n body
-      (judged_body (typed xs) (typed r) body (in_scope_of (judged_param_list params (before_params around)).1.inner (with_function (back_to around (judged_param_list params (before_params around)).1) names n (map (λ (p : Param). p.ty) xs) r))).1
+  pub made : (judged_body (typed xs) (typed r) body (in_scope_of (judged_param_list params (before_params around)).1.inner (with_function (back_to around (judged_param_list params (before_params around)).1) names n (map passed_type xs) r))).0 ≡ typed fs
+  pub last : (judged_function names base pointers n params body around).1 ≡ body_behind (with_function (back_to around (judged_param_list params (before_params around)).1) names n (map passed_type xs) r) n body
+      (judged_body (typed xs) (typed r) body (in_scope_of (judged_param_list params (before_params around)).1.inner (with_function (back_to around (judged_param_list params (before_params around)).1) names n (map passed_type xs) r))).1
 
 abbrev body_of : (names : List (List ℕ)) (n : Name) (params : List source.Param) (body : Option source.Body) (around : Context) → Judged (List Param) → Judged Ty → Judged (List Func) × Context
 body_of names n params body around j k = body_within (judged_param_list params (before_params around)).1.inner j k n body (with_function (back_to around (judged_param_list params (before_params around)).1) names n (types_or j) (or_int k))
@@ -266,11 +266,11 @@ IsNew c names n d ts r = (lookup (bytes_eq (bytes_of c.text n)) c.inner ≡ None
     × (d.inner ≡ c.inner ++ (bytes_of c.text n, function_name (place_of_name (bytes_of c.text n) names) ts r) ∷ [])
 
 pub entry : (c : Context) (names : List (List ℕ)) (n : Name) (body : Option source.Body) (xs : List Param) (r : Ty) → AtName c names n body → type_fine c n xs r ≡ typed (tt {0})
-    → WasFunction c n (with_function c names n (map (λ (p : Param). p.ty) xs) r) (map (λ (p : Param). p.ty) xs) r ⊎ IsNew c names n (with_function c names n (map (λ (p : Param). p.ty) xs) r) (map (λ (p : Param). p.ty) xs) r
+    → WasFunction c n (with_function c names n (map passed_type xs) r) (map passed_type xs) r ⊎ IsNew c names n (with_function c names n (map passed_type xs) r) (map passed_type xs) r
 entry c names n body xs r a t = by (before_name c n) refl a.once_at a.first_at t
   where
-    inner : (b : Bool) → is_double (with_name c n) n ≡ b → (with_function c names n (map (λ (p : Param). p.ty) xs) r).inner ≡ (if b then c.inner else c.inner ++ (bytes_of c.text n, function_name (place_of_name (bytes_of c.text n) names) (map (λ (p : Param). p.ty) xs) r) ∷ [])
-    inner b e = declared_inner (with_name c n) n (function_name (place_of_name (bytes_of c.text n) names) (map (λ (p : Param). p.ty) xs) r) ∙ ap (λ b. if b then c.inner else c.inner ++ (bytes_of c.text n, function_name (place_of_name (bytes_of c.text n) names) (map (λ (p : Param). p.ty) xs) r) ∷ []) e
+    inner : (b : Bool) → is_double (with_name c n) n ≡ b → (with_function c names n (map passed_type xs) r).inner ≡ (if b then c.inner else c.inner ++ (bytes_of c.text n, function_name (place_of_name (bytes_of c.text n) names) (map passed_type xs) r) ∷ [])
+    inner b e = declared_inner (with_name c n) n (function_name (place_of_name (bytes_of c.text n) names) (map passed_type xs) r) ∙ ap (λ b. if b then c.inner else c.inner ++ (bytes_of c.text n, function_name (place_of_name (bytes_of c.text n) names) (map passed_type xs) r) ∷ []) e
 
     double : (o : Option Binding) → lookup (bytes_eq (bytes_of c.text n)) c.inner ≡ o → is_double (with_name c n) n ≡ is_some o
     double o e = ap (λ o. is_some o || is_some (lookup (bytes_eq (bytes_of c.text n)) library)) e ∙ last (is_some o)
@@ -279,16 +279,16 @@ entry c names n body xs r a t = by (before_name c n) refl a.once_at a.first_at t
         last true = refl
         last false = a.no_library
 
-    by : (o : Option Binding) → lookup (bytes_eq (bytes_of c.text n)) c.inner ≡ o → once n.from o ≡ typed (tt {0}) → first_time c names n (is_new o) ≡ typed (tt {0}) → agrees n.from (map (λ (p : Param). p.ty) xs) r o ≡ typed (tt {0})
-        → WasFunction c n (with_function c names n (map (λ (p : Param). p.ty) xs) r) (map (λ (p : Param). p.ty) xs) r ⊎ IsNew c names n (with_function c names n (map (λ (p : Param). p.ty) xs) r) (map (λ (p : Param). p.ty) xs) r
+    by : (o : Option Binding) → lookup (bytes_eq (bytes_of c.text n)) c.inner ≡ o → once n.from o ≡ typed (tt {0}) → first_time c names n (is_new o) ≡ typed (tt {0}) → agrees n.from (map passed_type xs) r o ≡ typed (tt {0})
+        → WasFunction c n (with_function c names n (map passed_type xs) r) (map passed_type xs) r ⊎ IsNew c names n (with_function c names n (map passed_type xs) r) (map passed_type xs) r
     by None e o f t =
         let k = first_is c names n f in
         inr (e, k.0, k.1, inner false (double None e))
     by (Some (function_name k ps s)) e o f t =
-        let h = both_hold (same_types (map (λ (p : Param). p.ty) xs) ps) (same_type r s) (typed_given (λ u. (same_types (map (λ (p : Param). p.ty) xs) ps && same_type r s) ≡ true) (agrees n.from (map (λ (p : Param). p.ty) xs) r (Some (function_name k ps s))) tt (on_unless n.from TypeMismatch (same_types (map (λ (p : Param). p.ty) xs) ps && same_type r s)) t) in
-        let i : map (λ (p : Param). p.ty) xs ≡ ps = same_types_are (map (λ (p : Param). p.ty) xs) ps h.0 in
+        let h = both_hold (same_types (map passed_type xs) ps) (same_type r s) (typed_given (λ u. (same_types (map passed_type xs) ps && same_type r s) ≡ true) (agrees n.from (map passed_type xs) r (Some (function_name k ps s))) tt (on_unless n.from TypeMismatch (same_types (map passed_type xs) ps && same_type r s)) t) in
+        let i : map passed_type xs ≡ ps = same_types_are (map passed_type xs) ps h.0 in
         let j : r ≡ s = same_type_is r s h.1 in
-        inl (k, e ∙ ap (λ us. Some (function_name k us s)) (sym i) ∙ ap (λ u. Some (function_name k (map (λ (p : Param). p.ty) xs) u)) (sym j), inner true (double (Some (function_name k ps s)) e))
+        inl (k, e ∙ ap (λ us. Some (function_name k us s)) (sym i) ∙ ap (λ u. Some (function_name k (map passed_type xs) u)) (sym j), inner true (double (Some (function_name k ps s)) e))
     by (Some (global_name k u)) e o f t = absurd cc
     by (Some (local_name k u)) e o f t = absurd cc
     by (Some (enumerator_name value)) e o f t = absurd cc
@@ -321,41 +321,34 @@ entry_placed c names n d ts r (inr h) f q k ps s l = by (new_name c.inner q (byt
 
 -- ---- results
 
-result_good : (s : List Layout) (place : ℕ) (t : Ty) → Ready s t → OnTyped (λ u. IsResult u × Ready s u) (result_type place t)
-result_good s place t h = by (is_array t) (is_struct_or_mutex t) refl refl
-  where
-    is : (t : Ty) → is_array t ≡ false → is_struct_or_mutex t ≡ false → IsResult t
-    is void h k = tt
-    is (integer t) h k = tt
-    is (pointer t) h k = tt
-    is mutex h k = absurd cc
-    is (array t n) h k = absurd cc
-    is (structure n) h k = absurd cc
+value_result : (t : Ty) → is_array (value_type t) ≡ false → is_struct_or_mutex (value_type t) ≡ false → IsResult (value_type t)
+value_result void h k = tt
+value_result (integer t) h k = tt
+value_result (atomic t) h k = tt
+value_result (pointer t) h k = tt
+value_result mutex h k = absurd cc
+value_result (array t n) h k = absurd cc
+value_result (structure n) h k = absurd cc
 
-    by : (a b : Bool) → is_array t ≡ a → is_struct_or_mutex t ≡ b → OnTyped (λ u. IsResult u × Ready s u) (both (unless place TypeMismatch (not a)) (unless place (OutsideSubset 13) (not b)) >>= λ u. plain_type place t)
-    by false false k l = plain_type_is (λ u. IsResult u × Ready s u) place t (is t k l, h)
+result_good : (s : List Layout) (place : ℕ) (t : Ty) → Ready s t → OnTyped (λ u. IsResult u × Ready s u) (result_type place (value_type t))
+result_good s place t h = by (is_array (value_type t)) (is_struct_or_mutex (value_type t)) refl refl
+  where
+    by : (a b : Bool) → is_array (value_type t) ≡ a → is_struct_or_mutex (value_type t) ≡ b → OnTyped (λ u. IsResult u × Ready s u) (both (unless place TypeMismatch (not a)) (unless place (OutsideSubset 13) (not b)) >>= λ u. plain_type place (value_type t))
+    by false false k l = plain_type_is (λ u. IsResult u × Ready s u) place (value_type t) (value_result t k l, value_ready s t h)
     by false true k l = tt
     by true false k l = tt
     by true true k l = tt
 
 pub function_result : (s : List Layout) (base : Judged Ty) → OnTyped (Ready s) base → (place : ℕ) (pointers : List Pointer) → OnTyped (λ u. IsResult u × Ready s u) (result_of place base pointers)
 function_result s base h place pointers =
-    on_bind (Ready s) (λ u. IsResult u × Ready s u) base (λ t. result_type place (behind_pointers t pointers)) h (λ t k. result_good s place (behind_pointers t pointers) (behind_ready s t pointers k))
+    on_bind (Ready s) (λ u. IsResult u × Ready s u) base (λ t. result_type place (value_type (behind_pointers t pointers))) h (λ t k. result_good s place (behind_pointers t pointers) (behind_ready s t pointers k))
 
 -- a function's result, whatever its type is made of
-any_result : (place : ℕ) (t : Ty) → OnTyped IsResult (result_type place t)
-any_result place t = by (is_array t) (is_struct_or_mutex t) refl refl
+any_result : (place : ℕ) (t : Ty) → OnTyped IsResult (result_type place (value_type t))
+any_result place t = by (is_array (value_type t)) (is_struct_or_mutex (value_type t)) refl refl
   where
-    is : (t : Ty) → is_array t ≡ false → is_struct_or_mutex t ≡ false → IsResult t
-    is void h k = tt
-    is (integer t) h k = tt
-    is (pointer t) h k = tt
-    is mutex h k = absurd cc
-    is (array t n) h k = absurd cc
-    is (structure n) h k = absurd cc
-
-    by : (a b : Bool) → is_array t ≡ a → is_struct_or_mutex t ≡ b → OnTyped IsResult (both (unless place TypeMismatch (not a)) (unless place (OutsideSubset 13) (not b)) >>= λ u. plain_type place t)
-    by false false k l = plain_type_is IsResult place t (is t k l)
+    by : (a b : Bool) → is_array (value_type t) ≡ a → is_struct_or_mutex (value_type t) ≡ b → OnTyped IsResult (both (unless place TypeMismatch (not a)) (unless place (OutsideSubset 13) (not b)) >>= λ u. plain_type place (value_type t))
+    by false false k l = plain_type_is IsResult place (value_type t) (value_result t k l)
     by false true k l = tt
     by true false k l = tt
     by true true k l = tt
@@ -394,15 +387,15 @@ none_is : {A : Type 0} (fs : List A) → typed [] ≡ typed fs → fs ≡ []
 none_is fs e = sym (typed_same [] fs e)
 
 abbrev In : (around : Context) (params : List source.Param) (names : List (List ℕ)) (n : Name) (xs : List Param) (r : Ty) → Context
-In around params names n xs r = with_function (back_to around (judged_param_list params (before_params around)).1) names n (map (λ (x : Param). x.ty) xs) r
+In around params names n xs r = with_function (back_to around (judged_param_list params (before_params around)).1) names n (map passed_type xs) r
 
 abbrev Named : (around : Context) (params : List source.Param) (names : List (List ℕ)) (n : Name) (xs : List Param) (r : Ty) → Type 0
 Named around params names n xs r =
-    WasFunction (back_to around (judged_param_list params (before_params around)).1) n (In around params names n xs r) (map (λ (x : Param). x.ty) xs) r
-    ⊎ IsNew (back_to around (judged_param_list params (before_params around)).1) names n (In around params names n xs r) (map (λ (x : Param). x.ty) xs) r
+    WasFunction (back_to around (judged_param_list params (before_params around)).1) n (In around params names n xs r) (map passed_type xs) r
+    ⊎ IsNew (back_to around (judged_param_list params (before_params around)).1) names n (In around params names n xs r) (map passed_type xs) r
 
 in_text : (around : Context) (params : List source.Param) (names : List (List ℕ)) (n : Name) (xs : List Param) (r : Ty) → (In around params names n xs r).text ≡ around.text
-in_text around params names n xs r = with_function_text (back_to around (judged_param_list params (before_params around)).1) names n (map (λ (x : Param). x.ty) xs) r ∙ function_text around params
+in_text around params names n xs r = with_function_text (back_to around (judged_param_list params (before_params around)).1) names n (map passed_type xs) r ∙ function_text around params
 
 body_headed : (names : List (List ℕ)) (pointers : List Pointer) (n : Name) (params : List source.Param) (around : Context) (fs : List Func) (xs : List Param) (r : Ty) → Named around params names n xs r → IsResult r → (o : Option source.Body)
     → (judged_body (typed xs) (typed r) o (in_scope_of (judged_param_list params (before_params around)).1.inner (In around params names n xs r))).0 ≡ typed fs
@@ -411,8 +404,8 @@ body_headed names pointers n params around fs xs r i g None m =
     subst (λ (ys : List Func). Headed names around (In around params names n xs r) [] ys) (sym (none_is fs m))
     (record {
       text = in_text around params names n xs r;
-      seen = entry_seen (back_to around (judged_param_list params (before_params around)).1) names n (In around params names n xs r) (map (λ (x : Param). x.ty) xs) r i;
-      placed = entry_placed (back_to around (judged_param_list params (before_params around)).1) names n (In around params names n xs r) (map (λ (x : Param). x.ty) xs) r i;
+      seen = entry_seen (back_to around (judged_param_list params (before_params around)).1) names n (In around params names n xs r) (map passed_type xs) r i;
+      placed = entry_placed (back_to around (judged_param_list params (before_params around)).1) names n (In around params names n xs r) (map passed_type xs) r i;
       heads = tt;
     })
 body_headed names pointers n params around fs xs r i g (Some body) m =
@@ -420,13 +413,13 @@ body_headed names pointers n params around fs xs r i g (Some body) m =
     let d : Context = In around params names n xs r in
     let x : Judged (List Stmt) × Context = judged_stmts r in_function (source.stmts_of body.items) (in_scope_of p.inner d) in
     let h = has_body r xs body (in_scope_of p.inner d) fs m in
-    let says = entry_says (back_to around p) names n d (map (λ (y : Param). y.ty) xs) r i in
+    let says = entry_says (back_to around p) names n d (map passed_type xs) r i in
     let s = signature_is xs x.1.locals x.1.addressed r (stmts_of h.ss) in
     subst (λ (ys : List Func). Headed names around (with_body (back_to d x.1) n) (bytes_of around.text n ∷ []) ys) (sym h.made)
     (record {
       text = ap (λ (p : List ℕ × List Frame). p.0) (stmts_stays r in_function (source.stmts_of body.items) (in_scope_of p.inner d)) ∙ in_text around params names n xs r;
-      seen = entry_seen (back_to around p) names n d (map (λ (y : Param). y.ty) xs) r i;
-      placed = entry_placed (back_to around p) names n d (map (λ (y : Param). y.ty) xs) r i;
+      seen = entry_seen (back_to around p) names n d (map passed_type xs) r i;
+      placed = entry_placed (back_to around p) names n d (map passed_type xs) r i;
       heads = (
         (says.0, ap (λ t. lookup (bytes_eq (bytes_of t n)) d.inner) (sym (function_text around params)) ∙ says.1 ∙ ap (λ (z : Signature). Some (function_name says.0 z.params z.result)) (sym s)),
         g,

@@ -13,12 +13,12 @@ use Rattle.c_tree.specs.declared.syntax.PrefixOp.TheVariants as prefixes
 use Rattle.c_tree.specs.declared.syntax.BinaryOp.{BinaryOp}
 use Rattle.c_tree.specs.declared.syntax.BinaryOp.TheVariants as binaries
 use Rattle.c_tree.specs.Syntax as source
-use Rattle.c_tree.specs.Typed.{Ty, void, integer, mutex, pointer, array, structure, Layout, Piece, Expr, at, num, null, literal, global, local, deref, member, address_of, and_also, or_else, type_of, node_of}
+use Rattle.c_tree.specs.Typed.{Ty, void, integer, atomic, mutex, pointer, array, structure, Layout, Piece, Expr, at, num, null, literal, global, local, deref, member, address_of, and_also, or_else, type_of, node_of}
 use Rattle.c_tree.specs.TypedForm.{IsMember, IsLvalue, IsInMemory, Signature}
 use Rattle.c_tree.specs.TypedForm as form
 use Rattle.c_typing.specs.Faults.{Judged, typed, faulty, refuse, both, ◌>>=◌}
 use Rattle.c_typing.specs.Types.{same_type, same_types, behind_pointers}
-use Rattle.c_typing.specs.Scope.{Library, printf, malloc, calloc, realloc, free, memcpy, thrd_create, thrd_join, mtx_init, mtx_lock, mtx_unlock, mtx_destroy, constant}
+use Rattle.c_typing.specs.Scope.{Library, printf, malloc, calloc, realloc, free, memcpy, thrd_create, thrd_join, mtx_init, mtx_lock, mtx_unlock, mtx_destroy, atomic_store, atomic_load, atomic_add, atomic_sub, atomic_swap, atomic_compare, constant, atomic_type}
 use Rattle.c_typing.specs.Scope.{Binding, global_name, local_name, function_name, enumerator_name, type_name, library_name, Context, bytes_of, meaning_of, is_struct_tag, tag_number, with_tag, is_listed, with_enum, with_listed, with_enumerator, member_typed, member_numbered, member_in, member_of}
 use Rattle.c_typing.specs.Rules.{value_of, tested, is_lvalue, target, address, member_found, selected_by, selected, pointed, minus_by, plus_by, not_by, complement_by, element, chosen, cast, size_number}
 use Rattle.c_typing.specs.Constants.{constant_value}
@@ -96,6 +96,13 @@ addressed_name w c g place from (Some (library_name mtx_init)) h = tt
 addressed_name w c g place from (Some (library_name mtx_lock)) h = tt
 addressed_name w c g place from (Some (library_name mtx_unlock)) h = tt
 addressed_name w c g place from (Some (library_name mtx_destroy)) h = tt
+addressed_name w c g place from (Some (library_name atomic_store)) h = tt
+addressed_name w c g place from (Some (library_name atomic_load)) h = tt
+addressed_name w c g place from (Some (library_name atomic_add)) h = tt
+addressed_name w c g place from (Some (library_name atomic_sub)) h = tt
+addressed_name w c g place from (Some (library_name atomic_swap)) h = tt
+addressed_name w c g place from (Some (library_name atomic_compare)) h = tt
+addressed_name w c g place from (Some (library_name (atomic_type t))) h = tt
 
 -- where an expression is a name, it is judged as one
 abbrev IsName : Option Name → Judging Expr → Type 0
@@ -152,6 +159,7 @@ selected_well w d e v place (structure n) x h k m = by (member_of d n m) (found_
         (((h.0, o, subst (λ u. IsMember e.structs u i t) (sym k) (r.0, r.1, r.2)), v.sound.members n r.0 r.1 i t r.2), tt)
 selected_well w d e v place void x h k m = tt
 selected_well w d e v place (integer t) x h k m = tt
+selected_well w d e v place (atomic t) x h k m = tt
 selected_well w d e v place mutex x h k m = tt
 selected_well w d e v place (pointer t) x h k m = tt
 selected_well w d e v place (array t i) x h k m = tt
@@ -219,6 +227,13 @@ called_after w c g (Some (library_name mtx_init)) h place args print start ka kp
 called_after w c g (Some (library_name mtx_lock)) h place args print start ka kp ks = (library_keeps w place mtx_lock args ka).keeps c g
 called_after w c g (Some (library_name mtx_unlock)) h place args print start ka kp ks = (library_keeps w place mtx_unlock args ka).keeps c g
 called_after w c g (Some (library_name mtx_destroy)) h place args print start ka kp ks = (library_keeps w place mtx_destroy args ka).keeps c g
+called_after w c g (Some (library_name atomic_store)) h place args print start ka kp ks = (library_keeps w place atomic_store args ka).keeps c g
+called_after w c g (Some (library_name atomic_load)) h place args print start ka kp ks = (library_keeps w place atomic_load args ka).keeps c g
+called_after w c g (Some (library_name atomic_add)) h place args print start ka kp ks = (library_keeps w place atomic_add args ka).keeps c g
+called_after w c g (Some (library_name atomic_sub)) h place args print start ka kp ks = (library_keeps w place atomic_sub args ka).keeps c g
+called_after w c g (Some (library_name atomic_swap)) h place args print start ka kp ks = (library_keeps w place atomic_swap args ka).keeps c g
+called_after w c g (Some (library_name atomic_compare)) h place args print start ka kp ks = (library_keeps w place atomic_compare args ka).keeps c g
+called_after w c g (Some (library_name (atomic_type t))) h place args print start ka kp ks = (library_keeps w place (atomic_type t) args ka).keeps c g
 called_after w c g (Some (library_name (constant value))) h place args print start ka kp ks = (library_keeps w place (constant value) args ka).keeps c g
 called_after w c g (Some (global_name n t)) h place args print start ka kp ks = (no_call_keeps w place TypeMismatch args ka).keeps c g
 called_after w c g (Some (local_name n t)) h place args print start ka kp ks = (no_call_keeps w place TypeMismatch args ka).keeps c g
@@ -261,6 +276,13 @@ starting_keeps w c (Some (library_name mtx_init)) h m j kj = keeps_lone w true (
 starting_keeps w c (Some (library_name mtx_lock)) h m j kj = keeps_lone w true (typed None) Starting (λ e. tt)
 starting_keeps w c (Some (library_name mtx_unlock)) h m j kj = keeps_lone w true (typed None) Starting (λ e. tt)
 starting_keeps w c (Some (library_name mtx_destroy)) h m j kj = keeps_lone w true (typed None) Starting (λ e. tt)
+starting_keeps w c (Some (library_name atomic_store)) h m j kj = keeps_lone w true (typed None) Starting (λ e. tt)
+starting_keeps w c (Some (library_name atomic_load)) h m j kj = keeps_lone w true (typed None) Starting (λ e. tt)
+starting_keeps w c (Some (library_name atomic_add)) h m j kj = keeps_lone w true (typed None) Starting (λ e. tt)
+starting_keeps w c (Some (library_name atomic_sub)) h m j kj = keeps_lone w true (typed None) Starting (λ e. tt)
+starting_keeps w c (Some (library_name atomic_swap)) h m j kj = keeps_lone w true (typed None) Starting (λ e. tt)
+starting_keeps w c (Some (library_name atomic_compare)) h m j kj = keeps_lone w true (typed None) Starting (λ e. tt)
+starting_keeps w c (Some (library_name (atomic_type t))) h m j kj = keeps_lone w true (typed None) Starting (λ e. tt)
 starting_keeps w c (Some (global_name n t)) h m j kj = keeps_ruled w true j (λ d x. typed None) (FineFor m) Starting kj (λ d e x g v k. tt)
 starting_keeps w c (Some (local_name n t)) h m j kj = keeps_ruled w true j (λ d x. typed None) (FineFor m) Starting kj (λ d e x g v k. tt)
 starting_keeps w c (Some (enumerator_name value)) h m j kj = keeps_ruled w true j (λ d x. typed None) (FineFor m) Starting kj (λ d e x g v k. tt)
@@ -378,6 +400,7 @@ aliased_ready w c e v place (Some (global_name n t)) h = tt
 aliased_ready w c e v place (Some (local_name n t)) h = tt
 aliased_ready w c e v place (Some (function_name n ps r)) h = tt
 aliased_ready w c e v place (Some (enumerator_name value)) h = tt
+aliased_ready w c e v place (Some (library_name (atomic_type t))) h = h
 aliased_ready w c e v place (Some (library_name which)) h = tt
 aliased_ready w c e v place None h = tt
 
@@ -513,7 +536,7 @@ mutual
   all_keeps w source.no_exprs = keeps_lone w true (typed []) AreFine (λ e. tt)
   all_keeps w (source.more_exprs s rest) =
       keeps_ruled w true (in_turn (valued (judged s)) (judged_all rest)) (λ d p. typed (p.0 ∷ p.1)) (λ e p. Fine e p.0 × AreFine e p.1) AreFine
-      (keeps_in_turn w true (valued (judged s)) (judged_all rest) Fine AreFine (valued_keeps w (name_in s) (judged s) (judged_keeps w s)) (all_keeps w rest)) (λ d e p g v h. (h.0.0, h.1))
+      (keeps_in_turn w true (valued (judged s)) (judged_all rest) Fine AreFine (valued_keeps w (name_in s) (judged s) (judged_keeps w s)) (all_keeps w rest)) (λ d e p g v h. (h.0, h.1))
 
   pub print_keeps : (w : World) (place : ℕ) (es : source.Exprs) → Keeps w true (judged_print place es) Made
   print_keeps w place source.no_exprs = keeps_lone w true (refuse place TypeMismatch) Made (λ e. tt)
@@ -523,7 +546,7 @@ mutual
   start_keeps w place source.no_exprs = keeps_lone w true (refuse place TypeMismatch) Made (λ e. tt)
   start_keeps w place (source.more_exprs s rest) =
       keeps_ruled w true (in_turn (valued (judged s)) (judged_started rest)) (λ d p. started place (p.0 ∷ []) p.1.0 p.1.1) (λ e p. Fine e p.0 × AreStarted e p.1) Made
-      (keeps_in_turn w true (valued (judged s)) (judged_started rest) Fine AreStarted (valued_keeps w (name_in s) (judged s) (judged_keeps w s)) (started_keeps w rest)) (λ d e p g v h. started_made e place (p.0 ∷ []) p.1.0 p.1.1 (h.0.0, tt) h.1.0 h.1.1)
+      (keeps_in_turn w true (valued (judged s)) (judged_started rest) Fine AreStarted (valued_keeps w (name_in s) (judged s) (judged_keeps w s)) (started_keeps w rest)) (λ d e p g v h. started_made e place (p.0 ∷ []) p.1.0 p.1.1 (h.0, tt) h.1.0 h.1.1)
 
   pub started_keeps : (w : World) (es : source.Exprs) → Keeps w true (judged_started es) AreStarted
   started_keeps w source.no_exprs = keeps_lone w true (typed (None, [])) AreStarted (λ e. (tt, tt))

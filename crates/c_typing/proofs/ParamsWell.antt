@@ -6,15 +6,15 @@ use Rattle.c_lex.specs.declared.refusal.Refusal.{Refusal}
 use Rattle.c_lex.specs.declared.refusal.Kind.TheVariants.{TooMany, BadSize, OutsideSubset}
 use Rattle.c_tree.specs.declared.syntax.Name.{Name}
 use Rattle.c_tree.specs.Syntax as source
-use Rattle.c_tree.specs.Typed.{Ty, void, integer, mutex, pointer, array, structure}
+use Rattle.c_tree.specs.Typed.{Ty, void, integer, atomic, mutex, pointer, array, structure}
 use Rattle.c_tree.specs.TypedForm.{IsScalar}
 use Rattle.c_tree.specs.TypedForm as form
 use Rattle.c_typing.specs.Faults.{Judged, typed, faulty, refuse, unless, both, mapped, ◌>>=◌}
-use Rattle.c_typing.specs.Types.{is_void, is_struct_or_mutex, has_size, behind_pointers, arrays_of}
+use Rattle.c_typing.specs.Types.{is_void, value_type, is_struct_or_mutex, has_size, behind_pointers, arrays_of}
 use Rattle.c_typing.specs.Scope.{Context, within}
 use Rattle.c_typing.specs.Judgement.{in_turn, ruled, valued, judged, judged_specs, dimension, object_type, plain_type, name_in}
 use Rattle.c_typing.specs.Statements.{or_int, most_locals}
-use Rattle.c_typing.specs.Numbering.{Param}
+use Rattle.c_typing.specs.Numbering.{Param, passed_type}
 use Rattle.c_typing.specs.Programs.{param_place, judged_size, known, judged_sizes, pointer_for, adjusted, param_type, fresh_if, with_param, judged_param, judged_params, is_bare, void_by, none_if, judged_param_list}
 use Rattle.c_typing.proofs.Extending.{extends_itself, Ready, below}
 use Rattle.c_typing.proofs.Elements.{get_before}
@@ -66,6 +66,7 @@ CanAdjust d t = Ready d.structs t × NoArray t
 pointer_for_well : (d : Context) (t : Ty) → Ready d.structs t → CanAdjust d (pointer_for t)
 pointer_for_well d void h = (tt, tt)
 pointer_for_well d (integer t) h = (tt, tt)
+pointer_for_well d (atomic t) h = (h, tt)
 pointer_for_well d mutex h = (tt, tt)
 pointer_for_well d (pointer t) h = (h, tt)
 pointer_for_well d (array t n) h = (h.1, tt)
@@ -78,11 +79,12 @@ adjusted_well w d g place t h (o ∷ os) p =
     (object_type_well w d g place t (known os) h (known_inner o os p)) (λ element k. plain_type_is (CanAdjust d) place (pointer element) (k.1, tt))
 
 abbrev IsParam : Context → Ty → Type 0
-IsParam d t = IsObject d.structs t × IsScalar t
+IsParam d t = IsObject d.structs t × IsScalar (value_type t)
 
 scalar_param : (d : Context) (t : Ty) → Ready d.structs t → NoArray t → has_size d.structs t ≡ true → not (is_struct_or_mutex t) ≡ true → IsParam d t
 scalar_param d void r n h k = absurd cc
 scalar_param d (integer t) r n h k = ((tt, tt), tt)
+scalar_param d (atomic t) r n h k = ((tt, r), tt)
 scalar_param d mutex r n h k = absurd cc
 scalar_param d (pointer t) r n h k = ((tt, r), tt)
 scalar_param d (array t i) r n h k = absurd n
@@ -101,7 +103,7 @@ pub record Params (w : World) (c d : Context) (ps : List Param) : Type 0 where
   pub within : Within false c d
   pub locals : d.locals ≡ c.locals ++ map (λ (p : Param). p.ty) ps
   pub few : length c.locals ≤ 16 → length d.locals ≤ 16
-  pub scalar : AllByRecursion (λ (p : Param). IsScalar p.ty) ps
+  pub scalar : AllByRecursion (λ (p : Param). IsScalar (passed_type p)) ps
 
 type_within : (c : Context) (t : Ty) → Within false c (with_type c t)
 type_within c t = (

@@ -1,11 +1,12 @@
 -- A function's locals get other numbers, and its body stays well formed.
 use Rattle.std.proofs.Common.{◌≡◌, ℕ, ◌+◌, ◌≤◌, true, refl, sym, ap, ◌∙◌, subst, List, [], ◌∷◌, Option, Some, None, slice_get}
 use Rattle.std.specs.List.{AllByRecursion}
+use Rattle.ak_words.specs.declared.int_type.IntType.{IntType}
 use Rattle.ak_words.specs.IntType.{int, unsigned_long}
-use Rattle.c_tree.specs.Typed.{Ty, void, integer, mutex, pointer, Local, Piece, bytes, signed, unsigned, hexadecimal, character, text, Lib, print, malloc, calloc, realloc, free, copy, start, join, mutex_init, mutex_lock, mutex_unlock, mutex_destroy}
+use Rattle.c_tree.specs.Typed.{Ty, void, integer, atomic, mutex, pointer, Local, Piece, bytes, signed, unsigned, hexadecimal, character, text, Lib, print, malloc, calloc, realloc, free, copy, start, join, mutex_init, mutex_lock, mutex_unlock, mutex_destroy, atomic_add, atomic_sub, atomic_swap, atomic_compare, atomic_store}
 use Rattle.c_tree.specs.Typed.{Expr, at, ExprNode, num, null, literal, global, local, deref, member, address_of, decay, convert, not_, binary, and_also, or_else, choose, pointer_add, pointer_sub, pointer_diff, pointer_compare, pointer_test, call, lib, Exprs, no_exprs, more_exprs, type_of}
 use Rattle.c_tree.specs.Typed.{Stmt, at_stmt, StmtNode, block, declare, if_, if_else, while_, for_, do_while, switch, break_, continue_, return_, assign, update, evaluate, empty, Stmts, no_stmts, more_stmts}
-use Rattle.c_tree.specs.TypedForm.{Jumps, in_loop, in_switch, stmts_count, AreNoDeclarations, IsLabel, IsScalar, Fits, IsNth, IsLvalue, IsInMemory, ArePrinted, AreArguments, IsLibCall, IsTyped, IsTypedNode, AreTyped, IfTyped, IsNoDeclaration, IsStep, IsFirst, IsReturned, Inside, IsWellNode, AreWell}
+use Rattle.c_tree.specs.TypedForm.{Jumps, in_loop, in_switch, stmts_count, AreNoDeclarations, IsLabel, IsScalar, Fits, IsNth, IsLvalue, IsInMemory, ArePrinted, AreArguments, IsAtomicCall, IsLibCall, IsTyped, IsTypedNode, AreTyped, IfTyped, IsNoDeclaration, IsStep, IsFirst, IsReturned, Inside, IsWellNode, AreWell}
 use Rattle.c_tree.specs.TypedForm as form
 use Rattle.c_typing.specs.Numbering.{renumbered, renumbered_node, renumbered_all, renumbered_if, renumbered_stmt, renumbered_stmt_node, renumbered_stmts}
 
@@ -49,6 +50,10 @@ printed_too f (hexadecimal bits ∷ ps) no_exprs h = absurd h
 printed_too f (character ∷ ps) no_exprs h = absurd h
 printed_too f (text ∷ ps) no_exprs h = absurd h
 
+atomic_too : (f : ℕ → ℕ) (others : IntType → List Ty) (result : IntType → Ty) (es : Exprs) (t : Ty) → IsAtomicCall others result es t → IsAtomicCall others result (renumbered_all f es) t
+atomic_too f others result no_exprs t h = h
+atomic_too f others result (more_exprs e rest) t h = (h.0, same_type_too f e ∙ h.1, h.2, arguments_too f (others h.0) rest h.3, h.4)
+
 lib_too : (f : ℕ → ℕ) (e : form.InScope) (ls : List Local) (which : Lib) (es : Exprs) (t : Ty) → IsLibCall e which es t → IsLibCall (with_locals e ls) which (renumbered_all f es) t
 lib_too f e ls (print pieces) es t h = (printed_too f pieces es h.0, h.1)
 lib_too f e ls malloc es t h = (arguments_too f (integer unsigned_long ∷ []) es h.0, h.1)
@@ -62,6 +67,11 @@ lib_too f e ls mutex_init es t h = (arguments_too f (pointer mutex ∷ []) es h.
 lib_too f e ls mutex_lock es t h = (arguments_too f (pointer mutex ∷ []) es h.0, h.1)
 lib_too f e ls mutex_unlock es t h = (arguments_too f (pointer mutex ∷ []) es h.0, h.1)
 lib_too f e ls mutex_destroy es t h = (arguments_too f (pointer mutex ∷ []) es h.0, h.1)
+lib_too f e ls atomic_add es t h = atomic_too f (λ s. integer s ∷ []) (λ s. integer s) es t h
+lib_too f e ls atomic_sub es t h = atomic_too f (λ s. integer s ∷ []) (λ s. integer s) es t h
+lib_too f e ls atomic_swap es t h = atomic_too f (λ s. integer s ∷ []) (λ s. integer s) es t h
+lib_too f e ls atomic_compare es t h = atomic_too f (λ s. pointer (integer s) ∷ integer s ∷ []) (λ s. integer int) es t h
+lib_too f e ls atomic_store es t h = atomic_too f (λ s. integer s ∷ []) (λ s. void) es t h
 
 mutual
   node_too : (f : ℕ → ℕ) (e : form.InScope) (ls : List Local) → Carries f e.locals ls → (ty : Ty) (node : ExprNode) → IsTypedNode e ty node → IsTypedNode (with_locals e ls) ty (renumbered_node f node)

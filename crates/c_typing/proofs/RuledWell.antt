@@ -1,5 +1,5 @@
 -- The rules on typed operands give well formed nodes.
-use Rattle.std.proofs.Common.{◌≡◌, ℕ, ◌+◌, ◌<◌, Bool, true, false, ◌&&◌, ◌||◌, refl, sym, ap, ◌∙◌, subst, arith, pos, negsuc, neg_ℤ, ◌+ℤ◌, ◌≤ℤ◌, ◌<ℤ◌, ◌^◌, ◌-◌, pow_pos, List, Some, nat_lt, nat_eq, if◌then◌else◌}
+use Rattle.std.proofs.Common.{◌≡◌, ℕ, ◌+◌, ◌<◌, Bool, true, false, ◌&&◌, ◌||◌, refl, sym, ap, ◌∙◌, subst, arith, pos, negsuc, neg_ℤ, ◌+ℤ◌, ◌≤ℤ◌, ◌<ℤ◌, ◌^◌, ◌-◌, pow_pos, List, [], ◌∷◌, Some, nat_lt, nat_eq, if◌then◌else◌}
 use Rattle.std.specs.Bool.{beq}
 use Rattle.std.proofs.lemmas.Bool.Decides.{nat_tests}
 use Rattle.std.proofs.lemmas.Int.{ints}
@@ -11,14 +11,14 @@ use Rattle.ak_words.specs.Op.{result_type}
 use Rattle.ak_words.specs.Wrapped.{wrapped_value}
 use Rattle.ak_words.specs.inner.InRange.{wrapped_value-in_range}
 use Rattle.ak_words.proofs.Types.{int_type_is, half_twice}
-use Rattle.c_tree.specs.Typed.{Ty, void, integer, mutex, pointer, array, structure, Layout, Lib, print, malloc, calloc, realloc, free, copy, start, join, mutex_init, mutex_lock, mutex_unlock, mutex_destroy}
+use Rattle.c_tree.specs.Typed.{Ty, void, integer, atomic, mutex, pointer, array, structure, Layout, Lib, print, malloc, calloc, realloc, free, copy, start, join, mutex_init, mutex_lock, mutex_unlock, mutex_destroy, atomic_add, atomic_sub, atomic_swap, atomic_compare, atomic_store}
 use Rattle.c_tree.specs.Typed.{Expr, at, ExprNode, num, null, literal, global, local, deref, member, address_of, decay, convert, not_, binary, and_also, or_else, choose}
-use Rattle.c_tree.specs.Typed.{pointer_add, pointer_sub, pointer_diff, pointer_compare, pointer_test, call, lib, Exprs, type_of, node_of, place_of}
-use Rattle.c_tree.specs.TypedForm.{IsInteger, IsPointer, IsScalar, IsResult, Fits, PointsToSized, MovesPointer, IsPromoted, AreOperands, type_of_result, is_comparison, Converts, IsLvalue, IsInMemory, IsLibCall, IsTyped, IsTypedNode}
+use Rattle.c_tree.specs.Typed.{pointer_add, pointer_sub, pointer_diff, pointer_compare, pointer_test, call, lib, Exprs, no_exprs, more_exprs, type_of, node_of, place_of}
+use Rattle.c_tree.specs.TypedForm.{IsInteger, IsPointer, IsScalar, IsResult, Fits, PointsToSized, MovesPointer, IsPromoted, AreOperands, type_of_result, is_comparison, Converts, IsLvalue, IsInMemory, IsAtomicCall, IsLibCall, IsTyped, IsTypedNode}
 use Rattle.c_tree.specs.TypedForm as form
 use Rattle.c_lex.specs.declared.refusal.Kind.TheVariants.{TypeMismatch, BadSize}
 use Rattle.c_typing.specs.Faults.{typed, unless, ◌>>=◌}
-use Rattle.c_typing.specs.Types.{same_int, same_type, is_void, has_size}
+use Rattle.c_typing.specs.Types.{same_int, same_type, is_void, value_type, has_size}
 use Rattle.c_typing.specs.Scope.{Context}
 use Rattle.c_typing.specs.Numbering.{is_block}
 use Rattle.c_typing.specs.Rules.{value_of, converted, is_zero, fitted_if, pointer_fitted, fitted_by, fitted, tested_by, tested, target_by, target, minus_by, plus_by, not_by, complement_by, arithmetic, sized, Operands, numbers, pointer_number, number_pointer, pointers, others, operands, moved_up, moved_down, sum, distance, difference, compared, null_for, equality, order, shift, on_numbers, operated_by, operated, element, chosen_by, chosen, cast_number_by, cast_by, cast}
@@ -40,6 +40,7 @@ Made e x = Fine e x × NoLocal x
 pub plain_ready : (s : List Layout) (t : Ty) → Plain t → Ready s t
 plain_ready s void h = tt
 plain_ready s (integer t) h = tt
+plain_ready s (atomic t) h = h
 plain_ready s mutex h = tt
 plain_ready s (pointer t) h = plain_ready s t h
 plain_ready s (array t n) h = absurd h
@@ -64,6 +65,17 @@ pub same_int_is : (s t : IntType) → same_int s t ≡ true → s ≡ t
 same_int_is s t h =
     let p = both_hold (beq s.signed t.signed) (nat_eq s.bits t.bits) h in
     int_type_is s t (same_bool s.signed t.signed p.0) (same_number s.bits t.bits p.1)
+
+bool_itself : (a : Bool) → beq a a ≡ true
+bool_itself true = refl
+bool_itself false = refl
+
+pub int_itself : (t : IntType) → same_int t t ≡ true
+int_itself t = by (beq t.signed t.signed) (nat_eq t.bits t.bits) (bool_itself t.signed) (grind (arith, nat_tests))
+  where
+    by : (a b : Bool) → a ≡ true → b ≡ true → (a && b) ≡ true
+    by true b h k = k
+    by false b h k = absurd cc
 
 pub promoted : (t : IntType) → IsPromoted (promoted_type t)
 promoted t = by (nat_lt t.bits 32) refl
@@ -96,6 +108,7 @@ no_pointer : (t : Ty) → IsPointer t → IsAggregate t → ⊥
 no_pointer (pointer t) h a = a
 no_pointer void h a = a
 no_pointer (integer t) h a = a
+no_pointer (atomic t) h a = a
 no_pointer mutex h a = a
 no_pointer (array t n) h a = h
 no_pointer (structure n) h a = h
@@ -103,6 +116,7 @@ no_pointer (structure n) h a = h
 no_integer : (t : Ty) → IsInteger t → IsAggregate t → ⊥
 no_integer (integer t) h a = a
 no_integer void h a = a
+no_integer (atomic t) h a = a
 no_integer (pointer t) h a = a
 no_integer mutex h a = a
 no_integer (array t n) h a = h
@@ -111,6 +125,7 @@ no_integer (structure n) h a = h
 no_result : (t : Ty) → IsResult t → IsAggregate t → ⊥
 no_result void h a = a
 no_result (integer t) h a = a
+no_result (atomic t) h a = a
 no_result (pointer t) h a = a
 no_result mutex h a = h
 no_result (array t n) h a = h
@@ -120,6 +135,7 @@ no_sized_pointer : (s : List Layout) (t : Ty) → PointsToSized s t → IsAggreg
 no_sized_pointer s (pointer t) h a = a
 no_sized_pointer s void h a = h
 no_sized_pointer s (integer t) h a = h
+no_sized_pointer s (atomic t) h a = h
 no_sized_pointer s mutex h a = h
 no_sized_pointer s (array t n) h a = h
 no_sized_pointer s (structure n) h a = h
@@ -127,17 +143,20 @@ no_sized_pointer s (structure n) h a = h
 moved_pointer : (s : List Layout) (a b ty : Ty) → MovesPointer s a b ty → (t : Ty) × (ty ≡ pointer t)
 moved_pointer s (pointer p) (integer i) ty h = (p, h.1)
 moved_pointer s (pointer p) void ty h = elim h [ ]
+moved_pointer s (pointer p) (atomic i) ty h = elim h [ ]
 moved_pointer s (pointer p) mutex ty h = elim h [ ]
 moved_pointer s (pointer p) (pointer q) ty h = elim h [ ]
 moved_pointer s (pointer p) (array t n) ty h = elim h [ ]
 moved_pointer s (pointer p) (structure n) ty h = elim h [ ]
 moved_pointer s (integer i) (pointer p) ty h = (p, h.1)
 moved_pointer s (integer i) void ty h = elim h [ ]
+moved_pointer s (integer i) (atomic j) ty h = elim h [ ]
 moved_pointer s (integer i) mutex ty h = elim h [ ]
 moved_pointer s (integer i) (integer j) ty h = elim h [ ]
 moved_pointer s (integer i) (array t n) ty h = elim h [ ]
 moved_pointer s (integer i) (structure n) ty h = elim h [ ]
 moved_pointer s void b ty h = elim h [ ]
+moved_pointer s (atomic i) b ty h = elim h [ ]
 moved_pointer s mutex b ty h = elim h [ ]
 moved_pointer s (array t n) b ty h = elim h [ ]
 moved_pointer s (structure n) b ty h = elim h [ ]
@@ -145,17 +164,20 @@ moved_pointer s (structure n) b ty h = elim h [ ]
 no_conversion : (s t : Ty) → Converts s t → IsAggregate t → ⊥
 no_conversion s void h a = a
 no_conversion s (integer t) h a = a
+no_conversion s (atomic t) h a = a
 no_conversion s (pointer t) h a = a
 no_conversion s mutex h a = a
 no_conversion void (array t n) h a = h
 no_conversion (integer s) (array t n) h a = h
 no_conversion (pointer s) (array t n) h a = h
+no_conversion (atomic s) (array t n) h a = h
 no_conversion mutex (array t n) h a = h
 no_conversion (array s m) (array t n) h a = h
 no_conversion (structure m) (array t n) h a = h
 no_conversion void (structure n) h a = h
 no_conversion (integer s) (structure n) h a = h
 no_conversion (pointer s) (structure n) h a = h
+no_conversion (atomic s) (structure n) h a = h
 no_conversion mutex (structure n) h a = h
 no_conversion (array s m) (structure n) h a = h
 no_conversion (structure m) (structure n) h a = h
@@ -164,6 +186,8 @@ operand_is : (op : Op) (s t : Ty) → AreOperands op s t → (i : IntType) × (s
 operand_is op (integer i) t h = (i, refl)
 operand_is ops.Shl void t h = absurd h
 operand_is op void t h = absurd h
+operand_is ops.Shl (atomic s) t h = absurd h
+operand_is op (atomic s) t h = absurd h
 operand_is ops.Shl mutex t h = absurd h
 operand_is op mutex t h = absurd h
 operand_is ops.Shl (pointer s) t h = absurd h
@@ -172,6 +196,10 @@ operand_is ops.Shl (array s n) t h = absurd h
 operand_is op (array s n) t h = absurd h
 operand_is ops.Shl (structure n) t h = absurd h
 operand_is op (structure n) t h = absurd h
+
+no_atomic : (params : IntType → List Ty) (result : IntType → Ty) (es : Exprs) (t : Ty) → IsAtomicCall params result es t → ((s : IntType) → IsAggregate (result s) → ⊥) → IsAggregate t → ⊥
+no_atomic params result no_exprs t h f a = h
+no_atomic params result (more_exprs x rest) t h f a = f h.0 (subst IsAggregate h.4 a)
 
 no_lib : (e : form.InScope) (which : Lib) (es : Exprs) (t : Ty) → IsLibCall e which es t → IsAggregate t → ⊥
 no_lib e (print pieces) es t h a = absurd (subst IsAggregate h.1 a)
@@ -186,12 +214,18 @@ no_lib e mutex_init es t h a = absurd (subst IsAggregate h.1 a)
 no_lib e mutex_lock es t h a = absurd (subst IsAggregate h.1 a)
 no_lib e mutex_unlock es t h a = absurd (subst IsAggregate h.1 a)
 no_lib e mutex_destroy es t h a = absurd (subst IsAggregate h.1 a)
+no_lib e atomic_add es t h a = no_atomic (λ s. integer s ∷ []) (λ s. integer s) es t h (λ s b. b) a
+no_lib e atomic_sub es t h a = no_atomic (λ s. integer s ∷ []) (λ s. integer s) es t h (λ s b. b) a
+no_lib e atomic_swap es t h a = no_atomic (λ s. integer s ∷ []) (λ s. integer s) es t h (λ s b. b) a
+no_lib e atomic_compare es t h a = no_atomic (λ s. pointer (integer s) ∷ integer s ∷ []) (λ s. integer int) es t h (λ s b. b) a
+no_lib e atomic_store es t h a = no_atomic (λ s. integer s ∷ []) (λ s. void) es t h (λ s b. b) a
 
 a_block : (t : Ty) → IsAggregate t → is_block t ≡ true
 a_block (array t n) a = refl
 a_block (structure n) a = refl
 a_block void a = absurd a
 a_block (integer t) a = absurd a
+a_block (atomic t) a = absurd a
 a_block mutex a = absurd a
 a_block (pointer t) a = absurd a
 
@@ -236,6 +270,7 @@ value_fine e s (at place (array t n) node) h =
     ((h.0, (an_object e s (at place (array t n) node) h.0 tt).1, (t, n, refl, refl)), h.1.1)
 value_fine e s (at place void node) h = h
 value_fine e s (at place (integer t) node) h = h
+value_fine e s (at place (atomic t) node) h = ((h.0, refl), tt)
 value_fine e s (at place mutex node) h = h
 value_fine e s (at place (pointer t) node) h = h
 value_fine e s (at place (structure n) node) h = h
@@ -273,6 +308,7 @@ pointers_fit e s t x h = by (same_type s t)
 
 fits_by : (e : form.InScope) (s t : Ty) (x : Expr) → Has e x s → OnSome (Fitting e t) (fitted_by s t x)
 fits_by e (integer s) (integer t) x h = let c = converted_has e s t x h in (c.0, subst (λ u. Fits u (integer t)) (sym c.1) refl)
+fits_by e (integer s) (atomic t) x h = let c = converted_has e s t x h in (c.0, subst (λ u. Fits u (atomic t)) (sym c.1) refl)
 fits_by e (integer s) (pointer t) x h = some_if e (pointer t) (at (place_of x) (pointer t) null) (is_zero (node_of x)) (λ b. (tt, tt))
 fits_by e (pointer s) (pointer t) x h = pointers_fit e s t x h
 fits_by e (structure m) (structure n) x h =
@@ -292,6 +328,7 @@ tests : (e : form.InScope) (place : ℕ) (s : Ty) (x : Expr) → Has e x s → O
 tests e place (integer t) x h = (h.0, subst IsScalar (sym h.1) tt)
 tests e place (pointer t) x h = ((h.0, subst IsPointer (sym h.1) tt, refl), tt)
 tests e place void x h = tt
+tests e place (atomic t) x h = tt
 tests e place mutex x h = tt
 tests e place (array t n) x h = tt
 tests e place (structure n) x h = tt
@@ -305,6 +342,7 @@ targets : (e : form.InScope) → Sound e → (place : ℕ) (s : Ty) (x : Expr) �
 targets e f place (pointer t) x h r = (((h.0, h.1, target_of e.structs f.small t r), r), tt)
 targets e f place void x h r = tt
 targets e f place (integer t) x h r = tt
+targets e f place (atomic t) x h r = tt
 targets e f place mutex x h r = tt
 targets e f place (array t n) x h r = tt
 targets e f place (structure n) x h r = tt
@@ -331,6 +369,7 @@ minus_well e place (integer t) x h =
     let p = promoted_type t in
     binary_made e place ops.Sub p p (at place (integer p) (num p (pos 0))) (converted t p x) ((refl, zero_in_range p), refl) (converted_has e t p x h) (promoted t, refl)
 minus_well e place void x h = tt
+minus_well e place (atomic t) x h = tt
 minus_well e place mutex x h = tt
 minus_well e place (pointer t) x h = tt
 minus_well e place (array t n) x h = tt
@@ -339,6 +378,7 @@ minus_well e place (structure n) x h = tt
 plus_well : (e : form.InScope) (place : ℕ) (s : Ty) (x : Expr) → Has e x s → OnTyped (Made e) (plus_by place s x)
 plus_well e place (integer t) x h = (((h.0, subst (λ u. Converts u (integer (promoted_type t))) (sym h.1) tt), tt), tt)
 plus_well e place void x h = tt
+plus_well e place (atomic t) x h = tt
 plus_well e place mutex x h = tt
 plus_well e place (pointer t) x h = tt
 plus_well e place (array t n) x h = tt
@@ -348,6 +388,7 @@ not_well : (e : form.InScope) (place : ℕ) (s : Ty) (x : Expr) → Has e x s �
 not_well e place (integer t) x h = (((h.0, subst IsScalar (sym h.1) tt, refl), tt), tt)
 not_well e place (pointer t) x h = ((((h.0, subst IsPointer (sym h.1) tt, refl), tt, refl), tt), tt)
 not_well e place void x h = tt
+not_well e place (atomic t) x h = tt
 not_well e place mutex x h = tt
 not_well e place (array t n) x h = tt
 not_well e place (structure n) x h = tt
@@ -357,6 +398,7 @@ complement_well e place (integer t) x h =
     let p = promoted_type t in
     binary_made e place ops.Xor p p (converted t p x) (at place (integer p) (num p (wrapped_value p (negsuc 0)))) (converted_has e t p x h) ((refl, wrapped_value-in_range p (negsuc 0)), refl) (promoted t, refl)
 complement_well e place void x h = tt
+complement_well e place (atomic t) x h = tt
 complement_well e place mutex x h = tt
 complement_well e place (pointer t) x h = tt
 complement_well e place (array t n) x h = tt
@@ -559,5 +601,14 @@ cast_well e place (pointer s) (pointer t) x h r = (((h.0, subst (λ u. Converts 
 cast_well e place (integer s) (pointer t) x h r = null_cast e place t (is_zero (node_of x)) x r
 cast_well e place _ _ x h r = tt
 
+pub value_ready : (s : List Layout) (t : Ty) → Ready s t → Ready s (value_type t)
+value_ready s void h = h
+value_ready s (integer t) h = h
+value_ready s (atomic t) h = tt
+value_ready s mutex h = h
+value_ready s (pointer t) h = h
+value_ready s (array t n) h = h
+value_ready s (structure n) h = h
+
 pub cast_made : (e : form.InScope) (place : ℕ) (t : Ty) (x : Expr) → Fine e x → Ready e.structs t → OnTyped (Made e) (cast place t x)
-cast_made e place t x h r = cast_well e place (type_of x) t x (h.0, refl) r
+cast_made e place t x h r = cast_well e place (type_of x) (value_type t) x (h.0, refl) (value_ready e.structs t r)

@@ -14,7 +14,7 @@ use Rattle.c_tree.specs.declared.syntax.StepOp.TheVariants as steps
 use Rattle.c_tree.specs.declared.syntax.AssignOp.{AssignOp}
 use Rattle.c_tree.specs.declared.syntax.AssignOp.TheVariants as assigns
 use Rattle.c_tree.specs.Syntax as source
-use Rattle.c_tree.specs.Typed.{Ty, void, integer, mutex, pointer, array, structure, Layout, Expr, at, ExprNode, num, literal, global, local, deref, member, type_of, node_of, place_of, Stmt, at_stmt, declare, assign, update, evaluate}
+use Rattle.c_tree.specs.Typed.{Ty, void, integer, atomic, mutex, pointer, array, structure, Layout, Expr, at, ExprNode, num, literal, global, local, deref, member, type_of, node_of, place_of, Stmt, at_stmt, declare, assign, update, evaluate}
 use Rattle.c_tree.specs.TypedLayout.{IsSized}
 use Rattle.c_tree.specs.TypedForm.{Jumps, IsScalar, Fits, is_comparison, CanUpdate, IsLvalue, IsTyped, IfTyped, IsStep, IsFirst, Inside, IsWell}
 use Rattle.c_tree.specs.TypedForm as form
@@ -23,11 +23,11 @@ use Rattle.c_typing.specs.Types.{is_array, is_scalar, has_size, is_declared}
 use Rattle.c_typing.specs.Scope.{local_name, Context, is_double, fresh, within}
 use Rattle.c_typing.specs.Rules.{value_of, fitted, or_mismatch, is_lvalue}
 use Rattle.c_typing.specs.Judgement.{lone, in_turn, valued, Declarator, object_declared, node_place, name_in, judged, judged_specs, judged_dims}
-use Rattle.c_typing.specs.Statements.{assignable, assigned, moves, updates, updated, step_op, stepped, assign_op, assigned_by, judged_simple, or_int, most_locals, with_local, initialised, judged_init, judged_declarator, name_of, judged_local, judged_locals, judged_declaration}
+use Rattle.c_typing.specs.Statements.{assignable, assigned, moves, updates, operand_by, updated, step_op, stepped, assign_op, assigned_by, judged_simple, or_int, most_locals, with_local, initialised, judged_init, judged_declarator, name_of, judged_local, judged_locals, judged_declaration}
 use Rattle.c_typing.proofs.Extending.{Extends, extends_itself, Ready, ready_kept, AreSmall, sized_of, has_size_kept, below}
 use Rattle.c_typing.proofs.Elements.{get_before, get_last, get_either}
 use Rattle.c_typing.proofs.Carried.{OnTyped, given, not_given, on_bind, on_unless, on_mismatch, on_weaker, World, since, good_since, after_from, IsObject, Good, Within, within_further, looser, Over, over_before, After, Keeps, keeps_lone, keeps_in_turn, keeps_ruled, keeps_weaker, keeps_looser}
-use Rattle.c_typing.proofs.RuledWell.{Fine, value_fine, Fitting, fits}
+use Rattle.c_typing.proofs.RuledWell.{Fine, value_fine, Has, converted_has, Fitting, fits}
 use Rattle.c_typing.proofs.TypesWell.{ArePositive, object_well}
 use Rattle.c_typing.proofs.Shown.{named_kept, named_too, name_good}
 use Rattle.c_typing.proofs.Own.{own, over_own}
@@ -50,6 +50,7 @@ lvalue_is _ h = absurd cc
 no_void : (a : Ty) → Fits a void → ⊥
 no_void void h = h
 no_void (integer t) h = h
+no_void (atomic t) h = h
 no_void mutex h = h
 no_void (pointer t) h = h
 no_void (array t n) h = h
@@ -59,6 +60,7 @@ declared_kept : (old new : List Layout) → Extends old new → (t : Ty) → is_
 declared_kept old new f (structure n) h = has_size_kept old new f (structure n) h
 declared_kept old new f void h = refl
 declared_kept old new f (integer t) h = refl
+declared_kept old new f (atomic t) h = refl
 declared_kept old new f mutex h = refl
 declared_kept old new f (pointer t) h = refl
 declared_kept old new f (array t n) h = refl
@@ -67,6 +69,7 @@ declared_kept old new f (array t n) h = refl
 copied_sized : (s : List Layout) → AreSmall s → (a b : Ty) → Ready s b → Fits a b → is_declared s b ≡ true → IsSized s b
 copied_sized s f a void r fit d = absurd (no_void a fit)
 copied_sized s f a (integer t) r fit d = tt
+copied_sized s f a (atomic t) r fit d = tt
 copied_sized s f a mutex r fit d = tt
 copied_sized s f a (pointer t) r fit d = tt
 copied_sized s f a (array t n) r fit d = r.0
@@ -102,8 +105,19 @@ moves_is ops.Add h = inl refl
 moves_is ops.Sub h = inr refl
 moves_is _ h = absurd cc
 
-updates_well : (w : World) (d : Context) (e : form.InScope) → Over w d e → (place : ℕ) (op : Op) (s t : Ty) → is_comparison op ≡ false → Ready e.structs s → OnTyped (λ u. CanUpdate e.structs op s t) (updates d place op s t)
+-- the type of the operand, once it is converted
+abbrev operand_type : (s t : Ty) → Ty
+operand_type (atomic s) (integer t) = integer s
+operand_type s t = t
+
+operand_has : (e : form.InScope) (s t : Ty) (x : Expr) → Has e x t → Has e (operand_by s t x) (operand_type s t)
+operand_has e (atomic s) (integer t) x h = converted_has e t s x h
+operand_has e _ _ x h = h
+
+updates_well : (w : World) (d : Context) (e : form.InScope) → Over w d e → (place : ℕ) (op : Op) (s t : Ty) → is_comparison op ≡ false → Ready e.structs s → OnTyped (λ u. CanUpdate e.structs op s (operand_type s t)) (updates d place op s t)
 updates_well w d e v place op (integer s) (integer t) c r = c
+updates_well w d e v place op (atomic s) (integer t) c r =
+    on_weaker (λ u. moves op ≡ true) (λ u. CanUpdate e.structs op (atomic s) (integer s)) (unless place TypeMismatch (moves op)) (on_unless place TypeMismatch (moves op)) (λ u m. (moves_is op m, refl, r))
 updates_well w d e v place op (pointer s) (integer t) c r =
     on_bind (λ u. moves op ≡ true) (λ u. CanUpdate e.structs op (pointer s) (integer t)) (unless place TypeMismatch (moves op)) (λ u. unless place BadSize (has_size d.structs s)) (on_unless place TypeMismatch (moves op))
     (λ u m. on_weaker (λ u. has_size d.structs s ≡ true) (λ u. CanUpdate e.structs op (pointer s) (integer t)) (unless place BadSize (has_size d.structs s)) (on_unless place BadSize (has_size d.structs s))
@@ -112,9 +126,10 @@ updates_well w d e v place op _ _ c r = tt
 
 updated_well : (w : World) (r : Ty) (l : Jumps) (d : Context) (e : form.InScope) → Over w d e → (place : ℕ) (op : Op) (a b : Expr) → is_comparison op ≡ false → Fine e a → Fine e b → OnTyped (Stepping w r l e) (updated d place op a b)
 updated_well w r l d e v place op a b c h k =
-    on_bind (λ u. Assignable d a) (Stepping w r l e) (assignable d place a) (λ u. updates d place op (type_of a) (type_of b) >>= λ x. typed (at_stmt place (update a op b))) (assignable_is d place a)
-    (λ u i. on_bind (λ x. CanUpdate e.structs op (type_of a) (type_of b)) (Stepping w r l e) (updates d place op (type_of a) (type_of b)) (λ x. typed (at_stmt place (update a op b)))
-    (updates_well w d e v place op (type_of a) (type_of b) c h.1) (λ x m. ((h.0, k.0, i.0, m), tt)))
+    let o = operand_has e (type_of a) (type_of b) b (k.0, refl) in
+    on_bind (λ u. Assignable d a) (Stepping w r l e) (assignable d place a) (λ u. updates d place op (type_of a) (type_of b) >>= λ x. typed (at_stmt place (update a op (operand_by (type_of a) (type_of b) b)))) (assignable_is d place a)
+    (λ u i. on_bind (λ x. CanUpdate e.structs op (type_of a) (operand_type (type_of a) (type_of b))) (Stepping w r l e) (updates d place op (type_of a) (type_of b)) (λ x. typed (at_stmt place (update a op (operand_by (type_of a) (type_of b) b))))
+    (updates_well w d e v place op (type_of a) (type_of b) c h.1) (λ x m. ((h.0, o.0, i.0, subst (CanUpdate e.structs op (type_of a)) (sym o.1) m), tt)))
 
 step_is : (op : StepOp) → is_comparison (step_op op) ≡ false
 step_is steps.Increment = refl
@@ -206,23 +221,17 @@ local_within c n t = by (is_double c n)
       tt,
     )
 
-scalar_is : (t : Ty) → is_scalar t ≡ true → IsScalar t
-scalar_is (integer t) h = tt
-scalar_is (pointer t) h = tt
-scalar_is void h = absurd cc
-scalar_is mutex h = absurd cc
-scalar_is (array t n) h = absurd cc
-scalar_is (structure n) h = absurd cc
-
-scalar_too : (s t : Ty) → Fits s t → IsScalar t → IsScalar s
+scalar_too : (s t : Ty) → Fits s t → is_scalar t ≡ true → IsScalar s
 scalar_too (integer s) t h k = tt
 scalar_too (pointer s) t h k = tt
 scalar_too void t h k = absurd h
+scalar_too (atomic s) t h k = absurd h
 scalar_too mutex t h k = absurd h
 scalar_too (array s n) t h k = absurd h
-scalar_too (structure m) (structure n) h k = k
+scalar_too (structure m) (structure n) h k = absurd cc
 scalar_too (structure m) void h k = absurd h
 scalar_too (structure m) (integer t) h k = absurd h
+scalar_too (structure m) (atomic t) h k = absurd h
 scalar_too (structure m) mutex h k = absurd h
 scalar_too (structure m) (pointer t) h k = absurd h
 scalar_too (structure m) (array t n) h k = absurd h
@@ -235,7 +244,7 @@ initialised_well : (e : form.InScope) (place : ℕ) (t : Ty) (x : Expr) → IsTy
 initialised_well e place t x h =
     on_bind (λ u. is_scalar t ≡ true) (λ y. IsTyped e y × (Fits (type_of y) t × IsScalar (type_of y))) (unless place TypeMismatch (is_scalar t)) (λ u. or_mismatch place (fitted t x)) (on_unless place TypeMismatch (is_scalar t))
     (λ u s. on_weaker (Fitting e t) (λ y. IsTyped e y × (Fits (type_of y) t × IsScalar (type_of y))) (or_mismatch place (fitted t x)) (on_mismatch (Fitting e t) place (fitted t x) (fits e t x h))
-    (λ y f. (f.0, (f.1, scalar_too (type_of y) t f.1 (scalar_is t s)))))
+    (λ y f. (f.0, (f.1, scalar_too (type_of y) t f.1 s))))
 
 init_keeps : (w : World) (place : ℕ) (t : Ty) (o : Option source.Expr) → Keeps w false (judged_init place (typed t) o) (Starts t)
 init_keeps w place t None = keeps_lone w false (typed None) (Starts t) (λ e. tt)

@@ -5,7 +5,8 @@ use Rattle.std.specs.Map.{lookup}
 use Rattle.std.proofs.lemmas.Bool.Decides.{nat_tests}
 use Rattle.std.proofs.lemmas.Int.{ints}
 use Rattle.ak_words.specs.declared.number.Num.{Num}
-use Rattle.ak_words.specs.IntType.{unsigned_long, IsInRange}
+use Rattle.ak_words.specs.declared.int_type.IntType.{IntType}
+use Rattle.ak_words.specs.IntType.{int, unsigned_long, IsInRange}
 use Rattle.ak_words.proofs.Types.{width_bounds}
 use Rattle.c_lex.specs.declared.refusal.Kind.TheVariants.{DoubleName, TooMany, BadSize}
 use Rattle.c_tree.specs.declared.syntax.Name.{Name}
@@ -13,15 +14,16 @@ use Rattle.c_tree.specs.declared.syntax.TypeWord.{TypeWord}
 use Rattle.c_tree.specs.declared.syntax.Pointer.{Pointer}
 use Rattle.c_tree.specs.declared.syntax.Pointer.TheVariants as stars
 use Rattle.c_tree.specs.Syntax as source
-use Rattle.c_tree.specs.Typed.{Ty, void, integer, mutex, pointer, array, structure, Layout, Expr, at, num}
+use Rattle.c_tree.specs.Typed.{Ty, void, integer, atomic, mutex, pointer, array, structure, Layout, Expr, at, num}
 use Rattle.c_tree.specs.TypedLayout.{greatest_object, layout_size, size_in, IsSized}
+use Rattle.c_tree.specs.TypedForm.{IsPromoted}
 use Rattle.c_tree.specs.TypedForm as form
 use Rattle.c_typing.specs.Faults.{typed, refuse, unless, both, ◌>>=◌}
-use Rattle.c_typing.specs.Types.{same_type, same_types, has_size, is_small, same_words, type_words, behind_pointers, arrays_of, depth_of, most_depth}
+use Rattle.c_typing.specs.Types.{same_type, same_types, has_size, is_small, is_promoted, atomic_by, same_words, type_words, behind_pointers, arrays_of, depth_of, most_depth}
 use Rattle.c_typing.specs.Scope.{Context}
 use Rattle.c_typing.specs.Constants.{constant_value}
 use Rattle.c_typing.specs.Rules.{size_number}
-use Rattle.c_typing.specs.Judgement.{Part, word, whole, type_by, specified, wholes_of, words_of, Declarator, dimension_by, dimension, object_type, plain_type, object_declared, most_members, is_again, fresh_member, node_place}
+use Rattle.c_typing.specs.Judgement.{Part, word, whole, type_by, atomic_if, atomics_in, specified, wholes_of, words_of, Declarator, dimension_by, dimension, object_type, plain_type, object_declared, most_members, is_again, fresh_member, node_place}
 use Rattle.c_typing.proofs.Extending.{Extends, Ready, AreSmall, sized_of, has_size_kept, struct_kept, below, at_most}
 use Rattle.c_typing.proofs.Carried.{OnTyped, OnSome, on_bind, on_unless, on_mismatch, Plain, World, Good, IsObject, Over}
 use Rattle.c_typing.proofs.RuledWell.{Made, plain_ready, same_number, same_int_is, both_hold}
@@ -33,6 +35,7 @@ use Rattle.c_typing.proofs.Braced.{AreObjects, PartReady}
 pub same_type_is : (s t : Ty) → same_type s t ≡ true → s ≡ t
 same_type_is void void h = refl
 same_type_is (integer s) (integer t) h = ap integer (same_int_is s t h)
+same_type_is (atomic s) (atomic t) h = ap atomic (same_int_is s t h)
 same_type_is mutex mutex h = refl
 same_type_is (pointer s) (pointer t) h = ap pointer (same_type_is s t h)
 same_type_is (array s m) (array t n) h =
@@ -80,8 +83,29 @@ wholes_ready e [] h = tt
 wholes_ready e (word w ∷ parts) h = wholes_ready e parts h.1
 wholes_ready e (whole t ∷ parts) h = (h.0, wholes_ready e parts h.1)
 
+-- a number that may be atomic has 32 bits at least
+promoted_is : (t : IntType) → is_promoted t ≡ true → IsPromoted t
+promoted_is t h = ap (λ b. if b then int else t) (not_below t.bits h)
+  where
+    not_below : (n : ℕ) → nat_le 32 n ≡ true → nat_lt n 32 ≡ false
+    not_below n h = grind (arith, nat_tests)
+
+atomic_ready : (s : List Layout) (count : ℕ) (t : Ty) → Ready s t → OnSome (Ready s) (atomic_by count t)
+atomic_ready s zero t h = h
+atomic_ready s (suc zero) (integer t) h = by (is_promoted t) refl
+  where
+    by : (b : Bool) → is_promoted t ≡ b → OnSome (Ready s) (if b then Some (atomic t) else None)
+    by true k = promoted_is t k
+    by false k = tt
+atomic_ready s _ _ h = tt
+
+if_ready : (s : List Layout) (count : ℕ) (o : Option Ty) → OnSome (Ready s) o → OnSome (Ready s) (atomic_if count o)
+if_ready s count None h = tt
+if_ready s count (Some t) h = atomic_ready s count t h
+
 pub specified_ready : (e : form.InScope) (place : ℕ) (parts : List Part) → ArePartsReady e parts → OnTyped (Ready e.structs) (specified place parts)
-specified_ready e place parts h = on_mismatch (Ready e.structs) place (type_by (wholes_of parts) (words_of parts)) (by (wholes_of parts) (words_of parts) (wholes_ready e parts h))
+specified_ready e place parts h = on_mismatch (Ready e.structs) place (atomic_if (atomics_in parts) (type_by (wholes_of parts) (words_of parts)))
+    (if_ready e.structs (atomics_in parts) (type_by (wholes_of parts) (words_of parts)) (by (wholes_of parts) (words_of parts) (wholes_ready e parts h)))
   where
     by : (ts : List Ty) (ws : List TypeWord) → AllByRecursion (Ready e.structs) ts → OnSome (Ready e.structs) (type_by ts ws)
     by [] ws k = find_any (Ready e.structs) (same_words ws) type_words (words_ready e.structs type_words words_plain)
@@ -173,6 +197,7 @@ fresh_few c before n = by (is_again c before n) (nat_lt (length before) most_mem
 size_there : (old new : List Layout) → Extends old new → (t : Ty) → has_size old t ≡ true → size_in new t ≡ size_in old t
 size_there old new f void h = absurd cc
 size_there old new f (integer t) h = refl
+size_there old new f (atomic t) h = refl
 size_there old new f mutex h = refl
 size_there old new f (pointer t) h = refl
 size_there old new f (array t n) h = ap (λ k. k * n) (size_there old new f t h)
@@ -181,6 +206,7 @@ size_there old new f (structure n) h = ap layout_size (struct_kept old new n f (
 size_bound : (s : List Layout) (t : Ty) → IsSized s t → size_in s t ≤ greatest_object
 size_bound s void h = absurd h
 size_bound s (integer t) h = let b = width_bounds t.bits t.known_width in let c = b.1 in omega (arith, c)
+size_bound s (atomic t) h = let b = width_bounds t.bits t.known_width in let c = b.1 in omega (arith, c)
 size_bound s mutex h = omega arith
 size_bound s (pointer t) h = omega arith
 size_bound s (array t n) h = h.2

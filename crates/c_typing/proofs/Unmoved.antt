@@ -10,7 +10,7 @@ use Rattle.c_tree.specs.Syntax as source
 use Rattle.c_tree.specs.Typed.{Ty, Expr, Stmt}
 use Rattle.c_tree.specs.TypedForm.{Jumps, in_loop, in_switch}
 use Rattle.c_typing.specs.Faults.{Judged, typed, faulty, ◌>>=◌}
-use Rattle.c_typing.specs.Scope.{printf, malloc, calloc, realloc, free, memcpy, thrd_create, thrd_join, mtx_init, mtx_lock, mtx_unlock, mtx_destroy, constant}
+use Rattle.c_typing.specs.Scope.{printf, malloc, calloc, realloc, free, memcpy, thrd_create, thrd_join, mtx_init, mtx_lock, mtx_unlock, mtx_destroy, atomic_store, atomic_load, atomic_add, atomic_sub, atomic_swap, atomic_compare, constant, atomic_type}
 use Rattle.c_typing.specs.Scope.{Binding, global_name, local_name, function_name, enumerator_name, type_name, library_name, Frame, Context, bytes_of, meaning_of, is_double, is_struct_tag, with_new_struct, with_tag, tag_number, is_begun, with_begun, with_struct, with_enum, with_listed, with_enumerator, inside, declared}
 use Rattle.c_typing.specs.Judgement.{Judging, lone, in_turn, ruled, member_by, name_in, text_in, node_place, with_addressed, meaning_in, valued, prefixed, format_or, starting_or, called_by, struct_fits, closed, braces_fit, opened, closing, braced, braced_alone, enumerator_value, whole_value, or_zero, enumerated, enum_braced, specs_by}
 use Rattle.c_typing.specs.Judgement.{judged, judged_all, judged_print, judged_start, judged_started, judged_type, judged_parts, judged_spec, judged_enumerator, judged_enumerators, judged_members, judged_member, judged_declarators, judged_dims, judged_specs}
@@ -72,6 +72,13 @@ called_still (Some (library_name mtx_init)) place args print start f g h c = f c
 called_still (Some (library_name mtx_lock)) place args print start f g h c = f c
 called_still (Some (library_name mtx_unlock)) place args print start f g h c = f c
 called_still (Some (library_name mtx_destroy)) place args print start f g h c = f c
+called_still (Some (library_name atomic_store)) place args print start f g h c = f c
+called_still (Some (library_name atomic_load)) place args print start f g h c = f c
+called_still (Some (library_name atomic_add)) place args print start f g h c = f c
+called_still (Some (library_name atomic_sub)) place args print start f g h c = f c
+called_still (Some (library_name atomic_swap)) place args print start f g h c = f c
+called_still (Some (library_name atomic_compare)) place args print start f g h c = f c
+called_still (Some (library_name (atomic_type t))) place args print start f g h c = f c
 called_still (Some (library_name (constant value))) place args print start f g h c = f c
 called_still (Some (global_name n t)) place args print start f g h c = f c
 called_still (Some (local_name n t)) place args print start f g h c = f c
@@ -87,6 +94,13 @@ starting_still : (o : Option Binding) (j : Judging Expr) → Still j → Still (
 starting_still (Some (function_name n params result)) j f c = keeping_itself c
 starting_still (Some (library_name (constant value))) j f c = f c
 starting_still (Some (library_name printf)) j f c = keeping_itself c
+starting_still (Some (library_name atomic_store)) j f c = keeping_itself c
+starting_still (Some (library_name atomic_load)) j f c = keeping_itself c
+starting_still (Some (library_name atomic_add)) j f c = keeping_itself c
+starting_still (Some (library_name atomic_sub)) j f c = keeping_itself c
+starting_still (Some (library_name atomic_swap)) j f c = keeping_itself c
+starting_still (Some (library_name atomic_compare)) j f c = keeping_itself c
+starting_still (Some (library_name (atomic_type t))) j f c = keeping_itself c
 starting_still (Some (library_name malloc)) j f c = keeping_itself c
 starting_still (Some (library_name calloc)) j f c = keeping_itself c
 starting_still (Some (library_name realloc)) j f c = keeping_itself c

@@ -13,7 +13,7 @@ use Rattle.ak_words.specs.Num.{num as number}
 use Rattle.ak_words.specs.inner.InRange.{wrapped_value-in_range}
 use Rattle.c_lex.specs.declared.refusal.Kind.TheVariants.{DoubleName, TypeMismatch, TooMany}
 use Rattle.c_tree.specs.Syntax as source
-use Rattle.c_tree.specs.Typed.{Ty, void, integer, mutex, pointer, array, structure, Expr, at, type_of, Stmt, at_stmt, block, declare, if_, if_else, while_, for_, do_while, switch, Label, case_at, default_at, break_, continue_, return_, empty, stmts_of}
+use Rattle.c_tree.specs.Typed.{Ty, void, integer, atomic, mutex, pointer, array, structure, Expr, at, type_of, Stmt, at_stmt, block, declare, if_, if_else, while_, for_, do_while, switch, Label, case_at, default_at, break_, continue_, return_, empty, stmts_of}
 use Rattle.c_tree.specs.TypedForm.{Jumps, in_loop, in_switch, IsScalar, IsPromoted, IsTyped, IfTyped, IsNoDeclaration, AreNoDeclarations, IsSwitched, IsLabel, Differ, AreApart, stmts_count, IsStep, IsFirst, IsWell, AreWell}
 use Rattle.c_tree.specs.TypedForm as form
 use Rattle.c_typing.specs.Faults.{Judged, typed, faulty, refuse, unless, both, ◌>>=◌}
@@ -150,6 +150,7 @@ one_keeps w r l s j a kj = keeps_ruled w false j (λ c ss. typed (only ss)) (Fin
 void_is : (t : Ty) → is_void t ≡ true → t ≡ void
 void_is void h = refl
 void_is (integer t) h = absurd cc
+void_is (atomic t) h = absurd cc
 void_is mutex h = absurd cc
 void_is (pointer t) h = absurd cc
 void_is (array t n) h = absurd cc
@@ -230,6 +231,7 @@ Switched e x = IsOf (type_of_switch (typed x)) e x
 of_switch : (x : Expr) (t : IntType) → type_of x ≡ integer t → type_of_switch (typed x) ≡ t
 of_switch (at place (integer s) node) t h = cc
 of_switch (at place void node) t h = absurd cc
+of_switch (at place (atomic u) node) t h = absurd cc
 of_switch (at place mutex node) t h = absurd cc
 of_switch (at place (pointer s) node) t h = absurd cc
 of_switch (at place (array s n) node) t h = absurd cc
@@ -240,6 +242,7 @@ switched_well e place (integer t) x h =
     let c = converted_has e t (promoted_type t) x h in
     subst (λ u. IsOf u e (converted t (promoted_type t) x)) (sym (of_switch (converted t (promoted_type t) x) (promoted_type t) c.1)) (c.0, c.1, promoted t)
 switched_well e place void x h = tt
+switched_well e place (atomic t) x h = tt
 switched_well e place mutex x h = tt
 switched_well e place (pointer t) x h = tt
 switched_well e place (array t n) x h = tt

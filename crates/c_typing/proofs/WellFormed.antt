@@ -8,7 +8,7 @@ use Rattle.std.proofs.lemmas.List.Sums.{sum_by-append}
 use Rattle.std.proofs.lemmas.Option.{slice_get-map}
 use Rattle.ak_words.specs.IntType.{int}
 use Rattle.c_lex.specs.declared.refusal.Kind.TheVariants.{UnknownName}
-use Rattle.c_tree.specs.Typed.{Ty, void, integer, mutex, pointer, array, structure, Local, GlobalVar, Func, Typed}
+use Rattle.c_tree.specs.Typed.{Ty, void, integer, atomic, mutex, pointer, array, structure, Local, GlobalVar, Func, Typed}
 use Rattle.c_tree.specs.TypedLayout.{size_in}
 use Rattle.c_tree.specs.TypedForm.{LiesIn, as_part, deeper, IsNth, Signature, signature_of, IsLayout, IsGlobal, IsFunc, IsMain, IsWellFormed, taken}
 use Rattle.c_tree.specs.TypedForm as form
@@ -77,6 +77,7 @@ some_of f None y h = absurd cc
 main_is : (o : Option Binding) → is_main o ≡ true → (n : ℕ) × (o ≡ Some (function_name n [] (integer int)))
 main_is (Some (function_name n [] (integer t))) h = (n, ap (λ u. Some (function_name n [] (integer u))) (same_int_is t int h))
 main_is (Some (function_name n [] void)) h = absurd cc
+main_is (Some (function_name n [] (atomic t))) h = absurd cc
 main_is (Some (function_name n [] mutex)) h = absurd cc
 main_is (Some (function_name n [] (pointer t))) h = absurd cc
 main_is (Some (function_name n [] (array t k))) h = absurd cc

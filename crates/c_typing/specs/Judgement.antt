@@ -2,6 +2,7 @@
 use Rattle.std.specs.Prelude.{ℕ, zero, suc, ◌+◌, nat_le, Bool, false, ◌&&◌, ◌||◌, not, if◌then◌else◌, List, [], ◌∷◌, ◌++◌, length, map, Option, Some, None, ℤ, pos, ◌+ℤ◌, unsigned_abs, int_le}
 use Rattle.std.specs.List.{list_any}
 use Rattle.std.specs.Str.{bytes_eq}
+use Rattle.ak_words.specs.declared.int_type.IntType.{IntType}
 use Rattle.ak_words.specs.declared.number.Num.{Num}
 use Rattle.ak_words.specs.IntType.{char, int, unsigned_long, is_held}
 use Rattle.c_lex.specs.declared.refusal.Kind.{Kind}
@@ -15,12 +16,12 @@ use Rattle.c_tree.specs.declared.syntax.PrefixOp.TheVariants as prefixes
 use Rattle.c_tree.specs.declared.syntax.BinaryOp.{BinaryOp}
 use Rattle.c_tree.specs.declared.syntax.BinaryOp.TheVariants as binaries
 use Rattle.c_tree.specs.Syntax as source
-use Rattle.c_tree.specs.Typed.{Ty, void, integer, mutex, pointer, array, structure, Piece, Expr, at, num, null, literal, global, local, and_also, or_else, call, lib, Exprs, no_exprs, more_exprs, type_of, node_of, place_of, exprs_of}
+use Rattle.c_tree.specs.Typed.{Ty, void, integer, atomic, mutex, pointer, array, structure, Piece, Expr, at, num, null, literal, global, local, deref, and_also, or_else, call, lib, Exprs, no_exprs, more_exprs, type_of, node_of, place_of, exprs_of}
 use Rattle.c_tree.specs.Typed as trees
 use Rattle.c_tree.specs.TypedLayout.{laid_out, greatest_object}
 use Rattle.c_typing.specs.Faults.{Judged, typed, faulty, refuse, unless, both, mapped, ◌>>=◌}
-use Rattle.c_typing.specs.Types.{same_type, same_types, has_size, is_small, says_nothing, named_by, behind_pointers, arrays_of, depth_of, most_depth}
-use Rattle.c_typing.specs.Scope.{Library, printf, malloc, calloc, realloc, free, memcpy, thrd_create, thrd_join, mtx_init, mtx_lock, mtx_unlock, mtx_destroy, constant}
+use Rattle.c_typing.specs.Types.{same_type, same_types, has_size, is_small, says_nothing, is_atomic_word, atomic_by, named_by, behind_pointers, arrays_of, depth_of, most_depth}
+use Rattle.c_typing.specs.Scope.{Library, printf, malloc, calloc, realloc, free, memcpy, thrd_create, thrd_join, mtx_init, mtx_lock, mtx_unlock, mtx_destroy, atomic_store, atomic_load, atomic_add, atomic_sub, atomic_swap, atomic_compare, constant, atomic_type}
 use Rattle.c_typing.specs.Scope.{Binding, global_name, local_name, function_name, enumerator_name, type_name, library_name, Context, bytes_of, meaning_of, fresh, within, fits_plain, tag_number, is_struct_tag, with_new_struct, with_tag, is_begun, with_begun, is_enum_tag, is_listed, with_enum, with_listed, with_enumerator, with_struct}
 use Rattle.c_typing.specs.Rules.{value_of, is_zero, fitted, or_mismatch, tested, target, address, selected, pointed, minus_by, plus_by, not_by, complement_by, operated, element, chosen, cast, size_number}
 use Rattle.c_typing.specs.Constants.{constant_value}
@@ -242,6 +243,36 @@ abbrev pub init_by : (place : ℕ) → List Expr → Judged Expr
 init_by place (m ∷ kind ∷ []) = both (called_lib place trees.mutex_init (pointer mutex ∷ []) (integer int) (m ∷ [])) (plain_kind kind) >>= λ p. typed p.0
 init_by place args = refuse place TypeMismatch
 
+-- the type of the atomic number to which a pointer leads, if it leads to one
+abbrev pub atomic_at : Ty → Option IntType
+atomic_at (pointer (atomic t)) = Some t
+atomic_at t = None
+
+-- the type of the one to which the first of these arguments leads
+abbrev pub atomic_first : List Expr → Option IntType
+atomic_first [] = None
+atomic_first (p ∷ args) = atomic_at (type_of p)
+
+-- the types of the arguments of a call on an atomic number of this type (7.17.2.2, 7.17.7)
+abbrev pub atomic_params : trees.Lib → IntType → List Ty
+atomic_params trees.atomic_compare t = pointer (atomic t) ∷ pointer (integer t) ∷ integer t ∷ []
+atomic_params which t = pointer (atomic t) ∷ integer t ∷ []
+
+-- the type of its result: nothing of a store, an int of a compare and exchange, and else the old number (this project's profile)
+abbrev pub atomic_result : trees.Lib → IntType → Ty
+atomic_result trees.atomic_store t = void
+atomic_result trees.atomic_compare t = integer int
+atomic_result which t = integer t
+
+-- a call on an atomic number, at its name
+abbrev pub called_atomic : (place : ℕ) → trees.Lib → List Expr → Judged Expr
+called_atomic place which args = or_mismatch place (atomic_first args) >>= λ t. called_lib place which (atomic_params which t) (atomic_result which t) args
+
+-- a load of an atomic number, at the call's name (7.17.7.2)
+abbrev pub loaded : (place : ℕ) → List Expr → Judged Expr
+loaded place (p ∷ []) = or_mismatch place (atomic_at (type_of p)) >>= λ t. typed (value_of (at place (atomic t) (deref p)))
+loaded place args = refuse place TypeMismatch
+
 -- a name of the library, called with typed arguments
 abbrev pub called_library : (place : ℕ) → Library → List Expr → Judged Expr
 called_library place malloc args = called_lib place trees.malloc (integer unsigned_long ∷ []) (pointer void) args
@@ -254,6 +285,12 @@ called_library place mtx_init args = init_by place args
 called_library place mtx_lock args = called_lib place trees.mutex_lock (pointer mutex ∷ []) (integer int) args
 called_library place mtx_unlock args = called_lib place trees.mutex_unlock (pointer mutex ∷ []) (integer int) args
 called_library place mtx_destroy args = called_lib place trees.mutex_destroy (pointer mutex ∷ []) void args
+called_library place atomic_store args = called_atomic place trees.atomic_store args
+called_library place atomic_load args = loaded place args
+called_library place atomic_add args = called_atomic place trees.atomic_add args
+called_library place atomic_sub args = called_atomic place trees.atomic_sub args
+called_library place atomic_swap args = called_atomic place trees.atomic_swap args
+called_library place atomic_compare args = called_atomic place trees.atomic_compare args
 called_library place which args = refuse place TypeMismatch
 
 -- a fault at a place, whatever the arguments are
@@ -286,6 +323,12 @@ words_of [] = []
 words_of (word w ∷ rest) = if says_nothing w then words_of rest else w ∷ words_of rest
 words_of (whole t ∷ rest) = words_of rest
 
+-- how often _Atomic stands among specifiers
+abbrev pub atomics_in : List Part → ℕ
+atomics_in [] = 0
+atomics_in (word w ∷ rest) = if is_atomic_word w then 1 + atomics_in rest else atomics_in rest
+atomics_in (whole t ∷ rest) = atomics_in rest
+
 -- the types of their own among specifiers
 abbrev pub wholes_of : List Part → List Ty
 wholes_of [] = []
@@ -298,9 +341,14 @@ type_by [] ws = named_by ws
 type_by (t ∷ []) [] = Some t
 type_by wholes ws = None
 
+-- the type that they name, if they name one, with _Atomic so often beside it
+abbrev pub atomic_if : (count : ℕ) → Option Ty → Option Ty
+atomic_if count None = None
+atomic_if count (Some t) = atomic_by count t
+
 -- the type that specifiers name; where they name none, a mismatch at this place (C11 6.7.2 p2)
 abbrev pub specified : (place : ℕ) → List Part → Judged Ty
-specified place parts = or_mismatch place (type_by (wholes_of parts) (words_of parts))
+specified place parts = or_mismatch place (atomic_if (atomics_in parts) (type_by (wholes_of parts) (words_of parts)))
 
 -- the place of the first specifier
 abbrev pub place_of_spec : source.Spec → ℕ
@@ -502,9 +550,10 @@ enum_braced t list around =
 
 -- ---- names of types (6.7.8)
 
--- what the name of a type stands for
+-- what the name of a type stands for, which may be one of the library's (7.17.6)
 abbrev pub aliased : (place : ℕ) → Option Binding → Judged Part
 aliased place (Some (type_name t)) = typed (whole t)
+aliased place (Some (library_name (atomic_type t))) = typed (whole (atomic t))
 aliased place m = refuse place UnknownName
 
 -- ---- the judgement

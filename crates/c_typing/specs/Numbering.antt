@@ -2,7 +2,8 @@
 use Rattle.std.specs.Prelude.{ℕ, ◌+◌, ◌==◌, nat_lt, Bool, true, false, ◌||◌, if◌then◌else◌, List, [], ◌∷◌, ◌++◌, length, map, drop, Option, Some, None}
 use Rattle.std.specs.List.{list_any}
 use Rattle.std.specs.Option.{option_map}
-use Rattle.c_tree.specs.Typed.{Ty, array, structure, mutex, Local, Func, Expr, at, ExprNode, num, null, literal, global, local, deref, member, address_of, decay, convert, not_, binary, and_also, or_else, choose, pointer_add, pointer_sub, pointer_diff, pointer_compare, pointer_test, call, lib, Exprs, no_exprs, more_exprs, Stmt, at_stmt, StmtNode, block, declare, if_, if_else, while_, for_, do_while, switch, break_, continue_, return_, assign, update, evaluate, empty, Stmts, no_stmts, more_stmts}
+use Rattle.c_typing.specs.Types.{value_type}
+use Rattle.c_tree.specs.Typed.{Ty, atomic, array, structure, mutex, Local, Func, Expr, at, ExprNode, num, null, literal, global, local, deref, member, address_of, decay, convert, not_, binary, and_also, or_else, choose, pointer_add, pointer_sub, pointer_diff, pointer_compare, pointer_test, call, lib, Exprs, no_exprs, more_exprs, Stmt, at_stmt, StmtNode, block, declare, if_, if_else, while_, for_, do_while, switch, break_, continue_, return_, assign, update, evaluate, empty, Stmts, no_stmts, more_stmts}
 
 -- ---- other numbers for the locals of a tree
 
@@ -76,41 +77,46 @@ abbrev mutual
 
 -- ---- a function's locals
 
--- a parameter of a function: the place of its name, and its type
+-- a parameter of a function: the place of its name, and the type with which it is declared
 pub record Param : Type 0 where
   pub place : ℕ
   pub ty : Ty
+
+-- the type that a parameter's argument has: of an atomic number the number's
+abbrev pub passed_type : Param → Ty
+passed_type p = value_type p.ty
+
+-- arrays, structs, mutexes and atomic numbers are in memory, and so is a local whose address is taken
+abbrev pub is_block : Ty → Bool
+is_block (array t n) = true
+is_block (structure n) = true
+is_block mutex = true
+is_block (atomic t) = true
+is_block t = false
 
 -- a number is one of these
 abbrev pub is_in : ℕ → List ℕ → Bool
 is_in n ns = list_any (λ m. n == m) ns
 
--- the parameters whose address is taken, by number from k on
+-- the parameters that are in memory, since they are atomic or their address is taken, by number from k on
 abbrev pub addressed_params : (k : ℕ) → List Param → (addressed : List ℕ) → List (ℕ × Param)
 addressed_params k [] addressed = []
 addressed_params k (p ∷ ps) addressed =
-    if is_in k addressed then (k, p) ∷ addressed_params (1 + k) ps addressed else addressed_params (1 + k) ps addressed
+    if is_block p.ty || is_in k addressed then (k, p) ∷ addressed_params (1 + k) ps addressed else addressed_params (1 + k) ps addressed
 
--- the place of a number among those of the parameters whose address is taken
+-- the place of a number among those of the parameters that are in memory
 abbrev pub place_among : ℕ → List (ℕ × Param) → Option ℕ
 place_among n [] = None
 place_among n ((k, p) ∷ rest) = if n == k then Some 0 else option_map (λ i. 1 + i) (place_among n rest)
 
--- a parameter whose address is taken means a further local, which stands behind the parameters; the other locals behind those
+-- a parameter that is in memory means a further local, which stands behind the parameters; the other locals behind those
 abbrev pub or_number : (params further n : ℕ) → Option ℕ → ℕ
 or_number params further n (Some i) = params + i
 or_number params further n None = if nat_lt n params then n else n + further
 
--- the number that local n gets, in a function of so many parameters of which these have their address taken
+-- the number that local n gets, in a function of so many parameters of which these are in memory
 abbrev pub number_of : (params : ℕ) → List (ℕ × Param) → ℕ → ℕ
 number_of params further n = or_number params (length further) n (place_among n further)
-
--- arrays, structs and mutexes are in memory, and so is a local whose address is taken
-abbrev pub is_block : Ty → Bool
-is_block (array t n) = true
-is_block (structure n) = true
-is_block mutex = true
-is_block t = false
 
 -- locals of these types, by number from k on: each is in memory if its type makes it a block, or its address is taken
 abbrev pub locals_from : (k : ℕ) → (addressed : List ℕ) → List Ty → List Local
@@ -121,7 +127,7 @@ locals_from k addressed (t ∷ ts) = record { ty = t; in_memory = is_block t || 
 abbrev pub copies : (params i : ℕ) → List (ℕ × Param) → Stmts → Stmts
 copies params i [] body = body
 copies params i ((k, p) ∷ rest) body =
-    more_stmts (at_stmt p.place (declare (params + i) (Some (at p.place p.ty (local k))))) (copies params (1 + i) rest body)
+    more_stmts (at_stmt p.place (declare (params + i) (Some (at p.place (passed_type p) (local k))))) (copies params (1 + i) rest body)
 
 -- a function of these parameters, whose locals have these types, the parameters' first, and whose address is taken of these
 abbrev pub func_of : List Param → (locals : List Ty) → (addressed : List ℕ) → (result : Ty) → Stmts → Func
@@ -130,7 +136,7 @@ func_of params locals addressed result body =
     let further = addressed_params 0 params addressed in
     record {
       params = n;
-      locals = map (λ (p : Param). record { ty = p.ty; in_memory = false }) params
+      locals = map (λ (p : Param). record { ty = passed_type p; in_memory = false }) params
           ++ map (λ (x : ℕ × Param). record { ty = x.1.ty; in_memory = true }) further
           ++ locals_from n addressed (drop n locals);
       result = result;

@@ -12,17 +12,17 @@ use Rattle.c_lex.specs.declared.refusal.Kind.TheVariants.{UnknownName, DoubleNam
 use Rattle.c_tree.specs.declared.syntax.Name.{Name}
 use Rattle.c_tree.specs.declared.syntax.Pointer.{Pointer}
 use Rattle.c_tree.specs.Syntax as source
-use Rattle.c_tree.specs.Typed.{Ty, void, integer, pointer, array, structure, mutex, Init, zero_bytes, literal_at, GlobalVar, Func, Typed, Expr, ExprNode, literal, decay, node_of, Stmt, stmts_of}
+use Rattle.c_tree.specs.Typed.{Ty, void, integer, atomic, pointer, array, structure, mutex, Init, zero_bytes, literal_at, GlobalVar, Func, Typed, Expr, ExprNode, literal, decay, node_of, Stmt, stmts_of}
 use Rattle.c_tree.specs.Typed as trees
 use Rattle.c_tree.specs.TypedLayout.{size_in}
 use Rattle.c_typing.specs.Faults.{Judged, typed, faulty, refuse, unless, both, mapped, ◌>>=◌}
-use Rattle.c_typing.specs.Types.{same_int, same_type, same_types, is_void, is_array, is_struct_or_mutex, has_size, behind_pointers, arrays_of}
+use Rattle.c_typing.specs.Types.{same_int, same_type, same_types, is_void, is_array, value_type, is_struct_or_mutex, has_size, behind_pointers, arrays_of}
 use Rattle.c_typing.specs.Scope.{Binding, global_name, function_name, type_name, is_double, with_alias, Frame, Context, at_start, bytes_of, library, fresh, declared, inside, back_to, within, fits_plain}
 use Rattle.c_typing.specs.Rules.{is_zero}
 use Rattle.c_typing.specs.Constants.{constant_value}
 use Rattle.c_typing.specs.Judgement.{Judging, lone, in_turn, ruled, valued, judged, judged_specs, place_of_specs, array_size, object_type, plain_type, Declarator}
 use Rattle.c_typing.specs.Statements.{or_int, most_locals, with_local, judged_declarator, object_of, name_of, judged_stmts}
-use Rattle.c_typing.specs.Numbering.{Param, func_of}
+use Rattle.c_typing.specs.Numbering.{Param, passed_type, func_of}
 use Rattle.c_tree.specs.TypedForm.{taken, in_function}
 
 -- ---- globals (6.9.2, 6.7.9)
@@ -38,7 +38,7 @@ abbrev pub literal_of : ExprNode → Option ℕ
 literal_of (decay (trees.at place ty (literal n))) = Some n
 literal_of node = None
 
--- what an integer of this type starts with: the value of an integer constant expression, converted
+-- what an integer of this type, also an atomic one, starts with: the value of an integer constant expression, converted
 abbrev pub number_at : IntType → Option Num → Option Init
 number_at t None = None
 number_at t (Some n) = Some (trees.number t (number t n.value).value)
@@ -56,6 +56,7 @@ pointer_at c t e x = if is_null_word e || is_zero (node_of x) then Some zero_byt
 -- have none (this project's profile)
 abbrev pub init_at : Context → Ty → source.Expr → Expr → Option Init
 init_at c (integer t) e x = number_at t (constant_value c e x)
+init_at c (atomic t) e x = number_at t (constant_value c e x)
 init_at c (pointer t) e x = pointer_at c t e x
 init_at c t e x = None
 
@@ -263,9 +264,9 @@ abbrev pub result_type : (place : ℕ) → Ty → Judged Ty
 result_type place t =
     both (unless place TypeMismatch (not (is_array t))) (unless place (OutsideSubset 13) (not (is_struct_or_mutex t))) >>= λ u. plain_type place t
 
--- what a function returns, by the type that its specifiers name
+-- what a function returns, by the type that its specifiers name; of an atomic number the number
 abbrev pub result_of : (place : ℕ) → (base : Judged Ty) → List Pointer → Judged Ty
-result_of place base pointers = base >>= λ t. result_type place (behind_pointers t pointers)
+result_of place base pointers = base >>= λ t. result_type place (value_type (behind_pointers t pointers))
 
 -- what is judged at a function's name, whatever its type is
 abbrev pub name_fine : Context → (names : List (List ℕ)) → Name → Option source.Body → Judged (Unit {0})
@@ -274,7 +275,7 @@ name_fine c names n body =
 
 -- a function that is declared again has the type that it had
 abbrev pub type_fine : Context → Name → List Param → Ty → Judged (Unit {0})
-type_fine c n params result = agrees n.from (map (λ (p : Param). p.ty) params) result (before_name c n)
+type_fine c n params result = agrees n.from (map passed_type params) result (before_name c n)
 
 -- the same, where its parameters and its result are typed
 abbrev pub types_fine : Context → Name → Judged (List Param) → Judged Ty → Judged (Unit {0})
@@ -286,7 +287,7 @@ head_fine c names n body params result = both (name_fine c names n body) (types_
 
 -- the types of parameters, or none where one is at fault
 abbrev pub types_or : Judged (List Param) → List Ty
-types_or (typed ps) = map (λ (p : Param). p.ty) ps
+types_or (typed ps) = map passed_type ps
 types_or (faulty r rs) = []
 
 -- behind its declarator the function's name is in scope

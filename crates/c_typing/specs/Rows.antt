@@ -244,6 +244,46 @@ realloc_of_a_number_tree = record { externals = ((source.external_of [] ((source
 abbrev realloc_declared_tree : source.File
 realloc_declared_tree = record { externals = ((source.external_of [] ((source.word 0 words.Int) ∷ []) (source.variables ((record { declarator = (source.declarator [] (name 4 11) source.no_exprs); value = None }) ∷ []))) ∷ (source.external_of [] ((source.word 12 words.Int) ∷ []) (source.function [] (name 16 20) ((record { specs = ((source.word 21 words.Void) ∷ []); pointers = []; name = None; dims = [] }) ∷ []) (Some (record { place = 26; items = ((source.return 27 (Some (source.int 34 (num int (pos 0))))) ∷ []) })))) ∷ []) }
 
+-- _Atomic long n=1;int main(void){n+=2;n=5;return atomic_exchange(&n,3)==n;}
+abbrev atomic_number_tree : source.File
+atomic_number_tree = record { externals = ((source.external_of [] ((source.word 0 words.Atomic) ∷ (source.word 8 words.Long) ∷ []) (source.variables ((record { declarator = (source.declarator [] (name 13 14) source.no_exprs); value = (Some (source.int 15 (num int (pos 1)))) }) ∷ []))) ∷ (source.external_of [] ((source.word 17 words.Int) ∷ []) (source.function [] (name 21 25) ((record { specs = ((source.word 26 words.Void) ∷ []); pointers = []; name = None; dims = [] }) ∷ []) (Some (record { place = 31; items = ((source.simple (source.assign 33 assigns.Add (source.name (name 32 33)) (source.int 35 (num int (pos 2))))) ∷ (source.simple (source.assign 38 assigns.Plain (source.name (name 37 38)) (source.int 39 (num int (pos 5))))) ∷ (source.return 41 (Some (source.binary 69 (binaries.Value ops.Eq) (source.call (name 48 63) (source.more_exprs (source.prefix 64 prefixes.AddressOf (source.name (name 65 66))) (source.more_exprs (source.int 67 (num int (pos 3))) source.no_exprs))) (source.name (name 71 72))))) ∷ []) })))) ∷ []) }
+
+-- atomic_int n;int main(void){int e=4;return atomic_compare_exchange_weak(&n,&e,9)+atomic_load(&n);}
+abbrev atomic_calls_tree : source.File
+atomic_calls_tree = record { externals = ((source.external_of [] ((source.alias (name 0 10)) ∷ []) (source.variables ((record { declarator = (source.declarator [] (name 11 12) source.no_exprs); value = None }) ∷ []))) ∷ (source.external_of [] ((source.word 13 words.Int) ∷ []) (source.function [] (name 17 21) ((record { specs = ((source.word 22 words.Void) ∷ []); pointers = []; name = None; dims = [] }) ∷ []) (Some (record { place = 27; items = ((source.declare (record { specs = ((source.word 28 words.Int) ∷ []); declarators = ((record { declarator = (source.declarator [] (name 32 33) source.no_exprs); value = (Some (source.int 34 (num int (pos 4)))) }) ∷ []) })) ∷ (source.return 36 (Some (source.binary 80 (binaries.Value ops.Add) (source.call (name 43 71) (source.more_exprs (source.prefix 72 prefixes.AddressOf (source.name (name 73 74))) (source.more_exprs (source.prefix 75 prefixes.AddressOf (source.name (name 76 77))) (source.more_exprs (source.int 78 (num int (pos 9))) source.no_exprs)))) (source.call (name 81 92) (source.more_exprs (source.prefix 93 prefixes.AddressOf (source.name (name 94 95))) source.no_exprs))))) ∷ []) })))) ∷ []) }
+
+-- int f(_Atomic int a){a++;return a;}int main(void){return f(1);}
+abbrev atomic_parameter_tree : source.File
+atomic_parameter_tree = record { externals = ((source.external_of [] ((source.word 0 words.Int) ∷ []) (source.function [] (name 4 5) ((record { specs = ((source.word 6 words.Atomic) ∷ (source.word 14 words.Int) ∷ []); pointers = []; name = (Some (name 18 19)); dims = [] }) ∷ []) (Some (record { place = 20; items = ((source.simple (source.after 22 steps.Increment (source.name (name 21 22)))) ∷ (source.return 25 (Some (source.name (name 32 33)))) ∷ []) })))) ∷ (source.external_of [] ((source.word 35 words.Int) ∷ []) (source.function [] (name 39 43) ((record { specs = ((source.word 44 words.Void) ∷ []); pointers = []; name = None; dims = [] }) ∷ []) (Some (record { place = 49; items = ((source.return 50 (Some (source.call (name 57 58) (source.more_exprs (source.int 59 (num int (pos 1))) source.no_exprs)))) ∷ []) })))) ∷ []) }
+
+-- _Atomic _Atomic int n;int main(void){return 0;}
+abbrev atomic_twice_tree : source.File
+atomic_twice_tree = record { externals = ((source.external_of [] ((source.word 0 words.Atomic) ∷ (source.word 8 words.Atomic) ∷ (source.word 16 words.Int) ∷ []) (source.variables ((record { declarator = (source.declarator [] (name 20 21) source.no_exprs); value = None }) ∷ []))) ∷ (source.external_of [] ((source.word 22 words.Int) ∷ []) (source.function [] (name 26 30) ((record { specs = ((source.word 31 words.Void) ∷ []); pointers = []; name = None; dims = [] }) ∷ []) (Some (record { place = 36; items = ((source.return 37 (Some (source.int 44 (num int (pos 0))))) ∷ []) })))) ∷ []) }
+
+-- char _Atomic n;int main(void){return 0;}
+abbrev atomic_char_tree : source.File
+atomic_char_tree = record { externals = ((source.external_of [] ((source.word 0 words.Char) ∷ (source.word 5 words.Atomic) ∷ []) (source.variables ((record { declarator = (source.declarator [] (name 13 14) source.no_exprs); value = None }) ∷ []))) ∷ (source.external_of [] ((source.word 15 words.Int) ∷ []) (source.function [] (name 19 23) ((record { specs = ((source.word 24 words.Void) ∷ []); pointers = []; name = None; dims = [] }) ∷ []) (Some (record { place = 29; items = ((source.return 30 (Some (source.int 37 (num int (pos 0))))) ∷ []) })))) ∷ []) }
+
+-- _Atomic atomic_int n;int main(void){return 0;}
+abbrev atomic_of_atomic_tree : source.File
+atomic_of_atomic_tree = record { externals = ((source.external_of [] ((source.word 0 words.Atomic) ∷ (source.alias (name 8 18)) ∷ []) (source.variables ((record { declarator = (source.declarator [] (name 19 20) source.no_exprs); value = None }) ∷ []))) ∷ (source.external_of [] ((source.word 21 words.Int) ∷ []) (source.function [] (name 25 29) ((record { specs = ((source.word 30 words.Void) ∷ []); pointers = []; name = None; dims = [] }) ∷ []) (Some (record { place = 35; items = ((source.return 36 (Some (source.int 43 (num int (pos 0))))) ∷ []) })))) ∷ []) }
+
+-- _Atomic int n;int main(void){n*=2;return 0;}
+abbrev atomic_product_tree : source.File
+atomic_product_tree = record { externals = ((source.external_of [] ((source.word 0 words.Atomic) ∷ (source.word 8 words.Int) ∷ []) (source.variables ((record { declarator = (source.declarator [] (name 12 13) source.no_exprs); value = None }) ∷ []))) ∷ (source.external_of [] ((source.word 14 words.Int) ∷ []) (source.function [] (name 18 22) ((record { specs = ((source.word 23 words.Void) ∷ []); pointers = []; name = None; dims = [] }) ∷ []) (Some (record { place = 28; items = ((source.simple (source.assign 30 assigns.Mul (source.name (name 29 30)) (source.int 32 (num int (pos 2))))) ∷ (source.return 34 (Some (source.int 41 (num int (pos 0))))) ∷ []) })))) ∷ []) }
+
+-- _Atomic int n;int main(void){int *p=&n;return 0;}
+abbrev atomic_pointer_tree : source.File
+atomic_pointer_tree = record { externals = ((source.external_of [] ((source.word 0 words.Atomic) ∷ (source.word 8 words.Int) ∷ []) (source.variables ((record { declarator = (source.declarator [] (name 12 13) source.no_exprs); value = None }) ∷ []))) ∷ (source.external_of [] ((source.word 14 words.Int) ∷ []) (source.function [] (name 18 22) ((record { specs = ((source.word 23 words.Void) ∷ []); pointers = []; name = None; dims = [] }) ∷ []) (Some (record { place = 28; items = ((source.declare (record { specs = ((source.word 29 words.Int) ∷ []); declarators = ((record { declarator = (source.declarator (pointers.Star ∷ []) (name 34 35) source.no_exprs); value = (Some (source.prefix 36 prefixes.AddressOf (source.name (name 37 38)))) }) ∷ []) })) ∷ (source.return 39 (Some (source.int 46 (num int (pos 0))))) ∷ []) })))) ∷ []) }
+
+-- int n;int main(void){return atomic_load(&n);}
+abbrev atomic_load_of_int_tree : source.File
+atomic_load_of_int_tree = record { externals = ((source.external_of [] ((source.word 0 words.Int) ∷ []) (source.variables ((record { declarator = (source.declarator [] (name 4 5) source.no_exprs); value = None }) ∷ []))) ∷ (source.external_of [] ((source.word 6 words.Int) ∷ []) (source.function [] (name 10 14) ((record { specs = ((source.word 15 words.Void) ∷ []); pointers = []; name = None; dims = [] }) ∷ []) (Some (record { place = 20; items = ((source.return 21 (Some (source.call (name 28 39) (source.more_exprs (source.prefix 40 prefixes.AddressOf (source.name (name 41 42))) source.no_exprs)))) ∷ []) })))) ∷ []) }
+
+-- typedef int atomic_int;int main(void){return 0;}
+abbrev atomic_declared_tree : source.File
+atomic_declared_tree = record { externals = ((source.types_by ((source.word 8 words.Int) ∷ []) ((source.declarator [] (name 12 22) source.no_exprs) ∷ [])) ∷ (source.external_of [] ((source.word 23 words.Int) ∷ []) (source.function [] (name 27 31) ((record { specs = ((source.word 32 words.Void) ∷ []); pointers = []; name = None; dims = [] }) ∷ []) (Some (record { place = 37; items = ((source.return 38 (Some (source.int 45 (num int (pos 0))))) ∷ []) })))) ∷ []) }
+
 -- the rows: a text with its tree, and the fault that is named, at its place, or none where the program is accepted
 pub record Rows : Type 0 where
   pub unknown_name : refusal_of (codes "int main(void){return b;}") unknown_name_tree ≡ at 22 kinds.UnknownName
@@ -298,5 +338,15 @@ pub record Rows : Type 0 where
   pub calloc_of_one : refusal_of (codes "int main(void){void *p=calloc(4);return 0;}") calloc_of_one_tree ≡ at 23 kinds.TypeMismatch
   pub realloc_of_a_number : refusal_of (codes "int main(void){void *p=realloc(8,8);return 0;}") realloc_of_a_number_tree ≡ at 23 kinds.TypeMismatch
   pub realloc_declared : refusal_of (codes "int realloc;int main(void){return 0;}") realloc_declared_tree ≡ at 4 kinds.DoubleName
+  pub atomic_number : refusal_of (codes "_Atomic long n=1;int main(void){n+=2;n=5;return atomic_exchange(&n,3)==n;}") atomic_number_tree ≡ None
+  pub atomic_calls : refusal_of (codes "atomic_int n;int main(void){int e=4;return atomic_compare_exchange_weak(&n,&e,9)+atomic_load(&n);}") atomic_calls_tree ≡ None
+  pub atomic_parameter : refusal_of (codes "int f(_Atomic int a){a++;return a;}int main(void){return f(1);}") atomic_parameter_tree ≡ None
+  pub atomic_twice : refusal_of (codes "_Atomic _Atomic int n;int main(void){return 0;}") atomic_twice_tree ≡ at 0 kinds.TypeMismatch
+  pub atomic_char : refusal_of (codes "char _Atomic n;int main(void){return 0;}") atomic_char_tree ≡ at 0 kinds.TypeMismatch
+  pub atomic_of_atomic : refusal_of (codes "_Atomic atomic_int n;int main(void){return 0;}") atomic_of_atomic_tree ≡ at 0 kinds.TypeMismatch
+  pub atomic_product : refusal_of (codes "_Atomic int n;int main(void){n*=2;return 0;}") atomic_product_tree ≡ at 30 kinds.TypeMismatch
+  pub atomic_pointer : refusal_of (codes "_Atomic int n;int main(void){int *p=&n;return 0;}") atomic_pointer_tree ≡ at 34 kinds.TypeMismatch
+  pub atomic_load_of_int : refusal_of (codes "int n;int main(void){return atomic_load(&n);}") atomic_load_of_int_tree ≡ at 28 kinds.TypeMismatch
+  pub atomic_declared : refusal_of (codes "typedef int atomic_int;int main(void){return 0;}") atomic_declared_tree ≡ at 12 kinds.DoubleName
   -- the block of a header holds each local that it declares, and the loop with the last of them
   pub one_block : (place : ℕ) (a b c : Stmt) (loop : Stmt → Stmt) → headed place (a ∷ b ∷ c ∷ []) loop ≡ at_stmt place (block (more_stmts a (more_stmts b (more_stmts (loop c) no_stmts))))

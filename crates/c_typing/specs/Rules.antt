@@ -9,17 +9,18 @@ use Rattle.ak_words.specs.Op.{result_type}
 use Rattle.ak_words.specs.Wrapped.{wrapped_value}
 use Rattle.c_lex.specs.declared.refusal.Kind.TheVariants.{UnknownName, TypeMismatch, NotAnLvalue, BadSize, OutsideSubset}
 use Rattle.c_tree.specs.declared.syntax.Name.{Name}
-use Rattle.c_tree.specs.Typed.{Ty, void, integer, pointer, array, structure, Expr, at, ExprNode, num, null, literal, global, local, deref, member, address_of, decay, convert, not_, binary, choose, pointer_add, pointer_sub, pointer_diff, pointer_compare, pointer_test, place_of, type_of, node_of}
+use Rattle.c_tree.specs.Typed.{Ty, void, integer, atomic, pointer, array, structure, Expr, at, ExprNode, num, null, literal, global, local, deref, member, address_of, decay, convert, not_, binary, choose, pointer_add, pointer_sub, pointer_diff, pointer_compare, pointer_test, place_of, type_of, node_of}
 use Rattle.c_tree.specs.TypedLayout.{size_in}
 use Rattle.c_typing.specs.Faults.{Judged, typed, refuse, unless, ◌>>=◌}
-use Rattle.c_typing.specs.Types.{same_int, same_type, is_void, has_size}
+use Rattle.c_typing.specs.Types.{same_int, same_type, is_void, value_type, has_size}
 use Rattle.c_typing.specs.Scope.{Context, member_of}
 
 -- ---- conversions (6.3)
 
--- the value of an operand: an array becomes a pointer to its first element (6.3.2.1 p3)
+-- the value of an operand: an array becomes a pointer to its first element, and an atomic number is read as the number (6.3.2.1 p2, p3)
 abbrev pub value_by : Ty → Expr → Expr
 value_by (array t n) e = at (place_of e) (pointer t) (decay e)
+value_by (atomic t) e = at (place_of e) (integer t) (convert e)
 value_by t e = e
 
 -- the value of a typed operand
@@ -45,10 +46,12 @@ pointer_fitted s t e =
     if same_type s t then Some e
     else fitted_if (at (place_of e) (pointer t) (convert e)) (is_void s || is_void t)
 
--- an expression of type s where type t is wanted, as by assignment (6.5.16.1), converted: a number for a number, a pointer to the same type,
+-- an expression of type s where type t is wanted, as by assignment (6.5.16.1), converted: a number for a number, also for an atomic
+-- one, a pointer to the same type,
 -- any pointer for or from a `void *`, the constant 0 for a pointer, and the same struct; or none where it doesn't fit
 abbrev pub fitted_by : (s t : Ty) → Expr → Option Expr
 fitted_by (integer s) (integer t) e = Some (converted s t e)
+fitted_by (integer s) (atomic t) e = Some (converted s t e)
 fitted_by (integer s) (pointer t) e = fitted_if (at (place_of e) (pointer t) null) (is_zero (node_of e))
 fitted_by (pointer s) (pointer t) e = pointer_fitted s t e
 fitted_by (structure m) (structure n) e = fitted_if e (nat_eq m n)
@@ -282,9 +285,9 @@ cast_by place (integer s) (pointer t) e = cast_number_by place t (is_zero (node_
 cast_by place (pointer s) (integer t) e = refuse place (OutsideSubset 11)
 cast_by place s t e = refuse place TypeMismatch
 
--- (t)e, by the type of e
+-- (t)e, by the type of e; to an atomic number it is a conversion to the number
 abbrev pub cast : ℕ → Ty → Expr → Judged Expr
-cast place t e = cast_by place (type_of e) t e
+cast place t e = cast_by place (type_of e) (value_type t) e
 
 -- sizeof, of a type that has a size (6.5.3.4)
 abbrev pub size_number : Context → ℕ → Ty → Judged Expr

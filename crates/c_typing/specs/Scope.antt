@@ -4,6 +4,8 @@ use Rattle.std.specs.List.{slice_range, list_any}
 use Rattle.std.specs.Map.{lookup}
 use Rattle.std.specs.Option.{is_some}
 use Rattle.std.specs.Str.{bytes_eq}
+use Rattle.ak_words.specs.declared.int_type.IntType.{IntType}
+use Rattle.ak_words.specs.IntType.{int, unsigned_int, long, unsigned_long}
 use Rattle.c_lex.specs.declared.refusal.Kind.TheVariants.{DoubleName, TooMany}
 use Rattle.c_tree.specs.declared.syntax.Name.{Name}
 use Rattle.c_tree.specs.Typed.{Ty, Layout}
@@ -13,7 +15,8 @@ use Rattle.c_tree.specs.TypedForm.{taken}
 
 -- ---- the library
 
--- a name of the library: a call, or an int
+-- a name of the library: a call, of which atomic_init and atomic_store are one, and so are the two of compare and exchange; an int; or an
+-- atomic type
 pub data Library : Type 0 where
   printf : Library
   malloc : Library
@@ -27,15 +30,27 @@ pub data Library : Type 0 where
   mtx_lock : Library
   mtx_unlock : Library
   mtx_destroy : Library
+  atomic_store : Library
+  atomic_load : Library
+  atomic_add : Library
+  atomic_sub : Library
+  atomic_swap : Library
+  atomic_compare : Library
   constant : (value : ℤ) → Library
+  atomic_type : (t : IntType) → Library
 
--- the names of the library that the language has (7.21, 7.22, 7.24, 7.26)
+-- the names of the library that the language has (7.17, 7.21, 7.22, 7.24, 7.26)
 unfoldable pub library : List (List ℕ × Library)
 library = (codes "printf", printf) ∷ (codes "malloc", malloc) ∷ (codes "calloc", calloc) ∷ (codes "realloc", realloc)
     ∷ (codes "free", free) ∷ (codes "memcpy", memcpy)
     ∷ (codes "thrd_create", thrd_create) ∷ (codes "thrd_join", thrd_join)
     ∷ (codes "mtx_init", mtx_init) ∷ (codes "mtx_lock", mtx_lock) ∷ (codes "mtx_unlock", mtx_unlock) ∷ (codes "mtx_destroy", mtx_destroy)
-    ∷ (codes "mtx_plain", constant (pos 0)) ∷ (codes "thrd_success", constant (pos 0)) ∷ (codes "thrd_error", constant (pos 1)) ∷ []
+    ∷ (codes "atomic_init", atomic_store) ∷ (codes "atomic_store", atomic_store) ∷ (codes "atomic_load", atomic_load)
+    ∷ (codes "atomic_fetch_add", atomic_add) ∷ (codes "atomic_fetch_sub", atomic_sub) ∷ (codes "atomic_exchange", atomic_swap)
+    ∷ (codes "atomic_compare_exchange_strong", atomic_compare) ∷ (codes "atomic_compare_exchange_weak", atomic_compare)
+    ∷ (codes "mtx_plain", constant (pos 0)) ∷ (codes "thrd_success", constant (pos 0)) ∷ (codes "thrd_error", constant (pos 1))
+    ∷ (codes "atomic_int", atomic_type int) ∷ (codes "atomic_uint", atomic_type unsigned_int)
+    ∷ (codes "atomic_long", atomic_type long) ∷ (codes "atomic_ulong", atomic_type unsigned_long) ∷ []
 
 -- ---- names
 

@@ -14,7 +14,7 @@ use Rattle.c_tree.specs.declared.syntax.StepOp.TheVariants as steps
 use Rattle.c_tree.specs.declared.syntax.AssignOp.{AssignOp}
 use Rattle.c_tree.specs.declared.syntax.AssignOp.TheVariants as assigns
 use Rattle.c_tree.specs.Syntax as source
-use Rattle.c_tree.specs.Typed.{Ty, integer, pointer, Expr, at, num, type_of, node_of, place_of, Stmt, at_stmt, StmtNode, block, declare, if_, if_else, while_, for_, do_while, switch, Label, case_at, default_at, break_, continue_, return_, assign, update, evaluate, empty, stmts_of}
+use Rattle.c_tree.specs.Typed.{Ty, integer, atomic, pointer, Expr, at, num, type_of, node_of, place_of, Stmt, at_stmt, StmtNode, block, declare, if_, if_else, while_, for_, do_while, switch, Label, case_at, default_at, break_, continue_, return_, assign, update, evaluate, empty, stmts_of}
 use Rattle.c_tree.specs.TypedForm.{Jumps, in_loop, in_switch}
 use Rattle.c_typing.specs.Faults.{Judged, typed, faulty, refuse, unless, both, ◌>>=◌}
 use Rattle.c_typing.specs.Types.{is_void, is_array, is_scalar, has_size, is_declared}
@@ -36,22 +36,28 @@ abbrev pub assigned : Context → (place : ℕ) → Expr → Expr → Judged Stm
 assigned c place left right =
     assignable c place left >>= λ u. or_mismatch place (fitted (type_of left) (value_of right)) >>= λ x. typed (at_stmt place (assign left x))
 
--- + and - also move a pointer to elements that have a size
+-- + and - also move a pointer to elements that have a size, and they alone change an atomic number (this project's profile)
 abbrev pub moves : Op → Bool
 moves ops.Add = true
 moves ops.Sub = true
 moves op = false
 
--- what a compound assignment takes: two numbers, or a pointer and a number (6.5.16.2)
+-- what a compound assignment takes: two numbers, an atomic number and a number, or a pointer and a number (6.5.16.2)
 abbrev pub updates : Context → (place : ℕ) → Op → (s t : Ty) → Judged (Unit {0})
 updates c place op (integer s) (integer t) = typed tt
+updates c place op (atomic s) (integer t) = unless place TypeMismatch (moves op)
 updates c place op (pointer s) (integer t) = unless place TypeMismatch (moves op) >>= λ u. unless place BadSize (has_size c.structs s)
 updates c place op s t = refuse place TypeMismatch
+
+-- what is added to an atomic number, or taken away, is converted to its type; an operand of any other object stays as it is
+abbrev pub operand_by : (s t : Ty) → Expr → Expr
+operand_by (atomic s) (integer t) e = converted t s e
+operand_by s t e = e
 
 -- left op= right
 abbrev pub updated : Context → (place : ℕ) → Op → Expr → Expr → Judged Stmt
 updated c place op left right =
-    assignable c place left >>= λ u. updates c place op (type_of left) (type_of right) >>= λ v. typed (at_stmt place (update left op right))
+    assignable c place left >>= λ u. updates c place op (type_of left) (type_of right) >>= λ v. typed (at_stmt place (update left op (operand_by (type_of left) (type_of right) right)))
 
 -- ++ and -- add and subtract 1
 abbrev pub step_op : StepOp → Op

@@ -1,5 +1,5 @@
 -- Types, compared and completed (C11 6.2.5, 6.2.7, 6.7.2).
-use Rattle.std.specs.Prelude.{refl, ℕ, nat_le, nat_lt, nat_eq, Bool, true, false, ◌+◌, ◌&&◌, List, [], ◌∷◌, slice_get, Option, if◌then◌else◌}
+use Rattle.std.specs.Prelude.{refl, ℕ, zero, suc, nat_le, nat_lt, nat_eq, Bool, true, false, ◌+◌, ◌&&◌, List, [], ◌∷◌, slice_get, Option, Some, None, if◌then◌else◌}
 use Rattle.std.specs.Bool.{beq}
 use Rattle.std.specs.List.{list_all}
 use Rattle.std.specs.Map.{lookup}
@@ -9,7 +9,7 @@ use Rattle.c_tree.specs.declared.syntax.TypeWord.{TypeWord}
 use Rattle.c_tree.specs.declared.syntax.TypeWord.TheVariants as words
 use Rattle.c_tree.specs.declared.syntax.Pointer.{Pointer}
 use Rattle.c_tree.specs.declared.syntax.Pointer.TheVariants as pointers
-use Rattle.c_tree.specs.Typed.{Ty, void, integer, mutex, pointer, array, structure, Layout}
+use Rattle.c_tree.specs.Typed.{Ty, void, integer, atomic, mutex, pointer, array, structure, Layout}
 use Rattle.c_tree.specs.TypedLayout.{greatest_object, size_in, layout_size}
 
 -- one integer type
@@ -20,6 +20,7 @@ same_int s t = beq s.signed t.signed && nat_eq s.bits t.bits
 abbrev pub same_type : Ty → Ty → Bool
 same_type void void = true
 same_type (integer s) (integer t) = same_int s t
+same_type (atomic s) (atomic t) = same_int s t
 same_type mutex mutex = true
 same_type (pointer s) (pointer t) = same_type s t
 same_type (array s m) (array t n) = same_type s t && nat_eq m n
@@ -43,11 +44,17 @@ abbrev pub is_array : Ty → Bool
 is_array (array t n) = true
 is_array t = false
 
--- a number or a pointer
+-- a number, also an atomic one, or a pointer
 abbrev pub is_scalar : Ty → Bool
 is_scalar (integer t) = true
+is_scalar (atomic t) = true
 is_scalar (pointer t) = true
 is_scalar t = false
+
+-- the type of what is read from an object of a type: from an atomic number the number (6.3.2.1 p2)
+abbrev pub value_type : Ty → Ty
+value_type (atomic t) = integer t
+value_type t = t
 
 -- what can't be a parameter, a result or the type of a cast
 abbrev pub is_struct_or_mutex : Ty → Bool
@@ -59,6 +66,7 @@ is_struct_or_mutex t = false
 abbrev pub has_size : List Layout → Ty → Bool
 has_size structs void = false
 has_size structs (integer t) = true
+has_size structs (atomic t) = true
 has_size structs mutex = true
 has_size structs (pointer t) = true
 has_size structs (array t n) = has_size structs t
@@ -75,11 +83,12 @@ is_small structs t = nat_le (size_in structs t) greatest_object
 
 -- ---- the words of a declaration (6.7.2 p2)
 
--- const, register and auto say nothing of the type
+-- const, register and auto say nothing of the type, and _Atomic only that it is atomic
 abbrev pub says_nothing : TypeWord → Bool
 says_nothing words.Const = true
 says_nothing words.Register = true
 says_nothing words.Auto = true
+says_nothing words.Atomic = true
 says_nothing w = false
 
 -- the words in the order of their declaration
@@ -97,6 +106,7 @@ word_number words.MtxT = 9
 word_number words.Const = 10
 word_number words.Register = 11
 word_number words.Auto = 12
+word_number words.Atomic = 13
 
 -- how often a word stands in a list
 abbrev pub times : TypeWord → List TypeWord → ℕ
@@ -161,6 +171,22 @@ type_words = (words.Void ∷ [], void)
 abbrev pub named_by : List TypeWord → Option Ty
 named_by ws = lookup (same_words ws) type_words
 
+-- the word _Atomic (6.7.3)
+abbrev pub is_atomic_word : TypeWord → Bool
+is_atomic_word words.Atomic = true
+is_atomic_word w = false
+
+-- a number of 32 or 64 bits: of those that there are, one of 32 at least
+abbrev pub is_promoted : IntType → Bool
+is_promoted t = nat_le 32 t.bits
+
+-- a type with _Atomic so often beside it: not at all, or once beside a number of 32 or 64 bits, which becomes atomic (6.7.3 p3; this project's
+-- profile)
+abbrev pub atomic_by : (count : ℕ) → Ty → Option Ty
+atomic_by zero t = Some t
+atomic_by (suc zero) (integer t) = if is_promoted t then Some (atomic t) else None
+atomic_by count t = None
+
 -- ---- pointers and arrays (6.7.6.1, 6.7.6.2)
 
 -- a pointer for each star; const and restrict say nothing of the type
@@ -174,6 +200,7 @@ behind_pointers t (pointers.Restrict ∷ ps) = behind_pointers t ps
 abbrev pub depth_of : Ty → ℕ
 depth_of void = 0
 depth_of (integer t) = 0
+depth_of (atomic t) = 0
 depth_of mutex = 0
 depth_of (pointer t) = 1 + depth_of t
 depth_of (array t n) = 1 + depth_of t

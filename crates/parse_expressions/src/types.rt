@@ -56,11 +56,14 @@ pub fn specs(parser: &mut Parser<'_>, room: u32, braces: bool) -> Result<Vec<Spe
     Ok(all)
 }
 
-/// A word is of a type: `const`, `register` and `auto` are not.
+/// A word is of a type: `const`, `register`, `auto` and `_Atomic` are not.
 fn is_of_type(word: TypeWord) -> bool
     ensures { result ≡ is_of_type word }
 {
-    !matches!(word, TypeWord::Const | TypeWord::Register | TypeWord::Auto)
+    !matches!(
+        word,
+        TypeWord::Const | TypeWord::Register | TypeWord::Auto | TypeWord::Atomic
+    )
 }
 
 /// Whether a type stands before what is behind the specifier, where one stands before it or doesn't.

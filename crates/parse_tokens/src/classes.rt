@@ -128,6 +128,7 @@ pub fn type_of(word: Word) -> Option<TypeWord>
         Word::Const => Some(TypeWord::Const),
         Word::Register => Some(TypeWord::Register),
         Word::Auto => Some(TypeWord::Auto),
+        Word::Atomic => Some(TypeWord::Atomic),
         _ => None,
     }
 }

@@ -1,21 +1,32 @@
 -- What the code's context is.
 use Rattle.std.specs.Prelude.{ℕ, List, map, Option, Some, None}
 use Rattle.std.specs.Borrow.{Bor}
+use Rattle.ak_words.specs.declared.int_type.IntType.{IntType}
+use Rattle.ak_words.specs.IntType.{int, unsigned_int, long, unsigned_long}
 use Rattle.c_tree.specs.declared.typed.CType.{CType}
 use Rattle.c_tree.specs.Typed.{Ty}
 use Rattle.c_tree.specs.TypedViews.{type_view, layout_view, literal_view}
 use Rattle.type_context.specs.declared.context.Context.{Context as CodeContext}
 use Rattle.type_context.specs.declared.context.MemberType.{MemberType}
+use Rattle.type_context.specs.declared.names.AtomicType.{AtomicType as CodeAtomic}
+use Rattle.type_context.specs.declared.names.AtomicType.TheVariants as atomics
 use Rattle.type_context.specs.declared.names.Library.{Library as CodeLibrary}
 use Rattle.type_context.specs.declared.names.Library.TheVariants as codes
 use Rattle.type_context.specs.declared.names.Binding.{Binding as CodeMeaning}
 use Rattle.type_context.specs.declared.names.Binding.TheVariants as meanings
-use Rattle.c_typing.specs.Scope.{Library, printf, malloc, calloc, realloc, free, memcpy, thrd_create, thrd_join, mtx_init, mtx_lock, mtx_unlock, mtx_destroy, constant}
+use Rattle.c_typing.specs.Scope.{Library, printf, malloc, calloc, realloc, free, memcpy, thrd_create, thrd_join, mtx_init, mtx_lock, mtx_unlock, mtx_destroy, atomic_store, atomic_load, atomic_add, atomic_sub, atomic_swap, atomic_compare, constant, atomic_type}
 use Rattle.c_typing.specs.Scope.{Binding, global_name, local_name, function_name, enumerator_name, type_name, library_name, Frame, Context}
 
 -- the types that those of the code stand for
 abbrev pub types_view : List CType → List Ty
 types_view ts = map type_view ts
+
+-- the type of the numbers of an atomic type of the library
+abbrev pub number_view : CodeAtomic → IntType
+number_view atomics.Int = int
+number_view atomics.UnsignedInt = unsigned_int
+number_view atomics.Long = long
+number_view atomics.UnsignedLong = unsigned_long
 
 -- the name of the library that one of the code stands for
 abbrev pub library_view : CodeLibrary → Library
@@ -31,7 +42,14 @@ library_view codes.MtxInit = mtx_init
 library_view codes.MtxLock = mtx_lock
 library_view codes.MtxUnlock = mtx_unlock
 library_view codes.MtxDestroy = mtx_destroy
+library_view codes.AtomicStore = atomic_store
+library_view codes.AtomicLoad = atomic_load
+library_view codes.AtomicAdd = atomic_add
+library_view codes.AtomicSub = atomic_sub
+library_view codes.AtomicSwap = atomic_swap
+library_view codes.AtomicCompare = atomic_compare
 library_view (codes.Constant value) = constant value
+library_view (codes.AtomicType t) = atomic_type (number_view t)
 
 -- a name of the library, and what it is
 abbrev pub library_entry : Bor (List ℕ) × CodeLibrary → List ℕ × Library

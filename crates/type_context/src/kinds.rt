@@ -1,7 +1,7 @@
 //! Types, compared and completed (C11 6.2.5, 6.2.7, 6.7.2).
 ghost use Rattle.std.specs.Prelude.{◌≡◌, map, nat_le};
 ghost use Rattle.c_tree.specs.TypedViews.{type_view, layout_view};
-ghost use Rattle.c_typing.specs.Types.{same_int, same_type, same_types, is_void, is_array, is_scalar, is_struct_or_mutex, has_size, is_declared, depth_of};
+ghost use Rattle.c_typing.specs.Types.{same_int, same_type, same_types, is_void, is_array, is_scalar, is_promoted, value_type, is_struct_or_mutex, has_size, is_declared, depth_of};
 
 use ak_words::IntType;
 use c_tree::typed::{CType, Layout};
@@ -13,6 +13,13 @@ pub fn same_int(s: IntType, t: IntType) -> bool
     s.signed == t.signed && s.bits == t.bits
 }
 
+/// Whether it has 32 or 64 bits: of the types that there are, 32 at least.
+pub fn is_promoted(t: IntType) -> bool
+    ensures { result ≡ is_promoted t }
+{
+    t.bits >= 32
+}
+
 /// Whether the two are one type.
 pub fn same_type(s: &CType, t: &CType) -> bool
     ensures { result ≡ same_type (type_view s.now) (type_view t.now) }
@@ -20,6 +27,7 @@ pub fn same_type(s: &CType, t: &CType) -> bool
     match (s, t) {
         (CType::Void, CType::Void) | (CType::Mutex, CType::Mutex) => true,
         (CType::Int(s), CType::Int(t)) => same_int(*s, *t),
+        (CType::Atomic(s), CType::Atomic(t)) => same_int(*s, *t),
         (CType::Pointer(s), CType::Pointer(t)) => same_type(s, t),
         (CType::Array(s, m), CType::Array(t, n)) => same_type(s, t) && m == n,
         (CType::Struct(m), CType::Struct(n)) => m == n,
@@ -54,11 +62,21 @@ pub fn is_array(t: &CType) -> bool
     matches!(t, CType::Array(_, _))
 }
 
-/// Whether it is a number or a pointer.
+/// Whether it is a number, also an atomic one, or a pointer.
 pub fn is_scalar(t: &CType) -> bool
     ensures { result ≡ is_scalar (type_view t.now) }
 {
-    matches!(t, CType::Int(_) | CType::Pointer(_))
+    matches!(t, CType::Int(_) | CType::Atomic(_) | CType::Pointer(_))
+}
+
+/// The type of what is read from an object of the type: from an atomic number the number (C11 6.3.2.1 p2).
+pub fn value_type(t: CType) -> CType
+    ensures { type_view result ≡ value_type (type_view t) }
+{
+    match t {
+        CType::Atomic(t) => CType::Int(t),
+        _ => t,
+    }
 }
 
 /// Whether it is what can't be a parameter, a result or the type of a cast.
@@ -75,7 +93,7 @@ pub fn has_size(structs: &[Layout], t: &CType) -> bool
 {
     match t {
         CType::Void => false,
-        CType::Int(_) | CType::Mutex | CType::Pointer(_) => true,
+        CType::Int(_) | CType::Atomic(_) | CType::Mutex | CType::Pointer(_) => true,
         CType::Array(element, _) => has_size(structs, element),
         CType::Struct(n) => structs
             .get(*n as usize)
@@ -102,6 +120,6 @@ pub fn is_within_depth(t: &CType, most: u32) -> bool
     match t {
         CType::Pointer(target) => most > 0 && is_within_depth(target, most - 1),
         CType::Array(element, _) => most > 0 && is_within_depth(element, most - 1),
-        CType::Void | CType::Int(_) | CType::Mutex | CType::Struct(_) => true,
+        CType::Void | CType::Int(_) | CType::Atomic(_) | CType::Mutex | CType::Struct(_) => true,
     }
 }

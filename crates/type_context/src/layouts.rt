@@ -20,7 +20,7 @@ pub fn size_in(structs: &[Layout], t: &CType) -> Option<u64>
 {
     match t {
         CType::Void | CType::Array(_, 0) => Some(0),
-        CType::Int(t) => Some(u64::from(t.bits / 8)),
+        CType::Int(t) | CType::Atomic(t) => Some(u64::from(t.bits / 8)),
         CType::Mutex | CType::Pointer(_) => Some(8),
         CType::Array(element, n) => size_in(structs, element)?.checked_mul(u64::from(*n)),
         CType::Struct(n) => match structs.get(*n as usize) {
@@ -46,7 +46,7 @@ fn align_in(structs: &[Layout], t: &CType) -> u32
 {
     match t {
         CType::Void => 1,
-        CType::Int(t) => u32::from(t.bits / 8),
+        CType::Int(t) | CType::Atomic(t) => u32::from(t.bits / 8),
         CType::Mutex | CType::Pointer(_) => 8,
         CType::Array(element, _) => align_in(structs, element),
         CType::Struct(n) => match structs.get(*n as usize) {

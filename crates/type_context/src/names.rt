@@ -5,13 +5,37 @@ ghost use Rattle.std.specs.Map.{lookup};
 ghost use Rattle.std.specs.Str.{bytes_eq};
 ghost use Rattle.c_tree.specs.TypedViews.{type_view};
 ghost use Rattle.c_typing.specs.Scope.{library};
-ghost use Rattle.type_context.specs.ContextViews.{binding_view, library_view, library_entry, types_view};
+ghost use Rattle.type_context.specs.ContextViews.{binding_view, number_view, library_view, library_entry, types_view};
 
+use ak_words::IntType;
 use c_tree::copies::copy_type;
 use c_tree::typed::CType;
 use std::alloc::{AllocError, Global};
 
-/// A name of the library: a call, or an int (C11 7.21, 7.22, 7.24, 7.26).
+/// An atomic type of the library (C11 7.17.6).
+#[derive(Clone, Copy, Debug, PartialEq, Eq)]
+pub enum AtomicType {
+    Int,
+    UnsignedInt,
+    Long,
+    UnsignedLong,
+}
+
+impl AtomicType {
+    /// The type of the number.
+    pub fn number(self) -> IntType
+        ensures { result ≡ number_view self }
+    {
+        match self {
+            AtomicType::Int => IntType::int(),
+            AtomicType::UnsignedInt => IntType::unsigned_int(),
+            AtomicType::Long => IntType::long(),
+            AtomicType::UnsignedLong => IntType::unsigned_long(),
+        }
+    }
+}
+
+/// A name of the library: a call, an int, or an atomic type (C11 7.17, 7.21, 7.22, 7.24, 7.26).
 #[derive(Clone, Copy, Debug, PartialEq, Eq)]
 pub enum Library {
     Printf,
@@ -26,8 +50,18 @@ pub enum Library {
     MtxLock,
     MtxUnlock,
     MtxDestroy,
+    /// `atomic_store`, and `atomic_init`.
+    AtomicStore,
+    AtomicLoad,
+    AtomicAdd,
+    AtomicSub,
+    AtomicSwap,
+    /// `atomic_compare_exchange_strong`, and the weak one.
+    AtomicCompare,
     /// An integer constant.
     Constant(i32),
+    /// An atomic type.
+    AtomicType(AtomicType),
 }
 
 /// What a name means (C11 6.2.1).
@@ -85,7 +119,7 @@ pub fn copy_meaning(alloc: Global, meaning: &Binding) -> Result<Binding, AllocEr
 }
 
 /// The names of the library.
-const LIBRARY: [(&[u8], Library); 15] = [
+const LIBRARY: [(&[u8], Library); 27] = [
     (b"printf", Library::Printf),
     (b"malloc", Library::Malloc),
     (b"calloc", Library::Calloc),
@@ -98,9 +132,24 @@ const LIBRARY: [(&[u8], Library); 15] = [
     (b"mtx_lock", Library::MtxLock),
     (b"mtx_unlock", Library::MtxUnlock),
     (b"mtx_destroy", Library::MtxDestroy),
+    (b"atomic_init", Library::AtomicStore),
+    (b"atomic_store", Library::AtomicStore),
+    (b"atomic_load", Library::AtomicLoad),
+    (b"atomic_fetch_add", Library::AtomicAdd),
+    (b"atomic_fetch_sub", Library::AtomicSub),
+    (b"atomic_exchange", Library::AtomicSwap),
+    (b"atomic_compare_exchange_strong", Library::AtomicCompare),
+    (b"atomic_compare_exchange_weak", Library::AtomicCompare),
     (b"mtx_plain", Library::Constant(0)),
     (b"thrd_success", Library::Constant(0)),
     (b"thrd_error", Library::Constant(1)),
+    (b"atomic_int", Library::AtomicType(AtomicType::Int)),
+    (b"atomic_uint", Library::AtomicType(AtomicType::UnsignedInt)),
+    (b"atomic_long", Library::AtomicType(AtomicType::Long)),
+    (
+        b"atomic_ulong",
+        Library::AtomicType(AtomicType::UnsignedLong),
+    ),
 ];
 
 // The name among these that the bytes spell.

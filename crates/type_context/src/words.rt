@@ -3,9 +3,10 @@ ghost use Rattle.std.specs.Prelude.{◌≡◌, map};
 ghost use Rattle.std.specs.Option.{option_map};
 ghost use Rattle.std.specs.Map.{lookup};
 ghost use Rattle.c_tree.specs.TypedViews.{type_view};
-ghost use Rattle.c_typing.specs.Types.{unsigned_char, short, unsigned_short, says_nothing, word_number, times, same_words, named_by};
+ghost use Rattle.c_typing.specs.Types.{unsigned_char, short, unsigned_short, says_nothing, is_atomic_word, atomic_by, word_number, times, same_words, named_by};
 ghost use Rattle.type_context.specs.inner.Words.{named_view, row_view};
 
+use crate::kinds::is_promoted;
 use ak_words::IntType;
 use c_tree::syntax::TypeWord;
 use c_tree::typed::CType;
@@ -156,11 +157,32 @@ impl Named {
     }
 }
 
-/// Whether it says nothing of the type.
+/// Whether it says nothing of the type, or only that it is atomic.
 pub fn says_nothing(word: TypeWord) -> bool
     ensures { result ≡ says_nothing word }
 {
-    matches!(word, TypeWord::Const | TypeWord::Register | TypeWord::Auto)
+    matches!(
+        word,
+        TypeWord::Const | TypeWord::Register | TypeWord::Auto | TypeWord::Atomic
+    )
+}
+
+/// Whether it is `_Atomic`.
+pub fn is_atomic_word(word: TypeWord) -> bool
+    ensures { result ≡ is_atomic_word word }
+{
+    matches!(word, TypeWord::Atomic)
+}
+
+/// A type with `_Atomic` so often beside it: not at all, or once beside a number of 32 or 64 bits (C11 6.7.3 p3).
+pub fn atomic_by(count: usize, t: CType) -> Option<CType>
+    ensures { option_map type_view result ≡ atomic_by count (type_view t) }
+{
+    match (count, t) {
+        (0, t) => Some(t),
+        (1, CType::Int(t)) if is_promoted(t) => Some(CType::Atomic(t)),
+        _ => None,
+    }
 }
 
 // The number of a word, in the order of declaration.

@@ -10,7 +10,7 @@ use Rattle.c_tree.specs.declared.syntax.Pointer.TheVariants as pointers
 use Rattle.c_tree.specs.declared.syntax.ParamDim.{ParamDim as CodeParamDim}
 use Rattle.c_tree.specs.declared.typed.CType.{CType}
 use Rattle.c_tree.specs.SyntaxViews.{param_dim_view}
-use Rattle.c_tree.specs.Typed.{Ty, void, pointer, array, integer, structure, mutex}
+use Rattle.c_tree.specs.Typed.{Ty, void, pointer, array, integer, structure, mutex, atomic}
 use Rattle.c_typing.specs.Faults.{Judged, typed, faulty, Fails, mapped}
 use Rattle.c_typing.specs.Types.{is_void, behind_pointers, arrays_of}
 use Rattle.c_typing.specs.Scope.{Context}
@@ -50,6 +50,7 @@ void_of (integer s) ps = no_void (integer s) ps refl
 void_of (pointer t) ps = no_void (pointer t) ps refl
 void_of (array t n) ps = no_void (array t n) ps refl
 void_of (structure n) ps = no_void (structure n) ps refl
+void_of (atomic t) ps = no_void (atomic t) ps refl
 void_of mutex ps = no_void mutex ps refl
 
 -- behind a star nothing is void

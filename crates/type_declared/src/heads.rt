@@ -15,17 +15,17 @@ ghost use Rattle.type_declared.specs.Gathering.{each};
 
 use crate::functions::{Defined, name_fine, result_type, type_fine};
 use c_lex::CompileFault;
-use c_tree::copies::copy_type;
 use c_tree::syntax::{Block, Name, Pointer};
 use c_tree::typed::CType;
 use std::alloc::Global;
 use type_context::context::Context;
 use type_context::faults::{as_fault, both};
+use type_context::kinds::value_type;
 use type_context::outcomes::again;
-use type_locals::locals::Param;
+use type_locals::locals::{Param, passed_type};
 use type_rules::specifiers::behind_pointers;
 
-/// What a function returns, by the type that its specifiers name.
+/// What a function returns, by the type that its specifiers name; of an atomic number the number.
 #[tactic(auto, using(type_context::proofs::Judging::fails_part))]
 pub fn result_of(
     alloc: Global,
@@ -37,7 +37,7 @@ pub fn result_of(
 {
     let named = base?;
     let behind = behind_pointers(alloc, named, pointers)?;
-    as_fault(result_type(place, behind))
+    as_fault(result_type(place, value_type(behind)))
 }
 
 /// The types of parameters, or none where one is at fault.
@@ -57,12 +57,12 @@ pub fn types_or(
 
 // The types of parameters.
 fn types_of(alloc: Global, params: &[Param]) -> Result<Vec<CType>, CompileFault>
-    ensures types { IfOk result (λ ts. types_view ts.items ≡ map (λ (p : numbers.Param). p.ty) (map param_view params.now)) }
+    ensures types { IfOk result (λ ts. types_view ts.items ≡ map numbers.passed_type (map param_view params.now)) }
     ensures memory { IfErr result (λ e. e ≡ NoMemory) }
 {
     let mut all = Vec::new(alloc);
     'params: for p in params {
-        all.push(copy_type(alloc, &p.ty)?)?;
+        all.push(passed_type(alloc, p)?)?;
     }
     Ok(all)
 }
@@ -87,7 +87,7 @@ fn typed_params(
     alloc: Global,
     params: &Result<Vec<Param>, CompileFault>,
 ) -> Result<Vec<CType>, CompileFault>
-    ensures { (j : Judged (List numbers.Param)) → Gives (each param_view) params.now j → Gives (each type_view) result (mapped (map (λ (p : numbers.Param). p.ty)) j) }
+    ensures { (j : Judged (List numbers.Param)) → Gives (each param_view) params.now j → Gives (each type_view) result (mapped (map numbers.passed_type) j) }
 {
     match params {
         Ok(params) => types_of(alloc, params),

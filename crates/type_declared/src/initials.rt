@@ -88,7 +88,7 @@ pub fn init_at(context: &Context<'_>, t: &CType, e: &tree::Expr, x: &Expr) -> Op
     ensures { option_map init_view result ≡ init_at (context_view context.now) (type_view t.now) (source.expr_view e.now) (expr_view x.now) }
 {
     match t {
-        CType::Int(t) => number_at(*t, constant_value(context, e, x)),
+        CType::Int(t) | CType::Atomic(t) => number_at(*t, constant_value(context, e, x)),
         CType::Pointer(target) => pointer_at(target, e, x),
         _ => None,
     }

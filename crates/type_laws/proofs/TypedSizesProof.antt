@@ -3,7 +3,7 @@ use Rattle.std.proofs.Common.{◌≡◌, ℕ, zero, suc, ◌+◌, ◌*◌, ◌<�
 use Rattle.std.specs.List.{AllByRecursion}
 use Rattle.std.proofs.lemmas.Option.{slice_get_within}
 use Rattle.ak_words.proofs.Types.{width_bounds}
-use Rattle.c_tree.specs.Typed.{Ty, void, integer, mutex, pointer, array, structure, Layout}
+use Rattle.c_tree.specs.Typed.{Ty, void, integer, atomic, mutex, pointer, array, structure, Layout}
 use Rattle.c_tree.specs.TypedForm.{IsTarget, IsMember, IsLayout}
 use Rattle.c_tree.specs.TypedLayout.{greatest_object, layout_size, layout_align, size_in, align_in, IsSized, rounded_up, end_from, greatest_align}
 use Rattle.type_laws.specs.TypedSizes.{PartsAreSized}
@@ -35,6 +35,7 @@ module _ (structs : List Layout) (all : AllByRecursion (IsLayout structs) struct
   type_aligned : (t : Ty) → IsSized structs t → 1 ≤ align_in structs t
   type_aligned void h = absurd h
   type_aligned (integer s) h = let b = width_bounds s.bits s.known_width in omega (arith, b)
+  type_aligned (atomic s) h = let b = width_bounds s.bits s.known_width in omega (arith, b)
   type_aligned mutex h = omega arith
   type_aligned (pointer u) h = omega arith
   type_aligned (array u n) h = type_aligned u h.0
@@ -43,6 +44,7 @@ module _ (structs : List Layout) (all : AllByRecursion (IsLayout structs) struct
   type_sized : (t : Ty) → IsSized structs t → 1 ≤ size_in structs t
   type_sized void h = absurd h
   type_sized (integer s) h = let b = width_bounds s.bits s.known_width in omega (arith, b)
+  type_sized (atomic s) h = let b = width_bounds s.bits s.known_width in omega (arith, b)
   type_sized mutex h = omega arith
   type_sized (pointer u) h = omega arith
   type_sized (array u n) h = product (size_in structs u) n (type_sized u h.0) h.1
@@ -85,6 +87,7 @@ parts_are_sized = record {
     of_struct structs all (structure n) m t h = struct_sized structs all n m t h
     of_struct structs all void m t h = absurd h
     of_struct structs all (integer s) m t h = absurd h
+    of_struct structs all (atomic i) m t h = absurd h
     of_struct structs all mutex m t h = absurd h
     of_struct structs all (pointer s) m t h = absurd h
     of_struct structs all (array s k) m t h = absurd h

@@ -17,12 +17,16 @@ use Rattle.type_locals.specs.LocalViews.{param_view, params_view}
 use Rattle.type_locals.specs.inner.Numbers.{or_more, new_number, further_view, furthers_view, table_from, locals_view, param_local, further_local, copy_of, followed, func}
 use Rattle.type_locals.proofs.TypedTrees.{stmts_renumbered}
 
+-- a parameter of this number is in memory
+abbrev pub moved : Param → ℕ → List ℕ → Bool
+moved p n ns = is_block p.ty || is_in n ns
+
 -- what is said of numbers goes by which are among them
 pub same_params : (ns ms : List ℕ) → ((k : ℕ) → is_in k ns ≡ is_in k ms) → (k : ℕ) (ps : List Param) → addressed_params k ps ns ≡ addressed_params k ps ms
 same_params ns ms h k [] = refl
 same_params ns ms h k (p ∷ ps) =
-    ap (λ l. if is_in k ns then (k, p) ∷ l else l) (same_params ns ms h (1 + k) ps)
-    ∙ ap (λ b. if b then (k, p) ∷ addressed_params (1 + k) ps ms else addressed_params (1 + k) ps ms) (h k)
+    ap (λ l. if moved p k ns then (k, p) ∷ l else l) (same_params ns ms h (1 + k) ps)
+    ∙ ap (λ b. if is_block p.ty || b then (k, p) ∷ addressed_params (1 + k) ps ms else addressed_params (1 + k) ps ms) (h k)
 
 pub same_locals : (ns ms : List ℕ) → ((k : ℕ) → is_in k ns ≡ is_in k ms) → (k : ℕ) (ts : List Ty) → locals_from k ns ts ≡ locals_from k ms ts
 same_locals ns ms h k [] = refl
@@ -38,8 +42,8 @@ one_on F k = let e : 1 + k ≡ k + 1 = omega arith in ap F e
 pushed : {A : Type 0} (done rest new next : List A) (x : A) → new ≡ done ++ x ∷ [] → rest ≡ x ∷ next → new ++ next ≡ done ++ rest
 pushed done rest new next x is at = ap (λ l. l ++ next) is ∙ append_assoc done (x ∷ []) next ∙ ap (λ l. done ++ l) (sym at)
 
--- a parameter whose address is taken, and one whose address isn't
-further_here : (k : ℕ) (ps : List CodeParam) (ns : List ℕ) (d : CodeParam) (b : Bool) → k < length ps → is_in k ns ≡ b
+-- a parameter that is in memory, and one that isn't
+further_here : (k : ℕ) (ps : List CodeParam) (ns : List ℕ) (d : CodeParam) (b : Bool) → k < length ps → moved (param_view (get_or ps k d)) k ns ≡ b
     → addressed_params k (params_view (drop k ps)) ns
     ≡ (if b then (k, param_view (get_or ps k d)) ∷ addressed_params (k + 1) (params_view (drop (k + 1) ps)) ns else addressed_params (k + 1) (params_view (drop (k + 1) ps)) ns)
 further_here k ps ns d b h is =
@@ -48,22 +52,22 @@ further_here k ps ns d b h is =
     ∙ one_on (λ j. if b then (k, param_view (get_or ps k d)) ∷ addressed_params j (params_view (drop (k + 1) ps)) ns else addressed_params j (params_view (drop (k + 1) ps)) ns) k
 
 pub further_taken : (k n : ℕ) (ps : List CodeParam) (ns : List ℕ) (all new : List CodeFurther) (x : CodeFurther) (d : CodeParam) (whole : List (ℕ × Param))
-    → k < length ps → n ≡ k → is_in n ns ≡ true → x.number ≡ n → x.param.now ≡ get_or ps k d → new ≡ all ++ x ∷ []
+    → k < length ps → n ≡ k → moved (param_view (get_or ps k d)) n ns ≡ true → x.number ≡ n → x.param.now ≡ get_or ps k d → new ≡ all ++ x ∷ []
     → furthers_view all ++ addressed_params k (params_view (drop k ps)) ns ≡ whole
     → furthers_view new ++ addressed_params (k + 1) (params_view (drop (k + 1) ps)) ns ≡ whole
 further_taken k n ps ns all new x d whole h same there num at is so_far =
     let seen : further_view x ≡ (k, param_view (get_or ps k d)) = ap (λ m. (m, param_view x.param.now)) (num ∙ same) ∙ ap (λ p. (k, param_view p)) at in
     let made : furthers_view new ≡ furthers_view all ++ (k, param_view (get_or ps k d)) ∷ [] = ap furthers_view is ∙ map-append further_view all (x ∷ []) ∙ ap (λ y. furthers_view all ++ y ∷ []) seen in
     pushed (furthers_view all) (addressed_params k (params_view (drop k ps)) ns) (furthers_view new) (addressed_params (k + 1) (params_view (drop (k + 1) ps)) ns) (k, param_view (get_or ps k d)) made
-    (further_here k ps ns d true h (ap (λ j. is_in j ns) (sym same) ∙ there)) ∙ so_far
+    (further_here k ps ns d true h (ap (λ j. moved (param_view (get_or ps k d)) j ns) (sym same) ∙ there)) ∙ so_far
 
 pub further_left : (k n : ℕ) (ps : List CodeParam) (ns : List ℕ) (done : List (ℕ × Param)) (d : CodeParam) (whole : List (ℕ × Param))
-    → k < length ps → n ≡ k → is_in n ns ≡ false
+    → k < length ps → n ≡ k → moved (param_view (get_or ps k d)) n ns ≡ false
     → done ++ addressed_params k (params_view (drop k ps)) ns ≡ whole → done ++ addressed_params (k + 1) (params_view (drop (k + 1) ps)) ns ≡ whole
-further_left k n ps ns done d whole h same not_ so_far = ap (λ l. done ++ l) (sym (further_here k ps ns d false h (ap (λ j. is_in j ns) (sym same) ∙ not_))) ∙ so_far
+further_left k n ps ns done d whole h same not_ so_far = ap (λ l. done ++ l) (sym (further_here k ps ns d false h (ap (λ j. moved (param_view (get_or ps k d)) j ns) (sym same) ∙ not_))) ∙ so_far
 
 -- the number of a parameter
-table_here : (k next : ℕ) (ps : List CodeParam) (ns : List ℕ) (d : CodeParam) (b : Bool) → k < length ps → is_in k ns ≡ b
+table_here : (k next : ℕ) (ps : List CodeParam) (ns : List ℕ) (d : CodeParam) (b : Bool) → k < length ps → moved (param_view (get_or ps k d)) k ns ≡ b
     → table_from k next (params_view (drop k ps)) ns
     ≡ (if b then next ∷ table_from (k + 1) (next + 1) (params_view (drop (k + 1) ps)) ns else k ∷ table_from (k + 1) next (params_view (drop (k + 1) ps)) ns)
 table_here k next ps ns d b h is =
@@ -73,19 +77,19 @@ table_here k next ps ns d b h is =
     ∙ one_on (λ j. if b then next ∷ table_from (k + 1) j (params_view (drop (k + 1) ps)) ns else k ∷ table_from (k + 1) next (params_view (drop (k + 1) ps)) ns) next
 
 pub table_taken : (k n next after : ℕ) (ps : List CodeParam) (ns all new : List ℕ) (d : CodeParam) (whole : List ℕ)
-    → k < length ps → n ≡ k → is_in n ns ≡ true → after ≡ next + 1 → new ≡ all ++ next ∷ []
+    → k < length ps → n ≡ k → moved (param_view (get_or ps k d)) n ns ≡ true → after ≡ next + 1 → new ≡ all ++ next ∷ []
     → all ++ table_from k next (params_view (drop k ps)) ns ≡ whole → new ++ table_from (k + 1) after (params_view (drop (k + 1) ps)) ns ≡ whole
 table_taken k n next after ps ns all new d whole h same there more is so_far =
     ap (λ j. new ++ table_from (k + 1) j (params_view (drop (k + 1) ps)) ns) more
     ∙ pushed all (table_from k next (params_view (drop k ps)) ns) new (table_from (k + 1) (next + 1) (params_view (drop (k + 1) ps)) ns) next is
-    (table_here k next ps ns d true h (ap (λ j. is_in j ns) (sym same) ∙ there)) ∙ so_far
+    (table_here k next ps ns d true h (ap (λ j. moved (param_view (get_or ps k d)) j ns) (sym same) ∙ there)) ∙ so_far
 
 pub table_left : (k n next : ℕ) (ps : List CodeParam) (ns all new : List ℕ) (d : CodeParam) (whole : List ℕ)
-    → k < length ps → n ≡ k → is_in n ns ≡ false → new ≡ all ++ n ∷ []
+    → k < length ps → n ≡ k → moved (param_view (get_or ps k d)) n ns ≡ false → new ≡ all ++ n ∷ []
     → all ++ table_from k next (params_view (drop k ps)) ns ≡ whole → new ++ table_from (k + 1) next (params_view (drop (k + 1) ps)) ns ≡ whole
 table_left k n next ps ns all new d whole h same not_ is so_far =
     pushed all (table_from k next (params_view (drop k ps)) ns) new (table_from (k + 1) next (params_view (drop (k + 1) ps)) ns) k (is ∙ ap (λ j. all ++ j ∷ []) same)
-    (table_here k next ps ns d false h (ap (λ j. is_in j ns) (sym same) ∙ not_)) ∙ so_far
+    (table_here k next ps ns d false h (ap (λ j. moved (param_view (get_or ps k d)) j ns) (sym same) ∙ not_)) ∙ so_far
 
 -- a local of a type
 pub other_more : (n after i : ℕ) (ts : List CType) (ns : List ℕ) (all new : List CodeLocal) (x : CodeLocal) (d : CType) (whole : List Local)
@@ -140,7 +144,7 @@ other_number m k h = grind (arith, nat_tests)
 -- a number before those of the parameters is among none of them
 none_before : (m k : ℕ) (ps : List Param) (ns : List ℕ) → m < k → place_among m (addressed_params k ps ns) ≡ None
 none_before m k [] ns h = refl
-none_before m k (p ∷ ps) ns h = by (is_in k ns) (none_before m (1 + k) ps ns (omega arith))
+none_before m k (p ∷ ps) ns h = by (moved p k ns) (none_before m (1 + k) ps ns (omega arith))
   where
     by : (b : Bool) → place_among m (addressed_params (1 + k) ps ns) ≡ None
         → place_among m (if b then (k, p) ∷ addressed_params (1 + k) ps ns else addressed_params (1 + k) ps ns) ≡ None
@@ -150,7 +154,7 @@ none_before m k (p ∷ ps) ns h = by (is_in k ns) (none_before m (1 + k) ps ns (
 -- nor is one behind them
 none_behind : (m k : ℕ) (ps : List Param) (ns : List ℕ) → k + length ps ≤ m → place_among m (addressed_params k ps ns) ≡ None
 none_behind m k [] ns h = refl
-none_behind m k (p ∷ ps) ns h = by (is_in k ns) (none_behind m (1 + k) ps ns (omega arith))
+none_behind m k (p ∷ ps) ns h = by (moved p k ns) (none_behind m (1 + k) ps ns (omega arith))
   where
     greater : nat_eq m k ≡ false
     greater = (let low : k < m = omega arith in grind (arith, nat_tests))
@@ -175,7 +179,7 @@ entry_later next m None = refl
 
 listed : (k next j m : ℕ) (ps : List Param) (ns : List ℕ) → m ≡ k + j → j < length ps → slice_get (table_from k next ps ns) j ≡ Some (entry next m (place_among m (addressed_params k ps ns)))
 listed k next j m [] ns e h = absurd (omega arith)
-listed k next zero m (p ∷ ps) ns e h = by (is_in k ns)
+listed k next zero m (p ∷ ps) ns e h = by (moved p k ns)
   where
     same : m ≡ k
     same = omega arith
@@ -187,7 +191,7 @@ listed k next zero m (p ∷ ps) ns e h = by (is_in k ns)
         ≡ Some (entry next m (place_among m (if b then (k, p) ∷ addressed_params (1 + k) ps ns else addressed_params (1 + k) ps ns)))
     by true = ap Some ((let z : next ≡ next + 0 = omega arith in z) ∙ ap (λ t. entry next m (if t then Some 0 else option_map (λ i. 1 + i) (place_among m (addressed_params (1 + k) ps ns)))) (sym equal))
     by false = ap Some (sym same ∙ sym (entry_first next m _ (none_before m (1 + k) ps ns (omega arith))))
-listed k next (suc j) m (p ∷ ps) ns e h = by (is_in k ns) (listed (1 + k) (1 + next) j m ps ns further_on less) (listed (1 + k) next j m ps ns further_on less)
+listed k next (suc j) m (p ∷ ps) ns e h = by (moved p k ns) (listed (1 + k) (1 + next) j m ps ns further_on less) (listed (1 + k) next j m ps ns further_on less)
   where
     less : j < length ps
     less = omega arith
@@ -211,7 +215,7 @@ listed k next (suc j) m (p ∷ ps) ns e h = by (is_in k ns) (listed (1 + k) (1 +
 unlisted : (k next j : ℕ) (ps : List Param) (ns : List ℕ) → length ps ≤ j → slice_get (table_from k next ps ns) j ≡ None
 unlisted k next j [] ns h = refl
 unlisted k next zero (p ∷ ps) ns h = absurd (omega arith)
-unlisted k next (suc j) (p ∷ ps) ns h = by (is_in k ns) (unlisted (1 + k) (1 + next) j ps ns (omega arith)) (unlisted (1 + k) next j ps ns (omega arith))
+unlisted k next (suc j) (p ∷ ps) ns h = by (moved p k ns) (unlisted (1 + k) (1 + next) j ps ns (omega arith)) (unlisted (1 + k) next j ps ns (omega arith))
   where
     by : (b : Bool) → slice_get (table_from (1 + k) (1 + next) ps ns) j ≡ None → slice_get (table_from (1 + k) next ps ns) j ≡ None
         → slice_get (if b then next ∷ table_from (1 + k) (1 + next) ps ns else k ∷ table_from (1 + k) next ps ns) (suc j) ≡ None
@@ -247,7 +251,7 @@ body_is f count fs body bs cs all renumbered_ made is =
     ap (λ l. stmts_of (map stmt_view l)) is ∙ followed_is cs bs ∙ ap (λ l. followed cs (stmts_of l)) renumbered_ ∙ ap (followed cs) (stmts_renumbered f body)
     ∙ made (renumbered_stmts f (stmts_of (map stmt_view body)))
 
--- the function, as what is made of the parameters whose address is taken, and of the other locals
+-- the function, as what is made of the parameters that are in memory, and of the other locals
 abbrev made_of : List Param → List (ℕ × Param) → List Local → Ty → Stmts → Func
 made_of ps fs others r b = func (length ps) (map param_local ps ++ map further_local fs ++ others) r (copies (length ps) 0 fs (renumbered_stmts (number_of (length ps) fs) b))
 

@@ -1,9 +1,9 @@
 //! Which locals of a function are in memory, and the function once its whole body is known.
-ghost use Rattle.std.specs.Prelude.{◌≡◌, ◌++◌, IfOk, OnOk, map, drop, length};
+ghost use Rattle.std.specs.Prelude.{◌≡◌, ◌||◌, ◌++◌, IfOk, OnOk, map, drop, length};
 ghost use Rattle.c_tree.specs.Typed.{Ty, Stmts, more_stmts, stmts_of};
 ghost use Rattle.c_tree.specs.TypedViews.{type_view, stmt_view, func_view};
-ghost use Rattle.c_typing.specs.Numbering.{addressed_params, is_block, locals_from, copies, func_of, renumbered_stmts};
-ghost use Rattle.type_locals.specs.LocalViews.{params_view};
+ghost use Rattle.c_typing.specs.Numbering.{passed_type, is_in, addressed_params, is_block, locals_from, copies, func_of, renumbered_stmts};
+ghost use Rattle.type_locals.specs.LocalViews.{param_view, params_view};
 ghost use Rattle.type_locals.specs.inner.Marking.{marked};
 ghost use Rattle.type_locals.specs.inner.Numbers.{further_view, furthers_view, param_local, further_local, locals_view, table_from, copy_of, followed, new_number, func};
 
@@ -14,14 +14,14 @@ use c_tree::copies::copy_type;
 use c_tree::typed::{CType, Expr, ExprNode, Func, Local, Stmt, StmtNode};
 use std::alloc::{AllocError, Global};
 
-/// A parameter of a function: the place of its name, and its type.
+/// A parameter of a function: the place of its name, and the type with which it is declared.
 #[derive(Debug, Drop)]
 pub struct Param {
     pub place: u32,
     pub ty: CType,
 }
 
-/// A parameter whose address is taken, and its number: it means a further local.
+/// A parameter that is in memory, since it is atomic or its address is taken, and its number: it means a further local.
 #[derive(Drop)]
 pub struct Further<'a> {
     pub number: u32,
@@ -35,7 +35,14 @@ fn number(length: usize) -> Result<u32, AllocError>
     u32::try_from(length).map_err(|_| AllocError)
 }
 
-// The parameters whose address is taken.
+// Whether a parameter of this number is in memory: it is atomic, or its address is taken.
+fn is_further(param: &Param, number: u32, addressed: &Marks) -> bool
+    ensures { result ≡ (is_block (param_view param.now).ty || is_in number (marked addressed.now)) }
+{
+    is_block(&param.ty) || addressed.has(number)
+}
+
+// The parameters that are in memory.
 fn further_params<'a>(
     alloc: Global,
     params: &'a [Param],
@@ -46,22 +53,22 @@ fn further_params<'a>(
     let mut all = Vec::new(alloc);
     for (k, param) in params.iter().enumerate() {
         let number = number(k)?;
-        if addressed.has(number) {
+        if is_further(param, number, addressed) {
             all.push(Further { number, param })?;
         }
     }
     Ok(all)
 }
 
-// The numbers that the parameters get in the body: one whose address is taken is a further local.
+// The numbers that the parameters get in the body: one that is in memory is a further local.
 fn table(alloc: Global, params: &[Param], addressed: &Marks) -> Result<Vec<u32>, AllocError>
     ensures { IfOk result (λ v. v.items ≡ table_from 0 (length params.now) (params_view params.now) (marked addressed.now)) }
 {
     let mut all = Vec::new(alloc);
     let mut next = number(params.len())?;
-    for (k, _) in params.iter().enumerate() {
+    for (k, param) in params.iter().enumerate() {
         let number = number(k)?;
-        if addressed.has(number) {
+        if is_further(param, number, addressed) {
             all.push(next)?;
             next = next.checked_add(1).ok_or(AllocError)?;
         } else {
@@ -71,11 +78,24 @@ fn table(alloc: Global, params: &[Param], addressed: &Marks) -> Result<Vec<u32>,
     Ok(all)
 }
 
-// Whether an object of the type is in memory: an array, a struct or a mutex is.
+// Whether an object of the type is in memory: an array, a struct, a mutex or an atomic number is.
 fn is_block(t: &CType) -> bool
     ensures { result ≡ is_block (type_view t.now) }
 {
-    matches!(t, CType::Array(_, _) | CType::Struct(_) | CType::Mutex)
+    matches!(
+        t,
+        CType::Array(_, _) | CType::Struct(_) | CType::Mutex | CType::Atomic(_)
+    )
+}
+
+/// The type that a parameter's argument has: of an atomic number the number's.
+pub fn passed_type(alloc: Global, p: &Param) -> Result<CType, AllocError>
+    ensures { IfOk result (λ t. type_view t ≡ passed_type (param_view p.now)) }
+{
+    match &p.ty {
+        CType::Atomic(t) => Ok(CType::Int(*t)),
+        t => copy_type(alloc, t),
+    }
 }
 
 // The parameters as locals.
@@ -84,7 +104,7 @@ fn params_of(alloc: Global, params: &[Param]) -> Result<Vec<Local>, AllocError>
 {
     let mut all = Vec::new(alloc);
     'params: for p in params {
-        let ty = copy_type(alloc, &p.ty)?;
+        let ty = passed_type(alloc, p)?;
         all.push(Local {
             ty,
             in_memory: false,
@@ -168,7 +188,7 @@ fn copied(
 {
     let value = Expr {
         place: x.param.place,
-        ty: copy_type(alloc, &x.param.ty)?,
+        ty: passed_type(alloc, x.param)?,
         node: ExprNode::Local(x.number),
     };
     let declared = Stmt {

@@ -24,7 +24,7 @@ use c_tree::syntax::Name;
 use c_tree::typed::{CType, Expr};
 use type_context::context::{Context, within};
 use type_context::faults::{as_fault, both, both_or_refusal, refused, unless};
-use type_context::names::Binding;
+use type_context::names::{Binding, Library};
 use type_rules::constants::constant_value;
 use type_rules::specifiers::Part;
 
@@ -197,12 +197,15 @@ pub fn enumerated(
 
 // ---- names of types
 
-/// What the name of a type stands for.
+/// What the name of a type stands for, which may be one of the library's (C11 7.17.6).
 pub fn aliased(context: &Context<'_>, name: Name) -> Result<Part, CompileFault>
     ensures { Gives part_view result (aliased name.from (meaning_of (context_view context.now) name)) }
 {
     match context.meaning_of(name)? {
         Some(Binding::Type(t)) => Ok(Part::Whole(t)),
+        Some(Binding::Library(Library::AtomicType(t))) => Ok(Part::Whole(CType::Atomic(
+            t.number(),
+        ))),
         _ => refused(name.from, Kind::UnknownName),
     }
 }

@@ -1,11 +1,12 @@
-//! Calls of the library (C11 7.21, 7.22, 7.24, 7.26).
-ghost use Rattle.std.specs.Prelude.{◌≡◌, ◌∷◌, []};
+//! Calls of the library (C11 7.17, 7.21, 7.22, 7.24, 7.26).
+ghost use Rattle.std.specs.Prelude.{◌≡◌, ◌∷◌, [], map};
 ghost use Rattle.c_tree.specs.Typed as trees;
-ghost use Rattle.c_tree.specs.Typed.{pointer, mutex};
+ghost use Rattle.c_tree.specs.Typed.{integer, atomic, pointer, mutex, at, deref};
 ghost use Rattle.c_tree.specs.TypedViews.{type_view, lib_view, expr_view, boxed_expr_view};
 ghost use Rattle.c_typing.specs.Faults.{Judged, Gives, typed, both};
+ghost use Rattle.c_typing.specs.Rules.{value_of};
 ghost use Rattle.c_typing.specs.Scope as library;
-ghost use Rattle.c_typing.specs.Judgement.{called_lib, started, plain_kind, init_by, called_library};
+ghost use Rattle.c_typing.specs.Judgement.{called_lib, started, plain_kind, init_by, atomic_at, atomic_first, atomic_params, atomic_result, called_atomic, loaded, called_library};
 ghost use Rattle.type_context.specs.ContextViews.{library_view};
 ghost use Rattle.type_context.specs.Telling.{Says};
 ghost use Rattle.type_rules.specs.ListViews.{exprs_view};
@@ -13,12 +14,13 @@ ghost use Rattle.type_nodes.specs.inner.Calls.{call_and_kind_view};
 
 use ak_words::IntType;
 use c_lex::{CompileFault, Kind, Refusal};
-use c_tree::typed::{CType, Expr, Lib};
+use c_tree::typed::{CType, Expr, ExprNode, Lib};
 use std::alloc::Global;
 use type_context::faults::{as_fault, both, refused, unless};
 use type_context::names::Library;
 use type_rules::calls::{called_lib, fitted_all, library_call};
-use type_rules::conversions::is_zero;
+use type_rules::conversions::{is_zero, value_of};
+use type_rules::trees::made;
 
 // A pointer to a type.
 fn pointer(alloc: Global, to: CType) -> Result<CType, CompileFault>
@@ -174,6 +176,98 @@ fn thrd_join(alloc: Global, place: u32, args: Vec<Expr>) -> Result<Box<Expr>, Co
     called_lib(alloc, place, Lib::Join, &[thread, outcome], returned, args)
 }
 
+// The type of the atomic number to which a pointer leads, if it leads to one.
+fn atomic_at(t: &CType) -> Option<IntType>
+    ensures { result ≡ atomic_at (type_view t.now) }
+{
+    let CType::Pointer(target) = t else {
+        return None;
+    };
+    match &**target {
+        CType::Atomic(t) => Some(*t),
+        _ => None,
+    }
+}
+
+// The type of the one to which the first argument leads.
+fn atomic_first(args: &[Expr]) -> Option<IntType>
+    ensures { result ≡ atomic_first (map expr_view args.now) }
+{
+    match args {
+        [] => None,
+        [p, ..] => atomic_at(&p.ty),
+    }
+}
+
+// The types of the arguments of a call on an atomic number of this type.
+fn atomic_params(alloc: Global, which: &Lib, t: IntType) -> Result<Vec<CType>, CompileFault>
+    ensures { Gives (λ v. map type_view v.items) result (typed (atomic_params (lib_view which.now) t)) }
+{
+    let mut params = Vec::new(alloc);
+    params.push(pointer(alloc, CType::Atomic(t))?)?;
+    if let Lib::AtomicCompare = which {
+        params.push(pointer(alloc, CType::Int(t))?)?;
+    }
+    params.push(CType::Int(t))?;
+    Ok(params)
+}
+
+// The type of its result.
+fn atomic_result(which: &Lib, t: IntType) -> CType
+    ensures { type_view result ≡ atomic_result (lib_view which.now) t }
+{
+    match which {
+        Lib::AtomicStore => CType::Void,
+        Lib::AtomicCompare => CType::Int(IntType::int()),
+        _ => CType::Int(t),
+    }
+}
+
+// A call on an atomic number, at its name (C11 7.17.2.2, 7.17.7).
+#[tactic(auto, using(type_context::proofs::Judging::fails_part))]
+fn called_atomic(
+    alloc: Global,
+    place: u32,
+    which: Lib,
+    args: Vec<Expr>,
+) -> Result<Box<Expr>, CompileFault>
+    ensures { Gives boxed_expr_view result (called_atomic place (lib_view which) (exprs_view args)) }
+{
+    let Some(t) = atomic_first(&args) else {
+        return refused(place, Kind::TypeMismatch);
+    };
+    let params = atomic_params(alloc, &which, t)?;
+    let returned = atomic_result(&which, t);
+    called_lib(alloc, place, which, &params, returned, args)
+}
+
+// The number to which a pointer leads, read at a place.
+#[tactic(auto, using(type_context::proofs::Judging::fails_part))]
+fn read(alloc: Global, place: u32, t: IntType, p: Expr) -> Result<Box<Expr>, CompileFault>
+    ensures { Gives boxed_expr_view result (typed (value_of (at place (atomic t) (deref (expr_view p))))) }
+{
+    let p = Box::new(alloc, p)?;
+    let target = made(alloc, place, CType::Atomic(t), ExprNode::Deref(p))?;
+    value_of(alloc, target)
+}
+
+// `atomic_load`, at its name (C11 7.17.7.2).
+#[tactic(auto, using(type_context::proofs::Judging::fails_part))]
+fn loaded(alloc: Global, place: u32, mut args: Vec<Expr>) -> Result<Box<Expr>, CompileFault>
+    ensures { Gives boxed_expr_view result (loaded place (exprs_view args)) }
+{
+    if args.len() != 1 {
+        return refused(place, Kind::TypeMismatch);
+    }
+    let Some(p) = args.pop() else {
+        return refused(place, Kind::TypeMismatch);
+    };
+    match atomic_at(&p.ty) {
+        Some(t) => read(alloc, place, t, p),
+        None => refused(place, Kind::TypeMismatch),
+    }
+}
+
 /// A name of the library, called with typed arguments.
 pub fn called_library(
     alloc: Global,
@@ -197,6 +291,13 @@ pub fn called_library(
         Library::MtxDestroy => on_mutex(alloc, place, Lib::MutexDestroy, CType::Void, args),
         Library::Printf => refused(place, Kind::TypeMismatch),
         Library::ThrdCreate => refused(place, Kind::TypeMismatch),
+        Library::AtomicStore => called_atomic(alloc, place, Lib::AtomicStore, args),
+        Library::AtomicLoad => loaded(alloc, place, args),
+        Library::AtomicAdd => called_atomic(alloc, place, Lib::AtomicAdd, args),
+        Library::AtomicSub => called_atomic(alloc, place, Lib::AtomicSub, args),
+        Library::AtomicSwap => called_atomic(alloc, place, Lib::AtomicSwap, args),
+        Library::AtomicCompare => called_atomic(alloc, place, Lib::AtomicCompare, args),
         Library::Constant(_) => refused(place, Kind::TypeMismatch),
+        Library::AtomicType(_) => refused(place, Kind::TypeMismatch),
     }
 }

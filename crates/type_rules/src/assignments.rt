@@ -1,14 +1,14 @@
 //! Assignments, initialisers and what a function returns (C11 6.5.16, 6.5.2.4, 6.5.3.1, 6.7.9, 6.8.6.4).
 ghost use Rattle.std.specs.Prelude.{◌≡◌, pos};
 ghost use Rattle.ak_words.specs.IntType.{int};
-ghost use Rattle.c_tree.specs.Typed.{integer, at, num};
+ghost use Rattle.c_tree.specs.Typed.{integer, at, num, type_of};
 ghost use Rattle.c_tree.specs.TypedViews.{type_view, expr_view, stmt_view, boxed_expr_view};
 ghost use Rattle.c_typing.specs.Faults.{Gives, typed};
-ghost use Rattle.c_typing.specs.Statements.{assignable, assigned, moves, updates, updated, step_op, stepped, assign_op, assigned_by, initialised, returned_by};
+ghost use Rattle.c_typing.specs.Statements.{assignable, assigned, moves, updates, operand_by, updated, step_op, stepped, assign_op, assigned_by, initialised, returned_by};
 ghost use Rattle.type_context.specs.ContextViews.{context_view};
 ghost use Rattle.type_context.specs.Telling.{Says};
 
-use crate::conversions::{fitted, value_of};
+use crate::conversions::{converted, fitted, value_of};
 use crate::trees::made;
 use crate::unary::is_lvalue;
 use ak_words::{IntType, Num, Op};
@@ -50,20 +50,21 @@ fn assigned(
     })
 }
 
-// Whether the operator also moves a pointer.
+// Whether the operator also moves a pointer, and changes an atomic number.
 fn moves(op: Op) -> bool
     ensures { result ≡ moves op }
 {
     matches!(op, Op::Add | Op::Sub)
 }
 
-// What a compound assignment takes: two numbers, or a pointer and a number (C11 6.5.16.2).
+// What a compound assignment takes: two numbers, an atomic number and a number, or a pointer and a number (C11 6.5.16.2).
 #[tactic(auto, using(type_context::proofs::Judging::refused_part))]
 fn updates(context: &Context<'_>, place: u32, op: Op, s: &CType, t: &CType) -> Result<(), Refusal>
     ensures { Says (λ _. tt) result (updates (context_view context.now) place op (type_view s.now) (type_view t.now)) }
 {
     match (s, t) {
         (CType::Int(_), CType::Int(_)) => Ok(()),
+        (CType::Atomic(_), CType::Int(_)) => unless(place, Kind::TypeMismatch, moves(op)),
         (CType::Pointer(target), CType::Int(_)) => {
             unless(place, Kind::TypeMismatch, moves(op))?;
             unless(place, Kind::BadSize, has_size(&context.structs, target))
@@ -72,6 +73,16 @@ fn updates(context: &Context<'_>, place: u32, op: Op, s: &CType, t: &CType) -> R
             place,
             kind: Kind::TypeMismatch,
         }),
+    }
+}
+
+// What is added to an atomic number, or taken away, is converted to its type.
+fn operand_for(alloc: Global, left: &CType, right: Box<Expr>) -> Result<Box<Expr>, CompileFault>
+    ensures { Gives boxed_expr_view result (typed (operand_by (type_view left.now) (type_of (boxed_expr_view right)) (boxed_expr_view right))) }
+{
+    match (left, &right.ty) {
+        (CType::Atomic(s), CType::Int(t)) => converted(alloc, *t, *s, right),
+        _ => Ok(right),
     }
 }
 
@@ -88,6 +99,7 @@ fn updated(
 {
     as_fault(assignable(context, place, &left))?;
     as_fault(updates(context, place, op, &left.ty, &right.ty))?;
+    let right = operand_for(context.alloc, &left.ty, right)?;
     Ok(Stmt {
         place,
         node: StmtNode::Update(Box::into_inner(left), op, Box::into_inner(right)),

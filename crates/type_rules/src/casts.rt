@@ -10,12 +10,14 @@ use c_lex::{CompileFault, Kind};
 use c_tree::typed::{CType, Expr, ExprNode};
 use std::alloc::Global;
 use type_context::faults::refused;
+use type_context::kinds::value_type;
 
 /// `(t)e`: anything to `void`, a number to a number, a pointer to a pointer, and the constant 0 to
-/// a pointer; between other numbers and pointers there are no casts in the language.
+/// a pointer, where an atomic number stands for the number; between other numbers and pointers there are no casts in the language.
 pub fn cast(alloc: Global, place: u32, t: CType, e: Box<Expr>) -> Result<Box<Expr>, CompileFault>
     ensures { Gives boxed_expr_view result (cast place (type_view t) (boxed_expr_view e)) }
 {
+    let t = value_type(t);
     match (&e.ty, &t) {
         (_, CType::Void) => converted_to(alloc, place, t, e),
         (CType::Int(_), CType::Int(_)) => converted_to(alloc, place, t, e),

@@ -14,7 +14,8 @@ use std::alloc::Global;
 use type_context::faults::refused;
 use type_context::kinds::{is_void, same_int, same_type};
 
-/// The value of an operand: an array becomes a pointer to its first element (C11 6.3.2.1 p3).
+/// The value of an operand: an array becomes a pointer to its first element, and an atomic number is read as the number (C11
+/// 6.3.2.1 p2, p3).
 pub fn value_of(alloc: Global, e: Box<Expr>) -> Result<Box<Expr>, CompileFault>
     ensures { Gives boxed_expr_view result (typed (value_of (boxed_expr_view e))) }
 {
@@ -29,6 +30,7 @@ pub fn value_of(alloc: Global, e: Box<Expr>) -> Result<Box<Expr>, CompileFault>
                 ExprNode::Decay(e),
             )
         }
+        CType::Atomic(t) => made(alloc, e.place, CType::Int(*t), ExprNode::Convert(e)),
         _ => Ok(e),
     }
 }
@@ -89,7 +91,7 @@ pub fn fitted(alloc: Global, place: u32, t: &CType, e: Box<Expr>) -> Result<Box<
     ensures { Gives boxed_expr_view result (or_mismatch place (fitted (type_view t.now) (boxed_expr_view e))) }
 {
     match (&e.ty, t) {
-        (CType::Int(s), CType::Int(t)) => converted(alloc, *s, *t, e),
+        (CType::Int(s), CType::Int(t) | CType::Atomic(t)) => converted(alloc, *s, *t, e),
         (CType::Int(_), CType::Pointer(target)) => {
             if is_zero(&e) {
                 null_for(alloc, target, &e)

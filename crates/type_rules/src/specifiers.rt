@@ -4,7 +4,7 @@ ghost use Rattle.std.specs.Option.{option_map};
 ghost use Rattle.c_tree.specs.TypedViews.{type_view};
 ghost use Rattle.c_typing.specs.Faults.{Gives, typed};
 ghost use Rattle.c_typing.specs.Types.{behind_pointers};
-ghost use Rattle.c_typing.specs.Judgement.{words_of, wholes_of, type_by, specified};
+ghost use Rattle.c_typing.specs.Judgement.{words_of, atomics_in, wholes_of, type_by, atomic_if, specified};
 ghost use Rattle.type_context.specs.ContextViews.{types_view};
 ghost use Rattle.type_rules.specs.SpecifierViews.{part_view};
 
@@ -14,7 +14,7 @@ use c_tree::syntax::{Pointer, TypeWord};
 use c_tree::typed::CType;
 use std::alloc::{AllocError, Global};
 use type_context::faults::refused;
-use type_context::words::{named_by, says_nothing};
+use type_context::words::{atomic_by, is_atomic_word, named_by, says_nothing};
 
 /// A word among specifiers, or a type of its own: a struct, an enum, or what the name of a type
 /// stands for.
@@ -37,6 +37,21 @@ fn words_of(alloc: Global, parts: &[Part]) -> Result<Vec<TypeWord>, AllocError>
         }
     }
     Ok(words)
+}
+
+// How often `_Atomic` stands among them.
+fn atomics_in(parts: &[Part]) -> usize
+    ensures { result ≡ atomics_in (map part_view parts.now) }
+{
+    let mut n = 0;
+    'parts: for part in parts {
+        if let Part::Word(word) = part {
+            if is_atomic_word(*word) {
+                n += 1;
+            }
+        }
+    }
+    n
 }
 
 // The types of their own.
@@ -63,13 +78,23 @@ fn type_by(alloc: Global, wholes: &[CType], words: &[TypeWord]) -> Result<Option
     }
 }
 
+// The type that they name, if they name one, with `_Atomic` so often beside it.
+fn atomic_if(count: usize, t: Option<CType>) -> Option<CType>
+    ensures { option_map type_view result ≡ atomic_if count (option_map type_view t) }
+{
+    match t {
+        Some(t) => atomic_by(count, t),
+        None => None,
+    }
+}
+
 /// The type that specifiers name (C11 6.7.2 p2).
 pub fn specified(alloc: Global, place: u32, parts: &[Part]) -> Result<CType, CompileFault>
     ensures { Gives type_view result (specified place (map part_view parts.now)) }
 {
     let wholes = wholes_of(alloc, parts)?;
     let words = words_of(alloc, parts)?;
-    match type_by(alloc, &wholes, &words)? {
+    match atomic_if(atomics_in(parts), type_by(alloc, &wholes, &words)?) {
         Some(t) => Ok(t),
         None => refused(place, Kind::TypeMismatch),
     }

@@ -225,6 +225,7 @@ type_of_word words.MtxT = Some types.MtxT
 type_of_word words.Const = Some types.Const
 type_of_word words.Register = Some types.Register
 type_of_word words.Auto = Some types.Auto
+type_of_word words.Atomic = Some types.Atomic
 type_of_word _ = None
 
 -- the specifier that the token is by itself, with its place

@@ -12,5 +12,5 @@ returns c =
     let place = x.param.now.place in
     on_ok_weaker c.put.result
     (λ h body. ap (λ l. followed l body) h ∙ followed_push all _ body
-    ∙ ap (λ t. followed all (more_stmts (at_stmt place (declare c.args.number (Some (at place t (local x.number))))) body)) c.in_ok-copy_type.ensures)
+    ∙ ap (λ t. followed all (more_stmts (at_stmt place (declare c.args.number (Some (at place t (local x.number))))) body)) c.in_ok-passed_type.ensures)
     c.put.ensures
