@@ -1,14 +1,16 @@
--- The library's calls (C11 7.21, 7.22, 7.24, 7.26), as a table: the action that each is, of its arguments, and its value.
-use Rattle.std.specs.Prelude.{◌*◌, List, [], ◌∷◌, Option, Some, None, ℤ, pos, unsigned_abs, false}
+-- The library's calls (C11 7.17, 7.21, 7.22, 7.24, 7.26), as a table: the action that each is, of its arguments, and its value.
+use Rattle.std.specs.Prelude.{◌*◌, List, [], ◌∷◌, Bool, true, false, Option, Some, None, ℤ, pos, unsigned_abs}
 use Rattle.ak_words.specs.IntType.{int, unsigned_long}
 use Rattle.ak_words.specs.Num.{num}
 use Rattle.block_store.specs.declared.values.Cell.TheVariants.{Unknown, Byte}
+use Rattle.block_store.specs.declared.values.Change.TheVariants.{Add, Swap}
 use Rattle.block_store.specs.declared.values.Ptr.{Ptr}
 use Rattle.block_store.specs.declared.values.Value.{Value}
 use Rattle.block_store.specs.declared.values.Value.TheVariants as values
-use Rattle.block_store.specs.Actions.{bytes, text, SharedAction, store, copy, allocate, reallocate, free, print, lock, unlock, destroy, start, join}
+use Rattle.block_store.specs.Actions.{bytes, text, SharedAction, store, copy, allocate, reallocate, free, change, compare, print, lock, unlock, destroy, start, join}
 use Rattle.c_tree.specs.Typed as tree
 use Rattle.c_tree.specs.TypedPrinting.{parts}
+use Rattle.c_meaning.specs.Values.{unsigned_of, opposite_in, converted}
 
 -- the numbers among the arguments, and the pointers, each in order
 abbrev pub numbers_of : List Value → List ℤ
@@ -26,6 +28,13 @@ pointers_of (values.Pointer p ∷ vs) = p ∷ pointers_of vs
 abbrev pub free_mutex : Value
 free_mutex = values.Num (num unsigned_long (pos 0))
 
+-- an atomic number at this place is changed by a number of its type, which is added to it or taken away; no well typed program has a pointer
+-- there
+abbrev pub changed_by : (away : Bool) → Ptr → Value → Option SharedAction
+changed_by false at (values.Num n) = Some (change at n.ty Add n.value)
+changed_by true at (values.Num n) = Some (change at (unsigned_of n.ty) Add (opposite_in n.ty n.value))
+changed_by away at (values.Pointer p) = None
+
 -- what a call does; a well typed one has the arguments that it takes, and so does something
 abbrev pub action_of : tree.Lib → List Value → Option SharedAction
 action_of (tree.print pieces) args = Some (print (parts bytes text pieces (numbers_of args) (pointers_of args)))
@@ -40,6 +49,11 @@ action_of tree.mutex_init (values.Pointer p ∷ []) = Some (store p free_mutex)
 action_of tree.mutex_lock (values.Pointer p ∷ []) = Some (lock p)
 action_of tree.mutex_unlock (values.Pointer p ∷ []) = Some (unlock p)
 action_of tree.mutex_destroy (values.Pointer p ∷ []) = Some (destroy p)
+action_of tree.atomic_add (values.Pointer p ∷ v ∷ []) = changed_by false p v
+action_of tree.atomic_sub (values.Pointer p ∷ v ∷ []) = changed_by true p v
+action_of tree.atomic_swap (values.Pointer p ∷ values.Num n ∷ []) = Some (change p n.ty Swap n.value)
+action_of tree.atomic_compare (values.Pointer p ∷ values.Pointer want ∷ values.Num n ∷ []) = Some (compare p want n.ty n.value)
+action_of tree.atomic_store (values.Pointer p ∷ values.Num n ∷ []) = Some (store p (values.Num n))
 action_of which args = None
 
 -- the first of the arguments, if there are any
@@ -47,10 +61,17 @@ abbrev pub first_of_all : List Value → Option Value
 first_of_all [] = None
 first_of_all (v ∷ vs) = Some v
 
--- the value of a call: that of its action; memcpy gives its first argument, and a call on a mutex 0, which is thrd_success
+-- a value as one of the type that the second argument has
+abbrev pub as_second : List Value → Option Value → Option Value
+as_second (u ∷ values.Num n ∷ vs) (Some v) = Some (converted (tree.integer n.ty) v)
+as_second args v = v
+
+-- the value of a call: that of its action; memcpy gives its first argument, a call on a mutex 0, which is thrd_success, and a difference
+-- the old number, of the type that it had
 abbrev pub value_of_call : tree.Lib → List Value → Option Value → Option Value
 value_of_call tree.copy args v = first_of_all args
 value_of_call tree.mutex_init args v = Some (values.Num (num int (pos 0)))
 value_of_call tree.mutex_lock args v = Some (values.Num (num int (pos 0)))
 value_of_call tree.mutex_unlock args v = Some (values.Num (num int (pos 0)))
+value_of_call tree.atomic_sub args v = as_second args v
 value_of_call which args v = v
