@@ -5,10 +5,11 @@ use Rattle.ak_words.specs.declared.operation.Op.{Op}
 
 -- ---- types (C11 6.2.5)
 
--- a type: void, an integer type, mtx_t, a pointer to a type, an array of so many elements of a type, or the struct of this number
+-- a type: void, an integer type, an atomic one, which is a number that is read and written whole (C11 6.2.5 p20), mtx_t, a pointer to a type, an array of so many elements of a type, or the struct of this number
 pub data Ty : Type 0 where
   void : Ty
   integer : (t : IntType) → Ty
+  atomic : (t : IntType) → Ty
   mutex : Ty
   pointer : (to : Ty) → Ty
   array : (of : Ty) (size : ℕ) → Ty
@@ -21,7 +22,7 @@ pub record Layout : Type 0 where
   pub size : ℕ
   pub align : ℕ
 
--- ---- library functions (7.21, 7.22, 7.24, 7.26)
+-- ---- library functions (7.17, 7.21, 7.22, 7.24, 7.26)
 
 -- a piece of a format: bytes as they stand; a number of so many bits in decimal, as a signed one or as an unsigned one, or in
 -- hexadecimal; the low byte of a number; the text that a pointer leads to (7.21.6.1)
@@ -33,7 +34,9 @@ pub data Piece : Type 0 where
   character : Piece
   text : Piece
 
--- printf with the pieces of its format, malloc, calloc, realloc, free, memcpy, thrd_create of a function, thrd_join, and the calls of a mutex
+-- printf with the pieces of its format, malloc, calloc, realloc, free, memcpy, thrd_create of a function, thrd_join, the calls of a mutex,
+-- and of an atomic number the sum, the difference, the exchange, the exchange where two numbers are equal, and the store; its load is
+-- a conversion of the lvalue
 pub data Lib : Type 0 where
   print : (pieces : List Piece) → Lib
   malloc : Lib
@@ -47,6 +50,11 @@ pub data Lib : Type 0 where
   mutex_lock : Lib
   mutex_unlock : Lib
   mutex_destroy : Lib
+  atomic_add : Lib
+  atomic_sub : Lib
+  atomic_swap : Lib
+  atomic_compare : Lib
+  atomic_store : Lib
 
 -- ---- expressions (6.5)
 

@@ -6,8 +6,8 @@ use Rattle.ak_words.specs.declared.operation.Op.{Op}
 use Rattle.ak_words.specs.declared.operation.Op.TheVariants as ops
 use Rattle.ak_words.specs.IntType.{char, int, long, unsigned_long, promoted_type, IsInRange}
 use Rattle.ak_words.specs.Op.{result_type}
-use Rattle.c_tree.specs.Typed.{Ty, void, integer, mutex, pointer, array, structure, Layout, Piece, bytes, signed, unsigned, hexadecimal, character, text}
-use Rattle.c_tree.specs.Typed.{Lib, print, malloc, calloc, realloc, free, copy, start, join, mutex_init, mutex_lock, mutex_unlock, mutex_destroy}
+use Rattle.c_tree.specs.Typed.{Ty, void, integer, atomic, mutex, pointer, array, structure, Layout, Piece, bytes, signed, unsigned, hexadecimal, character, text}
+use Rattle.c_tree.specs.Typed.{Lib, print, malloc, calloc, realloc, free, copy, start, join, mutex_init, mutex_lock, mutex_unlock, mutex_destroy, atomic_add, atomic_sub, atomic_swap, atomic_compare, atomic_store}
 use Rattle.c_tree.specs.Typed.{Expr, at, ExprNode, num, null, literal, global, local, deref, member, address_of, decay, convert, not_, binary, and_also, or_else, choose}
 use Rattle.c_tree.specs.Typed.{pointer_add, pointer_sub, pointer_diff, pointer_compare, pointer_test, call, lib, Exprs, no_exprs, more_exprs, type_of, node_of}
 use Rattle.c_tree.specs.Typed.{Stmt, at_stmt, StmtNode, block, declare, if_, if_else, while_, for_, break_, continue_, return_, assign, update, evaluate, empty, do_while, switch, Label, case_at, default_at, Stmts, no_stmts, more_stmts}
@@ -32,9 +32,10 @@ IsScalar (integer t) = Unit {0}
 IsScalar (pointer t) = Unit {0}
 IsScalar t = ⊥
 
--- a value of type s stands where one of type t is wanted: numbers of one type, any two pointers, one struct
+-- a value of type s stands where one of type t is wanted: numbers of one type, also where the second is atomic, any two pointers, one struct
 abbrev pub Fits : (s t : Ty) → Type 0
 Fits (integer s) (integer t) = s ≡ t
+Fits (integer s) (atomic t) = s ≡ t
 Fits (pointer s) (pointer t) = Unit {0}
 Fits (structure m) (structure n) = m ≡ n
 Fits s t = ⊥
@@ -87,17 +88,20 @@ is_comparison ops.Gt = true
 is_comparison ops.Ge = true
 is_comparison op = false
 
--- what a compound assignment to an object of type s takes: numbers with any operator but a comparison, or a pointer moved by a
--- number of elements (6.5.16.2)
+-- what a compound assignment to an object of type s takes: numbers with any operator but a comparison, an atomic number of 32 or 64
+-- bits with a number of its type that is added or taken away, or a pointer moved by a number of elements (6.5.16.2; this project's profile)
 abbrev pub CanUpdate : List Layout → Op → (s t : Ty) → Type 0
 CanUpdate structs op (integer s) (integer t) = is_comparison op ≡ false
+CanUpdate structs op (atomic s) (integer t) = ((op ≡ ops.Add) ⊎ (op ≡ ops.Sub)) × (s ≡ t) × IsPromoted s
 CanUpdate structs op (pointer s) (integer t) = ((op ≡ ops.Add) ⊎ (op ≡ ops.Sub)) × IsSized structs s
 CanUpdate structs op s t = ⊥
 
--- a conversion: of a number to a number, of a pointer to a pointer, and of anything to void (6.3, 6.5.4)
+-- a conversion: of a number to a number, of an atomic number to its own value, of a pointer to a pointer, and of anything to void
+-- (6.3, 6.3.2.1 p2, 6.5.4)
 abbrev pub Converts : (s t : Ty) → Type 0
 Converts s void = Unit {0}
 Converts (integer s) (integer t) = Unit {0}
+Converts (atomic s) (integer t) = s ≡ t
 Converts (pointer s) (pointer t) = Unit {0}
 Converts s t = ⊥
 
@@ -173,6 +177,12 @@ AreArguments (t ∷ ts) (more_exprs e rest) = Fits (type_of e) t × AreArguments
 AreArguments [] (more_exprs e rest) = ⊥
 AreArguments (t ∷ ts) no_exprs = ⊥
 
+-- the first argument points to an atomic number of 32 or 64 bits, and its type tells those of the others and the result (7.17.7)
+abbrev pub IsAtomicCall : (others : IntType → List Ty) → (result : IntType → Ty) → Exprs → Ty → Type 0
+IsAtomicCall others result no_exprs ty = ⊥
+IsAtomicCall others result (more_exprs e rest) ty = (t : IntType) × (type_of e ≡ pointer (atomic t)) × IsPromoted t
+    × AreArguments (others t) rest × (ty ≡ result t)
+
 -- the arguments and the result of a library function; the mutex's kind, and the function of a new thread, are no arguments
 abbrev pub IsLibCall : InScope → Lib → Exprs → Ty → Type 0
 IsLibCall c (print pieces) es t = ArePrinted pieces es × (t ≡ integer int)
@@ -187,6 +197,11 @@ IsLibCall c mutex_init es t = AreArguments (pointer mutex ∷ []) es × (t ≡ i
 IsLibCall c mutex_lock es t = AreArguments (pointer mutex ∷ []) es × (t ≡ integer int)
 IsLibCall c mutex_unlock es t = AreArguments (pointer mutex ∷ []) es × (t ≡ integer int)
 IsLibCall c mutex_destroy es t = AreArguments (pointer mutex ∷ []) es × (t ≡ void)
+IsLibCall c atomic_add es t = IsAtomicCall (λ s. integer s ∷ []) (λ s. integer s) es t
+IsLibCall c atomic_sub es t = IsAtomicCall (λ s. integer s ∷ []) (λ s. integer s) es t
+IsLibCall c atomic_swap es t = IsAtomicCall (λ s. integer s ∷ []) (λ s. integer s) es t
+IsLibCall c atomic_compare es t = IsAtomicCall (λ s. pointer (integer s) ∷ integer s ∷ []) (λ s. integer int) es t
+IsLibCall c atomic_store es t = IsAtomicCall (λ s. integer s ∷ []) (λ s. void) es t
 
 -- an expression of its type, whose parts are well formed
 abbrev mutual
@@ -403,7 +418,7 @@ pub data LiesIn (structs : List Layout) : ℕ → ℕ → Type 0 where
 -- what a global of this type may hold at the start
 abbrev pub IsInit : List (List ℕ) → Ty → Init → Type 0
 IsInit literals t zero_bytes = Unit {0}
-IsInit literals t (number s value) = (t ≡ integer s) × IsInRange s value
+IsInit literals t (number s value) = Fits (integer s) t × IsInRange s value
 IsInit literals t (literal_at n) = (t ≡ pointer (integer char)) × (n < length literals)
 
 -- a global of a program is well formed: its type has a size, and it may hold what it holds at the start

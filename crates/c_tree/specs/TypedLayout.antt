@@ -1,6 +1,6 @@
 -- How types are laid out in memory, in bytes (C11 6.2.6.1, 6.2.8; this project's profile).
 use Rattle.std.specs.Prelude.{ℕ, ◌+◌, ◌-◌, ◌*◌, ◌/◌, ◌<◌, ◌≤◌, max, List, [], ◌∷◌, Option, Some, None, slice_get, length}
-use Rattle.c_tree.specs.Typed.{Ty, void, integer, mutex, pointer, array, structure, Layout}
+use Rattle.c_tree.specs.Typed.{Ty, void, integer, atomic, mutex, pointer, array, structure, Layout}
 
 -- the greatest object of a declared type
 abbrev pub greatest_object : ℕ
@@ -16,10 +16,11 @@ abbrev pub layout_align : Option Layout → ℕ
 layout_align None = 1
 layout_align (Some l) = l.align
 
--- a number has the size of its bits, a pointer and a mutex 8 bytes; void and a struct that isn't declared have none
+-- a number, also an atomic one, has the size of its bits, a pointer and a mutex 8 bytes; void and a struct that isn't declared have none
 abbrev pub size_in : List Layout → Ty → ℕ
 size_in structs void = 0
 size_in structs (integer t) = t.bits / 8
+size_in structs (atomic t) = t.bits / 8
 size_in structs mutex = 8
 size_in structs (pointer t) = 8
 size_in structs (array t n) = size_in structs t * n
@@ -29,6 +30,7 @@ size_in structs (structure n) = layout_size (slice_get structs n)
 abbrev pub align_in : List Layout → Ty → ℕ
 align_in structs void = 1
 align_in structs (integer t) = t.bits / 8
+align_in structs (atomic t) = t.bits / 8
 align_in structs mutex = 8
 align_in structs (pointer t) = 8
 align_in structs (array t n) = align_in structs t
@@ -39,6 +41,7 @@ align_in structs (structure n) = layout_align (slice_get structs n)
 abbrev pub IsSized : List Layout → Ty → Type 0
 IsSized structs void = ⊥
 IsSized structs (integer t) = Unit {0}
+IsSized structs (atomic t) = Unit {0}
 IsSized structs mutex = Unit {0}
 IsSized structs (pointer t) = Unit {0}
 IsSized structs (array t n) = IsSized structs t × (0 < n) × (size_in structs t * n ≤ greatest_object)

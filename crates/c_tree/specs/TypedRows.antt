@@ -1,9 +1,11 @@
 -- Worked rows: the layout of a struct and the bytes of formats, put to the test.
 use Rattle.std.specs.Prelude.{◌≡◌, ℕ, pos, negsuc, false, List, [], ◌∷◌, ◌++◌, codes, Some}
-use Rattle.ak_words.specs.declared.operation.Op.TheVariants.{Add}
-use Rattle.ak_words.specs.IntType.{char, int, unsigned_long}
-use Rattle.c_tree.specs.Typed.{Ty, void, integer, pointer, array, structure, Layout, Piece, bytes, signed, unsigned, hexadecimal, character, text}
-use Rattle.c_tree.specs.Typed.{Expr, at, num, null, global, local, deref, address_of, binary, at_stmt, assign, declare, return_, no_stmts, more_stmts, Stmt, Func, Typed}
+use Rattle.ak_words.specs.declared.int_type.IntType.{IntType}
+use Rattle.ak_words.specs.declared.operation.Op.{Op}
+use Rattle.ak_words.specs.declared.operation.Op.TheVariants.{Add, Mul}
+use Rattle.ak_words.specs.IntType.{char, int, long, unsigned_long}
+use Rattle.c_tree.specs.Typed.{Ty, void, integer, atomic, pointer, array, structure, Layout, Piece, bytes, signed, unsigned, hexadecimal, character, text}
+use Rattle.c_tree.specs.Typed.{Expr, at, num, null, global, local, deref, address_of, convert, binary, lib, atomic_compare, no_exprs, more_exprs, at_stmt, assign, update, declare, return_, no_stmts, more_stmts, Stmt, Func, Typed}
 use Rattle.c_tree.specs.TypedForm.{IsTyped, Inside, in_function, IsWell, IsLayout, IsWellFormed}
 use Rattle.c_tree.specs.TypedLayout.{size_in, align_in, laid_out}
 use Rattle.c_tree.specs.TypedPrinting.{parts}
@@ -51,6 +53,18 @@ pointed t = at 3 t (deref (at 4 (pointer t) null))
 abbrev pub copied : Stmt
 copied = at_stmt 2 (assign (pointed (structure 0)) (pointed (structure 0)))
 
+-- 1
+abbrev pub one : Expr
+one = at 5 (integer int) (num int (pos 1))
+
+-- *p op= 1, where p is a null pointer to an atomic number of this type
+abbrev pub updated : (t : IntType) → Op → Stmt
+updated t op = at_stmt 2 (update (pointed (atomic t)) op one)
+
+-- atomic_compare_exchange_strong(p, q, 1), where p is a null pointer to this type, and q one to int
+abbrev pub exchanged : Ty → Expr
+exchanged t = at 1 (integer int) (lib atomic_compare (more_exprs (at 2 (pointer t) null) (more_exprs (at 3 (pointer (integer int)) null) (more_exprs one no_exprs))))
+
 -- a struct that was named and isn't declared
 abbrev pub named : Layout
 named = laid_out [] []
@@ -75,6 +89,8 @@ pub record TypedRowsHold : Type 0 where
   pub pair_offsets : pair.offsets ≡ 0 ∷ 8 ∷ 72 ∷ []
   pub pair_size : size_in (node ∷ pair ∷ []) (array (structure 1) 3) ≡ 240
   pub pair_align : align_in (node ∷ pair ∷ []) (array (structure 1) 3) ≡ 8
+  -- an atomic number lies as the number
+  pub atomic_offsets : (laid_out [] (integer char ∷ atomic long ∷ atomic int ∷ [])).offsets ≡ 0 ∷ 8 ∷ 16 ∷ []
   -- printf("%d %u%d%lx%s%c", -1, -1, 4294967295, -1, "of", 321), with numbers of other types than the conversions'
   pub format_is : printed (signed 32 ∷ bytes (codes " ") ∷ unsigned 32 ∷ signed 32 ∷ hexadecimal 64 ∷ text ∷ character ∷ [])
       ≡ codes "-1 4294967295-1ffffffffffffffffofA"
@@ -91,6 +107,16 @@ pub record TypedRowsHold : Type 0 where
   -- a struct is copied once it is declared
   pub copy : IsWell (among (node ∷ [])) in_function copied
   pub no_copy : IsWell (among (named ∷ [])) in_function copied → ⊥
+  -- an atomic int is read as an int and as no long; 1 is stored there, or added, but not multiplied; nothing is added to an atomic char;
+  -- and no int is exchanged that isn't atomic
+  pub read : IsTyped (among []).context (at 2 (integer int) (convert (pointed (atomic int))))
+  pub no_wider_read : IsTyped (among []).context (at 2 (integer long) (convert (pointed (atomic int)))) → ⊥
+  pub set : IsWell (among []) in_function (at_stmt 2 (assign (pointed (atomic int)) one))
+  pub added : IsWell (among []) in_function (updated int Add)
+  pub no_multiplied : IsWell (among []) in_function (updated int Mul) → ⊥
+  pub no_char : IsWell (among []) in_function (updated char Add) → ⊥
+  pub exchange : IsTyped (among []).context (exchanged (atomic int))
+  pub no_exchange : IsTyped (among []).context (exchanged (integer int)) → ⊥
   -- what is laid out with the size that it itself says it has, and is no struct of a program, since it lies in itself
   pub laid_in_itself : IsLayout inside_itself (of_eight (structure 0))
   pub not_in_itself : (t : Typed) → t.structs ≡ inside_itself → IsWellFormed t → ⊥

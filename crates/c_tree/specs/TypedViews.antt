@@ -30,6 +30,7 @@ use Rattle.c_tree.specs.Typed.{stmts_of}
 abbrev pub type_view : CType → trees.Ty
 type_view types.Void = trees.void
 type_view (types.Int t) = trees.integer t
+type_view (types.Atomic t) = trees.atomic t
 type_view types.Mutex = trees.mutex
 type_view (types.Pointer' p t) = trees.pointer (type_view t)
 type_view (types.Array' p t n) = trees.array (type_view t) n
@@ -62,6 +63,11 @@ lib_view libs.MutexInit = trees.mutex_init
 lib_view libs.MutexLock = trees.mutex_lock
 lib_view libs.MutexUnlock = trees.mutex_unlock
 lib_view libs.MutexDestroy = trees.mutex_destroy
+lib_view libs.AtomicAdd = trees.atomic_add
+lib_view libs.AtomicSub = trees.atomic_sub
+lib_view libs.AtomicSwap = trees.atomic_swap
+lib_view libs.AtomicCompare = trees.atomic_compare
+lib_view libs.AtomicStore = trees.atomic_store
 
 abbrev mutual
   -- what an expression of the code does

@@ -17,6 +17,7 @@ pub fn copy_type(alloc: Global, t: &CType) -> Result<CType, AllocError>
     match t {
         CType::Void => Ok(CType::Void),
         CType::Int(t) => Ok(CType::Int(*t)),
+        CType::Atomic(t) => Ok(CType::Atomic(*t)),
         CType::Mutex => Ok(CType::Mutex),
         CType::Pointer(t) => {
             let target = copy_type(alloc, t)?;

@@ -45,6 +45,8 @@ pub enum TypeWord {
     Register,
     /// `auto`
     Auto,
+    /// `_Atomic`
+    Atomic,
 }
 
 /// What stands between the specifiers of a declaration and its name (C11 6.7.6.1).

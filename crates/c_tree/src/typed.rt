@@ -7,6 +7,8 @@ pub enum CType {
     Void,
     /// An integer type.
     Int(IntType),
+    /// An atomic integer type: a number that is read and written whole.
+    Atomic(IntType),
     /// `mtx_t`.
     Mutex,
     /// A pointer to a type.
@@ -77,7 +79,7 @@ pub struct Literal {
 pub struct Local {
     /// Its type.
     pub ty: CType,
-    /// Whether it is a block: an array, a struct, a mutex, or an object whose address is taken.
+    /// Whether it is a block: an array, a struct, a mutex, an atomic number, or an object whose address is taken.
     pub in_memory: bool,
 }
 
@@ -209,7 +211,7 @@ pub enum ExprNode {
     Lib(Lib, Vec<Expr>),
 }
 
-/// A library function (C11 7.21, 7.22, 7.24, 7.26).
+/// A library function (C11 7.17, 7.21, 7.22, 7.24, 7.26).
 #[derive(Debug, Drop)]
 pub enum Lib {
     /// `printf`, with the pieces of its format.
@@ -236,6 +238,16 @@ pub enum Lib {
     MutexUnlock,
     /// `mtx_destroy`
     MutexDestroy,
+    /// `atomic_fetch_add`
+    AtomicAdd,
+    /// `atomic_fetch_sub`
+    AtomicSub,
+    /// `atomic_exchange`
+    AtomicSwap,
+    /// `atomic_compare_exchange_strong`, and the weak one, which never fails by itself.
+    AtomicCompare,
+    /// `atomic_store` and `atomic_init`.
+    AtomicStore,
 }
 
 /// A piece of a format (C11 7.21.6.1).

@@ -13,7 +13,7 @@ pub fn size_of(t: &CType, structs: &[Layout]) -> u32
 {
     match t {
         CType::Void => 0,
-        CType::Int(t) => u32::from(t.bits / 8),
+        CType::Int(t) | CType::Atomic(t) => u32::from(t.bits / 8),
         CType::Mutex | CType::Pointer(_) => 8,
         CType::Array(element, n) => size_of(element, structs) * *n,
         CType::Struct(n) => structs[*n as usize].size,
@@ -28,7 +28,7 @@ pub fn align_of(t: &CType, structs: &[Layout]) -> u32
 {
     match t {
         CType::Void => 1,
-        CType::Int(t) => u32::from(t.bits / 8),
+        CType::Int(t) | CType::Atomic(t) => u32::from(t.bits / 8),
         CType::Mutex | CType::Pointer(_) => 8,
         CType::Array(element, _) => align_of(element, structs),
         CType::Struct(n) => structs[*n as usize].align,
