@@ -21,9 +21,9 @@ use Rattle.block_store.specs.Mutexes.{locked, unlocked, destroyed}
 use Rattle.c_tree.specs.Typed as tree
 use Rattle.c_tree.specs.TypedForm.{IsScalar, Fits, IsNth, HasBits, ArePrinted, CanStart, InScope, AreArguments, IsAtomicCall, IsLibCall, IsTyped, AreTyped, Signature, signature_of, context_of, IsFunc, IsWellFormed}
 use Rattle.c_tree.specs.TypedPrinting.{parts}
-use Rattle.c_meaning.specs.Values.{unsigned_of, opposite_in}
+use Rattle.c_meaning.specs.Values.{opposite_of}
 use Rattle.c_meaning.specs.Control.{Callee, function, library}
-use Rattle.c_meaning.specs.Library.{numbers_of, pointers_of, free_mutex, action_of, as_second, value_of_call}
+use Rattle.c_meaning.specs.Library.{numbers_of, pointers_of, free_mutex, action_of, value_of_call}
 use Rattle.c_meaning.specs.Kinds.{HasType, HasTypeIf, IsCalled, StandBefore, CanBegin, IsTypedWorld}
 use Rattle.c_meaning.proofs.TypedValues.{fits_type, pointer_scalar}
 use Rattle.c_meaning.proofs.TypedLocals.{at_number, ArgumentsHold, arguments_hold, params_scalar}
@@ -300,16 +300,8 @@ adding_does t ty p n e w thread answer h = changing_does t ty Add p n e w thread
 swapping_does : (t : tree.Typed) (ty : IntType) (p : Ptr) (n : Num) → n.ty ≡ ty → DoesOn t tree.atomic_swap (tree.integer ty) (values.Pointer p ∷ values.Num n ∷ [])
 swapping_does t ty p n e w thread answer h = changing_does t ty Swap p n e w thread answer h
 
--- the old number has the type again that it had
-old_typed : (ty : IntType) (p : Ptr) (n : Num) → n.ty ≡ ty → (v : Option Value) → HasTypeIf (tree.integer (unsigned_of n.ty)) v → HasTypeIf (tree.integer ty) (as_second (values.Pointer p ∷ values.Num n ∷ []) v)
-old_typed ty p n e None h = tt
-old_typed ty p n e (Some (values.Num m)) h = e
-old_typed ty p n e (Some (values.Pointer q)) h = elim h [ ]
-
 taking_does : (t : tree.Typed) (ty : IntType) (p : Ptr) (n : Num) → n.ty ≡ ty → DoesOn t tree.atomic_sub (tree.integer ty) (values.Pointer p ∷ values.Num n ∷ [])
-taking_does t ty p n e w thread answer h =
-    done_also t (HasTypeIf (tree.integer (unsigned_of n.ty))) (λ v. HasTypeIf (tree.integer ty) (as_second (values.Pointer p ∷ values.Num n ∷ []) v)) (old_typed ty p n e)
-    (acted w thread answer (actions.change p (unsigned_of n.ty) Add (opposite_in n.ty n.value))) (change_done t (unsigned_of n.ty) w thread answer p Add (opposite_in n.ty n.value) h)
+taking_does t ty p n e w thread answer h = changing_does t ty Add p (opposite_of n) e w thread answer h
 
 storing_does : (t : tree.Typed) (ty : IntType) (p : Ptr) (n : Num) → n.ty ≡ ty → DoesOn t tree.atomic_store tree.void (values.Pointer p ∷ values.Num n ∷ [])
 storing_does t ty p n e w thread answer h =

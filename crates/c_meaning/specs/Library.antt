@@ -10,7 +10,7 @@ use Rattle.block_store.specs.declared.values.Value.TheVariants as values
 use Rattle.block_store.specs.Actions.{bytes, text, SharedAction, store, copy, allocate, reallocate, free, change, compare, print, lock, unlock, destroy, start, join}
 use Rattle.c_tree.specs.Typed as tree
 use Rattle.c_tree.specs.TypedPrinting.{parts}
-use Rattle.c_meaning.specs.Values.{unsigned_of, opposite_in, converted}
+use Rattle.c_meaning.specs.Values.{opposite_of}
 
 -- the numbers among the arguments, and the pointers, each in order
 abbrev pub numbers_of : List Value → List ℤ
@@ -32,7 +32,7 @@ free_mutex = values.Num (num unsigned_long (pos 0))
 -- there
 abbrev pub changed_by : (away : Bool) → Ptr → Value → Option SharedAction
 changed_by false at (values.Num n) = Some (change at n.ty Add n.value)
-changed_by true at (values.Num n) = Some (change at (unsigned_of n.ty) Add (opposite_in n.ty n.value))
+changed_by true at (values.Num n) = Some (change at n.ty Add (opposite_of n).value)
 changed_by away at (values.Pointer p) = None
 
 -- what a call does; a well typed one has the arguments that it takes, and so does something
@@ -61,17 +61,10 @@ abbrev pub first_of_all : List Value → Option Value
 first_of_all [] = None
 first_of_all (v ∷ vs) = Some v
 
--- a value as one of the type that the second argument has
-abbrev pub as_second : List Value → Option Value → Option Value
-as_second (u ∷ values.Num n ∷ vs) (Some v) = Some (converted (tree.integer n.ty) v)
-as_second args v = v
-
--- the value of a call: that of its action; memcpy gives its first argument, a call on a mutex 0, which is thrd_success, and a difference
--- the old number, of the type that it had
+-- the value of a call: that of its action; memcpy gives its first argument, and a call on a mutex 0, which is thrd_success
 abbrev pub value_of_call : tree.Lib → List Value → Option Value → Option Value
 value_of_call tree.copy args v = first_of_all args
 value_of_call tree.mutex_init args v = Some (values.Num (num int (pos 0)))
 value_of_call tree.mutex_lock args v = Some (values.Num (num int (pos 0)))
 value_of_call tree.mutex_unlock args v = Some (values.Num (num int (pos 0)))
-value_of_call tree.atomic_sub args v = as_second args v
 value_of_call which args v = v

@@ -41,10 +41,6 @@ abbrev pub is_atomic : tree.Ty → Bool
 is_atomic (tree.atomic t) = true
 is_atomic t = false
 
--- the unsigned type of the same width (C11 6.2.5 p6)
-abbrev pub unsigned_of : IntType → IntType
-unsigned_of t = record { signed = false; bits = t.bits; known_width = t.known_width }
-
 -- the size of what a pointer of this type points to
 abbrev pub element_size : List tree.Layout → tree.Ty → ℕ
 element_size structs (tree.pointer t) = size_in structs t
@@ -106,10 +102,9 @@ abbrev pub converted : tree.Ty → Value → Value
 converted (tree.integer t) (values.Num n) = values.Num (num t n.value)
 converted t v = v
 
--- 0 minus a number, in the unsigned type of that width: to add this, modulo the type's range, is to take the number away, and breaks nothing
--- where the number is the least one (C11 7.17.7.5)
-abbrev pub opposite_in : IntType → ℤ → ℤ
-opposite_in t z = (num (unsigned_of t) (pos 0 -ℤ (num (unsigned_of t) z).value)).value
+-- 0 minus a number, modulo its type's range: to add this is to take the number away, also where it is the least one (C11 7.17.7.5)
+abbrev pub opposite_of : Num → Num
+opposite_of n = num n.ty (pos 0 -ℤ n.value)
 
 -- ---- operations
 

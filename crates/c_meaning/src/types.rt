@@ -3,7 +3,7 @@
 ghost use Rattle.std.specs.Prelude.{◌≡◌, ◌*◌, IfOk, map, Some};
 ghost use Rattle.c_tree.specs.TypedLayout.{size_in, align_in};
 ghost use Rattle.c_tree.specs.TypedViews.{type_view, layout_view};
-ghost use Rattle.c_meaning.specs.Values.{access_of_type, is_scalar, is_atomic, unsigned_of, element_size, member_offset, offset_in, operand_types};
+ghost use Rattle.c_meaning.specs.Values.{access_of_type, is_scalar, is_atomic, element_size, member_offset, offset_in, operand_types};
 ghost use Rattle.c_meaning.specs.Turns.{is_struct};
 
 use ak_words::{IntType, NoMemory, Op, common, promote};
@@ -113,16 +113,6 @@ pub fn is_atomic(t: &CType) -> bool
     ensures { result ≡ is_atomic (type_view t.now) }
 {
     matches!(t, CType::Atomic(_))
-}
-
-/// The unsigned type of the same width (C11 6.2.5 p6).
-pub fn unsigned_of(t: IntType) -> IntType
-    ensures { result ≡ unsigned_of t }
-{
-    IntType {
-        signed: false,
-        bits: t.bits,
-    }
 }
 
 /// Whether it is a struct.

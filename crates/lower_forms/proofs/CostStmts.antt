@@ -61,10 +61,10 @@ module _ (f : Frame) where
   cost_assign place None left right t rest = cost_either (is_struct (tree.type_of left)) _ _ _ _ (cost_copy left right t rest) (cost_store left right t rest)
   cost_assign place (Some n) left right t rest = cost_weak _ _ _ _ (cost_step _ _ _ _ _ (cost_expr f right t _) (cost_one _ _ _)) (omega arith)
 
-  cost_change : (place : ℕ) (away : Bool) (ty : IntType) (p : Place) (u : ℕ) (to : Option ℕ) (rest : Nodes) → AtMost (change_nodes place away ty p u to rest) 4 rest
+  cost_change : (place : ℕ) (away : Bool) (ty : IntType) (p : Place) (u : ℕ) (to : Option ℕ) (rest : Nodes) → AtMost (change_nodes place away ty p u to rest) 5 rest
   cost_change place false ty p u to rest = cost_weak _ _ _ _ (cost_one _ _ _) (omega arith)
   cost_change place true ty p u to rest =
-      cost_weak _ _ _ _ (cost_step _ _ _ _ _ (cost_one _ _ _) (cost_step _ _ _ _ _ (cost_one _ _ _) (cost_step _ _ _ _ _ (cost_one _ _ _) (cost_one _ _ _)))) (omega arith)
+      cost_weak _ _ _ _ (cost_step _ _ _ _ _ (cost_one _ _ _) (cost_step _ _ _ _ _ (cost_one _ _ _) (cost_step _ _ _ _ _ (cost_one _ _ _) (cost_step _ _ _ _ _ (cost_one _ _ _) (cost_one _ _ _))))) (omega arith)
 
   cost_by : (place u : ℕ) (op : Op) (p : Place) (left right : tree.Expr) (rest : Nodes) → AtMost (update_by f place u op p left right rest) 6 rest
   cost_by place u op p left right rest =

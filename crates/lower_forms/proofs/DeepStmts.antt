@@ -61,7 +61,7 @@ module _ (f : Frame) where
   deep_change : (place : ℕ) (away : Bool) (ty : IntType) (p : Place) (u : ℕ) (to : Option ℕ) (rest : Nodes) → NoDeeper (change_nodes place away ty p u to rest) 1 rest
   deep_change place false ty p u to rest = deep_one _ _ _
   deep_change place true ty p u to rest =
-      deep_weak _ _ _ _ (deep_step _ _ _ _ _ (deep_one _ _ _) (deep_step _ _ _ _ _ (deep_one _ _ _) (deep_step _ _ _ _ _ (deep_one _ _ _) (deep_one _ _ _)))) (omega arith)
+      deep_weak _ _ _ _ (deep_step _ _ _ _ _ (deep_one _ _ _) (deep_step _ _ _ _ _ (deep_one _ _ _) (deep_step _ _ _ _ _ (deep_one _ _ _) (deep_step _ _ _ _ _ (deep_one _ _ _) (deep_one _ _ _))))) (omega arith)
 
   deep_by : (place u : ℕ) (op : Op) (p : Place) (left right : tree.Expr) (rest : Nodes) → NoDeeper (update_by f place u op p left right rest) 1 rest
   deep_by place u op p left right rest =

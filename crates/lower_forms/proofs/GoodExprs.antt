@@ -12,7 +12,7 @@ use Rattle.block_store.specs.declared.values.Change.TheVariants.{Add, Swap}
 use Rattle.c_tree.specs.Typed as tree
 use Rattle.c_tree.specs.TypedForm.{IsPointer, HasBits, ArePrinted, Signature, CanStart, InScope, IsNth, AreArguments, IsAtomicCall, IsLibCall, IsTyped, IsTypedNode, AreTyped}
 use Rattle.c_tree.specs.TypedPrinting.{takes_number, takes_text}
-use Rattle.c_meaning.specs.Values.{unsigned_of, element_size}
+use Rattle.c_meaning.specs.Values.{element_size}
 use Rattle.struct_ir.specs.Nodes.{Place, Nodes, no_nodes, more_nodes, plain, call}
 use Rattle.struct_ir.specs.Nodes as ir
 use Rattle.struct_ir.specs.Lists.{bare_place}
@@ -191,7 +191,7 @@ module _ (x : Scope) where
   good_change a place true ty p u to rest q h b k w g =
       let m : u < x.temps = omega (arith, k) in
       good_set x a place u _ _ m (below x u m) (good_set x a place (suc u) _ _ k refl
-      (good_set x a place u _ _ m (and_from _ _ q (and_from _ _ (below x (suc u) k) (below x u m))) (change_step a place Add (unsigned_of ty) p u to rest q h b m w g)))
+      (good_set x a place u _ _ m (and_from _ _ q (and_from _ _ (below x (suc u) k) (below x u m))) (good_set x a place u _ _ m (below x u m) (change_step a place Add ty p u to rest q h b m w g))))
 
   pub good_call : (a : Around) (place : ℕ) (to : Option ℕ) (function : ℕ) (temps : List ℕ) (rest : Nodes) → is_below_if x.temps to ≡ true → are_below x.temps temps ≡ true
       → has_params (slice_get x.params function) (length temps) ≡ true → Good x a rest → Good x a (calls place to function temps rest)
@@ -277,8 +277,7 @@ module _ (x : Scope) (c : InScope) (f : Frame) (s : Suits x c f) where
       good_change x a place false (changed_number es) (at_temp t) (suc t) (Some t) rest (changed_promoted _ _ es ty h) (temp_in x t (omega (arith, k))) refl (omega (arith, k, m)) (below x t (omega (arith, k))) g
   good_lib a place tree.atomic_sub es ty t rest h k g =
       let m : 2 ≤ count_all es = atomic_many (λ u. tree.integer u ∷ []) (λ u. tree.integer u) es ty 1 (λ u. refl) h in
-      good_change x a place true (changed_number es) (at_temp t) (suc t) (Some t) _ (changed_promoted _ _ es ty h) (temp_in x t (omega (arith, k))) refl (omega (arith, k, m)) (below x t (omega (arith, k)))
-      (good_set x a place t _ rest (omega (arith, k)) (below x t (omega (arith, k))) g)
+      good_change x a place true (changed_number es) (at_temp t) (suc t) (Some t) rest (changed_promoted _ _ es ty h) (temp_in x t (omega (arith, k))) refl (omega (arith, k, m)) (below x t (omega (arith, k))) g
   good_lib a place tree.atomic_swap es ty t rest h k g =
       let m : 2 ≤ count_all es = atomic_many (λ u. tree.integer u ∷ []) (λ u. tree.integer u) es ty 1 (λ u. refl) h in
       change_step x a place Swap (changed_number es) (at_temp t) (suc t) (Some t) rest (changed_promoted _ _ es ty h) (temp_in x t (omega (arith, k))) refl (omega (arith, k, m)) (below x t (omega (arith, k))) g

@@ -13,7 +13,7 @@ use Rattle.block_store.specs.declared.values.Access.TheVariants as accesses
 use Rattle.block_store.specs.declared.values.Change.TheVariants.{Add, Swap}
 use Rattle.c_tree.specs.Typed as tree
 use Rattle.c_tree.specs.TypedLayout.{size_in, align_in}
-use Rattle.c_meaning.specs.Values.{access_of_type, is_scalar, is_atomic, unsigned_of, element_size, member_offset, operand_types, is_minus}
+use Rattle.c_meaning.specs.Values.{access_of_type, is_scalar, is_atomic, element_size, member_offset, operand_types, is_minus}
 use Rattle.c_meaning.specs.Switches.{default_from, stands_at}
 use Rattle.c_meaning.specs.Turns.{is_struct}
 use Rattle.struct_ir.specs.Nodes.{Calc, Place, Action, Nodes, no_nodes, more_nodes, plain, if_, loop, break_, next_, ret, set, call, step, begin_object, end_object}
@@ -225,15 +225,21 @@ abbrev pub changed_number : tree.Exprs → IntType
 changed_number tree.no_exprs = int
 changed_number (tree.more_exprs e rest) = pointed_number (tree.type_of e)
 
--- 0 minus the number in u, in the unsigned type of its width; the register behind u takes the 0
+-- the unsigned type of the same width (C11 6.2.5 p6)
+abbrev pub unsigned_of : IntType → IntType
+unsigned_of t = record { signed = false; bits = t.bits; known_width = t.known_width }
+
+-- 0 minus the number in u, which is of this type: it is taken in the unsigned one, so that the least number breaks nothing, and the
+-- register behind u takes the 0
 abbrev pub opposite_nodes : (place : ℕ) → IntType → (u : ℕ) → Nodes → Nodes
 opposite_nodes place t u rest =
-    sets place u (ir.convert (unsigned_of t) u) (sets place (suc u) (ir.constant (unsigned_of t) (pos 0)) (sets place u (ir.apply ops.Sub (unsigned_of t) (suc u) u) rest))
+    sets place u (ir.convert (unsigned_of t) u) (sets place (suc u) (ir.constant (unsigned_of t) (pos 0))
+    (sets place u (ir.apply ops.Sub (unsigned_of t) (suc u) u) (sets place u (ir.convert t u) rest)))
 
 -- the number in u is added to the one at a place, or taken away from it, in one action (C11 7.17.7.5)
 abbrev pub change_nodes : (place : ℕ) → (away : Bool) → IntType → Place → (u : ℕ) → (to : Option ℕ) → Nodes → Nodes
 change_nodes place false t at u to rest = acts place (ir.change Add t) (at ∷ []) to (u ∷ []) rest
-change_nodes place true t at u to rest = opposite_nodes place t u (acts place (ir.change Add (unsigned_of t)) (at ∷ []) to (u ∷ []) rest)
+change_nodes place true t at u to rest = opposite_nodes place t u (acts place (ir.change Add t) (at ∷ []) to (u ∷ []) rest)
 
 -- the registers of arguments, the first of them in t
 abbrev pub temps_of : tree.Exprs → (t : ℕ) → List ℕ
@@ -276,7 +282,7 @@ lib_nodes place tree.mutex_lock args t rest = acts place ir.lock (at_temp t ∷ 
 lib_nodes place tree.mutex_unlock args t rest = acts place ir.unlock (at_temp t ∷ []) None [] (sets_int place t 0 rest)
 lib_nodes place tree.mutex_destroy args t rest = acts place ir.destroy (at_temp t ∷ []) None [] rest
 lib_nodes place tree.atomic_add args t rest = change_nodes place false (changed_number args) (at_temp t) (suc t) (Some t) rest
-lib_nodes place tree.atomic_sub args t rest = change_nodes place true (changed_number args) (at_temp t) (suc t) (Some t) (sets place t (ir.convert (changed_number args) t) rest)
+lib_nodes place tree.atomic_sub args t rest = change_nodes place true (changed_number args) (at_temp t) (suc t) (Some t) rest
 lib_nodes place tree.atomic_swap args t rest = acts place (ir.change Swap (changed_number args)) (at_temp t ∷ []) (Some t) (suc t ∷ []) rest
 lib_nodes place tree.atomic_compare args t rest = acts place (ir.compare (changed_number args)) (at_temp t ∷ at_temp (suc t) ∷ []) (Some t) (suc (suc t) ∷ []) rest
 lib_nodes place tree.atomic_store args t rest = acts place (ir.store (accesses.Number (changed_number args))) (at_temp t ∷ []) None (suc t ∷ []) rest
