@@ -151,7 +151,8 @@ realloc_done t to w thread answer at size h =
 -- ---- atomic numbers
 
 -- a change gives the number that was there
-abbrev OldIs : IntType → Result Changed Rule → Type 0
+-- a change gives a number of this type
+abbrev pub OldIs : IntType → Result Changed Rule → Type 0
 OldIs ty (Ok c) = c.old.ty ≡ ty
 OldIs ty (Err rule) = Unit {0}
 
@@ -171,7 +172,7 @@ changed_old : (ty : IntType) (blocks : Blocks) (how : Change) (by : ℤ) (r : Re
 changed_old ty blocks how by (Ok n) h = h
 changed_old ty blocks how by (Err rule) h = tt
 
-old_is : (ty : IntType) (blocks : Blocks) (at : Ptr) (how : Change) (by : ℤ) → OldIs ty (changed blocks at ty how by)
+pub old_is : (ty : IntType) (blocks : Blocks) (at : Ptr) (how : Change) (by : ℤ) → OldIs ty (changed blocks at ty how by)
 old_is ty blocks at how by = changed_old ty blocks how by (number_in ty (writable_at blocks ty at)) (number_in_is ty (writable_at blocks ty at))
 
 changes_number_done : (t : tree.Typed) (ty : IntType) (w : World) (r : Result Changed Rule) → OldIs ty r → IsTypedWorld t w → DoneWith t (HasTypeIf (tree.integer ty)) (actions.changes_number w r)

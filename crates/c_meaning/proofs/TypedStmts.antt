@@ -19,8 +19,8 @@ use Rattle.c_tree.specs.TypedLayout.{size_in, align_in}
 use Rattle.c_tree.specs.TypedForm.{IsInteger, IsScalar, Fits, CanUpdate, IsNth, IsLvalue, IsTyped, IsTypedNode, IfTyped, IsReturned, Jumps, in_function, in_loop, in_switch, IsSwitched, IsWell, IsWellNode, AreWell}
 use Rattle.c_meaning.specs.Control as control
 use Rattle.c_meaning.specs.Control.{Variable, Loop, Update, Callee, dropped, wanted}
-use Rattle.c_meaning.specs.Values.{access_of_type, is_scalar, is_atomic, is_minus, opposite_of, truth_of, updated}
-use Rattle.c_meaning.specs.Library.{changed_by}
+use Rattle.c_meaning.specs.Values.{access_of_type, is_scalar, is_atomic, is_minus, truth_of, updated}
+use Rattle.c_meaning.specs.Library.{addend, changed_by}
 use Rattle.c_meaning.specs.Switches.{chosen, starts_at}
 use Rattle.c_meaning.specs.Turns.{Does, Way, after_call, local_at, is_block, variable_at, with_variable, ended_local, ended_locals, made_local, declared_local, declared, declared_by, pointer_in, run, run_node, run_place, run_place_node, run_arguments, nowhere_way, drops_object, run_dropped, run_dropped_node, local_way, place_way, left_way, struct_right_way, struct_left_way, is_struct, assigns_object, assigns, update_read_way, update_reads, update_changes, update_right_way, update_left_way, updates_variable, update_local_way, updates, initialises, declares, caller_way, returns, if_way, nothing, row_way, end_way, round_over, step_way, body_way, loop_test_way, rounds_if, rounds, loop_way, while_loop, for_loop, do_loop, leaving, switch_way, starts, switch_test_way, update_of, run_stmt, run_stmt_node, run_row, run_from}
 use Rattle.c_meaning.specs.Kinds.{HasKind, HasTypeIf, MayHold, UpdatesBy, IsNumberKind, IsCalled, IsWellSomewhere, AreWellSomewhere, IsTypedLoop}
@@ -158,8 +158,7 @@ changes_fine s u ty at by w f g =
     (λ world answer i. change_done s.typed ty world s.thread answer at Add by i) (λ answer old i. g.todo answer)
 
 update_changes_fine : (s : Site) (u : Update) (away : Bool) (at : Ptr) (n : Num) (w : Answer → Way) → Stands s → Follows s w → IsFine s (λ answer. update_changes (here_at s answer) u (w answer) (changed_by away at (values.Num n)))
-update_changes_fine s u false at n w f g = changes_fine s u n.ty at n.value w f g
-update_changes_fine s u true at n w f g = changes_fine s u n.ty at (opposite_of n).value w f g
+update_changes_fine s u away at n w f g = changes_fine s u (addend away n).ty at (addend away n).value w f g
 
 pub update_right_takes : (s : Site) (u : Update) (at : Value) (how : Access) (w : Answer → Way) → Stands s → HasKind accesses.Pointer at → UpdatesBy (inside_at s) u how → Follows s w → TakesKind s how (λ answer. update_right_way (here_at s answer) u at (w answer))
 update_right_takes s u at how w f p can g = record {

@@ -2,6 +2,7 @@
 use Rattle.std.specs.Prelude.{◌*◌, List, [], ◌∷◌, Bool, true, false, Option, Some, None, ℤ, pos, unsigned_abs}
 use Rattle.ak_words.specs.IntType.{int, unsigned_long}
 use Rattle.ak_words.specs.Num.{num}
+use Rattle.ak_words.specs.declared.number.Num.{Num}
 use Rattle.block_store.specs.declared.values.Cell.TheVariants.{Unknown, Byte}
 use Rattle.block_store.specs.declared.values.Change.TheVariants.{Add, Swap}
 use Rattle.block_store.specs.declared.values.Ptr.{Ptr}
@@ -28,11 +29,18 @@ pointers_of (values.Pointer p ∷ vs) = p ∷ pointers_of vs
 abbrev pub free_mutex : Value
 free_mutex = values.Num (num unsigned_long (pos 0))
 
--- an atomic number at this place is changed by a number of its type, which is added to it or taken away; no well typed program has a pointer
--- there
+-- what is added where a number is added, or where it is taken away
+abbrev pub addend : (away : Bool) → Num → Num
+addend false n = n
+addend true n = opposite_of n
+
+-- a number is added to the atomic one of its type at this place
+abbrev pub adds : Ptr → Num → SharedAction
+adds at n = change at n.ty Add n.value
+
+-- a value is added to the atomic number at this place, or taken away; no well typed program has a pointer there
 abbrev pub changed_by : (away : Bool) → Ptr → Value → Option SharedAction
-changed_by false at (values.Num n) = Some (change at n.ty Add n.value)
-changed_by true at (values.Num n) = Some (change at n.ty Add (opposite_of n).value)
+changed_by away at (values.Num n) = Some (adds at (addend away n))
 changed_by away at (values.Pointer p) = None
 
 -- what a call does; a well typed one has the arguments that it takes, and so does something

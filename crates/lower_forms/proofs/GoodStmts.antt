@@ -15,13 +15,13 @@ use Rattle.struct_ir.specs.Nodes.{Place, Nodes, no_nodes, more_nodes, plain, beg
 use Rattle.struct_ir.specs.Valid.{Scope, Around, body_of, latch_of, is_promoted, is_place}
 use Rattle.struct_ir.specs.Lists.{bare_place}
 use Rattle.lower_forms.specs.Counts.{count, count_parts, count_if, greatest, greatest_in, greatest_row, switches, switches_by, switches_in}
-use Rattle.lower_forms.specs.Forms.{Frame, looped, switched, home, first_temp, behind, reach, is_void, number_type, atomic_number, change_nodes, value_nodes, object_place, dropped_nodes, dropped_value, begins, with_home, home_in, declared_home, objects_by, objects_in, initialises, store_nodes, copy_nodes, own_register, assign_nodes, number_update, computes, update_at, update_nodes, equal_nodes, choose_nodes, begin_if, label_nodes, stmt_place, guarded, break_nodes, test_nodes, stmt_nodes, form_nodes, row_nodes, switch_nodes}
+use Rattle.lower_forms.specs.Forms.{Frame, looped, switched, home, first_temp, behind, reach, is_void, number_type, change_nodes, value_nodes, object_place, dropped_nodes, dropped_value, begins, with_home, home_in, declared_home, objects_by, objects_in, initialises, store_nodes, copy_nodes, own_register, assign_nodes, number_update, computes, update_at, update_nodes, equal_nodes, choose_nodes, begin_if, label_nodes, stmt_place, guarded, break_nodes, test_nodes, stmt_nodes, form_nodes, row_nodes, switch_nodes}
 use Rattle.lower_forms.proofs.Operands.{operand_promoted, moves_fits}
 use Rattle.lower_forms.proofs.Pieces.{Good, below, good_none, good_set, good_branches, good_loop, good_break, good_next, good_ret, good_int, good_long, place_in, place_bare, temp_in, load_step, store_step, copy_step, AreObjects, objects_both, good_ends, promoted_is}
 use Rattle.lower_forms.proofs.GoodExprs.{Suits, at_least_one, temps_below, good_change, good_call, called, BelowIf, register_below, local_below, reach_fits, good_expr, good_value, good_place, good_object_place, good_args}
 
 -- an atomic number that is updated has 32 or 64 bits
-atomic_promoted : (structs : List tree.Layout) (op : Op) (u v : tree.Ty) → CanUpdate structs op u v → is_atomic u ≡ true → is_promoted (atomic_number u) ≡ true
+atomic_promoted : (structs : List tree.Layout) (op : Op) (u v : tree.Ty) → CanUpdate structs op u v → is_atomic u ≡ true → is_promoted (number_type u) ≡ true
 atomic_promoted structs op (tree.integer u) (tree.integer v) h e = absurd cc
 atomic_promoted structs op (tree.atomic u) (tree.integer v) h e = promoted_is u h.2
 atomic_promoted structs op (tree.pointer u) (tree.integer v) h e = absurd cc
@@ -200,7 +200,7 @@ module _ (x : Scope) (c : InScope) (f : Frame) (s : Suits x c f) where
   -- an object that is updated, whose place was found
   good_by : (place : ℕ) (op : Op) (p : Place) (left right : tree.Expr) (b : Bool) → is_atomic (tree.type_of left) ≡ b → CanUpdate c.structs op (tree.type_of left) (tree.type_of right)
       → (u : ℕ) → suc u < x.temps → is_place x p ≡ true → bare_place p ≡ p → (a : Around) (rest : Nodes)
-      → Good x a rest → Good x a (if b then change_nodes (tree.place_of left) (is_minus op) (atomic_number (tree.type_of left)) p u None rest else update_at f place u op p left right rest)
+      → Good x a rest → Good x a (if b then change_nodes (tree.place_of left) (is_minus op) (number_type (tree.type_of left)) p u None rest else update_at f place u op p left right rest)
   good_by place op p left right true e h u k i j a rest g =
       good_change x a _ (is_minus op) _ p u None rest (atomic_promoted c.structs op (tree.type_of left) (tree.type_of right) h e) i j k refl g
   good_by place op p left right false e h u k i j a rest g =

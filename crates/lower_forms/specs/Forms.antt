@@ -205,22 +205,18 @@ abbrev pub sum_calc : (pointer_first : Bool) → (t u size : ℕ) → Calc
 sum_calc true t u size = ir.pointer_add t u size
 sum_calc false t u size = ir.pointer_add u t size
 
--- the type of the numbers of an operand; in a well formed tree there's no other operand
+-- the type of the numbers of an operand or of an object, also of an atomic one; where it's asked, a well formed tree has no other
 abbrev pub number_type : tree.Ty → IntType
 number_type (tree.integer t) = t
+number_type (tree.atomic t) = t
 number_type ty = int
 
--- the type of the number in an atomic object, and in the one that a pointer leads to; a well formed tree has no other where it is asked
-abbrev pub atomic_number : tree.Ty → IntType
-atomic_number (tree.atomic t) = t
-atomic_number ty = int
-
--- the same of what a pointer of this type points to
+-- the type of the numbers to which a pointer of this type leads
 abbrev pub pointed_number : tree.Ty → IntType
-pointed_number (tree.pointer to) = atomic_number to
+pointed_number (tree.pointer to) = number_type to
 pointed_number ty = int
 
--- the same of what the first argument of a call points to
+-- and the first argument of a call
 abbrev pub changed_number : tree.Exprs → IntType
 changed_number tree.no_exprs = int
 changed_number (tree.more_exprs e rest) = pointed_number (tree.type_of e)
@@ -475,7 +471,7 @@ update_at f place u op at left right rest =
 -- the same, but an object that is atomic is changed in one action
 abbrev pub update_by : Frame → (place u : ℕ) → Op → Place → (left right : tree.Expr) → Nodes → Nodes
 update_by f place u op at left right rest =
-    if is_atomic (tree.type_of left) then change_nodes (tree.place_of left) (is_minus op) (atomic_number (tree.type_of left)) at u None rest
+    if is_atomic (tree.type_of left) then change_nodes (tree.place_of left) (is_minus op) (number_type (tree.type_of left)) at u None rest
     else update_at f place u op at left right rest
 
 -- the place is found, then b is evaluated
