@@ -81,11 +81,11 @@ lib_scalar c tree.mutex_init all ty h = arguments_scalar (tree.pointer tree.mute
 lib_scalar c tree.mutex_lock all ty h = arguments_scalar (tree.pointer tree.mutex ∷ []) all (tt, tt) h.0
 lib_scalar c tree.mutex_unlock all ty h = arguments_scalar (tree.pointer tree.mutex ∷ []) all (tt, tt) h.0
 lib_scalar c tree.mutex_destroy all ty h = arguments_scalar (tree.pointer tree.mutex ∷ []) all (tt, tt) h.0
-lib_scalar c tree.atomic_add all ty h = atomic_scalar _ _ all ty (λ t. (tt, tt)) h
-lib_scalar c tree.atomic_sub all ty h = atomic_scalar _ _ all ty (λ t. (tt, tt)) h
-lib_scalar c tree.atomic_swap all ty h = atomic_scalar _ _ all ty (λ t. (tt, tt)) h
-lib_scalar c tree.atomic_compare all ty h = atomic_scalar _ _ all ty (λ t. (tt, (tt, tt))) h
-lib_scalar c tree.atomic_store all ty h = atomic_scalar _ _ all ty (λ t. (tt, tt)) h
+lib_scalar c tree.atomic_add all ty h = atomic_scalar (λ s. tree.integer s ∷ []) (λ s. tree.integer s) all ty (λ t. (tt, tt)) h
+lib_scalar c tree.atomic_sub all ty h = atomic_scalar (λ s. tree.integer s ∷ []) (λ s. tree.integer s) all ty (λ t. (tt, tt)) h
+lib_scalar c tree.atomic_swap all ty h = atomic_scalar (λ s. tree.integer s ∷ []) (λ s. tree.integer s) all ty (λ t. (tt, tt)) h
+lib_scalar c tree.atomic_compare all ty h = atomic_scalar (λ s. tree.pointer (tree.integer s) ∷ tree.integer s ∷ []) (λ s. tree.integer int) all ty (λ t. (tt, (tt, tt))) h
+lib_scalar c tree.atomic_store all ty h = atomic_scalar (λ s. tree.integer s ∷ []) (λ s. tree.void) all ty (λ t. (tt, tt)) h
 
 -- ---- functions
 

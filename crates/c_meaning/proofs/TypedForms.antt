@@ -1,8 +1,9 @@
 -- What well formed trees say of types where a value is assigned, returned or dropped.
-use Rattle.std.proofs.Common.{◌≡◌, ℕ, true, false, List, Some, refl, sym, ap, subst, ◌∙◌}
+use Rattle.std.proofs.Common.{◌≡◌, ℕ, true, false, List, [], ◌∷◌, Some, refl, sym, ap, subst, ◌∙◌}
 use Rattle.std.specs.Prelude.{slice_get}
 use Rattle.ak_words.specs.declared.int_type.IntType.{IntType}
 use Rattle.ak_words.specs.declared.operation.Op.{Op}
+use Rattle.ak_words.specs.IntType.{int}
 use Rattle.c_tree.specs.Typed as tree
 use Rattle.c_tree.specs.TypedForm.{IsInteger, IsScalar, Fits, MovesPointer, type_of_result, Converts, IsLvalue, IsAtomicCall, IsLibCall, IsTyped, IsTypedNode, InScope, IsResult, IsFunc, IsLocal}
 use Rattle.c_meaning.specs.Values.{is_scalar}
@@ -91,11 +92,11 @@ lib_no_struct c tree.mutex_init all ty h = ap is_struct h.1
 lib_no_struct c tree.mutex_lock all ty h = ap is_struct h.1
 lib_no_struct c tree.mutex_unlock all ty h = ap is_struct h.1
 lib_no_struct c tree.mutex_destroy all ty h = ap is_struct h.1
-lib_no_struct c tree.atomic_add all ty h = atomic_no_struct _ _ all ty (λ t. refl) h
-lib_no_struct c tree.atomic_sub all ty h = atomic_no_struct _ _ all ty (λ t. refl) h
-lib_no_struct c tree.atomic_swap all ty h = atomic_no_struct _ _ all ty (λ t. refl) h
-lib_no_struct c tree.atomic_compare all ty h = atomic_no_struct _ _ all ty (λ t. refl) h
-lib_no_struct c tree.atomic_store all ty h = atomic_no_struct _ _ all ty (λ t. refl) h
+lib_no_struct c tree.atomic_add all ty h = atomic_no_struct (λ s. tree.integer s ∷ []) (λ s. tree.integer s) all ty (λ t. refl) h
+lib_no_struct c tree.atomic_sub all ty h = atomic_no_struct (λ s. tree.integer s ∷ []) (λ s. tree.integer s) all ty (λ t. refl) h
+lib_no_struct c tree.atomic_swap all ty h = atomic_no_struct (λ s. tree.integer s ∷ []) (λ s. tree.integer s) all ty (λ t. refl) h
+lib_no_struct c tree.atomic_compare all ty h = atomic_no_struct (λ s. tree.pointer (tree.integer s) ∷ tree.integer s ∷ []) (λ s. tree.integer int) all ty (λ t. refl) h
+lib_no_struct c tree.atomic_store all ty h = atomic_no_struct (λ s. tree.integer s ∷ []) (λ s. tree.void) all ty (λ t. refl) h
 
 -- ---- what is no object is a number, a pointer, or nothing
 

@@ -3,7 +3,7 @@
 ghost use Rattle.std.specs.Prelude.{◌≡◌, ◌*◌, IfOk, map, Some};
 ghost use Rattle.c_tree.specs.TypedLayout.{size_in, align_in};
 ghost use Rattle.c_tree.specs.TypedViews.{type_view, layout_view};
-ghost use Rattle.c_meaning.specs.Values.{access_of_type, is_scalar, is_atomic, element_size, member_offset, offset_in, operand_types};
+ghost use Rattle.c_meaning.specs.Values.{access_of_type, is_scalar, is_atomic, element_size, member_offset, offset_in, operand_types, is_minus};
 ghost use Rattle.c_meaning.specs.Turns.{is_struct};
 
 use ak_words::{IntType, NoMemory, Op, common, promote};
@@ -130,4 +130,11 @@ pub fn operand_types(op: Op, a: IntType, b: IntType) -> (IntType, IntType)
         Op::Shl | Op::Shr => (promote(a), promote(b)),
         _ => (common(a, b), common(a, b)),
     }
+}
+
+/// Whether it is the operator `-`.
+pub fn is_minus(op: Op) -> bool
+    ensures { result ≡ is_minus op }
+{
+    matches!(op, Op::Sub)
 }

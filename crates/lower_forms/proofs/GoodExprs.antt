@@ -274,19 +274,19 @@ module _ (x : Scope) (c : InScope) (f : Frame) (s : Suits x c f) where
 
   good_lib a place tree.atomic_add es ty t rest h k g =
       let m : 2 ≤ count_all es = atomic_many (λ u. tree.integer u ∷ []) (λ u. tree.integer u) es ty 1 (λ u. refl) h in
-      good_change x a place false (changed_number es) (at_temp t) (suc t) (Some t) rest (changed_promoted _ _ es ty h) (temp_in x t (omega (arith, k))) refl (omega (arith, k, m)) (below x t (omega (arith, k))) g
+      good_change x a place false (changed_number es) (at_temp t) (suc t) (Some t) rest (changed_promoted (λ s. tree.integer s ∷ []) (λ s. tree.integer s) es ty h) (temp_in x t (omega (arith, k))) refl (omega (arith, k, m)) (below x t (omega (arith, k))) g
   good_lib a place tree.atomic_sub es ty t rest h k g =
       let m : 2 ≤ count_all es = atomic_many (λ u. tree.integer u ∷ []) (λ u. tree.integer u) es ty 1 (λ u. refl) h in
-      good_change x a place true (changed_number es) (at_temp t) (suc t) (Some t) rest (changed_promoted _ _ es ty h) (temp_in x t (omega (arith, k))) refl (omega (arith, k, m)) (below x t (omega (arith, k))) g
+      good_change x a place true (changed_number es) (at_temp t) (suc t) (Some t) rest (changed_promoted (λ s. tree.integer s ∷ []) (λ s. tree.integer s) es ty h) (temp_in x t (omega (arith, k))) refl (omega (arith, k, m)) (below x t (omega (arith, k))) g
   good_lib a place tree.atomic_swap es ty t rest h k g =
       let m : 2 ≤ count_all es = atomic_many (λ u. tree.integer u ∷ []) (λ u. tree.integer u) es ty 1 (λ u. refl) h in
-      change_step x a place Swap (changed_number es) (at_temp t) (suc t) (Some t) rest (changed_promoted _ _ es ty h) (temp_in x t (omega (arith, k))) refl (omega (arith, k, m)) (below x t (omega (arith, k))) g
+      change_step x a place Swap (changed_number es) (at_temp t) (suc t) (Some t) rest (changed_promoted (λ s. tree.integer s ∷ []) (λ s. tree.integer s) es ty h) (temp_in x t (omega (arith, k))) refl (omega (arith, k, m)) (below x t (omega (arith, k))) g
   good_lib a place tree.atomic_compare es ty t rest h k g =
       let m : 3 ≤ count_all es = atomic_many (λ u. tree.pointer (tree.integer u) ∷ tree.integer u ∷ []) (λ u. tree.integer int) es ty 2 (λ u. refl) h in
       good_step x a place _ rest (record {
         valid = and_from _ _ (and_from _ _ (and_from _ _ (temp_in x t (omega (arith, k))) (and_from _ _ (temp_in x (suc t) (omega (arith, k, m))) refl))
             (and_from _ _ (and_from _ _ (below x (suc (suc t)) (omega (arith, k, m))) refl) (below x t (omega (arith, k)))))
-            (and_from _ _ refl (and_from _ _ (changed_promoted _ _ es ty h) refl));
+            (and_from _ _ refl (and_from _ _ (changed_promoted (λ s. tree.pointer (tree.integer s) ∷ tree.integer s ∷ []) (λ s. tree.integer int) es ty h) refl));
         bare = refl;
       }) g
   good_lib a place tree.atomic_store es ty t rest h k g =

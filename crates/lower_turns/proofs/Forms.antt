@@ -1,7 +1,9 @@
 -- Declarations, assignments, and expressions that are dropped.
-use Rattle.std.proofs.Common.{◌≡◌, ℕ, ◌<◌, ◌^◌, Bool, true, false, List, length, set, Option, Some, None, refl, sym, ap, subst, ◌∙◌, arith, if◌then◌else◌}
+use Rattle.std.proofs.Common.{◌≡◌, ℕ, ◌<◌, ◌^◌, Bool, true, false, List, [], ◌∷◌, length, set, Option, Some, None, refl, sym, ap, subst, ◌∙◌, arith, if◌then◌else◌}
 use Rattle.std.specs.Prelude.{slice_get}
+use Rattle.ak_words.specs.declared.int_type.IntType.{IntType}
 use Rattle.ak_words.specs.declared.operation.Op.{Op}
+use Rattle.ak_words.specs.IntType.{int}
 use Rattle.block_store.specs.declared.values.Ptr.TheVariants.{To}
 use Rattle.block_store.specs.declared.values.Value.TheVariants as values
 use Rattle.block_store.specs.Blocks.{Blocks}
@@ -126,11 +128,11 @@ struct_lvalue g s (tree.lib which args) h = no_lib which h.1
     no_lib (tree.start m) k = absurd (let d = k.2 in cc)
     no_lib tree.join k = absurd (let d = k.1 in cc)
     no_lib tree.mutex_init k = absurd (let d = k.1 in cc)
-    no_lib tree.atomic_add k = no_atomic _ _ args k (λ u e. cc)
-    no_lib tree.atomic_sub k = no_atomic _ _ args k (λ u e. cc)
-    no_lib tree.atomic_swap k = no_atomic _ _ args k (λ u e. cc)
-    no_lib tree.atomic_compare k = no_atomic _ _ args k (λ u e. cc)
-    no_lib tree.atomic_store k = no_atomic _ _ args k (λ u e. cc)
+    no_lib tree.atomic_add k = no_atomic (λ s. tree.integer s ∷ []) (λ s. tree.integer s) args k (λ u e. cc)
+    no_lib tree.atomic_sub k = no_atomic (λ s. tree.integer s ∷ []) (λ s. tree.integer s) args k (λ u e. cc)
+    no_lib tree.atomic_swap k = no_atomic (λ s. tree.integer s ∷ []) (λ s. tree.integer s) args k (λ u e. cc)
+    no_lib tree.atomic_compare k = no_atomic (λ s. tree.pointer (tree.integer s) ∷ tree.integer s ∷ []) (λ s. tree.integer int) args k (λ u e. cc)
+    no_lib tree.atomic_store k = no_atomic (λ s. tree.integer s ∷ []) (λ s. tree.void) args k (λ u e. cc)
     no_lib tree.mutex_lock k = absurd (let d = k.1 in cc)
     no_lib tree.mutex_unlock k = absurd (let d = k.1 in cc)
     no_lib tree.mutex_destroy k = absurd (let d = k.1 in cc)

@@ -277,11 +277,11 @@ lib_scalars c tree.mutex_init es ty h = argument_scalars (tree.pointer tree.mute
 lib_scalars c tree.mutex_lock es ty h = argument_scalars (tree.pointer tree.mutex ∷ []) es (tt, tt) h.0
 lib_scalars c tree.mutex_unlock es ty h = argument_scalars (tree.pointer tree.mutex ∷ []) es (tt, tt) h.0
 lib_scalars c tree.mutex_destroy es ty h = argument_scalars (tree.pointer tree.mutex ∷ []) es (tt, tt) h.0
-lib_scalars c tree.atomic_add es ty h = atomic_scalars _ _ es ty (λ s. (tt, tt)) h
-lib_scalars c tree.atomic_sub es ty h = atomic_scalars _ _ es ty (λ s. (tt, tt)) h
-lib_scalars c tree.atomic_swap es ty h = atomic_scalars _ _ es ty (λ s. (tt, tt)) h
-lib_scalars c tree.atomic_compare es ty h = atomic_scalars _ _ es ty (λ s. (tt, (tt, tt))) h
-lib_scalars c tree.atomic_store es ty h = atomic_scalars _ _ es ty (λ s. (tt, tt)) h
+lib_scalars c tree.atomic_add es ty h = atomic_scalars (λ s. tree.integer s ∷ []) (λ s. tree.integer s) es ty (λ s. (tt, tt)) h
+lib_scalars c tree.atomic_sub es ty h = atomic_scalars (λ s. tree.integer s ∷ []) (λ s. tree.integer s) es ty (λ s. (tt, tt)) h
+lib_scalars c tree.atomic_swap es ty h = atomic_scalars (λ s. tree.integer s ∷ []) (λ s. tree.integer s) es ty (λ s. (tt, tt)) h
+lib_scalars c tree.atomic_compare es ty h = atomic_scalars (λ s. tree.pointer (tree.integer s) ∷ tree.integer s ∷ []) (λ s. tree.integer int) es ty (λ s. (tt, (tt, tt))) h
+lib_scalars c tree.atomic_store es ty h = atomic_scalars (λ s. tree.integer s ∷ []) (λ s. tree.void) es ty (λ s. (tt, tt)) h
 
 -- ---- how pointers are reached
 
