@@ -25,5 +25,10 @@ pub fn copy_lib(alloc: Global, lib: &Lib) -> Result<Lib, NoMemory>
         Lib::MutexLock => Ok(Lib::MutexLock),
         Lib::MutexUnlock => Ok(Lib::MutexUnlock),
         Lib::MutexDestroy => Ok(Lib::MutexDestroy),
+        Lib::AtomicAdd => Ok(Lib::AtomicAdd),
+        Lib::AtomicSub => Ok(Lib::AtomicSub),
+        Lib::AtomicSwap => Ok(Lib::AtomicSwap),
+        Lib::AtomicCompare => Ok(Lib::AtomicCompare),
+        Lib::AtomicStore => Ok(Lib::AtomicStore),
     }
 }
