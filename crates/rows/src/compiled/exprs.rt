@@ -95,6 +95,11 @@ fn write_lib(out: &mut String, which: &Lib) -> Result<(), AllocError> {
         Lib::MutexLock => out.push_str("mutex lock"),
         Lib::MutexUnlock => out.push_str("mutex unlock"),
         Lib::MutexDestroy => out.push_str("mutex destroy"),
+        Lib::AtomicAdd => out.push_str("atomic add"),
+        Lib::AtomicSub => out.push_str("atomic sub"),
+        Lib::AtomicSwap => out.push_str("atomic swap"),
+        Lib::AtomicCompare => out.push_str("atomic compare"),
+        Lib::AtomicStore => out.push_str("atomic store"),
     }
 }
 

@@ -8,6 +8,10 @@ pub(crate) fn write_type(out: &mut String, t: &CType) -> Result<(), AllocError> 
     match t {
         CType::Void => out.push_str("void"),
         CType::Int(t) => write_int(out, *t),
+        CType::Atomic(t) => {
+            out.push_str("atomic ")?;
+            write_int(out, *t)
+        }
         CType::Mutex => out.push_str("mutex"),
         CType::Pointer(to) => {
             out.push_str("pointer to ")?;
