@@ -337,7 +337,7 @@ module _ (x : Scope) (c : InScope) (params : ℕ) (result : tree.Ty) where
     good_form f s place (tree.return_ (Some e)) b h k a l left o rest g =
         good_expr x c f s e h.0 (first_temp f) (omega (arith, k)) a _ (good_ret x a place (Some (first_temp f)) rest (below x _ (omega (arith, k, at_least_one e))) g)
     good_form f s place (tree.assign (tree.at p ty node) e) b h k a l left o rest g =
-        good_assign x c f s place (own_register f node) (tree.at p ty node) e (own_fits x c f s ty node h.0) h.0 h.1 h.3 (first_temp f) (omega (arith, k)) a rest g
+        good_assign x c f s place (own_register f node) (tree.at p ty node) e (own_fits x c f s ty node h.0) h.0 h.1 (first_temp f) (omega (arith, k)) a rest g
     good_form f s place (tree.update (tree.at p ty node) op e) b h k a l left o rest g =
         good_update x c f s place op (own_register f node) (tree.at p ty node) e (own_fits x c f s ty node h.0) h.0 h.1 h.3 (first_temp f) (omega (arith, k)) a rest g
     good_form f s place (tree.evaluate e) b h k a l left o rest g = good_dropped x c f s e h (first_temp f) (omega (arith, k)) a rest g
