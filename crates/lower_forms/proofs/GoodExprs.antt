@@ -271,7 +271,6 @@ module _ (x : Scope) (c : InScope) (f : Frame) (s : Suits x c f) where
     valid = and_from _ _ (and_from _ _ (and_from _ _ (temp_in x t (omega (arith, k))) refl) refl) refl;
     bare = refl;
   }) g
-
   good_lib a place tree.atomic_add es ty t rest h k g =
       let m : 2 ≤ count_all es = atomic_many (λ u. tree.integer u ∷ []) (λ u. tree.integer u) es ty 1 (λ u. refl) h in
       good_change x a place false (changed_number es) (at_temp t) (suc t) (Some t) rest (changed_promoted (λ s. tree.integer s ∷ []) (λ s. tree.integer s) es ty h) (temp_in x t (omega (arith, k))) refl (omega (arith, k, m)) (below x t (omega (arith, k))) g

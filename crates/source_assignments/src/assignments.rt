@@ -283,12 +283,7 @@ fn read_object(
 }
 
 // a is changed by b.
-fn change_object(
-    u: &Rc<Updating>,
-    at: Value,
-    by: Value,
-    k: &Rc<Todo>,
-) -> Result<Pending, NoMemory>
+fn change_object(u: &Rc<Updating>, at: Value, by: Value, k: &Rc<Todo>) -> Result<Pending, NoMemory>
     ensures { IfOk result (λ q. ChangesUpdated (updating_of u.now.value) at by (todo_of k.now.value) q) }
 {
     match by {

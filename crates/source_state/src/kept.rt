@@ -130,12 +130,7 @@ impl KeptStore {
     }
 
     /// Changes a number, as `Store::change` does; after that nothing leads back.
-    pub(crate) fn change(
-        &mut self,
-        at: Ptr,
-        how: block_store::Change,
-        by: Num,
-    ) -> Result<Num, Rule>
+    pub(crate) fn change(&mut self, at: Ptr, how: block_store::Change, by: Num) -> Result<Num, Rule>
         ensures answer { result ≡ old_number (changed self.old.now at by.ty how by.value) }
         ensures after { self.new.now ≡ store_after_change (changed self.old.now at by.ty how by.value) self.old.now }
         ensures unchanged { OnErr result (self.new ≡ self.old) }
