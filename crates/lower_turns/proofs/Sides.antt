@@ -126,6 +126,33 @@ module _ (g : Setting) (vs : List Variable) (ob : ℕ → Option ℕ) (b : Block
         go = λ v a kind below is points. by_type v a kind below is (reaches_below tm a via (start g) to leads below) (is_atomic (tree.type_of x)) refl;
       }
         where
+          went_on : IsScalar (tree.type_of x) → (v : Value) (a : ℕ → Held) → HasKind (access_of_type (tree.type_of right)) v → Below (behind via (start g)) tm a → a (behind via (start g)) ≡ value v → Reaches a via (start g) to → (read : Option Value) (next : World)
+              → acted world_now g.thread g.answer (actions.load to (access_of_type (tree.type_of x))) ≡ actions.went read next
+              → Together g.t (stays (here g) vs (after_call (wanted (tree.place_of x) (source.update_read (update_of place x op) (values.Pointer to) v w.k)) read) next)
+              (runs.went (record {
+                top = record {
+                  at = then_ (computes g.t.structs place op (tree.type_of x) (tree.type_of right) (suc (behind via (start g))) (behind via (start g)) (behind via (start g))
+                      (forms.acts (tree.place_of x) (ir.store (access_of_type (tree.type_of x))) (reached via (start g) ∷ []) None (behind via (start g) ∷ []) r)) q;
+                  own = own g ob (set_if a (Some (suc (behind via (start g)))) read) b;
+                };
+                callers = g.cs';
+              }) next)
+          went_on scalar v a kind below is leads' None next e =
+              elim ((if_went g.t (GivesKind (access_of_type (tree.type_of x))) _ None next (load_so g.t world_now g.begun g.thread g.answer to (access_of_type (tree.type_of x))) e).0) [ ]
+          went_on scalar v a kind below is leads' (Some z) next e =
+              let h = if_went g.t (GivesKind (access_of_type (tree.type_of x))) _ (Some z) next (load_so g.t world_now g.begun g.thread g.answer to (access_of_type (tree.type_of x))) e in
+              let c : ℕ → Held = set_at a (suc (behind via (start g))) (value z) in
+              let under : Below (suc (behind via (start g))) a c = below_set (suc (behind via (start g))) (suc (behind via (start g))) a a (value z) (omega arith) (below_same (suc (behind via (start g))) a) in
+              let less : Below (behind via (start g)) a c = below_less (suc (behind via (start g))) (behind via (start g)) a c (omega arith) under in
+              let low : Below (start g) a c = below_less (suc (behind via (start g))) (start g) a c (omega (arith, above_behind via (start g))) under in
+              let low' : Below (start g) tm a = below_less (behind via (start g)) (start g) tm a (omega (arith, above_behind via (start g))) below in
+              both_went next h.1 (same g.call (agrees_on g vs a c ob (start g) (omega arith) (later_agrees a low') low)
+              (at_gives z h.0 (set_here a (suc (behind via (start g))) (value z)) (omega (arith, above_behind via (start g))) busy
+              (at_update_read place x right op to v via found (reaches_below a c via (start g) to leads' less) scalar can kind (less' c under is) goes.at)) g.callers)
+            where
+              less' : (c : ℕ → Held) → Below (suc (behind via (start g))) a c → a (behind via (start g)) ≡ value v → c (behind via (start g)) ≡ value v
+              less' c under h = under (behind via (start g)) (omega arith) ∙ h
+
           by_type : (v : Value) (a : ℕ → Held) → HasKind (access_of_type (tree.type_of right)) v → Below (behind via (start g)) tm a → a (behind via (start g)) ≡ value v → Reaches a via (start g) to → (m : Bool) → is_atomic (tree.type_of x) ≡ m
               → Alike g (if m then update_changes (here g) (update_of place x op) w (changed_by (is_minus op) to v) (now g vs b) else update_reads (here g) (update_of place x op) (values.Pointer to) v w (now g vs b))
               (then_ (if m then change_nodes (tree.place_of x) (is_minus op) (number_type (tree.type_of x)) (reached via (start g)) (behind via (start g)) None r
@@ -142,33 +169,6 @@ module _ (g : Setting) (vs : List Variable) (ob : ℕ → Option ℕ) (b : Block
               (forms.acts (tree.place_of x) (ir.store (access_of_type (tree.type_of x))) (reached via (start g) ∷ []) None (behind via (start g) ∷ []) r)) q (own g ob a b) (actions.load to (access_of_type (tree.type_of x)))
               (one_place (tree.place_of x) (own g ob a b) (ir.load (access_of_type (tree.type_of x))) (reached via (start g)) (Some (suc (behind via (start g)))) to (address_reached (tree.place_of x) (own g ob a b) via (start g) to here_leads))
               (λ read next d. went_on (plain_updated g.t.structs op (tree.type_of x) (tree.type_of right) can e) v a kind below is here_leads read next d)
-
-          went_on : IsScalar (tree.type_of x) → (v : Value) (a : ℕ → Held) → HasKind (access_of_type (tree.type_of right)) v → Below (behind via (start g)) tm a → a (behind via (start g)) ≡ value v → Reaches a via (start g) to → (read : Option Value) (next : World)
-              → acted world_now g.thread g.answer (actions.load to (access_of_type (tree.type_of x))) ≡ actions.went read next
-              → Together g.t (stays (here g) vs (after_call (wanted (tree.place_of x) (source.update_read (update_of place x op) (values.Pointer to) v w.k)) read) next)
-              (runs.went (record {
-                top = record {
-                  at = then_ (computes g.t.structs place op (tree.type_of x) (tree.type_of right) (suc (behind via (start g))) (behind via (start g)) (behind via (start g))
-                      (forms.acts (tree.place_of x) (ir.store (access_of_type (tree.type_of x))) (reached via (start g) ∷ []) None (behind via (start g) ∷ []) r)) q;
-                  own = own g ob (set_if a (Some (suc (behind via (start g)))) read) b;
-                };
-                callers = g.cs';
-              }) next)
-          went_on plain v a kind below is leads' None next e =
-              elim ((if_went g.t (GivesKind (access_of_type (tree.type_of x))) _ None next (load_so g.t world_now g.begun g.thread g.answer to (access_of_type (tree.type_of x))) e).0) [ ]
-          went_on plain v a kind below is leads' (Some z) next e =
-              let h = if_went g.t (GivesKind (access_of_type (tree.type_of x))) _ (Some z) next (load_so g.t world_now g.begun g.thread g.answer to (access_of_type (tree.type_of x))) e in
-              let c : ℕ → Held = set_at a (suc (behind via (start g))) (value z) in
-              let under : Below (suc (behind via (start g))) a c = below_set (suc (behind via (start g))) (suc (behind via (start g))) a a (value z) (omega arith) (below_same (suc (behind via (start g))) a) in
-              let less : Below (behind via (start g)) a c = below_less (suc (behind via (start g))) (behind via (start g)) a c (omega arith) under in
-              let low : Below (start g) a c = below_less (suc (behind via (start g))) (start g) a c (omega (arith, above_behind via (start g))) under in
-              let low' : Below (start g) tm a = below_less (behind via (start g)) (start g) tm a (omega (arith, above_behind via (start g))) below in
-              both_went next h.1 (same g.call (agrees_on g vs a c ob (start g) (omega arith) (later_agrees a low') low)
-              (at_gives z h.0 (set_here a (suc (behind via (start g))) (value z)) (omega (arith, above_behind via (start g))) busy
-              (at_update_read place x right op to v via found (reaches_below a c via (start g) to leads' less) plain can kind (less' c under is) goes.at)) g.callers)
-            where
-              less' : (c : ℕ → Held) → Below (suc (behind via (start g))) a c → a (behind via (start g)) ≡ value v → c (behind via (start g)) ≡ value v
-              less' c under h = under (behind via (start g)) (omega arith) ∙ h
 
     module _ (busy : Calls g.t) (place : ℕ) (x right : tree.Expr) (op : Op) (can : CanUpdate g.t.structs op (tree.type_of x) (tree.type_of right)) where
       pub update_left_goes : (rch : Reach) → IsTyped (ctx g.t g.n g.f) right → IsScalar (tree.type_of right) → ((a : ℕ → Held) → Below (start g) tm a → (p : Ptr) → Reaches a rch (start g) p
